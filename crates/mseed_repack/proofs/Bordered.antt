@@ -1,16 +1,16 @@
 -- What is written of a channel goes on where its records do, and shows a gap or an overlap where they leave one.
 use Rattle.std.proofs.Common.{◌≡◌, ◌≢◌, ◌⊎◌, inl, inr, ℕ, suc, ◌+◌, ◌*◌, ◌==◌, ◌^◌, ◌<◌, ◌≤◌, nat_le, true}
 use Rattle.std.proofs.Common.{false, List, []}
-use Rattle.std.proofs.Common.{◌∷◌, ◌++◌, length, map, refl, sym, ap, subst, ◌∙◌, arith, ℤ, pos, negsuc}
+use Rattle.std.proofs.Common.{◌∷◌, ◌++◌, length, refl, sym, ap, subst, ◌∙◌, arith, ℤ, pos, negsuc}
 use Rattle.std.proofs.Common.{neg_ℤ, unsigned_abs}
 use Rattle.std.proofs.Common.{◌/◌, ◌+ℤ◌, ◌-ℤ◌, ◌&&◌, Bool, IsTrue, nat_lt}
-use Rattle.std.proofs.Common.{Option, Some, None, append-nil, append_assoc, ⊎_elim}
+use Rattle.std.proofs.Common.{Option, Some, append-nil, append_assoc, ⊎_elim}
 use Rattle.std.specs.List.{AllByRecursion, concat}
 use Rattle.std.proofs.lemmas.Bool.Decides.{nat_tests}
 use Rattle.std.proofs.lemmas.Int.{ints}
 use Rattle.std.proofs.lemmas.List.{map-append, take_all}
 use Rattle.mseed_time.specs.declared.outcome.Join.{Join}
-use Rattle.mseed_time.specs.declared.outcome.Join.TheVariants.{Meets, Late, Early}
+use Rattle.mseed_time.specs.declared.outcome.Join.TheVariants.{Late, Early}
 use Rattle.mseed_time.specs.Join.{Joins, join_by, miss_of, step_of}
 use Rattle.mseed_time.specs.Rate.{Ratio, SameRate}
 use Rattle.mseed_record.specs.declared.frame.Leap.{Leap}
@@ -24,7 +24,7 @@ use Rattle.mseed_audit.specs.Channels.{is_of, same_key}
 use Rattle.mseed_audit.specs.declared.finding.Why.{Why}
 use Rattle.mseed_audit.specs.declared.finding.Why.TheVariants.{Gap, Overlap}
 use Rattle.mseed_audit.specs.Follows.{AllNeighbours, Follows, IsContinuous, IsSound}
-use Rattle.mseed_audit.specs.Judging.{IsFound, after, known_rate, step_in, why_after, why_by, why_from, why_of}
+use Rattle.mseed_audit.specs.Judging.{IsFound, after, step_in, why_after, why_by, why_from, why_of}
 use Rattle.mseed_audit.specs.Series.{Trace, IsSeriesOf}
 use Rattle.mseed_audit.proofs.Maps.{same_itself}
 use Rattle.mseed_stretches.specs.Stretches.{AreStretches, AreStretchesUpTo, samples_of}
@@ -44,7 +44,7 @@ use Rattle.mseed_repack.specs.Borders.{Overlaps}
 use Rattle.mseed_repack.specs.Restretch.{ArePackedOn, ChannelFits, IsChannelPacked, IsNumberedOn, IsStretchPacked}
 use Rattle.mseed_repack.specs.Restretch.{StretchFits, none as packed_none, more as packed_more}
 use Rattle.mseed_repack.proofs.Borders.{AreBordering, IsBorder, IsLaid, bordering, joined_samples, samples_at}
-use Rattle.mseed_repack.proofs.ChannelReadBack.{IsSoundStretch, each_at_back, each_in_front, each_sound}
+use Rattle.mseed_repack.proofs.ChannelReadBack.{IsSoundStretch, each_at_back, each_in_leading, each_sound}
 use Rattle.mseed_repack.proofs.Misses.{early_still, half_of, late_still}
 use Rattle.mseed_repack.proofs.Stretched.{fits_on}
 
@@ -112,8 +112,8 @@ all_laid : Layers → (o : Options) (ss : List (List View)) (records : List (Lis
     → (ws : List View) × (AreLaid ss ws × (bytes_in ws ≡ records))
 all_laid laws o _ _ sound fit packed_none = ([], (refl, refl))
 all_laid laws o _ _ sound fit (packed_more ss s records others next packed on here) =
-    let before = all_laid laws o ss records (each_in_front IsSoundStretch ss (s ∷ []) sound)
-    (each_in_front (StretchFits o) ss (s ∷ []) fit) packed in
+    let before = all_laid laws o ss records (each_in_leading IsSoundStretch ss (s ∷ []) sound)
+    (each_in_leading (StretchFits o) ss (s ∷ []) fit) packed in
     let last = lay_one laws o next (length records) s others on (each_at_back IsSoundStretch ss (s ∷ []) sound).0
     (each_at_back (StretchFits o) ss (s ∷ []) fit).0 here in (
       before.0 ++ last.0,
@@ -159,7 +159,7 @@ each_of_key key vs (s ∷ ss) ws (left, (first, cut)) keys (own, (rest, (parts, 
     let P : View → Type 0 = λ v. key_at v.bytes ≡ key in
     let all : AllByRecursion P (s ++ left) = subst (λ (us : List View). AllByRecursion P us) first.parts keys in
     let of_first : AllByRecursion P (here.series.first ∷ here.series.rest) =
-    subst (λ (us : List View). AllByRecursion P us) here.series.parts (each_in_front P s left all) in
+    subst (λ (us : List View). AllByRecursion P us) here.series.parts (each_in_leading P s left all) in
     let code : here.trace.codes ≡ key = here.series.codes ∙ of_first.0 in
     subst (λ (us : List View). AllByRecursion (λ (v : View). IsTrue (is_of key v)) us) (sym parts)
     (both_each (λ (v : View). IsTrue (is_of key v)) own rest
@@ -184,22 +184,22 @@ in_bytes vs records h =
 
 -- Two neighbours that were read, in one stretch or in two.
 
-record IsInside (front : List View) (b v : View) (back s rest : List View) : Type 0 where
+record IsInside (leading : List View) (b v : View) (back s rest : List View) : Type 0 where
   behind : List View
-  parts : s ≡ front ++ b ∷ (v ∷ behind)
+  parts : s ≡ leading ++ b ∷ (v ∷ behind)
 
-record IsBetween (front : List View) (b v : View) (back s rest : List View) : Type 0 where
-  parts : s ≡ front ++ b ∷ []
+record IsBetween (leading : List View) (b v : View) (back s rest : List View) : Type 0 where
+  parts : s ≡ leading ++ b ∷ []
   parts_behind : rest ≡ v ∷ back
 
-record IsLater (front : List View) (b v : View) (back s rest : List View) : Type 0 where
+record IsLater (leading : List View) (b v : View) (back s rest : List View) : Type 0 where
   further : List View
-  parts : front ≡ s ++ further
+  parts : leading ≡ s ++ further
   parts_behind : rest ≡ further ++ b ∷ (v ∷ back)
 
-where_is : (front : List View) (b v : View) (back s rest : List View) → front ++ b ∷ (v ∷ back) ≡ s ++ rest
-    → IsInside front b v back s rest ⊎ (IsBetween front b v back s rest ⊎ IsLater front b v back s rest)
-where_is front b v back [] rest e = inr (inr (record { further = front; parts = refl; parts_behind = sym e }))
+where_is : (leading : List View) (b v : View) (back s rest : List View) → leading ++ b ∷ (v ∷ back) ≡ s ++ rest
+    → IsInside leading b v back s rest ⊎ (IsBetween leading b v back s rest ⊎ IsLater leading b v back s rest)
+where_is leading b v back [] rest e = inr (inr (record { further = leading; parts = refl; parts_behind = sym e }))
 where_is [] b v back (x ∷ []) rest e =
     let here : b ≡ x = cc in
     let there : v ∷ back ≡ rest = cc in
@@ -209,25 +209,25 @@ where_is [] b v back (x ∷ (y ∷ s)) rest e =
     let there : v ∷ back ≡ y ∷ (s ++ rest) = cc in
     let next : v ≡ y = cc in
     inl (record { behind = s; parts = λ i. sym here i ∷ (sym next i ∷ s) })
-where_is (w ∷ front) b v back (x ∷ s) rest e =
+where_is (w ∷ leading) b v back (x ∷ s) rest e =
     let here : w ≡ x = cc in
-    let there : front ++ b ∷ (v ∷ back) ≡ s ++ rest = cc in
+    let there : leading ++ b ∷ (v ∷ back) ≡ s ++ rest = cc in
     ⊎_elim
-    (λ (h : IsInside front b v back s rest).
+    (λ (h : IsInside leading b v back s rest).
     inl (record { behind = h.behind; parts = λ i. sym here i ∷ h.parts i }))
-    (λ (k : IsBetween front b v back s rest ⊎ IsLater front b v back s rest). inr (⊎_elim
-    (λ (h : IsBetween front b v back s rest).
+    (λ (k : IsBetween leading b v back s rest ⊎ IsLater leading b v back s rest). inr (⊎_elim
+    (λ (h : IsBetween leading b v back s rest).
     inl (record { parts = λ i. sym here i ∷ h.parts i; parts_behind = h.parts_behind }))
-    (λ (h : IsLater front b v back s rest).
+    (λ (h : IsLater leading b v back s rest).
     inr (record { further = h.further; parts = λ i. here i ∷ h.parts i; parts_behind = h.parts_behind }))
     k))
-    (where_is front b v back s rest there)
+    (where_is leading b v back s rest there)
 
-neighbours_at : {X : Type 0} (R : X → X → Type 0) (front : List X) (b v : X) (back : List X)
-    → AllNeighbours R (front ++ b ∷ (v ∷ back)) → R b v
+neighbours_at : {X : Type 0} (R : X → X → Type 0) (leading : List X) (b v : X) (back : List X)
+    → AllNeighbours R (leading ++ b ∷ (v ∷ back)) → R b v
 neighbours_at R [] b v back h = h.0
 neighbours_at R (x ∷ []) b v back h = h.1.0
-neighbours_at R (x ∷ (y ∷ front)) b v back h = neighbours_at R (y ∷ front) b v back h.1
+neighbours_at R (x ∷ (y ∷ leading)) b v back h = neighbours_at R (y ∷ leading) b v back h.1
 
 neighbours_behind : {X : Type 0} (R : X → X → Type 0) (xs ys : List X) → AllNeighbours R (xs ++ ys)
     → AllNeighbours R ys
@@ -279,18 +279,18 @@ close_follows b v last next h (rate, (miss, (by, close))) =
           before_is = h.rate_is;
           next_is = h.coming_is;
           same = rates_at b v last next rate miss h by;
-          one_step = h.told;
+          one_step = h.reported;
           joins = subst (λ (z : ℤ). 2 * unsigned_abs z ≤ h.rate.den * 10 ^ 6) (sym h.miss) half;
         },
       ),
     )
 
 -- a gap or an overlap of more than half a period is found
-why_told : (leap : Leap) (join : Join) → leap ≢ Both → why_by leap join ≡ why_of join
-why_told NoLeap join h = refl
-why_told Positive join h = refl
-why_told Negative join h = refl
-why_told Both join h = absurd (h refl)
+why_reported : (leap : Leap) (join : Join) → leap ≢ Both → why_by leap join ≡ why_of join
+why_reported NoLeap join h = refl
+why_reported Positive join h = refl
+why_reported Negative join h = refl
+why_reported Both join h = absurd (h refl)
 
 tells_same : (m n : ℕ) → m ≡ n → (m == n) ≡ true
 tells_same m n e = grind (arith, nat_tests)
@@ -302,7 +302,8 @@ why_at b v last next h same join e =
     let is_same : (h.rate.num * h.coming.den == h.coming.num * h.rate.den) ≡ true =
     tells_same (h.rate.num * h.coming.den) (h.coming.num * h.rate.den) same in
     ap (λ (o : Option Ratio). why_from last o next h.coming) h.rate_is
-    ∙ rw is_same (ap (λ (j : Join). why_by (leap_of last.bytes) j) e ∙ why_told (leap_of last.bytes) join h.told)
+    ∙ rw is_same (ap (λ (j : Join). why_by (leap_of last.bytes) j) e
+    ∙ why_reported (leap_of last.bytes) join h.reported)
 
 late_by : (rate : Ratio) (z : ℤ) (n : ℕ) → z ≡ pos n → rate.den * 10 ^ 6 < 2 * n → join_by z rate ≡ Late (n / rate.num)
 late_by rate z n e far =
@@ -398,9 +399,9 @@ overlaps_show = record { apart = overlap_apart; found = overlap_found }
 
 -- Where it is found.
 
-nothing_there : (front : List View) (b : View) (back : List View) → [] ≡ front ++ b ∷ back → ⊥
+nothing_there : (leading : List View) (b : View) (back : List View) → [] ≡ leading ++ b ∷ back → ⊥
 nothing_there [] b back e = cc
-nothing_there (w ∷ front) b back e = cc
+nothing_there (w ∷ leading) b back e = cc
 
 -- the records of the next stretch, and what was written of it
 record NextLaid (v : View) (ws : List View) : Type 0 where
@@ -437,17 +438,17 @@ own_size s own h =
     samples_at h.trace 0 own h.trace.samples h.at ∙ sym (joined_samples s h.trace.samples h.series.samples)
 
 -- what is found behind a stretch
-later : {why : ℕ → Why} (s own front back left rest ws : List View) (b v : View) → IsLaid s own → ws ≡ own ++ rest
-    → (h : IsLater front b v back s left)
+later : {why : ℕ → Why} (s own leading back left rest ws : List View) (b v : View) → IsLaid s own → ws ≡ own ++ rest
+    → (h : IsLater leading b v back s left)
     → IsFoundBehind why (samples_of (h.further ++ b ∷ [])) (start_of v) rest
-    → IsFoundBehind why (samples_of (front ++ b ∷ [])) (start_of v) ws
-later s own front back left rest ws b v here parts h there =
+    → IsFoundBehind why (samples_of (leading ++ b ∷ [])) (start_of v) ws
+later s own leading back left rest ws b v here parts h there =
     let own_is : samples_of own ≡ samples_of s = own_size s own here in
     let mine : samples_of ((own ++ there.before) ++ there.last ∷ [])
     ≡ samples_of own + samples_of (there.before ++ there.last ∷ []) =
     ap samples_of (append_assoc own there.before (there.last ∷ []))
     ∙ samples_append own (there.before ++ there.last ∷ []) in
-    let its : samples_of (front ++ b ∷ []) ≡ samples_of s + samples_of (h.further ++ b ∷ []) =
+    let its : samples_of (leading ++ b ∷ []) ≡ samples_of s + samples_of (h.further ++ b ∷ []) =
     ap (λ (us : List View). samples_of (us ++ b ∷ [])) h.parts ∙ ap samples_of (append_assoc s h.further (b ∷ []))
     ∙ samples_append s (h.further ++ b ∷ []) in
     let place_there = there.place in
@@ -465,26 +466,26 @@ later s own front back left rest ws b v here parts h there =
     }
 
 find : {R : View → View → Type 0} {why : ℕ → Why} → Shows R why → (vs : List View) (ss : List (List View))
-    (ws front : List View) (b v : View) (back : List View) → AreStretchesUpTo vs ss [] → AreLaid ss ws → R b v
-    → vs ≡ front ++ b ∷ (v ∷ back) → IsFoundBehind why (samples_of (front ++ b ∷ [])) (start_of v) ws
-find shows vs [] ws front b v back cut all r e = absurd (nothing_there front b (v ∷ back) (sym cut ∙ e))
-find {R} {why} shows vs (s ∷ ss) ws front b v back (left, (first, cut)) (own, (rest, (parts, here, more))) r e =
-    ⊎_elim inside (λ (k : IsBetween front b v back s left ⊎ IsLater front b v back s left).
-    ⊎_elim between (λ (h : IsLater front b v back s left).
-    later s own front back left rest ws b v here parts h
+    (ws leading : List View) (b v : View) (back : List View) → AreStretchesUpTo vs ss [] → AreLaid ss ws → R b v
+    → vs ≡ leading ++ b ∷ (v ∷ back) → IsFoundBehind why (samples_of (leading ++ b ∷ [])) (start_of v) ws
+find shows vs [] ws leading b v back cut all r e = absurd (nothing_there leading b (v ∷ back) (sym cut ∙ e))
+find {R} {why} shows vs (s ∷ ss) ws leading b v back (left, (first, cut)) (own, (rest, (parts, here, more))) r e =
+    ⊎_elim inside (λ (k : IsBetween leading b v back s left ⊎ IsLater leading b v back s left).
+    ⊎_elim between (λ (h : IsLater leading b v back s left).
+    later s own leading back left rest ws b v here parts h
     (find shows left ss rest h.further b v back cut more r h.parts_behind)) k)
-    (where_is front b v back s left (sym e ∙ first.parts))
+    (where_is leading b v back s left (sym e ∙ first.parts))
   where
-    inside : IsInside front b v back s left → IsFoundBehind why (samples_of (front ++ b ∷ [])) (start_of v) ws
+    inside : IsInside leading b v back s left → IsFoundBehind why (samples_of (leading ++ b ∷ [])) (start_of v) ws
     inside h =
-        let all : AllNeighbours Follows (front ++ b ∷ (v ∷ h.behind)) =
+        let all : AllNeighbours Follows (leading ++ b ∷ (v ∷ h.behind)) =
         subst (λ (us : List View). AllNeighbours Follows us) h.parts (continuous s here.sound here.stretch).follow in
-        absurd (shows.apart b v r (neighbours_at Follows front b v h.behind all))
+        absurd (shows.apart b v r (neighbours_at Follows leading b v h.behind all))
 
-    between : IsBetween front b v back s left → IsFoundBehind why (samples_of (front ++ b ∷ [])) (start_of v) ws
+    between : IsBetween leading b v back s left → IsFoundBehind why (samples_of (leading ++ b ∷ [])) (start_of v) ws
     between h =
         let next = next_laid left v back ss rest h.parts_behind cut more in
-        let at = bordering s front next.further own next.own b v here next.here h.parts in
+        let at = bordering s leading next.further own next.own b v here next.here h.parts in
         let found = shows.found b v at.last at.next r at.border in
         record {
           before = at.before;
@@ -568,8 +569,8 @@ keeps_borders laws vs ss ws cut all = record {
     each = each_laid_sound laws ss ws all;
     follow = all_follow laws vs ss ws close cut all;
   };
-  gap = λ front b v back e gap. find gaps_show vs ss ws front b v back cut all gap e;
-  overlap = λ front b v back e overlap. find overlaps_show vs ss ws front b v back cut all overlap e;
+  gap = λ leading b v back e gap. find gaps_show vs ss ws leading b v back cut all gap e;
+  overlap = λ leading b v back e overlap. find overlaps_show vs ss ws leading b v back cut all overlap e;
 }
 
 -- What was written of a channel: its views, which are of its key.
@@ -622,18 +623,19 @@ written_on laws o vs records views fits packed some close =
     read_as laws o vs records IsContinuous views fits packed (λ ss ws cut all.
     (keeps_borders laws vs ss ws cut all).continuous some close)
 
-pub gap_written : Layers → (o : Options) (vs : List View) (records : List (List ℕ)) (front : List View) (b v : View)
+pub gap_written : Layers → (o : Options) (vs : List View) (records : List (List ℕ)) (leading : List View) (b v : View)
     (back : List View) → AllByRecursion IsView vs → ChannelFits o vs → IsChannelPacked o vs records
-    → vs ≡ front ++ b ∷ (v ∷ back) → LeavesGap b v
-    → AreReadAs (IsFoundBehind (λ us. Gap us) (samples_of (front ++ b ∷ [])) (start_of v)) records
-gap_written laws o vs records front b v back views fits packed e gap =
-    read_as laws o vs records (IsFoundBehind (λ us. Gap us) (samples_of (front ++ b ∷ [])) (start_of v)) views fits
-    packed (λ ss ws cut all. (keeps_borders laws vs ss ws cut all).gap front b v back e gap)
+    → vs ≡ leading ++ b ∷ (v ∷ back) → LeavesGap b v
+    → AreReadAs (IsFoundBehind (λ us. Gap us) (samples_of (leading ++ b ∷ [])) (start_of v)) records
+gap_written laws o vs records leading b v back views fits packed e gap =
+    read_as laws o vs records (IsFoundBehind (λ us. Gap us) (samples_of (leading ++ b ∷ [])) (start_of v)) views fits
+    packed (λ ss ws cut all. (keeps_borders laws vs ss ws cut all).gap leading b v back e gap)
 
-pub overlap_written : Layers → (o : Options) (vs : List View) (records : List (List ℕ)) (front : List View)
+pub overlap_written : Layers → (o : Options) (vs : List View) (records : List (List ℕ)) (leading : List View)
     (b v : View) (back : List View) → AllByRecursion IsView vs → ChannelFits o vs → IsChannelPacked o vs records
-    → vs ≡ front ++ b ∷ (v ∷ back) → Overlaps b v
-    → AreReadAs (IsFoundBehind (λ us. Overlap us) (samples_of (front ++ b ∷ [])) (start_of v)) records
-overlap_written laws o vs records front b v back views fits packed e overlap =
-    read_as laws o vs records (IsFoundBehind (λ us. Overlap us) (samples_of (front ++ b ∷ [])) (start_of v)) views fits
-    packed (λ ss ws cut all. (keeps_borders laws vs ss ws cut all).overlap front b v back e overlap)
+    → vs ≡ leading ++ b ∷ (v ∷ back) → Overlaps b v
+    → AreReadAs (IsFoundBehind (λ us. Overlap us) (samples_of (leading ++ b ∷ [])) (start_of v)) records
+overlap_written laws o vs records leading b v back views fits packed e overlap =
+    read_as laws o vs records (IsFoundBehind (λ us. Overlap us) (samples_of (leading ++ b ∷ [])) (start_of v)) views
+    fits
+    packed (λ ss ws cut all. (keeps_borders laws vs ss ws cut all).overlap leading b v back e overlap)

@@ -1,6 +1,6 @@
 -- What is written where two stretches border on one another.
 use Rattle.std.proofs.Common.{◌≡◌, ◌≢◌, ℕ, ◌+◌, ◌*◌, ◌^◌, ◌<◌, ◌≤◌, nat_le, true, List, [], ◌∷◌, ◌++◌, length}
-use Rattle.std.proofs.Common.{refl, sym, ap, subst, ◌∙◌, arith, ℤ, pos, ◌+ℤ◌, ◌-ℤ◌, ◌*ℤ◌, unsigned_abs, Option, Some}
+use Rattle.std.proofs.Common.{refl, sym, ap, subst, ◌∙◌, arith, ℤ, pos, ◌+ℤ◌, ◌-ℤ◌, unsigned_abs, Option, Some}
 use Rattle.std.proofs.Common.{None, length-append}
 use Rattle.std.specs.List.{AllByRecursion}
 use Rattle.std.proofs.lemmas.Bool.Decides.{nat_tests}
@@ -14,7 +14,7 @@ use Rattle.mseed_record.specs.View.{View, leap_of, start_of}
 use Rattle.mseed_steim.specs.Reading.{count_of, IsWhole}
 use Rattle.mseed_audit.specs.Follows.{IsSound}
 use Rattle.mseed_audit.specs.Judging.{known_rate, step_in}
-use Rattle.mseed_audit.specs.Series.{Trace, AreJoined, AreSteps, IsSeriesOf, none, one, step_at, steps_from}
+use Rattle.mseed_audit.specs.Series.{Trace, AreJoined, IsSeriesOf, none, one, step_at, steps_from}
 use Rattle.mseed_audit.proofs.Joined.{count_is}
 use Rattle.mseed_stretches.specs.Stretches.{IsStretch, added_by, drift_of, samples_of}
 use Rattle.mseed_stretches.proofs.Drifts.{miss_is}
@@ -130,7 +130,7 @@ pub record IsBorder (b v last next : View) : Type 0 where
   pub rate : Ratio
   pub rate_is : known_rate last ≡ Some rate
   pub counts : (0 < rate.num) × (0 < rate.den)
-  pub told : leap_of last.bytes ≢ Both
+  pub reported : leap_of last.bytes ≢ Both
   pub own : Ratio
   pub own_is : known_rate b ≡ Some own
   pub same : SameRate rate own
@@ -289,7 +289,7 @@ bordering s before others (w ∷ ws) written b v h k e =
         rate = rate;
         rate_is = ends.is.rate;
         counts = counts;
-        told = ends.is.told;
+        reported = ends.is.reported;
         own = stands.own;
         own_is = stands.known;
         same = stands.same;

@@ -40,9 +40,9 @@ pub record Laws : Type 0 where
   pub near : (first : View) (rest : List View) (rate : Ratio) → IsStretch (first ∷ rest)
       → known_rate first ≡ Some rate → AllStayNear first rate (first ∷ rest)
 
-pub each_in_front : {X : Type 0} (P : X → Type 0) (xs ys : List X) → AllByRecursion P (xs ++ ys) → AllByRecursion P xs
-each_in_front P [] ys all = tt
-each_in_front P (x ∷ xs) ys all = (all.0, each_in_front P xs ys all.1)
+pub each_in_leading : {X : Type 0} (P : X → Type 0) (xs ys : List X) → AllByRecursion P (xs ++ ys) → AllByRecursion P xs
+each_in_leading P [] ys all = tt
+each_in_leading P (x ∷ xs) ys all = (all.0, each_in_leading P xs ys all.1)
 
 pub each_at_back : {X : Type 0} (P : X → Type 0) (xs ys : List X) → AllByRecursion P (xs ++ ys) → AllByRecursion P ys
 each_at_back P [] ys all = all
@@ -62,8 +62,8 @@ each_sound vs (s ∷ ss) left sound views (rest, (first, cut)) =
     let each = subst (λ (us : List View). AllByRecursion IsView us) first.parts views in (
       record {
         stretch = first.stretch;
-        sound = each_in_front IsSound s rest all;
-        views = each_in_front IsView s rest each;
+        sound = each_in_leading IsSound s rest all;
+        views = each_in_leading IsView s rest each;
       },
       each_sound rest ss left (each_at_back IsSound s rest all) (each_at_back IsView s rest each) cut,
     )
@@ -118,8 +118,8 @@ all_read : Laws → (o : Options) (ss : List (List View)) (records : List (List 
     → AreAllRead ss records
 all_read laws o _ _ sound fit packed_none = record { samples = []; read = read_none }
 all_read laws o _ _ sound fit (packed_more ss s records others next packed on here) =
-    let before = all_read laws o ss records (each_in_front IsSoundStretch ss (s ∷ []) sound)
-    (each_in_front (StretchFits o) ss (s ∷ []) fit) packed in
+    let before = all_read laws o ss records (each_in_leading IsSoundStretch ss (s ∷ []) sound)
+    (each_in_leading (StretchFits o) ss (s ∷ []) fit) packed in
     let last = one_read laws o next (length records) s others on (each_at_back IsSoundStretch ss (s ∷ []) sound).0
     (each_at_back (StretchFits o) ss (s ∷ []) fit).0 here in
     record {
@@ -251,10 +251,10 @@ one_texts laws o views _ _ _ _ nothing (further ds d other own before here) e = 
 one_texts laws o views _ _ _ _ (further cs c text own before here) nothing e = absurd (ends_apart cs c (sym e))
 one_texts laws o views _ _ _ _ (further cs c text own before here) (further ds d other its others there) e =
     let parts = snoc_one cs ds c d e in
-    let front : text ≡ other = one_texts laws o views cs ds text other before others parts.0 in
+    let leading : text ≡ other = one_texts laws o views cs ds text other before others parts.0 in
     let last : own ≡ its = one_channel laws o (records_in views c.0) (records_in views d.0) own its
     (ap (λ (b : Channel). records_in views b.0) parts.1) here there in
-    ap (λ (xs : List ℕ). xs ++ own) front ∙ ap (λ (xs : List ℕ). other ++ xs) last
+    ap (λ (xs : List ℕ). xs ++ own) leading ∙ ap (λ (xs : List ℕ). other ++ xs) last
 
 pub one_text : OneLaws → (o : Options) (views : List View) (cs : List Channel) (text other : List ℕ)
     → AreStretched o views cs text → AreStretched o views cs other → text ≡ other
@@ -281,13 +281,14 @@ channels_read laws o views _ _ each fit (further cs c text own before here) =
     subst (λ (vs : List View). AllByRecursion IsView vs) (sym (views_are c.0 views)) (kept_views c.0 views each) in
     subst (λ (xs : List ℕ). AreChannelsReadBack views (cs ++ c ∷ []) (text ++ xs)) (sym here.text_is)
     (next_channel cs c text here.records
-    (channels_read laws o views cs text each (each_in_front P cs (c ∷ []) fit) before)
+    (channels_read laws o views cs text each (each_in_leading P cs (c ∷ []) fit) before)
     (reads_back laws o (records_in views c.0) here.records own_views (each_at_back P cs (c ∷ []) fit).0 here.packed))
 
 pub stretched_back : Laws → (o : Options) (leave : Bool) (left : Left) (h : BytesRead)
-    (old new told_old told_new : BytesWritten) → IsRestretching o leave (Ok left) h old new told_old told_new
+    (old new reported_old reported_new : BytesWritten)
+    → IsRestretching o leave (Ok left) h old new reported_old reported_new
     → IsStretchedBack o h old new
-stretched_back laws o leave left h old new told_old told_new (views, (channels, (archive, were))) = record {
+stretched_back laws o leave left h old new reported_old reported_new (views, (channels, (archive, were))) = record {
   views = views;
   channels = channels;
   archive = archive;

@@ -12,9 +12,9 @@ use Rattle.mseed_stretches.specs.declared.stretch.Stretch.{Stretch}
 use Rattle.mseed_stretches.proofs.Cuts.{one_first, stretches_more}
 use Rattle.mseed_repack.specs.private.Reading.{samples_of, steps_of}
 use Rattle.mseed_repack.specs.private.Restretching.{AreStretchesWithin}
-use Rattle.mseed_repack.proofs.Fronts.{each_behind, each_front, steps_between}
+use Rattle.mseed_repack.proofs.Prefixes.{each_behind, each_leading, steps_between}
 
--- of records those in front are stretches, of each of which something holds, and the others are left
+-- of records those before it are stretches, of each of which something holds, and the others are left
 pub record IsCut (P : List View → Type 0) (rs : List RecordView) (from : ℕ) : Type 0 where
   pub done : List (List View)
   pub cut : AreStretchesUpTo (map view_of rs) done (map view_of (drop from rs))
@@ -56,7 +56,7 @@ each_sliced P rs from all =
 
 pub each_cut : (P : View → Type 0) (rs : List RecordView) (from n : ℕ) → AllByRecursion P (map view_of rs)
     → AllByRecursion P (map view_of (take n (behind rs from)))
-each_cut P rs from n all = each_front P (behind rs from) n (each_sliced P rs from all)
+each_cut P rs from n all = each_leading P (behind rs from) n (each_sliced P rs from all)
 
 pub steps_cut : (rs : List RecordView) (from n room : ℕ) → steps_of (map view_of rs) ≤ room
     → steps_of (map view_of (take n (behind rs from))) ≤ room
@@ -178,3 +178,13 @@ within_is rs from most le h = λ before left s rest cut first.
 pub samples_kept : (s : Stretch) (vs : List View) → IsStretchOf s vs → s.samples ≡ samples_of vs
 samples_kept s [] is = absurd is
 samples_kept s (v ∷ vs) is = is.samples_is
+
+-- there is room for the stretch that is cut next
+pub room_cut : (rs : List RecordView) (from n most room : ℕ) (done : List (List View))
+    → AreStretchesUpTo (map view_of rs) done (map view_of (drop from rs)) → IsNextCut rs from n
+    → AreStretchesWithin most (map view_of rs) → most ≤ room
+    → samples_of (map view_of (take n (behind rs from))) ≤ room
+room_cut rs from n most room done cut first within le =
+    let one = within done (map view_of (drop from rs)) (map view_of (take n (drop from rs)))
+    (map view_of (drop n (drop from rs))) cut first in
+    cut_of (λ (s : List View). samples_of s ≤ room) rs from n (omega (arith, one, le))

@@ -141,7 +141,7 @@ first_rate_is key rs first nexts r rate continuous trail is h =
     (first_there key rs first r (Some rate) inside is (sym (trail.first_of r inside is)) trail.first_is.none
     (first_by (view_of r ∷ []) rate h))
 
--- the leap seconds of the samples in front
+-- the leap seconds of the samples before it
 pub prefix_places : (m : ℕ) (xs ys : List ℤ) (ss ts : List (ℕ × LeapStep)) → m ≤ length xs → ys ≡ take m xs → ts ≡ ss
     → AreSteps m ss → AreSteps (length ys) ts
 prefix_places m xs ys ss ts inside e f h =

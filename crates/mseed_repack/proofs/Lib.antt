@@ -8,8 +8,9 @@ pub mod Outlines
 pub mod Judged
 pub mod Written
 pub mod ReadBack
-pub mod Fronts
+pub mod Prefixes
 pub mod Cutting
+pub mod Lengths
 pub mod Stretched
 pub mod Restretched
 pub mod Gathered

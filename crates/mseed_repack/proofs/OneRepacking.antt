@@ -11,7 +11,7 @@ use Rattle.std.proofs.lemmas.List.Folds.{concat-append}
 use Rattle.std.specs.List.{AllByRecursion, concat}
 use Rattle.mseed_record.specs.Record.{IsRecord}
 use Rattle.mseed_record.specs.View.{View}
-use Rattle.mseed_record.proofs.Asked.{record_long}
+use Rattle.mseed_record.proofs.Called.{record_long}
 use Rattle.mseed_record.proofs.OneRecord.{one_record}
 use Rattle.mseed_stream.specs.Archive.{End, HasNoFurther, IsArchive, IsEndOf, clean, frame, truncated, is_clean}
 use Rattle.mseed_stream.specs.Device.{BytesRead, BytesWritten, IsPrefixOf, nothing_read}

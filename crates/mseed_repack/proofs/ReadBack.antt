@@ -13,7 +13,7 @@ use Rattle.std.proofs.lemmas.List.Elements.{All-from_recursion, recursion_from_A
 use Rattle.std.proofs.lemmas.List.Folds.{concat-append}
 use Rattle.mseed_record.specs.Record.{IsRecord}
 use Rattle.mseed_record.specs.View.{View, IsView}
-use Rattle.mseed_record.proofs.Asked.{record_long}
+use Rattle.mseed_record.proofs.Called.{record_long}
 use Rattle.mseed_stream.specs.Archive.{HasNoFurther, IsArchive}
 use Rattle.mseed_stream.specs.Device.{BytesRead, BytesWritten}
 use Rattle.mseed_stream.specs.Walk.{bytes_in}
@@ -43,7 +43,7 @@ use Rattle.mseed_repack.proofs.OneRepacking.{Along, along}
 use Rattle.mseed_repack.proofs.Written.{ExactVerdicts, HasNoOthers, IsWritten, Others, are_verdicts, codes_of}
 use Rattle.mseed_repack.proofs.Written.{each_says, either_key, entries, entry, not_there}
 
--- What a law of a lower room says, and what is said of packing anew.
+-- What a law of a lower room says, and what is given of packing anew.
 abbrev ReadBack : Type 0
 ReadBack = (s : Trace) (o : Options) (records : List (List ℕ)) → IsTrace s → Fits s o → IsPacking s o records
     → ReadsAs s records
@@ -218,12 +218,12 @@ packed_from o views written prefix text (p ∷ ps) before each own =
     more prefix (entry written p) text p.records before (into_same o views written p each.0 own.0) in
     let all = packed_from o views written (prefix ++ entry written p ∷ []) (text ++ concat p.records) ps next each.1
     own.1 in
-    let told : (text ++ concat p.records) ++ concat (records_of_all ps) ≡ text ++ concat (records_of_all (p ∷ ps)) =
+    let reported : (text ++ concat p.records) ++ concat (records_of_all ps) ≡ text ++ concat (records_of_all (p ∷ ps)) =
     append_assoc text (concat p.records) (concat (records_of_all ps))
     ∙ ap (λ (t : List ℕ). text ++ t) (sym (concat-append p.records (records_of_all ps))) in
     subst (λ (cs : List Channel). ArePackedInto o written cs (text ++ concat (records_of_all (p ∷ ps))))
     (append_assoc prefix (entry written p ∷ []) (entries written ps))
-    (subst (λ (t : List ℕ). ArePackedInto o written ((prefix ++ entry written p ∷ []) ++ entries written ps) t) told
+    (subst (λ (t : List ℕ). ArePackedInto o written ((prefix ++ entry written p ∷ []) ++ entries written ps) t) reported
     all)
 
 each_continuous : (written : List View) (packed : List Packed) → AllByRecursion (IsWritten written) packed

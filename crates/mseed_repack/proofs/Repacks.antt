@@ -27,7 +27,7 @@ use Rattle.mseed_audit.specs.declared.verdict.Verdict.{Verdict}
 use Rattle.mseed_audit.specs.Audit.{Held, IsAuditOf}
 use Rattle.mseed_audit.proofs.Behind.{end_of}
 use Rattle.mseed_audit.proofs.Maps.{same_back, same_itself}
-use Rattle.mseed_pack.specs.Outcome.{TookAll, TookPrefix}
+use Rattle.mseed_pack.specs.Outcome.{EmittedAll, EmittedPrefix}
 use Rattle.mseed_pack.specs.declared.fault.PackFault.{PackFault}
 use Rattle.mseed_pack.specs.declared.options.Options.{Options}
 use Rattle.mseed_repack.specs.Repack.{Channel, AreContinuous, ArePackedInto, CanBePacked, CantBePacked, IsFirst}
@@ -244,30 +244,30 @@ wrote_none o views cs s = record {
 }
 
 -- what packing a series left behind
-pub took_all : (o : Options) (views : List View) (key : List ℕ) (s : Trace) (count : ℕ) (old new : BytesWritten)
-    → IsSeriesOf s (records_in views key) → TookAll s o count old new
+pub emitted_all : (o : Options) (views : List View) (key : List ℕ) (s : Trace) (count : ℕ) (old new : BytesWritten)
+    → IsSeriesOf s (records_in views key) → EmittedAll s o count old new
     → Wrote (IsPackedWhole o views key) 0 old new
-took_all o views key s count old new series took = record {
-  text = concat took.records;
-  text_is = (took.records, (record { trace = s; series = series; packing = took.packing }, refl));
-  bytes = took.bytes;
-  failed = omega (arith, took.failures);
+emitted_all o views key s count old new series emitted = record {
+  text = concat emitted.records;
+  text_is = (emitted.records, (record { trace = s; series = series; packing = emitted.packing }, refl));
+  bytes = emitted.bytes;
+  failed = omega (arith, emitted.failures);
 }
 
-pub took_prefix : (o : Options) (views : List View) (key : List ℕ) (s : Trace) (taken : ℕ) (old new : BytesWritten)
-    → IsSeriesOf s (records_in views key) → TookPrefix s o taken old new
+pub emitted_prefix : (o : Options) (views : List View) (key : List ℕ) (s : Trace) (taken : ℕ) (old new : BytesWritten)
+    → IsSeriesOf s (records_in views key) → EmittedPrefix s o taken old new
     → Wrote (IsPackedInPart o views key) 1 old new
-took_prefix o views key s taken old new series took = record {
-  text = take taken (concat (took.records ++ took.last ∷ []));
+emitted_prefix o views key s taken old new series emitted = record {
+  text = take taken (concat (emitted.records ++ emitted.last ∷ []));
   text_is = record {
     trace = s;
     series = series;
-    records = took.records ++ took.last ∷ [];
-    left = took.left;
-    packing = took.packing;
+    records = emitted.records ++ emitted.last ∷ [];
+    left = emitted.left;
+    packing = emitted.packing;
     taken = taken;
     text_is = refl;
   };
-  bytes = took.bytes;
-  failed = took.failures;
+  bytes = emitted.bytes;
+  failed = emitted.failures;
 }

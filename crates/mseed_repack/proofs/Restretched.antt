@@ -11,7 +11,7 @@ use Rattle.mseed_stream.specs.Device.{BytesWritten}
 use Rattle.mseed_audit.specs.Follows.{IsSound}
 use Rattle.mseed_audit.specs.Series.{Trace, IsSeriesOf}
 use Rattle.mseed_stretches.specs.Stretches.{AreStretchesUpTo}
-use Rattle.mseed_pack.specs.Outcome.{TookAll, TookPrefix}
+use Rattle.mseed_pack.specs.Outcome.{EmittedAll, EmittedPrefix}
 use Rattle.mseed_pack.specs.declared.fault.PackFault.{PackFault}
 use Rattle.mseed_pack.specs.declared.options.Options.{Options}
 use Rattle.mseed_repack.specs.Repack.{Wrote}
@@ -193,33 +193,33 @@ part_packed o rs from n next first old new h cut wrote =
     }
 
 -- what packing a stretch left behind
-pub took_stretch : (o : Options) (vs : List View) (s : Trace) (count : ℕ) (old new : BytesWritten) → IsSeriesOf s vs
-    → TookAll s o count old new → Wrote (IsStretchText o vs count) 0 old new
-took_stretch o vs s count old new series took = record {
-  text = concat took.records;
+pub emitted_stretch : (o : Options) (vs : List View) (s : Trace) (count : ℕ) (old new : BytesWritten) → IsSeriesOf s vs
+    → EmittedAll s o count old new → Wrote (IsStretchText o vs count) 0 old new
+emitted_stretch o vs s count old new series emitted = record {
+  text = concat emitted.records;
   text_is = record {
-    records = took.records;
-    packed = record { trace = s; series = series; packing = took.packing };
-    count_is = took.count_is;
+    records = emitted.records;
+    packed = record { trace = s; series = series; packing = emitted.packing };
+    count_is = emitted.count_is;
     text_is = refl;
   };
-  bytes = took.bytes;
-  failed = omega (arith, took.failures);
+  bytes = emitted.bytes;
+  failed = omega (arith, emitted.failures);
 }
 
-pub took_part : (o : Options) (vs : List View) (s : Trace) (taken : ℕ) (old new : BytesWritten) → IsSeriesOf s vs
-    → TookPrefix s o taken old new → Wrote (IsStretchPart o vs) 1 old new
-took_part o vs s taken old new series took = record {
-  text = take taken (concat (took.records ++ took.last ∷ []));
+pub emitted_part : (o : Options) (vs : List View) (s : Trace) (taken : ℕ) (old new : BytesWritten) → IsSeriesOf s vs
+    → EmittedPrefix s o taken old new → Wrote (IsStretchPart o vs) 1 old new
+emitted_part o vs s taken old new series emitted = record {
+  text = take taken (concat (emitted.records ++ emitted.last ∷ []));
   text_is = record {
     trace = s;
     series = series;
-    further = took.records ++ took.last ∷ [];
-    samples_left = took.left;
-    packing = took.packing;
+    further = emitted.records ++ emitted.last ∷ [];
+    samples_left = emitted.left;
+    packing = emitted.packing;
     taken = taken;
     text_is = refl;
   };
-  bytes = took.bytes;
-  failed = took.failures;
+  bytes = emitted.bytes;
+  failed = emitted.failures;
 }

@@ -1,9 +1,9 @@
 -- What is found of the channels of an archive, one after another.
-use Rattle.std.proofs.Common.{◌≡◌, ℕ, zero, suc, ◌+◌, ◌<◌, ◌≤◌, List, [], ◌∷◌, ◌++◌, length, take, drop, get_or}
+use Rattle.std.proofs.Common.{◌≡◌, ℕ, zero, suc, ◌+◌, ◌<◌, ◌≤◌, List, [], ◌∷◌, ◌++◌, length, map, take, drop, get_or}
 use Rattle.std.proofs.Common.{refl, sym, ap, subst, ◌∙◌, arith, append_assoc, append-nil, All, Bool, true}
-use Rattle.std.proofs.Common.{Result, Ok, Err, IfErr, IfOk}
+use Rattle.std.proofs.Common.{Result, Ok, Err, IfErr, IfOk, length-append}
 use Rattle.std.specs.List.{AllByRecursion}
-use Rattle.std.proofs.lemmas.List.{get_or_default, length-take-le, take-append-drop, take_all, take_more}
+use Rattle.std.proofs.lemmas.List.{get_or_default, length-map, length-take-le, take-append-drop, take_all, take_more}
 use Rattle.std.proofs.lemmas.List.Elements.{All-from_recursion, recursion_from_All}
 use Rattle.mseed_record.specs.View.{View}
 use Rattle.mseed_stream.specs.Device.{BytesRead, BytesWritten}
@@ -20,7 +20,8 @@ use Rattle.mseed_repack.specs.ByStretches.{AreSound, AreStandings, AreStretched,
 use Rattle.mseed_repack.specs.ByStretches.{TellsEach, also, further, kept_of, line_of, lines_of, nothing}
 use Rattle.mseed_repack.specs.ByStretches.{IsRestretching, WereStretched, silent}
 use Rattle.mseed_repack.specs.private.Reading.{channel_in, steps_of}
-use Rattle.mseed_repack.specs.private.Restretching.{AreRoomy, AreStretchesWithin, IsFirstRefused, IsNoMisfit}
+use Rattle.mseed_repack.specs.private.Restretching.{AreCut, AreLengths, AreRoomy, AreStretchesWithin}
+use Rattle.mseed_repack.specs.private.Restretching.{IsFirstRefused, IsNoMisfit}
 use Rattle.mseed_repack.specs.private.Restretching.{FailsToStretch, IsPartIfFit, IsTextIfFit, IsUnbroken}
 use Rattle.mseed_repack.specs.declared.refusing.Left.{Left}
 use Rattle.mseed_repack.specs.declared.standing.Standing.{Standing}
@@ -29,6 +30,7 @@ use Rattle.mseed_repack.specs.declared.stretches_fault.StretchesFault.TheVariant
 use Rattle.mseed_repack.specs.declared.stretches_fault.StretchesFault.{StretchesFault}
 use Rattle.mseed_repack.specs.declared.stretches_fault.StretchesFault.TheVariants.{Memory, Misfit as MisfitStretch}
 use Rattle.mseed_repack.specs.declared.stretches_fault.StretchesFault.TheVariants.{Stream, Write}
+use Rattle.mseed_repack.proofs.Lengths.{as_many_cut, cut_at, cut_more}
 use Rattle.mseed_repack.proofs.ReadChannels.{steps_in}
 use Rattle.mseed_repack.proofs.Repacks.{first_at, says_of}
 
@@ -258,25 +260,26 @@ all_kept o views cs ss k first new le size wrote =
 
 -- channels of which none is broken, and of which each fits
 
-pub sound_front : (o : Options) (views : List View) (cs : List Channel) (ss : List Standing) (k : ℕ)
+pub sound_leading : (o : Options) (views : List View) (cs : List Channel) (ss : List Standing) (k : ℕ)
     → AreStandings o views cs ss → AllByRecursion IsUnbroken (take k ss)
     → AllByRecursion (λ (c : Channel). AllByRecursion IsSound (records_in views c.0)) (take k cs)
-sound_front o views cs ss zero all un = tt
-sound_front o views [] ss (suc k) all un = tt
-sound_front o views (c ∷ cs) [] (suc k) all un = absurd all
-sound_front o views (c ∷ cs) (Fit ∷ ss) (suc k) all un = (all.0.sound, sound_front o views cs ss k all.1 un.1)
-sound_front o views (c ∷ cs) (Broken ∷ ss) (suc k) all un = absurd un.0
-sound_front o views (c ∷ cs) (Misfit n f ∷ ss) (suc k) all un = (all.0.sound, sound_front o views cs ss k all.1 un.1)
+sound_leading o views cs ss zero all un = tt
+sound_leading o views [] ss (suc k) all un = tt
+sound_leading o views (c ∷ cs) [] (suc k) all un = absurd all
+sound_leading o views (c ∷ cs) (Fit ∷ ss) (suc k) all un = (all.0.sound, sound_leading o views cs ss k all.1 un.1)
+sound_leading o views (c ∷ cs) (Broken ∷ ss) (suc k) all un = absurd un.0
+sound_leading o views (c ∷ cs) (Misfit n f ∷ ss) (suc k) all un =
+    (all.0.sound, sound_leading o views cs ss k all.1 un.1)
 
-pub fit_front : (o : Options) (views : List View) (cs : List Channel) (ss : List Standing) (k : ℕ)
+pub fit_leading : (o : Options) (views : List View) (cs : List Channel) (ss : List Standing) (k : ℕ)
     → AreStandings o views cs ss → AllByRecursion IsUnbroken ss → AllByRecursion IsNoMisfit (take k ss)
     → AllByRecursion (λ (c : Channel). ChannelFits o (records_in views c.0)) (take k cs)
-fit_front o views cs ss zero all un fine = tt
-fit_front o views [] ss (suc k) all un fine = tt
-fit_front o views (c ∷ cs) [] (suc k) all un fine = absurd all
-fit_front o views (c ∷ cs) (Fit ∷ ss) (suc k) all un fine = (all.0, fit_front o views cs ss k all.1 un.1 fine.1)
-fit_front o views (c ∷ cs) (Broken ∷ ss) (suc k) all un fine = absurd un.0
-fit_front o views (c ∷ cs) (Misfit n f ∷ ss) (suc k) all un fine = absurd fine.0
+fit_leading o views cs ss zero all un fine = tt
+fit_leading o views [] ss (suc k) all un fine = tt
+fit_leading o views (c ∷ cs) [] (suc k) all un fine = absurd all
+fit_leading o views (c ∷ cs) (Fit ∷ ss) (suc k) all un fine = (all.0, fit_leading o views cs ss k all.1 un.1 fine.1)
+fit_leading o views (c ∷ cs) (Broken ∷ ss) (suc k) all un fine = absurd un.0
+fit_leading o views (c ∷ cs) (Misfit n f ∷ ss) (suc k) all un fine = absurd fine.0
 
 sound_each : (o : Options) (views : List View) (cs : List Channel) (ss : List Standing) → AreStandings o views cs ss
     → AllByRecursion IsUnbroken ss → AreSound views cs
@@ -285,7 +288,7 @@ sound_each o views cs ss all un =
     All-from_recursion (λ (c : Channel). AllByRecursion IsSound (records_in views c.0)) cs
     (subst (λ (ds : List Channel). AllByRecursion (λ (c : Channel). AllByRecursion IsSound (records_in views c.0)) ds)
     (take_all (length ss) cs (omega (arith, size)))
-    (sound_front o views cs ss (length ss) all
+    (sound_leading o views cs ss (length ss) all
     (subst (λ (ts : List Standing). AllByRecursion IsUnbroken ts) (sym (take_all (length ss) ss (omega arith))) un)))
 
 -- the first broken channel is why an archive is refused
@@ -301,7 +304,7 @@ refused_broken o views cs ss k c lt size at is before all =
     subst (λ (key : List ℕ). IsFirst Sound Unsound key cs) (sym (ap (λ (d : Channel). d.0) at))
     (first_at Sound Unsound cs k c less
     (All-from_recursion (λ (d : Channel). Sound d.0) (take k cs)
-    (sound_front o views cs ss k all (recursion_from_All IsUnbroken (take k ss) before)))
+    (sound_leading o views cs ss k all (recursion_from_All IsUnbroken (take k ss) before)))
     (subst (λ (d : Channel). Unsound d.0) at here))
 
 -- or else the first that doesn't fit
@@ -320,7 +323,7 @@ refused_misfit o views cs ss k n fault c lt size at is un before all =
       subst (λ (key : List ℕ). IsFirst Fits Misfits key cs) (sym (ap (λ (d : Channel). d.0) at))
           (first_at Fits Misfits cs k c less
           (All-from_recursion (λ (d : Channel). Fits d.0) (take k cs)
-          (fit_front o views cs ss k all unbroken (recursion_from_All IsNoMisfit (take k ss) before)))
+          (fit_leading o views cs ss k all unbroken (recursion_from_All IsNoMisfit (take k ss) before)))
           (subst (λ (d : Channel). Misfits d.0) at here)),
     )
 
@@ -349,17 +352,17 @@ lines_next (d ∷ ds) (t ∷ ts) (suc k) c s lt size at is =
     (lines_next ds ts k c s (omega (arith, lt)) (omega (arith, size)) at is)
     ∙ sym (append_assoc (line_of d.0 t) (lines_of (take k ds) (take k ts)) (line_of c.0 s))
 
--- lines that are told behind others
-tells_append : (front back : List (List ℕ)) (old between new : BytesWritten) → TellsEach front old between
-    → TellsEach back between new → TellsEach (front ++ back) old new
-tells_append front _ old _ _ a (silent s) =
-    subst (λ (ls : List (List ℕ)). TellsEach ls old s) (sym (append-nil front)) a
-tells_append front _ old between _ a (also lines line _ middle new b told) =
-    subst (λ (ls : List (List ℕ)). TellsEach ls old new) (append_assoc front lines (line ∷ []))
-    (also (front ++ lines) line old middle new (tells_append front lines old between middle a b) told)
+-- lines that are reported behind others
+tells_append : (leading back : List (List ℕ)) (old between new : BytesWritten) → TellsEach leading old between
+    → TellsEach back between new → TellsEach (leading ++ back) old new
+tells_append leading _ old _ _ a (silent s) =
+    subst (λ (ls : List (List ℕ)). TellsEach ls old s) (sym (append-nil leading)) a
+tells_append leading _ old between _ a (also lines line _ middle new b reported) =
+    subst (λ (ls : List (List ℕ)). TellsEach ls old new) (append_assoc leading lines (line ∷ []))
+    (also (leading ++ lines) line old middle new (tells_append leading lines old between middle a b) reported)
 
 pub tells_one : (line : List ℕ) (old new : BytesWritten) → Tells line old new → TellsEach (line ∷ []) old new
-tells_one line old new told = also [] line old old new (silent old) told
+tells_one line old new reported = also [] line old old new (silent old) reported
 
 pub tells_next : (cs : List Channel) (ss : List Standing) (k : ℕ) (c : Channel) (s : Standing)
     (first old new : BytesWritten) → k < length cs → length ss ≡ length cs → c ≡ get_or cs k c → s ≡ get_or ss k s
@@ -369,23 +372,28 @@ tells_next cs ss k c s first old new lt size at is before one =
     subst (λ (ls : List (List ℕ)). TellsEach ls first new) (sym (lines_next cs ss k c s lt size at is))
     (tells_append (lines_of (take k cs) (take k ss)) (line_of c.0 s) first old new before one)
 
--- what is found of the channels so far, and that there is room for their stretches
+-- what is found of the channels so far, that there is room for their stretches, and how long these are
 pub record AreJudgedSo (o : Options) (views : List View) (cs : List Channel) (k : ℕ) (ss : List Standing)
-    (room : ℕ) : Type 0 where
+    (room : ℕ) (ls : List (List ℕ)) : Type 0 where
   pub standings : AreStandings o views (take k cs) ss
   pub roomy : AreRoomy room views (take k cs) ss
+  pub cut : AreCut views (take k cs) ss ls
+  pub as_long : length ls ≡ length (take k cs)
 
-pub judged_none : (o : Options) (views : List View) (cs : List Channel) (ss : List Standing) (room : ℕ) → ss ≡ []
-    → AreJudgedSo o views cs 0 ss room
-judged_none o views cs ss room is =
-    subst (λ (ts : List Standing). AreJudgedSo o views cs 0 ts room) (sym is) (record { standings = tt; roomy = tt })
+pub judged_none : (o : Options) (views : List View) (cs : List Channel) (ss : List Standing) (room : ℕ)
+    (ls : List (List ℕ)) → ss ≡ [] → ls ≡ [] → AreJudgedSo o views cs 0 ss room ls
+judged_none o views cs ss room ls is none =
+    subst (λ (ts : List Standing). AreJudgedSo o views cs 0 ts room ls) (sym is)
+    (subst (λ (ms : List (List ℕ)). AreJudgedSo o views cs 0 [] room ms) (sym none)
+    (record { standings = tt; roomy = tt; cut = tt; as_long = refl }))
 
 -- one more channel, whose records are these
 pub judged_more : (o : Options) (views : List View) (cs : List Channel) (k : ℕ) (ss : List Standing)
-    (room new : ℕ) (c : Channel) (s : Standing) (vs : List View) → k < length cs → c ≡ get_or cs k c
-    → vs ≡ channel_in c.0 views → room ≤ new → Stands o vs s → (s ≡ Fit → AreStretchesWithin new vs)
-    → AreJudgedSo o views cs k ss room → AreJudgedSo o views cs (k + 1) (ss ++ s ∷ []) new
-judged_more o views cs k ss room new c s vs lt at is le stands within h =
+    (room new : ℕ) (ls : List (List ℕ)) (c : Channel) (s : Standing) (ns : List ℕ) (vs : List View) → k < length cs
+    → c ≡ get_or cs k c → vs ≡ channel_in c.0 views → room ≤ new → Stands o vs s
+    → (s ≡ Fit → AreStretchesWithin new vs) → (s ≡ Fit → AreLengths ns vs) → AreJudgedSo o views cs k ss room ls
+    → AreJudgedSo o views cs (k + 1) (ss ++ s ∷ []) new (ls ++ ns ∷ [])
+judged_more o views cs k ss room new ls c s ns vs lt at is le stands within cut h =
     let same : vs ≡ records_in views c.0 = is ∙ sym (views_are c.0 views) in
     let next : take k cs ++ c ∷ [] ≡ take (k + 1) cs =
     ap (λ (d : Channel). take k cs ++ d ∷ []) at ∙ sym (take_more cs k c lt) in
@@ -397,6 +405,11 @@ judged_more o views cs k ss room new c s vs lt at is le stands within h =
           (roomy_more new views (take k cs) ss c s (as_many o views (take k cs) ss h.standings)
           (roomier room new views (take k cs) ss le h.roomy)
           (λ fit. subst (λ (us : List View). AreStretchesWithin new us) same (within fit)));
+      cut = subst (λ (ds : List Channel). AreCut views ds (ss ++ s ∷ []) (ls ++ ns ∷ [])) next
+          (cut_more views (take k cs) ss ls c s ns (as_many o views (take k cs) ss h.standings) h.cut h.as_long
+          (λ fit. subst (λ (us : List View). AreLengths ns us) same (cut fit)));
+      as_long = length-append ls (ns ∷ []) ∙ ap (λ (n : ℕ). n + 1) h.as_long
+          ∙ sym (length-append (take k cs) (c ∷ [])) ∙ ap (λ (ds : List Channel). length ds) next;
     }
 
 -- a standing that isn't of a kind
@@ -413,19 +426,20 @@ no_misfit (Misfit n f) fine = fine n f refl
 
 -- how packing an archive by stretches ends
 pub restretched_is : (r : Result Left StretchesFault) (o : Options) (leave : Bool) (h : BytesRead)
-    (old new told_old told_new : BytesWritten) (views : List View) (cs : List Channel) → IsArchiveOf h views cs
-    → IfOk r (λ left. WereStretched o leave views cs left old new told_old told_new)
-    → IfErr r (FailsToStretch o leave views cs old new told_old told_new)
-    → IsRestretching o leave r h old new told_old told_new
-restretched_is (Ok left) o leave h old new told_old told_new views cs archive ok err = (views, (cs, (archive, ok)))
-restretched_is (Err (Stream f)) o leave h old new told_old told_new views cs archive ok err = absurd err
-restretched_is (Err (BrokenChannel key)) o leave h old new told_old told_new views cs archive ok err =
+    (old new reported_old reported_new : BytesWritten) (views : List View) (cs : List Channel) → IsArchiveOf h views cs
+    → IfOk r (λ left. WereStretched o leave views cs left old new reported_old reported_new)
+    → IfErr r (FailsToStretch o leave views cs old new reported_old reported_new)
+    → IsRestretching o leave r h old new reported_old reported_new
+restretched_is (Ok left) o leave h old new reported_old reported_new views cs archive ok err =
+    (views, (cs, (archive, ok)))
+restretched_is (Err (Stream f)) o leave h old new reported_old reported_new views cs archive ok err = absurd err
+restretched_is (Err (BrokenChannel key)) o leave h old new reported_old reported_new views cs archive ok err =
     (views, (cs, (archive, err.0, err.1, err.2, err.3)))
-restretched_is (Err (MisfitStretch key n f)) o leave h old new told_old told_new views cs archive ok err =
+restretched_is (Err (MisfitStretch key n f)) o leave h old new reported_old reported_new views cs archive ok err =
     (views, (cs, (archive, err.0.0, err.0.1, err.1, err.2, err.3)))
-restretched_is (Err Write) o leave h old new told_old told_new views cs archive ok err =
+restretched_is (Err Write) o leave h old new reported_old reported_new views cs archive ok err =
     (views, (cs, (archive, err)))
-restretched_is (Err Memory) o leave h old new told_old told_new views cs archive ok err = err
+restretched_is (Err Memory) o leave h old new reported_old reported_new views cs archive ok err = err
 
 -- The same, where the channel's standing is the one at its index, whatever is given where there is none.
 
@@ -457,6 +471,24 @@ roomy_for most room o views cs ss k c d le all roomy lt at fit =
     subst (λ (vs : List View). AreStretchesWithin room vs) (views_are c.0 views)
     (roomy_at room views cs ss k c (get_or ss k d) (roomier most room views cs ss le roomy) lt less at
     (here_is ss k d less) fit)
+
+-- there are lengths of each channel
+pub cut_inside : {A : Type 0} (f : A → List ℕ) (o : Options) (views : List View) (cs : List Channel)
+    (ss : List Standing) (xs : List A) (k : ℕ) → AreStandings o views cs ss → AreCut views cs ss (map f xs)
+    → k < length cs → k < length xs
+cut_inside f o views cs ss xs k all cut lt =
+    let many = as_many_cut views cs ss (map f xs) (as_many o views cs ss all) cut in
+    let same = length-map xs f in
+    omega (arith, many, same, lt)
+
+pub cut_for : (o : Options) (views : List View) (cs : List Channel) (ss : List Standing) (ls : List (List ℕ)) (k : ℕ)
+    (c : Channel) (d : Standing) (ns : List ℕ) → AreStandings o views cs ss → AreCut views cs ss ls → k < length cs
+    → c ≡ get_or cs k c → get_or ss k d ≡ Fit → AreLengths (get_or ls k ns) (channel_in c.0 views)
+cut_for o views cs ss ls k c d ns all cut lt at fit =
+    let size = as_many o views cs ss all in
+    subst (λ (vs : List View). AreLengths (get_or ls k ns) vs)
+    (ap (λ (e : Channel). records_in views e.0) (sym at) ∙ views_are c.0 views)
+    (cut_at views cs ss ls k c d ns lt size cut fit)
 
 pub kept_at : (o : Options) (views : List View) (cs : List Channel) (ss : List Standing) (k : ℕ) (c : Channel)
     (d : Standing) (first old new : BytesWritten) → k < length cs → AreStandings o views cs ss → c ≡ get_or cs k c

@@ -4,7 +4,6 @@ use Rattle.std.proofs.Common.{sym, subst, ap, ◌∙◌, refl, arith, Result, Ok
 use Rattle.mseed_time.specs.declared.outcome.LeapStep.{LeapStep}
 use Rattle.mseed_record.specs.View.{View}
 use Rattle.mseed_audit.specs.Series.{Trace, IsSeriesOf}
-use Rattle.mseed_stretches.specs.Clocks.{IsStretchOf}
 use Rattle.mseed_stretches.specs.declared.stretch.Stretch.{Stretch}
 use Rattle.mseed_pack.specs.Stretches.{differences}
 use Rattle.mseed_pack.specs.Fitting.{Fits, IsDifferenceOf, IsMisfit, IsSampleOf}
@@ -13,8 +12,9 @@ use Rattle.mseed_pack.specs.declared.fault.PackFault.{PackFault}
 use Rattle.mseed_pack.specs.declared.options.Options.{Options}
 use Rattle.mseed_repack.specs.Restretch.{IsNumberedOn, StretchFits, StretchMisfits}
 use Rattle.mseed_repack.specs.private.Reading.{AreOf}
+use Rattle.mseed_repack.specs.private.Restretching.{IsBegunBy}
 
-pub series_is : (s : Stretch) (vs : List View) (xs : List ℤ) (ss : List (ℕ × LeapStep)) → IsStretchOf s vs
+pub series_is : (s : Stretch) (vs : List View) (xs : List ℤ) (ss : List (ℕ × LeapStep)) → IsBegunBy s vs
     → AreOf s.codes vs xs ss
     → IsSeriesOf (record { codes = s.codes; start = s.start; rate = s.rate; samples = xs; steps = ss }) vs
 series_is s [] xs ss is are = absurd is

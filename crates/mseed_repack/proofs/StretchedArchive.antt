@@ -15,7 +15,6 @@ use Rattle.std.proofs.lemmas.List.Elements.{filter-append}
 use Rattle.std.proofs.lemmas.List.Folds.{concat-append}
 use Rattle.mseed_record.specs.Header.{key_at}
 use Rattle.mseed_record.specs.View.{View, IsView}
-use Rattle.mseed_stream.specs.Archive.{IsArchive}
 use Rattle.mseed_stream.specs.Device.{BytesRead, BytesWritten}
 use Rattle.mseed_stream.specs.Walk.{bytes_in}
 use Rattle.mseed_audit.specs.Channels.{is_of, same_key}
@@ -27,12 +26,12 @@ use Rattle.mseed_pack.proofs.Traced.{kept_views}
 use Rattle.mseed_repack.specs.Borders.{IsStretchedArchive, KeepsBorders}
 use Rattle.mseed_repack.specs.ByStretches.{AreStretched, IsRestretching, further, kept_of, nothing}
 use Rattle.mseed_repack.specs.Repack.{Channel, records_in}
-use Rattle.mseed_repack.specs.Restretch.{ChannelFits, IsChannelText}
+use Rattle.mseed_repack.specs.Restretch.{ChannelFits}
 use Rattle.mseed_repack.specs.declared.refusing.Left.{Left}
 use Rattle.mseed_repack.specs.declared.standing.Standing.{Standing}
 use Rattle.mseed_repack.specs.declared.standing.Standing.TheVariants.{Fit, Broken, Misfit}
-use Rattle.mseed_repack.proofs.Bordered.{IsOwn, Layers, own_of}
-use Rattle.mseed_repack.proofs.ChannelReadBack.{each_at_back, each_in_front, kept_fit}
+use Rattle.mseed_repack.proofs.Bordered.{Layers, own_of}
+use Rattle.mseed_repack.proofs.ChannelReadBack.{each_at_back, each_in_leading, kept_fit}
 use Rattle.mseed_repack.proofs.ReadBack.{all_records, none_further}
 
 -- The views of what was written of each channel, one channel's behind another's.
@@ -81,7 +80,7 @@ all_of : Layers → (o : Options) (views : List View) (cs : List Channel) (text 
 all_of laws o views _ _ each fit nothing = ([], (refl, refl))
 all_of laws o views _ _ each fit (further cs c text own before here) =
     let P : Channel → Type 0 = λ c. ChannelFits o (records_in views c.0) in
-    let front = all_of laws o views cs text each (each_in_front P cs (c ∷ []) fit) before in
+    let leading = all_of laws o views cs text each (each_in_leading P cs (c ∷ []) fit) before in
     let mine : records_in views c.0 ≡ filter (is_of c.0) views = views_are c.0 views in
     let own_views : AllByRecursion IsView (records_in views c.0) =
     subst (λ (vs : List View). AllByRecursion IsView vs) (sym mine) (kept_views c.0 views each) in
@@ -90,13 +89,13 @@ all_of laws o views _ _ each fit (further cs c text own before here) =
     (kept_keys c.0 views) in
     let is = own_of laws o (records_in views c.0) c.0 here.records own_views keys
     (each_at_back P cs (c ∷ []) fit).0 here.packed in (
-      front.0 ++ is.views,
+      leading.0 ++ is.views,
       (
-        one_behind views cs c front.0 is.views front.1.0
+        one_behind views cs c leading.0 is.views leading.1.0
             (record { each = is.each; of_key = is.of_key; borders = is.borders }),
-        ap (λ (rs : List (List ℕ)). concat rs) (map-append (λ (v : View). v.bytes) front.0 is.views)
-            ∙ concat-append (bytes_in front.0) (bytes_in is.views)
-            ∙ (λ i. front.1.1 i ++ concat (is.bytes i)) ∙ ap (λ (xs : List ℕ). text ++ xs) (sym here.text_is),
+        ap (λ (rs : List (List ℕ)). concat rs) (map-append (λ (v : View). v.bytes) leading.0 is.views)
+            ∙ concat-append (bytes_in leading.0) (bytes_in is.views)
+            ∙ (λ i. leading.1.1 i ++ concat (is.bytes i)) ∙ ap (λ (xs : List ℕ). text ++ xs) (sym here.text_is),
       ),
     )
 
@@ -175,7 +174,7 @@ none_among views key (c ∷ cs) ws (own, (rest, (parts, here, more))) others =
     let theirs : filter (is_of key) rest ≡ [] = none_among views key cs rest more others.1 in
     filter_parts key ws own rest parts ∙ (λ i. mine i ++ theirs i)
 
--- in front of others nothing of theirs stands
+-- before others nothing of theirs stands
 abbrev NoneBefore : List View → List Channel → Type 0
 NoneBefore before cs = AllByRecursion (λ (c : Channel). filter (is_of c.0) before ≡ []) cs
 
@@ -224,9 +223,10 @@ in_records views written (c ∷ cs) h = (
 )
 
 pub stretched_archive : Layers → (o : Options) (leave : Bool) (left : Left) (h : BytesRead)
-    (old new told_old told_new : BytesWritten) → IsRestretching o leave (Ok left) h old new told_old told_new
+    (old new reported_old reported_new : BytesWritten)
+    → IsRestretching o leave (Ok left) h old new reported_old reported_new
     → IsStretchedArchive o h old new
-stretched_archive laws o leave left h old new told_old told_new (views, (channels, (archive, were))) =
+stretched_archive laws o leave left h old new reported_old reported_new (views, (channels, (archive, were))) =
     let kept : List Channel = kept_of channels were.standings in
     let all = all_of laws o views kept were.wrote.text archive.whole.each
     (kept_fit o views channels were.standings were.are) were.wrote.text_is in

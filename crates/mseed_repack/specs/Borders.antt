@@ -68,10 +68,10 @@ pub record IsFoundBehind (why : ℕ → Why) (samples : ℕ) (start : ℤ) (view
 -- what was written of records is continuous where they nearly are, and shows each gap and overlap that is wide
 pub record KeepsBorders (vs written : List View) : Type 0 where
   pub continuous : vs ≢ [] → AllNeighbours IsClose vs → IsContinuous written
-  pub gap : (front : List View) (b v : View) (back : List View) → vs ≡ front ++ b ∷ (v ∷ back) → LeavesGap b v
-      → IsFoundBehind (λ us. Gap us) (samples_of (front ++ b ∷ [])) (start_of v) written
-  pub overlap : (front : List View) (b v : View) (back : List View) → vs ≡ front ++ b ∷ (v ∷ back) → Overlaps b v
-      → IsFoundBehind (λ us. Overlap us) (samples_of (front ++ b ∷ [])) (start_of v) written
+  pub gap : (leading : List View) (b v : View) (back : List View) → vs ≡ leading ++ b ∷ (v ∷ back) → LeavesGap b v
+      → IsFoundBehind (λ us. Gap us) (samples_of (leading ++ b ∷ [])) (start_of v) written
+  pub overlap : (leading : List View) (b v : View) (back : List View) → vs ≡ leading ++ b ∷ (v ∷ back) → Overlaps b v
+      → IsFoundBehind (λ us. Overlap us) (samples_of (leading ++ b ∷ [])) (start_of v) written
 
 -- What was written of an archive by stretches is an archive, of the channels that fit and no others: and so is what was
 -- written of each of them.

@@ -122,53 +122,53 @@ lines_of [] ss = []
 lines_of (c ∷ cs) [] = []
 lines_of (c ∷ cs) (s ∷ ss) = line_of c.0 s ++ lines_of cs ss
 
--- lines are told one after another, each as far as the device takes it
+-- lines are reported one after another, each as far as the device takes it
 pub data TellsEach : List (List ℕ) → BytesWritten → BytesWritten → Type 0 where
   silent : (s : BytesWritten) → TellsEach [] s s
   also : (lines : List (List ℕ)) (line : List ℕ) (old between new : BytesWritten) → TellsEach lines old between
       → Tells line between new → TellsEach (lines ++ line ∷ []) old new
 
--- What was written by stretches: of each channel that fits its stretches' records; and the others were told, unless
+-- What was written by stretches: of each channel that fits its stretches' records; and the others were reported, unless
 -- there was to be none.
 pub record WereStretched (o : Options) (leave : Bool) (views : List View) (channels : List Channel) (left : Left)
-    (old new told_old told_new : BytesWritten) : Type 0 where
+    (old new reported_old reported_new : BytesWritten) : Type 0 where
   pub standings : List Standing
   pub are : AreStandings o views channels standings
   pub whole : leave ≡ false → AllByRecursion IsFit standings
-  pub told : TellsEach (lines_of channels standings) told_old told_new
+  pub reported : TellsEach (lines_of channels standings) reported_old reported_new
   pub wrote : Wrote (AreStretched o views (kept_of channels standings)) 0 old new
   pub left_is : left ≡ left_of standings
 
 -- the same, where the output failed
 pub record WereStretchedInPart (o : Options) (leave : Bool) (views : List View) (channels : List Channel)
-    (old new told_old told_new : BytesWritten) : Type 0 where
+    (old new reported_old reported_new : BytesWritten) : Type 0 where
   pub standings : List Standing
   pub are : AreStandings o views channels standings
   pub whole : leave ≡ false → AllByRecursion IsFit standings
-  pub told : TellsEach (lines_of channels standings) told_old told_new
+  pub reported : TellsEach (lines_of channels standings) reported_old reported_new
   pub wrote : Wrote (IsPartStretched o views (kept_of channels standings)) 1 old new
 
 -- What packing anew by stretches comes to. Where the input is a whole archive, the channels are written of which each
--- record is sound and each stretch can be packed, and the others are told, or else the archive is refused for the first
--- of them; a prefix is written where the output failed; and nothing otherwise, where memory was refused too.
+-- record is sound and each stretch can be packed, and the others are reported, or else the archive is refused for the
+-- first of them; a prefix is written where the output failed; and nothing otherwise, where memory was refused too.
 abbrev pub IsRestretching : Options → Bool → Result Left StretchesFault → BytesRead → BytesWritten → BytesWritten
     → BytesWritten → BytesWritten → Type 0
-IsRestretching o leave (Ok left) h old new told_old told_new =
+IsRestretching o leave (Ok left) h old new reported_old reported_new =
     Exists (λ views channels. IsArchiveOf h views channels
-    × WereStretched o leave views channels left old new told_old told_new)
-IsRestretching o leave (Err (Stream fault)) h old new told_old told_new =
-    (fault ≢ NoMemory) × IsUnread fault h × (new ≡ old) × (told_new ≡ told_old)
-IsRestretching o leave (Err (BrokenChannel key)) h old new told_old told_new =
+    × WereStretched o leave views channels left old new reported_old reported_new)
+IsRestretching o leave (Err (Stream fault)) h old new reported_old reported_new =
+    (fault ≢ NoMemory) × IsUnread fault h × (new ≡ old) × (reported_new ≡ reported_old)
+IsRestretching o leave (Err (BrokenChannel key)) h old new reported_old reported_new =
     Exists (λ views channels. IsArchiveOf h views channels
     × IsFirst (λ k. AllByRecursion IsSound (records_in views k)) (λ k. ¬ (AllByRecursion IsSound (records_in views k)))
     key channels
-    × (leave ≡ false) × (new ≡ old) × (told_new ≡ told_old))
-IsRestretching o leave (Err (MisfitStretch key number fault)) h old new told_old told_new =
+    × (leave ≡ false) × (new ≡ old) × (reported_new ≡ reported_old))
+IsRestretching o leave (Err (MisfitStretch key number fault)) h old new reported_old reported_new =
     Exists (λ views channels. IsArchiveOf h views channels × AreSound views channels
     × IsFirst (λ k. ChannelFits o (records_in views k)) (λ k. ChannelMisfits o number fault (records_in views k)) key
     channels
-    × (leave ≡ false) × (new ≡ old) × (told_new ≡ told_old))
-IsRestretching o leave (Err Write) h old new told_old told_new =
+    × (leave ≡ false) × (new ≡ old) × (reported_new ≡ reported_old))
+IsRestretching o leave (Err Write) h old new reported_old reported_new =
     Exists (λ views channels. IsArchiveOf h views channels
-    × WereStretchedInPart o leave views channels old new told_old told_new)
-IsRestretching o leave (Err Memory) h old new told_old told_new = (new ≡ old) × (told_new ≡ told_old)
+    × WereStretchedInPart o leave views channels old new reported_old reported_new)
+IsRestretching o leave (Err Memory) h old new reported_old reported_new = (new ≡ old) × (reported_new ≡ reported_old)

@@ -26,8 +26,8 @@ FailsBeside (Misfit key fault) old new before after = ⊥
 FailsBeside Write old new before after = HasWrittenPrefix old new before after
 FailsBeside Memory old new before after = ⊤
 
--- Both come to one thing: to one text, of which a failed output took a prefix; or to one fault, memory aside, and of
--- what two failed outputs took, one is a prefix of the other.
+-- Both come to one thing: to one text, of which a failed output accepted a prefix; or to one fault, memory aside, and
+-- of what two failed outputs accepted, one is a prefix of the other.
 abbrev pub ComeToOne : Result ⊤ RepackFault → Result ⊤ RepackFault → BytesWritten → BytesWritten → BytesWritten
     → BytesWritten → Type 0
 ComeToOne (Ok u) (Ok v) old new before after = HaveWrittenOne old new before after

@@ -4,7 +4,7 @@ ghost use Rattle.std.specs.List.{AllByRecursion};
 ghost use Rattle.mseed_record.specs.Viewing.{view_of};
 ghost use Rattle.mseed_audit.specs.Follows.{IsSound};
 ghost use Rattle.mseed_repack.specs.private.Reading.{steps_of};
-ghost use Rattle.mseed_repack.specs.private.Restretching.{AreStretchesWithin};
+ghost use Rattle.mseed_repack.specs.private.Restretching.{AreLengths, AreStretchesWithin};
 ghost use Rattle.mseed_repack.specs.Restretch.{IsChannelRepacking};
 
 use crate::channel_fault::ChannelFault;
@@ -12,7 +12,7 @@ use crate::fitting::fit_stretches;
 use crate::numbering::pack_stretches;
 use crate::reading::count_steps;
 use crate::repacking::{blank_steps, zeros};
-use crate::stretching::longest_stretch;
+use crate::stretching::cut_stretches;
 use mseed_pack::{Options, Packer};
 use mseed_record::RecordView;
 use mseed_stream::Sink;
@@ -21,8 +21,8 @@ use mseed_time::LeapStep;
 use std::alloc::Allocator;
 
 /// Packs the records of one channel, in their order, anew: stretch by stretch, each from its own start, with sequence
-/// numbers that run on. All stretches are known to fit before the first byte is written. Memory is asked for once: for
-/// the samples of the largest stretch and for all leap seconds.
+/// numbers that run on. All stretches are known to fit before the first byte is written. Memory is requested
+/// before it, too: for how many records each stretch has, the samples of the largest one, and all leap seconds.
 ///
 /// # Errors
 ///
@@ -42,7 +42,12 @@ pub fn repack_channel<A: Allocator + Copy, W: Sink>(
     if !are_sound(records) {
         return Err(ChannelFault::Broken);
     }
-    let mut samples = match zeros(alloc, longest_stretch(records)) {
+    let mut lengths = Vec::new(alloc);
+    let most = match cut_stretches(records, &mut lengths) {
+        Ok(most) => most,
+        Err(_) => return Err(ChannelFault::Memory),
+    };
+    let mut samples = match zeros(alloc, most) {
         Ok(samples) => samples,
         Err(_) => return Err(ChannelFault::Memory),
     };
@@ -50,13 +55,14 @@ pub fn repack_channel<A: Allocator + Copy, W: Sink>(
         Ok(steps) => steps,
         Err(_) => return Err(ChannelFault::Memory),
     };
-    repack_within(records, options, &mut samples, &mut steps, output)
+    repack_within(records, &lengths, options, &mut samples, &mut steps, output)
 }
 
-/// The same of sound records, with lists that have room for the samples of one stretch and for
-/// the leap seconds of all.
+/// The same of sound records, by how many each stretch has, with lists that have room for the samples of one stretch
+/// and for the leap seconds of all.
 fn repack_within<W: Sink>(
     records: &[RecordView],
+    lengths: &[usize],
     options: &Options,
     samples: &mut [i32],
     steps: &mut [(u64, LeapStep)],
@@ -64,17 +70,26 @@ fn repack_within<W: Sink>(
 ) -> Result<(), ChannelFault>
     requires few { length records.now ≤ 2 ^ 40 }
     requires sound { AllByRecursion IsSound (map view_of records.now) }
+    requires lengths { AreLengths lengths.now (map view_of records.now) }
     requires samples_fit { AreStretchesWithin (length samples.old) (map view_of records.now) }
     requires steps_fit { steps_of (map view_of records.now) ≤ length steps.old }
     ensures { IsChannelRepacking options.now (map view_of records.now) result
         (W.written output.old) (W.written output.new) }
 {
-    match fit_stretches(records, options, samples, steps) {
+    match fit_stretches(records, lengths, options, samples, steps) {
         Ok(()) => {}
         Err(misfit) => return Err(ChannelFault::Misfit(misfit.number, misfit.fault)),
     }
     let mut packer = Packer::new();
-    match pack_stretches(records, options, samples, steps, &mut packer, output) {
+    match pack_stretches(
+        records,
+        lengths,
+        options,
+        samples,
+        steps,
+        &mut packer,
+        output,
+    ) {
         Ok(()) => Ok(()),
         Err(_) => Err(ChannelFault::Write),
     }

@@ -26,8 +26,8 @@ use mseed_stream::one_input;
 use mseed_stretches::{instants_stay_near, one_list_of_stretches, stretches_are_continuous};
 
 /// What was read of an input, packed anew by some options, comes to one text or to one fault, but where memory was
-/// refused; an output that fails takes a prefix of that text; and of what two outputs took that failed, one is a prefix
-/// of the other.
+/// refused; an output that fails takes a prefix of that text; and of what two outputs accepted that failed, one is a
+/// prefix of the other.
 pub fn one_repacking()
     ensures { (options : Options) (read : BytesRead) (result other : Result ⊤ RepackFault)
         (old new before after : BytesWritten)
@@ -74,8 +74,8 @@ pub fn stretches_read_back()
         → ChannelFits o vs → IsChannelPacked o vs records → IsChannelReadBack vs records }
     // And what is written of an archive: of each channel that fits, in its place.
     ensures archive { (o : Options) (leave : Bool) (left : Left) (read : BytesRead)
-        (old new told_old told_new : BytesWritten)
-        → IsRestretching o leave (Ok left) read old new told_old told_new → IsStretchedBack o read old new }
+        (old new reported_old reported_new : BytesWritten)
+        → IsRestretching o leave (Ok left) read old new reported_old reported_new → IsStretchedBack o read old new }
 {
     reads_back();
     one_series();
@@ -95,19 +95,19 @@ pub fn borders_are_kept()
         → AreReadAs IsContinuous records }
     // Where one begins three quarters of a period and a microsecond behind it, or later, a gap is found in what is
     // written, behind as many samples.
-    ensures gap { (o : Options) (vs : List View) (records : List (List ℕ)) (front : List View) (b v : View)
+    ensures gap { (o : Options) (vs : List View) (records : List (List ℕ)) (leading : List View) (b v : View)
         (back : List View) → AllByRecursion IsView vs → ChannelFits o vs → IsChannelPacked o vs records
-        → vs ≡ front ++ b ∷ (v ∷ back) → LeavesGap b v
-        → AreReadAs (IsFoundBehind (λ us. Gap us) (samples_of (front ++ b ∷ [])) (start_of v)) records }
+        → vs ≡ leading ++ b ∷ (v ∷ back) → LeavesGap b v
+        → AreReadAs (IsFoundBehind (λ us. Gap us) (samples_of (leading ++ b ∷ [])) (start_of v)) records }
     // And an overlap, where one begins so early.
-    ensures overlap { (o : Options) (vs : List View) (records : List (List ℕ)) (front : List View) (b v : View)
+    ensures overlap { (o : Options) (vs : List View) (records : List (List ℕ)) (leading : List View) (b v : View)
         (back : List View) → AllByRecursion IsView vs → ChannelFits o vs → IsChannelPacked o vs records
-        → vs ≡ front ++ b ∷ (v ∷ back) → Overlaps b v
-        → AreReadAs (IsFoundBehind (λ us. Overlap us) (samples_of (front ++ b ∷ [])) (start_of v)) records }
+        → vs ≡ leading ++ b ∷ (v ∷ back) → Overlaps b v
+        → AreReadAs (IsFoundBehind (λ us. Overlap us) (samples_of (leading ++ b ∷ [])) (start_of v)) records }
     // What is written of an archive is an archive of the channels that fit, and so is each of them in it.
     ensures archive { (o : Options) (leave : Bool) (left : Left) (read : BytesRead)
-        (old new told_old told_new : BytesWritten)
-        → IsRestretching o leave (Ok left) read old new told_old told_new → IsStretchedArchive o read old new }
+        (old new reported_old reported_new : BytesWritten)
+        → IsRestretching o leave (Ok left) read old new reported_old reported_new → IsStretchedArchive o read old new }
 {
     header_reads_back();
     packed_spells();

@@ -1,29 +1,28 @@
 //! Packing a channel stretch by stretch, with sequence numbers that run on.
-ghost use Rattle.std.specs.Prelude.{◌≡◌, ◌≤◌, ◌^◌, ℕ, List, length, map, IfErr, IfOk, OnOk};
+ghost use Rattle.std.specs.Prelude.{◌≡◌, ◌<◌, ◌≤◌, ◌^◌, ℕ, List, length, map, IfErr, IfOk, OnOk};
 ghost use Rattle.std.specs.List.{AllByRecursion};
 ghost use Rattle.mseed_record.specs.Viewing.{view_of};
 ghost use Rattle.mseed_audit.specs.Follows.{IsSound};
-ghost use Rattle.mseed_stretches.specs.Clocks.{IsStretchOf};
 ghost use Rattle.mseed_repack.specs.private.Reading.{samples_of, steps_of};
-ghost use Rattle.mseed_repack.specs.private.Restretching.{AreStretchesWithin, IsStretchPart, IsStretchText};
+ghost use Rattle.mseed_repack.specs.private.Restretching.{AreLengths, AreStretchesWithin, IsStretchPart, IsStretchText};
 ghost use Rattle.mseed_repack.specs.Repack.{Wrote};
 ghost use Rattle.mseed_repack.specs.Restretch.{ChannelFits, IsChannelPart, IsChannelText, IsNumberedOn, StretchFits};
 
-use crate::stretching::{read_stretch, series_of};
+use crate::stretching::{beginning, read_stretch, series_of};
 use mseed_audit::one_series;
 use mseed_pack::{Options, Packer};
 use mseed_record::RecordView;
 use mseed_stream::{Failed, Sink};
-use mseed_stretches::{Stretch, first_stretch};
 use mseed_time::LeapStep;
 
-/// Writes the records of a channel's stretches, each of which can be packed.
+/// Writes the records of a channel's stretches, of so many records each, of which each can be packed.
 ///
 /// # Errors
 ///
 /// `Failed` where the output failed: a part was written.
 pub(crate) fn pack_stretches<W: Sink>(
     records: &[RecordView],
+    lengths: &[usize],
     options: &Options,
     samples: &mut [i32],
     steps: &mut [(u64, LeapStep)],
@@ -32,6 +31,7 @@ pub(crate) fn pack_stretches<W: Sink>(
 ) -> Result<(), Failed>
     requires few { length records.now ≤ 2 ^ 40 }
     requires fits { ChannelFits options.now (map view_of records.now) }
+    requires lengths { AreLengths lengths.now (map view_of records.now) }
     requires samples_fit { AreStretchesWithin (length samples.old) (map view_of records.now) }
     requires steps_fit { steps_of (map view_of records.now) ≤ length steps.old }
     ensures ok { OnOk result (Wrote (IsChannelText options.now (map view_of records.now)) 0
@@ -40,23 +40,16 @@ pub(crate) fn pack_stretches<W: Sink>(
         (W.written output.old) (W.written output.new)) }
 {
     let mut next = *options;
+    let mut number = 0;
     let mut from = 0;
     while from < records.len() {
-        let rest = &records[from..];
-        let stretch = first_stretch(rest);
-        let count = stretch.records as usize;
-        match pack_stretch(
-            &rest[..count],
-            &stretch,
-            &next,
-            samples,
-            steps,
-            packer,
-            output,
-        ) {
+        let count = lengths[number];
+        let stretch = &records[from..][..count];
+        match pack_stretch(stretch, &next, samples, steps, packer, output) {
             Ok(written) => next = numbered_on(&next, written),
             Err(failed) => return Err(failed),
         }
+        number += 1;
         from += count;
     }
     Ok(())
@@ -65,14 +58,13 @@ pub(crate) fn pack_stretches<W: Sink>(
 /// Writes the records of a stretch, and answers how many there are.
 fn pack_stretch<W: Sink>(
     records: &[RecordView],
-    stretch: &Stretch,
     options: &Options,
     samples: &mut [i32],
     steps: &mut [(u64, LeapStep)],
     packer: &mut Packer,
     output: &mut W,
 ) -> Result<u64, Failed>
-    requires kept { IsStretchOf stretch.now (map view_of records.now) }
+    requires some { 0 < length records.now }
     requires sound { AllByRecursion IsSound (map view_of records.now) }
     requires samples_fit { samples_of (map view_of records.now) ≤ length samples.old }
     requires steps_fit { steps_of (map view_of records.now) ≤ length steps.old }
@@ -84,7 +76,8 @@ fn pack_stretch<W: Sink>(
 {
     one_series();
     let read = read_stretch(records, samples, steps);
-    let series = series_of(stretch, &samples[..read.samples], &steps[..read.steps]);
+    let stretch = beginning(records);
+    let series = series_of(&stretch, &samples[..read.samples], &steps[..read.steps]);
     // The series is the one that was found to fit.
     match packer.pack_fitting(&series, options, output) {
         Ok(count) => Ok(count),

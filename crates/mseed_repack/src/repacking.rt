@@ -39,7 +39,7 @@ use std::alloc::{AllocError, Allocator};
 /// # Errors
 ///
 /// `Stream` where the input is no whole archive, `Broken` where a channel isn't continuous, `Misfit` where a
-/// series can't be packed: each is asked of the whole archive before the next. `Write` where the output failed,
+/// series can't be packed: each is checked of the whole archive before the next. `Write` where the output failed,
 /// `Memory` where an allocation was refused.
 pub fn repack<A: Allocator + Copy, R: Source, W: Sink>(
     alloc: A,
@@ -94,7 +94,7 @@ fn refuse_broken(views: &[RecordView], channels: &[(Codes, Verdict)]) -> Result<
     Ok(())
 }
 
-/// Packs the channels of an archive anew, each of which is continuous. All memory is asked for before anything is
+/// Packs the channels of an archive anew, each of which is continuous. All memory is requested before anything is
 /// written.
 fn repack_continuous<A: Allocator + Copy, W: Sink>(
     alloc: A,
@@ -283,7 +283,7 @@ fn fit_channel(
 }
 
 /// Whether it is known of a channel before its samples are read that it can be packed: the encoding holds them, and
-/// their instants can be written. The instants are asked of a series of as many other samples, whatever they are, in
+/// their instants can be written. The instants are called of a series of as many other samples, whatever they are, in
 /// integers of 32 bits, which hold every sample.
 fn fits_unread(
     views: &[RecordView],

@@ -5,8 +5,8 @@ ghost use Rattle.mseed_stream.specs.Device.{nothing_read};
 ghost use Rattle.mseed_audit.specs.Channels.{added_from};
 ghost use Rattle.mseed_audit.specs.Verdict.{AreVerdicts};
 ghost use Rattle.mseed_repack.specs.private.Reading.{channel_in, steps_of};
-ghost use Rattle.mseed_repack.specs.private.Restretching.{AreRoomy, AreStretchesWithin, FailsToStretch};
-ghost use Rattle.mseed_repack.specs.private.Restretching.{IsPartIfFit, IsTextIfFit};
+ghost use Rattle.mseed_repack.specs.private.Restretching.{AreCut, AreLengths, AreRoomy, AreStretchesWithin};
+ghost use Rattle.mseed_repack.specs.private.Restretching.{FailsToStretch, IsPartIfFit, IsTextIfFit};
 ghost use Rattle.mseed_repack.specs.private.Trails.{AreLaid, IsTrail};
 ghost use Rattle.mseed_repack.specs.Repack.{Wrote};
 ghost use Rattle.mseed_repack.specs.ByStretches.{AreStandings, AreStretched, IsPartStretched, IsRestretching};
@@ -30,13 +30,13 @@ use std::alloc::Allocator;
 
 /// Packs the archive that the input tells anew, each channel as a list of stretches, in the order of their keys. All
 /// are judged before the first byte is written. A channel of which a record has a finding of its own, or a stretch
-/// can't be packed, is refused; or else, where such channels are to be left out, each is told to `errors` by a line,
+/// can't be packed, is refused; or else, where such channels are to be left out, each is made to `errors` by a line,
 /// and the others are written as they would be alone. Answers what was left out.
 ///
 /// # Errors
 ///
 /// `Stream` where the input is no whole archive, `Broken` where a record has a finding of its own, `Misfit` where a
-/// stretch can't be packed: each is asked of the whole archive before the next. `Write` where the output failed,
+/// stretch can't be packed: each is checked of the whole archive before the next. `Write` where the output failed,
 /// `Memory` where an allocation was refused.
 pub fn repack_stretches<A: Allocator + Copy, R: Source, W: Sink, E: Sink>(
     alloc: A,
@@ -168,12 +168,14 @@ fn restretch_within<'a, A: Allocator + Copy, W: Sink, E: Sink>(
         (W.written output.old) (W.written output.new) (E.written errors.old) (E.written errors.new)) }
 {
     let mut samples = Vec::new(alloc);
+    let mut lengths = Vec::new(alloc);
     let standings = match stand_all(
         alloc,
         views,
         trails,
         channels,
         options,
+        &mut lengths,
         records,
         &mut samples,
         steps,
@@ -190,6 +192,7 @@ fn restretch_within<'a, A: Allocator + Copy, W: Sink, E: Sink>(
         trails,
         channels,
         &standings,
+        &lengths,
         options,
         records,
         &mut samples,
@@ -201,12 +204,13 @@ fn restretch_within<'a, A: Allocator + Copy, W: Sink, E: Sink>(
     }
 }
 
-/// Writes the records of the channels that fit.
-fn pack_kept<'a, W: Sink>(
+/// Writes the records of the channels that fit, by how many records each of their stretches has.
+fn pack_kept<'a, A: Allocator, W: Sink>(
     views: &[RecordView<'a>],
     trails: Trails,
     channels: &[(Codes, Verdict)],
     standings: &[Standing],
+    lengths: &[Vec<usize, A>],
     options: &Options,
     records: &mut [RecordView<'a>],
     samples: &mut [i32],
@@ -217,6 +221,8 @@ fn pack_kept<'a, W: Sink>(
     requires laid { AreLaid views.now channels.now trails.firsts.now trails.nexts.now }
     requires room { length views.now ≤ length records.old }
     requires standings { AreStandings options.now (map view_of views.now) channels.now standings.now }
+    requires cut { AreCut (map view_of views.now) channels.now standings.now
+        (map (λ own. own.items) lengths.now) }
     requires samples_fit { AreRoomy (length samples.old) (map view_of views.now) channels.now standings.now }
     requires steps_fit { steps_of (map view_of views.now) ≤ length steps.old }
     ensures ok { OnOk result (Wrote (AreStretched options.now (map view_of views.now)
@@ -231,6 +237,7 @@ fn pack_kept<'a, W: Sink>(
             trails.of(number),
             &channel.0,
             &standings[number],
+            &lengths[number],
             options,
             records,
             samples,
@@ -245,12 +252,13 @@ fn pack_kept<'a, W: Sink>(
     Ok(())
 }
 
-/// Writes the records of a channel, if it fits.
+/// Writes the records of a channel, if it fits, by how many records each of its stretches has.
 fn pack_if_fit<'a, W: Sink>(
     views: &[RecordView<'a>],
     trail: Trail,
     codes: &Codes,
     standing: &Standing,
+    lengths: &[usize],
     options: &Options,
     records: &mut [RecordView<'a>],
     samples: &mut [i32],
@@ -263,6 +271,8 @@ fn pack_if_fit<'a, W: Sink>(
     requires nexts { length trail.nexts.now ≡ length views.now }
     requires room { length views.now ≤ length records.old }
     requires stands { Stands options.now (channel_in codes.now (map view_of views.now)) standing.now }
+    requires lengths { standing.now ≡ Standing.Fit
+        → AreLengths lengths.now (channel_in codes.now (map view_of views.now)) }
     requires samples_fit { standing.now ≡ Standing.Fit
         → AreStretchesWithin (length samples.old) (channel_in codes.now (map view_of views.now)) }
     requires steps_fit { steps_of (map view_of views.now) ≤ length steps.old }
@@ -276,7 +286,15 @@ fn pack_if_fit<'a, W: Sink>(
     match *standing {
         Standing::Fit => {
             let count = gather(views, trail, codes, records);
-            pack_stretches(&records[..count], options, samples, steps, packer, output)
+            pack_stretches(
+                &records[..count],
+                lengths,
+                options,
+                samples,
+                steps,
+                packer,
+                output,
+            )
         }
         Standing::Broken | Standing::Misfit(_, _) => Ok(()),
     }

@@ -1,12 +1,12 @@
 //! What is found of the channels of an archive that is packed by stretches.
-ghost use Rattle.std.specs.Prelude.{◌≡◌, ◌↔◌, ◌≤◌, ◌^◌, IsTrue, length, map, true, IfOk, OnOk};
+ghost use Rattle.std.specs.Prelude.{◌≡◌, ◌↔◌, ◌≤◌, ◌^◌, [], IsTrue, length, map, true, IfOk, OnOk};
 ghost use Rattle.std.specs.List.{AllByRecursion};
 ghost use Rattle.mseed_record.specs.Viewing.{view_of};
 ghost use Rattle.mseed_audit.specs.Channels.{added_from};
 ghost use Rattle.mseed_audit.specs.Follows.{IsSound};
 ghost use Rattle.mseed_audit.specs.Verdict.{AreVerdicts};
 ghost use Rattle.mseed_repack.specs.private.Reading.{steps_of};
-ghost use Rattle.mseed_repack.specs.private.Restretching.{AreRoomy, AreStretchesWithin};
+ghost use Rattle.mseed_repack.specs.private.Restretching.{AreCut, AreLengths, AreRoomy, AreStretchesWithin};
 ghost use Rattle.mseed_repack.specs.private.Trails.{AreLaid};
 ghost use Rattle.mseed_repack.specs.ByStretches.{AreStandings, Stands};
 ghost use Rattle.mseed_repack.specs.declared.standing.Standing.{Standing};
@@ -14,7 +14,7 @@ ghost use Rattle.mseed_repack.specs.declared.standing.Standing.{Standing};
 use crate::channel::are_sound;
 use crate::fitting::fit_stretches;
 use crate::gathering::gather;
-use crate::stretching::longest_stretch;
+use crate::stretching::cut_stretches;
 use crate::trail::Trails;
 use mseed_audit::Verdict;
 use mseed_pack::{Options, PackFault};
@@ -33,14 +33,16 @@ pub enum Standing {
     Misfit(u64, PackFault),
 }
 
-/// What is found of each channel. The list of samples grows where a stretch wants more room, and the records of one
-/// channel after another are put into the list that there is for them.
+/// What is found of each channel. How many records each of its stretches has is put behind the others, in a list that
+/// is empty; the list of samples grows where a stretch wants more room, and the records of one channel after another
+/// are put into the list that there is for them.
 pub(crate) fn stand_all<'a, A: Allocator + Copy>(
     alloc: A,
     views: &[RecordView<'a>],
     trails: Trails,
     channels: &[(Codes, Verdict)],
     options: &Options,
+    lengths: &mut Vec<Vec<usize, A>, A>,
     records: &mut [RecordView<'a>],
     samples: &mut Vec<i32, A>,
     steps: &mut [(u64, LeapStep)],
@@ -48,44 +50,61 @@ pub(crate) fn stand_all<'a, A: Allocator + Copy>(
     requires few { length views.now ≤ 2 ^ 40 }
     requires verdicts { AreVerdicts (added_from 0 (map view_of views.now)) channels.now }
     requires laid { AreLaid views.now channels.now trails.firsts.now trails.nexts.now }
+    requires none { lengths.old.items ≡ [] }
     requires room { length views.now ≤ length records.old }
     requires steps_fit { steps_of (map view_of views.now) ≤ length steps.old }
     ensures standings { IfOk result (λ standings.
         AreStandings options.now (map view_of views.now) channels.now standings.items) }
     ensures roomy { IfOk result (λ standings.
         AreRoomy (length samples.new.items) (map view_of views.now) channels.now standings.items) }
+    ensures cut { IfOk result (λ standings.
+        AreCut (map view_of views.now) channels.now standings.items (map (λ own. own.items) lengths.new.items)) }
 {
     let mut standings = Vec::new(alloc);
     for (number, channel) in channels.iter().enumerate() {
         let count = gather(views, trails.of(number), &channel.0, records);
         let continuous = channel.1.is_continuous();
-        let standing = stand(&records[..count], continuous, options, samples, steps)?;
+        let mut own = Vec::new(alloc);
+        let standing = stand(
+            &records[..count],
+            continuous,
+            options,
+            &mut own,
+            samples,
+            steps,
+        )?;
         standings.push(standing)?;
+        lengths.push(own)?;
     }
     Ok(standings)
 }
 
-/// What is found of a channel with these records. Where it is continuous, each is sound.
+/// What is found of a channel with these records. Where it is continuous, each is sound. How many records each of its
+/// stretches has is put into a list, which is empty.
 fn stand<A: Allocator>(
     records: &[RecordView],
     continuous: bool,
     options: &Options,
+    lengths: &mut Vec<usize, A>,
     samples: &mut Vec<i32, A>,
     steps: &mut [(u64, LeapStep)],
 ) -> Result<Standing, AllocError>
     requires few { length records.now ≤ 2 ^ 40 }
     requires continuous { continuous ≡ true → AllByRecursion IsSound (map view_of records.now) }
+    requires none { lengths.old.items ≡ [] }
     requires steps_fit { steps_of (map view_of records.now) ≤ length steps.old }
     ensures standing { IfOk result (λ s. Stands options.now (map view_of records.now) s) }
     ensures room { IfOk result (λ s. s ≡ Standing.Fit
         → AreStretchesWithin (length samples.new.items) (map view_of records.now)) }
+    ensures lengths { IfOk result (λ s. s ≡ Standing.Fit → AreLengths lengths.new.items (map view_of records.now)) }
     ensures grown { IfOk result (λ _. length samples.old.items ≤ length samples.new.items) }
 {
     if !are_all_sound(records, continuous) {
         return Ok(Standing::Broken);
     }
-    make_room(samples, longest_stretch(records))?;
-    match fit_stretches(records, options, samples, steps) {
+    let most = cut_stretches(records, lengths)?;
+    make_room(samples, most)?;
+    match fit_stretches(records, lengths, options, samples, steps) {
         Ok(()) => Ok(Standing::Fit),
         Err(misfit) => Ok(Standing::Misfit(misfit.number, misfit.fault)),
     }

@@ -79,7 +79,7 @@ pub(crate) fn lay_trails(
     }
 }
 
-/// Puts a record in front of those of its channel.
+/// Puts a record before those of its channel.
 fn lead_to(
     view: &RecordView,
     index: usize,

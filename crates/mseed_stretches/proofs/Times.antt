@@ -11,23 +11,23 @@ use Rattle.mseed_stretches.proofs.Drifts.{times_sub}
 use Rattle.mseed_stretches.proofs.Joining.{Stands, going, stands_first, stands_next}
 
 -- each record of a stretch is on time
-pub stands_at : (rate : Ratio) (first : View) (rest before : List View) (b : View) (vs front back : List View)
+pub stands_at : (rate : Ratio) (first : View) (rest before : List View) (b : View) (vs leading back : List View)
     (v : View) → known_rate first ≡ Some rate → first ∷ rest ≡ before ++ b ∷ [] → Stands rate (start_of first) before b
-    → AllGoOn (first ∷ rest) vs → b ∷ vs ≡ front ++ v ∷ back → Stands rate (start_of first) (before ++ front) v
+    → AllGoOn (first ∷ rest) vs → b ∷ vs ≡ leading ++ v ∷ back → Stands rate (start_of first) (before ++ leading) v
 stands_at rate first rest before b vs [] back v known e stands more at =
     let same : b ≡ v = cc in
     subst (λ (w : View). Stands rate (start_of first) (before ++ []) w) same
     (subst (λ (us : List View). Stands rate (start_of first) us b) (sym (append-nil before)) stands)
 stands_at rate first rest before b [] (w ∷ []) back v known e stands more at = cc
 stands_at rate first rest before b [] (w ∷ (u ∷ us)) back v known e stands more at = cc
-stands_at rate first rest before b (x ∷ vs) (w ∷ front) back v known e stands more at =
+stands_at rate first rest before b (x ∷ vs) (w ∷ leading) back v known e stands more at =
     let here : b ≡ w = cc in
-    let behind : x ∷ vs ≡ front ++ v ∷ back = cc in
+    let behind : x ∷ vs ≡ leading ++ v ∷ back = cc in
     let next = going rate first rest x known more.0 in
-    let later = stands_at rate first (rest ++ x ∷ []) (before ++ b ∷ []) x vs front back v known
+    let later = stands_at rate first (rest ++ x ∷ []) (before ++ b ∷ []) x vs leading back v known
     (ap (λ (us : List View). us ++ x ∷ []) e) (stands_next rate next.0 first rest before b x e next.1) more.1 behind in
-    let all : (before ++ b ∷ []) ++ front ≡ before ++ w ∷ front =
-    append_assoc before (b ∷ []) front ∙ ap (λ (u : View). before ++ u ∷ front) here in
+    let all : (before ++ b ∷ []) ++ leading ≡ before ++ w ∷ leading =
+    append_assoc before (b ∷ []) leading ∙ ap (λ (u : View). before ++ u ∷ leading) here in
     subst (λ (us : List View). Stands rate (start_of first) us v) all later
 
 -- what a sample's two instants differ by is what its record begins beside the clock

@@ -1,6 +1,7 @@
 //! A stretch while its records come.
 ghost use Rattle.std.specs.Prelude.{◌≡◌, ◌↔◌, ◌<◌, ◌≤◌, ◌+◌, ◌*◌, ◌^◌, ◌≤ℤ◌, pos, neg_ℤ, List, [], ◌∷◌, ◌++◌};
 ghost use Rattle.std.specs.Prelude.{IsTrue, IsSome, IfSome, IfNone, None, Some};
+ghost use Rattle.mseed_time.specs.Rate.{SameRate};
 ghost use Rattle.mseed_time.specs.Ratios.{ratio_of};
 ghost use Rattle.mseed_record.specs.declared.frame.Leap.TheVariants.{Both};
 ghost use Rattle.mseed_record.specs.Header.{factor_at, multiplier_at};
@@ -82,7 +83,7 @@ impl Stretch {
     fn is_next(&self, next: &(Micros, Rate)) -> bool
         ensures { IsTrue result ↔ IsNext self.now (ratio_of next.now.1) next.now.0 }
     {
-        if !self.rate.same_as(next.1) {
+        if !is_one_rate(self.rate, next.1) {
             return false;
         }
         let own = self.rate.ratio();
@@ -124,6 +125,16 @@ pub(crate) fn beginning_of(view: &RecordView) -> Option<(Micros, Rate)>
         return None;
     };
     Some((start, rate))
+}
+
+/// Whether two rates are one. Mostly they are written alike.
+fn is_one_rate(rate: Rate, next: Rate) -> bool
+    ensures { IsTrue result ↔ SameRate (ratio_of rate) (ratio_of next) }
+{
+    if rate.factor == next.factor && rate.multiplier == next.multiplier {
+        return true;
+    }
+    rate.same_as(next)
 }
 
 /// Whether a record bears both leap flags, so that nobody can say which leap second happened.

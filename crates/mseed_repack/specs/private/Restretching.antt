@@ -1,12 +1,14 @@
 -- What the steps of packing a channel by its stretches know.
-use Rattle.std.specs.Prelude.{Bool, false, ⊤, ◌≡◌, ℕ, ◌≤◌, ℤ, List, [], ◌∷◌, length, take}
+use Rattle.std.specs.Prelude.{Bool, false, ⊤, ◌≡◌, ℕ, ◌≤◌, ℤ, List, [], ◌∷◌, length, take, drop}
 use Rattle.std.specs.List.{concat, AllByRecursion}
 use Rattle.mseed_time.specs.declared.outcome.LeapStep.{LeapStep}
 use Rattle.mseed_record.specs.View.{View}
 use Rattle.mseed_stream.specs.Device.{BytesWritten}
 use Rattle.mseed_audit.specs.Follows.{IsSound}
 use Rattle.mseed_audit.specs.Series.{Trace, IsSeriesOf}
+use Rattle.mseed_stretches.specs.Clocks.{IsStretchAt}
 use Rattle.mseed_stretches.specs.Stretches.{AreStretchesUpTo, IsFirstStretch}
+use Rattle.mseed_stretches.specs.declared.stretch.Stretch.{Stretch}
 use Rattle.mseed_pack.specs.Packing.{PacksUpTo}
 use Rattle.mseed_pack.specs.declared.options.Options.{Options}
 use Rattle.mseed_repack.specs.private.Reading.{AreOf, samples_of}
@@ -29,6 +31,29 @@ abbrev pub AreStretchesWithin : ℕ → List View → Type 0
 AreStretchesWithin most vs =
     (before : List (List View)) (left stretch rest : List View) → AreStretchesUpTo vs before left
     → IsFirstStretch left stretch rest → samples_of stretch ≤ most
+
+-- the records begin with stretches of so many records each, up to some that are left
+abbrev pub AreLengthsUpTo : List ℕ → List View → List View → Type 0
+AreLengthsUpTo [] vs left = vs ≡ left
+AreLengthsUpTo (n ∷ ns) vs left =
+    (n ≤ length vs) × IsFirstStretch vs (take n vs) (drop n vs) × AreLengthsUpTo ns (drop n vs) left
+
+-- all of the records are such stretches
+abbrev pub AreLengths : List ℕ → List View → Type 0
+AreLengths lengths vs = AreLengthsUpTo lengths vs []
+
+-- those of each channel that fits are
+abbrev pub AreCut : List View → List Channel → List Standing → List (List ℕ) → Type 0
+AreCut views [] ss lengths = ⊤
+AreCut views (c ∷ cs) [] lengths = ⊤
+AreCut views (c ∷ cs) (s ∷ ss) [] = ⊥
+AreCut views (c ∷ cs) (s ∷ ss) (ns ∷ lengths) =
+    (s ≡ Fit → AreLengths ns (records_in views c.0)) × AreCut views cs ss lengths
+
+-- what is kept of a stretch tells how its first record begins
+abbrev pub IsBegunBy : Stretch → List View → Type 0
+IsBegunBy s [] = ⊥
+IsBegunBy s (first ∷ rest) = IsStretchAt s first []
 
 -- the text is the records that a stretch is packed into, so many
 pub record IsStretchText (o : Options) (s : List View) (count : ℕ) (text : List ℕ) : Type 0 where
@@ -82,14 +107,16 @@ IsFirstRefused o views channels Memory = ⊥
 -- why an archive wasn't packed by stretches: it is refused, or the output failed, or memory was refused
 abbrev pub FailsToStretch : Options → Bool → List View → List Channel → BytesWritten → BytesWritten → BytesWritten
     → BytesWritten → StretchesFault → Type 0
-FailsToStretch o leave views channels old new told_old told_new (Stream fault) = ⊥
-FailsToStretch o leave views channels old new told_old told_new (Broken key) =
-    IsFirstRefused o views channels (Broken key) × (leave ≡ false) × (new ≡ old) × (told_new ≡ told_old)
-FailsToStretch o leave views channels old new told_old told_new (Misfit key number fault) =
-    IsFirstRefused o views channels (Misfit key number fault) × (leave ≡ false) × (new ≡ old) × (told_new ≡ told_old)
-FailsToStretch o leave views channels old new told_old told_new Write =
-    WereStretchedInPart o leave views channels old new told_old told_new
-FailsToStretch o leave views channels old new told_old told_new Memory = (new ≡ old) × (told_new ≡ told_old)
+FailsToStretch o leave views channels old new reported_old reported_new (Stream fault) = ⊥
+FailsToStretch o leave views channels old new reported_old reported_new (Broken key) =
+    IsFirstRefused o views channels (Broken key) × (leave ≡ false) × (new ≡ old) × (reported_new ≡ reported_old)
+FailsToStretch o leave views channels old new reported_old reported_new (Misfit key number fault) =
+    IsFirstRefused o views channels (Misfit key number fault) × (leave ≡ false) × (new ≡ old)
+    × (reported_new ≡ reported_old)
+FailsToStretch o leave views channels old new reported_old reported_new Write =
+    WereStretchedInPart o leave views channels old new reported_old reported_new
+FailsToStretch o leave views channels old new reported_old reported_new Memory =
+    (new ≡ old) × (reported_new ≡ reported_old)
 
 -- a channel isn't broken
 abbrev pub IsUnbroken : Standing → Type 0

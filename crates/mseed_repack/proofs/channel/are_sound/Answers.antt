@@ -6,7 +6,7 @@ use Rattle.mseed_record.specs.View.{View}
 use Rattle.mseed_record.specs.Viewing.{view_of}
 use Rattle.mseed_record.specs.declared.view.RecordView.{RecordView}
 use Rattle.mseed_audit.specs.Follows.{IsSound}
-use Rattle.mseed_repack.proofs.Fronts.{each_at, each_one_more, next_is}
+use Rattle.mseed_repack.proofs.Prefixes.{each_at, each_one_more, next_is}
 use Rattle.mseed_repack.proofs.channel.are_sound.Goals as goal
 
 pub returns-then-not-is_sound_record : goal.returns-then-not-is_sound_record

@@ -8,8 +8,8 @@ returns-then-not-are_sound g c = (
   refl,
 )
 
-pub longest_stretch-requires-clause-sound : goal.longest_stretch-requires-clause-sound
-longest_stretch-requires-clause-sound g c = c.are_sound.ensures.0 c.if-not-are_sound.false
+pub cut_stretches-requires-clause-sound : goal.cut_stretches-requires-clause-sound
+cut_stretches-requires-clause-sound g c = c.are_sound.ensures.0 c.if-not-are_sound.false
 
 pub repack_within-requires-clause-sound : goal.repack_within-requires-clause-sound
 repack_within-requires-clause-sound g c = c.are_sound.ensures.0 c.if-not-are_sound.false

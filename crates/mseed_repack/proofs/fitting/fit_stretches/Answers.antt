@@ -1,37 +1,74 @@
-use Rattle.std.proofs.Common.{◌≤◌, List, length, map, arith}
+use Rattle.std.proofs.Common.{ℕ, ◌+◌, ◌≤◌, List, length, map, get_or, arith}
 use Rattle.mseed_record.specs.View.{View}
 use Rattle.mseed_record.specs.Viewing.{view_of}
 use Rattle.mseed_audit.specs.Follows.{IsSound}
 use Rattle.mseed_repack.specs.private.Reading.{steps_of}
-use Rattle.mseed_repack.specs.Restretch.{StretchFits}
-use Rattle.mseed_repack.proofs.Cutting.{each_cut, each_sliced, inside_sliced, of_cut, sliced, steps_cut}
-use Rattle.mseed_repack.proofs.Restretched.{fit_more, fit_none}
+use Rattle.mseed_repack.specs.Restretch.{StretchFits, StretchMisfits}
+use Rattle.mseed_repack.proofs.Cutting.{each_cut, inside_next, of_cut, room_cut, steps_cut}
+use Rattle.mseed_repack.proofs.Lengths.{next_length, some_length}
+use Rattle.mseed_repack.proofs.Restretched.{first_misfit, fit_more, fit_none}
 use Rattle.mseed_repack.proofs.fitting.fit_stretches.Goals as goal
 
 pub loop-from-init : goal.loop-from-init
-loop-from-init c = fit_none c.args.options.now c.args.records.now
+loop-from-init c = (fit_none c.args.options.now c.args.records.now, c.requires.lengths)
 
-pub first_stretch-stretch-requires-clause-sound : goal.first_stretch-stretch-requires-clause-sound
-first_stretch-stretch-requires-clause-sound c =
-    each_sliced IsSound c.args.records.now c.loop-from.from c.requires.sound
+pub bounds-lengths-number : goal.bounds-lengths-number
+bounds-lengths-number c = (next_length c.args.lengths.now c.args.records.now c.loop-from.number c.loop-from.from
+    c.loop-from-test.true c.loop-from.invariant.1).inside
+
+pub fit_stretch-requires-clause-some : goal.fit_stretch-requires-clause-some
+fit_stretch-requires-clause-some c =
+    some_length c.args.lengths.now c.args.records.now c.loop-from.number c.loop-from.from
+    (next_length c.args.lengths.now c.args.records.now c.loop-from.number c.loop-from.from
+    c.loop-from-test.true c.loop-from.invariant.1)
 
 pub fit_stretch-requires-clause-sound : goal.fit_stretch-requires-clause-sound
 fit_stretch-requires-clause-sound c =
-    each_cut IsSound c.args.records.now c.loop-from.from c.first_stretch-stretch.result.records c.requires.sound
+    each_cut IsSound c.args.records.now c.loop-from.from (get_or c.args.lengths.now c.loop-from.number 0)
+    c.requires.sound
+
+pub fit_stretch-requires-clause-samples_fit : goal.fit_stretch-requires-clause-samples_fit
+fit_stretch-requires-clause-samples_fit c =
+    let l = c.loop-from in
+    let next = next_length c.args.lengths.now c.args.records.now l.number l.from c.loop-from-test.true
+    l.invariant.1 in
+    let same = l.auto.samples in
+    room_cut c.args.records.now l.from (get_or c.args.lengths.now l.number 0) (length c.args.samples.now)
+    (length l.samples) l.invariant.0.cut.done l.invariant.0.cut.cut next.first c.requires.samples_fit
+    (omega (arith, same))
 
 pub fit_stretch-requires-clause-steps_fit : goal.fit_stretch-requires-clause-steps_fit
 fit_stretch-requires-clause-steps_fit c =
     let room : steps_of (map view_of c.args.records.now) ≤ length c.loop-from.steps =
     omega (arith, c.requires.steps_fit, c.loop-from.auto.steps) in
-    steps_cut c.args.records.now c.loop-from.from c.first_stretch-stretch.result.records (length c.loop-from.steps)
-    room
+    steps_cut c.args.records.now c.loop-from.from (get_or c.args.lengths.now c.loop-from.number 0)
+    (length c.loop-from.steps) room
+
+pub returns-in-Err-clause-err : goal.returns-in-Err-clause-err
+returns-in-Err-clause-err c =
+    let rs = c.args.records.now in
+    let l = c.loop-from in
+    let next = next_length c.args.lengths.now rs l.number l.from c.loop-from-test.true l.invariant.1 in
+    let n : ℕ = get_or c.args.lengths.now l.number 0 in
+    first_misfit c.args.options.now rs l.from l.number n c.in-Err.fault c.requires.sound l.invariant.0 next.first
+    (of_cut (λ (s : List View). StretchMisfits c.args.options.now c.in-Err.fault s) rs l.from n c.in-Err.ensures.err)
+
+pub overflow_add-from : goal.overflow_add-from
+overflow_add-from c =
+    let rs = c.args.records.now in
+    let l = c.loop-from in
+    let next = next_length c.args.lengths.now rs l.number l.from c.loop-from-test.true l.invariant.1 in
+    let n : ℕ = get_or c.args.lengths.now l.number 0 in
+    let inside : l.from + n ≤ length rs = inside_next rs l.from n l.invariant.0.cut.inside next.fits in
+    omega (arith, inside, c.requires.few)
 
 pub loop-from-preserved : goal.loop-from-preserved
 loop-from-preserved c =
     let rs = c.args.records.now in
-    let from = c.loop-from.from in
-    let n = c.first_stretch-stretch.result.records in
-    fit_more c.args.options.now rs from c.loop-from.number n c.loop-from.invariant
-    (sliced rs from n c.first_stretch-stretch.ensures.first)
-    (inside_sliced rs from n c.first_stretch-stretch.ensures.inside)
-    (of_cut (λ (s : List View). StretchFits c.args.options.now s) rs from n c.in-Ok.ensures.ok)
+    let l = c.loop-from in
+    let next = next_length c.args.lengths.now rs l.number l.from c.loop-from-test.true l.invariant.1 in
+    let n : ℕ = get_or c.args.lengths.now l.number 0 in (
+      fit_more c.args.options.now rs l.from l.number n l.invariant.0 next.first next.fits
+          (of_cut (λ (s : List View). StretchFits c.args.options.now s) rs l.from n c.in-Ok.ensures.ok),
+      next.rest,
+    )

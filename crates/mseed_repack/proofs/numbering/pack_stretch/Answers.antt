@@ -3,27 +3,27 @@ use Rattle.mseed_record.specs.Viewing.{view_of}
 use Rattle.mseed_audit.specs.Series.{Trace}
 use Rattle.mseed_pack.specs.Fitting.{Fits}
 use Rattle.mseed_pack.specs.Traces.{trace_of}
-use Rattle.mseed_repack.proofs.Restretched.{took_part, took_stretch}
+use Rattle.mseed_repack.proofs.Restretched.{emitted_part, emitted_stretch}
 use Rattle.mseed_repack.proofs.numbering.pack_stretch.Goals as goal
 
 pub pack_fitting-requires-clause-fits : goal.pack_fitting-requires-clause-fits
 pack_fitting-requires-clause-fits g c =
     let can = c.requires.fits in
-    let series = c.series_of-series.ensures.series (map view_of c.args.records.now) c.requires.kept
+    let series = c.series_of-series.ensures.series (map view_of c.args.records.now) c.beginning-stretch.ensures
     c.read_stretch-read.ensures.read in
     subst (λ (t : Trace). Fits t c.args.options.now)
     (c.one_series.ensures.series can.trace (trace_of c.series_of-series.result) _ can.series series) can.fits
 
 pub returns-in-Ok-clause-ok : goal.returns-in-Ok-clause-ok
 returns-in-Ok-clause-ok g c =
-    took_stretch c.args.options.now (map view_of c.args.records.now) (trace_of c.series_of-series.result)
+    emitted_stretch c.args.options.now (map view_of c.args.records.now) (trace_of c.series_of-series.result)
     c.in-Ok.count (g.W.Sink.written c.args.output.now) (g.W.Sink.written c.pack_fitting.new.sink)
-    (c.series_of-series.ensures.series (map view_of c.args.records.now) c.requires.kept
+    (c.series_of-series.ensures.series (map view_of c.args.records.now) c.beginning-stretch.ensures
     c.read_stretch-read.ensures.read) c.in-Ok.ensures.ok
 
 pub returns-in-Err-clause-err : goal.returns-in-Err-clause-err
 returns-in-Err-clause-err g c =
-    took_part c.args.options.now (map view_of c.args.records.now) (trace_of c.series_of-series.result)
+    emitted_part c.args.options.now (map view_of c.args.records.now) (trace_of c.series_of-series.result)
     c.in-Err.field-0 (g.W.Sink.written c.args.output.now) (g.W.Sink.written c.pack_fitting.new.sink)
-    (c.series_of-series.ensures.series (map view_of c.args.records.now) c.requires.kept
+    (c.series_of-series.ensures.series (map view_of c.args.records.now) c.beginning-stretch.ensures
     c.read_stretch-read.ensures.read) c.in-Err.ensures.err

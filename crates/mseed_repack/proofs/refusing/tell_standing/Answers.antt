@@ -7,12 +7,12 @@ returns-in-Fit g c = rw c.in-Fit.is (silent (g.E.Sink.written c.args.errors.now)
 
 pub returns-in-Broken : goal.returns-in-Broken
 returns-in-Broken g c =
-    let told = tells_one (broken_line c.args.channel.now) (g.E.Sink.written c.args.errors.now)
+    let reported = tells_one (broken_line c.args.channel.now) (g.E.Sink.written c.args.errors.now)
     (g.E.Sink.written c.tell_broken.new.errors) c.tell_broken.ensures in
-    rw c.in-Broken.is told
+    rw c.in-Broken.is reported
 
 pub returns-in-Misfit : goal.returns-in-Misfit
 returns-in-Misfit g c =
-    let told = tells_one (misfit_line c.args.channel.now c.in-Misfit.stretch c.in-Misfit.fault)
+    let reported = tells_one (misfit_line c.args.channel.now c.in-Misfit.stretch c.in-Misfit.fault)
     (g.E.Sink.written c.args.errors.now) (g.E.Sink.written c.tell_misfit.new.errors) c.tell_misfit.ensures in
-    rw c.in-Misfit.is told
+    rw c.in-Misfit.is reported

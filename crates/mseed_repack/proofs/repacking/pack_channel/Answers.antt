@@ -5,7 +5,7 @@ use Rattle.mseed_audit.proofs.Assembled.{all_sound}
 use Rattle.mseed_pack.specs.Fitting.{Fits}
 use Rattle.mseed_pack.specs.Traces.{trace_of}
 use Rattle.mseed_repack.proofs.Judged.{written_is}
-use Rattle.mseed_repack.proofs.Repacks.{took_all, took_prefix}
+use Rattle.mseed_repack.proofs.Repacks.{emitted_all, emitted_prefix}
 use Rattle.mseed_repack.proofs.repacking.pack_channel.Goals as goal
 
 pub read_channel-read-requires-clause-sound : goal.read_channel-read-requires-clause-sound
@@ -26,14 +26,14 @@ pack_fitting-requires-clause-fits g c =
 
 pub returns-in-Ok-clause-ok : goal.returns-in-Ok-clause-ok
 returns-in-Ok-clause-ok g c =
-    took_all c.args.options.now (map view_of c.args.views.now) c.args.channel.now.0
+    emitted_all c.args.options.now (map view_of c.args.views.now) c.args.channel.now.0
     (trace_of c.view_series-series.result) c.in-Ok.field-0 (g.W.Sink.written c.args.output.now)
     (g.W.Sink.written c.pack_fitting.new.sink)
     (c.view_series-series.ensures.series c.read_channel-read.ensures.read) c.in-Ok.ensures.ok
 
 pub returns-in-Err-clause-err : goal.returns-in-Err-clause-err
 returns-in-Err-clause-err g c =
-    took_prefix c.args.options.now (map view_of c.args.views.now) c.args.channel.now.0
+    emitted_prefix c.args.options.now (map view_of c.args.views.now) c.args.channel.now.0
     (trace_of c.view_series-series.result) c.in-Err.field-0 (g.W.Sink.written c.args.output.now)
     (g.W.Sink.written c.pack_fitting.new.sink)
     (c.view_series-series.ensures.series c.read_channel-read.ensures.read) c.in-Err.ensures.err

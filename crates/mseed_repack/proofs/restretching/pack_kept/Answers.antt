@@ -1,7 +1,12 @@
-use Rattle.std.proofs.Common.{◌≡◌, arith, length, map}
+use Rattle.std.proofs.Common.{◌≡◌, ◌<◌, ◌∙◌, ℕ, List, [], ap, arith, get_or, length, map, rules, subst, sym}
+use Rattle.std.proofs.lemmas.List.{get_or-map}
+use Rattle.mseed_record.specs.View.{View}
 use Rattle.mseed_record.specs.Viewing.{view_of}
+use Rattle.mseed_repack.specs.private.Reading.{channel_in}
+use Rattle.mseed_repack.specs.private.Restretching.{AreLengths}
 use Rattle.mseed_repack.specs.declared.standing.Standing.TheVariants.{Fit}
-use Rattle.mseed_repack.proofs.Standings.{all_kept, as_many, kept_at, kept_none, part_at, roomy_for, stands_for}
+use Rattle.mseed_repack.proofs.Standings.{all_kept, as_many, cut_for, cut_inside, kept_at, kept_none, part_at}
+use Rattle.mseed_repack.proofs.Standings.{roomy_for, stands_for}
 use Rattle.mseed_repack.proofs.Trails.{trail_of}
 use Rattle.mseed_repack.proofs.restretching.pack_kept.Goals as goal
 
@@ -33,6 +38,35 @@ pack_if_fit-requires-clause-samples_fit g c = λ fit.
     (map view_of c.args.views.now) c.args.channels.now c.args.standings.now c.loop-number.number
     c.index-channels-number.result Fit (omega (arith, c.loop-number.auto.samples)) c.requires.standings
     c.requires.samples_fit c.loop-number-test.true c.index-channels-number.is fit
+
+pub bounds-lengths-number : goal.bounds-lengths-number
+bounds-lengths-number g c =
+    cut_inside (λ own. own.items) c.args.options.now (map view_of c.args.views.now) c.args.channels.now
+    c.args.standings.now c.args.lengths.now c.loop-number.number c.requires.standings c.requires.cut
+    c.loop-number-test.true
+
+pub offset_bounds-lengths-number : goal.offset_bounds-lengths-number
+offset_bounds-lengths-number g c =
+    let inside : c.loop-number.number < length c.args.lengths.now =
+    cut_inside (λ own. own.items) c.args.options.now (map view_of c.args.views.now) c.args.channels.now
+    c.args.standings.now c.args.lengths.now c.loop-number.number c.requires.standings c.requires.cut
+    c.loop-number-test.true in
+    search rules
+
+pub pack_if_fit-requires-clause-lengths : goal.pack_if_fit-requires-clause-lengths
+pack_if_fit-requires-clause-lengths g c = λ fit.
+    let views : List View = map view_of c.args.views.now in
+    let k : ℕ = c.loop-number.number in
+    let inside : k < length c.args.lengths.now =
+    cut_inside (λ own. own.items) c.args.options.now views c.args.channels.now c.args.standings.now
+    c.args.lengths.now k c.requires.standings c.requires.cut c.loop-number-test.true in
+    let same : get_or (map (λ own. own.items) c.args.lengths.now) k [] ≡ c.deref.result.now =
+    get_or-map (λ own. own.items) c.args.lengths.now k c.index-lengths-number.result [] inside
+    ∙ ap (λ own. own.items) (sym c.index-lengths-number.is) ∙ sym c.deref.ensures.value in
+    subst (λ (ns : List ℕ). AreLengths ns (channel_in c.index-channels-number.result.0 views)) same
+    (cut_for c.args.options.now views c.args.channels.now c.args.standings.now
+    (map (λ own. own.items) c.args.lengths.now) k c.index-channels-number.result Fit []
+    c.requires.standings c.requires.cut c.loop-number-test.true c.index-channels-number.is fit)
 
 pub returns-in-Err-clause-err : goal.returns-in-Err-clause-err
 returns-in-Err-clause-err g c =

@@ -6,3 +6,4 @@ use Rattle.mseed_repack.proofs.standing.stand_all.Given as goal
 abbrev pub invariant-loop-number : goal.invariant-loop-number
 invariant-loop-number g l =
     AreJudgedSo l.options (map view_of l.views) l.channels l.number l.standings.items (length l.samples.items)
+    (map (λ own. own.items) l.lengths.items)

@@ -5,7 +5,7 @@ use Rattle.mseed_record.specs.Viewing.{view_of}
 use Rattle.mseed_record.specs.declared.view.RecordView.{RecordView}
 use Rattle.mseed_audit.specs.Follows.{IsSound}
 use Rattle.mseed_repack.specs.private.Reading.{samples_of, steps_of}
-use Rattle.mseed_repack.proofs.Fronts.{each_at, next_is, samples_front, samples_next, steps_fit, steps_front}
+use Rattle.mseed_repack.proofs.Prefixes.{each_at, next_is, samples_leading, samples_next, steps_fit, steps_leading}
 use Rattle.mseed_repack.proofs.Outlines.{IsOutlined, outline_is, outlined_more, outlined_none}
 use Rattle.mseed_repack.proofs.stretching.outline_stretch.Goals as goal
 
@@ -22,7 +22,7 @@ outline_record-outline-requires-clause-few c =
     let rs = c.args.records.now in
     let n = c.loop-view.view-index in
     let next = samples_next rs n c.view-item.result c.loop-view-test.true c.view-item.is in
-    let most = samples_front rs (n + 1) in
+    let most = samples_leading rs (n + 1) in
     omega (arith, next, most, (c.loop-view.invariant []).read.samples_count, c.requires.few)
 
 pub outline_record-outline-requires-clause-steps_fit : goal.outline_record-outline-requires-clause-steps_fit
@@ -65,5 +65,5 @@ returns-clause-samples c =
 
 pub returns-clause-steps_inside : goal.returns-clause-steps_inside
 returns-clause-steps_inside c =
-    let front = steps_front c.args.records.now c.loop-view.view-index in
-    omega (arith, front, (c.loop-view.invariant []).read.steps_count, c.loop-view.auto.steps, c.requires.steps_fit)
+    let leading = steps_leading c.args.records.now c.loop-view.view-index in
+    omega (arith, leading, (c.loop-view.invariant []).read.steps_count, c.loop-view.auto.steps, c.requires.steps_fit)

@@ -5,7 +5,7 @@ use Rattle.mseed_record.specs.Viewing.{view_of}
 use Rattle.mseed_record.specs.declared.view.RecordView.{RecordView}
 use Rattle.mseed_audit.specs.Follows.{IsSound}
 use Rattle.mseed_repack.specs.private.Reading.{AreOf, samples_of, steps_of}
-use Rattle.mseed_repack.proofs.Fronts.{each_at, next_is, samples_fit, samples_front, steps_fit, steps_front}
+use Rattle.mseed_repack.proofs.Prefixes.{each_at, next_is, samples_fit, samples_leading, steps_fit, steps_leading}
 use Rattle.mseed_repack.proofs.ReadChannels.{IsRead, read_more, read_none}
 use Rattle.mseed_repack.proofs.stretching.read_stretch.Goals as goal
 
@@ -39,9 +39,9 @@ loop-view-preserved c = λ key.
     let e = c.read_record-read.ensures in
     let o = c.read_record-read.result in
     let new = c.read_record-read.new in
-    let front = samples_front rs l.view-index in
+    let leading = samples_leading rs l.view-index in
     let inside : l.read.samples ≤ length l.samples =
-    omega (arith, front, (l.invariant []).samples_count, l.auto.samples, c.requires.samples_fit) in
+    omega (arith, leading, (l.invariant []).samples_count, l.auto.samples, c.requires.samples_fit) in
     subst (λ (vs : List View). IsRead key vs o.samples o.steps new.samples new.steps)
     (next_is rs l.view-index r c.loop-view-test.true c.view-item.is)
     (read_more key (map view_of (take l.view-index rs)) (view_of r) l.read.samples l.read.steps o.samples o.steps
@@ -61,10 +61,10 @@ returns-clause-places c = (c.loop-view.invariant []).places
 
 pub returns-clause-samples_inside : goal.returns-clause-samples_inside
 returns-clause-samples_inside c =
-    let front = samples_front c.args.records.now c.loop-view.view-index in
-    omega (arith, front, (c.loop-view.invariant []).samples_count, c.loop-view.auto.samples, c.requires.samples_fit)
+    let leading = samples_leading c.args.records.now c.loop-view.view-index in
+    omega (arith, leading, (c.loop-view.invariant []).samples_count, c.loop-view.auto.samples, c.requires.samples_fit)
 
 pub returns-clause-steps_inside : goal.returns-clause-steps_inside
 returns-clause-steps_inside c =
-    let front = steps_front c.args.records.now c.loop-view.view-index in
-    omega (arith, front, (c.loop-view.invariant []).steps_count, c.loop-view.auto.steps, c.requires.steps_fit)
+    let leading = steps_leading c.args.records.now c.loop-view.view-index in
+    omega (arith, leading, (c.loop-view.invariant []).steps_count, c.loop-view.auto.steps, c.requires.steps_fit)

@@ -1,4 +1,4 @@
--- Records in front of others and behind them.
+-- Records before others and behind them.
 use Rattle.std.proofs.Common.{◌≡◌, ℕ, zero, suc, ◌+◌, ◌<◌, ◌≤◌, List, [], ◌∷◌, ◌++◌, length, take, drop, get_or, map}
 use Rattle.std.proofs.Common.{sym, ap, subst, ◌∙◌, arith}
 use Rattle.std.specs.List.{AllByRecursion}
@@ -10,12 +10,12 @@ use Rattle.mseed_steim.specs.Reading.{count_of}
 use Rattle.mseed_repack.specs.private.Reading.{samples_of, step_count, steps_of}
 use Rattle.mseed_repack.proofs.ReadChannels.{samples_append, steps_append, steps_next}
 
--- what holds of each holds of those in front, of those behind, and of the one at an index
-pub each_front : (P : View → Type 0) (rs : List RecordView) (n : ℕ) → AllByRecursion P (map view_of rs)
+-- what holds of each holds of those before it, of those behind, and of the one at an index
+pub each_leading : (P : View → Type 0) (rs : List RecordView) (n : ℕ) → AllByRecursion P (map view_of rs)
     → AllByRecursion P (map view_of (take n rs))
-each_front P rs zero all = tt
-each_front P [] (suc n) all = tt
-each_front P (r ∷ rs) (suc n) all = (all.0, each_front P rs n all.1)
+each_leading P rs zero all = tt
+each_leading P [] (suc n) all = tt
+each_leading P (r ∷ rs) (suc n) all = (all.0, each_leading P rs n all.1)
 
 pub each_behind : (P : View → Type 0) (rs : List RecordView) (n : ℕ) → AllByRecursion P (map view_of rs)
     → AllByRecursion P (map view_of (drop n rs))
@@ -40,8 +40,9 @@ whole rs n = ap (λ (qs : List RecordView). map view_of qs) (sym (take-append-dr
     ∙ map-append view_of (take n rs) (drop n rs)
 
 -- no part has more samples, or more leap seconds
-pub samples_front : (rs : List RecordView) (n : ℕ) → samples_of (map view_of (take n rs)) ≤ samples_of (map view_of rs)
-samples_front rs n =
+pub samples_leading : (rs : List RecordView) (n : ℕ)
+    → samples_of (map view_of (take n rs)) ≤ samples_of (map view_of rs)
+samples_leading rs n =
     let all : samples_of (map view_of rs)
     ≡ samples_of (map view_of (take n rs)) + samples_of (map view_of (drop n rs)) =
     ap samples_of (whole rs n) ∙ samples_append (map view_of (take n rs)) (map view_of (drop n rs)) in
@@ -55,8 +56,8 @@ samples_next rs n r lt is =
     ap samples_of (sym (next_is rs n r lt is)) ∙ samples_append (map view_of (take n rs)) (view_of r ∷ []) in
     omega (arith, sum)
 
-pub steps_front : (rs : List RecordView) (n : ℕ) → steps_of (map view_of (take n rs)) ≤ steps_of (map view_of rs)
-steps_front rs n =
+pub steps_leading : (rs : List RecordView) (n : ℕ) → steps_of (map view_of (take n rs)) ≤ steps_of (map view_of rs)
+steps_leading rs n =
     let all : steps_of (map view_of rs) ≡ steps_of (map view_of (take n rs)) + steps_of (map view_of (drop n rs)) =
     ap steps_of (whole rs n) ∙ steps_append (map view_of (take n rs)) (map view_of (drop n rs)) in
     omega (arith, all)
@@ -70,23 +71,23 @@ steps_behind rs n =
 pub steps_between : (rs : List RecordView) (n m : ℕ)
     → steps_of (map view_of (take m (drop n rs))) ≤ steps_of (map view_of rs)
 steps_between rs n m =
-    let front = steps_front (drop n rs) m in
+    let leading = steps_leading (drop n rs) m in
     let behind = steps_behind rs n in
-    omega (arith, front, behind)
+    omega (arith, leading, behind)
 
 -- room for one more record of all
 pub samples_fit : (rs : List RecordView) (n m room : ℕ) (r : RecordView) → n < length rs → r ≡ get_or rs n r
     → m ≡ samples_of (map view_of (take n rs)) → samples_of (map view_of rs) ≤ room → m + count_of (view_of r) ≤ room
 samples_fit rs n m room r lt is at fits =
     let next = samples_next rs n r lt is in
-    let most = samples_front rs (n + 1) in
+    let most = samples_leading rs (n + 1) in
     omega (arith, next, most, at, fits)
 
 pub steps_fit : (rs : List RecordView) (n k room : ℕ) (r : RecordView) → n < length rs → r ≡ get_or rs n r
     → k ≡ steps_of (map view_of (take n rs)) → steps_of (map view_of rs) ≤ room → k + step_count (view_of r) ≤ room
 steps_fit rs n k room r lt is at fits =
     let next = steps_next rs n r lt is in
-    let most = steps_front rs (n + 1) in
+    let most = steps_leading rs (n + 1) in
     omega (arith, next, most, at, fits)
 
 pub each_one_more : (P : View → Type 0) (vs : List View) (v : View) → AllByRecursion P vs → P v
