@@ -32,7 +32,7 @@ begun_serving feed links none = record {
   counted = refl;
   goes_on = λ e. refl;
   slots = λ k. record {
-    told = None;
+    reported = None;
     served = no_event;
     matches = subst (λ (o : Option LinkState). Matches o None) (sym (none k)) tt;
   };

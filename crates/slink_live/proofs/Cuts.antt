@@ -130,11 +130,11 @@ pub refused_none : (places : List Fields) (n number : ℕ) (kept : List ℕ) →
     → Decides kept (scans.Record 512) → IsOfNone places kept → number ≡ n + 1
     → IsRefused places n kept (Foreign number)
 refused_none places n number kept size decides none at =
-    let front : (more : List ℕ) → take 512 (kept ++ more) ≡ kept =
+    let leading : (more : List ℕ) → take 512 (kept ++ more) ≡ kept =
     λ more. take-append-le 512 kept more (omega (arith, size)) ∙ take_all 512 kept (omega (arith, size)) in
     let not_of : ¬ (IsOf places kept) = λ of. none of.k of.place of.there of.bears in
     record {
-      none = λ more of. not_of (subst (IsOf places) (front more) of);
+      none = λ more of. not_of (subst (IsOf places) (leading more) of);
       is_fault = λ more. (
         kept,
         more,
@@ -162,12 +162,12 @@ refused_other places n number kept k le other decides is at = record {
 }
 
 -- further bytes
-pub cuts_on : (start : List Window) (told : List ℕ) (old new : IntakeState) (bytes rest : List ℕ)
-    (to : IsFedTo start told old.feed old.kept) (cuts : Cuts old bytes new rest)
+pub cuts_on : (start : List Window) (reported : List ℕ) (old new : IntakeState) (bytes rest : List ℕ)
+    (to : IsFedTo start reported old.feed old.kept) (cuts : Cuts old bytes new rest)
     → ¬ (IsOf (places_of old.feed) (take 512 rest))
-    → (now : IsFedTo start (told ++ bytes) new.feed rest)
+    → (now : IsFedTo start (reported ++ bytes) new.feed rest)
     × (length now.records ≡ length to.records + length cuts.records)
-cuts_on start told old new bytes rest to cuts none =
+cuts_on start reported old new bytes rest to cuts none =
     let same : places_of old.feed ≡ places_of start = ap places_of to.feed_is ∙ places_fed start to.records in (
       record {
         records = to.records ++ cuts.records;
@@ -187,12 +187,12 @@ cuts_on start told old new bytes rest to cuts none =
     )
 
 -- what a scan of all that is kept tells
-pub whole_record : (front kept : List ℕ) (size : ℕ) → front ≡ kept → size ≡ 512 → length kept ≤ 512
-    → (size ≤ length front) × IsRecord (take size front) → (length kept ≡ 512) × IsRecord kept
-whole_record front kept size same is most h =
-    let long : length front ≡ length kept = ap length same in
-    let le : size ≤ length front = h.0 in
-    let all : take size front ≡ front = take_all size front (omega (arith, long, is, most)) in (
+pub whole_record : (leading kept : List ℕ) (size : ℕ) → leading ≡ kept → size ≡ 512 → length kept ≤ 512
+    → (size ≤ length leading) × IsRecord (take size leading) → (length kept ≡ 512) × IsRecord kept
+whole_record leading kept size same is most h =
+    let long : length leading ≡ length kept = ap length same in
+    let le : size ≤ length leading = h.0 in
+    let all : take size leading ≡ leading = take_all size leading (omega (arith, long, is, most)) in (
       omega (arith, long, is, most, le),
       subst IsRecord (all ∙ same) h.1,
     )

@@ -28,25 +28,27 @@ split_on start used bytes =
 
 -- What is left to be answered leads to what all leads to.
 abbrev pub Leads : List Window → Standing → List ℕ → List ℕ → ℕ → Standing → List ℕ → Type 0
-Leads feed s bytes way start now said = (last : Standing) (all : List ℕ)
-    → Serves feed now (drop start bytes) said last all → Serves feed s bytes way last all
+Leads feed s bytes way start now produced = (last : Standing) (all : List ℕ)
+    → Serves feed now (drop start bytes) produced last all → Serves feed s bytes way last all
 
 pub leads_first : (feed : List Window) (s : Standing) (bytes way : List ℕ) → Leads feed s bytes way 0 s way
 leads_first feed s bytes way last all h = h
 
 -- one line more
-pub leads_on : (feed : List Window) (s now new : Standing) (bytes way said : List ℕ) (start used : ℕ) (reply : Reply)
-    → Leads feed s bytes way start now said → Takes feed now (take used (from_on start bytes)) new reply
-    → Leads feed s bytes way (start + used) new (said ++ reply_bytes reply)
-leads_on feed s now new bytes way said start used reply before takes last all h =
+pub leads_on : (feed : List Window) (s now new : Standing) (bytes way produced : List ℕ) (start used : ℕ)
+    (reply : Reply)
+    → Leads feed s bytes way start now produced → Takes feed now (take used (from_on start bytes)) new reply
+    → Leads feed s bytes way (start + used) new (produced ++ reply_bytes reply)
+leads_on feed s now new bytes way produced start used reply before takes last all h =
     before last all (piece_served now new last (drop start bytes) (take used (from_on start bytes))
-    (drop (start + used) bytes) said all reply (split_on start used bytes) takes h)
+    (drop (start + used) bytes) produced all reply (split_on start used bytes) takes h)
 
-pub leads_last : (feed : List Window) (s now : Standing) (bytes way said : List ℕ) (start : ℕ)
-    → Leads feed s bytes way start now said → length bytes ≤ start → Serves feed s bytes way now said
-leads_last feed s now bytes way said start before whole =
-    before now said (subst (λ (x : List ℕ). Serves feed now x said now said) (sym (drop_all start bytes whole))
-    (none_served now said))
+pub leads_last : (feed : List Window) (s now : Standing) (bytes way produced : List ℕ) (start : ℕ)
+    → Leads feed s bytes way start now produced → length bytes ≤ start → Serves feed s bytes way now produced
+leads_last feed s now bytes way produced start before whole =
+    before now produced (subst (λ (x : List ℕ). Serves feed now x produced now produced)
+    (sym (drop_all start bytes whole))
+    (none_served now produced))
 
 -- No reply has more bytes.
 pub reply_short : (r : Reply) → length (reply_bytes r) ≤ 35

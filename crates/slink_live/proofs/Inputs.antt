@@ -11,8 +11,8 @@ drop_seam : (xs ys : List ℕ) → drop (length xs) (xs ++ ys) ≡ ys
 drop_seam [] ys = refl
 drop_seam (x ∷ xs) ys = drop_seam xs ys
 
-front_is : (places : List Fields) (r xs : List ℕ) → IsOf places r → take 512 (r ++ xs) ≡ r
-front_is places r xs of = ap (λ n. take n (r ++ xs)) (sym of.size) ∙ take-append_seam r xs
+leading_is : (places : List Fields) (r xs : List ℕ) → IsOf places r → take 512 (r ++ xs) ≡ r
+leading_is places r xs of = ap (λ n. take n (r ++ xs)) (sym of.size) ∙ take-append_seam r xs
 
 behind_is : (places : List Fields) (r xs : List ℕ) → IsOf places r → drop 512 (r ++ xs) ≡ xs
 behind_is places r xs of = ap (λ n. drop n (r ++ xs)) (sym of.size) ∙ drop_seam r xs
@@ -26,14 +26,14 @@ grown places (r ∷ rs) [] rest left more a b none e =
     let whole : left ≡ r ++ ((concat rs ++ rest) ++ more) =
     sym e ∙ (ap (λ x. x ++ more) (append_assoc r (concat rs) rest) ∙ append_assoc r (concat rs ++ rest) more) in
     absurd (none (subst (IsOf places)
-    (sym (ap (take 512) whole ∙ front_is places r ((concat rs ++ rest) ++ more) a.0)) a.0))
+    (sym (ap (take 512) whole ∙ leading_is places r ((concat rs ++ rest) ++ more) a.0)) a.0))
 grown places (r ∷ rs) (q ∷ qs) rest left more a b none e =
     let x : List ℕ = (concat rs ++ rest) ++ more in
     let y : List ℕ = concat qs ++ left in
     let both : r ++ x ≡ q ++ y =
     sym (append_assoc r (concat rs ++ rest) more) ∙ (ap (λ z. z ++ more) (sym (append_assoc r (concat rs) rest))
     ∙ (e ∙ append_assoc q (concat qs) left)) in
-    let same : r ≡ q = sym (front_is places r x a.0) ∙ (ap (take 512) both ∙ front_is places q y b.0) in
+    let same : r ≡ q = sym (leading_is places r x a.0) ∙ (ap (take 512) both ∙ leading_is places q y b.0) in
     let behind : x ≡ y = sym (behind_is places r x a.0) ∙ (ap (drop 512) both ∙ behind_is places q y b.0) in
     let further : (tail : List (List ℕ)) × (qs ≡ rs ++ tail) = grown places rs qs rest left more a.1 b.1 none behind in
     (further.0, ap (λ z. z ∷ qs) (sym same) ∙ ap (λ zs. r ∷ zs) further.1)

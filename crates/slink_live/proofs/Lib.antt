@@ -11,3 +11,4 @@ pub mod Stories
 pub mod Slots
 pub mod Takings
 pub mod Steps
+pub mod Goes

@@ -4,27 +4,28 @@ use Rattle.std.proofs.Common.{◌∷◌}
 use Rattle.std.proofs.Common.{◌++◌, append-nil, Option, None, if◌then◌else◌}
 use Rattle.std.proofs.lemmas.Bool.Decides.{eqb_tells}
 use Rattle.slink_feed.specs.Window.{Window}
-use Rattle.slink_live.specs.Happening.{Happening, Input, Opened, Heard, Took, Gone, input_of, is_at, is_input, piece_of}
+use Rattle.slink_live.specs.Happening.{Happening, Input, Opened, Received, Emitted, Gone, input_of, is_at, is_input}
+use Rattle.slink_live.specs.Happening.{piece_of}
 use Rattle.slink_live.specs.Happening.{those_of}
 use Rattle.slink_live.specs.Input.{IsFed}
 use Rattle.slink_live.specs.Story.{IsServed, Story, no_event, elsewhere, opens, hears, asks, takes, goes}
 
-if_front : (t : Bool) (h : Happening) (xs ys : List Happening)
+if_leading : (t : Bool) (h : Happening) (xs ys : List Happening)
     → (if t then h ∷ (xs ++ ys) else xs ++ ys) ≡ (if t then h ∷ xs else xs) ++ ys
-if_front true h xs ys = refl
-if_front false h xs ys = refl
+if_leading true h xs ys = refl
+if_leading false h xs ys = refl
 
 those_append : (k : ℕ) (xs ys : List Happening) → those_of k (xs ++ ys) ≡ those_of k xs ++ those_of k ys
 those_append k [] ys = refl
 those_append k (x ∷ xs) ys =
     ap (λ zs. if is_input x || is_at k x then x ∷ zs else zs) (those_append k xs ys)
-    ∙ if_front (is_input x || is_at k x) x (those_of k xs) (those_of k ys)
+    ∙ if_leading (is_input x || is_at k x) x (those_of k xs) (those_of k ys)
 
 no_piece : (h : Happening) → is_input h ≡ false → piece_of h ≡ []
 no_piece (Input bytes) e = absurd (let bad : true ≡ false = e in cc bad)
 no_piece (Opened k) e = refl
-no_piece (Heard k bytes) e = refl
-no_piece (Took k bytes) e = refl
+no_piece (Received k bytes) e = refl
+no_piece (Emitted k bytes) e = refl
 no_piece (Gone k) e = refl
 
 input_if : (p q : Bool) (h : Happening) (hs : List Happening) → is_input h ≡ p
@@ -72,42 +73,44 @@ module _ (start : List Window) (k : ℕ) where
   own_story log o (opens before now t s fresh e) =
       opens (those_of k before) (those_of k now) t (own_story before None s) fresh
       (those_more k before now (Opened k) e (at_self k))
-  own_story log o (hears before now feed t new bytes said all took s fed serves e) =
-      hears (those_of k before) (those_of k now) feed t new bytes said all took (own_story before _ s)
-      (fed_those before feed fed) serves (those_more k before now (Heard k bytes) e (at_self k))
-  own_story log o (asks now feed t new said all took s fed asked) =
-      asks (those_of k now) feed t new said all took (own_story now _ s) (fed_those now feed fed) asked
-  own_story log o (takes before now t bytes said took s prefix e) =
-      takes (those_of k before) (those_of k now) t bytes said took (own_story before _ s) prefix
-      (those_more k before now (Took k bytes) e (at_self k))
+  own_story log o (hears before now feed t new bytes produced all emitted s fed serves e) =
+      hears (those_of k before) (those_of k now) feed t new bytes produced all emitted (own_story before _ s)
+      (fed_those before feed fed) serves (those_more k before now (Received k bytes) e (at_self k))
+  own_story log o (asks now feed t new produced all emitted s fed called) =
+      asks (those_of k now) feed t new produced all emitted (own_story now _ s) (fed_those now feed fed) called
+  own_story log o (takes before now t bytes produced emitted s prefix e) =
+      takes (those_of k before) (those_of k now) t bytes produced emitted (own_story before _ s) prefix
+      (those_more k before now (Emitted k bytes) e (at_self k))
   own_story log o (goes before now x s e) =
       goes (those_of k before) (those_of k now) x (own_story before x s)
       (those_more k before now (Gone k) e (at_self k))
 
--- a front of a list that ends in h is the list, or one of what is before h
+-- a prefix of a list that ends in h is the list, or one of what is before h
 same_head : (x y : Happening) (xs ys : List Happening) → x ∷ xs ≡ y ∷ ys → x ≡ y
 same_head x y xs ys e = cc e
 
 same_tail : (x y : Happening) (xs ys : List Happening) → x ∷ xs ≡ y ∷ ys → xs ≡ ys
 same_tail x y xs ys e = cc e
 
-no_front : (xs ys : List Happening) → [] ≡ xs ++ ys → xs ≡ []
-no_front [] ys e = refl
-no_front (x ∷ xs) ys e = absurd (let bad : [] ≡ x ∷ (xs ++ ys) = e in cc bad)
+no_leading : (xs ys : List Happening) → [] ≡ xs ++ ys → xs ≡ []
+no_leading [] ys e = refl
+no_leading (x ∷ xs) ys e = absurd (let bad : [] ≡ x ∷ (xs ++ ys) = e in cc bad)
 
-front_of : (b : List Happening) (h : Happening) (before after : List Happening) → b ++ h ∷ [] ≡ before ++ after
+leading_of : (b : List Happening) (h : Happening) (before after : List Happening) → b ++ h ∷ [] ≡ before ++ after
     → (before ≡ b ++ h ∷ []) ⊎ ((mid : List Happening) × (b ≡ before ++ mid))
-front_of b h [] after e = inr (b, refl)
-front_of [] h (x ∷ xs) after e =
-    inl (ap (λ ys. x ∷ ys) (no_front xs after (same_tail h x [] (xs ++ after) e))
+leading_of b h [] after e = inr (b, refl)
+leading_of [] h (x ∷ xs) after e =
+    inl (ap (λ ys. x ∷ ys) (no_leading xs after (same_tail h x [] (xs ++ after) e))
     ∙ ap (λ y. y ∷ []) (sym (same_head h x [] (xs ++ after) e)))
-front_of (y ∷ ys) h (x ∷ xs) after e = elim (front_of ys h xs after (same_tail y x (ys ++ h ∷ []) (xs ++ after) e)) [
-  | inl whole ↦ inl (ap (λ z. z ∷ xs) (sym (same_head y x (ys ++ h ∷ []) (xs ++ after) e)) ∙ ap (λ zs. y ∷ zs) whole)
-  | inr part ↦ inr (
-    part.0,
-    ap (λ z. z ∷ ys) (same_head y x (ys ++ h ∷ []) (xs ++ after) e) ∙ ap (λ zs. x ∷ zs) part.1,
-  )
-]
+leading_of (y ∷ ys) h (x ∷ xs) after e = elim (leading_of ys h xs after
+    (same_tail y x (ys ++ h ∷ []) (xs ++ after) e)) [
+      | inl whole ↦ inl (ap (λ z. z ∷ xs) (sym (same_head y x (ys ++ h ∷ []) (xs ++ after) e))
+          ∙ ap (λ zs. y ∷ zs) whole)
+      | inr part ↦ inr (
+        part.0,
+        ap (λ z. z ∷ ys) (same_head y x (ys ++ h ∷ []) (xs ++ after) e) ∙ ap (λ zs. x ∷ zs) part.1,
+      )
+    ]
 
 module _ (start : List Window) (k : ℕ) where
   abbrev HasStory : List Happening → Type 0
@@ -117,7 +120,7 @@ module _ (start : List Window) (k : ℕ) where
   moment : (b now : List Happening) (h : Happening) (o : Option Story) → now ≡ b ++ h ∷ [] → IsServed start k now o
       → ((before after : List Happening) → b ≡ before ++ after → HasStory before)
       → (before after : List Happening) → now ≡ before ++ after → HasStory before
-  moment b now h o e s on before after split = elim (front_of b h before after (sym e ∙ split)) [
+  moment b now h o e s on before after split = elim (leading_of b h before after (sym e ∙ split)) [
     | inl whole ↦ (o, subst (λ l. IsServed start k l o) (e ∙ sym whole) s)
     | inr part ↦ on before part.0 part.1
   ]
@@ -125,17 +128,18 @@ module _ (start : List Window) (k : ℕ) where
   pub each_moment : (log : List Happening) (o : Option Story) → IsServed start k log o
       → (before after : List Happening) → log ≡ before ++ after → HasStory before
   each_moment log o no_event before after split =
-      (None, subst (λ l. IsServed start k l None) (sym (no_front before after split)) no_event)
+      (None, subst (λ l. IsServed start k l None) (sym (no_leading before after split)) no_event)
   each_moment log o (elsewhere b now h x s other e) before after split =
       moment b now h x e (elsewhere b now h x s other e) (each_moment b x s) before after split
   each_moment log o (opens b now t s fresh e) before after split =
       moment b now (Opened k) _ e (opens b now t s fresh e) (each_moment b None s) before after split
-  each_moment log o (hears b now feed t new bytes said all took s fed serves e) before after split =
-      moment b now (Heard k bytes) _ e (hears b now feed t new bytes said all took s fed serves e)
+  each_moment log o (hears b now feed t new bytes produced all emitted s fed serves e) before after split =
+      moment b now (Received k bytes) _ e (hears b now feed t new bytes produced all emitted s fed serves e)
       (each_moment b _ s) before after split
-  each_moment log o (asks now feed t new said all took s fed asked) before after split =
+  each_moment log o (asks now feed t new produced all emitted s fed called) before after split =
       each_moment now _ s before after split
-  each_moment log o (takes b now t bytes said took s prefix e) before after split =
-      moment b now (Took k bytes) _ e (takes b now t bytes said took s prefix e) (each_moment b _ s) before after split
+  each_moment log o (takes b now t bytes produced emitted s prefix e) before after split =
+      moment b now (Emitted k bytes) _ e (takes b now t bytes produced emitted s prefix e) (each_moment b _ s) before
+      after split
   each_moment log o (goes b now x s e) before after split =
       moment b now (Gone k) None e (goes b now x s e) (each_moment b x s) before after split

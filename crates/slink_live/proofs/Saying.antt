@@ -21,15 +21,15 @@ use Rattle.slink_feed.specs.declared.session.Sent.{Sent}
 use Rattle.slink_feed.specs.declared.session.Sent.TheVariants as Sents
 use Rattle.slink_feed.specs.Connection.{bytes_sent}
 use Rattle.slink_feed.specs.Running.{HasStream}
-use Rattle.slink_feed.specs.Sending.{AreAsked, AreShown, Asked, IsReadFrom}
+use Rattle.slink_feed.specs.Sending.{AreCalled, AreShown, Called, IsReadFrom}
 use Rattle.slink_feed.specs.Serving.{IsAnswer, Serves, Standing, Takes, none_served, piece_served}
 use Rattle.slink_feed.specs.Session.{State, all_done, answered_in, at, at_next, grant_at, in_streaming, packet_at}
 use Rattle.slink_feed.specs.Session.{reply_at_next, sent, sent_bytes, sent_in, sent_of}
 use Rattle.slink_feed.specs.Window.{Shows, Window, record_at}
 use Rattle.slink_feed.proofs.Sendings.{answer_read, stretch_sent}
-use Rattle.slink_live.specs.Happening.{Happening, Heard, Took, input_of}
+use Rattle.slink_live.specs.Happening.{Happening, Received, Emitted, input_of}
 use Rattle.slink_live.specs.Input.{IsFed, IsInput, fed, places_of}
-use Rattle.slink_live.specs.Story.{Asks, IsServed, Story, story, none_asked, one_asked, no_event, elsewhere}
+use Rattle.slink_live.specs.Story.{Asks, IsServed, Story, story, none_called, one_called, no_event, elsewhere}
 use Rattle.slink_live.specs.Story.{opens}
 use Rattle.slink_live.specs.Story.{hears, asks, takes, goes}
 use Rattle.slink_live.specs.Stretches.{SaysStretches, all_replies, is_first, records_at, replies_alone, streams}
@@ -37,26 +37,26 @@ use Rattle.slink_live.proofs.Inputs.{input_grows}
 use Rattle.slink_live.proofs.Rings.{shows_fed}
 use Rattle.slink_live.proofs.Slots.{input_append}
 
--- asked again and again, from one state to another
-abbrev AskedTo : State → List Asked → State → Type 0
-AskedTo s [] u = u ≡ s
-AskedTo s (a ∷ more) u = (t : State) × IsReadFrom s t × ((sent a.feed t a.place).1 ≡ a.answer)
-    × AskedTo (sent a.feed t a.place).0 more u
+-- called again and again, from one state to another
+abbrev CalledTo : State → List Called → State → Type 0
+CalledTo s [] u = u ≡ s
+CalledTo s (a ∷ more) u = (t : State) × IsReadFrom s t × ((sent a.feed t a.place).1 ≡ a.answer)
+    × CalledTo (sent a.feed t a.place).0 more u
 
-are_asked : (s u : State) (xs : List Asked) → AskedTo s xs u → AreAsked s xs
-are_asked s u [] h = tt
-are_asked s u (a ∷ more) h = (h.0, h.1, h.2, are_asked (sent a.feed h.0 a.place).0 u more h.3)
+are_called : (s u : State) (xs : List Called) → CalledTo s xs u → AreCalled s xs
+are_called s u [] h = tt
+are_called s u (a ∷ more) h = (h.0, h.1, h.2, are_called (sent a.feed h.0 a.place).0 u more h.3)
 
-asked_last : (s u t v : State) (xs : List Asked) (a : Asked) → AskedTo s xs u → IsReadFrom u t
-    → sent a.feed t a.place ≡ (v, a.answer) → AskedTo s (xs ++ a ∷ []) v
-asked_last s u t v [] a h read e = (
+called_last : (s u t v : State) (xs : List Called) (a : Called) → CalledTo s xs u → IsReadFrom u t
+    → sent a.feed t a.place ≡ (v, a.answer) → CalledTo s (xs ++ a ∷ []) v
+called_last s u t v [] a h read e = (
   t,
   subst (λ (x : State). IsReadFrom x t) h read,
   ap (λ (x : State × Sent). x.1) e,
   sym (ap (λ (x : State × Sent). x.0) e),
 )
-asked_last s u t v (x ∷ xs) a h read e =
-    (h.0, h.1, h.2, asked_last (sent x.feed h.0 x.place).0 u t v xs a h.3 read e)
+called_last s u t v (x ∷ xs) a h read e =
+    (h.0, h.1, h.2, called_last (sent x.feed h.0 x.place).0 u t v xs a h.3 read e)
 
 -- lines one after another
 read_on : (s t u : State) → IsReadFrom s t → IsReadFrom t u → IsReadFrom s u
@@ -64,7 +64,7 @@ read_on s t u (inl same) b = subst (λ (x : State). IsReadFrom x u) same b
 read_on s t u (inr shut) (inl same) = inr (same ∙ shut)
 read_on s t u (inr shut) (inr again) = inr (again ∙ ap (λ (x : State). at Closed x.grants) shut)
 
-bytes_last : (xs : List Asked) (a : Asked) → bytes_sent (xs ++ a ∷ []) ≡ bytes_sent xs ++ sent_bytes a.answer
+bytes_last : (xs : List Called) (a : Called) → bytes_sent (xs ++ a ∷ []) ≡ bytes_sent xs ++ sent_bytes a.answer
 bytes_last [] a = append-nil (sent_bytes a.answer)
 bytes_last (x ∷ xs) a = ap (λ b. sent_bytes x.answer ++ b) (bytes_last xs a)
     ∙ sym (append_assoc (sent_bytes x.answer) (bytes_sent xs) (sent_bytes a.answer))
@@ -149,20 +149,20 @@ off_on p off alive (inl on) = off on
 off_on p off alive (inr shut) = alive shut
 
 -- each ask was of rings as an earlier moment had them
-abbrev AreFrom : List Window → List Happening → List Asked → Type 0
+abbrev AreFrom : List Window → List Happening → List Called → Type 0
 AreFrom start log [] = Unit {0}
-AreFrom start log (a ∷ more) = ((front back : List Happening) × (log ≡ front ++ back)
-    × IsFed start (input_of front) a.feed) × AreFrom start log more
+AreFrom start log (a ∷ more) = ((leading back : List Happening) × (log ≡ leading ++ back)
+    × IsFed start (input_of leading) a.feed) × AreFrom start log more
 
--- what a session came to, and what it said
-data Said (start : List Window) (log : List Happening) (t : State) (said : List ℕ) : Type 0 where
-  only_replies : (rs : List Reply) → t.phase ≢ Streaming → said ≡ all_replies rs → Said start log t said
-  has_streamed : (rs : List Reply) (s u : State) (xs : List Asked) → s.phase ≡ Streaming → AskedTo s xs u
-      → IsReadFrom u t → IsOn t.phase → AreFrom start log xs → said ≡ all_replies rs ++ bytes_sent xs
-      → Said start log t said
+-- what a session came to, and what it sent
+data Produced (start : List Window) (log : List Happening) (t : State) (produced : List ℕ) : Type 0 where
+  only_replies : (rs : List Reply) → t.phase ≢ Streaming → produced ≡ all_replies rs → Produced start log t produced
+  has_streamed : (rs : List Reply) (s u : State) (xs : List Called) → s.phase ≡ Streaming → CalledTo s xs u
+      → IsReadFrom u t → IsOn t.phase → AreFrom start log xs → produced ≡ all_replies rs ++ bytes_sent xs
+      → Produced start log t produced
 
 module _ (start : List Window) where
-  from_more : (log now : List Happening) (h : Happening) (xs : List Asked) → now ≡ log ++ h ∷ [] → AreFrom start log xs
+  from_more : (log now : List Happening) (h : Happening) (xs : List Called) → now ≡ log ++ h ∷ [] → AreFrom start log xs
       → AreFrom start now xs
   from_more log now h [] e f = tt
   from_more log now h (a ∷ more) e f = (
@@ -170,125 +170,128 @@ module _ (start : List Window) where
     from_more log now h more e f.1,
   )
 
-  from_last : (log : List Happening) (xs : List Asked) (a : Asked) → IsFed start (input_of log) a.feed
+  from_last : (log : List Happening) (xs : List Called) (a : Called) → IsFed start (input_of log) a.feed
       → AreFrom start log xs
       → AreFrom start log (xs ++ a ∷ [])
   from_last log [] a fed f = ((log, [], sym (append-nil log), fed), tt)
   from_last log (x ∷ xs) a fed f = (f.0, from_last log xs a fed f.1)
 
-  said_more : (log now : List Happening) (h : Happening) (t : State) (said : List ℕ) → now ≡ log ++ h ∷ []
-      → Said start log t said → Said start now t said
-  said_more log now h t said e (only_replies rs off is) = only_replies rs off is
-  said_more log now h t said e (has_streamed rs s u xs begun to read on from is) =
+  produced_more : (log now : List Happening) (h : Happening) (t : State) (produced : List ℕ) → now ≡ log ++ h ∷ []
+      → Produced start log t produced → Produced start now t produced
+  produced_more log now h t produced e (only_replies rs off is) = only_replies rs off is
+  produced_more log now h t produced e (has_streamed rs s u xs begun to read on from is) =
       has_streamed rs s u xs begun to read on (from_more log now h xs e from) is
 
   -- a reply before it streams
-  replied : (log : List Happening) (new : State) (said : List ℕ) (rs : List Reply) (r : Reply)
-      → said ≡ all_replies rs → Stage new.phase → Said start log new (said ++ reply_bytes r)
-  replied log new said rs r is (is_before off alive quiet none) =
+  replied : (log : List Happening) (new : State) (produced : List ℕ) (rs : List Reply) (r : Reply)
+      → produced ≡ all_replies rs → Stage new.phase → Produced start log new (produced ++ reply_bytes r)
+  replied log new produced rs r is (is_before off alive quiet none) =
       only_replies (rs ++ r ∷ []) off (ap (λ b. b ++ reply_bytes r) is ∙ sym (replies_last rs r))
-  replied log new said rs r is (is_closed shut) =
+  replied log new produced rs r is (is_closed shut) =
       only_replies (rs ++ r ∷ []) (not_streaming new.phase shut)
       (ap (λ b. b ++ reply_bytes r) is ∙ sym (replies_last rs r))
-  replied log new said rs r is (is_streaming on) =
+  replied log new produced rs r is (is_streaming on) =
       has_streamed (rs ++ r ∷ []) new new [] on refl (inl refl) (inl on) tt
       (ap (λ b. b ++ reply_bytes r) is ∙ (sym (replies_last rs r) ∙ sym (append-nil (all_replies (rs ++ r ∷ [])))))
 
-  before_said : (log : List Happening) (old new : State) (r : Reply) (said : List ℕ) → old.phase ≢ Streaming
-      → old.phase ≢ Closed → Said start log old said → Said start log new (said ++ reply_bytes r)
-  before_said log old new r said off alive (only_replies rs o eq) = replied log new said rs r eq (stage_of new.phase)
-  before_said log old new r said off alive (has_streamed rs s u xs begun to read on from eq) =
+  before_produced : (log : List Happening) (old new : State) (r : Reply) (produced : List ℕ) → old.phase ≢ Streaming
+      → old.phase ≢ Closed → Produced start log old produced → Produced start log new (produced ++ reply_bytes r)
+  before_produced log old new r produced off alive (only_replies rs o eq) =
+      replied log new produced rs r eq (stage_of new.phase)
+  before_produced log old new r produced off alive (has_streamed rs s u xs begun to read on from eq) =
       absurd (off_on old.phase off alive on)
 
-  streaming_said : (log : List Happening) (feed : List Window) (old new : State) (what : What) (r : Reply)
-      (said : List ℕ) → old.phase ≡ Streaming → IsAnswer feed old what new r → Said start log old said
-      → Said start log new (said ++ reply_bytes r)
-  streaming_said log feed old new what r said on is (only_replies rs off eq) = absurd (off on)
-  streaming_said log feed old new what r said on is (has_streamed rs s u xs begun to read o from eq) =
+  streaming_produced : (log : List Happening) (feed : List Window) (old new : State) (what : What) (r : Reply)
+      (produced : List ℕ) → old.phase ≡ Streaming → IsAnswer feed old what new r → Produced start log old produced
+      → Produced start log new (produced ++ reply_bytes r)
+  streaming_produced log feed old new what r produced on is (only_replies rs off eq) = absurd (off on)
+  streaming_produced log feed old new what r produced on is (has_streamed rs s u xs begun to read o from eq) =
       let quiet : r ≡ Replies.Nothing = quiet_answer feed old new what r on is in
       let moved : IsReadFrom old new = answer_read feed old new what r on is in
       has_streamed rs s u xs begun to (read_on u old new read moved) (on_read old new moved o) from
-      (ap (λ x. said ++ reply_bytes x) quiet ∙ (append-nil said ∙ eq))
+      (ap (λ x. produced ++ reply_bytes x) quiet ∙ (append-nil produced ∙ eq))
 
-  abbrev SaidOf : List Happening → Standing → List ℕ → Type 0
-  SaidOf log t said = Said start log t.state said × HasStream t
+  abbrev ProducedOf : List Happening → Standing → List ℕ → Type 0
+  ProducedOf log t produced = Produced start log t.state produced × HasStream t
 
   -- a line is answered
   takes_at : (log : List Happening) (feed : List Window) (old new : Standing) (piece : List ℕ) (r : Reply)
-      (said : List ℕ) → Stage old.state.phase → Takes feed old piece new r → SaidOf log old said
-      → SaidOf log new (said ++ reply_bytes r)
-  takes_at log feed old new piece r said (is_closed shut) t h =
+      (produced : List ℕ) → Stage old.state.phase → Takes feed old piece new r → ProducedOf log old produced
+      → ProducedOf log new (produced ++ reply_bytes r)
+  takes_at log feed old new piece r produced (is_closed shut) t h =
       let same : (r ≡ Replies.Nothing) × (new ≡ old) = t.closed shut in
-      subst (λ b. SaidOf log new b) (sym (ap (λ x. said ++ reply_bytes x) same.0 ∙ append-nil said))
-      (subst (λ (x : Standing). SaidOf log x said) (sym same.1) h)
-  takes_at log feed old new piece r said (is_streaming on) t h =
+      subst (λ b. ProducedOf log new b) (sym (ap (λ x. produced ++ reply_bytes x) same.0 ∙ append-nil produced))
+      (subst (λ (x : Standing). ProducedOf log x produced) (sym same.1) h)
+  takes_at log feed old new piece r produced (is_streaming on) t h =
       let alive : ¬ (old.state.phase ≡ Closed) = λ shut. not_streaming old.state.phase shut on in
       let held : IsHeld old.held h.1.0 = h.1.1 alive in
       let is = t.answers h.1.0 alive held in (
-        streaming_said log feed old.state new.state is.0 r said on is.2 h.0,
+        streaming_produced log feed old.state new.state is.0 r produced on is.2 h.0,
         (h.1.0 ++ piece, λ x. t.held h.1.0 alive held),
       )
-  takes_at log feed old new piece r said (is_before off alive quiet none) t h =
+  takes_at log feed old new piece r produced (is_before off alive quiet none) t h =
       let held : IsHeld old.held h.1.0 = h.1.1 alive in (
-        before_said log old.state new.state r said off alive h.0,
+        before_produced log old.state new.state r produced off alive h.0,
         (h.1.0 ++ piece, λ x. t.held h.1.0 alive held),
       )
 
   -- lines are answered
-  serves_said : (log : List Happening) (feed : List Window) (s last : Standing) (bytes said all : List ℕ)
-      → Serves feed s bytes said last all → SaidOf log s said → SaidOf log last all
-  serves_said log feed s last bytes said all (none_served t w) h = h
-  serves_said log feed s last bytes said all (piece_served t now u bs piece rest w a r split taking more) h =
-      serves_said log feed now u rest (w ++ reply_bytes r) a more
+  serves_produced : (log : List Happening) (feed : List Window) (s last : Standing) (bytes produced all : List ℕ)
+      → Serves feed s bytes produced last all → ProducedOf log s produced → ProducedOf log last all
+  serves_produced log feed s last bytes produced all (none_served t w) h = h
+  serves_produced log feed s last bytes produced all (piece_served t now u bs piece rest w a r split taking more) h =
+      serves_produced log feed now u rest (w ++ reply_bytes r) a more
       (takes_at log feed t now piece r w (stage_of t.state.phase) taking h)
 
-  -- a packet is asked for
-  asked_at : (log : List Happening) (feed : List Window) (old new : State) (k : ℕ) (answer : Sent) (said : List ℕ)
-      → Stage old.phase → IsFed start (input_of log) feed → sent feed old k ≡ (new, answer) → Said start log old said
-      → Said start log new (said ++ sent_bytes answer)
-  asked_at log feed old new k answer said (is_before off alive quiet none) fed e h =
+  -- a packet is requested
+  called_at : (log : List Happening) (feed : List Window) (old new : State) (k : ℕ) (answer : Sent) (produced : List ℕ)
+      → Stage old.phase → IsFed start (input_of log) feed → sent feed old k ≡ (new, answer)
+      → Produced start log old produced
+      → Produced start log new (produced ++ sent_bytes answer)
+  called_at log feed old new k answer produced (is_before off alive quiet none) fed e h =
       let same : new ≡ old = sym (ap (λ (x : State × Sent). x.0) e) ∙ quiet feed old k in
       let still : sent_bytes answer ≡ [] = sym (ap (λ (x : State × Sent). sent_bytes x.1) e) ∙ none feed old k in
-      subst (λ b. Said start log new b) (sym (ap (λ b. said ++ b) still ∙ append-nil said))
-      (subst (λ (x : State). Said start log x said) (sym same) h)
-  asked_at log feed old new k answer said (is_closed shut) fed e h =
+      subst (λ b. Produced start log new b) (sym (ap (λ b. produced ++ b) still ∙ append-nil produced))
+      (subst (λ (x : State). Produced start log x produced) (sym same) h)
+  called_at log feed old new k answer produced (is_closed shut) fed e h =
       let shown : sent feed old k ≡ (old, Sents.Closed) = ap (λ (p : Phase). sent_in p feed old k) shut in
       let same : new ≡ old = sym (ap (λ (x : State × Sent). x.0) e) ∙ ap (λ (x : State × Sent). x.0) shown in
       let still : sent_bytes answer ≡ [] = sym (ap (λ (x : State × Sent). sent_bytes x.1) e)
       ∙ ap (λ (x : State × Sent). sent_bytes x.1) shown in
-      subst (λ b. Said start log new b) (sym (ap (λ b. said ++ b) still ∙ append-nil said))
-      (subst (λ (x : State). Said start log x said) (sym same) h)
-  asked_at log feed old new k answer said (is_streaming on) fed e (only_replies rs off eq) = absurd (off on)
-  asked_at log feed old new k answer said (is_streaming on) fed e (has_streamed rs s u xs begun to read o from eq) =
-      let a : Asked = record { feed = feed; place = k; answer = answer } in
-      has_streamed rs s new (xs ++ a ∷ []) begun (asked_last s u old new xs a to read e) (inl refl)
+      subst (λ b. Produced start log new b) (sym (ap (λ b. produced ++ b) still ∙ append-nil produced))
+      (subst (λ (x : State). Produced start log x produced) (sym same) h)
+  called_at log feed old new k answer produced (is_streaming on) fed e (only_replies rs off eq) = absurd (off on)
+  called_at log feed old new k answer produced (is_streaming on) fed e
+      (has_streamed rs s u xs begun to read o from eq) =
+      let a : Called = record { feed = feed; place = k; answer = answer } in
+      has_streamed rs s new (xs ++ a ∷ []) begun (called_last s u old new xs a to read e) (inl refl)
       (subst IsOn (ap (λ (x : State × Sent). x.0.phase) e) (on_sent feed old k on)) (from_last log xs a fed from)
       (ap (λ b. b ++ sent_bytes answer) eq ∙ (append_assoc (all_replies rs) (bytes_sent xs) (sent_bytes answer)
       ∙ ap (λ b. all_replies rs ++ b) (sym (bytes_last xs a))))
 
-  asks_said : (log : List Happening) (feed : List Window) (s : Standing) (said : List ℕ) (last : Standing)
-      (all : List ℕ) → IsFed start (input_of log) feed → Asks feed s said last all → SaidOf log s said
-      → SaidOf log last all
-  asks_said log feed s said last all is_fed none_asked h = h
-  asks_said log feed s said last all is_fed (one_asked now t k answer on a before given held is) h =
-      let earlier : SaidOf log now on = asks_said log feed s said now on is_fed before h in
+  asks_produced : (log : List Happening) (feed : List Window) (s : Standing) (produced : List ℕ) (last : Standing)
+      (all : List ℕ) → IsFed start (input_of log) feed → Asks feed s produced last all → ProducedOf log s produced
+      → ProducedOf log last all
+  asks_produced log feed s produced last all is_fed none_called h = h
+  asks_produced log feed s produced last all is_fed (one_called now t k answer on a before given held is) h =
+      let earlier : ProducedOf log now on = asks_produced log feed s produced now on is_fed before h in
       let shut_same : t.state.phase ≢ Closed → now.state.phase ≢ Closed =
       λ alive shut. alive (sym (ap (λ (x : State × Sent). x.0.phase) given)
       ∙ (ap (λ (p : Phase). (sent_in p feed now.state k).0.phase) shut ∙ shut)) in (
-        subst (λ b. Said start log t.state b) (sym is)
-            (asked_at log feed now.state t.state k answer on (stage_of now.state.phase) is_fed given earlier.0),
+        subst (λ b. Produced start log t.state b) (sym is)
+            (called_at log feed now.state t.state k answer on (stage_of now.state.phase) is_fed given earlier.0),
         (earlier.1.0, λ alive. subst (λ (x : Held). IsHeld x earlier.1.0) (sym held) (earlier.1.1 (shut_same alive))),
       )
 
   -- the story of a slot
   abbrev Tells : List Happening → Option Story → Type 0
   Tells log None = Unit {0}
-  Tells log (Some t) = SaidOf log t.session t.said
+  Tells log (Some t) = ProducedOf log t.session t.produced
 
   tells_more : (log now : List Happening) (h : Happening) (o : Option Story) → now ≡ log ++ h ∷ [] → Tells log o
       → Tells now o
   tells_more log now h None e x = tt
-  tells_more log now h (Some t) e x = (said_more log now h t.session.state t.said e x.0, x.1)
+  tells_more log now h (Some t) e x = (produced_more log now h t.session.state t.produced e x.0, x.1)
 
   story_tells : (k : ℕ) (log : List Happening) (o : Option Story) → IsServed start k log o → Tells log o
   story_tells k log o no_event = tt
@@ -298,20 +301,21 @@ module _ (start : List Window) where
         refl,
     ([], λ alive. fresh.held),
   )
-  story_tells k log o (hears before now feed s new bytes said all took served fed serves e) =
-      tells_more before now (Heard k bytes) (Some (story new all took)) e
-      (serves_said before feed s new bytes said all serves (story_tells k before (Some (story s said took)) served))
-  story_tells k log o (asks now feed s new said all took served fed asked) =
-      asks_said now feed s said new all fed asked (story_tells k now (Some (story s said took)) served)
-  story_tells k log o (takes before now s bytes said took served prefix e) =
-      tells_more before now (Took k bytes) (Some (story s said (took ++ bytes))) e
-      (story_tells k before (Some (story s said took)) served)
+  story_tells k log o (hears before now feed s new bytes produced all emitted served fed serves e) =
+      tells_more before now (Received k bytes) (Some (story new all emitted)) e
+      (serves_produced before feed s new bytes produced all serves
+      (story_tells k before (Some (story s produced emitted)) served))
+  story_tells k log o (asks now feed s new produced all emitted served fed called) =
+      asks_produced now feed s produced new all fed called (story_tells k now (Some (story s produced emitted)) served)
+  story_tells k log o (takes before now s bytes produced emitted served prefix e) =
+      tells_more before now (Emitted k bytes) (Some (story s produced (emitted ++ bytes))) e
+      (story_tells k before (Some (story s produced emitted)) served)
   story_tells k log o (goes before now x served e) = tt
 
-  -- what each ring showed when it was asked
+  -- what each ring showed when it was called
   shown : (log : List Happening) (records : List (List ℕ)) (rest : List ℕ) (k first : ℕ) (w : Window)
       (pushed : List (List ℕ)) → IsInput (places_of start) (input_of log) records rest → slice_get start k ≡ Some w
-      → Shows w first pushed → (xs : List Asked) → AreFrom start log xs
+      → Shows w first pushed → (xs : List Called) → AreFrom start log xs
       → AreShown k first (pushed ++ records_at k (places_of start) records) xs
   shown log records rest k first w pushed input here s [] f = tt
   shown log records rest k first w pushed input here s (a ∷ more) f =
@@ -339,17 +343,18 @@ module _ (start : List Window) where
         shown log records rest k first w pushed input here s more f.1,
       )
 
-  says : (log : List Happening) (records : List (List ℕ)) (rest : List ℕ) (t : State) (said : List ℕ)
-      → IsInput (places_of start) (input_of log) records rest → Said start log t said → SaysStretches start records said
-  says log records rest t said input (only_replies rs off is) = replies_alone rs is
-  says log records rest t said input (has_streamed rs s u xs begun to read on from is) =
-      streams rs s xs begun (are_asked s u xs to) is
+  says : (log : List Happening) (records : List (List ℕ)) (rest : List ℕ) (t : State) (produced : List ℕ)
+      → IsInput (places_of start) (input_of log) records rest → Produced start log t produced
+      → SaysStretches start records produced
+  says log records rest t produced input (only_replies rs off is) = replies_alone rs is
+  says log records rest t produced input (has_streamed rs s u xs begun to read on from is) =
+      streams rs s xs begun (are_called s u xs to) is
       (λ k first w pushed g here shows granted. stretch_sent k first
-      (pushed ++ records_at k (places_of start) records) xs s g (inl begun) granted (are_asked s u xs to)
+      (pushed ++ records_at k (places_of start) records) xs s g (inl begun) granted (are_called s u xs to)
       (shown log records rest k first w pushed input here shows xs from))
 
   pub link_says : (k : ℕ) (log : List Happening) (t : Story) (records : List (List ℕ)) (rest : List ℕ)
       → IsServed start k log (Some t) → IsInput (places_of start) (input_of log) records rest
-      → SaysStretches start records t.said
+      → SaysStretches start records t.produced
   link_says k log t records rest served input =
-      says log records rest t.session.state t.said input (story_tells k log (Some t) served).0
+      says log records rest t.session.state t.produced input (story_tells k log (Some t) served).0

@@ -8,14 +8,14 @@ use Rattle.std.proofs.lemmas.Bool.Decides.{eqb_tells}
 use Rattle.std.specs.List.{AllByRecursion}
 use Rattle.slink_feed.specs.Session.{Fits}
 use Rattle.slink_feed.specs.Window.{Window}
-use Rattle.slink_live.specs.Happening.{Happening, Input, Opened, Heard, Took, Gone, input_of, is_at, piece_of}
+use Rattle.slink_live.specs.Happening.{Happening, Input, Opened, Received, Emitted, Gone, input_of, is_at, piece_of}
 use Rattle.slink_live.specs.Input.{IsFed, IsInput, places_of}
 use Rattle.slink_live.specs.Served.{AllFit, IsServing, IsSound, IsStory, LinkState, ServerState}
 use Rattle.slink_live.specs.Story.{IsNew, elsewhere}
-use Rattle.slink_live.specs.private.Calling.{Closes, HasFilled, HasHeard, HasTaken, IsGone}
-use Rattle.slink_live.proofs.Stories.{filled_story, gone_story, heard_story, opened_story, taken_story}
+use Rattle.slink_live.specs.private.Calling.{Closes, HasFilled, HasReceived, HasTaken, IsGone}
+use Rattle.slink_live.proofs.Stories.{filled_story, gone_story, received_story, opened_story, taken_story}
 
--- what the input told
+-- what the input gave
 pub input_append : (xs ys : List Happening) → input_of (xs ++ ys) ≡ input_of xs ++ input_of ys
 input_append [] ys = refl
 input_append (x ∷ xs) ys = ap (λ b. piece_of x ++ b) (input_append xs ys)
@@ -29,8 +29,8 @@ input_quiet log h e = input_append log (h ∷ [])
 gone_quiet : (h : Happening) → IsGone h → piece_of h ≡ []
 gone_quiet (Input bytes) g = absurd g
 gone_quiet (Opened k) g = refl
-gone_quiet (Heard k bytes) g = refl
-gone_quiet (Took k bytes) g = refl
+gone_quiet (Received k bytes) g = refl
+gone_quiet (Emitted k bytes) g = refl
 gone_quiet (Gone k) g = refl
 
 all_quiet : (gone : List Happening) → AllByRecursion IsGone gone → input_of gone ≡ []
@@ -68,8 +68,8 @@ module _ (start : List Window) where
   pub story_elsewhere : (k : ℕ) (o : Option LinkState) (log last : List Happening) (h : Happening) → is_at k h ≡ false
       → last ≡ log ++ h ∷ [] → IsStory start k o log → IsStory start k o last
   story_elsewhere k o log last h other now s = record {
-    told = s.told;
-    served = elsewhere log last h s.told s.served other now;
+    reported = s.reported;
+    served = elsewhere log last h s.reported s.served other now;
     matches = s.matches;
   }
 
@@ -132,30 +132,30 @@ module _ (start : List Window) where
 
   module _ (s : ServerState) (log last : List Happening) (j : ℕ) (new : Option LinkState) (lt : j < length s.links)
       (v : IsServing start s log) where
-    heard_others : (o : Option LinkState) → HasHeard s.intake.feed j o new log last → Others log last j
-    heard_others None h = others_stay log last j h.1
-    heard_others (Some l) h = λ k o ne x. story_elsewhere k o log last (Heard j h.0) (not_self j k ne) h.3 x
+    received_others : (o : Option LinkState) → HasReceived s.intake.feed j o new log last → Others log last j
+    received_others None h = others_stay log last j h.1
+    received_others (Some l) h = λ k o ne x. story_elsewhere k o log last (Received j h.0) (not_self j k ne) h.3 x
 
-    heard_input : (o : Option LinkState) → HasHeard s.intake.feed j o new log last → input_of last ≡ input_of log
-    heard_input None h = ap input_of h.1
-    heard_input (Some l) h = ap input_of h.3 ∙ input_quiet log (Heard j h.0) refl
+    received_input : (o : Option LinkState) → HasReceived s.intake.feed j o new log last → input_of last ≡ input_of log
+    received_input None h = ap input_of h.1
+    received_input (Some l) h = ap input_of h.3 ∙ input_quiet log (Received j h.0) refl
 
-    pub heard_serving : HasHeard s.intake.feed j (get_or s.links j None) new log last
+    pub received_serving : HasReceived s.intake.feed j (get_or s.links j None) new log last
         → IsServing start (record s { links = set s.links j new }) last
-    heard_serving h =
-        serving_links s log last (set s.links j new) v (heard_input (get_or s.links j None) h)
+    received_serving h =
+        serving_links s log last (set s.links j new) v (received_input (get_or s.links j None) h)
         (slots_set s.links log last j new lt
-        (heard_story start j log last new s.intake.feed (get_or s.links j None) (is_fed s log v) h (v.slots j))
-        (heard_others (get_or s.links j None) h) v.slots)
+        (received_story start j log last new s.intake.feed (get_or s.links j None) (is_fed s log v) h (v.slots j))
+        (received_others (get_or s.links j None) h) v.slots)
 
     taken_others : (o : Option LinkState) → HasTaken j o new log last → Others log last j
     taken_others None h = others_stay log last j h.1
     taken_others (Some l) h =
-        λ k o ne x. story_elsewhere k o log last (Took j (take h.0 l.pending)) (not_self j k ne) h.2 x
+        λ k o ne x. story_elsewhere k o log last (Emitted j (take h.0 l.pending)) (not_self j k ne) h.2 x
 
     taken_input : (o : Option LinkState) → HasTaken j o new log last → input_of last ≡ input_of log
     taken_input None h = ap input_of h.1
-    taken_input (Some l) h = ap input_of h.2 ∙ input_quiet log (Took j (take h.0 l.pending)) refl
+    taken_input (Some l) h = ap input_of h.2 ∙ input_quiet log (Emitted j (take h.0 l.pending)) refl
 
     pub taken_serving : HasTaken j (get_or s.links j None) new log last
         → IsServing start (record s { links = set s.links j new }) last
@@ -215,10 +215,10 @@ pub fit_same : (feed : List Window) (now l : LinkState) → Some now ≡ Some l 
     → Fits feed l.session.state
 fit_same feed now l e f = let same : now ≡ l = cc e in subst (λ (x : LinkState). Fits feed x.session.state) same f
 
-pub heard_fits : (feed : List Window) (j : ℕ) (o new : Option LinkState) (log last : List Happening)
-    → HasHeard feed j o new log last → (l : LinkState) → new ≡ Some l → Fits feed l.session.state
-heard_fits feed j None new log last h l e = absurd (let bad : None ≡ Some l = sym h.0 ∙ e in cc bad)
-heard_fits feed j (Some x) new log last h l e = fit_same feed h.1 l (sym h.2 ∙ e) h.5
+pub received_fits : (feed : List Window) (j : ℕ) (o new : Option LinkState) (log last : List Happening)
+    → HasReceived feed j o new log last → (l : LinkState) → new ≡ Some l → Fits feed l.session.state
+received_fits feed j None new log last h l e = absurd (let bad : None ≡ Some l = sym h.0 ∙ e in cc bad)
+received_fits feed j (Some x) new log last h l e = fit_same feed h.1 l (sym h.2 ∙ e) h.5
 
 pub filled_fits : (feed : List Window) (o new : Option LinkState) → HasFilled feed o new → (l : LinkState)
     → new ≡ Some l → Fits feed l.session.state

@@ -11,9 +11,9 @@ use Rattle.slink_feed.proofs.Items.{same_or_not}
 use Rattle.slink_live.specs.Happening.{Happening, Opened, Gone}
 use Rattle.slink_live.specs.Served.{AllFit, AreEmpty, IntakeState, IsServing, IsSound, LinkState, ServerState}
 use Rattle.slink_live.specs.Story.{IsNew}
-use Rattle.slink_live.specs.private.Calling.{Closes, HasFilled, HasHeard, HasTaken, ReadsFrom, Stays, WritesTo}
-use Rattle.slink_live.proofs.Slots.{filled_fits, filled_serving, fit_same, gone_serving, heard_fits}
-use Rattle.slink_live.proofs.Slots.{heard_serving, none_fits, opened_serving, same_default, serving_ends, sound_set}
+use Rattle.slink_live.specs.private.Calling.{Closes, HasFilled, HasReceived, HasTaken, ReadsFrom, Stays, WritesTo}
+use Rattle.slink_live.proofs.Slots.{filled_fits, filled_serving, fit_same, gone_serving, received_fits}
+use Rattle.slink_live.proofs.Slots.{received_serving, none_fits, opened_serving, same_default, serving_ends, sound_set}
 use Rattle.slink_live.proofs.Slots.{taken_fits, taken_serving}
 
 -- what is kept of a server, put together
@@ -79,7 +79,7 @@ stays_on s t u a b = record {
 }
 
 pub reads_from : (feed : List Window) (j : ℕ) (o new : Option LinkState) (log mid last : List Happening)
-    → HasHeard feed j o new log mid → Closes mid last → ReadsFrom o j log last
+    → HasReceived feed j o new log mid → Closes mid last → ReadsFrom o j log last
 reads_from feed j None new log mid last h c = subst (λ (x : List Happening). Closes x last) h.1 c
 reads_from feed j (Some l) new log mid last h c = (h.0, subst (λ (x : List Happening). Closes x last) h.3 c)
 
@@ -138,30 +138,30 @@ module _ (s0 s : ServerState) (same : s0 ≡ s) (j : ℕ) (lt : j < length s.lin
         (subst (λ (x : List Window). HasFilled x o new) e f))
 
     module _ (log last : List Happening) where
-      heard_seen : (feed : List Window) → feed ≡ s0.intake.feed → HasHeard feed j o new log last
-          → HasHeard s0.intake.feed j (get_or s0.links j None) new log last
-      heard_seen feed e h = subst (λ (y : Option LinkState). HasHeard s0.intake.feed j y new log last) (seen o v)
-          (subst (λ (x : List Window). HasHeard x j o new log last) e h)
+      received_seen : (feed : List Window) → feed ≡ s0.intake.feed → HasReceived feed j o new log last
+          → HasReceived s0.intake.feed j (get_or s0.links j None) new log last
+      received_seen feed e h = subst (λ (y : Option LinkState). HasReceived s0.intake.feed j y new log last) (seen o v)
+          (subst (λ (x : List Window). HasReceived x j o new log last) e h)
 
-      pub heard_sound : (feed : List Window) → feed ≡ s0.intake.feed → HasHeard feed j o new log last → IsSound s
+      pub received_sound : (feed : List Window) → feed ≡ s0.intake.feed → HasReceived feed j o new log last → IsSound s
           → IsSound (record s0 { links = set s0.links j new })
-      heard_sound feed e h sound = sound_set s0 j new (sound0 sound) lt0
-          (heard_fits s0.intake.feed j (get_or s0.links j None) new log last (heard_seen feed e h))
+      received_sound feed e h sound = sound_set s0 j new (sound0 sound) lt0
+          (received_fits s0.intake.feed j (get_or s0.links j None) new log last (received_seen feed e h))
 
-      pub heard_on : (feed : List Window) → feed ≡ s0.intake.feed → HasHeard feed j o new log last
+      pub received_on : (feed : List Window) → feed ≡ s0.intake.feed → HasReceived feed j o new log last
           → (start : List Window) → IsServing start s log
           → IsServing start (record s0 { links = set s0.links j new }) last
-      heard_on feed e h start w =
-          heard_serving start s0 log last j new lt0
-          (subst (λ (x : ServerState). IsServing start x log) (sym same) w) (heard_seen feed e h)
+      received_on feed e h start w =
+          received_serving start s0 log last j new lt0
+          (subst (λ (x : ServerState). IsServing start x log) (sym same) w) (received_seen feed e h)
 
-      pub heard_at : (feed : List Window) → feed ≡ s0.intake.feed → HasHeard feed j o new log last
-          → HasHeard s.intake.feed j (get_or s.links j None) (get_or (set s0.links j new) j None) log last
-      heard_at feed e h =
-          subst (λ (x : ServerState). HasHeard x.intake.feed j (get_or x.links j None)
+      pub received_at : (feed : List Window) → feed ≡ s0.intake.feed → HasReceived feed j o new log last
+          → HasReceived s.intake.feed j (get_or s.links j None) (get_or (set s0.links j new) j None) log last
+      received_at feed e h =
+          subst (λ (x : ServerState). HasReceived x.intake.feed j (get_or x.links j None)
           (get_or (set s0.links j new) j None) log last) same
-          (subst (λ (y : Option LinkState). HasHeard s0.intake.feed j (get_or s0.links j None) y log last)
-          (sym (get_or-set_same s0.links j new None lt0)) (heard_seen feed e h))
+          (subst (λ (y : Option LinkState). HasReceived s0.intake.feed j (get_or s0.links j None) y log last)
+          (sym (get_or-set_same s0.links j new None lt0)) (received_seen feed e h))
 
       taken_seen : HasTaken j o new log last → HasTaken j (get_or s0.links j None) new log last
       taken_seen h = subst (λ (y : Option LinkState). HasTaken j y new log last) (seen o v) h

@@ -102,7 +102,7 @@ module _ (start : List Window) (s : ServerState) (log last : List Happening) (v 
         (Stream (faults.Read (512 * s.intake.records)))
     failed_fault = fault_now _ at_offset
 
-  -- what is wrong with an input that is asked no more
+  -- what is wrong with an input that is called no more
   pub turns_fault : input_of last ≡ input_of log → IsInputFault (places_of start) (input_of last)
       (Stream (faults.Turns (512 * s.intake.records)))
   turns_fault quiet = record {

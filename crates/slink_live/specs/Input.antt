@@ -34,7 +34,7 @@ pub record IsInput (places : List Fields) (bytes : List ℕ) (records : List (Li
 abbrev pub is_of : Fields → List ℕ → Bool
 is_of place bytes = bytes_eq (slice_range bytes 8 13) place.station && bytes_eq (slice_range bytes 18 20) place.network
 
--- the rings, once the first one of a record's place took it
+-- the rings, once the first one of a record's place accepted it
 abbrev pub pushed : List Window → List ℕ → List Window
 pushed [] bytes = []
 pushed (w ∷ ws) bytes = if is_of w.place bytes then with_record w bytes ∷ ws else w ∷ pushed ws bytes
@@ -44,7 +44,7 @@ abbrev pub fed : List Window → List (List ℕ) → List Window
 fed feed [] = feed
 fed feed (bytes ∷ records) = fed (pushed feed bytes) records
 
--- The rings are those of the beginning, once all records came that the input told so far, and this is left of it.
+-- The rings are those of the beginning, once all records came that the input gave so far, and this is left of it.
 pub record IsFedTo (start : List Window) (bytes : List ℕ) (feed : List Window) (rest : List ℕ) : Type 0 where
   pub records : List (List ℕ)
   pub input : IsInput (places_of start) bytes records rest
@@ -55,23 +55,23 @@ IsFed start bytes feed = (rest : List ℕ) × IsFedTo start bytes feed rest
 
 -- No record of these places begins so: the record that is there isn't one, or one would be longer.
 abbrev pub IsForeign : List Fields → List ℕ → Type 0
-IsForeign places front = ((k : ℕ) × Decides front (scans.Record k) × ¬ (IsOf places (take k front)))
-    ⊎ ((k : ℕ) × Decides front (scans.Need k) × (512 < k))
+IsForeign places leading = ((k : ℕ) × Decides leading (scans.Record k) × ¬ (IsOf places (take k leading)))
+    ⊎ ((k : ℕ) × Decides leading (scans.Need k) × (512 < k))
 
 -- What is wrong with the rest behind so many records: bytes that begin no record, or none of these places; a record
 -- that the input ended within; a read that failed, or 2^40 of them.
 abbrev pub IsFaultIn : List Fields → ℕ → List ℕ → InputFault → Type 0
-IsFaultIn places n rest (Stream (Frame offset fault)) = (front more : List ℕ) × (rest ≡ front ++ more)
-    × Decides front (scans.Not fault) × (offset ≡ 512 * n)
+IsFaultIn places n rest (Stream (Frame offset fault)) = (leading more : List ℕ) × (rest ≡ leading ++ more)
+    × Decides leading (scans.Not fault) × (offset ≡ 512 * n)
 IsFaultIn places n rest (Stream (Truncated offset have)) = (0 < have) × (have ≡ length rest) × (have < 512)
     × (offset ≡ 512 * n)
 IsFaultIn places n rest (Stream (Read offset)) = offset ≡ 512 * n
 IsFaultIn places n rest (Stream (Turns offset)) = offset ≡ 512 * n
 IsFaultIn places n rest (Stream Memory) = ⊥
-IsFaultIn places n rest (Foreign number) = (front more : List ℕ) × (rest ≡ front ++ more) × IsForeign places front
+IsFaultIn places n rest (Foreign number) = (leading more : List ℕ) × (rest ≡ leading ++ more) × IsForeign places leading
     × (number ≡ n + 1)
 
--- What is wrong with an input that told these bytes.
+-- What is wrong with an input that gave these bytes.
 pub record IsInputFault (places : List Fields) (bytes : List ℕ) (fault : InputFault) : Type 0 where
   pub records : List (List ℕ)
   pub rest : List ℕ

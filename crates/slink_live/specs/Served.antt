@@ -9,7 +9,7 @@ use Rattle.slink_live.specs.Happening.{Happening, input_of}
 use Rattle.slink_live.specs.Input.{IsFedTo}
 use Rattle.slink_live.specs.Story.{IsServed, Story}
 
--- what a server keeps of a link: its session, and what that said and the link didn't take yet
+-- what a server keeps of a link: its session, and what that sent and the link didn't take yet
 pub record LinkState : Type 0 where
   pub session : Standing
   pub pending : List ℕ
@@ -46,18 +46,18 @@ pub record IsSound (s : ServerState) : Type 0 where
   pub few : s.intake.records ≤ 8192 * s.reads
   pub few_reads : s.reads ≤ 2 ^ 40
 
--- A slot has a link where the story has one: with its session, and what that said and the link didn't take yet.
+-- A slot has a link where the story has one: with its session, and what that sent and the link didn't take yet.
 abbrev pub Matches : Option LinkState → Option Story → Type 0
 Matches None None = Unit {0}
 Matches None (Some t) = ⊥
 Matches (Some l) None = ⊥
-Matches (Some l) (Some t) = (t.session ≡ l.session) × (t.said ≡ t.took ++ l.pending)
+Matches (Some l) (Some t) = (t.session ≡ l.session) × (t.produced ≡ t.emitted ++ l.pending)
 
 -- what happened in a slot comes to a story that its link matches
 pub record IsStory (start : List Window) (k : ℕ) (o : Option LinkState) (log : List Happening) : Type 0 where
-  pub told : Option Story
-  pub served : IsServed start k log told
-  pub matches : Matches o told
+  pub reported : Option Story
+  pub served : IsServed start k log reported
+  pub matches : Matches o reported
 
 -- The server has served its input and its links, from these rings on, by what happened.
 pub record IsServing (start : List Window) (s : ServerState) (log : List Happening) : Type 0 where
@@ -75,3 +75,11 @@ AreEmpty links = (k : ℕ) → get_or links k None ≡ None
 pub record IsFinished (s : ServerState) : Type 0 where
   pub ended : s.is_ended ≡ true
   pub empty : AreEmpty s.links
+
+-- What happened goes on from what had happened.
+abbrev pub GoesOn : List Happening → List Happening → Type 0
+GoesOn old new = (more : List Happening) × (new ≡ old ++ more)
+
+-- An input that is read no more stays so: nothing further comes of it.
+abbrev pub StaysUnread : ServerState → ServerState → List Happening → List Happening → Type 0
+StaysUnread s t old new = s.is_ended ≡ true → (t.is_ended ≡ true) × (input_of new ≡ input_of old)

@@ -7,48 +7,49 @@ use Rattle.slink_feed.specs.declared.session.Sent.{Sent}
 use Rattle.slink_feed.specs.Serving.{Serves, Standing}
 use Rattle.slink_feed.specs.Session.{at, sent, sent_bytes}
 use Rattle.slink_feed.specs.Window.{Window}
-use Rattle.slink_live.specs.Happening.{Happening, Opened, Heard, Took, Gone, input_of, is_at}
+use Rattle.slink_live.specs.Happening.{Happening, Opened, Received, Emitted, Gone, input_of, is_at}
 use Rattle.slink_live.specs.Input.{IsFed}
 
--- a session, what it said so far, and what its link took of that
+-- a session, what it sent so far, and what its link accepted of that
 pub record Story : Type 0 where
   pub session : Standing
-  pub said : List ℕ
-  pub took : List ℕ
+  pub produced : List ℕ
+  pub emitted : List ℕ
 
 abbrev pub story : Standing → List ℕ → List ℕ → Story
-story session said took = record { session = session; said = said; took = took }
+story session produced emitted = record { session = session; produced = produced; emitted = emitted }
 
 -- It is the session of a new link.
 pub record IsNew (s : Standing) : Type 0 where
   pub state : s.state ≡ at Fresh (replicate 16 None)
   pub held : IsHeld s.held []
 
--- A session is asked for packets of some places, and what it gives goes on its way.
+-- A session is called for packets of some places, and what it gives goes on its way.
 pub data Asks (feed : List Window) (s : Standing) (way : List ℕ) : Standing → List ℕ → Type 0 where
-  none_asked : Asks feed s way s way
-  one_asked : (now last : Standing) (k : ℕ) (answer : Sent) (on all : List ℕ) → Asks feed s way now on
+  none_called : Asks feed s way s way
+  one_called : (now last : Standing) (k : ℕ) (answer : Sent) (on all : List ℕ) → Asks feed s way now on
       → sent feed now.state k ≡ (last.state, answer) → last.held ≡ now.held → all ≡ on ++ sent_bytes answer
       → Asks feed s way last all
 
 -- What happened comes to this in a slot: no link stands there, or this is the story of the one that does. A link comes
 -- where none stands. What it says is answered by its session, as slink_feed has it, from the rings as the input made
--- them so far; its session may be asked for packets at any time; and of all that, the link takes a prefix.
+-- them so far; packets may be requested of its session at any time; and of all that, the link takes a prefix.
 pub data IsServed (start : List Window) (k : ℕ) : List Happening → Option Story → Type 0 where
   no_event : IsServed start k [] None
   elsewhere : (before now : List Happening) (h : Happening) (o : Option Story) → IsServed start k before o
       → is_at k h ≡ false → now ≡ before ++ h ∷ [] → IsServed start k now o
   opens : (before now : List Happening) (s : Standing) → IsServed start k before None → IsNew s
       → now ≡ before ++ Opened k ∷ [] → IsServed start k now (Some (story s [] []))
-  hears : (before now : List Happening) (feed : List Window) (s new : Standing) (bytes said all took : List ℕ)
-      → IsServed start k before (Some (story s said took)) → IsFed start (input_of before) feed
-      → Serves feed s bytes said new all → now ≡ before ++ Heard k bytes ∷ []
-      → IsServed start k now (Some (story new all took))
-  asks : (log : List Happening) (feed : List Window) (s new : Standing) (said all took : List ℕ)
-      → IsServed start k log (Some (story s said took)) → IsFed start (input_of log) feed → Asks feed s said new all
-      → IsServed start k log (Some (story new all took))
-  takes : (before now : List Happening) (s : Standing) (bytes said took : List ℕ)
-      → IsServed start k before (Some (story s said took)) → IsPrefixOf (took ++ bytes) said
-      → now ≡ before ++ Took k bytes ∷ [] → IsServed start k now (Some (story s said (took ++ bytes)))
+  hears : (before now : List Happening) (feed : List Window) (s new : Standing) (bytes produced all emitted : List ℕ)
+      → IsServed start k before (Some (story s produced emitted)) → IsFed start (input_of before) feed
+      → Serves feed s bytes produced new all → now ≡ before ++ Received k bytes ∷ []
+      → IsServed start k now (Some (story new all emitted))
+  asks : (log : List Happening) (feed : List Window) (s new : Standing) (produced all emitted : List ℕ)
+      → IsServed start k log (Some (story s produced emitted)) → IsFed start (input_of log) feed
+      → Asks feed s produced new all
+      → IsServed start k log (Some (story new all emitted))
+  takes : (before now : List Happening) (s : Standing) (bytes produced emitted : List ℕ)
+      → IsServed start k before (Some (story s produced emitted)) → IsPrefixOf (emitted ++ bytes) produced
+      → now ≡ before ++ Emitted k bytes ∷ [] → IsServed start k now (Some (story s produced (emitted ++ bytes)))
   goes : (before now : List Happening) (o : Option Story) → IsServed start k before o
       → now ≡ before ++ Gone k ∷ [] → IsServed start k now None

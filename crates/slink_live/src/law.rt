@@ -9,15 +9,16 @@ ghost use Rattle.slink_live.specs.Stretches.{SaysStretches, records_at};
 
 /// Of a link only what happened in its slot matters, and the input.
 pub fn no_other_link_matters()
-    ensures { (start : List Window) (k : ℕ) (log : List Happening) (told : Option Story)
-        → IsServed start k log told → IsServed start k (those_of k log) told }
+    ensures { (start : List Window) (k : ℕ) (log : List Happening) (reported : Option Story)
+        → IsServed start k log reported → IsServed start k (those_of k log) reported }
 {}
 
-/// A slot has a story at each moment: what happened up to there comes to one, by which the link that stood there took a
-/// prefix of what its session had said.
+/// A slot has a story at each moment: what happened up to there comes to one, by which the link that stood there
+/// accepted a prefix of what its session had sent.
 pub fn each_moment_has_a_story()
-    ensures { (start : List Window) (k : ℕ) (before after : List Happening) (told : Option Story)
-        → IsServed start k (before ++ after) told → (told_then : Option Story) × IsServed start k before told_then }
+    ensures { (start : List Window) (k : ℕ) (before after : List Happening) (reported : Option Story)
+        → IsServed start k (before ++ after) reported
+        → (reported_then : Option Story) × IsServed start k before reported_then }
 {}
 
 /// An input has one list of records, in whatever pieces it came, and so its rings come to one thing. More of it adds
@@ -42,7 +43,7 @@ pub fn input_in_order()
 /// it of one link alone: replies, and then packets, of which those of each place are a stretch of its records from the
 /// grant on. Whatever the other links say and take, and in whatever order.
 pub fn a_link_is_sent_stretches()
-    ensures { (start : List Window) (k : ℕ) (log : List Happening) (told : Story) (records : List (List ℕ))
-        (rest : List ℕ) → IsServed start k log (Some told) → IsInput (places_of start) (input_of log) records rest
-        → SaysStretches start records told.said }
+    ensures { (start : List Window) (k : ℕ) (log : List Happening) (reported : Story) (records : List (List ℕ))
+        (rest : List ℕ) → IsServed start k log (Some reported) → IsInput (places_of start) (input_of log) records rest
+        → SaysStretches start records reported.produced }
 {}

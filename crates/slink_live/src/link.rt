@@ -10,8 +10,8 @@ use arrayvec::ArrayVec;
 use slink_feed::{Feed, Sent, Session};
 use std::marker::Model;
 
-/// The most bytes that wait to be written: six packets.
-const ROOM: usize = 3_120;
+/// The most bytes that wait to be written: twelve packets.
+const ROOM: usize = 6_240;
 
 /// So many bytes has a packet.
 const PACKET: usize = 520;
@@ -22,15 +22,15 @@ const REPLY: usize = 35;
 /// The most bytes that are read at once.
 pub(crate) const PIECE: usize = 64;
 
-/// So often a session is asked at most at a time: for six packets, and each place of sixteen in between.
-const ASKS: u32 = 112;
+/// So often a session is called at most at a time: for twelve packets, and each place of sixteen in between.
+const ASKS: u32 = 208;
 
-/// A link's session, and what that said and the link didn't take yet.
+/// A link's session, and what that sent and the link didn't take yet.
 #[derive(Drop)]
 pub(crate) struct Link {
     session: Session,
-    pending: ArrayVec<u8, 3120>,
-    // The place that is asked next.
+    pending: ArrayVec<u8, 6240>,
+    // The place that is next.
     place: usize,
     // The session is closed.
     is_over: bool,
@@ -73,7 +73,7 @@ impl Link {
 
     /// How many bytes can be read now, so that there is room for each reply.
     pub(crate) fn readable(&self) -> usize
-        ensures room { length self.now.pending + 35 * result ≤ 3120 }
+        ensures room { length self.now.pending + 35 * result ≤ 6240 }
         ensures most { result ≤ 64 }
     {
         ((ROOM - self.pending.len()) / REPLY).min(PIECE)
@@ -91,12 +91,12 @@ impl Link {
         self.is_over && self.pending.is_empty()
     }
 
-    /// Whether the client has said all that it has to say.
+    /// Whether the client has sent all that it has to say.
     pub(crate) fn is_streaming(&self) -> bool {
         self.session.is_streaming()
     }
 
-    /// Whether it has all that was asked for, once no record comes any more.
+    /// Whether it has all that was requested, once no record comes any more.
     pub(crate) fn has_all(&self) -> bool {
         self.session.is_streaming() && self.pending.is_empty()
     }
@@ -119,7 +119,7 @@ impl Link {
     /// Takes what the link brought: the session answers each line.
     pub(crate) fn hear(&mut self, feed: &Feed, bytes: &[u8])
         requires fits { Fits feed.now self.old.session.state }
-        requires room { length self.old.pending + 35 * length bytes.now ≤ 3120 }
+        requires room { length self.old.pending + 35 * length bytes.now ≤ 6240 }
         ensures serves { Serves feed.now self.old.session bytes.now self.old.pending self.new.session
             self.new.pending }
         ensures fits { Fits feed.now self.new.session.state }
@@ -134,7 +134,7 @@ impl Link {
 
     /// Has these bytes wait.
     fn say(&mut self, bytes: &[u8])
-        requires { length self.old.pending + length bytes.now ≤ 3120 }
+        requires { length self.old.pending + length bytes.now ≤ 6240 }
         ensures { self.new ≡ record self.old { pending = self.old.pending ++ bytes.now } }
     {
         match self.pending.try_extend_from_slice(bytes) {
@@ -165,7 +165,7 @@ impl Link {
     /// Asks for the next packet of the place whose turn it is, and answers whether there was something.
     fn ask(&mut self, feed: &Feed) -> bool
         requires some { 0 < length feed.now }
-        requires room { length self.old.pending + 520 ≤ 3120 }
+        requires room { length self.old.pending + 520 ≤ 6240 }
         requires fits { Fits feed.now self.old.session.state }
         ensures asks { Asks feed.now self.old.session self.old.pending self.new.session self.new.pending }
         ensures fits { Fits feed.now self.new.session.state }

@@ -1,6 +1,7 @@
 //! What happened at a device, in order. It has no bytes, and its functions do nothing at run time.
 ghost use Rattle.std.specs.Prelude.{◌≡◌, List, ℕ, [], ◌∷◌, ◌++◌};
-ghost use Rattle.slink_live.specs.Happening.{Happening, Input, Opened, Heard, Took, Gone, happening, happenings_code};
+ghost use Rattle.slink_live.specs.Happening.{Happening, Input, Opened, Received, Emitted, Gone, happening};
+ghost use Rattle.slink_live.specs.Happening.{happenings_code};
 ghost use base.Fml.{ftrue};
 
 use std::marker::{Model, PhantomData};
@@ -42,15 +43,15 @@ impl Log {
     }
 
     /// The link in a slot gave these bytes.
-    pub fn heard(&mut self, slot: usize, bytes: &[u8])
-        ensures { self.new.all ≡ self.old.all ++ Heard slot bytes.now ∷ [] }
+    pub fn received(&mut self, slot: usize, bytes: &[u8])
+        ensures { self.new.all ≡ self.old.all ++ Received slot bytes.now ∷ [] }
     {
         self.note(2, slot, bytes);
     }
 
-    /// The link in a slot took these bytes.
-    pub fn took(&mut self, slot: usize, bytes: &[u8])
-        ensures { self.new.all ≡ self.old.all ++ Took slot bytes.now ∷ [] }
+    /// The link in a slot accepted these bytes.
+    pub fn emitted(&mut self, slot: usize, bytes: &[u8])
+        ensures { self.new.all ≡ self.old.all ++ Emitted slot bytes.now ∷ [] }
     {
         self.note(3, slot, bytes);
     }

@@ -1,6 +1,6 @@
-//! What comes next, asked of a device.
+//! What comes next, as a device says.
 ghost use Rattle.std.specs.Prelude.{◌≡◌, ◌≤◌, ◌∷◌, ◌++◌, [], List, Bool, true, length, take, if◌then◌else◌};
-ghost use Rattle.slink_live.specs.Happening.{Happening, Input, Opened, Heard, Took, Gone};
+ghost use Rattle.slink_live.specs.Happening.{Happening, Input, Opened, Received, Emitted, Gone};
 
 /// What can be done next.
 #[derive(Clone, Copy, Debug, PartialEq, Eq)]
@@ -30,7 +30,7 @@ pub struct Wishes {
     pub reads: bool,
     /// It has something to write.
     pub writes: bool,
-    /// The handshake is over: the client has said all that it has to say.
+    /// The handshake is over: the client has sent all that it has to say.
     pub is_streaming: bool,
 }
 
@@ -66,12 +66,12 @@ pub trait Ready {
     /// Reads once from the link in a slot; 0 where there is nothing now.
     fn read(&mut self, slot: usize, buf: &mut [u8]) -> usize
         ensures bound { result ≤ length buf.new }
-        ensures log { log self.new ≡ log self.old ++ Heard slot (take result buf.new) ∷ [] };
+        ensures log { log self.new ≡ log self.old ++ Received slot (take result buf.new) ∷ [] };
 
     /// Writes once to the link in a slot, which takes a prefix of the bytes; 0 where it takes nothing now.
     fn write(&mut self, slot: usize, bytes: &[u8]) -> usize
         ensures bound { result ≤ length bytes.now }
-        ensures log { log self.new ≡ log self.old ++ Took slot (take result bytes.now) ∷ [] };
+        ensures log { log self.new ≡ log self.old ++ Emitted slot (take result bytes.now) ∷ [] };
 
     /// Closes the link in a slot.
     fn close(&mut self, slot: usize)

@@ -7,9 +7,10 @@ ghost use Rattle.slink_feed.specs.Session.{Fits};
 ghost use Rattle.slink_feed.specs.Window.{Window};
 ghost use Rattle.slink_live.specs.Happening.{Happening, Input, input_of};
 ghost use Rattle.slink_live.specs.Input.{IsInputFault, places_of};
-ghost use Rattle.slink_live.specs.Served.{AreEmpty, IsBelow, IsFinished, IsServing, IsSound, ServerState};
-ghost use Rattle.slink_live.specs.private.Calling.{Closes, HasFilled, HasHeard, HasTaken, IsCalled};
-ghost use Rattle.slink_live.specs.private.Calling.{ReadsFrom, ReadsInput, Stays, WritesTo};
+ghost use Rattle.slink_live.specs.Served.{AreEmpty, GoesOn, IsBelow, IsFinished, IsServing, IsSound, ServerState};
+ghost use Rattle.slink_live.specs.Served.{StaysUnread};
+ghost use Rattle.slink_live.specs.private.Calling.{Closes, HasFilled, HasReceived, HasTaken, IsCalled};
+ghost use Rattle.slink_live.specs.private.Calling.{Opens, ReadsFrom, ReadsInput, Stays, WritesTo};
 
 use crate::fault::InputFault;
 use crate::intake::Intake;
@@ -19,9 +20,9 @@ use slink_feed::Feed;
 use std::alloc::{AllocError, Global};
 use std::marker::Model;
 
-/// The most bytes of the input that are read at once: four records, since a link takes up to six packets in between,
-/// and so keeps up with an input that is always ready.
-const INPUT: usize = 2_048;
+/// The most bytes of the input that are read at once: eight records, since a link takes up to twelve packets in
+/// between, and so keeps up with an input that is always ready.
+const INPUT: usize = 4_096;
 
 /// So often the input is read at most, and so many events are carried out in one call.
 const TURNS: u64 = 1 << 40;
@@ -63,7 +64,7 @@ fn slots(alloc: Global, count: usize) -> Result<Vec<Option<Link>>, AllocError>
 /// Reads once from the link in a slot, where one stands, and has its session answer.
 fn hear<R: Ready>(link: &mut Option<Link>, feed: &Feed, slot: usize, ready: &mut R)
     requires { IfSome link.old (λ l. Fits feed.now l.session.state) }
-    ensures { HasHeard feed.now slot link.old link.new (R.log ready.old) (R.log ready.new) }
+    ensures { HasReceived feed.now slot link.old link.new (R.log ready.old) (R.log ready.new) }
 {
     if let Some(link) = link {
         hear_link(link, feed, slot, ready);
@@ -73,7 +74,7 @@ fn hear<R: Ready>(link: &mut Option<Link>, feed: &Feed, slot: usize, ready: &mut
 /// Reads once from a link, as much as there is room for replies.
 fn hear_link<R: Ready>(link: &mut Link, feed: &Feed, slot: usize, ready: &mut R)
     requires { Fits feed.now link.old.session.state }
-    ensures { HasHeard feed.now slot (Some link.old) (Some link.new) (R.log ready.old) (R.log ready.new) }
+    ensures { HasReceived feed.now slot (Some link.old) (Some link.new) (R.log ready.old) (R.log ready.new) }
 {
     let mut buf = [0; PIECE];
     let most = link.readable();
@@ -81,7 +82,7 @@ fn hear_link<R: Ready>(link: &mut Link, feed: &Feed, slot: usize, ready: &mut R)
     link.hear(feed, &buf[..count]);
 }
 
-/// Writes once to the link in a slot, where one stands, what its session said.
+/// Writes once to the link in a slot, where one stands, what its session sent.
 fn tell<R: Ready>(link: &mut Option<Link>, slot: usize, ready: &mut R)
     ensures { HasTaken slot link.old link.new (R.log ready.old) (R.log ready.new) }
 {
@@ -162,6 +163,10 @@ impl Server {
         ensures fault { IfErr result (λ e. (start : List Window) → IsServing start self.old (R.log ready.old)
             → IsInputFault (places_of start) (input_of (R.log ready.new)) e) }
         ensures ended { IfErr result (λ _. self.new.is_ended ≡ true) }
+
+        // What happened stays, and an input that is read no more is so for good.
+        ensures grows { GoesOn (R.log ready.old) (R.log ready.new) }
+        ensures unread { StaysUnread self.old self.new (R.log ready.old) (R.log ready.new) }
     {
         for turn in 0..TURNS {
             if self.is_finished() {
@@ -184,6 +189,7 @@ impl Server {
         ensures fault { IfErr result (λ e. (start : List Window) → IsServing start self.old (R.log ready.old)
             → IsInputFault (places_of start) (input_of (R.log ready.new)) e) }
         ensures ended { IfErr result (λ _. self.new.is_ended ≡ true) }
+        ensures kept { self.old.is_ended ≡ true → self.new.is_ended ≡ true }
         ensures called { IsCalled event self.old (R.log ready.old) (R.log ready.new) }
     {
         match event {
@@ -208,6 +214,7 @@ impl Server {
         ensures fault { IfErr result (λ e. (start : List Window) → IsServing start self.old (R.log ready.old)
             → IsInputFault (places_of start) (input_of (R.log ready.new)) e) }
         ensures ended { IfErr result (λ _. self.new.is_ended ≡ true) }
+        ensures kept { self.old.is_ended ≡ true → self.new.is_ended ≡ true }
         ensures called { ReadsInput self.old (R.log ready.old) (R.log ready.new) }
     {
         if self.is_ended {
@@ -254,6 +261,7 @@ impl Server {
         ensures fault { IfErr result (λ e. (start : List Window) → IsServing start self.old (R.log ready.old)
             → IsInputFault (places_of start) (input_of (R.log ready.new)) e) }
         ensures ended { IfErr result (λ _. self.new.is_ended ≡ true) }
+        ensures kept { self.old.is_ended ≡ true → self.new.is_ended ≡ true }
         ensures closes { Closes (R.log ready.old) (R.log ready.new) }
     {
         if self.is_ended {
@@ -272,6 +280,7 @@ impl Server {
         ensures fault { IfErr result (λ e. (start : List Window) → IsServing start self.old (R.log ready.old)
             → IsInputFault (places_of start) (input_of (R.log ready.new)) e) }
         ensures ended { IfErr result (λ _. self.new.is_ended ≡ true) }
+        ensures kept { self.old.is_ended ≡ true → self.new.is_ended ≡ true }
         ensures closes { Closes (R.log ready.old) (R.log ready.new) }
     {
         if self.is_ended {
@@ -297,7 +306,7 @@ impl Server {
         self.settle_all(ready);
     }
 
-    /// Reads the input no more, since it was asked too often what can be done, and says so.
+    /// Reads the input no more, since the device was called too often, and says so.
     fn give_up<R: Ready>(&mut self, ready: &mut R) -> InputFault
         requires sound { IsSound self.old }
         ensures sound { IsSound self.new }
@@ -318,7 +327,8 @@ impl Server {
         ensures sound { IsSound self.new }
         ensures serving { (start : List Window) → IsServing start self.old (R.log ready.old)
             → IsServing start self.new (R.log ready.new) }
-        ensures called { (opened : List Happening) × Closes (R.log ready.old ++ opened) (R.log ready.new) }
+        ensures stays { Stays self.old self.new }
+        ensures called { Opens (R.log ready.old) (R.log ready.new) }
     {
         match self.free_slot() {
             Some(slot) => self.open(slot, ready),
@@ -350,7 +360,8 @@ impl Server {
         ensures sound { IsSound self.new }
         ensures serving { (start : List Window) → IsServing start self.old (R.log ready.old)
             → IsServing start self.new (R.log ready.new) }
-        ensures called { (opened : List Happening) × Closes (R.log ready.old ++ opened) (R.log ready.new) }
+        ensures stays { Stays self.old self.new }
+        ensures called { Opens (R.log ready.old) (R.log ready.new) }
     {
         if ready.accept(slot) {
             self.links[slot] = Some(Link::new());
@@ -364,6 +375,7 @@ impl Server {
         ensures sound { IsSound self.new }
         ensures serving { (start : List Window) → IsServing start self.old (R.log ready.old)
             → IsServing start self.new (R.log ready.new) }
+        ensures stays { Stays self.old self.new }
         ensures called { ReadsFrom (get_or self.old.links slot None) slot (R.log ready.old) (R.log ready.new) }
     {
         if slot < self.links.len() {
@@ -379,7 +391,8 @@ impl Server {
         ensures sound { IsSound self.new }
         ensures serving { (start : List Window) → IsServing start self.old (R.log ready.old)
             → IsServing start self.new (R.log ready.new) }
-        ensures heard { HasHeard self.old.intake.feed slot (get_or self.old.links slot None)
+        ensures stays { Stays self.old self.new }
+        ensures received { HasReceived self.old.intake.feed slot (get_or self.old.links slot None)
             (get_or self.new.links slot None) (R.log ready.old) (R.log ready.new) }
     {
         hear(&mut self.links[slot], self.intake.feed(), slot, ready);
@@ -391,6 +404,7 @@ impl Server {
         ensures sound { IsSound self.new }
         ensures serving { (start : List Window) → IsServing start self.old (R.log ready.old)
             → IsServing start self.new (R.log ready.new) }
+        ensures stays { Stays self.old self.new }
         ensures called { WritesTo (get_or self.old.links slot None) slot (R.log ready.old) (R.log ready.new) }
     {
         if slot < self.links.len() {
@@ -399,13 +413,14 @@ impl Server {
         }
     }
 
-    /// Writes to the link in a slot what its session said.
+    /// Writes to the link in a slot what its session sent.
     fn tell_slot<R: Ready>(&mut self, slot: usize, ready: &mut R)
         requires sound { IsSound self.old }
         requires within { slot < length self.old.links }
         ensures sound { IsSound self.new }
         ensures serving { (start : List Window) → IsServing start self.old (R.log ready.old)
             → IsServing start self.new (R.log ready.new) }
+        ensures stays { Stays self.old self.new }
         ensures taken { HasTaken slot (get_or self.old.links slot None) (get_or self.new.links slot None)
             (R.log ready.old) (R.log ready.new) }
     {

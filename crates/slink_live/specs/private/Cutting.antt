@@ -14,7 +14,7 @@ pub record IsBearer (feed : List Window) (bytes : List ℕ) (k : ℕ) : Type 0 w
   pub bears : ForSome (slice_get feed k) (λ w. Bears bytes w.place)
   pub first : (j : ℕ) (w : Window) → j < k → slice_get feed j ≡ Some w → ¬ (Bears bytes w.place)
 
--- The first ring of its place took the record.
+-- The first ring of its place accepted the record.
 pub record IsPushed (old new : List Window) (bytes : List ℕ) : Type 0 where
   pub k : ℕ
   pub place : Fields

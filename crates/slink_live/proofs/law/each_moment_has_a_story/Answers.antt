@@ -3,4 +3,4 @@ use Rattle.slink_live.proofs.Own.{each_moment}
 use Rattle.slink_live.proofs.law.each_moment_has_a_story.Goals as goal
 
 pub returns : goal.returns
-returns c start k before after told served = each_moment start k (before ++ after) told served before after refl
+returns c start k before after reported served = each_moment start k (before ++ after) reported served before after refl

@@ -2,4 +2,4 @@ use Rattle.slink_live.proofs.Own.{own_story}
 use Rattle.slink_live.proofs.law.no_other_link_matters.Goals as goal
 
 pub returns : goal.returns
-returns c start k log told served = own_story start k log told served
+returns c start k log reported served = own_story start k log reported served

@@ -15,19 +15,19 @@ use Rattle.slink_live.proofs.intake.Intake.look.Goals as goal
 
 pub push_kept-requires : goal.push_kept-requires
 push_kept-requires c =
-    let front : c.as_slice.result.now ≡ c.args.self.now.kept =
+    let leading : c.as_slice.result.now ≡ c.args.self.now.kept =
     c.as_slice.ensures.value ∙ ap (λ (s : IntakeState). s.kept) c.self.view_is in
     let whole : (length c.args.self.now.kept ≡ 512) × IsRecord c.args.self.now.kept =
-    whole_record c.as_slice.result.now c.args.self.now.kept c.in-Record.size front c.if-size-eq-RECORD.true
+    whole_record c.as_slice.result.now c.args.self.now.kept c.in-Record.size leading c.if-size-eq-RECORD.true
     c.requires.size ((c.scan.ensures.«record» c.in-Record.size).0 c.in-Record.is) in
     record { whole = whole.0; «record» = whole.1; below = c.requires.below; few = c.requires.few }
 
 pub returns-in-Need-clause-ok : goal.returns-in-Need-clause-ok
 returns-in-Need-clause-ok c =
-    let front : c.as_slice.result.now ≡ c.args.self.now.kept =
+    let leading : c.as_slice.result.now ≡ c.args.self.now.kept =
     c.as_slice.ensures.value ∙ ap (λ (s : IntakeState). s.kept) c.self.view_is in
     let more = c.scan.ensures.bound c.in-Need.needed c.in-Need.is in
-    waits (omega (arith, more.0, ap length front, c.if-needed-le-RECORD.true)) refl
+    waits (omega (arith, more.0, ap length leading, c.if-needed-le-RECORD.true)) refl
 
 pub returns-in-Need-clause-below : goal.returns-in-Need-clause-below
 returns-in-Need-clause-below c n below = below_more n (n + 1) c.args.self.now.feed (omega arith) below
@@ -37,54 +37,54 @@ returns-in-Record-clause-err c =
     let places = places_of c.args.self.now.feed in
     let kept = c.args.self.now.kept in
     let n = c.args.self.now.records in
-    let front : c.as_slice.result.now ≡ kept =
+    let leading : c.as_slice.result.now ≡ kept =
     c.as_slice.ensures.value ∙ ap (λ (s : IntakeState). s.kept) c.self.view_is in
     let whole : (length kept ≡ 512) × IsRecord kept =
-    whole_record c.as_slice.result.now kept c.in-Record.size front c.if-size-eq-RECORD.true
+    whole_record c.as_slice.result.now kept c.in-Record.size leading c.if-size-eq-RECORD.true
     c.requires.size ((c.scan.ensures.«record» c.in-Record.size).0 c.in-Record.is) in
-    let told : Decides kept (scans.Record 512) =
-    subst (λ (p : List ℕ). Decides p (scans.Record 512)) front
+    let reported : Decides kept (scans.Record 512) =
+    subst (λ (p : List ℕ). Decides p (scans.Record 512)) leading
     (subst (λ (k : ℕ). Decides c.as_slice.result.now (scans.Record k)) c.if-size-eq-RECORD.true
     (subst (λ (x : Scan). Decides c.as_slice.result.now x) c.in-Record.is c.scan.ensures.decides)) in
     if_err_one c.push_kept.result (IsOfNone places kept) (Foreign (n + 1)) (IsRefused places n kept)
     c.push_kept.ensures.none c.push_kept.ensures.err
-    (λ none. refused_none places n (n + 1) kept whole.0 told none refl)
+    (λ none. refused_none places n (n + 1) kept whole.0 reported none refl)
 
 pub returns-in-Not-clause-err : goal.returns-in-Not-clause-err
 returns-in-Not-clause-err c =
-    let front : c.as_slice.result.now ≡ c.args.self.now.kept =
+    let leading : c.as_slice.result.now ≡ c.args.self.now.kept =
     c.as_slice.ensures.value ∙ ap (λ (s : IntakeState). s.kept) c.self.view_is in
     refused_not (places_of c.args.self.now.feed) c.args.self.now.records c.offset.result c.args.self.now.kept
     c.in-Not.fault
-    (subst (λ (p : List ℕ). Decides p (scans.Not c.in-Not.fault)) front
+    (subst (λ (p : List ℕ). Decides p (scans.Not c.in-Not.fault)) leading
     (subst (λ (x : Scan). Decides c.as_slice.result.now x) c.in-Not.is c.scan.ensures.decides))
-    (subst HasNoRecord front (c.scan.ensures.refused c.in-Not.fault c.in-Not.is)) c.offset.ensures
+    (subst HasNoRecord leading (c.scan.ensures.refused c.in-Not.fault c.in-Not.is)) c.offset.ensures
 
 pub returns-in-Not-clause-below : goal.returns-in-Not-clause-below
 returns-in-Not-clause-below c n below = below_more n (n + 1) c.args.self.now.feed (omega arith) below
 
 pub returns-in-Need-2-clause-err : goal.returns-in-Need-2-clause-err
 returns-in-Need-2-clause-err c =
-    let front : c.as_slice.result.now ≡ c.args.self.now.kept =
+    let leading : c.as_slice.result.now ≡ c.args.self.now.kept =
     c.as_slice.ensures.value ∙ ap (λ (s : IntakeState). s.kept) c.self.view_is in
     let next : c.self.inside.records + 1 ≡ c.args.self.now.records + 1 =
     ap (λ (s : IntakeState). s.records + 1) c.self.view_is in
     elim c.in-Need-2-1.branch [
       | in-Need+else-needed-le-RECORD w ↦ refused_long (places_of c.args.self.now.feed) c.args.self.now.records
           (c.self.inside.records + 1) c.args.self.now.kept w.in-Need.needed
-          (subst (λ (p : List ℕ). Decides p (scans.Need w.in-Need.needed)) front
+          (subst (λ (p : List ℕ). Decides p (scans.Need w.in-Need.needed)) leading
           (subst (λ (x : Scan). Decides c.as_slice.result.now x) w.in-Need.is c.scan.ensures.decides))
-          (subst (λ (p : List ℕ). HasNoShorter p w.in-Need.needed) front
+          (subst (λ (p : List ℕ). HasNoShorter p w.in-Need.needed) leading
           (c.scan.ensures.least w.in-Need.needed w.in-Need.is))
           (omega (arith, w.if-needed-le-RECORD.false)) next
       | in-Record+else-size-eq-RECORD w ↦
           let there = (c.scan.ensures.«record» w.in-Record.size).0 w.in-Record.is in
           refused_other (places_of c.args.self.now.feed) c.args.self.now.records
           (c.self.inside.records + 1) c.args.self.now.kept w.in-Record.size
-          (omega (arith, there.0, ap length front)) w.if-size-eq-RECORD.false
-          (subst (λ (p : List ℕ). Decides p (scans.Record w.in-Record.size)) front
+          (omega (arith, there.0, ap length leading)) w.if-size-eq-RECORD.false
+          (subst (λ (p : List ℕ). Decides p (scans.Record w.in-Record.size)) leading
           (subst (λ (x : Scan). Decides c.as_slice.result.now x) w.in-Record.is c.scan.ensures.decides))
-          (subst (λ (p : List ℕ). IsRecord (take w.in-Record.size p)) front there.1) next
+          (subst (λ (p : List ℕ). IsRecord (take w.in-Record.size p)) leading there.1) next
     ]
 
 pub returns-in-Need-2-clause-below : goal.returns-in-Need-2-clause-below

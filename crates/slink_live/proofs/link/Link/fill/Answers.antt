@@ -1,9 +1,9 @@
-use Rattle.slink_live.specs.Story.{none_asked}
+use Rattle.slink_live.specs.Story.{none_called}
 use Rattle.slink_live.proofs.Stories.{asks_then}
 use Rattle.slink_live.proofs.link.Link.fill.Goals as goal
 
 pub loop-ask-init : goal.loop-ask-init
-loop-ask-init c = record { asks = none_asked; fits = c.requires.fits }
+loop-ask-init c = record { asks = none_called; fits = c.requires.fits }
 
 pub loop-ask-preserved : goal.loop-ask-preserved
 loop-ask-preserved c = record {

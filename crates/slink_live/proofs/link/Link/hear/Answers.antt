@@ -63,7 +63,7 @@ loop-start-preserved c =
     (c.self.inside.pending.items ++ reply_bytes reply) =
     leads_on feed s c.self.inside.session c.take-used.new.self bytes way c.self.inside.pending.items start used reply
     before takes in
-    let said : length c.say.new.self.pending ≡ length c.self.inside.pending.items + length c.bytes.result.now =
+    let produced : length c.say.new.self.pending ≡ length c.self.inside.pending.items + length c.bytes.result.now =
     ap (λ (x : LinkState). length x.pending) c.say.ensures
     ∙ length-append c.self.inside.pending.items c.bytes.result.now in
     let short : length c.bytes.result.now ≤ 35 =
@@ -76,7 +76,7 @@ loop-start-preserved c =
       fits = subst (λ (x : LinkState). Fits feed x.session.state) (sym c.say.ensures) c.take-used.ensures.fits;
       room = omega (
         arith,
-        said,
+        produced,
         short,
         some,
         ap (λ (x : LinkState). length x.pending) c.self.view_is,

@@ -8,7 +8,7 @@ invariant-loop-start l = record {
   within : l.start ≤ length l.bytes;
   leads : Leads l.feed l.fn.self.session l.bytes l.fn.self.pending l.start l.self.session l.self.pending;
   fits : Fits l.feed l.self.session.state;
-  room : length l.self.pending + 35 * length l.bytes ≤ 3120 + 35 * l.start;
+  room : length l.self.pending + 35 * length l.bytes ≤ 6240 + 35 * l.start;
 }
 
 abbrev pub decreases-loop-start : goal.decreases-loop-start

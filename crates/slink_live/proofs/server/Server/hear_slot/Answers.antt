@@ -1,6 +1,6 @@
 use Rattle.std.proofs.Common.{◌<◌, subst, sym, length}
 use Rattle.slink_live.specs.Served.{IsSound, ServerState}
-use Rattle.slink_live.proofs.Steps.{heard_at, heard_on, heard_sound, link_fits, server_of}
+use Rattle.slink_live.proofs.Steps.{received_at, received_on, received_sound, link_fits, server_of}
 use Rattle.slink_live.proofs.server.Server.hear_slot.Goals as goal
 
 pub hear-requires : goal.hear-requires
@@ -14,7 +14,7 @@ hear-requires g c =
 
 pub returns-clause-sound : goal.returns-clause-sound
 returns-clause-sound g c =
-    heard_sound (server_of c.self.inside.intake c.self.inside.links.items c.self.inside.is_ended c.self.inside.reads)
+    received_sound (server_of c.self.inside.intake c.self.inside.links.items c.self.inside.is_ended c.self.inside.reads)
     c.args.self.now c.self.view_is c.args.slot
     c.requires.within c.index_mut.result.now c.hear.new.link c.index_mut.ensures.value
     (g.R.Ready.log c.args.ready.now) (g.R.Ready.log c.hear.new.ready) c.feed.result.now c.feed.ensures c.hear.ensures
@@ -22,14 +22,14 @@ returns-clause-sound g c =
 
 pub returns-clause-serving : goal.returns-clause-serving
 returns-clause-serving g c =
-    heard_on (server_of c.self.inside.intake c.self.inside.links.items c.self.inside.is_ended c.self.inside.reads)
+    received_on (server_of c.self.inside.intake c.self.inside.links.items c.self.inside.is_ended c.self.inside.reads)
     c.args.self.now c.self.view_is c.args.slot
     c.requires.within c.index_mut.result.now c.hear.new.link c.index_mut.ensures.value
     (g.R.Ready.log c.args.ready.now) (g.R.Ready.log c.hear.new.ready) c.feed.result.now c.feed.ensures c.hear.ensures
 
-pub returns-clause-heard : goal.returns-clause-heard
-returns-clause-heard g c =
-    heard_at (server_of c.self.inside.intake c.self.inside.links.items c.self.inside.is_ended c.self.inside.reads)
+pub returns-clause-received : goal.returns-clause-received
+returns-clause-received g c =
+    received_at (server_of c.self.inside.intake c.self.inside.links.items c.self.inside.is_ended c.self.inside.reads)
     c.args.self.now c.self.view_is c.args.slot
     c.requires.within c.index_mut.result.now c.hear.new.link c.index_mut.ensures.value
     (g.R.Ready.log c.args.ready.now) (g.R.Ready.log c.hear.new.ready) c.feed.result.now c.feed.ensures c.hear.ensures

@@ -10,5 +10,5 @@ pub returns-then-slot-len-clause-called : goal.returns-then-slot-len-clause-call
 returns-then-slot-len-clause-called g c =
     reads_from c.args.self.now.intake.feed c.args.slot (get_or c.args.self.now.links c.args.slot None)
     (get_or c.hear_slot.new.self.links c.args.slot None) (g.R.Ready.log c.args.ready.now)
-    (g.R.Ready.log c.hear_slot.new.ready) (g.R.Ready.log c.settle.new.ready) c.hear_slot.ensures.heard
+    (g.R.Ready.log c.hear_slot.new.ready) (g.R.Ready.log c.settle.new.ready) c.hear_slot.ensures.received
     c.settle.ensures.closes

@@ -1,4 +1,4 @@
-use Rattle.std.proofs.Common.{◌∙◌, ◌++◌, ◌∷◌, [], append-nil}
+use Rattle.std.proofs.Common.{refl, ◌∙◌, ◌++◌, ◌∷◌, [], append-nil}
 use Rattle.slink_live.specs.Happening.{Opened}
 use Rattle.slink_live.proofs.Slots.{closes_none, serving_at}
 use Rattle.slink_live.proofs.Steps.{new_sound, opened_on, server_of}
@@ -20,6 +20,7 @@ returns-then-accept-clause-serving g c =
 pub returns-then-accept-clause-called : goal.returns-then-accept-clause-called
 returns-then-accept-clause-called g c = (
   Opened c.args.slot ∷ [],
+  refl,
   closes_none (g.R.Ready.log c.args.ready.now ++ Opened c.args.slot ∷ []) (g.R.Ready.log c.wants.new.self)
       (c.wants.ensures.log ∙ c.if-accept.ensures.log),
 )

@@ -1,5 +1,9 @@
 use Rattle.std.proofs.lemmas.Result.{err_from_is_err_and}
-use Rattle.slink_live.proofs.Slots.{serving_at}
+use Rattle.std.proofs.Common.{◌∙◌, List, subst, sym}
+use Rattle.slink_live.specs.Happening.{Happening}
+use Rattle.slink_live.specs.Served.{StaysUnread}
+use Rattle.slink_live.proofs.Goes.{called_on, goes_both, goes_nowhere, unread_on}
+use Rattle.slink_live.proofs.Slots.{closes_input, serving_at}
 use Rattle.slink_live.proofs.server.Server.serve.Goals as goal
 
 pub returns-in-Nothing-clause-serving : goal.returns-in-Nothing-clause-serving
@@ -20,6 +24,18 @@ returns-in_err-step-in_default g c =
           (λ start v. c.in_err-step-in_default.ensures.fault start
           (serving_at start c.loop-turn.self (g.R.Ready.log c.loop-turn.ready) (g.R.Ready.log c.next.new.self)
           c.next.ensures.log (c.loop-turn.invariant.serving start v)));
+      grows = goes_both (g.R.Ready.log c.args.ready.now) (g.R.Ready.log c.loop-turn.ready)
+          (g.R.Ready.log c.step.new.ready)
+          c.loop-turn.invariant.grows
+          (goes_both (g.R.Ready.log c.loop-turn.ready) (g.R.Ready.log c.next.new.self) (g.R.Ready.log c.step.new.ready)
+          (goes_nowhere (g.R.Ready.log c.loop-turn.ready) (g.R.Ready.log c.next.new.self) c.next.ensures.log)
+          (called_on c.next.result c.loop-turn.self (g.R.Ready.log c.next.new.self) (g.R.Ready.log c.step.new.ready)
+          c.step.ensures.called));
+      unread = unread_on c.args.self.now c.loop-turn.self c.step.new.self (g.R.Ready.log c.args.ready.now)
+          (g.R.Ready.log c.next.new.self) (g.R.Ready.log c.step.new.ready) c.next.result
+          (subst (λ (x : List Happening).
+          StaysUnread c.args.self.now c.loop-turn.self (g.R.Ready.log c.args.ready.now) x)
+          (sym c.next.ensures.log) c.loop-turn.invariant.unread) c.step.ensures.kept c.step.ensures.called;
       ended = rw p.1 c.in_err-step-in_default.ensures.ended;
     }
 
@@ -29,6 +45,18 @@ loop-turn-preserved g c = record {
   serving = λ start v. c.step.ensures.serving start
       (serving_at start c.loop-turn.self (g.R.Ready.log c.loop-turn.ready) (g.R.Ready.log c.next.new.self)
       c.next.ensures.log (c.loop-turn.invariant.serving start v));
+  grows = goes_both (g.R.Ready.log c.args.ready.now) (g.R.Ready.log c.loop-turn.ready)
+      (g.R.Ready.log c.step.new.ready)
+      c.loop-turn.invariant.grows
+      (goes_both (g.R.Ready.log c.loop-turn.ready) (g.R.Ready.log c.next.new.self) (g.R.Ready.log c.step.new.ready)
+      (goes_nowhere (g.R.Ready.log c.loop-turn.ready) (g.R.Ready.log c.next.new.self) c.next.ensures.log)
+      (called_on c.next.result c.loop-turn.self (g.R.Ready.log c.next.new.self) (g.R.Ready.log c.step.new.ready)
+      c.step.ensures.called));
+  unread = unread_on c.args.self.now c.loop-turn.self c.step.new.self (g.R.Ready.log c.args.ready.now)
+      (g.R.Ready.log c.next.new.self) (g.R.Ready.log c.step.new.ready) c.next.result
+      (subst (λ (x : List Happening).
+      StaysUnread c.args.self.now c.loop-turn.self (g.R.Ready.log c.args.ready.now) x)
+      (sym c.next.ensures.log) c.loop-turn.invariant.unread) c.step.ensures.kept c.step.ensures.called;
 }
 
 pub returns-clause-serving : goal.returns-clause-serving
@@ -36,3 +64,10 @@ returns-clause-serving g c start v = c.give_up.ensures.serving start (c.loop-tur
 
 pub returns-clause-fault : goal.returns-clause-fault
 returns-clause-fault g c start v = c.give_up.ensures.fault start (c.loop-turn.invariant.serving start v)
+
+pub returns-clause-unread : goal.returns-clause-unread
+returns-clause-unread g c ended = (
+  c.give_up.ensures.ended,
+  closes_input (g.R.Ready.log c.loop-turn.ready) (g.R.Ready.log c.give_up.new.ready) c.give_up.ensures.closes
+      ∙ (c.loop-turn.invariant.unread ended).1,
+)
