@@ -61,7 +61,7 @@ impl Door {
         self.is_short = false;
     }
 
-    /// A link that dials, if there is one. Its bytes go out at once, where the stream can be told so.
+    /// A link that dials, if there is one. Its bytes go out at once, where the stream can be made so.
     pub(crate) fn accept(&mut self) -> Option<TcpStream> {
         match self.listener.accept() {
             Ok((stream, _)) => {

@@ -16,11 +16,11 @@ pub(crate) const INPUT: usize = 0;
 enum Stage {
     /// It goes on.
     Open,
-    /// It has ended: so it is told next.
+    /// It has ended: so it is reported next.
     Ended,
-    /// It has failed: so it is told next.
+    /// It has failed: so it is reported next.
     Failed,
-    /// That was told, or it isn't wanted any more.
+    /// That was reported, or it isn't wanted any more.
     Left,
 }
 
@@ -55,7 +55,7 @@ impl<I: Read + AsRawFd + Drop> Input<I> {
         self.may_read = true;
     }
 
-    /// What can be done with it. How it ended is told once.
+    /// What can be done with it. How it ended is reported once.
     pub(crate) fn news(&mut self) -> Option<Event>
         ensures { IfSome result (λ event. event ≡ Event.Nothing → ⊥) }
     {

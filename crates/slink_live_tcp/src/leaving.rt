@@ -26,7 +26,7 @@ struct Leaving {
 }
 
 impl Leaving {
-    /// Whether it stays: the other side hasn't closed it, said too many bytes, or had its time.
+    /// Whether it stays: the other side hasn't closed it, sent too many bytes, or had its time.
     fn stays(&mut self, now: Instant) -> bool {
         if now.saturating_duration_since(self.since) >= Duration::from_secs(PATIENCE) {
             return false;

@@ -13,6 +13,9 @@ const FIRST_WISHES: Wishes = Wishes {
     is_streaming: false,
 };
 
+/// Behind a write of more bytes than these, more is to be written: all that a link has waiting had no room.
+const LONG: usize = 5_720;
+
 /// A stream, what the server wants of it, and what may be had.
 #[derive(Drop)]
 struct Line {
@@ -20,9 +23,11 @@ struct Line {
     wishes: Wishes,
     may_read: bool,
     may_write: bool,
-    // The client says nothing more. What it asked for is written all the same.
+    // The client says nothing more. What it requested is written all the same.
     is_at_end: bool,
     is_gone: bool,
+    // What is written goes out at once, also where it is less than a segment.
+    is_prompt: bool,
     // Since when it has only so much time.
     waits_since: Option<Instant>,
 }
@@ -61,8 +66,19 @@ impl Line {
         if wishes.is_streaming && !self.wishes.is_streaming {
             self.waits_since = None;
         }
+        if !wishes.writes {
+            self.be_prompt(true);
+        }
         self.wishes = wishes;
         true
+    }
+
+    /// Whether what is written goes out at once. While more follows, the system puts it together to longer segments,
+    /// of which each wakes the client once.
+    fn be_prompt(&mut self, is_prompt: bool) {
+        if self.is_prompt != is_prompt && self.stream.set_nodelay(is_prompt).is_ok() {
+            self.is_prompt = is_prompt;
+        }
     }
 
     /// Takes note of the time, and answers whether the link has waited for too long: then it is gone.
@@ -121,6 +137,7 @@ impl Line {
     fn write(&mut self, bytes: &[u8]) -> usize
         ensures { result ≤ length bytes.now }
     {
+        self.be_prompt(bytes.len() <= LONG);
         match self.stream.write(bytes) {
             Ok(0) => {
                 self.is_gone = true;
@@ -159,6 +176,7 @@ impl Slot {
             may_write: true,
             is_at_end: false,
             is_gone: false,
+            is_prompt: true,
             waits_since: None,
         });
     }

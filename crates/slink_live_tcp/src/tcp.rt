@@ -369,7 +369,7 @@ impl<C: Clock, I: Read + AsRawFd + Drop> Ready for Tcp<'_, C, I> {
         } else {
             0
         };
-        self.log.heard(slot, &buf[..count]);
+        self.log.received(slot, &buf[..count]);
         count
     }
 
@@ -379,7 +379,7 @@ impl<C: Clock, I: Read + AsRawFd + Drop> Ready for Tcp<'_, C, I> {
         } else {
             0
         };
-        self.log.took(slot, &bytes[..count]);
+        self.log.emitted(slot, &bytes[..count]);
         count
     }
 
