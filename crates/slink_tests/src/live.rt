@@ -10,12 +10,12 @@ use std::alloc::{AllocError, Global};
 
 const SLOTS: usize = 3;
 
-/// A client: what it says, and what it took.
+/// A client: what it says, and what it accepted.
 #[derive(Drop)]
 struct Peer {
     says: Vec<u8>,
-    said: usize,
-    took: Vec<u8>,
+    produced: usize,
+    emitted: Vec<u8>,
 }
 
 /// A device in memory.
@@ -82,9 +82,9 @@ impl Script {
         let most = self.random(9);
         match self.peer(slot) {
             Some(k) if k < self.peers.len() => {
-                let said = self.peers[k].said.min(self.peers[k].says.len());
-                let count = copy(&self.peers[k].says[said..], most, buf);
-                self.peers[k].said = said.saturating_add(count);
+                let produced = self.peers[k].produced.min(self.peers[k].says.len());
+                let count = copy(&self.peers[k].says[produced..], most, buf);
+                self.peers[k].produced = produced.saturating_add(count);
                 count
             }
             _ => 0,
@@ -99,7 +99,7 @@ impl Script {
         let count = self.random(900).min(bytes.len());
         match self.peer(slot) {
             Some(k) if k < self.peers.len() && !self.is_deaf => {
-                match self.peers[k].took.extend_from_slice(&bytes[..count]) {
+                match self.peers[k].emitted.extend_from_slice(&bytes[..count]) {
                     Ok(()) => count,
                     Err(_) => 0,
                 }
@@ -167,13 +167,13 @@ impl Ready for Script {
 
     fn read(&mut self, slot: usize, buf: &mut [u8]) -> usize {
         let count = self.give(slot, buf);
-        self.log.heard(slot, &buf[..count]);
+        self.log.received(slot, &buf[..count]);
         count
     }
 
     fn write(&mut self, slot: usize, bytes: &[u8]) -> usize {
         let count = self.take(slot, bytes);
-        self.log.took(slot, &bytes[..count]);
+        self.log.emitted(slot, &bytes[..count]);
         count
     }
 
@@ -228,8 +228,8 @@ fn three_peers(alloc: Global) -> Result<Vec<Peer>, AllocError> {
         says.extend_from_slice(b"STATION STA XX\r\nDATA 999\r\nDATA 0\r\nEND\r\n")?;
         peers.push(Peer {
             says,
-            said: 0,
-            took: Vec::new(alloc),
+            produced: 0,
+            emitted: Vec::new(alloc),
         })?;
     }
     Ok(peers)
@@ -270,7 +270,7 @@ fn script_of(alloc: Global, input: Vec<u8>, seed: u64) -> Result<Script, AllocEr
     })
 }
 
-/// Three clients by an order of this seed: whether each took all that is owed to it, and the server answered so.
+/// Three clients by an order of this seed: whether each accepted all that is owed to it, and the server answered so.
 fn went_well(
     alloc: Global,
     input: Vec<u8>,
@@ -285,7 +285,7 @@ fn went_well(
     is_well = is_well && server.serve(&mut script).is_ok() && script.left > 0;
     let owed = owed(alloc, 9)?;
     for peer in &script.peers {
-        is_well = is_well && (peer.took == owed || peer.said == 0);
+        is_well = is_well && (peer.emitted == owed || peer.produced == 0);
     }
     Ok(is_well)
 }
@@ -302,7 +302,7 @@ fn each_takes_what_is_owed_in_any_order(rt: HostRuntime) -> Result<(), AllocErro
 }
 
 #[test]
-fn a_record_that_is_cut_off_is_told(rt: HostRuntime) -> Result<(), AllocError> {
+fn a_record_that_is_cut_off_is_reported(rt: HostRuntime) -> Result<(), AllocError> {
     let mut input = records(rt.alloc(), 9)?;
     input.extend_from_slice(b"000001D ")?;
     let fault = InputFault::Stream(StreamFault::Truncated(4608, 8));

@@ -77,9 +77,9 @@ fn each_link_has_the_record_and_a_silent_one_is_given_up(rt: HostRuntime) -> Res
     wanted.extend_from_slice(b"OK\r\nOK\r\nSL000000")?;
     wanted.extend_from_slice(&record())?;
     for stream in &mut streams {
-        let mut told = Vec::new(rt.alloc());
-        stream.read_to_end(&mut told)?;
-        assert!(rt; told.as_slice() == wanted.as_slice());
+        let mut reported = Vec::new(rt.alloc());
+        stream.read_to_end(&mut reported)?;
+        assert!(rt; reported.as_slice() == wanted.as_slice());
     }
     assert!(rt; silent.read(&mut [0; 1])? == 0);
     drop(streams);

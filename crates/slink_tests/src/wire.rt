@@ -71,9 +71,9 @@ fn takes_lines_in_pieces(rt: HostRuntime) {
         (b"\nEND\r", 5, Some(b"END")),
     ];
     for (piece, used, line) in cases {
-        let took = lines.take(piece);
-        assert_eq!(rt; took.used, used);
-        match took.what {
+        let emitted = lines.take(piece);
+        assert_eq!(rt; emitted.used, used);
+        match emitted.what {
             What::Line(found) => assert_eq!(rt; Some(found.as_slice()), line),
             What::More => assert!(rt; line.is_none()),
             What::TooLong => assert!(rt; false, "too long"),
@@ -86,15 +86,15 @@ fn ends_at_a_line_too_long(rt: HostRuntime) {
     let mut lines = Lines::new();
     let mut longest = [b'A'; 256];
     longest[255] = b'\r';
-    let took = lines.take(&longest);
-    assert_eq!(rt; took.used, 256);
-    assert!(rt; matches!(took.what, What::Line(line) if line.len() == 255));
-    let took = lines.take(&[b'A'; 300]);
-    assert_eq!(rt; took.used, 256);
-    assert!(rt; matches!(took.what, What::TooLong));
-    let took = lines.take(b"END\r");
-    assert_eq!(rt; took.used, 0);
-    assert!(rt; matches!(took.what, What::TooLong));
+    let emitted = lines.take(&longest);
+    assert_eq!(rt; emitted.used, 256);
+    assert!(rt; matches!(emitted.what, What::Line(line) if line.len() == 255));
+    let emitted = lines.take(&[b'A'; 300]);
+    assert_eq!(rt; emitted.used, 256);
+    assert!(rt; matches!(emitted.what, What::TooLong));
+    let emitted = lines.take(b"END\r");
+    assert_eq!(rt; emitted.used, 0);
+    assert!(rt; matches!(emitted.what, What::TooLong));
 }
 
 #[test]
@@ -190,9 +190,9 @@ fn reads_a_stream_cut_at_random(rt: HostRuntime) {
     for piece in stream::PIECES {
         let mut rest = piece;
         for _ in 0..64 {
-            let took = lines.take(rest);
-            rest = &rest[took.used..];
-            match took.what {
+            let emitted = lines.take(rest);
+            rest = &rest[emitted.used..];
+            match emitted.what {
                 What::More => break,
                 What::Line(line) => assert_eq!(rt; Some(&Command::read(&line)), wanted.next()),
                 What::TooLong => {

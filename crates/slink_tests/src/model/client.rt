@@ -1,5 +1,7 @@
 //! Worked rows of clients.
 
+ghost use Rattle.std.specs.Prelude.{◌^◌, ◌<◌};
+
 use super::{place, record};
 use slink_feed::{Client, Event, Mode};
 use slink_wire::Packet;
@@ -14,63 +16,62 @@ pub(crate) fn awaiting_packets() -> Result<Client, Fail> {
     Ok(client)
 }
 
+/// Whether a client takes so many of these bytes, and they come to this.
+fn takes(client: &mut Client, bytes: &[u8], count: usize, wanted: &Event) -> bool {
+    let (used, event) = client.take(bytes);
+    used == count && event == *wanted
+}
+
+/// Whether a client takes these bytes whole, ends so, and stays so.
+fn ends(client: &mut Client, bytes: &[u8], wanted: &Event) -> bool {
+    takes(client, bytes, bytes.len(), wanted) && takes(client, bytes, 0, wanted)
+}
+
+/// Whether a new link begins with the line of its place.
+fn begins_anew(client: &mut Client) -> bool {
+    client.connect().as_slice() == b"STATION STA XX\r\n".as_slice()
+}
+
+/// Whether a client that awaits a reply ends so at these bytes. Before there is a link it takes them, and says nothing.
+fn is_refused_at(bytes: &[u8], wanted: &Event) -> Result<bool, Fail> {
+    let mut client = Client::new(&[(place(b"STA")?, None)], Mode::Fetch);
+    let is_quiet = takes(&mut client, bytes, bytes.len(), &Event::None);
+    Ok(is_quiet && begins_anew(&mut client) && ends(&mut client, bytes, wanted))
+}
+
 #[test]
 fn ends_at_what_is_no_reply(rt: HostRuntime) -> Result<(), Fail> {
-    let cases: [(&[u8], Event); 4] = [
-        (b"OKAY\r\n", Event::Garbage),
-        (&[b'A'; 256], Event::Garbage),
-        (b"ERROR busy\r\n", Event::Refused(0)),
-        (b"ERRORS\r\n", Event::Refused(0)),
-    ];
-    for (bytes, wanted) in &cases {
-        let mut client = Client::new(&[(place(b"STA")?, None)], Mode::Fetch);
-        assert_eq!(rt; client.take(bytes), (bytes.len(), Event::None));
-        assert_eq!(rt;
-            client.connect().as_slice(),
-            b"STATION STA XX\r\n".as_slice()
-        );
-        let (used, event) = client.take(bytes);
-        assert_eq!(rt; used, bytes.len());
-        assert_eq!(rt; event, *wanted);
-        let (used, event) = client.take(bytes);
-        assert_eq!(rt; used, 0);
-        assert_eq!(rt; event, *wanted);
-    }
+    assert!(rt; is_refused_at(b"OKAY\r\n", &Event::Garbage)?);
+    assert!(rt; is_refused_at(&[b'A'; 256], &Event::Garbage)?);
+    assert!(rt; is_refused_at(b"ERROR busy\r\n", &Event::Refused(0))?);
+    assert!(rt; is_refused_at(b"ERRORS\r\n", &Event::Refused(0))?);
     Ok(())
+}
+
+/// Whether a client that awaits packets ends so at these bytes, and wants the same record over a new link.
+fn is_ended_by(bytes: &[u8], wanted: &Event) -> Result<bool, Fail> {
+    let mut client = awaiting_packets()?;
+    Ok(ends(&mut client, bytes, wanted) && client.next(0) == Some(1) && begins_anew(&mut client))
 }
 
 #[test]
 fn ends_at_what_is_no_packet(rt: HostRuntime) -> Result<(), Fail> {
-    let cases: [(&[u8], Event); 7] = [
-        (
-            &Packet::write(2, &record(b"STA  ", 0)),
-            Event::Gap {
-                place: 0,
-                want: 1,
-                got: 2,
-            },
-        ),
-        (&Packet::write(1, &record(b"ABC  ", 0)), Event::Foreign),
-        (b"SL00000g", Event::Garbage),
-        (b"SXabcdef", Event::Garbage),
-        (b"X", Event::Garbage),
-        (b"ENX", Event::Garbage),
-        (b"END", Event::End),
-    ];
-    for (bytes, wanted) in &cases {
-        let mut client = awaiting_packets()?;
-        let (used, event) = client.take(bytes);
-        assert_eq!(rt; used, bytes.len());
-        assert_eq!(rt; event, *wanted);
-        let (used, event) = client.take(bytes);
-        assert_eq!(rt; used, 0);
-        assert_eq!(rt; event, *wanted);
-        assert_eq!(rt; client.next(0), Some(1));
-        assert_eq!(rt;
-            client.connect().as_slice(),
-            b"STATION STA XX\r\n".as_slice()
-        );
+    for bytes in [b"SL00000g".as_slice(), b"SXabcdef", b"X", b"ENX"] {
+        assert!(rt; is_ended_by(bytes, &Event::Garbage)?);
     }
+    assert!(rt; is_ended_by(b"END", &Event::End)?);
+    Ok(())
+}
+
+#[test]
+fn ends_at_the_packet_of_another_record(rt: HostRuntime) -> Result<(), Fail> {
+    let gap = Event::Gap {
+        place: 0,
+        want: 1,
+        got: 2,
+    };
+    assert!(rt; is_ended_by(&Packet::write(2, &record(b"STA  ", 0)), &gap)?);
+    assert!(rt; is_ended_by(&Packet::write(1, &record(b"ABC  ", 0)), &Event::Foreign)?);
     Ok(())
 }
 
@@ -87,30 +88,49 @@ fn written(event: &Event) -> &[u8] {
     }
 }
 
-#[test]
-fn asks_for_each_place(rt: HostRuntime) -> Result<(), Fail> {
+/// Whether a client answers one of two replies with this line.
+fn says(client: &mut Client, line: &[u8]) -> bool {
+    let (used, event) = client.take(b"OK\r\nOK\r\n");
+    used == 4 && written(&event) == line
+}
+
+/// A client of two places, over its first link.
+fn of_two_places() -> Result<Client, Fail> {
     let places = [(place(b"STA")?, Some(0xFF_FFFF)), (place(b"STB")?, None)];
     let mut client = Client::new(&places, Mode::Data);
     client.connect();
-    let dialogue: [&[u8]; 4] = [
-        b"DATA FFFFFF\r\n",
-        b"STATION STB XX\r\n",
-        b"DATA\r\n",
-        b"END\r\n",
-    ];
-    for wanted in dialogue {
-        let (used, event) = client.take(b"OK\r\nOK\r\n");
-        assert_eq!(rt; used, 4);
-        assert_eq!(rt; written(&event), wanted);
-    }
+    Ok(client)
+}
+
+/// Whether a client of two places requests both.
+fn requests_both(client: &mut Client) -> bool {
+    says(client, b"DATA FFFFFF\r\n")
+        && says(client, b"STATION STB XX\r\n")
+        && says(client, b"DATA\r\n")
+        && says(client, b"END\r\n")
+}
+
+/// Whether a packet brings its record.
+fn brings(client: &mut Client, place: usize, number: u32, record: &[u8; 512]) -> bool
+    requires { number < 2 ^ 24 }
+{
+    takes(
+        client,
+        &Packet::write(number, record),
+        520,
+        &Event::Record(place, number, *record),
+    )
+}
+
+#[test]
+fn asks_for_each_place(rt: HostRuntime) -> Result<(), Fail> {
     let first = record(b"STA  ", 1);
-    let other = record(b"STB  ", 2);
-    let told = client.take(&Packet::write(0xFF_FFFF, &first));
-    assert_eq!(rt; told, (520, Event::Record(0, 0xFF_FFFF, first)));
-    let told = client.take(&Packet::write(7, &other));
-    assert_eq!(rt; told, (520, Event::Record(1, 7, other)));
-    let told = client.take(all_but_one(&Packet::write(0, &first)));
-    assert_eq!(rt; told, (519, Event::None));
+    let mut client = of_two_places()?;
+    assert!(rt; requests_both(&mut client));
+    assert!(rt; brings(&mut client, 0, 0xFF_FFFF, &first));
+    assert!(rt; brings(&mut client, 1, 7, &record(b"STB  ", 2)));
+    let reported = client.take(all_but_one(&Packet::write(0, &first)));
+    assert_eq!(rt; reported, (519, Event::None));
     assert_eq!(rt; client.next(0), Some(0));
     assert_eq!(rt; client.next(1), Some(8));
     client.connect();

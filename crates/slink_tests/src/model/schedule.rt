@@ -38,36 +38,63 @@ fn world_of(alloc: Global, steps: &[Step]) -> Result<World, Fail> {
     Ok(run_schedule(alloc, &setup, steps).map_err(|_| "no memory")?)
 }
 
-#[test]
-fn goes_on_behind_the_last_record(rt: HostRuntime) -> Result<(), Fail> {
-    let records = [
+/// Three records of the place.
+fn records() -> [[u8; 512]; 3] {
+    [
         record(b"STA  ", 0),
         record(b"STA  ", 1),
         record(b"STA  ", 2),
-    ];
-    let mut steps = Vec::new(rt.alloc());
+    ]
+}
+
+/// The first record is pushed, and comes whole.
+fn one_comes(alloc: Global, records: &[[u8; 512]; 3]) -> Result<Vec<Step>, Fail> {
+    let mut steps = Vec::new(alloc);
     steps.push(Step::Append(0, records[0]))?;
     steps.extend_from_slice(&SHAKE)?;
     steps.extend_from_slice(&[Step::Send(0), Step::ToClient(520)])?;
-    let world = world_of(rt.alloc(), &steps)?;
-    assert_eq!(rt; first(&world.held), &records[..1]);
-    steps.extend_from_slice(&[
-        Step::Append(0, records[1]),
-        Step::Append(0, records[2]),
-        Step::Send(0),
-        Step::ToClient(519),
-        Step::Cut,
-    ])?;
-    let world = world_of(rt.alloc(), &steps)?;
-    assert_eq!(rt; first(&world.held), &records[..1]);
-    assert_eq!(rt; world.client.next(0), Some(1));
+    Ok(steps)
+}
+
+/// Two more are pushed.
+fn two_are_pushed(steps: &mut Vec<Step>, records: &[[u8; 512]; 3]) -> Result<(), Fail> {
+    Ok(steps.extend_from_slice(&[Step::Append(0, records[1]), Step::Append(0, records[2])])?)
+}
+
+/// The next packet comes but for its last byte.
+fn is_cut(steps: &mut Vec<Step>) -> Result<(), Fail> {
+    Ok(steps.extend_from_slice(&[Step::Send(0), Step::ToClient(519), Step::Cut])?)
+}
+
+/// Two packets come over a new link.
+fn two_come(steps: &mut Vec<Step>) -> Result<(), Fail> {
     steps.extend_from_slice(&SHAKE)?;
-    steps.extend_from_slice(&[Step::Send(0), Step::Send(0), Step::ToClient(1040)])?;
-    let world = world_of(rt.alloc(), &steps)?;
-    assert_eq!(rt; first(&world.held), &records[..]);
-    assert_eq!(rt; first(&world.pushed), &records[..]);
-    assert_eq!(rt; world.client.next(0), Some(3));
-    assert_eq!(rt; world.start.as_slice(), [Some(0)].as_slice());
+    Ok(steps.extend_from_slice(&[Step::Send(0), Step::Send(0), Step::ToClient(1040)])?)
+}
+
+/// Whether a client holds these records after these steps, and wants this number next.
+fn holds(alloc: Global, steps: &[Step], held: &[[u8; 512]], next: u32) -> Result<bool, Fail> {
+    let world = world_of(alloc, steps)?;
+    Ok(first(&world.held) == held && world.client.next(0) == Some(next))
+}
+
+/// Whether these records were pushed in these steps, behind the start.
+fn was_pushed(alloc: Global, steps: &[Step], pushed: &[[u8; 512]]) -> Result<bool, Fail> {
+    let world = world_of(alloc, steps)?;
+    Ok(first(&world.pushed) == pushed && world.start.as_slice() == [Some(0)].as_slice())
+}
+
+#[test]
+fn goes_on_behind_the_last_record(rt: HostRuntime) -> Result<(), Fail> {
+    let records = records();
+    let mut steps = one_comes(rt.alloc(), &records)?;
+    assert!(rt; holds(rt.alloc(), &steps, &records[..1], 1)?);
+    two_are_pushed(&mut steps, &records)?;
+    is_cut(&mut steps)?;
+    assert!(rt; holds(rt.alloc(), &steps, &records[..1], 1)?);
+    two_come(&mut steps)?;
+    assert!(rt; holds(rt.alloc(), &steps, &records, 3)?);
+    assert!(rt; was_pushed(rt.alloc(), &steps, &records)?);
     Ok(())
 }
 
@@ -98,25 +125,28 @@ fn cut_after(steps: &mut Vec<Step>, count: usize) -> Result<(), Fail> {
     Ok(steps.push(Step::Cut)?)
 }
 
+/// The steps of a link that is cut after so many bytes, and of one that goes on.
+fn cut_and_gone_on(
+    alloc: Global,
+    records: &[[u8; 512]; 3],
+    count: usize,
+) -> Result<Vec<Step>, Fail> {
+    let mut steps = one_comes(alloc, records)?;
+    two_are_pushed(&mut steps, records)?;
+    cut_after(&mut steps, count)?;
+    two_come(&mut steps)?;
+    Ok(steps)
+}
+
 #[test]
 fn goes_on_wherever_a_link_is_cut(rt: HostRuntime) -> Result<(), Fail> {
-    let records = [
-        record(b"STA  ", 0),
-        record(b"STA  ", 1),
-        record(b"STA  ", 2),
-    ];
+    let records = records();
     for count in 0..1083 {
-        let mut steps = Vec::new(rt.alloc());
-        steps.push(Step::Append(0, records[0]))?;
-        steps.extend_from_slice(&SHAKE)?;
-        steps.extend_from_slice(&[Step::Send(0), Step::ToClient(520)])?;
-        steps.extend_from_slice(&[Step::Append(0, records[1]), Step::Append(0, records[2])])?;
-        cut_after(&mut steps, count)?;
-        steps.extend_from_slice(&SHAKE)?;
-        steps.extend_from_slice(&[Step::Send(0), Step::Send(0), Step::ToClient(1040)])?;
-        let world = world_of(rt.alloc(), &steps)?;
-        assert_eq!(rt; first(&world.held), &records[..]);
-        assert_eq!(rt; world.client.next(0), Some(3));
+        let steps = cut_and_gone_on(rt.alloc(), &records, count)?;
+        assert!(rt;
+            holds(rt.alloc(), &steps, &records, 3)?,
+            "cut after {count} bytes"
+        );
     }
     Ok(())
 }

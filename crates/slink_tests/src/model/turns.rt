@@ -12,16 +12,16 @@ use std::test::Fail;
 /// Tells its bytes, and takes bytes while there is room; then it fails.
 #[derive(Drop)]
 struct Pipe<'a> {
-    told: &'a [u8],
+    reported: &'a [u8],
     room: usize,
 }
 
 impl Read for Pipe<'_> {
     fn read(&mut self, buf: &mut [u8]) -> io::Result<usize> {
-        let n = self.told.len().min(buf.len());
-        let (told, rest) = self.told.split_at(n);
-        buf[..n].copy_from_slice(told);
-        self.told = rest;
+        let n = self.reported.len().min(buf.len());
+        let (reported, rest) = self.reported.split_at(n);
+        buf[..n].copy_from_slice(reported);
+        self.reported = rest;
         Ok(n)
     }
 }
@@ -42,8 +42,8 @@ impl Write for Pipe<'_> {
 }
 
 /// A link that tells these bytes, and has room for so many.
-fn link_of(told: &[u8], room: usize) -> Counted<Pipe<'_>> {
-    Counted::new(Pipe { told, room })
+fn link_of(reported: &[u8], room: usize) -> Counted<Pipe<'_>> {
+    Counted::new(Pipe { reported, room })
 }
 
 #[test]
@@ -68,15 +68,15 @@ fn serves_until_the_link_fails(rt: HostRuntime) -> Result<(), Fail> {
 
 /// The packets of records 1 and 2 of STA.
 fn two_packets() -> [u8; 1040] {
-    let mut told = [0; 1040];
-    told[..520].copy_from_slice(&Packet::write(1, &record(b"STA  ", 1)));
-    told[520..].copy_from_slice(&Packet::write(2, &record(b"STA  ", 2)));
-    told
+    let mut reported = [0; 1040];
+    reported[..520].copy_from_slice(&Packet::write(1, &record(b"STA  ", 1)));
+    reported[520..].copy_from_slice(&Packet::write(2, &record(b"STA  ", 2)));
+    reported
 }
 
 #[test]
 fn fetches_until_the_output_fails(rt: HostRuntime) -> Result<(), Fail> {
-    let told = two_packets();
+    let reported = two_packets();
     // The first turn reads 1024 bytes, in which the second packet isn't whole.
     let rows: [(usize, &[Result<Turn, LinkFault>], u32); 3] = [
         (511, &[Err(LinkFault::Output(511))], 2),
@@ -85,7 +85,7 @@ fn fetches_until_the_output_fails(rt: HostRuntime) -> Result<(), Fail> {
     ];
     for (room, turns, next) in &rows {
         let mut client = awaiting_packets()?;
-        let mut link = link_of(&told, 0);
+        let mut link = link_of(&reported, 0);
         let mut output = link_of(b"", *room);
         for wanted in *turns {
             assert_eq!(rt; fetch_turn(&mut client, &mut link, &mut output), *wanted);

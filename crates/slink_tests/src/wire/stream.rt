@@ -81,7 +81,7 @@ pub const PIECES: [&[u8]; 75] = [
     b"     \rEND\r",
 ];
 
-/// What its lines in front of that one command.
+/// What its lines before that one command say.
 pub const COMMANDS: [Command; 59] = [
     Command::Fetch(Some(10)),
     Command::Fetch(Some(10)),
