@@ -22,7 +22,7 @@ use Rattle.slink_wire.specs.Place.{Bears, Fields}
 use Rattle.slink_feed.specs.Rings.{HasPlace}
 use Rattle.slink_feed.specs.Window.{Shows, Window, window, with_record}
 use Rattle.slink_feed.proofs.Items.{one_value, same_or_not, shows_more, within_is}
-use Rattle.mseed.specs.Places.{Asked, are_different, has_place, is_same}
+use Rattle.mseed.specs.Places.{Called, are_different, has_place, is_same}
 use Rattle.mseed.specs.FeedWords.{CanServe}
 use Rattle.mseed.specs.Filling.{AreOfFeed, IsFilling, IsOfFeed, IsPushed, feed_of, is_of, records_of, ring_of, served}
 use Rattle.mseed.specs.Filling.{stream_fault}
@@ -122,7 +122,7 @@ same_self : (p : Fields) → is_same p p ≡ true
 same_self p = ap (λ (t : Bool). t && bytes_eq p.network p.network) ((bytes_eq-Decides p.station p.station).1 refl)
     ∙ (bytes_eq-Decides p.network p.network).1 refl
 
-lacks_of : (p : Fields) (qs : List Asked) → has_place p qs ≡ false → Lacks p (map (λ (q : Asked). q.0) qs)
+lacks_of : (p : Fields) (qs : List Called) → has_place p qs ≡ false → Lacks p (map (λ (q : Called). q.0) qs)
 lacks_of p [] h = tt
 lacks_of p (q ∷ qs) h =
     let each : (is_same q.0 p ≡ false) × (has_place p qs ≡ false) = none_true (is_same q.0 p) (has_place p qs) h in (
@@ -135,7 +135,7 @@ lacks_of p (q ∷ qs) h =
     none_true true b h = absurd (let bad : true ≡ false = h in cc bad)
     none_true false b h = (refl, h)
 
-pub distinct_of : (ps : List Asked) → are_different ps ≡ true → Distinct (map (λ (q : Asked). q.0) ps)
+pub distinct_of : (ps : List Called) → are_different ps ≡ true → Distinct (map (λ (q : Called). q.0) ps)
 distinct_of [] h = tt
 distinct_of (p ∷ ps) h =
     let each : (not (has_place p.0 ps) ≡ true) × (are_different ps ≡ true) =
@@ -249,12 +249,12 @@ empty_ring s p =
     ∙ ap (λ (n : ℕ). record { place = p; capacity = s.capacity; records = window s.capacity []; next = n })
     {x = s.first} {y = s.first + 0} (omega arith)
 
-pub no_double : (s : Serving) (ps : List Asked) (i : ℕ) (p : Asked) → Distinct (map (λ (q : Asked). q.0) ps)
-    → slice_get ps i ≡ Some p → HasPlace (map (ring_of s []) (map (λ (q : Asked). q.0) (take i ps))) p.0 → ⊥
+pub no_double : (s : Serving) (ps : List Called) (i : ℕ) (p : Called) → Distinct (map (λ (q : Called). q.0) ps)
+    → slice_get ps i ≡ Some p → HasPlace (map (ring_of s []) (map (λ (q : Called). q.0) (take i ps))) p.0 → ⊥
 no_double s [] i p distinct is has = absurd (let bad : None ≡ Some p = is in cc bad)
 no_double s (q ∷ qs) zero p distinct is has = has
 no_double s (q ∷ qs) (suc i) p distinct is (inl same) =
-    lacks_at q.0 p.0 (map (λ (a : Asked). a.0) qs) i distinct.0 (map_got (λ (a : Asked). a.0) qs i p is) (sym same)
+    lacks_at q.0 p.0 (map (λ (a : Called). a.0) qs) i distinct.0 (map_got (λ (a : Called). a.0) qs i p is) (sym same)
 no_double s (q ∷ qs) (suc i) p distinct is (inr more) = no_double s qs i p distinct.1 is more
 
 -- a record of 512 bytes was pushed
@@ -297,28 +297,28 @@ bears_not v r place t same tells is bears = let bad : false ≡ true =
 
 -- The feed while rings are added.
 abbrev opening : Serving → ℕ → List Window
-opening s i = map (ring_of s []) (map (λ (p : Asked). p.0) (take i s.places))
+opening s i = map (ring_of s []) (map (λ (p : Called). p.0) (take i s.places))
 
-item_there : (ps : List Asked) (i : ℕ) (p : Asked) → i < length ps → p ≡ get_or ps i p → slice_get ps i ≡ Some p
+item_there : (ps : List Called) (i : ℕ) (p : Called) → i < length ps → p ≡ get_or ps i p → slice_get ps i ≡ Some p
 item_there ps i p lt is = slice_get_read ps (length ps) i p refl lt is
 
 pub opened_few : (s : Serving) (i : ℕ) (feed : List Window) → i < length s.places → length s.places ≤ 16
     → feed ≡ opening s i → length feed < 16
 opened_few s i feed lt most is =
     let size : length feed ≡ length (opening s i) = ap length is in
-    let rings : length (opening s i) ≡ length (map (λ (p : Asked). p.0) (take i s.places)) =
-    length-map (map (λ (p : Asked). p.0) (take i s.places)) (ring_of s []) in
-    let few : length (map (λ (p : Asked). p.0) (take i s.places)) ≡ length (take i s.places) =
-    length-map (take i s.places) (λ (p : Asked). p.0) in
+    let rings : length (opening s i) ≡ length (map (λ (p : Called). p.0) (take i s.places)) =
+    length-map (map (λ (p : Called). p.0) (take i s.places)) (ring_of s []) in
+    let few : length (map (λ (p : Called). p.0) (take i s.places)) ≡ length (take i s.places) =
+    length-map (take i s.places) (λ (p : Called). p.0) in
     let short : length (take i s.places) ≤ i = take_short i s.places in
     omega (arith, size, rings, few, short, lt, most)
   where
-    take_short : (n : ℕ) (xs : List Asked) → length (take n xs) ≤ n
+    take_short : (n : ℕ) (xs : List Called) → length (take n xs) ≤ n
     take_short zero xs = omega arith
     take_short (suc n) [] = omega arith
     take_short (suc n) (x ∷ xs) = let more : length (take n xs) ≤ n = take_short n xs in omega (arith, more)
 
-pub opened_other : (s : Serving) (i : ℕ) (p : Asked) (feed : List Window) (ring : Window)
+pub opened_other : (s : Serving) (i : ℕ) (p : Called) (feed : List Window) (ring : Window)
     → are_different s.places ≡ true → i < length s.places → p ≡ get_or s.places i p
     → ring ≡ record { place = p.0; capacity = s.capacity; records = []; next = s.first } → feed ≡ opening s i
     → ¬ (HasPlace feed ring.place)
@@ -326,19 +326,19 @@ opened_other s i p feed ring different lt item is opened has =
     no_double s s.places i p (distinct_of s.places different) (item_there s.places i p lt item)
     (subst (λ (ws : List Window). HasPlace ws p.0) opened (subst (HasPlace feed) (ap (λ (w : Window). w.place) is) has))
 
-pub opened_more : (s : Serving) (i : ℕ) (p : Asked) (feed new : List Window) (ring : Window) → i < length s.places
+pub opened_more : (s : Serving) (i : ℕ) (p : Called) (feed new : List Window) (ring : Window) → i < length s.places
     → p ≡ get_or s.places i p → ring ≡ record { place = p.0; capacity = s.capacity; records = []; next = s.first }
     → feed ≡ opening s i → new ≡ feed ++ ring ∷ [] → new ≡ opening s (i + 1)
 opened_more s i p feed new ring lt item is opened added =
     added ∙ (ap (λ (ws : List Window). ws ++ ring ∷ []) opened
     ∙ (ap (λ (w : Window). opening s i ++ w ∷ []) (is
-    ∙ (empty_ring s p.0 ∙ ap (λ (q : Asked). ring_of s [] q.0) item))
-    ∙ (sym (map-append (ring_of s []) (map (λ (q : Asked). q.0) (take i s.places)) ((get_or s.places i p).0 ∷ []))
-    ∙ ap (map (ring_of s [])) (sym (map_more (λ (q : Asked). q.0) s.places i p lt)))))
+    ∙ (empty_ring s p.0 ∙ ap (λ (q : Called). ring_of s [] q.0) item))
+    ∙ (sym (map-append (ring_of s []) (map (λ (q : Called). q.0) (take i s.places)) ((get_or s.places i p).0 ∷ []))
+    ∙ ap (map (ring_of s [])) (sym (map_more (λ (q : Called). q.0) s.places i p lt)))))
 
 pub opened_all : (s : Serving) (i : ℕ) (feed : List Window) → length s.places ≤ i → feed ≡ opening s i
     → feed ≡ feed_of s []
-opened_all s i feed past opened = opened ∙ ap (λ (ps : List Asked). map (ring_of s []) (map (λ (q : Asked). q.0) ps))
+opened_all s i feed past opened = opened ∙ ap (λ (ps : List Called). map (ring_of s []) (map (λ (q : Called). q.0) ps))
     (take_all i s.places past)
 
 -- the numbers stay small
@@ -353,17 +353,17 @@ next_small s views calls feed k w first few is there =
 bytes_more : (views : List View) (v : View) → bytes_in (views ++ v ∷ []) ≡ bytes_in views ++ v.bytes ∷ []
 bytes_more views v = map-append (λ (x : View). x.bytes) views (v ∷ [])
 
-pub feed_told : (s : Serving) (views : List View) (v : View) (r : List ℕ) (feed new : List Window)
+pub feed_reported : (s : Serving) (views : List View) (v : View) (r : List ℕ) (feed new : List Window)
     → are_different s.places ≡ true → r ≡ v.bytes → feed ≡ feed_of s (bytes_in views) → IsPushed feed r new
     → new ≡ feed_of s (bytes_in (views ++ v ∷ []))
-feed_told s views v r feed new different same is pushed =
+feed_reported s views v r feed new different same is pushed =
     feed_more s (bytes_in views) r feed new different is pushed
     ∙ ap (feed_of s) (ap (λ (x : List ℕ). bytes_in views ++ x ∷ []) same ∙ sym (bytes_more views v))
 
-pub records_told : (s : Serving) (views : List View) (v : View) (r : List ℕ) (feed new : List Window) → r ≡ v.bytes
+pub records_reported : (s : Serving) (views : List View) (v : View) (r : List ℕ) (feed new : List Window) → r ≡ v.bytes
     → feed ≡ feed_of s (bytes_in views) → IsPushed feed r new → AreOfFeed (served s) (bytes_in views)
     → AreOfFeed (served s) (bytes_in (views ++ v ∷ []))
-records_told s views v r feed new same is pushed before =
+records_reported s views v r feed new same is pushed before =
     subst (AreOfFeed (served s)) (sym (bytes_more views v))
     (all_of_feed (served s) (bytes_in views) v.bytes before
     (subst (IsOfFeed (served s)) same (of_feed s (bytes_in views) r feed new is pushed)))
@@ -374,7 +374,7 @@ pub handed_on : (r : Result (Option RecordView) StreamFault) (o : Option RecordV
 handed_on r o view P is some goes =
     subst (λ (q : Result (Option RecordView) StreamFault). IfGoesOn q P) (is ∙ ap Ok some) goes
 
--- the next record, by whether a ring took it
+-- the next record, by whether a ring accepted it
 pub pushed_next : (s : Serving) (views : List View) (view : View) (bytes : List ℕ) (number : ℕ)
     (result : Result Step FillFault) (is_pushed : Bool) (feed new : List Window) (old h : BytesRead) (c : Standing)
     → CanServe s → bytes ≡ view.bytes → HasHandedOut h c (views ++ view ∷ []) → old.calls < h.calls
@@ -384,7 +384,7 @@ pub pushed_next : (s : Serving) (views : List View) (view : View) (bytes : List 
     → (k : ℕ) (w : Window) → slice_get feed k ≡ Some w → ¬ (Bears bytes w.place))
     → OnTrue is_pushed (result ≡ Ok Pushed) → OnFalse is_pushed (result ≡ Err (Foreign number))
     → IsNextPushed s result views old h c new
-pushed_next s views view bytes number result is_pushed feed new old h c can same handed asked each is n =
+pushed_next s views view bytes number result is_pushed feed new old h c can same handed called each is n =
     by_test is_pushed
   where
     by_test : (t : Bool) → OnTrue t (IsPushed feed bytes new)
@@ -397,10 +397,10 @@ pushed_next s views view bytes number result is_pushed feed new old h c can same
           view = view;
           filled = record {
             handed = handed;
-            each = records_told s views view bytes feed new same is pushed each;
-            feed_is = feed_told s views view bytes feed new can.places.different same is pushed;
+            each = records_reported s views view bytes feed new same is pushed each;
+            feed_is = feed_reported s views view bytes feed new can.places.different same is pushed;
           };
-          asked = asked;
+          called = called;
         })
     by_test false _ none _ err =
         subst (λ (r : Result Step FillFault). IsNextPushed s r views old h c new) (sym err) (record {

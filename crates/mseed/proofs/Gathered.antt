@@ -10,7 +10,7 @@ use Rattle.mseed_stream.specs.declared.fault.StreamFault.{StreamFault}
 use Rattle.mseed.specs.Listing.{record_line, record_lines, count_line}
 use Rattle.mseed_stream.specs.Walk.{AreViews}
 use Rattle.mseed_audit.specs.Text.{end_line}
-use Rattle.mseed.specs.Show.{IsListed, IsShown, TookFirst, TookPart, show_text}
+use Rattle.mseed.specs.Show.{IsListed, IsShown, EmittedFirst, EmittedPart, show_text}
 use Rattle.std.specs.Result.{IsErrAnd}
 use Rattle.mseed_stream.specs.Standing.{Standing}
 use Rattle.mseed.specs.declared.show.Step.{Step}
@@ -25,7 +25,7 @@ gathered_all s text = record { taken = []; bytes = sym (append-nil s.bytes); joi
 
 -- what was taken is a prefix
 pub gathered_first : (first old : BytesWritten) (text lines : List ℕ) → AreGathered first old text lines
-    → TookFirst first old lines
+    → EmittedFirst first old lines
 gathered_first first old text lines g =
     let prefix : g.taken ≡ take (length g.taken) lines = sym (take-append_seam g.taken text)
     ∙ ap (λ (xs : List ℕ). take (length g.taken) xs) g.joined in
@@ -61,18 +61,22 @@ prefix_behind first old new text lines tail whole n before e taken =
     (behind first old text lines tail whole before e)
 
 pub first_behind : (first old new : BytesWritten) (text lines tail whole : List ℕ) → AreGathered first old text lines
-    → whole ≡ lines ++ tail → TookFirst old new (text ++ tail) → TookFirst first new whole
-first_behind first old new text lines tail whole before e took =
-    (length before.taken + took.0, prefix_behind first old new text lines tail whole took.0 before e took.1)
+    → whole ≡ lines ++ tail → EmittedFirst old new (text ++ tail) → EmittedFirst first new whole
+first_behind first old new text lines tail whole before e emitted =
+    (length before.taken + emitted.0, prefix_behind first old new text lines tail whole emitted.0 before e emitted.1)
 
 pub part_behind : (first old new : BytesWritten) (text lines tail whole : List ℕ) → AreGathered first old text lines
-    → whole ≡ lines ++ tail → TookPart old new (text ++ tail) → TookPart first new whole
-part_behind first old new text lines tail whole before e took =
+    → whole ≡ lines ++ tail → EmittedPart old new (text ++ tail) → EmittedPart first new whole
+part_behind first old new text lines tail whole before e emitted =
     let size : length before.taken + length (text ++ tail) ≡ length whole =
     sym (length-append before.taken (text ++ tail))
     ∙ ap (λ (xs : List ℕ). length xs) (behind first old text lines tail whole before e) in (
-      length before.taken + took.0,
-      (omega (arith, took.1.0, size), prefix_behind first old new text lines tail whole took.0 before e took.1.1),
+      length before.taken + emitted.0,
+      (
+        omega (arith, emitted.1.0, size),
+        prefix_behind first old new text lines tail whole emitted.0 before e
+            emitted.1.1,
+      ),
     )
 
 lines_from : (offset : ℕ) (views : List View) (v : View) (n : ℕ)
@@ -119,14 +123,14 @@ pub next_written : (r : Result Step ShowFault) (views : List View) (offset : ℕ
 next_written (Ok Listed) views offset before after c old new text rest added written none fine next = record {
   view = next.view;
   handed = next.handed;
-  asked = next.asked;
+  called = next.called;
   line = also_written old new text added (record_line offset next.view) (all_written old new text rest written none)
       fine next.line;
 }
 next_written (Ok (Ended end)) views offset before after c old new text rest added written none fine next =
     (next.0, also_written old new text added [] (all_written old new text rest written none) fine next.1)
 next_written (Err fault) views offset before after c old new text rest added written none fine next =
-    let all : TookFirst old new text = (
+    let all : EmittedFirst old new text = (
       length text,
       all_written old new text rest written none
           ∙ ap (λ (xs : List ℕ). old.bytes ++ xs) (sym (take-length text)),
@@ -167,7 +171,8 @@ pub cut_short : (fault : ShowFault) (h : BytesRead) (first old new : BytesWritte
     → IsShown (Err fault) h first new
 cut_short Write h first old new text offset views shown same before written =
     let lines : List ℕ = record_lines 0 views in
-    let took : TookPart old new (text ++ []) = subst (λ (xs : List ℕ). TookPart old new xs) (sym (append-nil text))
+    let emitted : EmittedPart old new (text ++ []) =
+    subst (λ (xs : List ℕ). EmittedPart old new xs) (sym (append-nil text))
     written.1 in (
       omega (arith, same, written.0),
       (
@@ -177,14 +182,15 @@ cut_short Write h first old new text offset views shown same before written =
           record {
             shown = shown;
             prefix = inl (part_behind first old new text lines [] lines before
-                (sym (append-nil lines)) took);
+                (sym (append-nil lines)) emitted);
           },
         ),
       ),
     )
 cut_short Memory h first old new text offset views shown same before written =
     let lines : List ℕ = record_lines 0 views in
-    let took : TookFirst old new (text ++ []) = subst (λ (xs : List ℕ). TookFirst old new xs) (sym (append-nil text))
+    let emitted : EmittedFirst old new (text ++ []) =
+    subst (λ (xs : List ℕ). EmittedFirst old new xs) (sym (append-nil text))
     written.1 in (
       written.0 ∙ same,
       (
@@ -194,7 +200,7 @@ cut_short Memory h first old new text offset views shown same before written =
           record {
             shown = shown;
             prefix = inl (first_behind first old new text lines [] lines before
-                (sym (append-nil lines)) took);
+                (sym (append-nil lines)) emitted);
           },
         ),
       ),

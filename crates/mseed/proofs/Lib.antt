@@ -1,6 +1,6 @@
 pub mod Taken
 pub mod Gathered
-pub mod Asked
+pub mod Called
 pub mod Digits
 pub mod Encodings
 pub mod PlaceWords

@@ -16,7 +16,7 @@ use Rattle.mseed.specs.Numbers.{number_in}
 abbrev pub digits_in : ℕ → ℕ
 digits_in n = if nat_lt n 10 then 1 else if nat_lt n 100 then 2 else 3
 
--- a number of an address: up to 255, without a zero in front
+-- a number of an address: up to 255, without a zero before it
 abbrev pub octet_in : Text → Option ℕ
 octet_in text =
     option_and_then (λ n. if nat_le n 255 && length text == digits_in n then Some n else None) (number_in text)
@@ -64,12 +64,12 @@ host_in text = host_with (address_in text) (name_in text)
 abbrev pub here : Address
 here = record { octets = 127 ∷ 0 ∷ 0 ∷ 1 ∷ [] }
 
--- the address to listen at: that of this machine where none is said
+-- the address to listen at: that of this machine where none is given
 abbrev pub address_of : Option Text → Option Address
 address_of None = Some here
 address_of (Some text) = address_in text
 
--- whom to ask: this machine where nobody is said
+-- whom to ask: this machine where nobody is named
 abbrev pub host_of : Option Text → Option Host
 host_of None = Some (hosts.Address here)
 host_of (Some text) = host_in text
@@ -78,7 +78,7 @@ host_of (Some text) = host_in text
 abbrev pub timeout_by : ℕ → Option Timeout
 timeout_by n = if nat_le n 86400 then Some (record { seconds = n }) else None
 
--- how long a link may be silent, in seconds of up to five digits: ten minutes where nothing is said
+-- how long a link may be silent, in seconds of up to five digits: ten minutes where nothing is given
 abbrev pub timeout_in : Option Text → Option Timeout
 timeout_in None = Some (record { seconds = 600 })
 timeout_in (Some text) = if nat_lt 5 (length text) then None else option_and_then timeout_by (number_in text)

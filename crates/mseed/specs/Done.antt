@@ -21,18 +21,18 @@ TellsOfShow (Err Memory) old new = Tells (codes "mseed: no memory\n") old new
 
 -- a listing, its status and its line
 pub record IsShowRun (outcome : Result (Option StreamFault) ShowFault) (status : ℕ) (read : BytesRead)
-    (written_old written_new told_old told_new : BytesWritten) : Type 0 where
+    (written_old written_new reported_old reported_new : BytesWritten) : Type 0 where
   pub shown : IsShown outcome read written_old written_new
   pub status_is : status ≡ show_status outcome
-  pub told : TellsOfShow outcome told_old told_new
+  pub reported : TellsOfShow outcome reported_old reported_new
 
 -- there was no memory for the words
 pub record IsMemoryRun (status : ℕ) (old new : BytesRead)
-    (written_old written_new told_old told_new : BytesWritten) : Type 0 where
+    (written_old written_new reported_old reported_new : BytesWritten) : Type 0 where
   pub unread : new ≡ old
   pub unwritten : written_new ≡ written_old
   pub status_is : status ≡ 2
-  pub told : Tells (codes "mseed: no memory\n") told_old told_new
+  pub reported : Tells (codes "mseed: no memory\n") reported_old reported_new
 
 -- words that `clap` refuses; its text is on standard error
 pub record IsRefusedRun (status : ℕ) (old new : BytesRead) (written_old written_new : BytesWritten) : Type 0 where

@@ -9,7 +9,7 @@ use Rattle.slink_wire.specs.Place.{Fields, fields_of}
 use Rattle.slink_feed.specs.Fault.{IsCapacity}
 use Rattle.mseed.specs.Found.{asks, further_in, has_only}
 use Rattle.mseed.specs.Numbers.{counted_in, hexadecimal_in, number_in}
-use Rattle.mseed.specs.Places.{ArePlaces, Asked, places_of}
+use Rattle.mseed.specs.Places.{ArePlaces, Called, places_of}
 use Rattle.mseed.specs.declared.feed_words.Naming.{Naming}
 use Rattle.mseed.specs.declared.feed_words.Naming.TheVariants.{Plain, Numbered}
 use Rattle.slink_links.specs.declared.host.Address.{Address}
@@ -40,11 +40,11 @@ place_named None net = None
 place_named (Some sta) None = None
 place_named (Some sta) (Some net) = place_by sta net
 
--- a place, with the number that is said, if one is: in hexadecimal digits
-abbrev pub asked_with : Option Fields → Option Text → Option Asked
-asked_with None digits = None
-asked_with (Some place) None = Some (place, None)
-asked_with (Some place) (Some digits) = option_map (λ number. (place, Some number)) (hexadecimal_in digits)
+-- a place, with the number that is given, if one is: in hexadecimal digits
+abbrev pub called_with : Option Fields → Option Text → Option Called
+called_with None digits = None
+called_with (Some place) None = Some (place, None)
+called_with (Some place) (Some digits) = option_map (λ number. (place, Some number)) (hexadecimal_in digits)
 
 -- what stands behind the first colon, where there is one
 abbrev pub behind_colon : Text → Option Text
@@ -52,26 +52,26 @@ behind_colon word =
     if nat_lt (position_or_len (λ c. c == 58) word) (length word) then Some (after_first (λ c. c == 58) word) else None
 
 -- `NET_STA`, or `NET_STA:HEX`
-abbrev pub numbered_in : Text → Option Asked
-numbered_in word = asked_with (place_in (before_first (λ c. c == 58) word)) (behind_colon word)
+abbrev pub numbered_in : Text → Option Called
+numbered_in word = called_with (place_in (before_first (λ c. c == 58) word)) (behind_colon word)
 
 -- a further place: `NET_STA`, or, where it can have a number, `NET_STA:HEX` as well
-abbrev pub asked_in : Naming → Text → Option Asked
-asked_in Plain word = asked_with (place_in word) None
-asked_in Numbered word = numbered_in word
+abbrev pub called_in : Naming → Text → Option Called
+called_in Plain word = called_with (place_in word) None
+called_in Numbered word = numbered_in word
 
 -- the place of `--station` and `--network`, and the further ones
-abbrev pub places_in : Naming → Option Text → List Row → Option (List Asked)
+abbrev pub places_in : Naming → Option Text → List Row → Option (List Called)
 places_in naming from rows =
-    places_of (asked_with (place_named (first_of (codes "station") rows) (first_of (codes "network") rows)) from
-    ∷ map (asked_in naming) (further_in rows))
+    places_of (called_with (place_named (first_of (codes "station") rows) (first_of (codes "network") rows)) from
+    ∷ map (called_in naming) (further_in rows))
 
 -- a port
 abbrev pub port_in : Option Text → Option ℕ
 port_in None = None
 port_in (Some text) = counted_in 65535 text
 
--- how many connections or tries: one where none is said
+-- how many connections or tries: one where none is given
 abbrev pub count_in : Option Text → Option ℕ
 count_in None = Some 1
 count_in (Some text) = counted_in 1000000 text
@@ -80,12 +80,12 @@ count_in (Some text) = counted_in 1000000 text
 abbrev pub capacity_by : ℕ → Option ℕ
 capacity_by n = if nat_le 1 n && nat_le n 1000000 then Some n else None
 
--- how many records each ring keeps: a thousand where nothing is said
+-- how many records each ring keeps: a thousand where nothing is given
 abbrev pub capacity_in : Option Text → Option ℕ
 capacity_in None = Some 1000
 capacity_in (Some text) = option_and_then capacity_by (number_in text)
 
--- the first record's number: 0 where none is said
+-- the first record's number: 0 where none is given
 abbrev pub first_in : Option Text → Option ℕ
 first_in None = Some 0
 first_in (Some text) = hexadecimal_in text
@@ -100,7 +100,7 @@ abbrev pub server_with : Option Host → Option ℕ → Option Timeout → Optio
 server_with (Some host) (Some port) (Some timeout) = Some (record { host = host; port = port; timeout = timeout })
 server_with _ _ _ = None
 
-abbrev pub serving_with : Option Listener → Option ℕ → Option ℕ → Option ℕ → Option (List Asked) → Option Serving
+abbrev pub serving_with : Option Listener → Option ℕ → Option ℕ → Option ℕ → Option (List Called) → Option Serving
 serving_with (Some listener) (Some connections) (Some capacity) (Some first) (Some places) =
     Some (record {
       listener = listener;
@@ -111,7 +111,7 @@ serving_with (Some listener) (Some connections) (Some capacity) (Some first) (So
     })
 serving_with _ _ _ _ _ = None
 
-abbrev pub fetching_with : Option Server → Option ℕ → Option (List Asked) → Bool → Bool → Option Fetching
+abbrev pub fetching_with : Option Server → Option ℕ → Option (List Called) → Bool → Bool → Option Fetching
 fetching_with (Some server) (Some tries) (Some places) tell_next holes =
     Some (record { server = server; tries = tries; places = places; tell_next = tell_next; holes = holes })
 fetching_with _ _ _ _ _ = None
@@ -164,7 +164,7 @@ serving_in rows =
 abbrev pub serving_of : List Row → Option Serving
 serving_of rows = if has_only serve_names rows then serving_in rows else None
 
--- how many clients at once: 64 where none is said
+-- how many clients at once: 64 where none is given
 abbrev pub clients_in : Option Text → Option ℕ
 clients_in None = Some 64
 clients_in (Some text) = counted_in 1024 text

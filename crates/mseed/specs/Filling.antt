@@ -33,8 +33,8 @@ is_of place bytes = bytes_eq (slice_range bytes 8 13) place.station && bytes_eq 
 abbrev pub records_of : Fields → List (List ℕ) → List (List ℕ)
 records_of place records = filter (is_of place) records
 
--- A place's ring, once these records were told: it has the last ones of its place, as many as it keeps. The first of
--- its place had the first number.
+-- A place's ring, once these records were reported: it has the last ones of its place, as many as it keeps. The first
+-- of its place had the first number.
 abbrev pub ring_of : Serving → List (List ℕ) → Fields → Window
 ring_of serving records place = record {
   place = place;

@@ -29,17 +29,17 @@ TellsOfJoin (Err fault) old new = Tells (join_fault_text fault) old new
 
 -- joining parts, its status and its lines
 pub record IsJoinRun (joining : Joining) (outcome : Result Joined JoinsFault) (status : ℕ) (read : BytesRead)
-    (written_old written_new told_old told_new : BytesWritten) : Type 0 where
-  pub told_between : BytesWritten
+    (written_old written_new reported_old reported_new : BytesWritten) : Type 0 where
+  pub reported_between : BytesWritten
   pub outcome_is : IsJoinOutcome joining.form joining.past_faults outcome read written_old written_new
-      told_old told_between
+      reported_old reported_between
   pub status_is : status ≡ join_status outcome
-  pub told : TellsOfJoin outcome told_between told_new
+  pub reported : TellsOfJoin outcome reported_between reported_new
 
 -- joining parts with a line for each border with a finding, its status and its lines
 pub record IsJoinEachRun (past_faults : Bool) (outcome : Result Joined JoinsFault) (status : ℕ) (read : BytesRead)
-    (written_old written_new told_old told_new : BytesWritten) : Type 0 where
-  pub told_between : BytesWritten
-  pub outcome_is : IsJoinEachOutcome past_faults outcome read written_old written_new told_old told_between
+    (written_old written_new reported_old reported_new : BytesWritten) : Type 0 where
+  pub reported_between : BytesWritten
+  pub outcome_is : IsJoinEachOutcome past_faults outcome read written_old written_new reported_old reported_between
   pub status_is : status ≡ join_status outcome
-  pub told : TellsOfJoin outcome told_between told_new
+  pub reported : TellsOfJoin outcome reported_between reported_new

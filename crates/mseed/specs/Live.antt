@@ -34,26 +34,25 @@ fill_fault (inputs.Stream fault) = fills.Stream fault
 fill_fault (inputs.Foreign number) = fills.Foreign number
 
 -- Nothing is left to do: the input is read no more, and no link stands, and the status is the one that is due. Or links
--- may have been cut off, since the device failed, and standard error was told.
+-- may have been cut off, since the device failed, and standard error got its line.
 pub data EndsWith (s : ServerState) (is_over : Bool) (due status : ℕ) (old new : BytesWritten) : Type 0 where
   to_the_end : IsFinished s → status ≡ due → new ≡ old → EndsWith s is_over due status old new
   cut_off : is_over ≡ true → status ≡ 2 → Tells (codes "mseed: link failed\n") old new
       → EndsWith s is_over due status old new
 
--- The input came to its end, where a record ends. Or it was wrong by what it had told by then, which standard error was
--- told before the links that stood were served on: to the end, or until 2^40 events had come.
+-- The input came to its end, where a record ends. Or it is wrong, and is read no further: standard error got the line
+-- of what is wrong, and the links that stood were served on, to the end or until 2^40 events had come.
 pub data HasEnded (places : List Fields) (s : ServerState) (is_over : Bool) (log : List Happening) (status : ℕ)
     (old new : BytesWritten) : Type 0 where
   input_ended : EndsWith s is_over 0 status old new → HasEnded places s is_over log status old new
-  input_wrong : (fault : InputFault) (by_then : List Happening) (told : BytesWritten)
-      → IsInputFault places (input_of by_then) fault → Tells (fill_text (fill_fault fault)) old told
-      → EndsWith s is_over 2 status told new → HasEnded places s is_over log status old new
-  for_long : (fault last : InputFault) (by_then : List Happening) (told : BytesWritten)
-      → IsInputFault places (input_of by_then) fault → Tells (fill_text (fill_fault fault)) old told
-      → IsInputFault places (input_of log) last → status ≡ 2 → Tells (codes "mseed: link failed\n") told new
+  input_wrong : (fault : InputFault) (reported : BytesWritten) → IsInputFault places (input_of log) fault
+      → Tells (fill_text (fill_fault fault)) old reported → EndsWith s is_over 2 status reported new
       → HasEnded places s is_over log status old new
+  for_long : (fault last : InputFault) (reported : BytesWritten) → IsInputFault places (input_of log) fault
+      → Tells (fill_text (fill_fault fault)) old reported → IsInputFault places (input_of log) last → status ≡ 2
+      → Tells (codes "mseed: link failed\n") reported new → HasEnded places s is_over log status old new
 
--- The rings were filled by what the input told, and each link was served from them by a session of its own, as the log
+-- The rings were filled by what the input gave, and each link was served from them by a session of its own, as the log
 -- of all that happened says; or there was no memory for rings or links.
 pub data HasServed (feed : List Window) (is_over : Bool) (log : List Happening) (status : ℕ) (old new : BytesWritten)
     : Type 0 where

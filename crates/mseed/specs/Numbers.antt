@@ -26,6 +26,6 @@ hexadecimal_in text =
     if nat_le 1 (length text) && (nat_le (length text) 6 && list_all is_ascii_hexdigit text) then Some
     (digits_value 16 text) else None
 
--- a number from 1 to so many, as `clap` reads it: decimal digits, of any count and with a plus in front or none
+-- a number from 1 to so many, as `clap` reads it: decimal digits, of any count and with a plus before it or none
 abbrev pub counted_in : ℕ → Text → Option ℕ
 counted_in most text = if is_unsigned_in 1 most text then Some (digits_value 10 (without_leading_plus text)) else None

@@ -27,10 +27,10 @@ TellsOfAudit (Err Memory) old new = Tells (codes "mseed: no memory\n") old new
 
 -- an audit, its status and its line
 pub record IsAuditRun (outcome : Result Summary AuditFault) (status : ℕ) (read : BytesRead)
-    (written_old written_new told_old told_new : BytesWritten) : Type 0 where
+    (written_old written_new reported_old reported_new : BytesWritten) : Type 0 where
   pub outcome_is : IsOutcome outcome read written_old written_new
   pub status_is : status ≡ status_of outcome
-  pub told : TellsOfAudit outcome told_old told_new
+  pub reported : TellsOfAudit outcome reported_old reported_new
 
 abbrev pub each_status : Result Summary EachFault → ℕ
 each_status (Ok summary) = summary_status summary
@@ -44,29 +44,29 @@ TellsOfEach (Err each.Memory) old new = Tells (codes "mseed: no memory\n") old n
 
 -- such an audit, its status and its line
 pub record IsEachRun (outcome : Result Summary EachFault) (status : ℕ) (read : BytesRead)
-    (written_old written_new told_old told_new : BytesWritten) : Type 0 where
+    (written_old written_new reported_old reported_new : BytesWritten) : Type 0 where
   pub outcome_is : IsEachOutcome outcome read written_old written_new
   pub status_is : status ≡ each_status outcome
-  pub told : TellsOfEach outcome told_old told_new
+  pub reported : TellsOfEach outcome reported_old reported_new
 
 -- an audit that writes a part, its status and its line: those of an audit
 pub record IsPartRun (outcome : Result Summary AuditFault) (status : ℕ) (read : BytesRead)
-    (written_old written_new told_old told_new : BytesWritten) : Type 0 where
+    (written_old written_new reported_old reported_new : BytesWritten) : Type 0 where
   pub outcome_is : IsPartOutcome outcome read written_old written_new
   pub status_is : status ≡ status_of outcome
-  pub told : TellsOfAudit outcome told_old told_new
+  pub reported : TellsOfAudit outcome reported_old reported_new
 
 -- and one that tells each finding before it
 pub record IsPartEachRun (outcome : Result Summary EachFault) (status : ℕ) (read : BytesRead)
-    (written_old written_new told_old told_new : BytesWritten) : Type 0 where
+    (written_old written_new reported_old reported_new : BytesWritten) : Type 0 where
   pub outcome_is : IsPartEachOutcome outcome read written_old written_new
   pub status_is : status ≡ each_status outcome
-  pub told : TellsOfEach outcome told_old told_new
+  pub reported : TellsOfEach outcome reported_old reported_new
 
 -- words that ask for nothing that there is
 pub record IsBadRun (status : ℕ) (old new : BytesRead)
-    (written_old written_new told_old told_new : BytesWritten) : Type 0 where
+    (written_old written_new reported_old reported_new : BytesWritten) : Type 0 where
   pub unread : new ≡ old
   pub unwritten : written_new ≡ written_old
   pub status_is : status ≡ 3
-  pub told : Tells (codes "mseed: bad value\n") told_old told_new
+  pub reported : Tells (codes "mseed: bad value\n") reported_old reported_new

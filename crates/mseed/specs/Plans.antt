@@ -1,4 +1,4 @@
--- The plans of the two commands of a feed, and what is said where there is none.
+-- The plans of the two commands of a feed, and what is given where there is none.
 use Rattle.std.specs.Prelude.{◌≡◌, ℕ, List, [], ◌++◌, Result, Ok, Err, codes, decimal}
 use Rattle.mseed_stream.specs.Device.{BytesRead, BytesWritten}
 use Rattle.mseed_audit.specs.Text.{fault_line}
@@ -24,7 +24,7 @@ fill_text (Stream fault) = codes "mseed: " ++ fault_line fault
 fill_text (Foreign number) = codes "mseed: record " ++ decimal number ++ codes " is not of this feed\n"
 fill_text Memory = codes "mseed: no memory\n"
 
--- the feed, and the values that were asked for
+-- the feed, and the values that were requested
 pub record IsServePlan {A : Type 0} (serving : Serving) (feed : List Window) (plan : ServePlan A) : Type 0 where
   pub address : plan.address ≡ serving.listener.address
   pub port : plan.port ≡ serving.listener.port
@@ -46,20 +46,20 @@ IsPlannedBy serving (Err fault) (Fetch plan) old new = ⊥
 
 -- what `serve` comes to before it opens a socket; the input decides it, but for memory
 pub record IsServeRun {A : Type 0} (serving : Serving) (run : Run A) (read : BytesRead)
-    (told_old told_new : BytesWritten) : Type 0 where
+    (reported_old reported_new : BytesWritten) : Type 0 where
   pub outcome : Result (List Window) FillFault
   pub filling : IsFilling serving outcome read
   pub only : IsOneFilling serving outcome read
-  pub planned : IsPlannedBy serving outcome run told_old told_new
+  pub planned : IsPlannedBy serving outcome run reported_old reported_new
 
--- what `serve --live` comes to before it opens a socket: what was asked for
+-- what `serve --live` comes to before it opens a socket: what was requested
 abbrev pub IsLiveRun : {A : Type 0} → Living → Run A → Type 0
 IsLiveRun living (Status status) = ⊥
 IsLiveRun living (Serve plan) = ⊥
-IsLiveRun living (Live asked) = asked ≡ living
+IsLiveRun living (Live called) = called ≡ living
 IsLiveRun living (Fetch plan) = ⊥
 
--- a new client for the places that were asked for
+-- a new client for the places that were requested
 abbrev pub talk_of : Fetching → Talk
 talk_of fetching = record {
   mode = modes.Fetch;

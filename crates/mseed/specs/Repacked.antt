@@ -35,9 +35,9 @@ refusal_status Write = 2
 refusal_status Memory = 2
 
 -- the status and the line on standard error
-pub record IsRefusedRepack (fault : RepackFault) (status : ℕ) (told_old told_new : BytesWritten) : Type 0 where
+pub record IsRefusedRepack (fault : RepackFault) (status : ℕ) (reported_old reported_new : BytesWritten) : Type 0 where
   pub status_is : status ≡ refusal_status fault
-  pub told : Tells (refusal_text fault) told_old told_new
+  pub reported : Tells (refusal_text fault) reported_old reported_new
 
 -- by the outcome: 0, and no line, where all was packed
 abbrev pub TellsOfRepack : {U : Type 0} → Result U RepackFault → ℕ → BytesWritten → BytesWritten → Type 0
@@ -46,11 +46,11 @@ TellsOfRepack (Err fault) status old new = IsRefusedRepack fault status old new
 
 -- packing anew, with sequence numbers from 000001 on, its status and its line
 pub record IsRepackRun (packing : Packing) (status : ℕ) (read : BytesRead)
-    (written_old written_new told_old told_new : BytesWritten) : Type 0 where
+    (written_old written_new reported_old reported_new : BytesWritten) : Type 0 where
   pub options : Options
   pub exponent : options.exponent ≡ packing.exponent
   pub encoding : options.encoding ≡ packing.encoding
   pub sequence : options.first_sequence ≡ 1
   pub outcome : Result ⊤ RepackFault
   pub packed : IsRepacking options outcome read written_old written_new
-  pub told : TellsOfRepack outcome status told_old told_new
+  pub reported : TellsOfRepack outcome status reported_old reported_new

@@ -34,7 +34,7 @@ left_status Nothing = 0
 left_status LeftBroken = 1
 left_status LeftMisfit = 2
 
--- by the outcome: a status and, where it ended early, a line behind those that were told
+-- by the outcome: a status and, where it ended early, a line behind those that were reported
 abbrev pub TellsOfStretches : Result Left StretchesFault → ℕ → BytesWritten → BytesWritten → Type 0
 TellsOfStretches (Ok left) status old new = (status ≡ left_status left) × (new ≡ old)
 TellsOfStretches (Err fault) status old new =
@@ -42,12 +42,12 @@ TellsOfStretches (Err fault) status old new =
 
 -- packing anew by stretches, with sequence numbers from 000001 on, its status and its lines
 pub record IsStretchesRun (packing : Packing) (leave : Bool) (status : ℕ) (read : BytesRead)
-    (written_old written_new told_old told_new : BytesWritten) : Type 0 where
+    (written_old written_new reported_old reported_new : BytesWritten) : Type 0 where
   pub options : Options
   pub exponent : options.exponent ≡ packing.exponent
   pub encoding : options.encoding ≡ packing.encoding
   pub sequence : options.first_sequence ≡ 1
   pub outcome : Result Left StretchesFault
-  pub told_between : BytesWritten
-  pub packed : IsRestretching options leave outcome read written_old written_new told_old told_between
-  pub told : TellsOfStretches outcome status told_between told_new
+  pub reported_between : BytesWritten
+  pub packed : IsRestretching options leave outcome read written_old written_new reported_old reported_between
+  pub reported : TellsOfStretches outcome status reported_between reported_new

@@ -1,4 +1,4 @@
--- What `run` comes to, by what is asked for.
+-- What `run` comes to, by what is requested.
 use Rattle.std.specs.Prelude.{◌≡◌, ◌⊎◌, ℕ, Option, Result}
 use Rattle.mseed_audit.specs.declared.archive.AuditFault.{AuditFault}
 use Rattle.mseed_audit.specs.declared.archive.Summary.{Summary}
@@ -21,7 +21,7 @@ use Rattle.mseed.specs.declared.request.Request.TheVariants.{Live, Fetch}
 use Rattle.mseed_join.specs.declared.joining.Joined.{Joined}
 use Rattle.mseed_join.specs.declared.joining.JoinsFault.{JoinsFault}
 
--- what was read of the input, and what the output and the errors took
+-- what was read of the input, and what the output and the errors accepted
 pub record Streams : Type 0 where
   pub input : BytesRead
   pub output : BytesWritten

@@ -20,25 +20,25 @@ pub record IsListed (end : Option StreamFault) (h : BytesRead) (old new : BytesW
   pub text : new.bytes ≡ old.bytes ++ show_text views end
   pub fine : new.failures ≡ old.failures
 
--- the output took the first bytes of a text
-abbrev pub TookFirst : BytesWritten → BytesWritten → List ℕ → Type 0
-TookFirst old new text = (count : ℕ) × (new.bytes ≡ old.bytes ++ take count text)
+-- the output accepted the first bytes of a text
+abbrev pub EmittedFirst : BytesWritten → BytesWritten → List ℕ → Type 0
+EmittedFirst old new text = (count : ℕ) × (new.bytes ≡ old.bytes ++ take count text)
 
 -- and not all of it
-abbrev pub TookPart : BytesWritten → BytesWritten → List ℕ → Type 0
-TookPart old new text = (count : ℕ) × ((count < length text) × (new.bytes ≡ old.bytes ++ take count text))
+abbrev pub EmittedPart : BytesWritten → BytesWritten → List ℕ → Type 0
+EmittedPart old new text = (count : ℕ) × ((count < length text) × (new.bytes ≡ old.bytes ++ take count text))
 
 -- what was written is so of a text: the lines of some records, or the whole
-pub record IsCutShort (Took : List ℕ → Type 0) (h : BytesRead) (offset : ℕ) (views : List View) : Type 0 where
+pub record IsCutShort (Emitted : List ℕ → Type 0) (h : BytesRead) (offset : ℕ) (views : List View) : Type 0 where
   pub shown : AreViews h.bytes offset views
-  pub prefix : Took (record_lines 0 views)
-      ⊎ ((end : Option StreamFault) × (AreAllViews h views end × Took (show_text views end)))
+  pub prefix : Emitted (record_lines 0 views)
+      ⊎ ((end : Option StreamFault) × (AreAllViews h views end × Emitted (show_text views end)))
 
 abbrev pub EndsShort : (List ℕ → Type 0) → BytesRead → Type 0
-EndsShort Took h = (offset : ℕ) × ((views : List View) × IsCutShort Took h offset views)
+EndsShort Emitted h = (offset : ℕ) × ((views : List View) × IsCutShort Emitted h offset views)
 
--- By the outcome. An output that failed isn't asked again.
+-- By the outcome. An output that failed isn't called again.
 abbrev pub IsShown : Result (Option StreamFault) ShowFault → BytesRead → BytesWritten → BytesWritten → Type 0
 IsShown (Ok end) h old new = (views : List View) × IsListed end h old new views
-IsShown (Err Write) h old new = (new.failures ≡ old.failures + 1) × EndsShort (TookPart old new) h
-IsShown (Err Memory) h old new = (new.failures ≡ old.failures) × EndsShort (TookFirst old new) h
+IsShown (Err Write) h old new = (new.failures ≡ old.failures + 1) × EndsShort (EmittedPart old new) h
+IsShown (Err Memory) h old new = (new.failures ≡ old.failures) × EndsShort (EmittedFirst old new) h

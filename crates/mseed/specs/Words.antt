@@ -34,7 +34,7 @@ exponent_by n =
     if n == 2 ^ 7 then Some 7 else if n == 2 ^ 8 then Some 8 else if n == 2 ^ 9 then Some 9
     else if n == 2 ^ 10 then Some 10 else if n == 2 ^ 11 then Some 11 else if n == 2 ^ 12 then Some 12 else None
 
--- records of 512 bytes where no length is said
+-- records of 512 bytes where no length is given
 abbrev pub exponent_in : Option Text → Option ℕ
 exponent_in None = Some 9
 exponent_in (Some text) = option_and_then exponent_by (number_in text)
@@ -46,7 +46,7 @@ encoding_named word =
     else if bytes_eq word (codes "steim1") then Some Steim1 else if bytes_eq word (codes "steim2") then Some Steim2
     else None
 
--- Steim-2 where no encoding is said
+-- Steim-2 where no encoding is given
 abbrev pub encoding_in : Option Text → Option Encoding
 encoding_in None = Some Steim2
 encoding_in (Some word) = encoding_named word
@@ -139,19 +139,19 @@ abbrev pub request_of : List Row → Option Request
 request_of rows = request_by (first_of (codes "command") rows) rows
 
 -- records of 128 to 4096 bytes; a feed that can be
-abbrev pub CanBeAsked : Request → Type 0
-CanBeAsked Audit = ⊤
-CanBeAsked AuditEach = ⊤
-CanBeAsked AuditPart = ⊤
-CanBeAsked AuditPartEach = ⊤
-CanBeAsked (Join joining) = ⊤
-CanBeAsked (JoinEach past_faults) = ⊤
-CanBeAsked Show = ⊤
-CanBeAsked (Repack packing) = (7 ≤ packing.exponent) × (packing.exponent ≤ 12)
-CanBeAsked (RepackStretches packing leave) = (7 ≤ packing.exponent) × (packing.exponent ≤ 12)
-CanBeAsked (Serve serving) = CanServe serving
-CanBeAsked (Live living) = CanLive living
-CanBeAsked (Fetch fetching) = CanFetch fetching
+abbrev pub CanBeCalled : Request → Type 0
+CanBeCalled Audit = ⊤
+CanBeCalled AuditEach = ⊤
+CanBeCalled AuditPart = ⊤
+CanBeCalled AuditPartEach = ⊤
+CanBeCalled (Join joining) = ⊤
+CanBeCalled (JoinEach past_faults) = ⊤
+CanBeCalled Show = ⊤
+CanBeCalled (Repack packing) = (7 ≤ packing.exponent) × (packing.exponent ≤ 12)
+CanBeCalled (RepackStretches packing leave) = (7 ≤ packing.exponent) × (packing.exponent ≤ 12)
+CanBeCalled (Serve serving) = CanServe serving
+CanBeCalled (Live living) = CanLive living
+CanBeCalled (Fetch fetching) = CanFetch fetching
 
 -- the words ask for this
 pub record AsksFor (words : List Text) (request : Request) : Type 0 where

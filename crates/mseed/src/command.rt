@@ -11,7 +11,7 @@ ghost use Rattle.mseed_join.specs.declared.joining.JoinsFault.{JoinsFault};
 ghost use Rattle.mseed.specs.Outcome.{IsAuditRun, IsEachRun, IsPartRun, IsPartEachRun, summary_status};
 ghost use Rattle.mseed.specs.Live.{CanBeServed};
 ghost use Rattle.mseed.specs.Run.{HasCarriedOut, HasRefusedRequest, HasRefusedWords, UnlessMemoryLacks, streams};
-ghost use Rattle.mseed.specs.Words.{AsksFor, AsksForNothing, AreRefused, CanBeAsked};
+ghost use Rattle.mseed.specs.Words.{AsksFor, AsksForNothing, AreRefused, CanBeCalled};
 ghost use Rattle.mseed.specs.Done.{IsShowRun};
 ghost use Rattle.mseed.specs.Repacked.{IsRepackRun};
 ghost use Rattle.mseed.specs.Restretched.{IsStretchesRun, left_status};
@@ -60,7 +60,7 @@ pub fn run<R: Source, W: Sink, E: Sink>(
     errors: &mut E,
 ) -> Run
     requires { R.read input.old ≡ nothing_read }
-    ensures asked { (request : Request) → AsksFor (map (λ word. word.now) words.now) request
+    ensures called { (request : Request) → AsksFor (map (λ word. word.now) words.now) request
         → UnlessMemoryLacks (HasCarriedOut request) result
         (streams (R.read input.old) (W.written output.old) (E.written errors.old))
         (streams (R.read input.new) (W.written output.new) (E.written errors.new)) }
@@ -81,7 +81,7 @@ pub fn run<R: Source, W: Sink, E: Sink>(
     }
 }
 
-/// Does what is asked for, with any allocator, as one that refuses.
+/// Does what is requested, with any allocator, as one that refuses.
 pub fn carry_out<A: Allocator + Copy, R: Source, W: Sink, E: Sink>(
     alloc: A,
     request: Request,
@@ -90,7 +90,7 @@ pub fn carry_out<A: Allocator + Copy, R: Source, W: Sink, E: Sink>(
     errors: &mut E,
 ) -> Run<A>
     requires unread { R.read input.old ≡ nothing_read }
-    requires asked { CanBeAsked request }
+    requires called { CanBeCalled request }
     ensures done { HasCarriedOut request result
         (streams (R.read input.old) (W.written output.old) (E.written errors.old))
         (streams (R.read input.new) (W.written output.new) (E.written errors.new)) }
@@ -287,7 +287,7 @@ fn run_repack<A: Allocator + Copy, R: Source, W: Sink, E: Sink>(
     errors: &mut E,
 ) -> u8
     requires unread { R.read input.old ≡ nothing_read }
-    requires asked { CanBeAsked (Request.Repack packing) }
+    requires called { CanBeCalled (Request.Repack packing) }
     ensures { IsRepackRun packing result (R.read input.new)
         (W.written output.old) (W.written output.new) (E.written errors.old) (E.written errors.new) }
 {
@@ -311,7 +311,7 @@ fn run_stretches<A: Allocator + Copy, R: Source, W: Sink, E: Sink>(
     errors: &mut E,
 ) -> u8
     requires unread { R.read input.old ≡ nothing_read }
-    requires asked { CanBeAsked (Request.RepackStretches packing leave) }
+    requires called { CanBeCalled (Request.RepackStretches packing leave) }
     ensures { IsStretchesRun packing leave result (R.read input.new)
         (W.written output.old) (W.written output.new) (E.written errors.old) (E.written errors.new) }
 {
@@ -339,7 +339,7 @@ fn left_status(left: Left) -> u8
 /// Says that the output failed.
 pub fn write_failed<E: Sink>(errors: &mut E) -> u8
     ensures status { result ≡ 2 }
-    ensures told { Tells (codes "mseed: write failed\n") (E.written errors.old) (E.written errors.new) }
+    ensures reported { Tells (codes "mseed: write failed\n") (E.written errors.old) (E.written errors.new) }
 {
     tell(errors, b"mseed: write failed\n");
     FAULT
@@ -367,7 +367,7 @@ fn refuse<E: Sink>(alloc: Global, errors: &mut E, error: &Error) -> u8
 /// Says that the words of the command line ask for nothing that there is, or aren't UTF-8.
 pub fn refuse_words<E: Sink>(errors: &mut E) -> u8
     ensures status { result ≡ 3 }
-    ensures told { Tells (codes "mseed: bad value\n") (E.written errors.old) (E.written errors.new) }
+    ensures reported { Tells (codes "mseed: bad value\n") (E.written errors.old) (E.written errors.new) }
 {
     tell(errors, b"mseed: bad value\n");
     BAD_COMMAND
@@ -376,7 +376,7 @@ pub fn refuse_words<E: Sink>(errors: &mut E) -> u8
 /// Says that memory was refused: to a command, to `clap`, or to `main` for the words of the command line.
 pub fn refuse_memory<E: Sink>(errors: &mut E) -> u8
     ensures status { result ≡ 2 }
-    ensures told { Tells (codes "mseed: no memory\n") (E.written errors.old) (E.written errors.new) }
+    ensures reported { Tells (codes "mseed: no memory\n") (E.written errors.old) (E.written errors.new) }
 {
     tell(errors, b"mseed: no memory\n");
     FAULT

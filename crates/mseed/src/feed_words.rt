@@ -7,7 +7,7 @@ ghost use Rattle.mseed.specs.Places.{ArePlaces, places_of};
 ghost use Rattle.mseed.specs.Addresses.{IsTimeout};
 ghost use Rattle.mseed.specs.FeedWords.{CanLive, IsClients, IsListener, IsServer, clients_in, listener_with};
 ghost use Rattle.mseed.specs.FeedWords.{living_of, living_with, server_with, serving_in};
-ghost use Rattle.mseed.specs.FeedWords.{CanFetch, CanServe, IsCount, IsPort, asked_in, asked_with, capacity_by};
+ghost use Rattle.mseed.specs.FeedWords.{CanFetch, CanServe, IsCount, IsPort, called_in, called_with, capacity_by};
 ghost use Rattle.mseed.specs.FeedWords.{capacity_in, count_in, fetching_of, fetching_with, first_in, numbered_in};
 ghost use Rattle.mseed.specs.FeedWords.{place_by, place_in, place_named, places_in, port_in, serving_of, serving_with};
 
@@ -29,7 +29,7 @@ pub(crate) enum Naming {
     Numbered,
 }
 
-/// What serving is asked for, by its options and places.
+/// What is requested of serving, by its options and places.
 pub(crate) fn serving_of(matches: &ArgMatches<'_>) -> Option<Serving>
     ensures value { result ≡ serving_of (rows_of (found_of matches.now)) }
     ensures range { IfSome result CanServe }
@@ -54,7 +54,7 @@ pub(crate) fn serving_of(matches: &ArgMatches<'_>) -> Option<Serving>
     serving_in(matches)
 }
 
-/// What serving is asked for by its options and places, whatever else is named.
+/// What is requested of serving by its options and places, whatever else is named.
 fn serving_in(matches: &ArgMatches<'_>) -> Option<Serving>
     ensures value { result ≡ serving_in (rows_of (found_of matches.now)) }
     ensures range { IfSome result CanServe }
@@ -72,7 +72,7 @@ fn serving_in(matches: &ArgMatches<'_>) -> Option<Serving>
     )
 }
 
-/// What serving while records come is asked for.
+/// What is requested of serving while records come.
 pub(crate) fn living_of(matches: &ArgMatches<'_>) -> Option<Living>
     ensures value { result ≡ living_of (rows_of (found_of matches.now)) }
     ensures range { IfSome result CanLive }
@@ -89,7 +89,7 @@ pub(crate) fn living_of(matches: &ArgMatches<'_>) -> Option<Living>
     living_with(serving_in(matches), clients_in(text_of(matches, "clients")))
 }
 
-/// What serving while records come is asked for, where each value is one that there is.
+/// What is requested of serving while records come, where each value is one that there is.
 fn living_with(serving: Option<Serving>, clients: Option<u32>) -> Option<Living>
     requires serving { IfSome serving CanServe }
     requires clients { IfSome clients IsClients }
@@ -102,7 +102,7 @@ fn living_with(serving: Option<Serving>, clients: Option<u32>) -> Option<Living>
     }
 }
 
-/// How many clients at once: 64 where none is said.
+/// How many clients at once: 64 where none is given.
 fn clients_in(text: Option<&str>) -> Option<u32>
     ensures value { result ≡ clients_in (option_map (λ t. t.now) text.entry) }
     ensures range { IfSome result IsClients }
@@ -181,7 +181,7 @@ fn serving_with(
     }
 }
 
-/// What fetching is asked for, by its options and places.
+/// What is requested of fetching, by its options and places.
 pub(crate) fn fetching_of(matches: &ArgMatches<'_>) -> Option<Fetching>
     ensures value { result ≡ fetching_of (rows_of (found_of matches.now)) }
     ensures range { IfSome result CanFetch }
@@ -254,7 +254,7 @@ fn port_in(text: Option<&str>) -> Option<u16>
     }
 }
 
-/// How many connections or tries: one where none is said.
+/// How many connections or tries: one where none is given.
 fn count_in(text: Option<&str>) -> Option<u32>
     ensures value { result ≡ count_in (option_map (λ t. t.now) text.entry) }
     ensures range { IfSome result IsCount }
@@ -265,7 +265,7 @@ fn count_in(text: Option<&str>) -> Option<u32>
     }
 }
 
-/// How many records a ring keeps: a thousand where nothing is said.
+/// How many records a ring keeps: a thousand where nothing is given.
 fn capacity_in(text: Option<&str>) -> Option<u32>
     ensures value { result ≡ capacity_in (option_map (λ t. t.now) text.entry) }
     ensures range { IfSome result IsCapacity }
@@ -288,7 +288,7 @@ fn capacity_by(number: u32) -> Option<u32>
     }
 }
 
-/// The first record's number: 0 where none is said.
+/// The first record's number: 0 where none is given.
 fn first_in(text: Option<&str>) -> Option<u32>
     ensures value { result ≡ first_in (option_map (λ t. t.now) text.entry) }
     ensures range { IfSome result (λ n. n < 2 ^ 24) }
@@ -299,14 +299,14 @@ fn first_in(text: Option<&str>) -> Option<u32>
     }
 }
 
-/// The place of the two options, with the number that is said of it, and the further ones.
+/// The place of the two options, with the number that is given of it, and the further ones.
 fn places_in(naming: Naming, from: Option<&str>, matches: &ArgMatches<'_>) -> Option<Places>
     ensures value { result
         ≡ places_in naming (option_map (λ t. t.now) from.entry) (rows_of (found_of matches.now)) }
     ensures range { IfSome result ArePlaces }
 {
     let place = place_named(text_of(matches, "station"), text_of(matches, "network"));
-    let first = asked_with(place, from);
+    let first = called_with(place, from);
     match matches.get_raw("place") {
         Some(words) => gather(naming, first, words),
         None => gather(naming, first, &[]),
@@ -316,12 +316,12 @@ fn places_in(naming: Naming, from: Option<&str>, matches: &ArgMatches<'_>) -> Op
 /// The first place and the further ones, unless one of them is bad or doubled, or they are more than sixteen.
 fn gather(naming: Naming, first: Option<(Place, Option<u32>)>, words: &[&str]) -> Option<Places>
     requires { IfSome first (λ p. IfSome p.1 (λ n. n < 2 ^ 24)) }
-    ensures value { result ≡ places_of (first ∷ map (asked_in naming) (map (λ w. w.now) words.now)) }
+    ensures value { result ≡ places_of (first ∷ map (called_in naming) (map (λ w. w.now) words.now)) }
     ensures range { IfSome result ArePlaces }
 {
     let mut places = Places::of(first?);
     for word in words {
-        let place = asked_in(naming, word)?;
+        let place = called_in(naming, word)?;
         if places.len() == 16 || places.has(place.0) {
             return None;
         }
@@ -331,12 +331,12 @@ fn gather(naming: Naming, first: Option<(Place, Option<u32>)>, words: &[&str]) -
 }
 
 /// The further place that a word names.
-fn asked_in(naming: Naming, word: &str) -> Option<(Place, Option<u32>)>
-    ensures value { result ≡ asked_in naming word.now }
+fn called_in(naming: Naming, word: &str) -> Option<(Place, Option<u32>)>
+    ensures value { result ≡ called_in naming word.now }
     ensures range { IfSome result (λ p. IfSome p.1 (λ n. n < 2 ^ 24)) }
 {
     match naming {
-        Naming::Plain => asked_with(place_in(word), None),
+        Naming::Plain => called_with(place_in(word), None),
         Naming::Numbered => numbered_in(word),
     }
 }
@@ -347,14 +347,14 @@ fn numbered_in(word: &str) -> Option<(Place, Option<u32>)>
     ensures range { IfSome result (λ p. IfSome p.1 (λ n. n < 2 ^ 24)) }
 {
     match word.split_once(':') {
-        None => asked_with(place_in(word), None),
-        Some((place, digits)) => asked_with(place_in(place), Some(digits)),
+        None => called_with(place_in(word), None),
+        Some((place, digits)) => called_with(place_in(place), Some(digits)),
     }
 }
 
-/// A place, with the number that is said, if one is.
-fn asked_with(place: Option<Place>, digits: Option<&str>) -> Option<(Place, Option<u32>)>
-    ensures value { result ≡ asked_with place (option_map (λ t. t.now) digits.entry) }
+/// A place, with the number that is given, if one is.
+fn called_with(place: Option<Place>, digits: Option<&str>) -> Option<(Place, Option<u32>)>
+    ensures value { result ≡ called_with place (option_map (λ t. t.now) digits.entry) }
     ensures range { IfSome result (λ p. IfSome p.1 (λ n. n < 2 ^ 24)) }
 {
     let place = place?;

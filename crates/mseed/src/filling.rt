@@ -23,7 +23,7 @@ use std::alloc::{Allocator, Global};
 /// What comes next of an input.
 #[derive(Clone, Copy, Debug)]
 pub(crate) enum Step {
-    /// A record, which a ring took.
+    /// A record, which a ring accepted.
     Pushed,
     /// Its end, where a record ended.
     Ended,
@@ -42,7 +42,7 @@ pub fn fill<A: Allocator + Copy, R: Source>(
     input: &mut R,
 ) -> Result<Feed<A>, FillFault>
     requires unread { R.read input.old ≡ nothing_read }
-    requires asked { CanServe serving.now }
+    requires called { CanServe serving.now }
     ensures { IsFilling serving.now result (R.read input.new) }
 {
     let mut feed = open(alloc, serving)?;
@@ -82,7 +82,7 @@ fn push_next<A: Allocator, R: Source>(
     }
 }
 
-/// What came of the record of this number, of which it is known whether a ring took it.
+/// What came of the record of this number, of which it is known whether a ring accepted it.
 fn answer(is_pushed: bool, number: u64) -> Result<Step, FillFault>
     ensures yes { OnTrue is_pushed (result ≡ Ok Step.Pushed) }
     ensures no { OnFalse is_pushed (result ≡ Err (FillFault.Foreign number)) }

@@ -54,6 +54,6 @@ Statuses:
   0  done; of audit: each channel is continuous
   1  of audit: a channel is broken; of repack: one isn't continuous, and nothing was written, or
      with --leave the others
-  2  a fault: of the input, the output or a connection, of what is asked for, or out of memory;
+  2  a fault: of the input, the output or a connection, of what is called for, or out of memory;
      a line says which
   3  a bad command line, this help, or the version";

@@ -8,7 +8,7 @@ ghost use Rattle.mseed.specs.Addresses.{host_with, is_in_name, is_name, name_in,
 use crate::numbers::number_in;
 use slink_links::{Address, Host, Name, Timeout};
 
-/// The address to listen at: that of this machine where none is said.
+/// The address to listen at: that of this machine where none is given.
 pub(crate) fn address_of(text: Option<&str>) -> Option<Address>
     ensures { result ≡ address_of (option_map (λ t. t.now) text.entry) }
 {
@@ -18,7 +18,7 @@ pub(crate) fn address_of(text: Option<&str>) -> Option<Address>
     }
 }
 
-/// Whom to ask: this machine where nobody is said.
+/// Whom to ask: this machine where nobody is named.
 pub(crate) fn host_of(text: Option<&str>) -> Option<Host>
     ensures { result ≡ host_of (option_map (λ t. t.now) text.entry) }
 {
@@ -28,7 +28,7 @@ pub(crate) fn host_of(text: Option<&str>) -> Option<Host>
     }
 }
 
-/// How long a link may be silent: ten minutes where nothing is said.
+/// How long a link may be silent: ten minutes where nothing is given.
 pub(crate) fn timeout_in(text: Option<&str>) -> Option<Timeout>
     ensures value { result ≡ timeout_in (option_map (λ t. t.now) text.entry) }
     ensures range { IfSome result IsTimeout }

@@ -78,10 +78,10 @@ fn links_of(living: &Living) -> Plan {
 }
 
 /// Serves a feed to the links of a device, as the records of its input come, and answers the exit status. Each place
-/// has a ring of the capacity that was asked for, without records at first.
+/// has a ring of the capacity that was requested, without records at first.
 ///
-/// What is wrong with the input is told on `errors` at once. What came before it stays served, and nothing behind it
-/// is.
+/// What is wrong with the input is reported on `errors` at once. What came before it stays served, and nothing behind
+/// it is.
 pub fn serve_live<R: Device, E: Sink>(
     alloc: Global,
     living: &Living,
@@ -89,7 +89,7 @@ pub fn serve_live<R: Device, E: Sink>(
     errors: &mut E,
 ) -> u8
     requires new { R.log ready.old ≡ [] }
-    requires asked { CanLive living.now }
+    requires called { CanLive living.now }
     ensures { HasServed (feed_of living.now.serving []) (R.is_over ready.new) (R.log ready.new) result
         (E.written errors.old) (E.written errors.new) }
 {
@@ -168,7 +168,7 @@ fn end_of<R: Device, E: Sink>(ready: &R, due: u8, errors: &mut E) -> u8
 /// Says that a link failed, and answers the exit status.
 fn link_failed<E: Sink>(errors: &mut E) -> u8
     ensures status { result ≡ 2 }
-    ensures told { Tells (codes "mseed: link failed\n") (E.written errors.old) (E.written errors.new) }
+    ensures reported { Tells (codes "mseed: link failed\n") (E.written errors.old) (E.written errors.new) }
 {
     tell(errors, b"mseed: link failed\n");
     FAULT

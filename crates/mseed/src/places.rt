@@ -1,4 +1,4 @@
-//! The places that a feed is asked for.
+//! The places that are requested of a feed.
 ghost use Rattle.std.specs.Prelude.{◌≡◌, ◌<◌, ◌≤◌, [], ◌∷◌, ◌++◌, length};
 ghost use Rattle.mseed.specs.Places.{has_place};
 
@@ -8,7 +8,7 @@ use std::marker::Model;
 /// The most places that a feed has.
 const MOST: usize = 16;
 
-/// One to sixteen places, each with the number of the record that is wanted first of it, where one is said.
+/// One to sixteen places, each with the number of the record that is wanted first of it, where one is given.
 #[derive(Drop)]
 pub struct Places {
     items: [(Place, Option<u32>); 16],
@@ -57,7 +57,7 @@ impl Places {
     pub fn has(&self, place: Place) -> bool
         ensures { result ≡ has_place place self.now }
     {
-        self.as_slice().iter().any(|asked| asked.0 == place)
+        self.as_slice().iter().any(|called| called.0 == place)
     }
 
     /// Adds a place.

@@ -22,7 +22,7 @@ pub fn plan_serve<A: Allocator + Copy, R: Source, E: Sink>(
     errors: &mut E,
 ) -> Run<A>
     requires unread { R.read input.old ≡ nothing_read }
-    requires asked { CanServe serving.now }
+    requires called { CanServe serving.now }
     ensures run { IsServeRun serving.now result (R.read input.new) (E.written errors.old) (E.written errors.new) }
     ensures served { CanBeServed result }
 {
@@ -54,7 +54,7 @@ pub fn plan_fetch(fetching: &Fetching) -> FetchPlan
     }
 }
 
-/// A new client, which goes past holes where that is asked for.
+/// A new client, which goes past holes where that is requested.
 fn client_of(fetching: &Fetching) -> Client
     requires { CanFetch fetching.now }
     ensures talk { result.talk ≡ talk_of fetching.now }

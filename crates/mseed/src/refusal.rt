@@ -1,5 +1,5 @@
 //! The lines that say why parts weren't joined, an archive not packed anew, or a feed not filled. They are built
-//! without the heap: a line is told whatever memory there is.
+//! without the heap: a line is reported whatever memory there is.
 ghost use Rattle.std.specs.Prelude.{◌≡◌, ◌≤◌, ◌++◌, length, codes};
 ghost use Rattle.mseed_audit.specs.Text.{fault_line, name_text};
 ghost use Rattle.mseed_stream.specs.Telling.{Tells};
@@ -25,7 +25,7 @@ use mseed_stream::{Sink, StreamFault, tell};
 /// Says why an archive wasn't packed anew, and answers the exit status: a broken channel is no fault.
 pub fn refuse_to_repack<E: Sink>(errors: &mut E, fault: &RepackFault) -> u8
     ensures status { result ≡ refusal_status fault.now }
-    ensures told { Tells (refusal_text fault.now) (E.written errors.old) (E.written errors.new) }
+    ensures reported { Tells (refusal_text fault.now) (E.written errors.old) (E.written errors.new) }
 {
     match fault {
         RepackFault::Stream(fault) => tell_fault(errors, fault),
@@ -42,7 +42,7 @@ pub fn refuse_to_repack<E: Sink>(errors: &mut E, fault: &RepackFault) -> u8
 /// Says why an archive wasn't packed anew by stretches, and answers the exit status: a broken channel is no fault.
 pub fn refuse_to_stretch<E: Sink>(errors: &mut E, fault: &StretchesFault) -> u8
     ensures status { result ≡ stretches_status fault.now }
-    ensures told { Tells (stretches_text fault.now) (E.written errors.old) (E.written errors.new) }
+    ensures reported { Tells (stretches_text fault.now) (E.written errors.old) (E.written errors.new) }
 {
     match fault {
         StretchesFault::Stream(fault) => tell_fault(errors, fault),
@@ -59,7 +59,7 @@ pub fn refuse_to_stretch<E: Sink>(errors: &mut E, fault: &StretchesFault) -> u8
 /// Says why a feed wasn't filled, and answers the exit status.
 pub fn refuse_to_serve<E: Sink>(errors: &mut E, fault: &FillFault) -> u8
     ensures status { result ≡ 2 }
-    ensures told { Tells (fill_text fault.now) (E.written errors.old) (E.written errors.new) }
+    ensures reported { Tells (fill_text fault.now) (E.written errors.old) (E.written errors.new) }
 {
     match fault {
         FillFault::Stream(fault) => tell_fault(errors, fault),
@@ -71,7 +71,7 @@ pub fn refuse_to_serve<E: Sink>(errors: &mut E, fault: &FillFault) -> u8
 /// Says why parts weren't joined, and answers the exit status.
 pub fn refuse_to_join<E: Sink>(errors: &mut E, fault: &JoinsFault) -> u8
     ensures status { result ≡ 2 }
-    ensures told { Tells (join_fault_text fault.now) (E.written errors.old) (E.written errors.new) }
+    ensures reported { Tells (join_fault_text fault.now) (E.written errors.old) (E.written errors.new) }
 {
     match fault {
         JoinsFault::Line(number) => tell_bad_line(errors, *number),
@@ -84,7 +84,7 @@ pub fn refuse_to_join<E: Sink>(errors: &mut E, fault: &JoinsFault) -> u8
 /// Says with what fault the input ended.
 fn tell_fault<E: Sink>(errors: &mut E, fault: &StreamFault) -> u8
     ensures status { result ≡ 2 }
-    ensures told { Tells (codes "mseed: " ++ fault_line fault.now) (E.written errors.old) (E.written errors.new) }
+    ensures reported { Tells (codes "mseed: " ++ fault_line fault.now) (E.written errors.old) (E.written errors.new) }
 {
     let line = line_of(&[Words(b"mseed: "), Words(&fault_line_of(fault))]);
     tell(errors, &line);
@@ -94,7 +94,7 @@ fn tell_fault<E: Sink>(errors: &mut E, fault: &StreamFault) -> u8
 /// Says that a channel is broken.
 fn refuse_broken<E: Sink>(errors: &mut E, channel: &Codes) -> u8
     ensures status { result ≡ 1 }
-    ensures told { Tells (broken_line channel.now) (E.written errors.old) (E.written errors.new) }
+    ensures reported { Tells (broken_line channel.now) (E.written errors.old) (E.written errors.new) }
 {
     tell_broken(channel, errors);
     BROKEN
@@ -128,7 +128,7 @@ fn reason(fault: &PackFault) -> &'static [u8]
 /// Says which line of parts is bad.
 fn tell_bad_line<E: Sink>(errors: &mut E, number: u64) -> u8
     ensures status { result ≡ 2 }
-    ensures told { Tells (join_fault_text (JoinsFault.Line number)) (E.written errors.old) (E.written errors.new) }
+    ensures reported { Tells (join_fault_text (JoinsFault.Line number)) (E.written errors.old) (E.written errors.new) }
 {
     let line = line_of(&[
         Words(b"mseed: bad part at line "),
@@ -142,7 +142,7 @@ fn tell_bad_line<E: Sink>(errors: &mut E, number: u64) -> u8
 /// Says which record isn't the feed's.
 fn tell_foreign<E: Sink>(errors: &mut E, number: u64) -> u8
     ensures status { result ≡ 2 }
-    ensures told { Tells (fill_text (FillFault.Foreign number)) (E.written errors.old) (E.written errors.new) }
+    ensures reported { Tells (fill_text (FillFault.Foreign number)) (E.written errors.old) (E.written errors.new) }
 {
     let line = line_of(&[
         Words(b"mseed: record "),

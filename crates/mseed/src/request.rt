@@ -4,7 +4,7 @@ use mseed_join::Form;
 use mseed_pack::Encoding;
 use slink_links::{Address, Host, Timeout};
 
-/// What the program is asked to do.
+/// What the program is to do.
 #[derive(Drop)]
 pub enum Request {
     /// Audit the archive on standard input.
@@ -100,7 +100,7 @@ pub struct Serving {
 #[derive(Drop)]
 pub struct Living {
     /// Where connections are taken, and the rings. Its count of connections is that of a `serve` that names none, and
-    /// isn't asked for.
+    /// isn't requested.
     pub serving: Serving,
     /// So many connections stand at once.
     pub clients: u32,
@@ -113,9 +113,9 @@ pub struct Fetching {
     pub server: Server,
     /// At most so many connections are tried.
     pub tries: u32,
-    /// Whose records are asked for, and from which number on.
+    /// Whose records are requested, and from which number on.
     pub places: Places,
-    /// Whether standard error is told of the first record of each place and, at the end, how to go on.
+    /// Whether standard error is informed of the first record of each place and, at the end, how to go on.
     pub tell_next: bool,
     /// Whether records behind a hole are taken.
     pub holes: bool,

@@ -70,7 +70,7 @@ fn list<A: Allocator + Copy, R: Source, W: Sink>(
 }
 
 /// Adds the next record's line, or answers how the input ends. A record that the input holds whole isn't copied. Where
-/// it holds none, the lines that are gathered are written before it is asked.
+/// it holds none, the lines that are gathered are written before it is called.
 fn push_next<A: Allocator, R: Source, W: Sink>(
     cutter: &mut Cutter<A>,
     input: &mut R,

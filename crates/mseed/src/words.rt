@@ -8,7 +8,7 @@ ghost use Rattle.clap.specs.Kinds.{HasKind};
 ghost use Rattle.clap.specs.declared.builder.value_parser.ValueParser.TheVariants.{Signed};
 ghost use Rattle.mseed.specs.Words.{faults_in, entries_in, request_of, request_named, packing_by, packing_of};
 ghost use Rattle.mseed.specs.Words.{packing_with};
-ghost use Rattle.mseed.specs.Words.{CanBeAsked, auditing_by, auditing_of, form_by, joining_by, joining_of, showing_of};
+ghost use Rattle.mseed.specs.Words.{CanBeCalled, auditing_by, auditing_of, form_by, joining_by, joining_of, showing_of};
 ghost use Rattle.mseed.specs.Words.{serving_by, exponent_in, exponent_by, encoding_in, encoding_named};
 ghost use Rattle.mseed.specs.Options.{bare_command, the_command, word_rule, places_rule, packing_rules, feed_rules};
 ghost use Rattle.mseed.specs.Options.{number_rules, flag_rule, flag_rules, option_rule, number_rule, with_rules};
@@ -35,7 +35,7 @@ pub fn read<'a>(alloc: Global, words: &'a [&'a str]) -> Result<Option<Request>, 
     ensures taken { OnOk result (faults_in (map (λ word. word.now) words.entry.now) ≡ []) }
     ensures request { IfOk result (λ request. request
         ≡ request_of (entries_in (map (λ word. word.now) words.entry.now))) }
-    ensures range { IfOk result (λ request. IfSome request CanBeAsked) }
+    ensures range { IfOk result (λ request. IfSome request CanBeCalled) }
     ensures refused { IfErr result (λ e. HasKind (faults_in (map (λ word. word.now) words.entry.now)) e) }
 {
     let matches = command(alloc)?.try_get_matches_from(words)?;
@@ -45,7 +45,7 @@ pub fn read<'a>(alloc: Global, words: &'a [&'a str]) -> Result<Option<Request>, 
 /// What was read asks for.
 fn request_of(matches: &ArgMatches<'_>) -> Option<Request>
     ensures value { result ≡ request_of (rows_of (found_of matches.now)) }
-    ensures range { IfSome result CanBeAsked }
+    ensures range { IfSome result CanBeCalled }
 {
     match text_of(matches, "command") {
         Some(word) => request_named(word, matches),
@@ -56,7 +56,7 @@ fn request_of(matches: &ArgMatches<'_>) -> Option<Request>
 /// What a command's word asks for.
 fn request_named(word: &str, matches: &ArgMatches<'_>) -> Option<Request>
     ensures value { result ≡ request_named word.now (rows_of (found_of matches.now)) }
-    ensures range { IfSome result CanBeAsked }
+    ensures range { IfSome result CanBeCalled }
 {
     match word {
         "audit" => auditing_of(matches),
@@ -69,10 +69,10 @@ fn request_named(word: &str, matches: &ArgMatches<'_>) -> Option<Request>
     }
 }
 
-/// What serving is asked for: all of the input first, or while it comes.
+/// What is requested of serving: all of the input first, or while it comes.
 fn serving_by(live: bool, matches: &ArgMatches<'_>) -> Option<Request>
     ensures value { result ≡ serving_by live (rows_of (found_of matches.now)) }
-    ensures range { IfSome result CanBeAsked }
+    ensures range { IfSome result CanBeCalled }
 {
     if live {
         Some(Request::Live(living_of(matches)?))
@@ -81,10 +81,10 @@ fn serving_by(live: bool, matches: &ArgMatches<'_>) -> Option<Request>
     }
 }
 
-/// What auditing is asked for, by its flags.
+/// What is requested of auditing, by its flags.
 fn auditing_of(matches: &ArgMatches<'_>) -> Option<Request>
     ensures value { result ≡ auditing_of (rows_of (found_of matches.now)) }
-    ensures range { IfSome result CanBeAsked }
+    ensures range { IfSome result CanBeCalled }
 {
     if !has_only(matches, &["command", "each", "part"]) {
         return None;
@@ -95,7 +95,7 @@ fn auditing_of(matches: &ArgMatches<'_>) -> Option<Request>
 /// What an audit writes: with a line for each finding or without, the text of the audit or its part.
 fn auditing_by(each: bool, part: bool) -> Request
     ensures value { result ≡ auditing_by each part }
-    ensures range { CanBeAsked result }
+    ensures range { CanBeCalled result }
 {
     match (each, part) {
         (false, false) => Request::Audit,
@@ -105,10 +105,10 @@ fn auditing_by(each: bool, part: bool) -> Request
     }
 }
 
-/// What joining is asked for, by its flags.
+/// What is requested of joining, by its flags.
 fn joining_of(matches: &ArgMatches<'_>) -> Option<Request>
     ensures value { result ≡ joining_of (rows_of (found_of matches.now)) }
-    ensures range { IfSome result CanBeAsked }
+    ensures range { IfSome result CanBeCalled }
 {
     if !has_only(matches, &["command", "each", "part", "past-faults"]) {
         return None;
@@ -120,10 +120,10 @@ fn joining_of(matches: &ArgMatches<'_>) -> Option<Request>
     )
 }
 
-/// What joining is asked for: with a line for each border, the text of the audit alone.
+/// What is requested of joining: with a line for each border, the text of the audit alone.
 fn joining_by(each: bool, part: bool, past_faults: bool) -> Option<Request>
     ensures value { result ≡ joining_by each part past_faults }
-    ensures range { IfSome result CanBeAsked }
+    ensures range { IfSome result CanBeCalled }
 {
     match (each, part) {
         (true, true) => None,
@@ -145,7 +145,7 @@ fn form_by(part: bool) -> Form
 /// The command that lists takes its word alone.
 fn showing_of(matches: &ArgMatches<'_>) -> Option<Request>
     ensures value { result ≡ showing_of (rows_of (found_of matches.now)) }
-    ensures range { IfSome result CanBeAsked }
+    ensures range { IfSome result CanBeCalled }
 {
     if has_only(matches, &["command"]) {
         Some(Request::Show)
@@ -154,10 +154,10 @@ fn showing_of(matches: &ArgMatches<'_>) -> Option<Request>
     }
 }
 
-/// What the command that packs anew is asked for, by its options.
+/// What is requested of the command that packs anew, by its options.
 fn packing_of(matches: &ArgMatches<'_>) -> Option<Request>
     ensures value { result ≡ packing_of (rows_of (found_of matches.now)) }
-    ensures range { IfSome result CanBeAsked }
+    ensures range { IfSome result CanBeCalled }
 {
     if !has_only(
         matches,
@@ -176,7 +176,7 @@ fn packing_of(matches: &ArgMatches<'_>) -> Option<Request>
 fn packing_by(packing: Option<Packing>, stretches: bool, leave: bool) -> Option<Request>
     requires { IfSome packing (λ p. (7 ≤ p.exponent) × (p.exponent ≤ 12)) }
     ensures value { result ≡ packing_by packing stretches leave }
-    ensures range { IfSome result CanBeAsked }
+    ensures range { IfSome result CanBeCalled }
 {
     match (packing, stretches, leave) {
         (None, _, _) => None,
@@ -198,7 +198,7 @@ fn packing_with(exponent: Option<u8>, encoding: Option<Encoding>) -> Option<Pack
     }
 }
 
-/// The power of two that a record's length is: of 512 bytes where none is said.
+/// The power of two that a record's length is: of 512 bytes where none is given.
 fn exponent_in(text: Option<&str>) -> Option<u8>
     ensures value { result ≡ exponent_in (option_map (λ t. t.now) text.entry) }
     ensures range { IfSome result (λ e. (7 ≤ e) × (e ≤ 12)) }
@@ -225,7 +225,7 @@ fn exponent_by(length: u32) -> Option<u8>
     }
 }
 
-/// The encoding of packed records: Steim-2 where none is said.
+/// The encoding of packed records: Steim-2 where none is given.
 fn encoding_in(word: Option<&str>) -> Option<Encoding>
     ensures { result ≡ encoding_in (option_map (λ w. w.now) word.entry) }
 {

@@ -8,16 +8,16 @@ use Rattle.mseed_stream.specs.Standing.{Standing}
 use Rattle.mseed_stream.specs.Walk.{AreAllViews, AreViews, HasHandedOut}
 use Rattle.mseed.specs.declared.show.Step.{Step}
 use Rattle.mseed.specs.declared.show.Step.TheVariants.{Listed, Ended}
-use Rattle.mseed.specs.Show.{IsShown, TookFirst, TookPart}
+use Rattle.mseed.specs.Show.{IsShown, EmittedFirst, EmittedPart}
 use Rattle.mseed.specs.declared.ending.ShowFault.{ShowFault}
 use Rattle.mseed.specs.declared.ending.ShowFault.TheVariants.{Write, Memory}
 
 -- a prefix of some text was written before the fault, which is the output's where the output failed
 abbrev pub IsPrefixWritten : ShowFault → BytesWritten → BytesWritten → List ℕ → Type 0
-IsPrefixWritten Write old new text = (new.failures ≡ old.failures + 1) × TookPart old new text
-IsPrefixWritten Memory old new text = (new.failures ≡ old.failures) × TookFirst old new text
+IsPrefixWritten Write old new text = (new.failures ≡ old.failures + 1) × EmittedPart old new text
+IsPrefixWritten Memory old new text = (new.failures ≡ old.failures) × EmittedFirst old new text
 
--- the output took some bytes, and with those that are gathered they are a text
+-- the output accepted some bytes, and with those that are gathered they are a text
 pub record AreGathered (old new : BytesWritten) (gathered text : List ℕ) : Type 0 where
   pub taken : List ℕ
   pub bytes : new.bytes ≡ old.bytes ++ taken
@@ -33,7 +33,7 @@ pub record IsOneMore (views : List View) (offset : ℕ) (old new : BytesRead) (c
     (Adds : List ℕ → Type 0) : Type 0 where
   pub view : View
   pub handed : HasHandedOut new c (views ++ view ∷ [])
-  pub asked : old.calls < new.calls
+  pub called : old.calls < new.calls
   pub line : Adds (record_line offset view)
 
 -- What comes next of an input, behind these records: one more, its end, so that they are all, or a fault.

@@ -18,12 +18,12 @@ pub record HasFilled (serving : Serving) (h : BytesRead) (c : Standing) (feed : 
   pub each : AreOfFeed (served serving) (bytes_in views)
   pub feed_is : feed ≡ feed_of serving (bytes_in views)
 
--- a record more than these went into its ring, which the source was asked for
+-- a record more than these went into its ring, for which the source was called
 pub record IsPushedAlso (serving : Serving) (old new : BytesRead) (c : Standing) (feed : List Window)
     (views : List View) : Type 0 where
   pub view : View
   pub filled : HasFilled serving new c feed (views ++ view ∷ [])
-  pub asked : old.calls < new.calls
+  pub called : old.calls < new.calls
 
 -- What comes next of an input, behind these records: one more, its end, or what is wrong.
 abbrev pub IsNextPushed : Serving → Result Step FillFault → List View → BytesRead → BytesRead → Standing → List Window

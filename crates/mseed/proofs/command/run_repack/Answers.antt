@@ -10,7 +10,7 @@ returns-in-Ok-repack g c = record {
   sequence = c.in-Ok.ensures.sequence;
   outcome = Ok tt;
   packed = c.in-Ok-repack.ensures;
-  told = (refl, refl);
+  reported = (refl, refl);
 }
 
 pub returns-in-Err-repack : goal.returns-in-Err-repack
@@ -21,5 +21,5 @@ returns-in-Err-repack g c = record {
   sequence = c.in-Ok.ensures.sequence;
   outcome = Err c.in-Err-repack.fault;
   packed = c.in-Err-repack.ensures;
-  told = record { status_is = c.refuse_to_repack.ensures.status; told = c.refuse_to_repack.ensures.told };
+  reported = record { status_is = c.refuse_to_repack.ensures.status; reported = c.refuse_to_repack.ensures.reported };
 }

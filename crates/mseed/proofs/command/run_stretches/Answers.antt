@@ -9,9 +9,9 @@ returns-in-Ok-repack_stretches g c = record {
   encoding = one_encoding c.in-Ok.options.encoding c.args.packing.encoding (c.in-Ok.ensures.encoding ∙ c.code.ensures);
   sequence = c.in-Ok.ensures.sequence;
   outcome = Ok c.in-Ok-repack_stretches.left;
-  told_between = g.E.Sink.written c.repack_stretches.new.errors;
+  reported_between = g.E.Sink.written c.repack_stretches.new.errors;
   packed = c.in-Ok-repack_stretches.ensures;
-  told = (c.left_status.ensures, refl);
+  reported = (c.left_status.ensures, refl);
 }
 
 pub returns-in-Err-repack_stretches : goal.returns-in-Err-repack_stretches
@@ -21,7 +21,7 @@ returns-in-Err-repack_stretches g c = record {
   encoding = one_encoding c.in-Ok.options.encoding c.args.packing.encoding (c.in-Ok.ensures.encoding ∙ c.code.ensures);
   sequence = c.in-Ok.ensures.sequence;
   outcome = Err c.in-Err-repack_stretches.fault;
-  told_between = g.E.Sink.written c.repack_stretches.new.errors;
+  reported_between = g.E.Sink.written c.repack_stretches.new.errors;
   packed = c.in-Err-repack_stretches.ensures;
-  told = (c.refuse_to_stretch.ensures.status, c.refuse_to_stretch.ensures.told);
+  reported = (c.refuse_to_stretch.ensures.status, c.refuse_to_stretch.ensures.reported);
 }

@@ -5,8 +5,8 @@ use Rattle.std.proofs.lemmas.List.{drop_all, drop_more}
 use Rattle.std.proofs.lemmas.List.Elements.{All-push}
 use Rattle.clap.specs.Walk.{Text}
 use Rattle.slink_feed.specs.Dialogue.{AreNumbers}
-use Rattle.mseed.specs.FeedWords.{asked_in}
-use Rattle.mseed.specs.Places.{Asked, are_different, has_place}
+use Rattle.mseed.specs.FeedWords.{called_in}
+use Rattle.mseed.specs.Places.{Called, are_different, has_place}
 use Rattle.mseed.specs.declared.feed_words.Naming.{Naming}
 use Rattle.mseed.proofs.Different.{all_taken, different_more, doubled, one_more, too_many, with_rest}
 use Rattle.mseed.proofs.feed_words.gather.Goals as goal
@@ -14,20 +14,21 @@ use Rattle.mseed.proofs.feed_words.gather.Goals.{then-len-eq16-via-then-len-eq16
 use Rattle.mseed.proofs.feed_words.gather.Goals.{then-len-eq16-via-else-len-eq16+then-has}
 
 -- what the words ask for
-abbrev asked_of : Naming → List (Bor Text) → List (Option Asked)
-asked_of naming words = map (asked_in naming) (map (λ (w : Bor Text). w.now) words)
+abbrev called_of : Naming → List (Bor Text) → List (Option Called)
+called_of naming words = map (called_in naming) (map (λ (w : Bor Text). w.now) words)
 
 -- the next word, and the others
-next : (naming : Naming) (words : List (Bor Text)) (i : ℕ) (d : Bor Text) (p : Asked) → i < length words
-    → Some p ≡ asked_in naming (get_or words i d).now
-    → asked_of naming (drop i words) ≡ Some p ∷ asked_of naming (drop (i + 1) words)
+next : (naming : Naming) (words : List (Bor Text)) (i : ℕ) (d : Bor Text) (p : Called) → i < length words
+    → Some p ≡ called_in naming (get_or words i d).now
+    → called_of naming (drop i words) ≡ Some p ∷ called_of naming (drop (i + 1) words)
 next naming words i d p lt is =
-    ap (asked_of naming) (drop_more words i d lt) ∙ ap (λ (o : Option Asked). o ∷ asked_of naming (drop (i + 1) words))
+    ap (called_of naming) (drop_more words i d lt)
+    ∙ ap (λ (o : Option Called). o ∷ called_of naming (drop (i + 1) words))
     (sym is)
 
 pub returns-then-len-eq16-clause-value : goal.returns-then-len-eq16-clause-value
 returns-then-len-eq16-clause-value c =
-    let left = asked_of c.args.naming (drop (c.loop-word.word-index + 1) c.args.words.now) in
+    let left = called_of c.args.naming (drop (c.loop-word.word-index + 1) c.args.words.now) in
     let before = ap (with_rest c.loop-word.places)
     (sym (next c.args.naming c.args.words.now c.loop-word.word-index _ c.in_ok-place.place c.loop-word-test.true
     c.in_ok-place.ensures.value)) ∙ c.loop-word.invariant.0 in
@@ -40,26 +41,26 @@ returns-then-len-eq16-clause-value c =
 
 pub loop-word-preserved : goal.loop-word-preserved
 loop-word-preserved c =
-    let places : List Asked = c.loop-word.places in
-    let p : Asked = c.in_ok-place.place in
-    let left : List (Option Asked) = asked_of c.args.naming (drop (c.loop-word.word-index + 1) c.args.words.now) in
+    let places : List Called = c.loop-word.places in
+    let p : Called = c.in_ok-place.place in
+    let left : List (Option Called) = called_of c.args.naming (drop (c.loop-word.word-index + 1) c.args.words.now) in
     let before = ap (with_rest places)
     (sym (next c.args.naming c.args.words.now c.loop-word.word-index _ p c.loop-word-test.true
     c.in_ok-place.ensures.value)) ∙ c.loop-word.invariant.0 in
     let lacks : has_place p.0 places ≡ false = sym c.has.ensures ∙ c.if-has.false in
     let count : length (places ++ p ∷ []) ≡ length places + 1 = length-append places (p ∷ []) in
     let size : length c.push.new.self ≡ length (places ++ p ∷ []) = ap length c.push.ensures in (
-      ap (λ (all : List Asked). with_rest all left) c.push.ensures ∙ (sym (one_more places p left) ∙ before),
+      ap (λ (all : List Called). with_rest all left) c.push.ensures ∙ (sym (one_more places p left) ∙ before),
       ap are_different c.push.ensures ∙ different_more places p c.loop-word.invariant.1 lacks,
       subst AreNumbers (sym c.push.ensures)
-          (All-push (λ (q : Asked). IfSome q.1 (λ n. n < 2 ^ 24)) places p c.loop-word.invariant.2
+          (All-push (λ (q : Called). IfSome q.1 (λ n. n < 2 ^ 24)) places p c.loop-word.invariant.2
           c.in_ok-place.ensures.range),
       omega (arith, count, size),
       omega (arith, count, size, c.len.ensures.value, c.len.ensures.most, c.if-len-eq16.false),
     )
 
-ends : (naming : Naming) (words : List (Bor Text)) (i : ℕ) → length words ≤ i → asked_of naming (drop i words) ≡ []
-ends naming words i le = ap (asked_of naming) (drop_all i words le)
+ends : (naming : Naming) (words : List (Bor Text)) (i : ℕ) → length words ≤ i → called_of naming (drop i words) ≡ []
+ends naming words i le = ap (called_of naming) (drop_all i words le)
 
 pub returns-clause-value : goal.returns-clause-value
 returns-clause-value c =

@@ -3,47 +3,47 @@ use Rattle.clap.proofs.WalkLemmas.{raw_values-rows}
 use Rattle.clap.specs.Matches.{found_of}
 use Rattle.clap.specs.Walk.{Row, Text, first_of, rows_of}
 use Rattle.slink_wire.specs.Place.{Fields}
-use Rattle.mseed.specs.FeedWords.{asked_in, asked_with, place_named, places_in}
+use Rattle.mseed.specs.FeedWords.{called_in, called_with, place_named, places_in}
 use Rattle.mseed.specs.Found.{further_in}
-use Rattle.mseed.specs.Places.{Asked, places_of}
+use Rattle.mseed.specs.Places.{Called, places_of}
 use Rattle.mseed.specs.declared.feed_words.Naming.{Naming}
 use Rattle.mseed.proofs.feed_words.places_in.Goals as goal
 
--- the place of the two options, with what is said of its number
-first_is : (sta net from : Option Text) (rows : List Row) (place : Option Fields) (first : Option Asked)
+-- the place of the two options, with what is given of its number
+first_is : (sta net from : Option Text) (rows : List Row) (place : Option Fields) (first : Option Called)
     → sta ≡ first_of (codes "station") rows
-    → net ≡ first_of (codes "network") rows → place ≡ place_named sta net → first ≡ asked_with place from
-    → first ≡ asked_with (place_named (first_of (codes "station") rows) (first_of (codes "network") rows)) from
+    → net ≡ first_of (codes "network") rows → place ≡ place_named sta net → first ≡ called_with place from
+    → first ≡ called_with (place_named (first_of (codes "station") rows) (first_of (codes "network") rows)) from
 first_is sta net from rows place first s n p f =
-    f ∙ ap (λ (q : Option Fields). asked_with q from) (p
+    f ∙ ap (λ (q : Option Fields). called_with q from) (p
     ∙ (ap (λ (t : Option Text). place_named t net) s
     ∙ ap (λ (t : Option Text). place_named (first_of (codes "station") rows) t) n))
 
 -- all places
-all_are : (naming : Naming) (from : Option Text) (rows : List Row) (first : Option Asked) (further : List Text)
-    → first ≡ asked_with (place_named (first_of (codes "station") rows) (first_of (codes "network") rows)) from
+all_are : (naming : Naming) (from : Option Text) (rows : List Row) (first : Option Called) (further : List Text)
+    → first ≡ called_with (place_named (first_of (codes "station") rows) (first_of (codes "network") rows)) from
     → further ≡ further_in rows
-    → places_of (first ∷ map (asked_in naming) further) ≡ places_in naming from rows
+    → places_of (first ∷ map (called_in naming) further) ≡ places_in naming from rows
 all_are naming from rows first further f w =
-    ap (λ (p : Option Asked). places_of (p ∷ map (asked_in naming) further)) f
+    ap (λ (p : Option Called). places_of (p ∷ map (called_in naming) further)) f
     ∙ ap (λ (ws : List Text). places_of
-    (asked_with (place_named (first_of (codes "station") rows) (first_of (codes "network") rows)) from
-    ∷ map (asked_in naming) ws)) w
+    (called_with (place_named (first_of (codes "station") rows) (first_of (codes "network") rows)) from
+    ∷ map (called_in naming) ws)) w
 
 pub returns-in-Some-clause-value : goal.returns-in-Some-clause-value
 returns-in-Some-clause-value c =
     let rows : List Row = rows_of (found_of c.args.matches.now) in
-    let first = first_is _ _ _ rows c.place_named-place.result c.asked_with-first.result c.text_of.ensures
-    c.text_of-2.ensures c.place_named-place.ensures c.asked_with-first.ensures.value in
+    let first = first_is _ _ _ rows c.place_named-place.result c.called_with-first.result c.text_of.ensures
+    c.text_of-2.ensures c.place_named-place.ensures c.called_with-first.ensures.value in
     let further = ap (λ (o : Option (List Text)). unwrap_or o []) (c.in-Some.ensures
     ∙ raw_values-rows (found_of c.args.matches.now) (codes "place")) in
-    c.gather.ensures.value ∙ all_are c.args.naming _ rows c.asked_with-first.result _ first further
+    c.gather.ensures.value ∙ all_are c.args.naming _ rows c.called_with-first.result _ first further
 
 pub returns-in-None-clause-value : goal.returns-in-None-clause-value
 returns-in-None-clause-value c =
     let rows : List Row = rows_of (found_of c.args.matches.now) in
-    let first = first_is _ _ _ rows c.place_named-place.result c.asked_with-first.result c.text_of.ensures
-    c.text_of-2.ensures c.place_named-place.ensures c.asked_with-first.ensures.value in
+    let first = first_is _ _ _ rows c.place_named-place.result c.called_with-first.result c.text_of.ensures
+    c.text_of-2.ensures c.place_named-place.ensures c.called_with-first.ensures.value in
     let further = ap (λ (o : Option (List Text)). unwrap_or o []) (c.in-None.ensures
     ∙ raw_values-rows (found_of c.args.matches.now) (codes "place")) in
-    c.gather-in-None.ensures.value ∙ all_are c.args.naming _ rows c.asked_with-first.result _ first further
+    c.gather-in-None.ensures.value ∙ all_are c.args.naming _ rows c.called_with-first.result _ first further

@@ -1,5 +1,5 @@
 use Rattle.std.proofs.Common.{◌∙◌, List, ap, arith, get_or, length, rules}
-use Rattle.mseed.specs.Places.{Asked}
+use Rattle.mseed.specs.Places.{Called}
 use Rattle.mseed.proofs.Fills.{opened_all, opened_few, opened_more, opened_other}
 use Rattle.mseed.proofs.filling.open.Goals as goal
 
@@ -12,7 +12,7 @@ add_other-requires g c = (
         c.loop-place.invariant,
     opened_other c.args.serving.now c.loop-place.place-index c.loop-place-item.result c.loop-place.feed c.in-Ok.ring
         c.requires.places.different (omega (arith, c.loop-place-test.true, ap length c.as_slice-place-items.ensures))
-        (c.loop-place-item.is ∙ ap (λ (xs : List Asked). get_or xs c.loop-place.place-index c.loop-place-item.result)
+        (c.loop-place-item.is ∙ ap (λ (xs : List Called). get_or xs c.loop-place.place-index c.loop-place-item.result)
         c.as_slice-place-items.ensures) c.in-Ok.ensures.empty c.loop-place.invariant,
   ),
 )
@@ -22,7 +22,7 @@ loop-place-preserved g c =
     opened_more c.args.serving.now c.loop-place.place-index c.loop-place-item.result c.loop-place.feed
     c.add_other.new.self c.in-Ok.ring
     (omega (arith, c.loop-place-test.true, ap length c.as_slice-place-items.ensures))
-    (c.loop-place-item.is ∙ ap (λ (xs : List Asked). get_or xs c.loop-place.place-index c.loop-place-item.result)
+    (c.loop-place-item.is ∙ ap (λ (xs : List Called). get_or xs c.loop-place.place-index c.loop-place-item.result)
     c.as_slice-place-items.ensures) c.in-Ok.ensures.empty c.loop-place.invariant c.add_other.ensures
 
 pub returns-clause-ok : goal.returns-clause-ok

@@ -20,7 +20,7 @@ returns-in-Some g c = λ serving views can filled number.
     c.args.feed.now c.push_record-is_pushed.new.feed (g.R.Source.read c.args.input.now)
     (g.R.Source.read c.pass.new.source) c.pass.new.self can c.bytes.ensures.value
     (c.pass.ensures.handed views view filled.handed is.0 same)
-    (omega (arith, ap (λ (h : BytesRead). h.calls) c.pass.ensures.told)) filled.each filled.feed_is number
+    (omega (arith, ap (λ (h : BytesRead). h.calls) c.pass.ensures.reported)) filled.each filled.feed_is number
     c.push_record-is_pushed.ensures.yes c.push_record-is_pushed.ensures.no c.answer.ensures.yes c.answer.ensures.no
 
 pub returns-in-Some-2 : goal.returns-in-Some-2
@@ -28,14 +28,14 @@ returns-in-Some-2 g c = λ serving views can filled number.
     let view : View = view_of c.in-Some-2.view in
     let read : BytesRead = g.R.Source.read c.next.new.source in
     let some = c.in-Some-2.is in
-    let asked = rw some at c.in_ok-view.ensures.asked in
+    let called = rw some at c.in_ok-view.ensures.called in
     let handed : HasHandedOut read c.next.follows.lender-at-none (views ++ view ∷ []) =
     handed_on c.next.result c.in_ok-view.field-0 c.in-Some-2.view
     (λ more. HasHandedOut read c.next.follows.lender-at-none (views ++ more)) c.in_ok-view.was
     c.in-Some-2.is (c.next.follows.holds-at-none.4 views filled.handed) in
     pushed_next serving views view c.bytes-in-Some-2.result.now c.args.number c.answer-in-Some-2.result
     c.push_record.result c.args.feed.now c.push_record.new.feed (g.R.Source.read c.args.input.now) read
-    c.next.follows.lender-at-none can c.bytes-in-Some-2.ensures.value handed asked filled.each filled.feed_is
+    c.next.follows.lender-at-none can c.bytes-in-Some-2.ensures.value handed called filled.each filled.feed_is
     number c.push_record.ensures.yes c.push_record.ensures.no c.answer-in-Some-2.ensures.yes
     c.answer-in-Some-2.ensures.no
 

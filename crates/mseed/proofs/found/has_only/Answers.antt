@@ -3,7 +3,7 @@ use Rattle.std.specs.List.{list_all}
 use Rattle.clap.specs.Matches.{found_of, ids_left}
 use Rattle.clap.specs.Walk.{Row, Text, rows_of}
 use Rattle.mseed.specs.Found.{is_taken}
-use Rattle.mseed.proofs.Asked.{ids_are, left_some}
+use Rattle.mseed.proofs.Called.{ids_are, left_some}
 use Rattle.mseed.proofs.found.has_only.Goals as goal
 
 pub loop-id-init : goal.loop-id-init

@@ -2,7 +2,7 @@ use Rattle.std.proofs.Common.{◌≡◌, ◌&&◌, ◌||◌, Bool, true, false, 
 use Rattle.clap.specs.Matches.{found_of}
 use Rattle.clap.specs.Walk.{Row, Text, rows_of}
 use Rattle.mseed.specs.Found.{asks, flag_names, is_among}
-use Rattle.mseed.proofs.Asked.{named}
+use Rattle.mseed.proofs.Called.{named}
 use Rattle.mseed.proofs.found.is_taken.Goals as goal
 
 pub returns-then-is_among : goal.returns-then-is_among

@@ -8,4 +8,4 @@ returns-in-Ok g c =
     c.serve_live-status.ensures
 
 pub returns-in-Err : goal.returns-in-Err
-returns-in-Err g c = no_device c.refuse_memory.ensures.status c.refuse_memory.ensures.told
+returns-in-Err g c = no_device c.refuse_memory.ensures.status c.refuse_memory.ensures.reported

@@ -1,4 +1,5 @@
-use Rattle.std.proofs.Common.{◌≡◌, ℕ, subst}
+use Rattle.std.proofs.Common.{◌≡◌, ℕ, List, subst, sym}
+use Rattle.slink_live.specs.Input.{IsInputFault, places_of}
 use Rattle.mseed_stream.specs.Telling.{Tells}
 use Rattle.mseed.specs.Plans.{fill_text}
 use Rattle.mseed.specs.Live.{EndsWith, for_long, input_ended, input_wrong}
@@ -10,10 +11,12 @@ returns-in-Ok-clause-ended g c start v = input_ended (c.end_of.ensures c.serve.n
 
 pub returns-in-Ok-serve-clause-ended : goal.returns-in-Ok-serve-clause-ended
 returns-in-Ok-serve-clause-ended g c start v =
-    input_wrong c.in-Err.fault (g.R.Ready.log c.serve.new.ready)
-    (g.E.Sink.written c.refuse_to_serve-status.new.errors) (c.in-Err.ensures.fault start v)
+    input_wrong c.in-Err.fault (g.E.Sink.written c.refuse_to_serve-status.new.errors)
+    (subst (λ (bytes : List ℕ). IsInputFault (places_of start) bytes c.in-Err.fault)
+    (sym (c.serve-in-Err.ensures.unread c.in-Err.ensures.ended).1) (c.in-Err.ensures.fault start v))
     (subst (λ (f : FillFault). Tells (fill_text f) (g.E.Sink.written c.args.errors.now)
-    (g.E.Sink.written c.refuse_to_serve-status.new.errors)) c.fill_fault.ensures c.refuse_to_serve-status.ensures.told)
+    (g.E.Sink.written c.refuse_to_serve-status.new.errors)) c.fill_fault.ensures
+    c.refuse_to_serve-status.ensures.reported)
     (subst (λ (n : ℕ). EndsWith c.serve-in-Err.new.self (g.R.Ready.is_over c.serve-in-Err.new.ready) n
     c.end_of-in-Ok-serve.result (g.E.Sink.written c.refuse_to_serve-status.new.errors)
     (g.E.Sink.written c.end_of-in-Ok-serve.new.errors)) c.refuse_to_serve-status.ensures.status
@@ -21,9 +24,11 @@ returns-in-Ok-serve-clause-ended g c start v =
 
 pub returns-in-Err-serve-clause-ended : goal.returns-in-Err-serve-clause-ended
 returns-in-Err-serve-clause-ended g c start v =
-    for_long c.in-Err.fault c.in-Err-serve.field-0 (g.R.Ready.log c.serve.new.ready)
-    (g.E.Sink.written c.refuse_to_serve-status.new.errors) (c.in-Err.ensures.fault start v)
+    for_long c.in-Err.fault c.in-Err-serve.field-0 (g.E.Sink.written c.refuse_to_serve-status.new.errors)
+    (subst (λ (bytes : List ℕ). IsInputFault (places_of start) bytes c.in-Err.fault)
+    (sym (c.serve-in-Err.ensures.unread c.in-Err.ensures.ended).1) (c.in-Err.ensures.fault start v))
     (subst (λ (f : FillFault). Tells (fill_text f) (g.E.Sink.written c.args.errors.now)
-    (g.E.Sink.written c.refuse_to_serve-status.new.errors)) c.fill_fault.ensures c.refuse_to_serve-status.ensures.told)
+    (g.E.Sink.written c.refuse_to_serve-status.new.errors)) c.fill_fault.ensures
+    c.refuse_to_serve-status.ensures.reported)
     (c.in-Err-serve.ensures.fault start (c.in-Err.ensures.serving start v)) c.link_failed.ensures.status
-    c.link_failed.ensures.told
+    c.link_failed.ensures.reported

@@ -1,7 +1,7 @@
 use Rattle.std.proofs.Common.{◌≡◌, ◌≤◌, ◌<◌, ◌+◌, ◌-◌, ◌*◌, ◌^◌, ℕ, List, take, get_or, true, arith, suc, ap, sym, ◌∙◌}
 use Rattle.std.proofs.Math.Nat.{pow-suc, pow-le-pow_right}
 use Rattle.mseed.specs.Numbers.{is_digit, value_of}
-use Rattle.mseed.proofs.Asked.{all_more, below, digits_more}
+use Rattle.mseed.proofs.Called.{all_more, below, digits_more}
 use Rattle.mseed.proofs.numbers.number_in.Goals as goal
 
 pub overflow_mul-number : goal.overflow_mul-number

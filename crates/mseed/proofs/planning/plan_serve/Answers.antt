@@ -24,5 +24,5 @@ returns-in-Err-clause-run g c = record {
   filling = c.in-Err.ensures;
   only = c.one_filling.ensures c.args.serving.now (g.R.Source.read c.fill.new.input) (Err c.in-Err.fault)
       c.in-Err.ensures;
-  planned = (c.refuse_to_serve.ensures.status, c.refuse_to_serve.ensures.told);
+  planned = (c.refuse_to_serve.ensures.status, c.refuse_to_serve.ensures.reported);
 }

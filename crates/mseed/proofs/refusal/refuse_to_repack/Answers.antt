@@ -1,9 +1,9 @@
 use Rattle.mseed.proofs.refusal.refuse_to_repack.Goals as goal
 
-pub returns-in-Broken-clause-told : goal.returns-in-Broken-clause-told
-returns-in-Broken-clause-told g c = rw c.in-Broken.is c.refuse_broken.ensures.told
+pub returns-in-Broken-clause-reported : goal.returns-in-Broken-clause-reported
+returns-in-Broken-clause-reported g c = rw c.in-Broken.is c.refuse_broken.ensures.reported
 
-pub returns-in-Misfit-clause-told : goal.returns-in-Misfit-clause-told
-returns-in-Misfit-clause-told g c =
-    let told = rw c.reason.ensures.text at c.tell_of_channel.ensures in
-    rw c.in-Misfit.is told
+pub returns-in-Misfit-clause-reported : goal.returns-in-Misfit-clause-reported
+returns-in-Misfit-clause-reported g c =
+    let reported = rw c.reason.ensures.text at c.tell_of_channel.ensures in
+    rw c.in-Misfit.is reported

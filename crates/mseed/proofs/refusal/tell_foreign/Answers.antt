@@ -12,7 +12,7 @@ line_of-line-requires g c =
     let words = codes " is not of this feed\n" in
     omega (arith, digits, length-append (decimal n) words)
 
-pub returns-clause-told : goal.returns-clause-told
-returns-clause-told g c =
+pub returns-clause-reported : goal.returns-clause-reported
+returns-clause-reported g c =
     subst (λ (line : List ℕ). Tells line (g.E.Sink.written c.args.errors.now) (g.E.Sink.written c.tell.new.errors))
     (c.deref.ensures.0 ∙ c.line_of-line.ensures) c.tell.ensures

@@ -9,13 +9,13 @@ pub returns-in_ok-push_record_line-in-Ok-Some : goal.returns-in_ok-push_record_l
 returns-in_ok-push_record_line-in-Ok-Some g c = λ views before.
     let view : View = view_of c.in-Ok-Some.view in
     let some = c.in-Ok-Some.field-0-is in
-    let asked = rw some at c.in-Ok-Some.ensures.asked in
+    let called = rw some at c.in-Ok-Some.ensures.called in
     let handed : HasHandedOut (g.R.Source.read c.next.new.source) c.next.follows.lender-at-none (views ++ view ∷ []) =
     search rules in
     record {
       view = view;
       handed = handed;
-      asked = asked;
+      called = called;
       line = c.in_ok-push_record_line-in-Ok-Some.ensures
           ∙ ap (λ (xs : List ℕ). xs ++ record_line c.offset-offset.result view) c.requires.written
           ∙ ap (λ (n : ℕ). record_line n view) c.offset-offset.ensures;

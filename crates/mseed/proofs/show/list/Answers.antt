@@ -50,19 +50,19 @@ records-preserved g c =
     let more = rw c.in-Listed.is at c.in_ok-push_next.ensures views before.0 in
     let first : BytesWritten = g.W.Sink.written c.args.output.now in
     let old : BytesWritten = g.W.Sink.written c.records.output in
-    let told : BytesWritten = g.W.Sink.written c.push_next.new.output in
+    let reported : BytesWritten = g.W.Sink.written c.push_next.new.output in
     let new : BytesWritten = g.W.Sink.written c.write_beyond.new.output in
     let offset : ℕ = c.records.cutter.offset in
     let whole : List ℕ = record_lines 0 (views ++ more.view ∷ []) in
     let one = lines_more (g.R.Source.read c.records.input).bytes offset views more.view before.0.records in
-    let lines = gathered_more first old told c.records.text.items c.push_next.new.text.items (record_lines 0 views)
+    let lines = gathered_more first old reported c.records.text.items c.push_next.new.text.items (record_lines 0 views)
     (record_line offset more.view) whole before.1 more.line.lines one in
-    let written = gathered_on first told new c.push_next.new.text.items c.write_beyond.new.text.items whole lines
+    let written = gathered_on first reported new c.push_next.new.text.items c.write_beyond.new.text.items whole lines
     c.in_ok-write_beyond.ensures.ok in
     let number : c.records.records + 1 ≡ length (views ++ more.view ∷ []) =
     omega (arith, before.2, length-append views (more.view ∷ [])) in (
       more.handed.along,
-      omega (arith, c.records.invariant.1, more.asked),
+      omega (arith, c.records.invariant.1, more.called),
       c.in_ok-write_beyond.ensures.fine
           ∙ more.line.fine ∙ c.records.invariant.2,
       (views ++ more.view ∷ [], (more.handed, written, number)),
@@ -77,15 +77,15 @@ returns-in_err-write_beyond g c =
     let read : BytesRead = g.R.Source.read c.push_next.new.input in
     let first : BytesWritten = g.W.Sink.written c.args.output.now in
     let old : BytesWritten = g.W.Sink.written c.records.output in
-    let told : BytesWritten = g.W.Sink.written c.push_next.new.output in
+    let reported : BytesWritten = g.W.Sink.written c.push_next.new.output in
     let new : BytesWritten = g.W.Sink.written c.write_beyond.new.output in
     let fault : ShowFault = c.in_err-write_beyond.field-0.0 in
     let all : List View = views ++ more.view ∷ [] in
     let one = lines_more (g.R.Source.read c.records.input).bytes offset views more.view before.0.records in
-    let lines : AreGathered first told c.push_next.new.text.items (record_lines 0 all) =
-    gathered_more first old told c.records.text.items c.push_next.new.text.items (record_lines 0 views)
+    let lines : AreGathered first reported c.push_next.new.text.items (record_lines 0 all) =
+    gathered_more first old reported c.records.text.items c.push_next.new.text.items (record_lines 0 views)
     (record_line offset more.view) (record_lines 0 all) before.1 more.line.lines one in
-    let ends : IsShown (Err fault) read first new = cut_short fault read first told new c.push_next.new.text.items
+    let ends : IsShown (Err fault) read first new = cut_short fault read first reported new c.push_next.new.text.items
     c.push_next.new.cutter.offset all more.handed.records (more.line.fine ∙ c.records.invariant.2) lines
     c.in_err-write_beyond.ensures.err in
     gathered_err c.from_residual-in_err-write_beyond.result _ fault read first new c.write_beyond.new.text.items

@@ -21,7 +21,7 @@ returns-in-Some g c = λ views before.
     record {
       view = view;
       handed = c.pass.ensures.handed views view before is.0 same;
-      asked = omega (arith, ap (λ (h : BytesRead). h.calls) c.pass.ensures.told);
+      called = omega (arith, ap (λ (h : BytesRead). h.calls) c.pass.ensures.reported);
       line = record {
         lines = subst (λ (xs : List ℕ). AreGathered written written c.push_record_line.new.text.items xs) line
             (gathered_all written c.push_record_line.new.text.items);

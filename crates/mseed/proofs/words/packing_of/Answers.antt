@@ -2,7 +2,7 @@ use Rattle.std.proofs.Common.{Option, ap, ◌∙◌, sym}
 use Rattle.clap.specs.Matches.{found_of}
 use Rattle.clap.specs.Walk.{Text, rows_of}
 use Rattle.mseed.specs.Words.{encoding_in, exponent_in}
-use Rattle.mseed.proofs.Asked.{packing_is}
+use Rattle.mseed.proofs.Called.{packing_is}
 use Rattle.mseed.proofs.words.packing_of.Goals as goal
 
 pub returns-clause-value : goal.returns-clause-value
