@@ -212,7 +212,7 @@ pub fn start_line(alloc: Global, record: &RecordView) -> Result<Vec<u8>, AllocEr
     Ok(text)
 }
 
-/// Whether a channel's name is this one; no memory is asked for.
+/// Whether a channel's name is this one; no memory is requested.
 pub fn is_named(codes: &Codes, name: &[u8]) -> bool {
     name_of(codes).as_slice() == name
 }

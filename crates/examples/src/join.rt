@@ -25,15 +25,16 @@ pub fn part_with_findings(alloc: Global, bytes: &[u8]) -> Result<Vec<u8>, EachFa
     Ok(sink.into_inner())
 }
 
-/// The text of the audit of the archives of which a slice holds the parts. Faults that are passed are told on a device.
+/// The text of the audit of the archives of which a slice holds the parts. Faults that are passed are reported on a
+/// device.
 pub fn audit_of_parts<E: Sink>(
     alloc: Global,
     parts: &[u8],
-    told: &mut E,
+    reported: &mut E,
 ) -> Result<Vec<u8>, JoinsFault> {
     let mut source = Counted::new(parts);
     let mut sink = Counted::new(Vec::new(alloc));
-    join(alloc, Form::Audit, true, &mut source, &mut sink, told)?;
+    join(alloc, Form::Audit, true, &mut source, &mut sink, reported)?;
     Ok(sink.into_inner())
 }
 
@@ -41,22 +42,23 @@ pub fn audit_of_parts<E: Sink>(
 pub fn audit_with_borders<E: Sink>(
     alloc: Global,
     parts: &[u8],
-    told: &mut E,
+    reported: &mut E,
 ) -> Result<Vec<u8>, JoinsFault> {
     let mut source = Counted::new(parts);
     let mut sink = Counted::new(Vec::new(alloc));
-    join_each(alloc, true, &mut source, &mut sink, told)?;
+    join_each(alloc, true, &mut source, &mut sink, reported)?;
     Ok(sink.into_inner())
 }
 
-/// How many records the archives have of which a slice holds the parts. Faults that are passed are told on a device.
+/// How many records the archives have of which a slice holds the parts. Faults that are passed are reported on a
+/// device.
 pub fn records_of_parts<E: Sink>(
     alloc: Global,
     parts: &[u8],
-    told: &mut E,
+    reported: &mut E,
 ) -> Result<u64, PartsFault> {
     let mut source = Counted::new(parts);
-    let joint = read_parts(alloc, true, &mut source, told)?;
+    let joint = read_parts(alloc, true, &mut source, reported)?;
     Ok(joint.part.records())
 }
 

@@ -89,7 +89,7 @@ pub fn serve_over<S: Settle>(feed: &Feed, link: &mut S) -> Result<(), LinkFault>
     serve_link(feed, link)
 }
 
-/// Fetches over one link; whether the server has sent all that was asked for.
+/// Fetches over one link; whether the server has sent all that was requested.
 pub fn fetch_over<S: Settle, W: Sink>(client: &mut Client, link: &mut S, output: &mut W) -> bool {
     fetch_link(client, link, output) == FetchEnd::Done
 }
@@ -136,7 +136,7 @@ pub fn settled<S: Settle>(link: S) -> S {
 
 /// Waits for a second.
 pub fn wait_a_second<P: Pause>(waits: &mut P)
-    ensures { P.asked waits.new ≡ P.asked waits.old ++ 10 ∷ [] }
+    ensures { P.called waits.new ≡ P.called waits.old ++ 10 ∷ [] }
 {
     waits.pause(10);
 }

@@ -1,7 +1,7 @@
 //! Calls of `slink_live`.
 ghost use Rattle.std.specs.Prelude.{◌≡◌, ◌≤◌, ◌^◌, ◌++◌, ◌∷◌, [], IfOk, List};
 ghost use Rattle.slink_feed.specs.Window.{Window};
-ghost use Rattle.slink_live.specs.Happening.{Happening, Heard};
+ghost use Rattle.slink_live.specs.Happening.{Happening, Received};
 ghost use Rattle.slink_live.specs.Served.{IsServing, IsSound};
 
 use slink_feed::{Feed, Ring};
@@ -62,13 +62,13 @@ pub fn read_by_hand<R: Ready>(ready: &mut R, bytes: &mut [u8]) -> usize {
     }
 }
 
-/// A log of a link that came, said hello, took a line, and left, while the input gave a byte.
+/// A log of a link that came, sent hello, accepted a line, and left, while the input gave a byte.
 pub fn log_of_a_link() -> Log {
     let mut log = Log::new();
     log.opened(0);
-    log.heard(0, b"HELLO\r");
+    log.received(0, b"HELLO\r");
     log.input(b"0");
-    log.took(0, b"OK\r\n");
+    log.emitted(0, b"OK\r\n");
     log.gone(0);
     log
 }

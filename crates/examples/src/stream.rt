@@ -41,7 +41,7 @@ pub fn line_in_memory(alloc: Global) -> Result<Vec<u8>, usize> {
     Ok(sink.into_inner())
 }
 
-/// Writes a line as far as the device takes it, and says how much memory it took.
+/// Writes a line as far as the device takes it, and says how much memory it accepted.
 pub fn tell_line(alloc: Global) -> usize {
     let mut sink = Counted::new(Vec::new(alloc));
     tell(&mut sink, b"a line\n");
@@ -118,7 +118,7 @@ pub fn ask_once<R: Source>(source: &mut R) -> Result<usize, Failed> {
     source.pull(&mut bytes)
 }
 
-/// Hands a sink up to four bytes, and says how many it took.
+/// Hands a sink up to four bytes, and says how many it accepted.
 pub fn put_once<W: Sink>(sink: &mut W, bytes: &[u8; 4]) -> Result<usize, Failed> {
     sink.put(bytes)
 }

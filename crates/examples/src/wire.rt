@@ -52,8 +52,8 @@ pub fn chooses(command: &Command, place: &Place) -> bool {
 /// The first command of a stream's first bytes, where its line has ended.
 pub fn first_command(bytes: &[u8]) -> Option<Command> {
     let mut lines = Lines::new();
-    let took = lines.take(bytes);
-    match took.what {
+    let emitted = lines.take(bytes);
+    match emitted.what {
         What::Line(line) => Some(Command::read(&line)),
         What::More | What::TooLong => None,
     }
