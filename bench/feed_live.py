@@ -3,11 +3,11 @@
 
     feed_live.py MSEED [--rounds 3] [--records 100000] [--fetches 32] [--links 1000] [--write]
 
-Three things, each by medians of the rounds: the processor time of the server for so many fetches at once, by that for
-as many one after another; what so many links cost that wait for records, in memory, in processor time in a second,
-and in that of a fetch beside them, by one without them; and how long after its last byte on standard input a record
-is at 64 clients, beside a plain loop over epoll in C. With --write they are written into the table of
-docs/performance.md. Wants a C compiler.
+Three things, each by medians of the rounds: the processor time of the server for so many fetches at once, and of the
+server and the fetches together, by that for as many one after another; what so many links cost that wait for records,
+in memory, in processor time in a second, and in that of a fetch beside them, by one without them; and how long after
+its last byte on standard input a record is at 64 clients, beside a plain loop over epoll in C. With --write they are
+written into the table of docs/performance.md. Wants a C compiler.
 """
 
 import argparse
@@ -39,6 +39,12 @@ def processor_seconds(process):
     """The processor time of a process so far, by the nanosecond."""
     with open(f"/proc/{process.pid}/schedstat", encoding="ascii") as file:
         return int(file.read().split()[0]) / 1e9
+
+
+def processor_seconds_of_children():
+    """The processor time of all that was started here and has ended."""
+    used = resource.getrusage(resource.RUSAGE_CHILDREN)
+    return used.ru_utime + used.ru_stime
 
 
 def peak_mib(process):
@@ -90,6 +96,12 @@ class Live:
         work()
         return processor_seconds(self.process) - before
 
+    def costs(self, work):
+        """The same, and that of the server and of all that was started and has ended meanwhile together."""
+        before = processor_seconds_of_children()
+        own = self.cost(work)
+        return own, own + processor_seconds_of_children() - before
+
     def end(self):
         """Ends its input, and waits for its end."""
         self.process.stdin.close()
@@ -105,7 +117,8 @@ def ended(fetches):
 
 
 def at_once(mseed, records, fetches, rounds):
-    """The server's processor time for fetches at once, and that for as many one after another."""
+    """The processor time of fetches at once, the server's and that of both sides, and that of as many one after
+    another."""
     live = Live(mseed, 64, 2 * records)
     live.take(records)
 
@@ -116,7 +129,7 @@ def at_once(mseed, records, fetches, rounds):
         for _ in range(fetches):
             ended([live.fetching()])
 
-    costs = [(live.cost(together), live.cost(apart)) for _ in range(rounds)]
+    costs = [(*live.costs(together), *live.costs(apart)) for _ in range(rounds)]
     live.end()
     return [statistics.median(column) for column in zip(*costs)]
 
@@ -179,12 +192,14 @@ def main():
         for who in list(times)[:: -1 if turn % 2 else 1]:
             times[who].append(delays(mseed, who))
     delay = {who: [statistics.median(column) for column in zip(*each)] for who, each in times.items()}
-    together, apart = at_once(mseed, options.records, options.fetches, rounds)
+    together, both_together, apart, both_apart = at_once(mseed, options.records, options.fetches, rounds)
     memory, seconds, beside, without = waiting(mseed, options.records, options.links, rounds)
     rows = [
         [f"{options.fetches} fetches at once, processor seconds", f"{together:.2f}"],
         [f"{options.fetches} fetches one after another, processor seconds", f"{apart:.2f}"],
         ["times those one after another", f"{together / apart:.2f}"],
+        ["the server and the fetches, at once and one after another", f"{both_together:.2f} {both_apart:.2f}"],
+        ["times those one after another, the server and the fetches", f"{both_together / both_apart:.2f}"],
         [f"{options.links:,} links that wait, MiB", f"{memory:.1f}"],
         [f"{options.links:,} links that wait, processor milliseconds a second", f"{1000 * seconds:.2f}"],
         [f"a fetch beside {options.links:,} links that wait, times one alone", f"{beside / without:.2f}"],
@@ -192,7 +207,7 @@ def main():
         ["the same by the loop in C", " ".join(f"{x:.2f}" for x in delay["C"])],
     ]
     for row in rows:
-        print(f"{row[0]:64} {row[1]}")
+        print(f"{row[0]:66} {row[1]}")
     if options.write:
         write("serve --live", table(["", ""], rows))
 
