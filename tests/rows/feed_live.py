@@ -5,6 +5,7 @@ from __future__ import annotations
 
 import contextlib
 import random
+import select
 import socket
 import subprocess
 import tempfile
@@ -67,11 +68,11 @@ class Live:
     """`mseed serve --live` over an input that is fed while it runs, once it listens or has ended."""
 
     def __init__(self, *options: object, places: Sequence[Place] = (STA,), port: Optional[int] = None,
-                 stdin: int = subprocess.PIPE, env: Env = None):
+                 stdin: int = subprocess.PIPE, env: Env = None, closed: Sequence[int] = ()):
         self.port = port or free_port()
         self.errors = tempfile.TemporaryFile()
         words = ["serve", "--live", "--port", str(self.port), *words_of(places, options)]
-        self.process = kept(started(words, env, stdin=stdin, stdout=subprocess.DEVNULL, stderr=self.errors))
+        self.process = kept(started(words, env, closed, stdin=stdin, stdout=subprocess.DEVNULL, stderr=self.errors))
         until(lambda: not self.is_going() or is_listened_at(self.port))
 
     def is_going(self) -> bool:
@@ -300,6 +301,99 @@ def more_than_clients() -> Cases:
     yield Fact("the server of two slots ends", FINE, live.end())
 
 
+def granted_of(links: Sequence[socket.socket], least: int) -> list[socket.socket]:
+    """Those of these links that were granted what they want: a moment after there are at least so many."""
+    def ready() -> list[socket.socket]:
+        return select.select(links, [], [], 0)[0]
+
+    until(lambda: len(ready()) >= least, 60)
+    time.sleep(0.3)
+    return ready()
+
+
+def exact_numbers() -> Cases:
+    """As many are served at once as was said, or 64: not one more, and as many again for those that go."""
+    for options, most, leaving in [(["--clients", 1], 1, 1), (["--clients", 5], 5, 3), ([], 64, 6)]:
+        live = Live("--timeout", 60, *options)
+        links = [dialled(live.port) for _ in range(most + leaving + 2)]
+        for link in links:
+            link.sendall(ASKED % 0)
+        first = granted_of(links, most)
+        yield Fact(f"{len(links)} that dial, of whom {most} may stand", most, len(first))
+        for link in first[:leaving]:
+            link.close()
+        others = granted_of([link for link in links if link not in first], leaving)
+        yield Fact(f"as many are served for the {leaving} of {most} that go", leaving, len(others))
+        live.feed(record_of(STA, 0))
+        held = [held_of(taken(link, len(GRANTED) + PACKET)[len(GRANTED):]) for link in [*first[leaving:], *others]]
+        yield Fact(f"each of {most} has a record", [numbered(recorded(1))] * most, held)
+        for link in links:
+            link.close()
+        yield Fact(f"the server of {most} ends", FINE, live.end())
+
+
+def lingering() -> Cases:
+    """A link is closed so that all that was written to it comes through: to one that says nothing more, to one that
+    goes on to say things, and to one that never closes it, for which the server waits for two seconds."""
+    records = recorded(500)
+    live = Live("--timeout", 60)
+    live.feed(b"".join(records))
+    halved, talking, staying = (granted_fetch(live.port, len(records)) for _ in range(3))
+    halved.shutdown(socket.SHUT_WR)
+    # By then the system has all that is sent, and most of it isn't received yet.
+    time.sleep(0.3)
+    for _ in range(10):
+        talking.sendall(b"x" * 100)
+    for name, link in [("says nothing more", halved), ("goes on to say things", talking), ("stays", staying)]:
+        came = taken(link, PACKET * (len(records) + 1))
+        yield holds(f"one that {name} has all, and the end", came[-3:] == b"END" and held_of(came) == numbered(records),
+                    len(came))
+    halved.close()
+    talking.close()
+    began = time.monotonic()
+    ended = live.end()
+    yield Fact("a server with one that stays ends", FINE, ended)
+    yield holds("it doesn't wait for long", time.monotonic() - began < 30)
+    staying.close()
+
+
+def granted_fetch(port: int, count: int) -> socket.socket:
+    """A link that is sent the records that there are, once there are so many, and then the end. It takes little at a
+    time, so that much is still to be written when it says more."""
+    until(lambda: is_there(port, count - 1), 60)
+    link = socket.socket()
+    link.settimeout(LIMIT)
+    link.setsockopt(socket.SOL_SOCKET, socket.SO_RCVBUF, 4096)
+    link.connect((HOST, port))
+    link.sendall(b"STATION STA XX\r\nFETCH 000000\r\nEND\r\n")
+    received_up_to(link, len(GRANTED))
+    return link
+
+
+def is_there(port: int, number: int) -> bool:
+    """Whether the record of a number is there."""
+    with dialled(port) as link:
+        link.sendall(b"STATION STA XX\r\nFETCH %06X\r\nEND\r\n" % number)
+        return received_up_to(link, len(GRANTED)) == GRANTED
+
+
+def closed_streams() -> Cases:
+    """Standard streams that are closed: no link stands in their place, neither read as the input nor written to."""
+    records = recorded(3)
+    line = b"mseed: fault at 0 read\n"
+    for closed, wanted in [([0], Ended(2, b"", line)), ([0, 1], Ended(2, b"", line)), ([0, 1, 2], Ended(2, b"", b""))]:
+        yield Fact(f"serve --live with {closed} closed", wanted, Live(closed=closed).end())
+    for closed in ([1], [2], [1, 2]):
+        live = Live("--timeout", 60, closed=closed)
+        link = granted(live.port, 0)
+        live.feed(b"".join(records) + b"x" * 64)
+        sent = b"".join(b"SL%06X" % held.number + held.bytes for held in numbered(records))
+        yield Fact(f"a client of serve --live with {closed} closed", sent, taken(link, PACKET * 9))
+        link.close()
+        said = b"" if 2 in closed else b"mseed: fault at 1536 notdata\n"
+        yield Fact(f"serve --live with {closed} closed", Ended(2, b"", said), live.end())
+
+
 # What may be wrong behind three records, and the line that says so.
 WRONG = [
     ("within a record", recorded(1)[0][:100], b"mseed: fault at 1536 truncated 100\n"),
@@ -379,5 +473,5 @@ def rows() -> Cases:
     """All of it."""
     yield from words()
     for part in (many_at_once, one_never_reads, silent_clients, times, killed_and_started_anew, more_than_clients,
-                 bad_inputs, told_at_once, failing):
+                 exact_numbers, lingering, closed_streams, bad_inputs, told_at_once, failing):
         yield from part()
