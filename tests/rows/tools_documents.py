@@ -8,7 +8,7 @@ import re
 import shutil
 import tempfile
 from pathlib import Path
-from typing import Iterator, Mapping
+from typing import Iterator
 
 from driver.examples import examples, printed_by
 from driver.program import ROOT, SOURCES
@@ -19,8 +19,6 @@ from rows.tools_cluster import DASK, with_dask
 
 DOCUMENTS = ["tools/README.md", "docs/cookbook.md"]
 MOST_LINES = 400
-# Where GNU parallel logs its jobs, and how often at most a command is run of which a job was lost.
-JOBS, RUNS = "jobs", 3
 
 
 class Lacks(Exception):
@@ -34,7 +32,7 @@ def environment(command: str, folder: Path) -> Iterator[dict[str, str]]:
     if "parallel " in command:
         if shutil.which("parallel") is None:
             raise Lacks("parallel")
-        yield {"PARALLEL_SSH": str(SOURCES / "local_ssh.sh"), "PARALLEL": f"--joblog {folder / JOBS}"}
+        yield {"PARALLEL_SSH": str(SOURCES / "local_ssh.sh")}
     elif "tools/slurm " in command:
         if not is_installed():
             raise Lacks(PACKAGES)
@@ -54,19 +52,6 @@ def environment(command: str, folder: Path) -> Iterator[dict[str, str]]:
         yield {}
 
 
-def printed(command: str, folder: str, wanted: str, env: Mapping[str, str]) -> str:
-    """What a command prints. A job that is lost on its way to another machine prints nothing, and GNU parallel says so in
-    its log alone: then the log is shown, and the command is run again."""
-    came = printed_by(command, folder, env)
-    for _ in range(RUNS - 1):
-        if came == wanted or "--sshlogin" not in command:
-            break
-        log = Path(folder) / JOBS
-        print(f"run again: {command}\n  came: {came!r}\n  jobs: {log.read_text() if log.exists() else 'no log'!r}")
-        came = printed_by(command, folder, env)
-    return came
-
-
 def commands(document: str) -> Cases:
     """Those of a page."""
     text = (ROOT / document).read_text(encoding="utf-8")
@@ -74,7 +59,7 @@ def commands(document: str) -> Cases:
         for command, wanted in examples(text):
             try:
                 with environment(command, Path(folder)) as env:
-                    came = printed(command, folder, wanted, env)
+                    came = printed_by(command, folder, env)
             except Lacks as lacking:
                 yield Skipped(f"{document}: {command}", str(lacking))
                 continue
