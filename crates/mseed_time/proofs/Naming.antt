@@ -5,7 +5,7 @@ use Rattle.std.proofs.lemmas.Bool.{cases_order}
 use Rattle.std.proofs.lemmas.Bool.Decides.{nat_tests}
 use Rattle.jiff_core.proofs.SignedLemmas.{signed_arith}
 use Rattle.mseed_time.specs.Btime.{Parts, IsTime, leap_days, days_in_year, microsecond_of}
-use Rattle.mseed_time.specs.Naming.{Names}
+use Rattle.mseed_time.specs.Naming.{HasNoName, IsOutside, Names}
 use Rattle.mseed_time.proofs.Days.{microsecond_of-counted}
 
 -- the days of the years before one, from the year 1 on
@@ -94,3 +94,16 @@ pub name_unique : (instant u v : ℤ) (t s : Parts) → Names instant t u → Na
 name_unique instant u v t s a b =
     let same = same_ticks instant u v t s a b in
     (same_parts t s a.valid a.second b.valid b.second same.1, same.0)
+
+few_days : (t : Parts) → IsTime t → days_of t ≤ 73_413
+unfolding days_of
+few_days t h = omega (arith, days_before-later t.year 2101 (omega arith) (omega arith))
+
+-- an instant outside the years 1900 to 2100 has no name
+pub outside_unnamed : (instant : ℤ) → IsOutside instant → HasNoName instant
+outside_unnamed instant outside t u a =
+    let ticks = counted t a.valid in
+    ⊎_elim
+    (λ before. omega (arith, signed_arith, a.value, a.low, ticks, before))
+    (λ behind. omega (arith, signed_arith, a.value, a.high, a.second, ticks, behind, few_days t a.valid))
+    outside

@@ -1,5 +1,5 @@
 //! BTIME, the 10 bytes of a time in a header.
-ghost use Rattle.std.specs.Prelude.{◌≡◌, ◌<◌, ◌≤◌, pos, neg_ℤ, ◌+ℤ◌, ◌≤ℤ◌};
+ghost use Rattle.std.specs.Prelude.{◌≡◌, ◌<◌, ◌≤◌, ◌*◌, pos, neg_ℤ, ◌+ℤ◌, ◌≤ℤ◌};
 ghost use Rattle.mseed_time.specs.Btime.{IsTime, day_of, days_in_year, shift_of};
 
 use crate::fault::{OutOfRange, TimeFault};
@@ -49,7 +49,7 @@ pub struct Btime {
 }
 
 impl Btime {
-    ghost use Rattle.std.specs.Prelude.{◌↔◌, ◌*◌, false, IfOk, IsErr, slice_index, None};
+    ghost use Rattle.std.specs.Prelude.{◌↔◌, false, IfOk, IsErr, slice_index, None};
     ghost use Rattle.mseed_time.specs.Naming.{Names, IsOnlyName, IsOutside, HasNoName};
     ghost use Rattle.std.specs.Result.{result_err};
     ghost use Rattle.mseed_time.specs.Btime.{parts_at, first_fault, instant_of, microsecond_of};
@@ -138,9 +138,8 @@ impl Btime {
         if since_1800 < START_OF_1900 || since_1800 >= START_OF_2101 {
             return Err(OutOfRange);
         }
-        let since_1900 = since_1800 - START_OF_1900;
-        let microseconds = (since_1900 % 100) as i8 - 50;
-        Ok((Btime::of_ticks(since_1900 / 100), microseconds))
+        let (ticks, microseconds) = ticks_of(since_1800 - START_OF_1900);
+        Ok((Btime::of_ticks(ticks), microseconds))
     }
 
     /// The time that is so many ten-thousandths of a second after 1900-01-01T00:00:00.
@@ -206,6 +205,17 @@ fn year_and_day(days: u32) -> (u16, u16)
 {
     let date = Date::from_days_since_min(days + FIRST_OF_1900);
     (date.year.unsigned_abs(), date.day_of_year())
+}
+
+/// The ten-thousandth of a second in which an instant lies, and the microseconds from its middle to the instant.
+fn ticks_of(microseconds: u64) -> (u64, i8)
+    requires { microseconds < 6_342_969_600_000_000 }
+    ensures ticks { result.0 < 63_429_696_000_000 }
+    ensures low { neg_ℤ (pos 50) ≤ℤ result.1 }
+    ensures high { result.1 ≤ℤ pos 49 }
+    ensures value { pos (100 * result.0) +ℤ result.1 +ℤ pos 50 ≡ pos microseconds }
+{
+    (microseconds / 100, (microseconds % 100) as i8 - 50)
 }
 
 /// The microseconds that a time correction adds.

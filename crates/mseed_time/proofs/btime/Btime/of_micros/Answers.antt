@@ -1,6 +1,7 @@
-use Rattle.std.proofs.Common.{arith}
+use Rattle.std.proofs.Common.{arith, rules, true}
 use Rattle.jiff_core.proofs.SignedLemmas.{signed_casts}
-use Rattle.mseed_time.proofs.Naming.{name_unique}
+use Rattle.mseed_time.specs.Naming.{IsOutside}
+use Rattle.mseed_time.proofs.Naming.{name_unique, outside_unnamed}
 use Rattle.mseed_time.proofs.btime.Btime.of_micros.Goals as goal
 
 pub returns-clause-names : goal.returns-clause-names
@@ -17,3 +18,8 @@ returns-clause-unique c t u spells = name_unique _ _ _ _ _ (returns-clause-names
 
 pub returns-clause-no_name : goal.returns-clause-no_name
 returns-clause-no_name c = ((λ h. absurd (cc h)), λ none. absurd (none _ _ (returns-clause-names c)))
+
+pub returns-then-since_1800-lt-START_OF_1900-clause-no_name : goal.returns-then-since_1800-lt-START_OF_1900-clause-no_name
+returns-then-since_1800-lt-START_OF_1900-clause-no_name c =
+    let outside : IsOutside c.args.instant = search rules in
+    ((λ _. outside_unnamed c.args.instant outside), (λ _ i. true))
