@@ -76,3 +76,21 @@ loop-self-preserved g c =
       failures = grind (arith, common_steps, c.in-Ok.ensures.read);
       beside = c.in-Ok.ensures.beside ∙ inv.beside;
     }
+
+pub invariant_of-self-in-Ok-eq0 : goal.invariant_of-self-in-Ok-eq0
+invariant_of-self-in-Ok-eq0 g c = grind (arith, common_steps)
+
+pub returns-in-Ok-eq0-clause-read : goal.returns-in-Ok-eq0-clause-read
+returns-in-Ok-eq0-clause-read g c = grind (arith, common_steps)
+
+pub returns-in-Ok-eq0-clause-ended : goal.returns-in-Ok-eq0-clause-ended
+returns-in-Ok-eq0-clause-ended g c = grind (arith, common_steps)
+
+pub invariant_of-self-in-Err : goal.invariant_of-self-in-Err
+invariant_of-self-in-Err g c = grind (arith, common_steps)
+
+pub returns-in-Err-clause-read : goal.returns-in-Err-clause-read
+returns-in-Err-clause-read g c = grind (arith, common_steps)
+
+pub returns-in-Err-clause-short : goal.returns-in-Err-clause-short
+returns-in-Err-clause-short g c = grind (arith, common_steps)
