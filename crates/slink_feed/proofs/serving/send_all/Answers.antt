@@ -1,3 +1,4 @@
+use Rattle.std.proofs.lemmas.Grind.{common_steps}
 use Rattle.std.proofs.Common.{◌≡◌, ◌≤◌, ◌<◌, ◌+◌, ◌-◌, ◌*◌, ◌∙◌, arith, inl, inr, refl, sym, subst, ℕ, length}
 use Rattle.std.proofs.lemmas.Result.{err_from_is_err_and}
 use Rattle.slink_feed.specs.Attending.{attending}
@@ -90,3 +91,12 @@ returns-then-is_closed-clause-ok g c =
     let most : length c.args.feed.now ≤ 16 = omega (arith, c.len.ensures.value, c.len.ensures.most) in
     has_sent c.args.feed.now _ _ c.loop-waits.k c.loop-waits.waits c.loop-waits.written most
     (inl c.if-is_closed.ensures.yes) c.loop-waits.invariant.so_far
+
+pub give-requires : goal.give-requires
+give-requires g c = grind (arith, common_steps)
+
+pub returns-in_err-given-clause-ok : goal.returns-in_err-given-clause-ok
+returns-in_err-given-clause-ok g c = grind (arith, common_steps)
+
+pub next_place-k-requires : goal.next_place-k-requires
+next_place-k-requires g c = grind (arith, common_steps)

@@ -1,4 +1,5 @@
-use Rattle.std.proofs.Common.{◌≡◌, ap, sym, ◌∙◌, slice_get, Some}
+use Rattle.std.proofs.lemmas.Grind.{common_steps}
+use Rattle.std.proofs.Common.{◌≡◌, ap, sym, ◌∙◌, slice_get, Some, arith}
 use Rattle.slink_feed.specs.Session.{State}
 use Rattle.slink_feed.specs.Window.{Window}
 use Rattle.slink_feed.proofs.Done.{some_at}
@@ -13,3 +14,6 @@ returns-in-Some-clause-sent g c =
     (c.packet_from.new.self, c.packet_from.result)
     (ap (λ (s : State). s.phase) (sym c.self.view_is) ∙ c.in-Streaming.is) c.grant_of.ensures c.in-Some.is
     at.1 (c.packet_from.ensures.sent at.0 at.1)
+
+pub returns-in-Fresh : goal.returns-in-Fresh
+returns-in-Fresh g c = grind (arith, common_steps)
