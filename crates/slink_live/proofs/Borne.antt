@@ -1,12 +1,14 @@
 -- Which ring takes a record.
 use Rattle.std.proofs.Common.{◌≡◌, ℕ, zero, suc, ◌+◌, ◌<◌, ◌≤◌, ◌∙◌, ap, subst, refl, sym, arith, Bool, true, false}
-use Rattle.std.proofs.Common.{◌&&◌, List}
+use Rattle.std.proofs.Common.{◌&&◌, ◌⊎◌, List}
 use Rattle.std.proofs.Common.{[], ◌∷◌, ◌++◌, length, set, Some, None, option_map, slice_get, slice_range}
 use Rattle.std.proofs.Common.{bytes_eq, if◌then◌else◌, inl, inr, IsTrue}
 use Rattle.std.proofs.lemmas.Option.{slice_get-map}
 use Rattle.std.proofs.lemmas.Slice.Eq.{bytes_eq-Decides}
 use Rattle.slink_wire.specs.Place.{Bears, Fields}
+use Rattle.slink_feed.specs.Session.{Fits, State}
 use Rattle.slink_feed.specs.Window.{Window, with_record}
+use Rattle.slink_feed.proofs.Fitting.{fits_pushed}
 use Rattle.slink_feed.proofs.Items.{one_value, same_or_not}
 use Rattle.slink_live.specs.Input.{fed, is_of, places_of, pushed}
 use Rattle.slink_live.specs.Served.{IsBelow}
@@ -129,6 +131,9 @@ is_pushed feed new r k b done =
       feed_is = done at.0 at.1 ∙ sym (pushed_at feed r k at.0 at.1 (b.bears at.0 at.1) b.first);
     }
 
+pub below_more : (m n : ℕ) (feed : List Window) → m ≤ n → IsBelow m feed → IsBelow n feed
+below_more m n feed le below k w there = omega (arith, le, below k w there)
+
 -- numbers go up by one
 set_below : (n : ℕ) (feed : List Window) (k : ℕ) (w : Window) (r : List ℕ) → slice_get feed k ≡ Some w → IsBelow n feed
     → IsBelow (n + 1) (set feed k (with_record w r))
@@ -142,12 +147,41 @@ set_below n (x ∷ ws) (suc k) w r here below zero v there = omega (arith, below
 set_below n (x ∷ ws) (suc k) w r here below (suc j) v there =
     set_below n ws k w r here (λ i y e. below (suc i) y e) j v there
 
-pub pushed_below : (n : ℕ) (feed new : List Window) (r : List ℕ) (k : ℕ) → IsBearer feed r k
-    → ((w : Window) → slice_get feed k ≡ Some w → new ≡ set feed k (with_record w r)) → IsBelow n feed
-    → IsBelow (n + 1) new
-pushed_below n feed new r k b done below =
-    let at : (w : Window) × (slice_get feed k ≡ Some w) = window_at feed k b.within in
-    subst (IsBelow (n + 1)) (sym (done at.0 at.1)) (set_below n feed k at.0 r at.1 below)
+-- The first ring of its place takes a record, if there is one.
+abbrev PushedOnce : List Window → List Window → List ℕ → Type 0
+PushedOnce feed new r = (new ≡ feed)
+    ⊎ ((k : ℕ) × (w : Window) × (slice_get feed k ≡ Some w) × (new ≡ set feed k (with_record w r)))
 
-pub below_more : (m n : ℕ) (feed : List Window) → m ≤ n → IsBelow m feed → IsBelow n feed
-below_more m n feed le below k w there = omega (arith, le, below k w there)
+once_if : (t : Bool) (v : Window) (ws xs : List Window) (r : List ℕ) → PushedOnce ws xs r
+    → PushedOnce (v ∷ ws) (if t then with_record v r ∷ ws else v ∷ xs) r
+once_if true v ws xs r o = inr (0, v, refl, refl)
+once_if false v ws xs r (inl e) = inl (ap (λ ys. v ∷ ys) e)
+once_if false v ws xs r (inr e) = inr (suc e.0, e.1, e.2, ap (λ ys. v ∷ ys) e.3)
+
+pushed_once : (feed : List Window) (r : List ℕ) → PushedOnce feed (pushed feed r) r
+pushed_once [] r = inl refl
+pushed_once (v ∷ ws) r = once_if (is_of v.place r) v ws (pushed ws r) r (pushed_once ws r)
+
+once_below : (n : ℕ) (feed new : List Window) (r : List ℕ) → PushedOnce feed new r → IsBelow n feed
+    → IsBelow (n + 1) new
+once_below n feed new r (inl e) below =
+    subst (IsBelow (n + 1)) (sym e) (below_more n (n + 1) feed (omega arith) below)
+once_below n feed new r (inr e) below = subst (IsBelow (n + 1)) (sym e.3) (set_below n feed e.0 e.1 r e.2 below)
+
+once_fits : (feed new : List Window) (r : List ℕ) (s : State) → PushedOnce feed new r → Fits feed s → Fits new s
+once_fits feed new r s (inl e) fits = subst (λ (f : List Window). Fits f s) (sym e) fits
+once_fits feed new r s (inr e) fits = fits_pushed feed new e.0 e.1 r s e.2 e.3 fits
+
+-- each record takes the numbers up by one at most
+pub below_fed : (n : ℕ) (feed : List Window) (rs : List (List ℕ)) → IsBelow n feed
+    → IsBelow (n + length rs) (fed feed rs)
+below_fed n feed [] below = below_more n (n + 0) feed (omega arith) below
+below_fed n feed (r ∷ rs) below =
+    below_more (n + 1 + length rs) (n + length (r ∷ rs)) (fed (pushed feed r) rs) (omega arith)
+    (below_fed (n + 1) (pushed feed r) rs (once_below n feed (pushed feed r) r (pushed_once feed r) below))
+
+-- a session that these rings serve is served on
+pub fits_fed : (feed : List Window) (rs : List (List ℕ)) (s : State) → Fits feed s → Fits (fed feed rs) s
+fits_fed feed [] s fits = fits
+fits_fed feed (r ∷ rs) s fits =
+    fits_fed (pushed feed r) rs s (once_fits feed (pushed feed r) r s (pushed_once feed r) fits)

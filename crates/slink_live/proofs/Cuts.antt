@@ -3,7 +3,7 @@ use Rattle.std.proofs.Common.{◌≡◌, ℕ, ◌+◌, ◌-◌, ◌*◌, ◌<◌
 use Rattle.std.proofs.Common.{List, []}
 use Rattle.std.proofs.Common.{◌∷◌, ◌++◌, length, length-append, length-take, append_assoc, append-nil, take, drop}
 use Rattle.std.proofs.Common.{take-append-drop}
-use Rattle.std.proofs.Common.{take_all}
+use Rattle.std.proofs.Common.{take_all, slice_get, Some}
 use Rattle.std.proofs.lemmas.List.{take-append-le}
 use Rattle.std.proofs.lemmas.List.Folds.{concat-append}
 use Rattle.std.specs.List.{AllByRecursion, concat}
@@ -14,14 +14,15 @@ use Rattle.mseed_record.specs.Scan.{Decides, HasNoRecord, HasNoShorter}
 use Rattle.mseed_record.proofs.OneRecord.{one_record}
 use Rattle.mseed_stream.specs.declared.fault.StreamFault.TheVariants as faults
 use Rattle.slink_wire.specs.Place.{Fields}
+use Rattle.slink_feed.specs.Session.{Fits, State}
 use Rattle.slink_feed.specs.Window.{Window}
 use Rattle.slink_live.specs.declared.fault.InputFault.{InputFault}
 use Rattle.slink_live.specs.declared.fault.InputFault.TheVariants.{Stream, Foreign}
 use Rattle.slink_live.specs.Input.{IsFaultIn, IsFedTo, IsOf, fed, places_of, pushed}
-use Rattle.slink_live.specs.Served.{IntakeState}
+use Rattle.slink_live.specs.Served.{IntakeState, IsBelow}
 use Rattle.slink_live.specs.private.Cutting.{Cuts, CutsOff, IsOfNone, IsRefused, LooksOn, waits, pushes}
 use Rattle.slink_feed.proofs.Deliveries.{take_prefix}
-use Rattle.slink_live.proofs.Borne.{fed_append, places_fed}
+use Rattle.slink_live.proofs.Borne.{below_fed, fed_append, fits_fed, places_fed}
 
 all_append : (P : List ℕ → Type 0) (xs ys : List (List ℕ)) → AllByRecursion P xs → AllByRecursion P ys
     → AllByRecursion P (xs ++ ys)
@@ -41,9 +42,40 @@ nothing_cut old = record {
   counted = omega arith;
 }
 
+-- no more records than bytes, behind a short rest
+concat_size : (places : List Fields) (rs : List (List ℕ)) → AllByRecursion (IsOf places) rs
+    → length (concat rs) ≡ 512 * length rs
+concat_size places [] h = refl
+concat_size places (r ∷ rs) h =
+    omega (arith, length-append r (concat rs), h.0.size, concat_size places rs h.1)
+
+module _ (old new : IntakeState) (bytes rest : List ℕ) (short : length old.kept < 512) (cuts : Cuts old bytes new rest)
+  where
+    pub cut_few : length cuts.records ≤ length bytes
+    cut_few = omega (
+      arith,
+      short,
+      length-append old.kept bytes,
+      ap length cuts.joined,
+      length-append (concat cuts.records) rest,
+      concat_size (places_of old.feed) cuts.records cuts.each,
+    )
+
+    pub cut_below : (n : ℕ) → IsBelow n old.feed → IsBelow (n + length bytes) new.feed
+    cut_below n below k w there = omega (
+      arith,
+      cut_few,
+      below_fed n old.feed cuts.records below k w
+          (subst (λ (f : List Window). slice_get f k ≡ Some w) cuts.feed_is there),
+    )
+
+    pub cut_fits : (s : State) → Fits old.feed s → Fits new.feed s
+    cut_fits s fits =
+        subst (λ (f : List Window). Fits f s) (sym cuts.feed_is) (fits_fed old.feed cuts.records s fits)
+
 -- bytes are kept, and looked at
 module _ (old now : IntakeState) (bytes chunk : List ℕ) (cuts : Cuts old bytes now now.kept) where
-  abbrev pub with_chunk : IntakeState
+  abbrev with_chunk : IntakeState
   with_chunk = record { feed = now.feed; kept = now.kept ++ chunk; records = now.records }
 
   chunk_joined : old.kept ++ (bytes ++ chunk) ≡ concat cuts.records ++ (now.kept ++ chunk)
@@ -62,9 +94,6 @@ module _ (old now : IntakeState) (bytes chunk : List ℕ) (cuts : Cuts old bytes
   same_places : places_of now.feed ≡ places_of old.feed
   same_places = ap places_of cuts.feed_is ∙ places_fed old.feed cuts.records
 
-  whole : List ℕ
-  whole = now.kept ++ chunk
-
   pushed_more : IsOf (places_of now.feed) (now.kept ++ chunk)
       → Cuts old (bytes ++ chunk)
       (record { feed = pushed now.feed (now.kept ++ chunk); kept = []; records = now.records + 1 }) []
@@ -80,18 +109,18 @@ module _ (old now : IntakeState) (bytes chunk : List ℕ) (cuts : Cuts old bytes
     counted = omega (arith, cuts.counted, length-append cuts.records ((now.kept ++ chunk) ∷ []));
   }
 
-  pub looked_on : (new : IntakeState) → LooksOn with_chunk new → Cuts old (bytes ++ chunk) new new.kept
+  looked_on : (new : IntakeState) → LooksOn with_chunk new → Cuts old (bytes ++ chunk) new new.kept
   looked_on new (waits short same) =
       subst (λ (s : IntakeState). Cuts old (bytes ++ chunk) s s.kept) (sym same) kept_more
   looked_on new (pushes of same) =
       subst (λ (s : IntakeState). Cuts old (bytes ++ chunk) s s.kept) (sym same) (pushed_more of)
 
-  pub looked_short : (new : IntakeState) → LooksOn with_chunk new → length new.kept < 512
+  looked_short : (new : IntakeState) → LooksOn with_chunk new → length new.kept < 512
   looked_short new (waits short same) = subst (λ (s : IntakeState). length s.kept < 512) (sym same) short
   looked_short new (pushes of same) =
       subst (λ (s : IntakeState). length s.kept < 512) (sym same) (let lt : 0 < 512 = omega arith in lt)
 
-  pub cut_off : (new : IntakeState) (fault : InputFault) (more all : List ℕ) → new ≡ with_chunk
+  cut_off : (new : IntakeState) (fault : InputFault) (more all : List ℕ) → new ≡ with_chunk
       → IsRefused (places_of now.feed) now.records (now.kept ++ chunk) fault → all ≡ (bytes ++ chunk) ++ more
       → CutsOff old all new fault
   cut_off new fault more all same refused split = record {
@@ -197,21 +226,41 @@ whole_record leading kept size same is most h =
       subst IsRecord (all ∙ same) h.1,
     )
 
-pub looked_few : (old new : IntakeState) → LooksOn old new → new.records ≤ old.records + 1
-looked_few old new (waits short same) =
-    let one : new.records ≡ old.records = ap (λ (s : IntakeState). s.records) same in omega (arith, one)
-looked_few old new (pushes of same) =
-    let one : new.records ≡ old.records + 1 = ap (λ (s : IntakeState). s.records) same in omega (arith, one)
-
 -- the next bytes of a piece
-pub chunk_is : (bytes : List ℕ) (start count : ℕ)
-    → take start bytes ++ take (start + count - start) (drop start bytes) ≡ take (start + count) bytes
+abbrev pub chunk_of : List ℕ → ℕ → ℕ → List ℕ
+chunk_of bytes start count = take (start + count - start) (drop start bytes)
+
+chunk_is : (bytes : List ℕ) (start count : ℕ)
+    → take start bytes ++ chunk_of bytes start count ≡ take (start + count) bytes
 chunk_is bytes start count =
     let same : start + count - start ≡ count = omega arith in
     ap (λ n. take start bytes ++ take n (drop start bytes)) same ∙ sym (take_prefix bytes start count)
 
-pub split_at : (bytes : List ℕ) (start count : ℕ)
-    → bytes ≡ (take start bytes ++ take (start + count - start) (drop start bytes)) ++ drop (start + count) bytes
+split_at : (bytes : List ℕ) (start count : ℕ)
+    → bytes ≡ (take start bytes ++ chunk_of bytes start count) ++ drop (start + count) bytes
 split_at bytes start count =
     sym (ap (λ x. x ++ drop (start + count) bytes) (chunk_is bytes start count)
     ∙ take-append-drop (start + count) bytes)
+
+-- they are kept, and looked at
+module _ (old now kept : IntakeState) (bytes : List ℕ) (start count : ℕ)
+    (cuts : Cuts old (take start bytes) now now.kept)
+    (keeps : kept ≡ record now { kept = now.kept ++ chunk_of bytes start count }) where
+  looks_at : (new : IntakeState) → LooksOn kept new
+      → LooksOn (with_chunk old now (take start bytes) (chunk_of bytes start count) cuts) new
+  looks_at new looks = subst (λ (s : IntakeState). LooksOn s new) keeps looks
+
+  pub look_on : (new : IntakeState) → LooksOn kept new → Cuts old (take (start + count) bytes) new new.kept
+  look_on new looks = subst (λ (b : List ℕ). Cuts old b new new.kept) (chunk_is bytes start count)
+      (looked_on old now (take start bytes) (chunk_of bytes start count) cuts new (looks_at new looks))
+
+  pub look_short : (new : IntakeState) → LooksOn kept new → length new.kept < 512
+  look_short new looks =
+      looked_short old now (take start bytes) (chunk_of bytes start count) cuts new (looks_at new looks)
+
+  pub look_off : (new : IntakeState) (fault : InputFault) → new ≡ kept
+      → IsRefused (places_of kept.feed) kept.records kept.kept fault → CutsOff old bytes new fault
+  look_off new fault same refused = cut_off old now (take start bytes) (chunk_of bytes start count) cuts new fault
+      (drop (start + count) bytes) bytes (same ∙ keeps)
+      (subst (λ (s : IntakeState). IsRefused (places_of s.feed) s.records s.kept fault) keeps refused)
+      (split_at bytes start count)

@@ -1,79 +1,75 @@
 -- How what happened goes on by one event.
-use Rattle.std.proofs.Common.{◌≡◌, ℕ, Bool, true, false, List, [], ◌∷◌, ◌++◌, Option, Some, None, get_or, refl, sym, ap}
-use Rattle.std.proofs.Common.{◌∙◌, append_assoc, append-nil}
+use Rattle.std.proofs.Common.{◌≡◌, ℕ, true, false, List, [], ◌∷◌, ◌++◌, Option, Some, None, get_or, refl, sym, ap}
+use Rattle.std.proofs.Common.{◌∙◌, append_assoc, append-nil, subst, take, Result}
+use Rattle.slink_feed.specs.Window.{Window}
 use Rattle.slink_live.specs.declared.ready.Event.{Event}
 use Rattle.slink_live.specs.declared.ready.Event.TheVariants as events
 use Rattle.slink_live.specs.Happening.{Happening, Input, Received, Emitted, input_of}
-use Rattle.slink_live.specs.Served.{GoesOn, LinkState, ServerState, StaysUnread}
+use Rattle.slink_live.specs.declared.fault.InputFault.{InputFault}
+use Rattle.slink_live.specs.Served.{GoesOn, IsServing, IsSound, LinkState, ServerState, StaysUnread}
 use Rattle.slink_live.specs.private.Calling.{Closes, IsCalled, ReadsFrom, WritesTo, reads, too_often, stays}
-use Rattle.slink_live.proofs.Slots.{closes_input, input_append, input_quiet}
+use Rattle.slink_live.specs.private.Keeping.{AnswersFault}
+use Rattle.slink_live.proofs.Slots.{closes_input, closes_none, input_append}
 
-pub goes_nowhere : (log last : List Happening) → last ≡ log → GoesOn log last
-goes_nowhere log last same = ([], same ∙ sym (append-nil log))
-
-pub goes_both : (a b c : List Happening) → GoesOn a b → GoesOn b c → GoesOn a c
+goes_both : (a b c : List Happening) → GoesOn a b → GoesOn b c → GoesOn a c
 goes_both a b c x y = (x.0 ++ y.0, y.1 ∙ (ap (λ z. z ++ y.0) x.1 ∙ append_assoc a x.0 y.0))
 
-goes_closes : (log last : List Happening) → Closes log last → GoesOn log last
-goes_closes log last c = (c.gone, c.last_is)
+-- This happened, and then links were closed. It is nothing of an input that is read no more.
+abbrev ComesTo : ServerState → List Happening → List Happening → Type 0
+ComesTo s log last = (more : List Happening) × Closes (log ++ more) last × (s.is_ended ≡ true → input_of more ≡ [])
 
-goes_behind : (log more last : List Happening) → Closes (log ++ more) last → GoesOn log last
-goes_behind log more last c = (more ++ c.gone, c.last_is ∙ append_assoc log more c.gone)
+comes_closed : (s : ServerState) (log last : List Happening) → Closes log last → ComesTo s log last
+comes_closed s log last c = ([], subst (λ (x : List Happening). Closes x last) (sym (append-nil log)) c, λ e. refl)
 
-reads_on : (o : Option LinkState) (k : ℕ) (log last : List Happening) → ReadsFrom o k log last → GoesOn log last
-reads_on None k log last c = goes_closes log last c
-reads_on (Some l) k log last c = goes_behind log (Received k c.0 ∷ []) last c.1
+comes_read : (o : Option LinkState) (k : ℕ) (s : ServerState) (log last : List Happening) → ReadsFrom o k log last
+    → ComesTo s log last
+comes_read None k s log last c = comes_closed s log last c
+comes_read (Some l) k s log last c = (Received k c.0 ∷ [], c.1, λ e. refl)
 
-writes_on : (o : Option LinkState) (k : ℕ) (log last : List Happening) → WritesTo o k log last → GoesOn log last
-writes_on None k log last c = goes_closes log last c
-writes_on (Some l) k log last c = goes_behind log _ last c.1
+comes_written : (o : Option LinkState) (k : ℕ) (s : ServerState) (log last : List Happening) → WritesTo o k log last
+    → ComesTo s log last
+comes_written None k s log last c = comes_closed s log last c
+comes_written (Some l) k s log last c = (Emitted k (take c.0 l.pending) ∷ [], c.1, λ e. refl)
 
--- what an event comes to goes on from what happened before
-pub called_on : (e : Event) (s : ServerState) (log last : List Happening) → IsCalled e s log last → GoesOn log last
-called_on events.Input s log last (reads bytes going c) = goes_behind log (Input bytes ∷ []) last c
-called_on events.Input s log last (too_often going often c) = goes_closes log last c
-called_on events.Input s log last (stays ended same) = goes_nowhere log last same
-called_on events.InputEnded s log last c = goes_closes log last c
-called_on events.InputFailed s log last c = goes_closes log last c
-called_on events.Dialled s log last c = goes_behind log c.0 last c.2
-called_on (events.Readable k) s log last c = reads_on (get_or s.links k None) k log last c
-called_on (events.Writable k) s log last c = writes_on (get_or s.links k None) k log last c
-called_on (events.Gone k) s log last c = goes_closes log last c
-called_on events.Nothing s log last c = goes_closes log last c
+-- what an event comes to
+comes_to : (e : Event) (s : ServerState) (log last : List Happening) → IsCalled e s log last → ComesTo s log last
+comes_to events.Input s log last (reads bytes going c) =
+    (Input bytes ∷ [], c, λ ended. absurd (let bad : false ≡ true = sym going ∙ ended in cc bad))
+comes_to events.Input s log last (too_often going often c) = comes_closed s log last c
+comes_to events.Input s log last (stays ended same) = comes_closed s log last (closes_none log last same)
+comes_to events.InputEnded s log last c = comes_closed s log last c
+comes_to events.InputFailed s log last c = comes_closed s log last c
+comes_to events.Dialled s log last c = (c.0, c.2, λ e. c.1)
+comes_to (events.Readable k) s log last c = comes_read (get_or s.links k None) k s log last c
+comes_to (events.Writable k) s log last c = comes_written (get_or s.links k None) k s log last c
+comes_to (events.Gone k) s log last c = comes_closed s log last c
+comes_to events.Nothing s log last c = comes_closed s log last c
 
-quiet_reads : (o : Option LinkState) (k : ℕ) (log last : List Happening) → ReadsFrom o k log last
-    → input_of last ≡ input_of log
-quiet_reads None k log last c = closes_input log last c
-quiet_reads (Some l) k log last c = closes_input (log ++ Received k c.0 ∷ []) last c.1
-    ∙ input_quiet log (Received k c.0) refl
+-- What holds between the turns of a server, from what there was at first on.
+pub record HasServed (s t : ServerState) (first log : List Happening) : Type 0 where
+  pub sound : IsSound t
+  pub serving : (start : List Window) → IsServing start s first → IsServing start t log
+  pub grows : GoesOn first log
+  pub unread : StaysUnread s t first log
 
-quiet_writes : (o : Option LinkState) (k : ℕ) (log last : List Happening) → WritesTo o k log last
-    → input_of last ≡ input_of log
-quiet_writes None k log last c = closes_input log last c
-quiet_writes (Some l) k log last c = closes_input _ last c.1 ∙ input_quiet log _ refl
+pub served_at : {s t : ServerState} {first log now : List Happening} → now ≡ log → HasServed s t first log
+    → HasServed s t first now
+served_at {s} {t} {first} same so_far = subst (HasServed s t first) (sym same) so_far
 
-not_both : (b : Bool) → b ≡ false → b ≡ true → ⊥
-not_both b off on = let bad : false ≡ true = sym off ∙ on in
-    cc bad
-
--- and none reads an input that is read no more
-pub called_unread : (e : Event) (s : ServerState) (log last : List Happening) → s.is_ended ≡ true
-    → IsCalled e s log last → input_of last ≡ input_of log
-called_unread events.Input s log last ended (reads bytes going c) = absurd (not_both s.is_ended going ended)
-called_unread events.Input s log last ended (too_often going often c) = absurd (not_both s.is_ended going ended)
-called_unread events.Input s log last ended (stays is same) = ap input_of same
-called_unread events.InputEnded s log last ended c = closes_input log last c
-called_unread events.InputFailed s log last ended c = closes_input log last c
-called_unread events.Dialled s log last ended c = closes_input (log ++ c.0) last c.2
-    ∙ (input_append log c.0 ∙ (ap (λ b. input_of log ++ b) c.1 ∙ append-nil (input_of log)))
-called_unread (events.Readable k) s log last ended c = quiet_reads (get_or s.links k None) k log last c
-called_unread (events.Writable k) s log last ended c = quiet_writes (get_or s.links k None) k log last c
-called_unread (events.Gone k) s log last ended c = closes_input log last c
-called_unread events.Nothing s log last ended c = closes_input log last c
-
--- an event behind others
-pub unread_on : (s t u : ServerState) (first log last : List Happening) (e : Event) → StaysUnread s t first log
-    → (t.is_ended ≡ true → u.is_ended ≡ true) → IsCalled e t log last → StaysUnread s u first last
-unread_on s t u first log last e so_far kept called ended =
-    let at = so_far ended in
-    (kept at.0, called_unread e t log last at.0 called ∙ at.1)
+-- one event more
+pub served_on : {s t u : ServerState} {first log last : List Happening} {r : Result (Unit {0}) InputFault} (e : Event)
+    → HasServed s t first log → AnswersFault t u log last r → IsCalled e t log last → HasServed s u first last
+served_on {t = t} {first = first} {log} {last} e so_far answers called =
+    let came : ComesTo t log last = comes_to e t log last called in
+    record {
+      sound = answers.sound;
+      serving = λ start v. answers.serving start (so_far.serving start v);
+      grows = goes_both first log last so_far.grows
+          (came.0 ++ came.1.gone, came.1.last_is ∙ append_assoc log came.0 came.1.gone);
+      unread = λ ended.
+          let at = so_far.unread ended in (
+            answers.kept at.0,
+            closes_input (log ++ came.0) last came.1 ∙ (input_append log came.0
+                ∙ (ap (λ b. input_of log ++ b) (came.2 at.0) ∙ (append-nil (input_of log) ∙ at.1))),
+          );
+    }

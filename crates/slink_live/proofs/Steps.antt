@@ -1,35 +1,25 @@
--- What a call makes of a server that it changes in one slot, from the values that the call saw.
+-- What a call makes of a server, from the values that the call saw.
 use Rattle.std.proofs.Common.{◌≡◌, ℕ, zero, suc, ◌+◌, ◌<◌, ◌≤◌, ◌∙◌, ap, subst, refl, sym, arith, inl}
-use Rattle.std.proofs.Common.{inr, Bool, true, false}
-use Rattle.std.proofs.Common.{List, [], ◌∷◌, ◌++◌, get_or, length, set, get_or-set_same, Option, Some, None}
+use Rattle.std.proofs.Common.{inr, true, false, List, [], ◌∷◌, ◌++◌, get_or, length, set, Option, Some, None}
 use Rattle.std.proofs.Common.{Result, Ok, Err, IfErr, IfSome}
 use Rattle.std.specs.Option.{is_some}
-use Rattle.std.specs.Result.{OnErr}
 use Rattle.slink_feed.specs.Session.{Fits}
 use Rattle.slink_feed.specs.Window.{Window}
 use Rattle.slink_feed.proofs.Items.{same_or_not}
-use Rattle.slink_live.specs.Happening.{Happening, Opened, Gone}
-use Rattle.slink_live.specs.Served.{AllFit, AreEmpty, IntakeState, IsServing, IsSound, LinkState, ServerState}
+use Rattle.slink_live.specs.declared.fault.InputFault.{InputFault}
+use Rattle.slink_live.specs.Happening.{Happening, Opened, Gone, input_of}
+use Rattle.slink_live.specs.Input.{IsInputFault, places_of}
+use Rattle.slink_live.specs.Served.{AreEmpty, IsServing, IsSound, LinkState, ServerState}
 use Rattle.slink_live.specs.Story.{IsNew}
-use Rattle.slink_live.specs.private.Calling.{Closes, HasFilled, HasReceived, HasTaken, ReadsFrom, Stays, WritesTo}
-use Rattle.slink_live.proofs.Slots.{filled_fits, filled_serving, fit_same, gone_serving, received_fits}
-use Rattle.slink_live.proofs.Slots.{received_serving, none_fits, opened_serving, same_default, serving_ends, sound_set}
-use Rattle.slink_live.proofs.Slots.{taken_fits, taken_serving}
-
--- what is kept of a server, put together
-abbrev pub server_of : IntakeState → List (Option LinkState) → Bool → ℕ → ServerState
-server_of intake links is_ended reads =
-    record { intake = intake; links = links; is_ended = is_ended; reads = reads }
+use Rattle.slink_live.specs.private.Calling.{Closes, HasFilled, HasReceived, HasTaken, ReadsFrom, WritesTo}
+use Rattle.slink_live.specs.private.Keeping.{AnswersFault, KeepsServing}
+use Rattle.slink_live.proofs.Slots.{Turns, filled_turns, gone_turns, opened_turns, received_turns, taken_turns}
+use Rattle.slink_live.proofs.Slots.{turns_keep}
 
 -- what holds of an error holds of what follows from it
 pub if_err : {X E : Type 0} → (r : Result X E) (P Q : E → Type 0) → ((e : E) → P e → Q e) → IfErr r P → IfErr r Q
 if_err (Ok x) P Q f h = tt
 if_err (Err e) P Q f h = f e h
-
-pub if_err_one : {X E : Type 0} → (r : Result X E) (N : Type 0) (f : E) (P : E → Type 0) → OnErr r N
-    → IfErr r (λ e. e ≡ f) → (N → P f) → IfErr r P
-if_err_one (Ok x) N f P n same g = tt
-if_err_one (Err e) N f P n same g = subst P (sym same) (g n)
 
 pub if_err_always : {X E : Type 0} → (r : Result X E) (Q : Type 0) → Q → IfErr r (λ _. Q)
 if_err_always (Ok x) Q q = tt
@@ -56,146 +46,159 @@ all_none (l ∷ links) zero le each (suc k) = absurd (omega (arith, le))
 all_none (l ∷ links) (suc n) le each (suc k) =
     all_none links n (omega (arith, le)) (λ i lt. each (suc i) (omega (arith, lt))) k
 
-pub link_fits : (feed feed0 : List Window) (links : List (Option LinkState)) (j : ℕ) (o : Option LinkState)
-    → feed ≡ feed0 → o ≡ get_or links j o → j < length links → AllFit feed0 links
-    → IfSome o (λ l. Fits feed l.session.state)
-link_fits feed feed0 links j None e v lt all = tt
-link_fits feed feed0 links j (Some l) e v lt all =
-    subst (λ (f : List Window). Fits f l.session.state) (sym e)
-    (all j l (same_default links j None (Some l) lt ∙ sym v))
+pub sound_in : {s0 s : ServerState} → s0 ≡ s → IsSound s → IsSound s0
+sound_in same sound = subst IsSound (sym same) sound
 
-pub few_records : (s : ServerState) → IsSound s → s.intake.records ≤ 9007199254740992
-few_records s h = omega (arith, h.few, h.few_reads)
+pub few_records : {s0 s : ServerState} → s0 ≡ s → IsSound s → s0.intake.records ≤ 9007199254740992
+few_records {s0} same sound =
+    let sound0 : IsSound s0 = sound_in same sound in omega (arith, sound0.few, sound0.few_reads)
 
-pub stays_same : (s : ServerState) → Stays s s
-stays_same s = record { intake = refl; is_ended = refl; reads = refl; slots = refl }
-
-pub stays_on : (s t u : ServerState) → Stays s t → Stays t u → Stays s u
-stays_on s t u a b = record {
-  intake = b.intake ∙ a.intake;
-  is_ended = b.is_ended ∙ a.is_ended;
-  reads = b.reads ∙ a.reads;
-  slots = b.slots ∙ a.slots;
+-- Nothing happened.
+pub keeps_same : (s : ServerState) (log last : List Happening) → last ≡ log → IsSound s → KeepsServing s s log last
+keeps_same s log last same sound = record {
+  sound = sound;
+  serving = λ start v. subst (IsServing start s) (sym same) v;
+  stays = record { intake = refl; is_ended = refl; reads = refl; slots = refl };
 }
 
-pub reads_from : (feed : List Window) (j : ℕ) (o new : Option LinkState) (log mid last : List Happening)
+-- One step, and then another.
+pub keeps_both : {s t u : ServerState} {a b c : List Happening} → KeepsServing s t a b → KeepsServing t u b c
+    → KeepsServing s u a c
+keeps_both x y = record {
+  sound = y.sound;
+  serving = λ start v. y.serving start (x.serving start v);
+  stays = record {
+    intake = y.stays.intake ∙ x.stays.intake;
+    is_ended = y.stays.is_ended ∙ x.stays.is_ended;
+    reads = y.stays.reads ∙ x.stays.reads;
+    slots = y.stays.slots ∙ x.stays.slots;
+  };
+}
+
+-- the same step, by what the call saw
+pub keeps_from : {s0 s t : ServerState} {a0 a b : List Happening} → s0 ≡ s → a0 ≡ a → KeepsServing s0 t a0 b
+    → KeepsServing s t a b
+keeps_from {s0} {t = t} {a = a} {b = b} same now x =
+    subst (λ (y : ServerState). KeepsServing y t a b) same
+    (subst (λ (y : List Happening). KeepsServing s0 t y b) now x)
+
+-- the input is read no more
+abbrev pub ended : ServerState → ServerState
+ended s = record s { is_ended = true }
+
+pub ended_sound : {s : ServerState} → IsSound s → IsSound (ended s)
+ended_sound sound = record {
+  short = λ e. absurd (let bad : true ≡ false = e in cc bad);
+  fit = sound.fit;
+  below = sound.below;
+  few = sound.few;
+  few_reads = sound.few_reads;
+}
+
+ended_serving : (start : List Window) (s : ServerState) (log : List Happening) → IsServing start s log
+    → IsServing start (ended s) log
+ended_serving start s log v = record {
+  rest = v.rest;
+  fed = v.fed;
+  counted = v.counted;
+  goes_on = λ e. absurd (let bad : true ≡ false = e in cc bad);
+  slots = v.slots;
+}
+
+-- What is wrong with the input is answered, and it is read no more.
+pub answers_end : {s t : ServerState} {log last : List Happening} {r : Result (Unit {0}) InputFault}
+    → KeepsServing (ended s) t log last → IfErr r (λ e. (start : List Window) → IsServing start s log
+    → IsInputFault (places_of start) (input_of last) e) → AnswersFault s t log last r
+answers_end {s} {t} {log} {r = r} x fault = record {
+  sound = x.sound;
+  serving = λ start v. x.serving start (ended_serving start s log v);
+  fault = fault;
+  ended = if_err_always r (t.is_ended ≡ true) x.stays.is_ended;
+  kept = λ e. x.stays.is_ended;
+}
+
+reads_from : (feed : List Window) (j : ℕ) (o new : Option LinkState) (log mid last : List Happening)
     → HasReceived feed j o new log mid → Closes mid last → ReadsFrom o j log last
 reads_from feed j None new log mid last h c = subst (λ (x : List Happening). Closes x last) h.1 c
 reads_from feed j (Some l) new log mid last h c = (h.0, subst (λ (x : List Happening). Closes x last) h.3 c)
 
-pub writes_to : (j : ℕ) (o new : Option LinkState) (log mid last : List Happening) → HasTaken j o new log mid
+writes_to : (j : ℕ) (o new : Option LinkState) (log mid last : List Happening) → HasTaken j o new log mid
     → Closes mid last → WritesTo o j log last
 writes_to j None new log mid last h c = subst (λ (x : List Happening). Closes x last) h.1 c
 writes_to j (Some l) new log mid last h c = (h.0, subst (λ (x : List Happening). Closes x last) h.2 c)
 
-pub ended_sound : (s0 s : ServerState) → s0 ≡ s → IsSound s → IsSound (record s0 { is_ended = true })
-ended_sound s0 s same h =
-    let h0 : IsSound s0 = subst IsSound (sym same) h in
-    record {
-      short = λ e. absurd (let bad : true ≡ false = e in cc bad);
-      fit = h0.fit;
-      below = h0.below;
-      few = h0.few;
-      few_reads = h0.few_reads;
-    }
+same_default : {X : Type 0} → (xs : List X) (i : ℕ) (d e : X) → i < length xs → get_or xs i d ≡ get_or xs i e
+same_default [] i d e h = absurd (omega (arith, h))
+same_default (x ∷ xs) zero d e h = refl
+same_default (x ∷ xs) (suc i) d e h = same_default xs i d e (omega (arith, h))
 
-pub ended_serving : (start : List Window) (s0 s : ServerState) (log last : List Happening) → s0 ≡ s → last ≡ log
-    → IsServing start s log → IsServing start (record s0 { is_ended = true }) last
-ended_serving start s0 s log last same now v =
-    serving_ends start s0 log last true now (λ e. absurd (let bad : true ≡ false = e in cc bad))
-    (subst (λ (x : ServerState). IsServing start x log) (sym same) v)
+link_fits : (feed : List Window) (o : Option LinkState)
+    → ((l : LinkState) → o ≡ Some l → Fits feed l.session.state) → IfSome o (λ l. Fits feed l.session.state)
+link_fits feed None fits = tt
+link_fits feed (Some l) fits = fits l refl
 
-module _ (s0 s : ServerState) (same : s0 ≡ s) (j : ℕ) (lt : j < length s.links) where
-  lt0 : j < length s0.links
-  lt0 = subst (λ (x : ServerState). j < length x.links) (sym same) lt
+-- A call saw the link in a slot, and the rings of the input.
+module _ {s0 s : ServerState} (same : s0 ≡ s) (j : ℕ) (lt : j < length s0.links) where
+  -- what a call says of what it saw
+  seen : (P : List Window → Option LinkState → Type 0) {feed : List Window} {o : Option LinkState}
+      → feed ≡ s0.intake.feed → o ≡ get_or s0.links j o → P feed o → P s.intake.feed (get_or s.links j None)
+  seen P {feed} {o} rings link h =
+      subst (λ (x : ServerState). P x.intake.feed (get_or x.links j None)) same
+      (subst (P s0.intake.feed) (link ∙ sym (same_default s0.links j None o lt))
+      (subst (λ (f : List Window). P f o) rings h))
 
-  sound0 : IsSound s → IsSound s0
-  sound0 h = subst IsSound (sym same) h
+  pub seen_fits : {feed : List Window} {o : Option LinkState} → feed ≡ s0.intake.feed → o ≡ get_or s0.links j o
+      → IsSound s → IfSome o (λ l. Fits feed l.session.state)
+  seen_fits {feed} {o} rings link sound =
+      link_fits feed o (λ l is. subst (λ (f : List Window). Fits f l.session.state) (sym rings)
+      ((sound_in same sound).fit j l (same_default s0.links j None o lt ∙ (sym link ∙ is))))
 
-  -- the link that the call saw is the one in the slot
-  seen : (o : Option LinkState) → o ≡ get_or s0.links j o → o ≡ get_or s0.links j None
-  seen o v = v ∙ sym (same_default s0.links j None o lt0)
+  pub reads_at : {feed : List Window} {o : Option LinkState} (new : Option LinkState) (log mid last : List Happening)
+      → feed ≡ s0.intake.feed → o ≡ get_or s0.links j o → HasReceived feed j o new log mid → Closes mid last
+      → ReadsFrom (get_or s.links j None) j log last
+  reads_at new log mid last rings link h closes =
+      reads_from s.intake.feed j (get_or s.links j None) new log mid last
+      (seen (λ f o. HasReceived f j o new log mid) rings link h) closes
 
-  pub gone_sound : IsSound s → IsSound (record s0 { links = set s0.links j None })
-  gone_sound h = sound_set s0 j None (sound0 h) lt0 (none_fits s0.intake.feed None refl)
+  pub writes_at : {o : Option LinkState} (new : Option LinkState) (log mid last : List Happening)
+      → o ≡ get_or s0.links j o → HasTaken j o new log mid → Closes mid last
+      → WritesTo (get_or s.links j None) j log last
+  writes_at new log mid last link h closes =
+      writes_to j (get_or s.links j None) new log mid last (seen (λ f o. HasTaken j o new log mid) refl link h) closes
 
-  pub new_sound : (l : LinkState) → Fits s0.intake.feed l.session.state → IsSound s
-      → IsSound (record s0 { links = set s0.links j (Some l) })
-  new_sound l fits h = sound_set s0 j (Some l) (sound0 h) lt0 (λ x e. fit_same s0.intake.feed l x e fits)
+  -- what happened to the link
+  module _ (new : Option LinkState) {log last : List Happening} (sound : IsSound s) where
+    keeps_at : Turns s.intake.feed j (get_or s.links j None) new log last
+        → KeepsServing s (record s0 { links = set s0.links j new }) log last
+    keeps_at t =
+        subst (λ (x : ServerState). KeepsServing s (record x { links = set x.links j new }) log last) (sym same)
+        (turns_keep s j new log last (subst (λ (x : ServerState). j < length x.links) same lt) sound t)
 
-  module _ (o new : Option LinkState) (v : o ≡ get_or s0.links j o) where
-    pub filled_sound : (feed : List Window) → feed ≡ s0.intake.feed → HasFilled feed o new → IsSound s
-        → IsSound (record s0 { links = set s0.links j new })
-    filled_sound feed e f h = sound_set s0 j new (sound0 h) lt0
-        (filled_fits s0.intake.feed o new (subst (λ (x : List Window). HasFilled x o new) e f))
+    pub received_keeps : {feed : List Window} {o : Option LinkState} → feed ≡ s0.intake.feed
+        → o ≡ get_or s0.links j o → HasReceived feed j o new log last
+        → KeepsServing s (record s0 { links = set s0.links j new }) log last
+    received_keeps rings link h = keeps_at (received_turns s.intake.feed j (get_or s.links j None) new log last
+        (seen (λ f o. HasReceived f j o new log last) rings link h))
 
-    pub filled_on : (feed : List Window) → feed ≡ s0.intake.feed → HasFilled feed o new → (start : List Window)
-        (log : List Happening) → IsServing start s log
-        → IsServing start (record s0 { links = set s0.links j new }) log
-    filled_on feed e f start log w =
-        filled_serving start s0 log j new lt0 (subst (λ (x : ServerState). IsServing start x log) (sym same) w)
-        (subst (λ (y : Option LinkState). HasFilled s0.intake.feed y new) (seen o v)
-        (subst (λ (x : List Window). HasFilled x o new) e f))
+    pub taken_keeps : {o : Option LinkState} → o ≡ get_or s0.links j o → HasTaken j o new log last
+        → KeepsServing s (record s0 { links = set s0.links j new }) log last
+    taken_keeps link h = keeps_at (taken_turns s.intake.feed j (get_or s.links j None) new log last
+        (seen (λ f o. HasTaken j o new log last) refl link h))
 
-    module _ (log last : List Happening) where
-      received_seen : (feed : List Window) → feed ≡ s0.intake.feed → HasReceived feed j o new log last
-          → HasReceived s0.intake.feed j (get_or s0.links j None) new log last
-      received_seen feed e h = subst (λ (y : Option LinkState). HasReceived s0.intake.feed j y new log last) (seen o v)
-          (subst (λ (x : List Window). HasReceived x j o new log last) e h)
+    pub opened_keeps : (l : LinkState) → new ≡ Some l → get_or s.links j None ≡ None → IsNew l.session
+        → l.pending ≡ [] → Fits s.intake.feed l.session.state → last ≡ log ++ Opened j ∷ []
+        → KeepsServing s (record s0 { links = set s0.links j new }) log last
+    opened_keeps l is free fresh none fits now = keeps_at
+        (opened_turns s.intake.feed j (get_or s.links j None) new l log last is free fresh none fits now)
 
-      pub received_sound : (feed : List Window) → feed ≡ s0.intake.feed → HasReceived feed j o new log last → IsSound s
-          → IsSound (record s0 { links = set s0.links j new })
-      received_sound feed e h sound = sound_set s0 j new (sound0 sound) lt0
-          (received_fits s0.intake.feed j (get_or s0.links j None) new log last (received_seen feed e h))
+    pub gone_keeps : new ≡ None → last ≡ log ++ Gone j ∷ []
+        → KeepsServing s (record s0 { links = set s0.links j new }) log last
+    gone_keeps is now = keeps_at (gone_turns s.intake.feed j (get_or s.links j None) new log last is now)
 
-      pub received_on : (feed : List Window) → feed ≡ s0.intake.feed → HasReceived feed j o new log last
-          → (start : List Window) → IsServing start s log
-          → IsServing start (record s0 { links = set s0.links j new }) last
-      received_on feed e h start w =
-          received_serving start s0 log last j new lt0
-          (subst (λ (x : ServerState). IsServing start x log) (sym same) w) (received_seen feed e h)
-
-      pub received_at : (feed : List Window) → feed ≡ s0.intake.feed → HasReceived feed j o new log last
-          → HasReceived s.intake.feed j (get_or s.links j None) (get_or (set s0.links j new) j None) log last
-      received_at feed e h =
-          subst (λ (x : ServerState). HasReceived x.intake.feed j (get_or x.links j None)
-          (get_or (set s0.links j new) j None) log last) same
-          (subst (λ (y : Option LinkState). HasReceived s0.intake.feed j (get_or s0.links j None) y log last)
-          (sym (get_or-set_same s0.links j new None lt0)) (received_seen feed e h))
-
-      taken_seen : HasTaken j o new log last → HasTaken j (get_or s0.links j None) new log last
-      taken_seen h = subst (λ (y : Option LinkState). HasTaken j y new log last) (seen o v) h
-
-      pub taken_sound_at : HasTaken j o new log last → IsSound s
-          → IsSound (record s0 { links = set s0.links j new })
-      taken_sound_at h sound = sound_set s0 j new (sound0 sound) lt0
-          (taken_fits s0.intake.feed j (get_or s0.links j None) new log last (taken_seen h)
-          (λ l e. (sound0 sound).fit j l e))
-
-      pub taken_on : HasTaken j o new log last → (start : List Window) → IsServing start s log
-          → IsServing start (record s0 { links = set s0.links j new }) last
-      taken_on h start w =
-          taken_serving start s0 log last j new lt0
-          (subst (λ (x : ServerState). IsServing start x log) (sym same) w) (taken_seen h)
-
-      pub taken_at : HasTaken j o new log last
-          → HasTaken j (get_or s.links j None) (get_or (set s0.links j new) j None) log last
-      taken_at h =
-          subst (λ (x : ServerState). HasTaken j (get_or x.links j None) (get_or (set s0.links j new) j None) log last)
-          same (subst (λ (y : Option LinkState). HasTaken j (get_or s0.links j None) y log last)
-          (sym (get_or-set_same s0.links j new None lt0)) (taken_seen h))
-
-  module _ (log last : List Happening) where
-    pub gone_on : last ≡ log ++ Gone j ∷ [] → (start : List Window) → IsServing start s log
-        → IsServing start (record s0 { links = set s0.links j None }) last
-    gone_on now start w =
-        gone_serving start s0 log last j None lt0
-        (subst (λ (x : ServerState). IsServing start x log) (sym same) w) refl now
-
-    pub opened_on : (l : LinkState) → get_or s.links j None ≡ None → IsNew l.session → l.pending ≡ []
-        → last ≡ log ++ Opened j ∷ [] → (start : List Window) → IsServing start s log
-        → IsServing start (record s0 { links = set s0.links j (Some l) }) last
-    opened_on l free fresh none now start w =
-        opened_serving start s0 log last j (Some l) lt0
-        (subst (λ (x : ServerState). IsServing start x log) (sym same) w) l
-        (subst (λ (x : ServerState). get_or x.links j None ≡ None) (sym same) free) fresh none refl now
+  pub filled_keeps : (new : Option LinkState) {log last : List Happening} → IsSound s → {feed : List Window}
+      {o : Option LinkState} → feed ≡ s0.intake.feed → o ≡ get_or s0.links j o → HasFilled feed o new → last ≡ log
+      → KeepsServing s (record s0 { links = set s0.links j new }) log last
+  filled_keeps new {log} sound rings link h now =
+      subst (KeepsServing s (record s0 { links = set s0.links j new }) log) (sym now)
+      (keeps_at new sound (filled_turns s.intake.feed j (get_or s.links j None) new log
+      (seen (λ f o. HasFilled f o new) rings link h)))

@@ -9,7 +9,7 @@ use Rattle.slink_feed.specs.Session.{sent, sent_bytes}
 use Rattle.slink_feed.specs.Window.{Window}
 use Rattle.slink_live.specs.Happening.{Happening, Opened, Gone, input_of}
 use Rattle.slink_live.specs.Input.{IsFed}
-use Rattle.slink_live.specs.Served.{IsStory, LinkState, Matches}
+use Rattle.slink_live.specs.Served.{IsStory, LinkState, Matches, link_state}
 use Rattle.slink_live.specs.Story.{Asks, IsNew, IsServed, Story, story, none_called, one_called, opens, hears, asks}
 use Rattle.slink_live.specs.Story.{takes, goes}
 use Rattle.slink_live.specs.private.Calling.{HasFilled, HasReceived, HasTaken}
@@ -53,74 +53,67 @@ module _ (start : List Window) (k : ℕ) where
       (subst (λ (s : Standing). IsServed start k log (Some (story s t.produced t.emitted))) m.0 served)
 
   module _ (log last : List Happening) (new : Option LinkState) where
-    story_stays : (o : Option LinkState) → new ≡ o → last ≡ log → IsStory start k o log → IsStory start k new last
+    pub story_stays : (o : Option LinkState) → new ≡ o → last ≡ log → IsStory start k o log → IsStory start k new last
     story_stays o same now s =
         subst (IsStory start k new) (sym now) (subst (λ (x : Option LinkState). IsStory start k x log) (sym same) s)
 
-    received_reported : (feed : List Window) (o : Option LinkState) (reported : Option Story)
-        → IsFed start (input_of log) feed
-        → HasReceived feed k o new log last → IsServed start k log reported → Matches o reported
-        → IsStory start k new last
-    received_reported feed None reported fed h served m =
-        story_stays None h.0 h.1 (record { reported = reported; served = served; matches = m })
-    received_reported feed (Some l) None fed h served m = absurd m
-    received_reported feed (Some l) (Some t) fed h served m =
-        let now : LinkState = h.1 in
+    -- what a link accepted, and what its session said that it didn't accept yet
+    abbrev HasStory : List Happening → LinkState → List ℕ → Type 0
+    HasStory happened l emitted = IsServed start k happened (Some (story l.session (emitted ++ l.pending) emitted))
+
+    goes_on : (l now : LinkState) (reported : Option Story) → new ≡ Some now
+        → ((emitted : List ℕ) → HasStory log l emitted → (all : List ℕ) × HasStory last now all)
+        → IsServed start k log reported → Matches (Some l) reported → IsStory start k new last
+    goes_on l now None is on served m = absurd m
+    goes_on l now (Some t) is on served m =
+        let further : (all : List ℕ) × HasStory last now all = on t.emitted (by_link log l t served m) in
+        let reported : Option Story = Some (story now.session (further.0 ++ now.pending) further.0) in
         record {
-          reported = Some (story now.session (t.emitted ++ now.pending) t.emitted);
-          served = hears log last feed l.session now.session h.0 (t.emitted ++ l.pending) (t.emitted ++ now.pending)
-              t.emitted
-              (by_link log l t served m) fed
-              (serves_behind feed l.session now.session h.0 l.pending now.pending t.emitted h.4) h.3;
-          matches = subst
-              (λ (x : Option LinkState). Matches x (Some (story now.session (t.emitted ++ now.pending) t.emitted)))
-              (sym h.2) (refl, refl);
+          reported = reported;
+          served = further.1;
+          matches = subst (λ (x : Option LinkState). Matches x reported) (sym is) (refl, refl);
         }
 
-    pub received_story : (feed : List Window) (o : Option LinkState) → IsFed start (input_of log) feed
-        → HasReceived feed k o new log last → IsStory start k o log → IsStory start k new last
-    received_story feed o fed h s = received_reported feed o s.reported fed h s.served s.matches
+    -- the story of a link goes on
+    link_story : (l now : LinkState) → new ≡ Some now
+        → ((emitted : List ℕ) → HasStory log l emitted → (all : List ℕ) × HasStory last now all)
+        → IsStory start k (Some l) log → IsStory start k new last
+    link_story l now is on s = goes_on l now s.reported is on s.served s.matches
 
-    taken_reported : (o : Option LinkState) (reported : Option Story) → HasTaken k o new log last
-        → IsServed start k log reported
-        → Matches o reported → IsStory start k new last
-    taken_reported None reported h served m =
-        story_stays None h.0 h.1 (record { reported = reported; served = served; matches = m })
-    taken_reported (Some l) None h served m = absurd m
-    taken_reported (Some l) (Some t) h served m =
-        let produced : List ℕ = t.emitted ++ l.pending in
-        let emitted : List ℕ = t.emitted ++ take h.0 l.pending in
-        let whole : produced ≡ emitted ++ drop h.0 l.pending =
-        sym (append_assoc t.emitted (take h.0 l.pending) (drop h.0 l.pending)
-        ∙ ap (λ x. t.emitted ++ x) (take-append-drop h.0 l.pending)) in
-        record {
-          reported = Some (story l.session produced emitted);
-          served = takes log last l.session (take h.0 l.pending) produced t.emitted (by_link log l t served m)
-              (drop h.0 l.pending, whole) h.2;
-          matches = subst (λ (x : Option LinkState). Matches x (Some (story l.session produced emitted))) (sym h.1)
-              (refl, whole);
-        }
+    pub received_story : (feed : List Window) (l : LinkState) → IsFed start (input_of log) feed
+        → HasReceived feed k (Some l) new log last → IsStory start k (Some l) log → IsStory start k new last
+    received_story feed l fed h = link_story l h.1 h.2 (λ emitted served. (
+      emitted,
+      hears log last feed l.session h.1.session h.0 (emitted ++ l.pending) (emitted ++ h.1.pending) emitted served fed
+          (serves_behind feed l.session h.1.session h.0 l.pending h.1.pending emitted h.4) h.3,
+    ))
 
-    pub taken_story : (o : Option LinkState) → HasTaken k o new log last → IsStory start k o log
+    pub taken_story : (l : LinkState) → HasTaken k (Some l) new log last → IsStory start k (Some l) log
         → IsStory start k new last
-    taken_story o h s = taken_reported o s.reported h s.served s.matches
+    taken_story l h = link_story l (link_state l.session (drop h.0 l.pending)) h.1 (λ emitted served.
+        let all : List ℕ = emitted ++ take h.0 l.pending in
+        let whole : emitted ++ l.pending ≡ all ++ drop h.0 l.pending =
+        sym (append_assoc emitted (take h.0 l.pending) (drop h.0 l.pending)
+        ∙ ap (λ x. emitted ++ x) (take-append-drop h.0 l.pending)) in (
+          all,
+          subst (λ (b : List ℕ). IsServed start k last (Some (story l.session b all))) whole
+              (takes log last l.session (take h.0 l.pending) (emitted ++ l.pending) emitted served
+              (drop h.0 l.pending, whole) h.2),
+        ))
 
-    opened_reported : (o : Option LinkState) (reported : Option Story) (l : LinkState) → o ≡ None → IsNew l.session
-        → l.pending ≡ [] → new ≡ Some l → last ≡ log ++ Opened k ∷ [] → IsServed start k log reported
-        → Matches o reported
+    opens_at : (l : LinkState) (reported : Option Story) → IsNew l.session → l.pending ≡ [] → new ≡ Some l
+        → last ≡ log ++ Opened k ∷ [] → IsServed start k log reported → Matches None reported
         → IsStory start k new last
-    opened_reported None None l free fresh none is now served m = record {
+    opens_at l None fresh none is now served m = record {
       reported = Some (story l.session [] []);
       served = opens log last l.session served fresh now;
       matches = subst (λ (x : Option LinkState). Matches x (Some (story l.session [] []))) (sym is) (refl, sym none);
     }
-    opened_reported None (Some t) l free fresh none is now served m = absurd m
-    opened_reported (Some x) reported l free fresh none is now served m =
-        absurd (let bad : Some x ≡ None = free in cc bad)
+    opens_at l (Some t) fresh none is now served m = absurd m
 
-    pub opened_story : (o : Option LinkState) (l : LinkState) → o ≡ None → IsNew l.session → l.pending ≡ []
-        → new ≡ Some l → last ≡ log ++ Opened k ∷ [] → IsStory start k o log → IsStory start k new last
-    opened_story o l free fresh none is now s = opened_reported o s.reported l free fresh none is now s.served s.matches
+    pub opened_story : (l : LinkState) → IsNew l.session → l.pending ≡ [] → new ≡ Some l
+        → last ≡ log ++ Opened k ∷ [] → IsStory start k None log → IsStory start k new last
+    opened_story l fresh none is now s = opens_at l s.reported fresh none is now s.served s.matches
 
     pub gone_story : (o : Option LinkState) → new ≡ None → last ≡ log ++ Gone k ∷ [] → IsStory start k o log
         → IsStory start k new last
@@ -130,25 +123,11 @@ module _ (start : List Window) (k : ℕ) where
       matches = subst (λ (x : Option LinkState). Matches x None) (sym is) tt;
     }
 
-  module _ (log : List Happening) (new : Option LinkState) where
-    filled_reported : (feed : List Window) (o : Option LinkState) (reported : Option Story)
-        → IsFed start (input_of log) feed
-        → HasFilled feed o new → IsServed start k log reported → Matches o reported → IsStory start k new log
-    filled_reported feed None reported fed h served m =
-        story_stays log log new None h refl (record { reported = reported; served = served; matches = m })
-    filled_reported feed (Some l) None fed h served m = absurd m
-    filled_reported feed (Some l) (Some t) fed h served m =
-        let now : LinkState = h.0 in
-        record {
-          reported = Some (story now.session (t.emitted ++ now.pending) t.emitted);
-          served = asks log feed l.session now.session (t.emitted ++ l.pending) (t.emitted ++ now.pending) t.emitted
-              (by_link log l t served m) fed
-              (asks_behind feed l.session l.pending t.emitted now.session now.pending h.2);
-          matches = subst
-              (λ (x : Option LinkState). Matches x (Some (story now.session (t.emitted ++ now.pending) t.emitted)))
-              (sym h.1) (refl, refl);
-        }
-
-    pub filled_story : (feed : List Window) (o : Option LinkState) → IsFed start (input_of log) feed
-        → HasFilled feed o new → IsStory start k o log → IsStory start k new log
-    filled_story feed o fed h s = filled_reported feed o s.reported fed h s.served s.matches
+  pub filled_story : (log : List Happening) (new : Option LinkState) (feed : List Window) (l : LinkState)
+      → IsFed start (input_of log) feed → HasFilled feed (Some l) new → IsStory start k (Some l) log
+      → IsStory start k new log
+  filled_story log new feed l fed h = link_story log log new l h.0 h.1 (λ emitted served. (
+    emitted,
+    asks log feed l.session h.0.session (emitted ++ l.pending) (emitted ++ h.0.pending) emitted served fed
+        (asks_behind feed l.session l.pending emitted h.0.session h.0.pending h.2),
+  ))

@@ -1,154 +1,162 @@
 -- The input brings bytes, or ends.
-use Rattle.std.proofs.Common.{◌≡◌, ℕ, ◌+◌, ◌*◌, ◌^◌, ◌<◌, ◌≤◌, ◌∙◌, ap, subst, refl, sym, arith, Bool, true, false}
-use Rattle.std.proofs.Common.{List, []}
-use Rattle.std.proofs.Common.{◌∷◌, ◌++◌, length, append-nil, get_or, take, None}
-use Rattle.std.proofs.Common.{Result, Ok, Err, IfErr}
-use Rattle.std.specs.Result.{OnOk, is_err}
+use Rattle.std.proofs.Common.{◌≡◌, ◌≢◌, ℕ, ◌+◌, ◌*◌, ◌^◌, ◌<◌, ◌≤◌, ◌∙◌, ap, subst, refl, sym, arith, Bool, true, false}
+use Rattle.std.proofs.Common.{List, [], ◌∷◌, ◌++◌, length, append-nil, get_or, take, None, Ok, Err}
 use Rattle.mseed_stream.specs.declared.fault.StreamFault.TheVariants as faults
-use Rattle.slink_feed.specs.Session.{Fits, State}
 use Rattle.slink_feed.specs.Window.{Window}
 use Rattle.slink_live.specs.declared.fault.InputFault.{InputFault}
 use Rattle.slink_live.specs.declared.fault.InputFault.TheVariants.{Stream}
 use Rattle.slink_live.specs.Happening.{Happening, Input, input_of}
 use Rattle.slink_live.specs.Input.{IsFaultIn, IsFedTo, IsInput, IsInputFault, IsOf, places_of}
-use Rattle.slink_live.specs.Served.{IntakeState, IsBelow, IsServing, IsSound, ServerState}
+use Rattle.slink_live.specs.Served.{IntakeState, IsServing, IsSound, ServerState}
+use Rattle.slink_live.specs.private.Calling.{Closes}
 use Rattle.slink_live.specs.private.Cutting.{Cuts, CutsOff}
+use Rattle.slink_live.specs.private.Keeping.{AnswersFault, KeepsServing}
 use Rattle.slink_live.proofs.Borne.{below_more, places_fed}
-use Rattle.slink_live.proofs.Cuts.{cuts_on, short_none}
-use Rattle.slink_live.proofs.Slots.{input_append, story_elsewhere}
+use Rattle.slink_live.proofs.Cuts.{cut_below, cut_few, cut_fits, cuts_on, short_none}
+use Rattle.slink_live.proofs.Slots.{closes_input, input_append, story_elsewhere}
+use Rattle.slink_live.proofs.Steps.{ended, sound_in}
 
 -- the server, once the input brought bytes
-abbrev pub with_intake : ServerState → IntakeState → Bool → ServerState
-with_intake s intake is_ended =
-    record { intake = intake; links = s.links; is_ended = is_ended; reads = s.reads + 1 }
+abbrev pub with_intake : ServerState → IntakeState → ServerState
+with_intake s intake = record { intake = intake; links = s.links; is_ended = s.is_ended; reads = s.reads + 1 }
 
 input_more : (log last : List Happening) (bytes : List ℕ) → last ≡ log ++ Input bytes ∷ []
     → input_of last ≡ input_of log ++ bytes
 input_more log last bytes e = ap input_of e ∙ (input_append log (Input bytes ∷ [])
     ∙ ap (λ b. input_of log ++ b) (append-nil bytes))
 
-module _ (start : List Window) (s : ServerState) (log last : List Happening) (v : IsServing start s log) where
-  -- what it was fed, where the input goes on
-  fed_kept : s.is_ended ≡ false
-      → (to : IsFedTo start (input_of log) s.intake.feed s.intake.kept) × (to.records ≡ v.fed.records)
-  fed_kept on = (
-    record {
-      records = v.fed.records;
-      input = subst (IsInput (places_of start) (input_of log) v.fed.records) (v.goes_on on) v.fed.input;
-      feed_is = v.fed.feed_is;
-    },
-    refl,
-  )
+-- a server by what its methods saw
+module _ {s0 s : ServerState} (same : s0 ≡ s) where
+  serving_in : (start : List Window) (log : List Happening) → IsServing start s log → IsServing start s0 log
+  serving_in start log v = subst (λ (x : ServerState). IsServing start x log) (sym same) v
 
-  module _ (on : s.is_ended ≡ false) (bytes rest : List ℕ) (new : IntakeState) (cuts : Cuts s.intake bytes new rest)
-      (none : ¬ (IsOf (places_of s.intake.feed) (take 512 rest))) (now : last ≡ log ++ Input bytes ∷ []) where
-    fed_now : (to : IsFedTo start (input_of log ++ bytes) new.feed rest) × (new.records ≡ length to.records)
-    fed_now =
-        let to : (x : IsFedTo start (input_of log) s.intake.feed s.intake.kept) × (x.records ≡ v.fed.records) =
-        fed_kept on in
-        let both : (x : IsFedTo start (input_of log ++ bytes) new.feed rest)
-        × (length x.records ≡ length to.0.records + length cuts.records) =
-        cuts_on start (input_of log) s.intake new bytes rest to.0 cuts none in
-        (both.0, omega (arith, cuts.counted, v.counted, both.1, ap length to.1))
+  -- Bytes came, and were cut as far as they go.
+  module _ (on : s0.is_ended ≡ false) (sound : IsSound s) {bytes rest : List ℕ} {new : IntakeState}
+      (cuts : Cuts s0.intake bytes new rest) where
+    short_in : length s0.intake.kept < 512
+    short_in = (sound_in same sound).short on
 
-    pub taken_serving : (is_ended : Bool) → (is_ended ≡ false → rest ≡ new.kept)
-        → IsServing start (with_intake s new is_ended) last
-    taken_serving is_ended goes_on = record {
-      rest = rest;
-      fed = record {
-        records = fed_now.0.records;
-        input = subst (λ b. IsInput (places_of start) b fed_now.0.records rest) (sym (input_more log last bytes now))
-            fed_now.0.input;
-        feed_is = fed_now.0.feed_is;
-      };
-      counted = fed_now.1;
-      goes_on = goes_on;
-      slots = λ k. story_elsewhere start k (get_or s.links k None) log last (Input bytes) refl now (v.slots k);
+    pub taken_sound : (is_ended : Bool) → length bytes ≤ 8192 → s0.reads ≢ 2 ^ 40
+        → (is_ended ≡ false → length new.kept < 512)
+        → IsSound (record (with_intake s0 new) { is_ended = is_ended })
+    taken_sound is_ended most few short =
+        let sound0 : IsSound s0 = sound_in same sound in
+        let added : length cuts.records ≤ length bytes = cut_few s0.intake new bytes rest short_in cuts in
+        record {
+          short = short;
+          fit = λ k l e. cut_fits s0.intake new bytes rest short_in cuts l.session.state (sound0.fit k l e);
+          below = below_more (2 ^ 62 + 8192 * s0.reads + length bytes) (2 ^ 62 + 8192 * (s0.reads + 1)) new.feed
+              (omega (arith, most))
+              (cut_below s0.intake new bytes rest short_in cuts (2 ^ 62 + 8192 * s0.reads) sound0.below);
+          few = omega (arith, cuts.counted, added, most, sound0.few);
+          few_reads = omega (arith, few, sound0.few_reads);
+        }
+
+    module _ (none : ¬ (IsOf (places_of s0.intake.feed) (take 512 rest))) {log last : List Happening}
+        (now : last ≡ log ++ Input bytes ∷ []) (start : List Window) (v : IsServing start s log) where
+      fed_now : (to : IsFedTo start (input_of log ++ bytes) new.feed rest) × (new.records ≡ length to.records)
+      fed_now =
+          let v0 : IsServing start s0 log = serving_in start log v in
+          let to : IsFedTo start (input_of log) s0.intake.feed s0.intake.kept = record {
+            records = v0.fed.records;
+            input = subst (IsInput (places_of start) (input_of log) v0.fed.records) (v0.goes_on on) v0.fed.input;
+            feed_is = v0.fed.feed_is;
+          } in
+          let both : (x : IsFedTo start (input_of log ++ bytes) new.feed rest)
+          × (length x.records ≡ length to.records + length cuts.records) =
+          cuts_on start (input_of log) s0.intake new bytes rest to cuts none in
+          (both.0, omega (arith, cuts.counted, v0.counted, both.1))
+
+      input_now : IsInput (places_of start) (input_of last) fed_now.0.records rest
+      input_now = subst (λ b. IsInput (places_of start) b fed_now.0.records rest) (sym (input_more log last bytes now))
+          fed_now.0.input
+
+      taken_serving : (is_ended : Bool) → (is_ended ≡ false → rest ≡ new.kept)
+          → IsServing start (record (with_intake s0 new) { is_ended = is_ended }) last
+      taken_serving is_ended goes_on = record {
+        rest = rest;
+        fed = record { records = fed_now.0.records; input = input_now; feed_is = fed_now.0.feed_is };
+        counted = fed_now.1;
+        goes_on = goes_on;
+        slots = λ k. story_elsewhere start k (get_or s0.links k None) log last (Input bytes) refl now
+            ((serving_in start log v).slots k);
+      }
+
+      taken_fault : (fault : InputFault) → IsFaultIn (places_of s0.intake.feed) new.records rest fault
+          → IsInputFault (places_of start) (input_of last) fault
+      taken_fault fault f =
+          let v0 : IsServing start s0 log = serving_in start log v in
+          record {
+            records = fed_now.0.records;
+            rest = rest;
+            input = input_now;
+            is_fault = subst (λ n. IsFaultIn (places_of start) n rest fault) fed_now.1
+                (subst (λ ps. IsFaultIn ps new.records rest fault)
+                (ap places_of v0.fed.feed_is ∙ places_fed start v0.fed.records) f);
+          }
+
+  -- All went into the rings, or it is wrong with them that they go no further.
+  module _ {bytes : List ℕ} {new : IntakeState} {t : ServerState} {log mid last : List Happening}
+      (on : s0.is_ended ≡ false) (sound : IsSound s) (now : mid ≡ log ++ Input bytes ∷ []) where
+    pub taken_ok : Cuts s0.intake bytes new new.kept → length new.kept < 512
+        → KeepsServing (with_intake s0 new) t mid last → AnswersFault s t log last (Ok tt)
+    taken_ok cuts short x = record {
+      sound = x.sound;
+      serving = λ start v. x.serving start (taken_serving on sound cuts
+          (short_none (places_of s0.intake.feed) new.kept short) now start v s0.is_ended (λ e. refl));
+      fault = tt;
+      ended = tt;
+      kept = λ e. x.stays.is_ended ∙ (ap (λ (y : ServerState). y.is_ended) same ∙ e);
     }
 
-    pub taken_fault : (fault : InputFault) → IsFaultIn (places_of s.intake.feed) new.records rest fault
+    pub taken_err : {fault : InputFault} → CutsOff s0.intake bytes new fault
+        → KeepsServing (ended (with_intake s0 new)) t mid last → Closes mid last
+        → AnswersFault s t log last (Err fault)
+    taken_err {fault} off x closes = record {
+      sound = x.sound;
+      serving = λ start v. x.serving start (taken_serving on sound off.cuts off.no_further now start v true
+          (λ e. absurd (let bad : true ≡ false = e in cc bad)));
+      fault = λ start v. subst (λ (b : List ℕ). IsInputFault (places_of start) b fault)
+          (sym (closes_input mid last closes))
+          (taken_fault on sound off.cuts off.no_further now start v fault off.is_fault);
+      ended = x.stays.is_ended;
+      kept = λ e. x.stays.is_ended;
+    }
+
+  -- What is wrong with an input of which nothing further came.
+  module _ {log last : List Happening} (closes : Closes log last) (start : List Window)
+      (v : IsServing start s log) where
+    fault_in : (fault : InputFault) → IsFaultIn (places_of start) (length (serving_in start log v).fed.records)
+        (serving_in start log v).rest fault → IsInputFault (places_of start) (input_of last) fault
+    fault_in fault f =
+        let v0 : IsServing start s0 log = serving_in start log v in
+        record {
+          records = v0.fed.records;
+          rest = v0.rest;
+          input = subst (λ b. IsInput (places_of start) b v0.fed.records v0.rest) (sym (closes_input log last closes))
+              v0.fed.input;
+          is_fault = f;
+        }
+
+    offset_in : 512 * s0.intake.records ≡ 512 * length (serving_in start log v).fed.records
+    offset_in = ap (λ n. 512 * n) (serving_in start log v).counted
+
+    pub failed_fault : (fault : InputFault) → fault ≡ Stream (faults.Read (512 * s0.intake.records))
         → IsInputFault (places_of start) (input_of last) fault
-    taken_fault fault f = record {
-      records = fed_now.0.records;
-      rest = rest;
-      input = subst (λ b. IsInput (places_of start) b fed_now.0.records rest) (sym (input_more log last bytes now))
-          fed_now.0.input;
-      is_fault = subst (λ n. IsFaultIn (places_of start) n rest fault) fed_now.1
-          (subst (λ ps. IsFaultIn ps new.records rest fault)
-          (ap places_of v.fed.feed_is ∙ places_fed start v.fed.records) f);
-    }
+    failed_fault fault is = subst (IsInputFault (places_of start) (input_of last)) (sym is) (fault_in _ offset_in)
 
-  -- what is wrong with an input that ends now, or is read no more
-  module _ (on : s.is_ended ≡ false) (quiet : input_of last ≡ input_of log) where
-    fault_now : (fault : InputFault) → IsFaultIn (places_of start) (length v.fed.records) s.intake.kept fault
+    pub turns_fault : (fault : InputFault) → fault ≡ Stream (faults.Turns (512 * s0.intake.records))
         → IsInputFault (places_of start) (input_of last) fault
-    fault_now fault f = record {
-      records = v.fed.records;
-      rest = s.intake.kept;
-      input = subst (λ b. IsInput (places_of start) b v.fed.records s.intake.kept) (sym quiet)
-          (subst (IsInput (places_of start) (input_of log) v.fed.records) (v.goes_on on) v.fed.input);
-      is_fault = f;
-    }
+    turns_fault fault is = subst (IsInputFault (places_of start) (input_of last)) (sym is) (fault_in _ offset_in)
 
-    at_offset : 512 * s.intake.records ≡ 512 * length v.fed.records
-    at_offset = ap (λ n. 512 * n) v.counted
-
-    pub cut_off_fault : 0 < length s.intake.kept → length s.intake.kept < 512
-        → IsInputFault (places_of start) (input_of last)
-        (Stream (faults.Truncated (512 * s.intake.records) (length s.intake.kept)))
-    cut_off_fault some short = fault_now _ (some, refl, short, at_offset)
-
-    pub failed_fault : IsInputFault (places_of start) (input_of last)
-        (Stream (faults.Read (512 * s.intake.records)))
-    failed_fault = fault_now _ at_offset
-
-  -- what is wrong with an input that is called no more
-  pub turns_fault : input_of last ≡ input_of log → IsInputFault (places_of start) (input_of last)
-      (Stream (faults.Turns (512 * s.intake.records)))
-  turns_fault quiet = record {
-    records = v.fed.records;
-    rest = v.rest;
-    input = subst (λ b. IsInput (places_of start) b v.fed.records v.rest) (sym quiet) v.fed.input;
-    is_fault = ap (λ n. 512 * n) v.counted;
-  }
-
-pub taken_sound : (s : ServerState) (new : IntakeState) (is_ended : Bool) (n : ℕ) → IsSound s → n ≤ 8192
-    → s.reads < 2 ^ 40 → (is_ended ≡ false → length new.kept < 512)
-    → ((t : State) → Fits s.intake.feed t → Fits new.feed t)
-    → ((m : ℕ) → IsBelow m s.intake.feed → IsBelow (m + n) new.feed) → new.records ≤ s.intake.records + n
-    → IsSound (with_intake s new is_ended)
-taken_sound s new is_ended n h few reads short fits below counted = record {
-  short = short;
-  fit = λ k l e. fits l.session.state (h.fit k l e);
-  below = below_more (2 ^ 62 + 8192 * s.reads + n) (2 ^ 62 + 8192 * (s.reads + 1)) new.feed (omega (arith, few))
-      (below (2 ^ 62 + 8192 * s.reads) h.below);
-  few = omega (arith, counted, h.few, few);
-  few_reads = omega (arith, reads);
-}
-
--- what came of bytes of the input, whether they were cut to the end or not
-pub record TakenBy (old new : IntakeState) (bytes : List ℕ) (is_bad : Bool) : Type 0 where
-  pub rest : List ℕ
-  pub cuts : Cuts old bytes new rest
-  pub no_further : ¬ (IsOf (places_of old.feed) (take 512 rest))
-  pub goes_on : is_bad ≡ false → rest ≡ new.kept
-
-pub taken_by : (old new : IntakeState) (bytes : List ℕ) (r : Result (Unit {0}) InputFault)
-    → OnOk r (Cuts old bytes new new.kept) → OnOk r (length new.kept < 512) → IfErr r (CutsOff old bytes new)
-    → TakenBy old new bytes (is_err r)
-taken_by old new bytes (Ok x) cuts short off = record {
-  rest = new.kept;
-  cuts = cuts;
-  no_further = short_none (places_of old.feed) new.kept short;
-  goes_on = λ e. refl;
-}
-taken_by old new bytes (Err fault) cuts short off = record {
-  rest = off.rest;
-  cuts = off.cuts;
-  no_further = off.no_further;
-  goes_on = λ e. absurd (let bad : true ≡ false = e in cc bad);
-}
-
-pub short_if : (r : Result (Unit {0}) InputFault) (P : Type 0) → OnOk r P → is_err r ≡ false → P
-short_if (Ok x) P h e = h
-short_if (Err fault) P h e = absurd (let bad : true ≡ false = e in cc bad)
+    pub cut_off_fault : IsSound s → s0.is_ended ≡ false → (fault : InputFault)
+        → (0 < length s0.intake.kept)
+        × (fault ≡ Stream (faults.Truncated (512 * s0.intake.records) (length s0.intake.kept)))
+        → IsInputFault (places_of start) (input_of last) fault
+    cut_off_fault sound on fault is =
+        subst (IsInputFault (places_of start) (input_of last)) (sym is.1) (fault_in _ (
+          is.0,
+          ap length (sym ((serving_in start log v).goes_on on)),
+          (sound_in same sound).short on,
+          offset_in,
+        ))

@@ -2,10 +2,11 @@
 ghost use Rattle.std.specs.Prelude.{◌≡◌, ◌+◌, ◌*◌, ◌^◌, ◌<◌, ◌≤◌, ◌++◌, [], ℕ, List, None, Some, IfErr, IfSome, OnErr};
 ghost use Rattle.std.specs.Prelude.{OnOk, length, slice_get};
 ghost use Rattle.std.specs.Bool.{OnFalse, OnTrue};
+ghost use Rattle.mseed_record.specs.declared.frame.Scan.{Scan};
 ghost use Rattle.mseed_record.specs.Record.{IsRecord};
+ghost use Rattle.mseed_record.specs.Scan.{Decides};
 ghost use Rattle.mseed_stream.specs.declared.fault.StreamFault.{StreamFault};
 ghost use Rattle.slink_wire.specs.Place.{Bears};
-ghost use Rattle.slink_feed.specs.Session.{State, Fits};
 ghost use Rattle.slink_feed.specs.Window.{Window};
 ghost use Rattle.slink_live.specs.Input.{places_of};
 ghost use Rattle.slink_live.specs.Served.{IsBelow};
@@ -53,12 +54,10 @@ fn bearer(feed: &Feed, bytes: &[u8; 512]) -> Option<usize>
 
 /// Gives a record to the first ring of its place, and answers whether there is one.
 fn push_record(feed: &mut Feed, bytes: &[u8; 512]) -> bool
-    requires room { IsBelow 9223372036854775807 feed.old }
+    requires { IsBelow 9223372036854775807 feed.old }
     ensures yes { OnTrue result (IsPushed feed.old feed.new bytes.now) }
     ensures no { OnFalse result (IsOfNone (places_of feed.old) bytes.now) }
     ensures stays { OnFalse result (feed.new ≡ feed.old) }
-    ensures fits { (s : State) → Fits feed.old s → Fits feed.new s }
-    ensures below { (n : ℕ) → IsBelow n feed.old → IsBelow (n + 1) feed.new }
 {
     match bearer(feed, bytes) {
         Some(k) => {
@@ -110,9 +109,6 @@ impl Intake {
         ensures ok { OnOk result (Cuts self.old bytes.now self.new self.new.kept) }
         ensures short { OnOk result (length self.new.kept < 512) }
         ensures err { IfErr result (CutsOff self.old bytes.now self.new) }
-        ensures fits { (s : State) → Fits self.old.feed s → Fits self.new.feed s }
-        ensures below { (n : ℕ) → IsBelow n self.old.feed → IsBelow (n + length bytes.now) self.new.feed }
-        ensures few { self.new.records ≤ self.old.records + length bytes.now }
     {
         let mut start = 0;
         while start < bytes.len() {
@@ -155,8 +151,6 @@ impl Intake {
         ensures ok { OnOk result (LooksOn self.old self.new) }
         ensures err { IfErr result (IsRefused (places_of self.old.feed) self.old.records self.old.kept) }
         ensures stays { OnErr result (self.new ≡ self.old) }
-        ensures fits { (s : State) → Fits self.old.feed s → Fits self.new.feed s }
-        ensures below { (n : ℕ) → IsBelow n self.old.feed → IsBelow (n + 1) self.new.feed }
     {
         match scan(self.kept.as_slice()) {
             Scan::Need(needed) if needed <= RECORD => Ok(()),
@@ -170,14 +164,13 @@ impl Intake {
     fn push_kept(&mut self) -> Result<(), InputFault>
         requires whole { length self.old.kept ≡ 512 }
         requires record { IsRecord self.old.kept }
+        requires decides { Decides self.old.kept (Scan.Record 512) }
         requires below { IsBelow 9223372036854775807 self.old.feed }
         requires few { self.old.records ≤ 2 ^ 54 }
         ensures ok { OnOk result (LooksOn self.old self.new) }
-        ensures err { IfErr result (λ e. e ≡ InputFault.Foreign (self.old.records + 1)) }
-        ensures none { OnErr result (IsOfNone (places_of self.old.feed) self.old.kept) }
+        ensures err { IfErr result (IsRefused (places_of self.old.feed) self.old.records self.old.kept) }
+        ensures foreign { IfErr result (λ e. e ≡ InputFault.Foreign (self.old.records + 1)) }
         ensures stays { OnErr result (self.new ≡ self.old) }
-        ensures fits { (s : State) → Fits self.old.feed s → Fits self.new.feed s }
-        ensures below { (n : ℕ) → IsBelow n self.old.feed → IsBelow (n + 1) self.new.feed }
     {
         let mut bytes = [0; RECORD];
         bytes.copy_from_slice(self.kept.as_slice());

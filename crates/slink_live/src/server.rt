@@ -1,16 +1,17 @@
 //! A server's state, and what each event does to it.
-ghost use Rattle.std.specs.Prelude.{◌≡◌, ◌+◌, ◌*◌, ◌^◌, ◌<◌, ◌≤◌, ◌++◌, [], ◌∷◌, ℕ, List, Some, None, IfErr, IfSome};
-ghost use Rattle.std.specs.Prelude.{IfOk, OnOk, ◌⊎◌, get_or, length, false, true};
+ghost use Rattle.std.specs.Prelude.{◌≡◌, ◌+◌, ◌*◌, ◌^◌, ◌<◌, ◌≤◌, [], List, Err, None, IfErr, IfSome};
+ghost use Rattle.std.specs.Prelude.{IfOk, OnOk, ◌⊎◌, get_or, length, true};
 ghost use Rattle.std.specs.Bool.{OnTrue};
 ghost use Rattle.std.specs.List.{AllByRecursion};
 ghost use Rattle.slink_feed.specs.Session.{Fits};
 ghost use Rattle.slink_feed.specs.Window.{Window};
-ghost use Rattle.slink_live.specs.Happening.{Happening, Input, input_of};
+ghost use Rattle.slink_live.specs.Happening.{input_of};
 ghost use Rattle.slink_live.specs.Input.{IsInputFault, places_of};
 ghost use Rattle.slink_live.specs.Served.{AreEmpty, GoesOn, IsBelow, IsFinished, IsServing, IsSound, ServerState};
 ghost use Rattle.slink_live.specs.Served.{StaysUnread};
 ghost use Rattle.slink_live.specs.private.Calling.{Closes, HasFilled, HasReceived, HasTaken, IsCalled};
-ghost use Rattle.slink_live.specs.private.Calling.{Opens, ReadsFrom, ReadsInput, Stays, WritesTo};
+ghost use Rattle.slink_live.specs.private.Calling.{Opens, ReadsFrom, ReadsInput, WritesTo};
+ghost use Rattle.slink_live.specs.private.Keeping.{AnswersFault, KeepsServing};
 
 use crate::fault::InputFault;
 use crate::intake::Intake;
@@ -61,25 +62,18 @@ fn slots(alloc: Global, count: usize) -> Result<Vec<Option<Link>>, AllocError>
     Ok(slots)
 }
 
-/// Reads once from the link in a slot, where one stands, and has its session answer.
+/// Reads once from the link in a slot, where one stands, as much as there is room for replies, and has its session
+/// answer.
 fn hear<R: Ready>(link: &mut Option<Link>, feed: &Feed, slot: usize, ready: &mut R)
     requires { IfSome link.old (λ l. Fits feed.now l.session.state) }
     ensures { HasReceived feed.now slot link.old link.new (R.log ready.old) (R.log ready.new) }
 {
     if let Some(link) = link {
-        hear_link(link, feed, slot, ready);
+        let mut buf = [0; PIECE];
+        let most = link.readable();
+        let count = ready.read(slot, &mut buf[..most]);
+        link.hear(feed, &buf[..count]);
     }
-}
-
-/// Reads once from a link, as much as there is room for replies.
-fn hear_link<R: Ready>(link: &mut Link, feed: &Feed, slot: usize, ready: &mut R)
-    requires { Fits feed.now link.old.session.state }
-    ensures { HasReceived feed.now slot (Some link.old) (Some link.new) (R.log ready.old) (R.log ready.new) }
-{
-    let mut buf = [0; PIECE];
-    let most = link.readable();
-    let count = ready.read(slot, &mut buf[..most]);
-    link.hear(feed, &buf[..count]);
 }
 
 /// Writes once to the link in a slot, where one stands, what its session sent.
@@ -87,16 +81,9 @@ fn tell<R: Ready>(link: &mut Option<Link>, slot: usize, ready: &mut R)
     ensures { HasTaken slot link.old link.new (R.log ready.old) (R.log ready.new) }
 {
     if let Some(link) = link {
-        tell_link(link, slot, ready);
+        let count = ready.write(slot, link.pending());
+        link.taken(count);
     }
-}
-
-/// Writes once to a link.
-fn tell_link<R: Ready>(link: &mut Link, slot: usize, ready: &mut R)
-    ensures { HasTaken slot (Some link.old) (Some link.new) (R.log ready.old) (R.log ready.new) }
-{
-    let count = ready.write(slot, link.pending());
-    link.taken(count);
 }
 
 /// Has the session of the link in a slot say what is due.
@@ -182,14 +169,8 @@ impl Server {
 
     /// Does what can be done next.
     fn step<R: Ready>(&mut self, event: Event, ready: &mut R) -> Result<(), InputFault>
-        requires sound { IsSound self.old }
-        ensures sound { IsSound self.new }
-        ensures serving { (start : List Window) → IsServing start self.old (R.log ready.old)
-            → IsServing start self.new (R.log ready.new) }
-        ensures fault { IfErr result (λ e. (start : List Window) → IsServing start self.old (R.log ready.old)
-            → IsInputFault (places_of start) (input_of (R.log ready.new)) e) }
-        ensures ended { IfErr result (λ _. self.new.is_ended ≡ true) }
-        ensures kept { self.old.is_ended ≡ true → self.new.is_ended ≡ true }
+        requires { IsSound self.old }
+        ensures answers { AnswersFault self.old self.new (R.log ready.old) (R.log ready.new) result }
         ensures called { IsCalled event self.old (R.log ready.old) (R.log ready.new) }
     {
         match event {
@@ -205,16 +186,10 @@ impl Server {
         Ok(())
     }
 
-    /// Reads once from the input, unless it is read no more.
+    /// Reads once from the input, unless it is read no more. What is wrong with it is the end.
     fn on_input<R: Ready>(&mut self, ready: &mut R) -> Result<(), InputFault>
-        requires sound { IsSound self.old }
-        ensures sound { IsSound self.new }
-        ensures serving { (start : List Window) → IsServing start self.old (R.log ready.old)
-            → IsServing start self.new (R.log ready.new) }
-        ensures fault { IfErr result (λ e. (start : List Window) → IsServing start self.old (R.log ready.old)
-            → IsInputFault (places_of start) (input_of (R.log ready.new)) e) }
-        ensures ended { IfErr result (λ _. self.new.is_ended ≡ true) }
-        ensures kept { self.old.is_ended ≡ true → self.new.is_ended ≡ true }
+        requires { IsSound self.old }
+        ensures answers { AnswersFault self.old self.new (R.log ready.old) (R.log ready.new) result }
         ensures called { ReadsInput self.old (R.log ready.old) (R.log ready.new) }
     {
         if self.is_ended {
@@ -223,81 +198,65 @@ impl Server {
         if self.reads == TURNS {
             return Err(self.give_up(ready));
         }
-        if let Err(fault) = self.read_input(ready) {
-            self.end(ready);
-            return Err(fault);
-        }
-        self.settle_all(ready);
-        Ok(())
-    }
-
-    /// Reads once from the input. What is wrong with it is the end.
-    fn read_input<R: Ready>(&mut self, ready: &mut R) -> Result<(), InputFault>
-        requires sound { IsSound self.old }
-        requires goes_on { self.old.is_ended ≡ false }
-        requires few { self.old.reads < 2 ^ 40 }
-        ensures sound { IsSound self.new }
-        ensures serving { (start : List Window) → IsServing start self.old (R.log ready.old)
-            → IsServing start self.new (R.log ready.new) }
-        ensures fault { IfErr result (λ e. (start : List Window) → IsServing start self.old (R.log ready.old)
-            → IsInputFault (places_of start) (input_of (R.log ready.new)) e) }
-        ensures ended { IfErr result (λ _. self.new.is_ended ≡ true) }
-        ensures called { (bytes : List ℕ) × (R.log ready.new ≡ R.log ready.old ++ Input bytes ∷ []) }
-    {
         let mut buf = [0; INPUT];
         let count = ready.read_input(&mut buf);
         self.reads += 1;
-        let taken = self.intake.take(&buf[..count]);
-        self.is_ended = taken.is_err();
-        taken
+        match self.intake.take(&buf[..count]) {
+            Ok(()) => {
+                self.settle_all(ready);
+                Ok(())
+            }
+            Err(fault) => {
+                self.end(ready);
+                Err(fault)
+            }
+        }
     }
 
     /// Takes note that no record comes any more.
     fn on_end<R: Ready>(&mut self, ready: &mut R) -> Result<(), InputFault>
-        requires sound { IsSound self.old }
-        ensures sound { IsSound self.new }
-        ensures serving { (start : List Window) → IsServing start self.old (R.log ready.old)
-            → IsServing start self.new (R.log ready.new) }
-        ensures fault { IfErr result (λ e. (start : List Window) → IsServing start self.old (R.log ready.old)
-            → IsInputFault (places_of start) (input_of (R.log ready.new)) e) }
-        ensures ended { IfErr result (λ _. self.new.is_ended ≡ true) }
-        ensures kept { self.old.is_ended ≡ true → self.new.is_ended ≡ true }
+        requires { IsSound self.old }
+        ensures answers { AnswersFault self.old self.new (R.log ready.old) (R.log ready.new) result }
         ensures closes { Closes (R.log ready.old) (R.log ready.new) }
     {
         if self.is_ended {
             return Ok(());
         }
+        let ending = self.intake.end();
         self.end(ready);
-        self.intake.end()
+        ending
     }
 
     /// Takes note that the input failed.
     fn on_failure<R: Ready>(&mut self, ready: &mut R) -> Result<(), InputFault>
-        requires sound { IsSound self.old }
-        ensures sound { IsSound self.new }
-        ensures serving { (start : List Window) → IsServing start self.old (R.log ready.old)
-            → IsServing start self.new (R.log ready.new) }
-        ensures fault { IfErr result (λ e. (start : List Window) → IsServing start self.old (R.log ready.old)
-            → IsInputFault (places_of start) (input_of (R.log ready.new)) e) }
-        ensures ended { IfErr result (λ _. self.new.is_ended ≡ true) }
-        ensures kept { self.old.is_ended ≡ true → self.new.is_ended ≡ true }
+        requires { IsSound self.old }
+        ensures answers { AnswersFault self.old self.new (R.log ready.old) (R.log ready.new) result }
         ensures closes { Closes (R.log ready.old) (R.log ready.new) }
     {
         if self.is_ended {
             return Ok(());
         }
+        let fault = self.intake.failure();
         self.end(ready);
-        Err(self.intake.failure())
+        Err(fault)
+    }
+
+    /// Reads the input no more, since the device was called too often, and says so.
+    fn give_up<R: Ready>(&mut self, ready: &mut R) -> InputFault
+        requires { IsSound self.old }
+        ensures answers { AnswersFault self.old self.new (R.log ready.old) (R.log ready.new) (Err result) }
+        ensures closes { Closes (R.log ready.old) (R.log ready.new) }
+    {
+        let fault = self.intake.last_turn();
+        self.end(ready);
+        fault
     }
 
     /// Reads the input no more, takes no more links, and closes those that have all.
     fn end<R: Ready>(&mut self, ready: &mut R)
-        requires sound { IsSound self.old }
-        ensures sound { IsSound self.new }
-        ensures serving { (start : List Window) → IsServing start self.old (R.log ready.old)
-            → IsServing start self.new (R.log ready.new) }
-        ensures ended { self.new.is_ended ≡ true }
-        ensures intake { self.new.intake ≡ self.old.intake }
+        requires { IsSound (record self.old { is_ended = true }) }
+        ensures keeps { KeepsServing (record self.old { is_ended = true }) self.new (R.log ready.old)
+            (R.log ready.new) }
         ensures closes { Closes (R.log ready.old) (R.log ready.new) }
     {
         self.is_ended = true;
@@ -306,32 +265,19 @@ impl Server {
         self.settle_all(ready);
     }
 
-    /// Reads the input no more, since the device was called too often, and says so.
-    fn give_up<R: Ready>(&mut self, ready: &mut R) -> InputFault
-        requires sound { IsSound self.old }
-        ensures sound { IsSound self.new }
-        ensures serving { (start : List Window) → IsServing start self.old (R.log ready.old)
-            → IsServing start self.new (R.log ready.new) }
-        ensures fault { (start : List Window) → IsServing start self.old (R.log ready.old)
-            → IsInputFault (places_of start) (input_of (R.log ready.new)) result }
-        ensures ended { self.new.is_ended ≡ true }
-        ensures closes { Closes (R.log ready.old) (R.log ready.new) }
-    {
-        self.end(ready);
-        self.intake.last_turn()
-    }
-
     /// Takes a new link into a free slot.
     fn on_dialled<R: Ready>(&mut self, ready: &mut R)
-        requires sound { IsSound self.old }
-        ensures sound { IsSound self.new }
-        ensures serving { (start : List Window) → IsServing start self.old (R.log ready.old)
-            → IsServing start self.new (R.log ready.new) }
-        ensures stays { Stays self.old self.new }
+        requires { IsSound self.old }
+        ensures keeps { KeepsServing self.old self.new (R.log ready.old) (R.log ready.new) }
         ensures called { Opens (R.log ready.old) (R.log ready.new) }
     {
         match self.free_slot() {
-            Some(slot) => self.open(slot, ready),
+            Some(slot) => {
+                if ready.accept(slot) {
+                    self.links[slot] = Some(Link::new());
+                    ready.wants(slot, self.wishes(slot));
+                }
+            }
             None => ready.wants_links(false),
         }
     }
@@ -352,88 +298,34 @@ impl Server {
         None
     }
 
-    /// Takes a new link into a slot.
-    fn open<R: Ready>(&mut self, slot: usize, ready: &mut R)
-        requires sound { IsSound self.old }
-        requires within { slot < length self.old.links }
-        requires free { get_or self.old.links slot None ≡ None }
-        ensures sound { IsSound self.new }
-        ensures serving { (start : List Window) → IsServing start self.old (R.log ready.old)
-            → IsServing start self.new (R.log ready.new) }
-        ensures stays { Stays self.old self.new }
-        ensures called { Opens (R.log ready.old) (R.log ready.new) }
-    {
-        if ready.accept(slot) {
-            self.links[slot] = Some(Link::new());
-            ready.wants(slot, self.wishes(slot));
-        }
-    }
-
-    /// Reads from the link in a slot.
+    /// Reads from the link in a slot, and has its session answer.
     fn on_readable<R: Ready>(&mut self, slot: usize, ready: &mut R)
-        requires sound { IsSound self.old }
-        ensures sound { IsSound self.new }
-        ensures serving { (start : List Window) → IsServing start self.old (R.log ready.old)
-            → IsServing start self.new (R.log ready.new) }
-        ensures stays { Stays self.old self.new }
+        requires { IsSound self.old }
+        ensures keeps { KeepsServing self.old self.new (R.log ready.old) (R.log ready.new) }
         ensures called { ReadsFrom (get_or self.old.links slot None) slot (R.log ready.old) (R.log ready.new) }
     {
         if slot < self.links.len() {
-            self.hear_slot(slot, ready);
-            self.settle(slot, ready);
-        }
-    }
-
-    /// Reads from the link in a slot, and has its session answer.
-    fn hear_slot<R: Ready>(&mut self, slot: usize, ready: &mut R)
-        requires sound { IsSound self.old }
-        requires within { slot < length self.old.links }
-        ensures sound { IsSound self.new }
-        ensures serving { (start : List Window) → IsServing start self.old (R.log ready.old)
-            → IsServing start self.new (R.log ready.new) }
-        ensures stays { Stays self.old self.new }
-        ensures received { HasReceived self.old.intake.feed slot (get_or self.old.links slot None)
-            (get_or self.new.links slot None) (R.log ready.old) (R.log ready.new) }
-    {
-        hear(&mut self.links[slot], self.intake.feed(), slot, ready);
-    }
-
-    /// Writes to the link in a slot.
-    fn on_writable<R: Ready>(&mut self, slot: usize, ready: &mut R)
-        requires sound { IsSound self.old }
-        ensures sound { IsSound self.new }
-        ensures serving { (start : List Window) → IsServing start self.old (R.log ready.old)
-            → IsServing start self.new (R.log ready.new) }
-        ensures stays { Stays self.old self.new }
-        ensures called { WritesTo (get_or self.old.links slot None) slot (R.log ready.old) (R.log ready.new) }
-    {
-        if slot < self.links.len() {
-            self.tell_slot(slot, ready);
+            hear(&mut self.links[slot], self.intake.feed(), slot, ready);
             self.settle(slot, ready);
         }
     }
 
     /// Writes to the link in a slot what its session sent.
-    fn tell_slot<R: Ready>(&mut self, slot: usize, ready: &mut R)
-        requires sound { IsSound self.old }
-        requires within { slot < length self.old.links }
-        ensures sound { IsSound self.new }
-        ensures serving { (start : List Window) → IsServing start self.old (R.log ready.old)
-            → IsServing start self.new (R.log ready.new) }
-        ensures stays { Stays self.old self.new }
-        ensures taken { HasTaken slot (get_or self.old.links slot None) (get_or self.new.links slot None)
-            (R.log ready.old) (R.log ready.new) }
+    fn on_writable<R: Ready>(&mut self, slot: usize, ready: &mut R)
+        requires { IsSound self.old }
+        ensures keeps { KeepsServing self.old self.new (R.log ready.old) (R.log ready.new) }
+        ensures called { WritesTo (get_or self.old.links slot None) slot (R.log ready.old) (R.log ready.new) }
     {
-        tell(&mut self.links[slot], slot, ready);
+        if slot < self.links.len() {
+            tell(&mut self.links[slot], slot, ready);
+            self.settle(slot, ready);
+        }
     }
 
     /// Closes the link in a slot.
     fn close<R: Ready>(&mut self, slot: usize, ready: &mut R)
-        requires sound { IsSound self.old }
-        ensures sound { IsSound self.new }
-        ensures serving { (start : List Window) → IsServing start self.old (R.log ready.old)
-            → IsServing start self.new (R.log ready.new) }
-        ensures stays { Stays self.old self.new }
+        requires { IsSound self.old }
+        ensures keeps { KeepsServing self.old self.new (R.log ready.old) (R.log ready.new) }
         ensures closes { Closes (R.log ready.old) (R.log ready.new) }
     {
         if slot < self.links.len() {
@@ -445,11 +337,8 @@ impl Server {
 
     /// Has each link's session say what is due, says what is wanted of it, and closes those that have all.
     fn settle_all<R: Ready>(&mut self, ready: &mut R)
-        requires sound { IsSound self.old }
-        ensures sound { IsSound self.new }
-        ensures serving { (start : List Window) → IsServing start self.old (R.log ready.old)
-            → IsServing start self.new (R.log ready.new) }
-        ensures stays { Stays self.old self.new }
+        requires { IsSound self.old }
+        ensures keeps { KeepsServing self.old self.new (R.log ready.old) (R.log ready.new) }
         ensures closes { Closes (R.log ready.old) (R.log ready.new) }
     {
         for slot in 0..self.links.len() {
@@ -459,33 +348,18 @@ impl Server {
 
     /// Has the session of the link in a slot say what is due, and says what is wanted of the link, or closes it.
     fn settle<R: Ready>(&mut self, slot: usize, ready: &mut R)
-        requires sound { IsSound self.old }
-        ensures sound { IsSound self.new }
-        ensures serving { (start : List Window) → IsServing start self.old (R.log ready.old)
-            → IsServing start self.new (R.log ready.new) }
-        ensures stays { Stays self.old self.new }
+        requires { IsSound self.old }
+        ensures keeps { KeepsServing self.old self.new (R.log ready.old) (R.log ready.new) }
         ensures closes { Closes (R.log ready.old) (R.log ready.new) }
     {
         if slot < self.links.len() {
-            self.fill_slot(slot);
+            fill(&mut self.links[slot], self.intake.feed());
             if self.is_over(slot) {
                 self.close(slot, ready);
             } else {
                 ready.wants(slot, self.wishes(slot));
             }
         }
-    }
-
-    /// Has the session of the link in a slot say what is due.
-    fn fill_slot(&mut self, slot: usize)
-        requires sound { IsSound self.old }
-        requires within { slot < length self.old.links }
-        ensures sound { IsSound self.new }
-        ensures serving { (start : List Window) (log : List Happening) → IsServing start self.old log
-            → IsServing start self.new log }
-        ensures stays { Stays self.old self.new }
-    {
-        fill(&mut self.links[slot], self.intake.feed());
     }
 
     /// Whether the link in a slot is to be closed. One that lost its place is found here, when records come: a link

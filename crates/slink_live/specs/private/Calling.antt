@@ -1,6 +1,6 @@
 -- What one event does to one slot, and which call of the device it comes to.
-use Rattle.std.specs.Prelude.{◌≡◌, ℕ, true, false, ◌≤◌, ◌^◌, List, [], ◌∷◌, ◌++◌, drop, length, take, get_or, Option}
-use Rattle.std.specs.Prelude.{Some, None}
+use Rattle.std.specs.Prelude.{◌≡◌, ℕ, true, false, ◌≤◌, ◌^◌, List, [], ◌∷◌, ◌++◌, drop, take, get_or, Option, Some}
+use Rattle.std.specs.Prelude.{None}
 use Rattle.std.specs.List.{AllByRecursion}
 use Rattle.slink_feed.specs.Serving.{Serves}
 use Rattle.slink_feed.specs.Session.{Fits}
@@ -78,10 +78,3 @@ IsCalled (events.Readable k) s log last = ReadsFrom (get_or s.links k None) k lo
 IsCalled (events.Writable k) s log last = WritesTo (get_or s.links k None) k log last
 IsCalled (events.Gone k) s log last = Closes log last
 IsCalled events.Nothing s log last = Closes log last
-
--- Links alone changed, or left.
-pub record Stays (old new : ServerState) : Type 0 where
-  pub intake : new.intake ≡ old.intake
-  pub is_ended : new.is_ended ≡ old.is_ended
-  pub reads : new.reads ≡ old.reads
-  pub slots : length new.links ≡ length old.links

@@ -1,5 +1,5 @@
-use Rattle.std.proofs.Common.{rules, arith, refl, ◌+◌}
-use Rattle.slink_live.proofs.Borne.{below_more, is_pushed, of_none, pushed_below}
+use Rattle.std.proofs.Common.{rules, arith, refl}
+use Rattle.slink_live.proofs.Borne.{is_pushed, of_none}
 use Rattle.slink_live.proofs.intake.push_record.Goals as goal
 
 pub push-requires : goal.push-requires
@@ -7,7 +7,7 @@ push-requires c = (
   search rules,
   (
     c.in-Some.ensures.some.within,
-    (c.in-Some.ensures.some.bears, λ w there. omega (arith, c.requires.room c.in-Some.k w there)),
+    (c.in-Some.ensures.some.bears, λ w there. omega (arith, c.requires c.in-Some.k w there)),
   ),
 )
 
@@ -15,13 +15,5 @@ pub returns-in-Some-clause-yes : goal.returns-in-Some-clause-yes
 returns-in-Some-clause-yes c =
     is_pushed c.args.feed.now c.push.new.self c.args.bytes.now c.in-Some.k c.in-Some.ensures.some c.push.ensures.pushed
 
-pub returns-in-Some-clause-below : goal.returns-in-Some-clause-below
-returns-in-Some-clause-below c n below =
-    pushed_below n c.args.feed.now c.push.new.self c.args.bytes.now c.in-Some.k c.in-Some.ensures.some
-    c.push.ensures.pushed below
-
 pub returns-in-None-clause-no : goal.returns-in-None-clause-no
 returns-in-None-clause-no c = of_none c.args.feed.now c.args.bytes.now (c.in-None.ensures.none refl)
-
-pub returns-in-None-clause-below : goal.returns-in-None-clause-below
-returns-in-None-clause-below c n below = below_more n (n + 1) c.args.feed.now (omega arith) below

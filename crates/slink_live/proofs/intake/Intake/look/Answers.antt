@@ -3,13 +3,10 @@ use Rattle.mseed_record.specs.declared.frame.Scan.{Scan}
 use Rattle.mseed_record.specs.declared.frame.Scan.TheVariants as scans
 use Rattle.mseed_record.specs.Record.{IsRecord}
 use Rattle.mseed_record.specs.Scan.{Decides, HasNoRecord, HasNoShorter}
-use Rattle.slink_live.specs.declared.fault.InputFault.TheVariants.{Foreign}
 use Rattle.slink_live.specs.Input.{places_of}
 use Rattle.slink_live.specs.Served.{IntakeState}
-use Rattle.slink_live.specs.private.Cutting.{IsOfNone, IsRefused, waits}
-use Rattle.slink_live.proofs.Borne.{below_more}
-use Rattle.slink_live.proofs.Cuts.{refused_long, refused_none, refused_not, refused_other, whole_record}
-use Rattle.slink_live.proofs.Steps.{if_err_one}
+use Rattle.slink_live.specs.private.Cutting.{waits}
+use Rattle.slink_live.proofs.Cuts.{refused_long, refused_not, refused_other, whole_record}
 use Rattle.slink_live.proofs.intake.Intake.look.Goals.{in-Need+else-needed-le-RECORD, in-Record+else-size-eq-RECORD}
 use Rattle.slink_live.proofs.intake.Intake.look.Goals as goal
 
@@ -20,7 +17,15 @@ push_kept-requires c =
     let whole : (length c.args.self.now.kept ≡ 512) × IsRecord c.args.self.now.kept =
     whole_record c.as_slice.result.now c.args.self.now.kept c.in-Record.size leading c.if-size-eq-RECORD.true
     c.requires.size ((c.scan.ensures.«record» c.in-Record.size).0 c.in-Record.is) in
-    record { whole = whole.0; «record» = whole.1; below = c.requires.below; few = c.requires.few }
+    record {
+      whole = whole.0;
+      «record» = whole.1;
+      decides = subst (λ (p : List ℕ). Decides p (scans.Record 512)) leading
+          (subst (λ (k : ℕ). Decides c.as_slice.result.now (scans.Record k)) c.if-size-eq-RECORD.true
+          (subst (λ (x : Scan). Decides c.as_slice.result.now x) c.in-Record.is c.scan.ensures.decides));
+      below = c.requires.below;
+      few = c.requires.few;
+    }
 
 pub returns-in-Need-clause-ok : goal.returns-in-Need-clause-ok
 returns-in-Need-clause-ok c =
@@ -28,27 +33,6 @@ returns-in-Need-clause-ok c =
     c.as_slice.ensures.value ∙ ap (λ (s : IntakeState). s.kept) c.self.view_is in
     let more = c.scan.ensures.bound c.in-Need.needed c.in-Need.is in
     waits (omega (arith, more.0, ap length leading, c.if-needed-le-RECORD.true)) refl
-
-pub returns-in-Need-clause-below : goal.returns-in-Need-clause-below
-returns-in-Need-clause-below c n below = below_more n (n + 1) c.args.self.now.feed (omega arith) below
-
-pub returns-in-Record-clause-err : goal.returns-in-Record-clause-err
-returns-in-Record-clause-err c =
-    let places = places_of c.args.self.now.feed in
-    let kept = c.args.self.now.kept in
-    let n = c.args.self.now.records in
-    let leading : c.as_slice.result.now ≡ kept =
-    c.as_slice.ensures.value ∙ ap (λ (s : IntakeState). s.kept) c.self.view_is in
-    let whole : (length kept ≡ 512) × IsRecord kept =
-    whole_record c.as_slice.result.now kept c.in-Record.size leading c.if-size-eq-RECORD.true
-    c.requires.size ((c.scan.ensures.«record» c.in-Record.size).0 c.in-Record.is) in
-    let reported : Decides kept (scans.Record 512) =
-    subst (λ (p : List ℕ). Decides p (scans.Record 512)) leading
-    (subst (λ (k : ℕ). Decides c.as_slice.result.now (scans.Record k)) c.if-size-eq-RECORD.true
-    (subst (λ (x : Scan). Decides c.as_slice.result.now x) c.in-Record.is c.scan.ensures.decides)) in
-    if_err_one c.push_kept.result (IsOfNone places kept) (Foreign (n + 1)) (IsRefused places n kept)
-    c.push_kept.ensures.none c.push_kept.ensures.err
-    (λ none. refused_none places n (n + 1) kept whole.0 reported none refl)
 
 pub returns-in-Not-clause-err : goal.returns-in-Not-clause-err
 returns-in-Not-clause-err c =
@@ -59,9 +43,6 @@ returns-in-Not-clause-err c =
     (subst (λ (p : List ℕ). Decides p (scans.Not c.in-Not.fault)) leading
     (subst (λ (x : Scan). Decides c.as_slice.result.now x) c.in-Not.is c.scan.ensures.decides))
     (subst HasNoRecord leading (c.scan.ensures.refused c.in-Not.fault c.in-Not.is)) c.offset.ensures
-
-pub returns-in-Not-clause-below : goal.returns-in-Not-clause-below
-returns-in-Not-clause-below c n below = below_more n (n + 1) c.args.self.now.feed (omega arith) below
 
 pub returns-in-Need-2-clause-err : goal.returns-in-Need-2-clause-err
 returns-in-Need-2-clause-err c =
@@ -86,6 +67,3 @@ returns-in-Need-2-clause-err c =
           (subst (λ (x : Scan). Decides c.as_slice.result.now x) w.in-Record.is c.scan.ensures.decides))
           (subst (λ (p : List ℕ). IsRecord (take w.in-Record.size p)) leading there.1) next
     ]
-
-pub returns-in-Need-2-clause-below : goal.returns-in-Need-2-clause-below
-returns-in-Need-2-clause-below c n below = below_more n (n + 1) c.args.self.now.feed (omega arith) below

@@ -1,26 +1,16 @@
-use Rattle.std.proofs.Common.{◌*◌, ◌≤◌, ◌∙◌, ap, arith, subst, sym}
-use Rattle.mseed_stream.specs.declared.fault.StreamFault.TheVariants as faults
-use Rattle.slink_live.specs.declared.fault.InputFault.{InputFault}
-use Rattle.slink_live.specs.declared.fault.InputFault.TheVariants.{Stream}
-use Rattle.slink_live.specs.Happening.{input_of}
-use Rattle.slink_live.specs.Input.{IsInputFault, places_of}
-use Rattle.slink_live.specs.Served.{IntakeState, ServerState}
-use Rattle.slink_live.proofs.Slots.{closes_input}
-use Rattle.slink_live.proofs.Steps.{few_records}
+use Rattle.std.proofs.Common.{arith}
+use Rattle.slink_live.proofs.Steps.{answers_end, ended_sound, few_records}
 use Rattle.slink_live.proofs.Takings.{turns_fault}
 use Rattle.slink_live.proofs.server.Server.give_up.Goals as goal
 
-pub last_turn-requires : goal.last_turn-requires
-last_turn-requires g c = record {
-  few = subst (λ (x : ServerState). x.intake.records ≤ 18014398509481984) (sym c.self.view_is)
-      (omega (arith, few_records c.end.new.self c.end.ensures.sound));
-}
+pub last_turn-fault-requires : goal.last_turn-fault-requires
+last_turn-fault-requires g c = omega (arith, few_records c.self.view_is c.requires)
 
-pub returns-clause-fault : goal.returns-clause-fault
-returns-clause-fault g c start v =
-    let log = g.R.Ready.log c.args.ready.now in
-    let last = g.R.Ready.log c.end.new.ready in
-    subst (λ (e : InputFault). IsInputFault (places_of start) (input_of last) e)
-    (sym (c.last_turn.ensures ∙ ap (λ (i : IntakeState). Stream (faults.Turns (512 * i.records)))
-    (ap (λ (x : ServerState). x.intake) c.self.view_is ∙ c.end.ensures.intake)))
-    (turns_fault start c.args.self.now log last v (closes_input log last c.end.ensures.closes))
+pub end-requires : goal.end-requires
+end-requires g c = ended_sound c.requires
+
+pub returns-clause-answers : goal.returns-clause-answers
+returns-clause-answers g c =
+    answers_end c.end.ensures.keeps
+    (λ start v. turns_fault c.self.view_is c.end.ensures.closes start v c.last_turn-fault.result
+    c.last_turn-fault.ensures)

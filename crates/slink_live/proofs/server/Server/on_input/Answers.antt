@@ -1,26 +1,50 @@
-use Rattle.std.proofs.Common.{◌≡◌, ◌∷◌, ◌++◌, [], false, List, subst, sym, rules, ℕ}
-use Rattle.slink_live.specs.Input.{IsInputFault, places_of}
-use Rattle.slink_live.specs.Happening.{Happening, Input}
+use Rattle.std.proofs.Common.{List, subst, ◌≡◌, ◌≤◌, arith, rules, length, take, true, false}
+use Rattle.slink_live.specs.Happening.{Happening}
 use Rattle.slink_live.specs.private.Calling.{Closes, reads}
-use Rattle.slink_live.proofs.Slots.{closes_input}
+use Rattle.slink_live.proofs.Steps.{few_records, sound_in}
+use Rattle.slink_live.proofs.Takings.{taken_err, taken_ok, taken_sound}
 use Rattle.slink_live.proofs.server.Server.on_input.Goals as goal
 
-pub returns-in-Err-clause-fault : goal.returns-in-Err-clause-fault
-returns-in-Err-clause-fault g c start v =
-    subst (λ (b : List ℕ). IsInputFault (places_of start) b c.in-Err.fault)
-    (sym (closes_input (g.R.Ready.log c.read_input.new.ready) (g.R.Ready.log c.end.new.ready) c.end.ensures.closes))
-    (c.in-Err.ensures.fault start v)
+pub take-requires : goal.take-requires
+take-requires g c =
+    let sound = sound_in c.self.view_is c.requires in
+    record {
+      short = sound.short c.if-self.false;
+      size = search (rules, arith);
+      below = λ k w there. omega (arith, sound.below k w there, sound.few_reads);
+      few = few_records c.self.view_is c.requires;
+    }
+
+pub settle_all-requires : goal.settle_all-requires
+settle_all-requires g c =
+    let most : length (take c.read_input-count.result c.read_input-count.new.buf) ≤ 8192 = search (rules, arith) in
+    taken_sound c.self.view_is c.if-self.false c.requires c.in-Ok.ensures.ok c.self.inside.is_ended most
+    c.if-self-eq-TURNS.false (λ e. c.in-Ok.ensures.short)
+
+pub end-requires : goal.end-requires
+end-requires g c =
+    let most : length (take c.read_input-count.result c.read_input-count.new.buf) ≤ 8192 = search (rules, arith) in
+    taken_sound c.self.view_is c.if-self.false c.requires c.in-Err.ensures.err.cuts true most
+    c.if-self-eq-TURNS.false (λ e. absurd (let bad : true ≡ false = e in cc bad))
+
+pub returns-in-Ok-clause-answers : goal.returns-in-Ok-clause-answers
+returns-in-Ok-clause-answers g c =
+    taken_ok c.self.view_is c.if-self.false c.requires c.read_input-count.ensures.log c.in-Ok.ensures.ok
+    c.in-Ok.ensures.short c.settle_all.ensures.keeps
+
+pub returns-in-Err-clause-answers : goal.returns-in-Err-clause-answers
+returns-in-Err-clause-answers g c =
+    taken_err c.self.view_is c.if-self.false c.requires c.read_input-count.ensures.log c.in-Err.ensures.err
+    c.end.ensures.keeps c.end.ensures.closes
+
+pub returns-in-Ok-clause-called : goal.returns-in-Ok-clause-called
+returns-in-Ok-clause-called g c =
+    reads (take c.read_input-count.result c.read_input-count.new.buf) (search rules)
+    (subst (λ (x : List Happening). Closes x (g.R.Ready.log c.settle_all.new.ready)) c.read_input-count.ensures.log
+    c.settle_all.ensures.closes)
 
 pub returns-in-Err-clause-called : goal.returns-in-Err-clause-called
 returns-in-Err-clause-called g c =
-    let going : c.args.self.now.is_ended ≡ false = search rules in
-    let last : List Happening = g.R.Ready.log c.end.new.ready in
-    let read = c.read_input.ensures.called in
-    reads read.0 going (subst (λ (x : List Happening). Closes x last) read.1 c.end.ensures.closes)
-
-pub returns-clause-called : goal.returns-clause-called
-returns-clause-called g c =
-    let going : c.args.self.now.is_ended ≡ false = search rules in
-    let last : List Happening = g.R.Ready.log c.settle_all.new.ready in
-    let read = c.read_input.ensures.called in
-    reads read.0 going (subst (λ (x : List Happening). Closes x last) read.1 c.settle_all.ensures.closes)
+    reads (take c.read_input-count.result c.read_input-count.new.buf) (search rules)
+    (subst (λ (x : List Happening). Closes x (g.R.Ready.log c.end.new.ready)) c.read_input-count.ensures.log
+    c.end.ensures.closes)

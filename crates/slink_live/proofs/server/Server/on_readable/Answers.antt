@@ -1,14 +1,25 @@
-use Rattle.std.proofs.Common.{None, get_or}
-use Rattle.slink_live.proofs.Steps.{reads_from}
+use Rattle.std.proofs.Common.{arith}
+use Rattle.slink_live.proofs.Steps.{keeps_both, reads_at, received_keeps, seen_fits}
 use Rattle.slink_live.proofs.server.Server.on_readable.Goals as goal
 
-pub returns-then-slot-len-clause-serving : goal.returns-then-slot-len-clause-serving
-returns-then-slot-len-clause-serving g c start v =
-    c.settle.ensures.serving start (c.hear_slot.ensures.serving start v)
+pub hear-requires : goal.hear-requires
+hear-requires g c =
+    seen_fits c.self.view_is c.args.slot (omega (arith, c.if-slot-len.true, c.len.ensures)) c.feed.ensures
+    c.index_mut.ensures.value c.requires
+
+pub settle-requires : goal.settle-requires
+settle-requires g c =
+    (received_keeps c.self.view_is c.args.slot (omega (arith, c.if-slot-len.true, c.len.ensures)) c.hear.new.link
+    {log = g.R.Ready.log c.args.ready.now} {last = g.R.Ready.log c.hear.new.ready} c.requires c.feed.ensures
+    c.index_mut.ensures.value c.hear.ensures).sound
+
+pub returns-then-slot-len-clause-keeps : goal.returns-then-slot-len-clause-keeps
+returns-then-slot-len-clause-keeps g c =
+    keeps_both (received_keeps c.self.view_is c.args.slot (omega (arith, c.if-slot-len.true, c.len.ensures))
+    c.hear.new.link c.requires c.feed.ensures c.index_mut.ensures.value c.hear.ensures) c.settle.ensures.keeps
 
 pub returns-then-slot-len-clause-called : goal.returns-then-slot-len-clause-called
 returns-then-slot-len-clause-called g c =
-    reads_from c.args.self.now.intake.feed c.args.slot (get_or c.args.self.now.links c.args.slot None)
-    (get_or c.hear_slot.new.self.links c.args.slot None) (g.R.Ready.log c.args.ready.now)
-    (g.R.Ready.log c.hear_slot.new.ready) (g.R.Ready.log c.settle.new.ready) c.hear_slot.ensures.received
-    c.settle.ensures.closes
+    reads_at c.self.view_is c.args.slot (omega (arith, c.if-slot-len.true, c.len.ensures)) c.hear.new.link
+    (g.R.Ready.log c.args.ready.now) (g.R.Ready.log c.hear.new.ready) (g.R.Ready.log c.settle.new.ready)
+    c.feed.ensures c.index_mut.ensures.value c.hear.ensures c.settle.ensures.closes

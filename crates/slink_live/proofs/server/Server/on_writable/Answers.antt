@@ -1,14 +1,20 @@
-use Rattle.std.proofs.Common.{None, get_or}
-use Rattle.slink_live.proofs.Steps.{writes_to}
+use Rattle.std.proofs.Common.{arith}
+use Rattle.slink_live.proofs.Steps.{keeps_both, taken_keeps, writes_at}
 use Rattle.slink_live.proofs.server.Server.on_writable.Goals as goal
 
-pub returns-then-slot-len-clause-serving : goal.returns-then-slot-len-clause-serving
-returns-then-slot-len-clause-serving g c start v =
-    c.settle.ensures.serving start (c.tell_slot.ensures.serving start v)
+pub settle-requires : goal.settle-requires
+settle-requires g c =
+    (taken_keeps c.self.view_is c.args.slot (omega (arith, c.if-slot-len.true, c.len.ensures)) c.tell.new.link
+    {log = g.R.Ready.log c.args.ready.now} {last = g.R.Ready.log c.tell.new.ready} c.requires
+    c.index_mut.ensures.value c.tell.ensures).sound
+
+pub returns-then-slot-len-clause-keeps : goal.returns-then-slot-len-clause-keeps
+returns-then-slot-len-clause-keeps g c =
+    keeps_both (taken_keeps c.self.view_is c.args.slot (omega (arith, c.if-slot-len.true, c.len.ensures))
+    c.tell.new.link c.requires c.index_mut.ensures.value c.tell.ensures) c.settle.ensures.keeps
 
 pub returns-then-slot-len-clause-called : goal.returns-then-slot-len-clause-called
 returns-then-slot-len-clause-called g c =
-    writes_to c.args.slot (get_or c.args.self.now.links c.args.slot None)
-    (get_or c.tell_slot.new.self.links c.args.slot None) (g.R.Ready.log c.args.ready.now)
-    (g.R.Ready.log c.tell_slot.new.ready) (g.R.Ready.log c.settle.new.ready) c.tell_slot.ensures.taken
-    c.settle.ensures.closes
+    writes_at c.self.view_is c.args.slot (omega (arith, c.if-slot-len.true, c.len.ensures)) c.tell.new.link
+    (g.R.Ready.log c.args.ready.now) (g.R.Ready.log c.tell.new.ready) (g.R.Ready.log c.settle.new.ready)
+    c.index_mut.ensures.value c.tell.ensures c.settle.ensures.closes

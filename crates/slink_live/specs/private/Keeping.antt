@@ -1,0 +1,38 @@
+-- What each step of a server keeps.
+use Rattle.std.specs.Prelude.{◌≡◌, true, List, length, Result, IfErr, OnErr}
+use Rattle.slink_feed.specs.Window.{Window}
+use Rattle.slink_live.specs.declared.fault.InputFault.{InputFault}
+use Rattle.slink_live.specs.Happening.{Happening, input_of}
+use Rattle.slink_live.specs.Input.{IsInputFault, places_of}
+use Rattle.slink_live.specs.Served.{IsServing, IsSound, ServerState}
+
+-- Links alone changed, or left.
+pub record Stays (old new : ServerState) : Type 0 where
+  pub intake : new.intake ≡ old.intake
+  pub is_ended : new.is_ended ≡ old.is_ended
+  pub reads : new.reads ≡ old.reads
+  pub slots : length new.links ≡ length old.links
+
+-- A step that concerns links alone, from what had happened to what has.
+pub record KeepsServing (old new : ServerState) (before after : List Happening) : Type 0 where
+  -- It can serve on.
+  pub sound : IsSound new
+  -- From whatever rings on it had served by what had happened, it has by what has.
+  pub serving : (start : List Window) → IsServing start old before → IsServing start new after
+  -- The input is as it was.
+  pub stays : Stays old new
+
+-- A step that may concern the input, and answers what is wrong with it, where something is.
+pub record AnswersFault (old new : ServerState) (before after : List Happening) (result : Result (Unit {0}) InputFault)
+    : Type 0 where
+  -- It can serve on.
+  pub sound : IsSound new
+  -- From whatever rings on it had served by what had happened, it has by what has.
+  pub serving : (start : List Window) → IsServing start old before → IsServing start new after
+  -- What is answered is wrong with what the input gave.
+  pub fault : IfErr result (λ e. (start : List Window) → IsServing start old before
+      → IsInputFault (places_of start) (input_of after) e)
+  -- Then it is read no more.
+  pub ended : OnErr result (new.is_ended ≡ true)
+  -- An input that is read no more stays so.
+  pub kept : old.is_ended ≡ true → new.is_ended ≡ true
