@@ -139,11 +139,24 @@ fn stream_to_name<N: Net + Clock>(
 ) -> io::Result<N::Stream> {
     let mut found = [SocketAddr::from((Ipv4Addr::UNSPECIFIED, port)); ADDRESSES];
     let count = host.lookup_host(name.text(), port, &mut found)?;
+    stream_to_first(host, &found[..count], limit)
+}
+
+/// A connection to the first IPv4 address that answers, within a time for all of them.
+///
+/// # Errors
+///
+/// Where none answers, or where there are none.
+fn stream_to_first<N: Net + Clock>(
+    host: &N,
+    addresses: &[SocketAddr],
+    limit: Option<Duration>,
+) -> io::Result<N::Stream> {
     let start = Instant::now(host)?;
     let mut last = ErrorKind::NotFound.into();
-    for socket in &found[..count] {
-        if socket.is_ipv4() {
-            match stream_to(host, *socket, left_of(limit, start.elapsed(host)?)) {
+    for address in addresses {
+        if address.is_ipv4() {
+            match stream_to(host, *address, left_of(limit, start.elapsed(host)?)) {
                 Ok(stream) => return Ok(stream),
                 Err(error) => last = error,
             }
