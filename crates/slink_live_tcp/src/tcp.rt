@@ -88,6 +88,14 @@ fn first_round(alloc: Global, count: usize) -> io::Result<Round> {
     Ok(round)
 }
 
+/// Places for so many links, for those of them that leave, and a round in which all have their turn.
+fn places(alloc: Global, clients: usize) -> io::Result<(Vec<Slot>, Departures, Round)> {
+    let end = FIRST.saturating_add(clients);
+    let slots = slots(alloc, clients)?;
+    let departures = Departures::new(alloc, end, clients)?;
+    Ok((slots, departures, first_round(alloc, end)?))
+}
+
 impl<'a, C: Net + Clock, I: Read + AsRawFd + Drop> Tcp<'a, C, I> {
     /// Listens at an address. No socket takes the descriptor of a standard stream that is closed.
     ///
@@ -100,19 +108,20 @@ impl<'a, C: Net + Clock, I: Read + AsRawFd + Drop> Tcp<'a, C, I> {
         let guards = Guards::new(host, alloc)?;
         let poll = Poll::new(host)?;
         let door = door_at(host, plan.address, &poll)?;
+        let events = Events::with_capacity(alloc, EVENTS)?;
+        let (slots, departures, round) = places(alloc, plan.clients)?;
         let input = Input::new(input, &guards, poll.registry());
-        let end = FIRST.saturating_add(plan.clients);
         Ok(Tcp {
             clock: host,
             guards,
             poll,
-            events: Events::with_capacity(alloc, EVENTS)?,
+            events,
             input,
             door,
             timeout: plan.timeout,
-            slots: slots(alloc, plan.clients)?,
-            departures: Departures::new(alloc, end, plan.clients)?,
-            round: first_round(alloc, end)?,
+            slots,
+            departures,
+            round,
             cursor: 0,
             is_busy: false,
             looked_at: None,
