@@ -1,4 +1,5 @@
-use Rattle.std.proofs.Common.{append_assoc}
+use Rattle.std.proofs.lemmas.Grind.{common_steps}
+use Rattle.std.proofs.Common.{append_assoc, arith}
 use Rattle.std.proofs.lemmas.Result.{IfOk-equal}
 use Rattle.mseed_join.proofs.writing.push_channel_line.Goals as goal
 
@@ -9,3 +10,12 @@ returns-clause-ok g c =
     let a3 = rw a2 at c.in_ok-push_findings.ensures.ok in
     let a4 = rw a3 at c.push_pieces-2.ensures.ok in
     IfOk-equal c.push_pieces-2.result _ _ _ a4 (simp append_assoc)
+
+pub returns-in_err-push_pieces-clause-prefix : goal.returns-in_err-push_pieces-clause-prefix
+returns-in_err-push_pieces-clause-prefix g c = grind (arith, common_steps)
+
+pub returns-in_err-push_findings-clause-prefix : goal.returns-in_err-push_findings-clause-prefix
+returns-in_err-push_findings-clause-prefix g c = grind (arith, common_steps)
+
+pub returns-clause-prefix : goal.returns-clause-prefix
+returns-clause-prefix g c = grind (arith, common_steps)
