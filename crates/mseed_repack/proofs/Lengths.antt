@@ -1,5 +1,6 @@
 -- How many records each stretch of a channel has.
-use Rattle.std.proofs.Common.{◌≡◌, ℕ, zero, suc, ◌+◌, ◌<◌, ◌≤◌, List, [], ◌∷◌, ◌++◌, length, take, drop, get_or, map}
+use Rattle.std.proofs.Common.{◌≡◌, ◌≢◌, ℕ, zero, suc, ◌+◌, ◌<◌, ◌≤◌, List, [], ◌∷◌, ◌++◌, length, take, drop, get_or}
+use Rattle.std.proofs.Common.{map}
 use Rattle.std.proofs.Common.{refl, sym, ap, subst, ◌∙◌, arith, ⊎_elim, length-take-le}
 use Rattle.std.proofs.lemmas.Bool.{cases_lt}
 use Rattle.std.proofs.lemmas.List.{drop_all, drop_more, drop-drop, length-drop, length-map, take-append-drop, take_at}
@@ -7,7 +8,7 @@ use Rattle.std.proofs.lemmas.List.{drop_at, map-append}
 use Rattle.mseed_record.specs.View.{View}
 use Rattle.mseed_record.specs.Viewing.{view_of}
 use Rattle.mseed_record.specs.declared.view.RecordView.{RecordView}
-use Rattle.mseed_stretches.specs.Clocks.{IsStretchAt, IsStretchOf}
+use Rattle.mseed_stretches.specs.Clocks.{IsStretchOf}
 use Rattle.mseed_stretches.specs.Stretches.{IsFirstStretch}
 use Rattle.mseed_stretches.specs.declared.stretch.Stretch.{Stretch}
 use Rattle.mseed_repack.specs.Repack.{Channel, records_in}
@@ -93,19 +94,21 @@ next_length ns rs k from some are = ⊎_elim
 
 -- the stretch has a record
 pub some_length : (ns : List ℕ) (rs : List RecordView) (k from : ℕ) → IsNextLength ns rs k from
-    → 0 < length (take (get_or ns k 0) (behind rs from))
-some_length ns rs k from h =
+    → map view_of (take (get_or ns k 0) (behind rs from)) ≢ []
+some_length ns rs k from h = λ none.
     let n : ℕ = get_or ns k 0 in
     let some = some_cut rs from n h.first in
     let fits = h.fits in
     let size : length (take n (drop from rs)) ≡ n = length-take-le n (drop from rs) fits in
-    subst (λ (qs : List RecordView). 0 < length (take n qs)) (sym (behind_is rs from)) (omega (arith, some, size))
+    let long = length-map (take n (behind rs from)) view_of in
+    let same : length (take n (behind rs from)) ≡ length (take n (drop from rs)) =
+    ap (λ (qs : List RecordView). length (take n qs)) (behind_is rs from) in
+    let no : length (map view_of (take n (behind rs from))) ≡ 0 = ap (λ (vs : List View). length vs) none in
+    omega (arith, some, size, long, same, no)
 
 -- what is kept of the first of some records tells how it begins
-pub begun : (s : Stretch) (rs : List RecordView) (r : RecordView) → 0 < length rs → r ≡ get_or rs 0 r
-    → IsStretchOf s (view_of r ∷ []) → IsBegunBy s (map view_of rs)
-begun s [] r some is h = absurd (omega (arith, some))
-begun s (q ∷ rs) r some is h = subst (λ (p : RecordView). IsStretchAt s (view_of p) []) is h
+pub begun : (s : Stretch) (vs rest : List View) (v : View) → vs ≡ v ∷ rest → IsStretchOf s (v ∷ []) → IsBegunBy s vs
+begun s vs rest v e h = subst (λ (us : List View). IsBegunBy s us) (sym e) h
 
 -- The lengths of all channels.
 

@@ -13,7 +13,8 @@ pub mod Cutting
 pub mod Lengths
 pub mod Stretched
 pub mod Restretched
-pub mod Gathered
+pub mod Walks
+pub mod Archives
 pub mod Standings
 pub mod ChannelReadBack
 pub mod Misses

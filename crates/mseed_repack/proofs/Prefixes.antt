@@ -6,9 +6,8 @@ use Rattle.std.proofs.lemmas.List.{map_more, map-append, take-append-drop}
 use Rattle.mseed_record.specs.View.{View}
 use Rattle.mseed_record.specs.Viewing.{view_of}
 use Rattle.mseed_record.specs.declared.view.RecordView.{RecordView}
-use Rattle.mseed_steim.specs.Reading.{count_of}
-use Rattle.mseed_repack.specs.private.Reading.{samples_of, step_count, steps_of}
-use Rattle.mseed_repack.proofs.ReadChannels.{samples_append, steps_append, steps_next}
+use Rattle.mseed_repack.specs.private.Reading.{steps_of}
+use Rattle.mseed_repack.proofs.ReadChannels.{steps_append}
 
 -- what holds of each holds of those before it, of those behind, and of the one at an index
 pub each_leading : (P : View → Type 0) (rs : List RecordView) (n : ℕ) → AllByRecursion P (map view_of rs)
@@ -39,23 +38,7 @@ whole : (rs : List RecordView) (n : ℕ) → map view_of rs ≡ map view_of (tak
 whole rs n = ap (λ (qs : List RecordView). map view_of qs) (sym (take-append-drop n rs))
     ∙ map-append view_of (take n rs) (drop n rs)
 
--- no part has more samples, or more leap seconds
-pub samples_leading : (rs : List RecordView) (n : ℕ)
-    → samples_of (map view_of (take n rs)) ≤ samples_of (map view_of rs)
-samples_leading rs n =
-    let all : samples_of (map view_of rs)
-    ≡ samples_of (map view_of (take n rs)) + samples_of (map view_of (drop n rs)) =
-    ap samples_of (whole rs n) ∙ samples_append (map view_of (take n rs)) (map view_of (drop n rs)) in
-    omega (arith, all)
-
-pub samples_next : (rs : List RecordView) (n : ℕ) (r : RecordView) → n < length rs → r ≡ get_or rs n r
-    → samples_of (map view_of (take (n + 1) rs)) ≡ samples_of (map view_of (take n rs)) + count_of (view_of r)
-samples_next rs n r lt is =
-    let sum : samples_of (map view_of (take (n + 1) rs))
-    ≡ samples_of (map view_of (take n rs)) + samples_of (view_of r ∷ []) =
-    ap samples_of (sym (next_is rs n r lt is)) ∙ samples_append (map view_of (take n rs)) (view_of r ∷ []) in
-    omega (arith, sum)
-
+-- no part bears more leap seconds
 pub steps_leading : (rs : List RecordView) (n : ℕ) → steps_of (map view_of (take n rs)) ≤ steps_of (map view_of rs)
 steps_leading rs n =
     let all : steps_of (map view_of rs) ≡ steps_of (map view_of (take n rs)) + steps_of (map view_of (drop n rs)) =
@@ -74,21 +57,6 @@ steps_between rs n m =
     let leading = steps_leading (drop n rs) m in
     let behind = steps_behind rs n in
     omega (arith, leading, behind)
-
--- room for one more record of all
-pub samples_fit : (rs : List RecordView) (n m room : ℕ) (r : RecordView) → n < length rs → r ≡ get_or rs n r
-    → m ≡ samples_of (map view_of (take n rs)) → samples_of (map view_of rs) ≤ room → m + count_of (view_of r) ≤ room
-samples_fit rs n m room r lt is at fits =
-    let next = samples_next rs n r lt is in
-    let most = samples_leading rs (n + 1) in
-    omega (arith, next, most, at, fits)
-
-pub steps_fit : (rs : List RecordView) (n k room : ℕ) (r : RecordView) → n < length rs → r ≡ get_or rs n r
-    → k ≡ steps_of (map view_of (take n rs)) → steps_of (map view_of rs) ≤ room → k + step_count (view_of r) ≤ room
-steps_fit rs n k room r lt is at fits =
-    let next = steps_next rs n r lt is in
-    let most = steps_leading rs (n + 1) in
-    omega (arith, next, most, at, fits)
 
 pub each_one_more : (P : View → Type 0) (vs : List View) (v : View) → AllByRecursion P vs → P v
     → AllByRecursion P (vs ++ v ∷ [])

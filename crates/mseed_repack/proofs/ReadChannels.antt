@@ -1,8 +1,7 @@
 -- A channel's samples and leap seconds, record by record.
 use Rattle.std.proofs.Common.{◌≡◌, ℕ, ℤ, ◌+◌, ◌<◌, ◌≤◌, ◌++◌, List, [], ◌∷◌, Bool, true, false, if◌then◌else◌, length}
-use Rattle.std.proofs.Common.{take, drop, get_or, map, refl, sym, ap, ◌∙◌, arith, append-nil, Option, Some, None}
-use Rattle.std.proofs.lemmas.List.{length-take-le, take-append-drop, take_more, map-append}
-use Rattle.std.proofs.lemmas.List.Elements.{filter-append}
+use Rattle.std.proofs.Common.{take, get_or, map, refl, sym, ap, ◌∙◌, arith, append-nil, Option, Some, None}
+use Rattle.std.proofs.lemmas.List.{length-take-le, take_more, map-append}
 use Rattle.mseed_time.specs.declared.outcome.LeapStep.{LeapStep}
 use Rattle.mseed_record.specs.View.{View, leap_of}
 use Rattle.mseed_record.specs.Viewing.{view_of}
@@ -39,33 +38,6 @@ steps_in key (v ∷ vs) = by (is_of key v) (steps_in key vs)
         → steps_of (if b then v ∷ channel_in key vs else channel_in key vs) ≤ step_count v + steps_of vs
     by true rest = omega (arith, rest)
     by false rest = omega (arith, rest)
-
-cut : (rs : List RecordView) (n : ℕ) → map view_of (take n rs) ++ map view_of (drop n rs) ≡ map view_of rs
-cut rs n = sym (map-append view_of (take n rs) (drop n rs))
-    ∙ ap (λ (qs : List RecordView). map view_of qs) (take-append-drop n rs)
-
--- the first records have no more samples, and bear no more leap seconds, than all have
-pub samples_prefix : (key : List ℕ) (rs : List RecordView) (n : ℕ)
-    → samples_of (channel_in key (map view_of (take n rs))) ≤ samples_of (channel_in key (map view_of rs))
-samples_prefix key rs n =
-    let prefix = map view_of (take n rs) in
-    let back = map view_of (drop n rs) in
-    let whole : samples_of (channel_in key (map view_of rs)) ≡ samples_of (channel_in key prefix) + samples_of
-    (channel_in key back) =
-    ap (λ (vs : List View). samples_of (channel_in key vs)) (sym (cut rs n))
-    ∙ ap samples_of (filter-append (is_of key) prefix back)
-    ∙ samples_append (channel_in key prefix) (channel_in key back) in
-    omega (arith, whole)
-
-pub steps_prefix : (key : List ℕ) (rs : List RecordView) (n : ℕ)
-    → steps_of (channel_in key (map view_of (take n rs))) ≤ steps_of (map view_of rs)
-steps_prefix key rs n =
-    let prefix = map view_of (take n rs) in
-    let back = map view_of (drop n rs) in
-    let whole : steps_of (map view_of rs) ≡ steps_of prefix + steps_of back =
-    ap (λ (vs : List View). steps_of vs) (sym (cut rs n)) ∙ steps_append prefix back in
-    let few = steps_in key prefix in
-    omega (arith, whole, few)
 
 pub steps_next : (rs : List RecordView) (n : ℕ) (r : RecordView) → n < length rs → r ≡ get_or rs n r
     → steps_of (map view_of (take (n + 1) rs)) ≡ steps_of (map view_of (take n rs)) + step_count (view_of r)

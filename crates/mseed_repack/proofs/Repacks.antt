@@ -21,20 +21,15 @@ use Rattle.mseed_record.specs.declared.view.RecordView.{RecordView}
 use Rattle.mseed_stream.specs.Device.{BytesWritten}
 use Rattle.mseed_audit.specs.Channels.{Added, added_from, records_of, same_key, views_in}
 use Rattle.mseed_audit.specs.Follows.{IsContinuous}
-use Rattle.mseed_audit.specs.Series.{Trace, IsSeriesOf}
 use Rattle.mseed_audit.specs.Verdict.{AreVerdicts, IsExactAt, says_continuous}
 use Rattle.mseed_audit.specs.declared.verdict.Verdict.{Verdict}
 use Rattle.mseed_audit.specs.Audit.{Held, IsAuditOf}
 use Rattle.mseed_audit.proofs.Behind.{end_of}
 use Rattle.mseed_audit.proofs.Maps.{same_back, same_itself}
-use Rattle.mseed_pack.specs.Outcome.{EmittedAll, EmittedPrefix}
-use Rattle.mseed_pack.specs.declared.fault.PackFault.{PackFault}
 use Rattle.mseed_pack.specs.declared.options.Options.{Options}
-use Rattle.mseed_repack.specs.Repack.{Channel, AreContinuous, ArePackedInto, CanBePacked, CantBePacked, IsFirst}
-use Rattle.mseed_repack.specs.Repack.{IsPartPacked, Wrote, more, none, records_in}
-use Rattle.mseed_repack.specs.private.Repacking.{FailsToPack, FailsToPackOne, IsPackedInPart, IsPackedWhole}
-use Rattle.mseed_repack.specs.declared.fault.RepackFault.{RepackFault}
-use Rattle.mseed_repack.specs.declared.fault.RepackFault.TheVariants.{Stream, Broken, Misfit, Write, Memory}
+use Rattle.mseed_repack.specs.Repack.{Channel, AreContinuous, ArePackedInto, IsFirst, IsPartPacked, Wrote, more, none}
+use Rattle.mseed_repack.specs.Repack.{records_in}
+use Rattle.mseed_repack.specs.private.Restretching.{IsStretchPart, IsStretchText}
 
 -- a key that stands behind another is another
 apart : (x y : List ℕ) → slice_cmp nat_cmp x y ≡ Less → same_key y x ≡ false
@@ -87,28 +82,30 @@ first_at Before At cs i d lt before is = record {
 }
 
 -- the records of one more channel
-pub packed_next : (o : Options) (views : List View) (cs : List Channel) (i : ℕ) (d : Channel)
-    (first old new : BytesWritten) → i < length cs
-    → Wrote (ArePackedInto o views (take i cs)) 0 first old → Wrote (IsPackedWhole o views (get_or cs i d).0) 0 old new
+pub packed_next : (o : Options) (views : List View) (cs : List Channel) (i count : ℕ) (d : Channel)
+    (first old new : BytesWritten) → i < length cs → Wrote (ArePackedInto o views (take i cs)) 0 first old
+    → Wrote (IsStretchText o (records_in views (get_or cs i d).0) count) 0 old new
     → Wrote (ArePackedInto o views (take (i + 1) cs)) 0 first new
-packed_next o views cs i d first old new lt before one =
+packed_next o views cs i count d first old new lt before one =
     let next : take i cs ++ get_or cs i d ∷ [] ≡ take (i + 1) cs = sym (take-suc cs i d lt)
     ∙ ap (λ (n : ℕ). take n cs) {x = suc i} (omega arith) in
-    let text : List ℕ = before.text ++ concat one.text_is.0 in
-    let packed : ArePackedInto o views (take i cs ++ get_or cs i d ∷ []) text =
-    more (take i cs) (get_or cs i d) before.text one.text_is.0 before.text_is one.text_is.1.0 in record {
-      text = text;
-      text_is = subst (λ (ds : List Channel). ArePackedInto o views ds text) next packed;
+    let records : List (List ℕ) = one.text_is.records in
+    let own = one.text_is.packed in
+    let packed : ArePackedInto o views (take i cs ++ get_or cs i d ∷ []) (before.text ++ concat records) =
+    more (take i cs) (get_or cs i d) before.text records before.text_is
+    (record { trace = own.trace; series = own.series; packing = own.packing }) in record {
+      text = before.text ++ concat records;
+      text_is = subst (λ (ds : List Channel). ArePackedInto o views ds (before.text ++ concat records)) next packed;
       bytes = one.bytes ∙ ap (λ (xs : List ℕ). xs ++ one.text) before.bytes
           ∙ append_assoc first.bytes before.text one.text
-          ∙ ap (λ (xs : List ℕ). first.bytes ++ (before.text ++ xs)) one.text_is.1.1;
+          ∙ ap (λ (xs : List ℕ). first.bytes ++ (before.text ++ xs)) one.text_is.text_is;
       failed = omega (arith, one.failed, before.failed);
     }
 
 -- or a part of its records
 pub part_of_next : (o : Options) (views : List View) (cs : List Channel) (i : ℕ) (d : Channel)
-    (first old new : BytesWritten) → i < length cs
-    → Wrote (ArePackedInto o views (take i cs)) 0 first old → Wrote (IsPackedInPart o views (get_or cs i d).0) 1 old new
+    (first old new : BytesWritten) → i < length cs → Wrote (ArePackedInto o views (take i cs)) 0 first old
+    → Wrote (IsStretchPart o (records_in views (get_or cs i d).0)) 1 old new
     → Wrote (IsPartPacked o views cs) 1 first new
 part_of_next o views cs i d first old new lt before one = record {
   text = before.text ++ one.text;
@@ -121,8 +118,8 @@ part_of_next o views cs i d first old new lt before one = record {
     packed = before.text_is;
     trace = one.text_is.trace;
     series = one.text_is.series;
-    records = one.text_is.records;
-    left = one.text_is.left;
+    records = one.text_is.further;
+    left = one.text_is.samples_left;
     packing = one.text_is.packing;
     taken = one.text_is.taken;
     text_is = ap (λ (xs : List ℕ). before.text ++ xs) one.text_is.text_is;
@@ -189,50 +186,6 @@ broken_at views cs i c b are lt is of e before =
 pub all_passed : (P : Channel → Type 0) (cs : List Channel) (i : ℕ) → length cs ≤ i → All P (take i cs) → All P cs
 all_passed P cs i le all = subst (λ (ds : List Channel). All P ds) (take_all i cs le) all
 
--- what holds of each channel holds of the one at an index
-pub of_each : (P : List ℕ → Type 0) (cs : List Channel) (i : ℕ) (c : Channel) → i < length cs → c ≡ get_or cs i c
-    → All (λ (d : Channel). P d.0) cs → P c.0
-of_each P cs i c lt is all = subst (λ (d : Channel). P d.0) (sym is) (all i c lt)
-
-pub fit_next : (o : Options) (views : List View) (cs : List Channel) (i : ℕ) (c : Channel) → i < length cs
-    → c ≡ get_or cs i c → CanBePacked o views c.0
-    → All (λ (d : Channel). CanBePacked o views d.0) (take i cs)
-    → All (λ (d : Channel). CanBePacked o views d.0) (take (i + 1) cs)
-fit_next o views cs i c lt is can before =
-    All-more (λ (d : Channel). CanBePacked o views d.0) cs i c lt before
-    (subst (λ (d : Channel). CanBePacked o views d.0) is can)
-
-pub misfit_at : (o : Options) (views : List View) (cs : List Channel) (i : ℕ) (c : Channel) (fault : PackFault)
-    → i < length cs → c ≡ get_or cs i c → CantBePacked o views fault c.0
-    → All (λ (d : Channel). CanBePacked o views d.0) (take i cs)
-    → IsFirst (CanBePacked o views) (CantBePacked o views fault) c.0 cs
-misfit_at o views cs i c fault lt is cant before =
-    let there : CantBePacked o views fault (get_or cs i c).0 =
-    subst (λ (d : Channel). CantBePacked o views fault d.0) is cant in
-    subst (λ (key : List ℕ). IsFirst (CanBePacked o views) (CantBePacked o views fault) key cs)
-    (sym (ap (λ (d : Channel). d.0) is))
-    (first_at (CanBePacked o views) (CantBePacked o views fault) cs i c lt before there)
-
-pub wrote_next : (o : Options) (views : List View) (cs : List Channel) (i : ℕ) (c : Channel)
-    (first old new : BytesWritten) → i < length cs → c ≡ get_or cs i c
-    → Wrote (ArePackedInto o views (take i cs)) 0 first old → Wrote (IsPackedWhole o views c.0) 0 old new
-    → Wrote (ArePackedInto o views (take (i + 1) cs)) 0 first new
-wrote_next o views cs i c first old new lt is before one =
-    packed_next o views cs i c first old new lt before
-    (subst (λ (d : Channel). Wrote (IsPackedWhole o views d.0) 0 old new) is one)
-
-pub fails_next : (o : Options) (views : List View) (cs : List Channel) (i : ℕ) (c : Channel)
-    (first old new : BytesWritten) (fault : RepackFault) → i < length cs → c ≡ get_or cs i c
-    → Wrote (ArePackedInto o views (take i cs)) 0 first old → FailsToPackOne o views c.0 old new fault
-    → FailsToPack o views cs first new fault
-fails_next o views cs i c first old new (Stream f) lt is before one = one
-fails_next o views cs i c first old new (Broken k) lt is before one = one
-fails_next o views cs i c first old new (Misfit k f) lt is before one = one
-fails_next o views cs i c first old new Write lt is before one =
-    part_of_next o views cs i c first old new lt before
-    (subst (λ (d : Channel). Wrote (IsPackedInPart o views d.0) 1 old new) is one)
-fails_next o views cs i c first old new Memory lt is before one = one
-
 -- nothing yet
 pub wrote_none : (o : Options) (views : List View) (cs : List Channel) (s : BytesWritten)
     → Wrote (ArePackedInto o views (take 0 cs)) 0 s s
@@ -241,33 +194,4 @@ wrote_none o views cs s = record {
   text_is = none;
   bytes = sym (append-nil s.bytes);
   failed = omega arith;
-}
-
--- what packing a series left behind
-pub emitted_all : (o : Options) (views : List View) (key : List ℕ) (s : Trace) (count : ℕ) (old new : BytesWritten)
-    → IsSeriesOf s (records_in views key) → EmittedAll s o count old new
-    → Wrote (IsPackedWhole o views key) 0 old new
-emitted_all o views key s count old new series emitted = record {
-  text = concat emitted.records;
-  text_is = (emitted.records, (record { trace = s; series = series; packing = emitted.packing }, refl));
-  bytes = emitted.bytes;
-  failed = omega (arith, emitted.failures);
-}
-
-pub emitted_prefix : (o : Options) (views : List View) (key : List ℕ) (s : Trace) (taken : ℕ) (old new : BytesWritten)
-    → IsSeriesOf s (records_in views key) → EmittedPrefix s o taken old new
-    → Wrote (IsPackedInPart o views key) 1 old new
-emitted_prefix o views key s taken old new series emitted = record {
-  text = take taken (concat (emitted.records ++ emitted.last ∷ []));
-  text_is = record {
-    trace = s;
-    series = series;
-    records = emitted.records ++ emitted.last ∷ [];
-    left = emitted.left;
-    packing = emitted.packing;
-    taken = taken;
-    text_is = refl;
-  };
-  bytes = emitted.bytes;
-  failed = emitted.failures;
 }

@@ -15,10 +15,10 @@ use Rattle.mseed_pack.specs.Outcome.{EmittedAll, EmittedPrefix}
 use Rattle.mseed_pack.specs.declared.fault.PackFault.{PackFault}
 use Rattle.mseed_pack.specs.declared.options.Options.{Options}
 use Rattle.mseed_repack.specs.Repack.{Wrote}
-use Rattle.mseed_repack.specs.Restretch.{ArePackedOn, ChannelFits, ChannelMisfits, IsChannelPart, IsChannelText}
+use Rattle.mseed_repack.specs.Restretch.{ArePackedOn, ChannelFits, ChannelMisfits, IsChannelPart}
 use Rattle.mseed_repack.specs.Restretch.{IsNumberedOn, StretchFits, StretchMisfits, more, none}
 use Rattle.mseed_repack.specs.private.Restretching.{IsStretchPart, IsStretchText}
-use Rattle.mseed_repack.proofs.Cutting.{IsCut, IsNextCut, at_stretch, cut_next, cut_whole, each_more, inside_next}
+use Rattle.mseed_repack.proofs.Cutting.{IsCut, IsNextCut, at_stretch, cut_next, each_more, inside_next}
 use Rattle.mseed_repack.proofs.Cutting.{some_cut}
 use Rattle.mseed_repack.proofs.Stretched.{fits_on, on_more, on_none}
 
@@ -34,14 +34,6 @@ fit_none o rs = record {
   number_is = refl;
   few = omega arith;
 }
-
--- the number of the stretch that is cut next
-pub number_next : (o : Options) (rs : List RecordView) (from number n : ℕ) → IsFitSo o rs from number
-    → IsNextCut rs from n → n ≤ length (drop from rs) → number + 1 ≤ length rs
-number_next o rs from number n h first le =
-    let some = some_cut rs from n first in
-    let inside = inside_next rs from n h.cut.inside le in
-    omega (arith, h.few, some, inside)
 
 pub fit_more : (o : Options) (rs : List RecordView) (from number n : ℕ) → IsFitSo o rs from number
     → IsNextCut rs from n → n ≤ length (drop from rs) → StretchFits o (map view_of (take n (drop from rs)))
@@ -59,15 +51,6 @@ fit_more o rs from number n h first le one =
       number_is = omega (arith, h.number_is, size);
       few = omega (arith, h.few, some);
     }
-
-pub all_fit : (o : Options) (rs : List RecordView) (from number : ℕ) → AllByRecursion IsSound (map view_of rs)
-    → length rs ≤ from → IsFitSo o rs from number → ChannelFits o (map view_of rs)
-all_fit o rs from number sound le h = record {
-  sound = sound;
-  stretches = h.cut.done;
-  are = cut_whole rs from h.cut.done le h.cut.cut;
-  fit = h.cut.each;
-}
 
 pub first_misfit : (o : Options) (rs : List RecordView) (from number n : ℕ) (fault : PackFault)
     → AllByRecursion IsSound (map view_of rs) → IsFitSo o rs from number → IsNextCut rs from n
@@ -145,19 +128,6 @@ packed_more o rs from n count next further first old new h cut le wrote on =
           ∙ ap (λ (xs : List ℕ). first.bytes ++ xs) (sym (concat-append h.records one.records));
       failures = omega (arith, h.failures, wrote.failed);
     }
-
-pub all_packed : (o : Options) (rs : List RecordView) (from : ℕ) (next : Options) (old new : BytesWritten)
-    → length rs ≤ from → IsPackedSo o rs from next old new → Wrote (IsChannelText o (map view_of rs)) 0 old new
-all_packed o rs from next old new le h = record {
-  text = concat h.records;
-  text_is = record {
-    records = h.records;
-    packed = record { stretches = h.done; are = cut_whole rs from h.done le h.cut; packed = h.packed };
-    text_is = refl;
-  };
-  bytes = h.bytes;
-  failed = omega (arith, h.failures);
-}
 
 pub part_packed : (o : Options) (rs : List RecordView) (from n : ℕ) (next : Options) (first old new : BytesWritten)
     → IsPackedSo o rs from next first old → IsNextCut rs from n

@@ -1,6 +1,7 @@
 -- The trails of channels, laid from the last record on.
 use Rattle.std.proofs.Common.{◌≡◌, ◌≢◌, ℕ, zero, suc, ◌+◌, ◌<◌, ◌≤◌, ◌&&◌, Bool, true, false, List, [], ◌∷◌, length}
-use Rattle.std.proofs.Common.{set, get_or, refl, sym, ap, subst, ◌∙◌, arith, ⊎_elim, nat_lt, Ok, Err, All}
+use Rattle.std.proofs.Common.{if◌then◌else◌, drop, map, set, get_or, refl, sym, ap, subst, ◌∙◌, arith, ⊎_elim, nat_lt}
+use Rattle.std.proofs.Common.{Ok, Err, All}
 use Rattle.std.specs.List.{AllByRecursion}
 use Rattle.std.specs.Map.{keys_of}
 use Rattle.std.specs.Ordering.{nat_cmp, is_eq, ordering_index}
@@ -10,16 +11,17 @@ use Rattle.std.specs.declared.cmp.Ordering.{Ordering}
 use Rattle.std.specs.declared.cmp.Ordering.TheVariants.{Less, Equal, Greater}
 use Rattle.std.proofs.lemmas.Bool.{cases_lt, false≢true, lt-ltb}
 use Rattle.std.proofs.lemmas.Cmp.{nat_list_cmp_total}
-use Rattle.std.proofs.lemmas.List.{get_or_default, get_or-set_same, get_or-set_other}
+use Rattle.std.proofs.lemmas.List.{drop_more, get_or_default, get_or-set_same, get_or-set_other}
 use Rattle.mseed_record.specs.Header.{key_at}
+use Rattle.mseed_record.specs.View.{View}
 use Rattle.mseed_record.specs.Viewing.{view_of}
 use Rattle.mseed_record.specs.declared.view.RecordView.{RecordView}
 use Rattle.mseed_steim.specs.Reading.{count_of}
 use Rattle.mseed_audit.specs.Channels.{is_of, same_key}
-use Rattle.mseed_audit.proofs.Behind.{kept_next}
 use Rattle.mseed_audit.proofs.Maps.{same_back, same_is}
 use Rattle.mseed_repack.specs.Repack.{Channel}
-use Rattle.mseed_repack.specs.private.Trails.{AreTrails, AreTrailsFrom, IsTrail, IsTrailFrom, Skips}
+use Rattle.mseed_repack.specs.private.Reading.{channel_in}
+use Rattle.mseed_repack.specs.private.Trails.{AreNexts, AreTrails, AreTrailsFrom, IsOfAt, IsTrailFrom, LeadsTo}
 
 -- the channel at an index is below each behind it
 less_at : (key : List ℕ) (cs : List Channel) → AllByRecursion (λ k. slice_cmp nat_cmp key k ≡ Less) (keys_of cs)
@@ -85,19 +87,31 @@ searched_none cs key k sorted h = λ j d lt.
     (λ (behind : k ≤ j). ap is_eq (parted.1 j d behind lt))
     (cases_lt j k)
 
--- nothing is skipped
-pub skips_none : (key : List ℕ) (rs : List RecordView) (n : ℕ) → Skips key rs n n
-skips_none key rs n = record { order = omega arith; none = refl }
+-- the records of a channel from an index on: the one there, where it is of the channel, and those behind it
+first_on : (key : List ℕ) (rs : List RecordView) (n : ℕ) (r : RecordView) (b : Bool) → n < length rs → r ≡ get_or rs n r
+    → is_of key (view_of r) ≡ b → channel_in key (map view_of (drop n rs))
+    ≡ (if b then view_of r ∷ channel_in key (map view_of (drop (n + 1) rs)) else
+    channel_in key (map view_of (drop (n + 1) rs)))
+first_on key rs n r b lt is of =
+    let behind : List View = channel_in key (map view_of (drop (n + 1) rs)) in
+    ap (λ (qs : List RecordView). channel_in key (map view_of qs)) (drop_more rs n r lt
+    ∙ ap (λ (q : RecordView). q ∷ drop (n + 1) rs) (sym is))
+    ∙ ap (λ (a : Bool). if a then view_of r ∷ behind else behind) of
 
--- a record of another channel is
-pub skips_more : (key : List ℕ) (rs : List RecordView) (n at : ℕ) (r : RecordView) → n < length rs → r ≡ get_or rs n r
-    → is_of key (view_of r) ≡ false → Skips key rs (n + 1) at → Skips key rs n at
-skips_more key rs n at r lt is of h =
-    record {
-      order = let far = h.order in omega (arith, far);
-      none = h.none
-          ∙ kept_next key rs n r false lt is (sym of);
-    }
+-- the next record of a trail, and those that are left behind it
+pub next_on : (key : List ℕ) (rs : List RecordView) (n : ℕ) (nexts : List ℕ) (r : RecordView) → n < length rs
+    → r ≡ get_or rs n r → IsOfAt key rs n → AreNexts key rs n nexts
+    → channel_in key (map view_of (drop n rs))
+    ≡ view_of (get_or rs n r) ∷ channel_in key (map view_of (drop (get_or nexts n 0) rs))
+next_on key rs n nexts r lt is of nexts_are =
+    let own = of r lt is in
+    first_on key rs n r true lt is own
+    ∙ ap (λ (vs : List View). view_of r ∷ vs) (nexts_are n r (omega arith) lt is own).none
+    ∙ ap (λ (q : RecordView). view_of q ∷ channel_in key (map view_of (drop (get_or nexts n 0) rs))) is
+
+pub nexts_behind : (key : List ℕ) (rs : List RecordView) (from at : ℕ) (nexts : List ℕ) → from ≤ at
+    → AreNexts key rs from nexts → AreNexts key rs at nexts
+nexts_behind key rs from at nexts le h = λ i r low lt is of. h i r (omega (arith, le, low)) lt is of
 
 one_record : (rs : List RecordView) (n : ℕ) (q r : RecordView) → n < length rs → q ≡ get_or rs n q → r ≡ get_or rs n r
     → q ≡ r
@@ -109,10 +123,13 @@ pub trail_past : (key : List ℕ) (rs : List RecordView) (n first : ℕ) (nexts 
     → ((i : ℕ) → n < i → get_or new i 0 ≡ get_or nexts i 0) → IsTrailFrom (n + 1) key rs first nexts
     → IsTrailFrom n key rs first new
 trail_past key rs n first nexts new r lt is of kept h = record {
-  first_is = skips_more key rs n first r lt is of h.first_is;
-  first_of = h.first_of;
+  first_is = record {
+    order = let far = h.first_is.order in omega (arith, far);
+    none = first_on key rs n r false lt is of ∙ h.first_is.none;
+    of = h.first_is.of;
+  };
   nexts_are = λ i q from less at there. ⊎_elim
-      (λ (behind : n < i). subst (λ (m : ℕ). Skips key rs (i + 1) m) (sym (kept i behind))
+      (λ (behind : n < i). subst (λ (m : ℕ). LeadsTo key rs (i + 1) m) (sym (kept i behind))
       (h.nexts_are i q (omega (arith, behind)) less at there))
       (λ (here : i ≤ n).
       let index : i ≡ n = omega (arith, from, here) in
@@ -128,14 +145,17 @@ pub trail_here : (key : List ℕ) (rs : List RecordView) (n first : ℕ) (nexts 
     → ((i : ℕ) → n < i → get_or new i 0 ≡ get_or nexts i 0) → IsTrailFrom (n + 1) key rs first nexts
     → IsTrailFrom n key rs n new
 trail_here key rs n first nexts new r lt is of put kept h = record {
-  first_is = skips_none key rs n;
-  first_of = λ q _ at. ap (λ (x : RecordView). is_of key (view_of x)) (one_record rs n q r lt at is) ∙ of;
+  first_is = record {
+    order = omega arith;
+    none = refl;
+    of = λ q _ at. ap (λ (x : RecordView). is_of key (view_of x)) (one_record rs n q r lt at is) ∙ of;
+  };
   nexts_are = λ i q from less at there. ⊎_elim
-      (λ (behind : n < i). subst (λ (m : ℕ). Skips key rs (i + 1) m) (sym (kept i behind))
+      (λ (behind : n < i). subst (λ (m : ℕ). LeadsTo key rs (i + 1) m) (sym (kept i behind))
       (h.nexts_are i q (omega (arith, behind)) less at there))
       (λ (here : i ≤ n). let index : n ≡ i = omega (arith, from, here) in
-      subst (λ (m : ℕ). Skips key rs (m + 1) (get_or new m 0)) index
-      (subst (λ (m : ℕ). Skips key rs (n + 1) m) (sym put) h.first_is))
+      subst (λ (m : ℕ). LeadsTo key rs (m + 1) (get_or new m 0)) index
+      (subst (λ (m : ℕ). LeadsTo key rs (n + 1) m) (sym put) h.first_is))
       (cases_lt n i);
 }
 
@@ -220,19 +240,18 @@ pub trails_none : (rs : List RecordView) (cs : List Channel) (firsts nexts : Lis
 trails_none rs cs firsts nexts from end long each = λ k c less. record {
   first_is =
       let at : get_or firsts k 0 ≡ from = each k 0 (omega (arith, less, long)) ∙ sym end in
-      subst (λ (m : ℕ). Skips (get_or cs k c).0 rs from m) (sym at) (skips_none (get_or cs k c).0 rs from);
-  first_of = λ r inside _.
-      let at = each k 0 (omega (arith, less, long)) in
-      absurd (omega (arith, at, inside));
+      let key : List ℕ = (get_or cs k c).0 in
+      subst (λ (m : ℕ). LeadsTo key rs from m) (sym at) (record {
+        order = omega arith;
+        none = refl;
+        of = λ r inside _. absurd (omega (arith, end, inside));
+      });
   nexts_are = λ i q low high at there. absurd (omega (arith, low, high, end));
 }
 
 -- the trail of the channel at an index
-pub trail_of : (rs : List RecordView) (cs : List Channel) (firsts nexts : List ℕ) (k : ℕ) (c : Channel) (first : ℕ)
-    (ns : List ℕ) → AreTrails rs cs firsts nexts → k < length cs → c ≡ get_or cs k c → first ≡ get_or firsts k 0
-    → ns ≡ nexts
-    → IsTrail c.0 rs first ns
-trail_of rs cs firsts nexts k c first ns laid lt is e f =
-    subst (λ (m : ℕ). IsTrail c.0 rs m ns) (sym e)
-    (subst (λ (ms : List ℕ). IsTrail c.0 rs (get_or firsts k 0) ms) (sym f)
-    (subst (λ (d : Channel). IsTrail d.0 rs (get_or firsts k 0) nexts) (sym is) (laid k c lt)))
+pub trail_at : (rs : List RecordView) (cs : List Channel) (firsts nexts : List ℕ) (k : ℕ) (c : Channel)
+    → AreTrails rs cs firsts nexts → k < length cs → c ≡ get_or cs k c
+    → IsTrailFrom 0 c.0 rs (get_or firsts k 0) nexts
+trail_at rs cs firsts nexts k c laid lt is =
+    subst (λ (d : Channel). IsTrailFrom 0 d.0 rs (get_or firsts k 0) nexts) (sym is) (laid k c lt)

@@ -45,11 +45,6 @@ archive_is h bytes rs cs same archive each few ended fine verdicts = record {
   verdicts = verdicts;
 }
 
--- what holds of each error of a kind holds of one that is passed on
-pub errs_by : {T E : Type 0} (r : Result T E) (Q P : E → Type 0) → IsErrAnd r Q → ((e : E) → Q e → P e) → IfErr r P
-errs_by (Ok x) Q P h f = tt
-errs_by (Err e) Q P h f = f e h
-
 -- an error that is passed on
 ends_by : {U : Type 0} (r : Result U RepackFault) (Q : RepackFault → Type 0) (fault : RepackFault) (o : Options)
     (h : BytesRead) (old new : BytesWritten) → IsErrAnd r Q → ((e : RepackFault) → Q e → e ≡ fault)

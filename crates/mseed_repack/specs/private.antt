@@ -1,4 +1,5 @@
 -- Words of private functions and of proofs alone, which change as the code does: no public contract is stated by them.
+pub mod Archives
 pub mod Outline
 pub mod Reading
 pub mod Repacking

@@ -3,8 +3,7 @@ ghost use Rattle.std.specs.Prelude.{◌≡◌, ◌↔◌, ◌≤◌, ◌^◌, Is
 ghost use Rattle.std.specs.List.{AllByRecursion};
 ghost use Rattle.mseed_record.specs.Viewing.{view_of};
 ghost use Rattle.mseed_audit.specs.Follows.{IsSound};
-ghost use Rattle.mseed_repack.specs.private.Reading.{steps_of};
-ghost use Rattle.mseed_repack.specs.private.Restretching.{AreLengths, AreStretchesWithin};
+ghost use Rattle.mseed_repack.specs.private.Restretching.{AreCutInto};
 ghost use Rattle.mseed_repack.specs.Restretch.{IsChannelRepacking};
 
 use crate::channel_fault::ChannelFault;
@@ -68,11 +67,7 @@ fn repack_within<W: Sink>(
     steps: &mut [(u64, LeapStep)],
     output: &mut W,
 ) -> Result<(), ChannelFault>
-    requires few { length records.now ≤ 2 ^ 40 }
-    requires sound { AllByRecursion IsSound (map view_of records.now) }
-    requires lengths { AreLengths lengths.now (map view_of records.now) }
-    requires samples_fit { AreStretchesWithin (length samples.old) (map view_of records.now) }
-    requires steps_fit { steps_of (map view_of records.now) ≤ length steps.old }
+    requires { AreCutInto lengths.now (map view_of records.now) (length samples.old) (length steps.old) }
     ensures { IsChannelRepacking options.now (map view_of records.now) result
         (W.written output.old) (W.written output.new) }
 {

@@ -1,37 +1,24 @@
 //! The records of a channel, one behind another.
 ghost use Rattle.std.specs.Prelude.{◌≡◌, ◌≤◌, length, map, take};
 ghost use Rattle.mseed_record.specs.Viewing.{view_of};
-ghost use Rattle.mseed_repack.specs.private.Reading.{channel_in};
-ghost use Rattle.mseed_repack.specs.private.Trails.{IsTrail};
+ghost use Rattle.mseed_repack.specs.private.Archives.{IsLed, records_on};
 
-use crate::trail::Trail;
-use mseed_audit::is_of;
-use mseed_record::{Codes, RecordView};
+use crate::archive::Trail;
+use crate::walk::Walk;
+use mseed_record::RecordView;
 
 /// Puts the records of a channel into a list that has room for them, and answers how many there are.
-pub(crate) fn gather<'a>(
-    views: &[RecordView<'a>],
-    trail: Trail,
-    codes: &Codes,
-    out: &mut [RecordView<'a>],
-) -> usize
-    requires trail { IsTrail codes.now views.now trail.first trail.nexts.now }
-    requires nexts { length trail.nexts.now ≡ length views.now }
-    requires room { length views.now ≤ length out.old }
-    ensures records { map view_of (take result out.new) ≡ channel_in codes.now (map view_of views.now) }
-    ensures inside { result ≤ length views.now }
+pub(crate) fn gather<'a>(trail: Trail<'_, 'a>, out: &mut [RecordView<'a>]) -> usize
+    requires led { IsLed trail }
+    requires room { length (records_on trail) ≤ length out.old }
+    ensures records { map view_of (take result out.new) ≡ records_on trail.entry }
+    ensures count { result ≡ length (records_on trail.entry) }
 {
     let mut count = 0;
-    let mut index = trail.first;
-    while index < views.len() {
-        let view = &views[index];
-        if is_of(codes, view) {
-            out[count] = *view;
-            count += 1;
-            index = trail.nexts[index];
-        } else {
-            index += 1;
-        }
+    let mut rest = trail;
+    while let Some(view) = rest.next() {
+        out[count] = view;
+        count += 1;
     }
     count
 }

@@ -1,6 +1,7 @@
 //! An archive packed anew: the series of its channels, in records of one length and encoding.
 #![tactic(auto)]
 
+mod archive;
 mod channel;
 mod channel_fault;
 mod fault;
@@ -13,10 +14,12 @@ mod reading;
 mod refusing;
 mod repacking;
 mod restretching;
+mod series;
 mod standing;
 mod stretches_fault;
 mod stretching;
 mod trail;
+mod walk;
 
 pub use channel::repack_channel;
 pub use channel_fault::ChannelFault;

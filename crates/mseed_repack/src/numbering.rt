@@ -1,15 +1,12 @@
 //! Packing a channel stretch by stretch, with sequence numbers that run on.
-ghost use Rattle.std.specs.Prelude.{◌≡◌, ◌<◌, ◌≤◌, ◌^◌, ℕ, List, length, map, IfErr, IfOk, OnOk};
-ghost use Rattle.std.specs.List.{AllByRecursion};
+ghost use Rattle.std.specs.Prelude.{length, map, IfErr, OnOk};
 ghost use Rattle.mseed_record.specs.Viewing.{view_of};
-ghost use Rattle.mseed_audit.specs.Follows.{IsSound};
-ghost use Rattle.mseed_repack.specs.private.Reading.{samples_of, steps_of};
-ghost use Rattle.mseed_repack.specs.private.Restretching.{AreLengths, AreStretchesWithin, IsStretchPart, IsStretchText};
+ghost use Rattle.mseed_repack.specs.private.Restretching.{AreCutInto};
 ghost use Rattle.mseed_repack.specs.Repack.{Wrote};
-ghost use Rattle.mseed_repack.specs.Restretch.{ChannelFits, IsChannelPart, IsChannelText, IsNumberedOn, StretchFits};
+ghost use Rattle.mseed_repack.specs.Restretch.{ChannelFits, IsChannelPart, IsChannelText, IsNumberedOn};
 
-use crate::stretching::{beginning, read_stretch, series_of};
-use mseed_audit::one_series;
+use crate::series::pack_series;
+use crate::walk::Row;
 use mseed_pack::{Options, Packer};
 use mseed_record::RecordView;
 use mseed_stream::{Failed, Sink};
@@ -29,11 +26,8 @@ pub(crate) fn pack_stretches<W: Sink>(
     packer: &mut Packer,
     output: &mut W,
 ) -> Result<(), Failed>
-    requires few { length records.now ≤ 2 ^ 40 }
+    requires cut { AreCutInto lengths.now (map view_of records.now) (length samples.old) (length steps.old) }
     requires fits { ChannelFits options.now (map view_of records.now) }
-    requires lengths { AreLengths lengths.now (map view_of records.now) }
-    requires samples_fit { AreStretchesWithin (length samples.old) (map view_of records.now) }
-    requires steps_fit { steps_of (map view_of records.now) ≤ length steps.old }
     ensures ok { OnOk result (Wrote (IsChannelText options.now (map view_of records.now)) 0
         (W.written output.old) (W.written output.new)) }
     ensures err { IfErr result (λ _. Wrote (IsChannelPart options.now (map view_of records.now)) 1
@@ -45,7 +39,11 @@ pub(crate) fn pack_stretches<W: Sink>(
     while from < records.len() {
         let count = lengths[number];
         let stretch = &records[from..][..count];
-        match pack_stretch(stretch, &next, samples, steps, packer, output) {
+        let row = Row {
+            records: stretch,
+            index: 0,
+        };
+        match pack_series(row, &next, samples, steps, packer, output) {
             Ok(written) => next = numbered_on(&next, written),
             Err(failed) => return Err(failed),
         }
@@ -53,36 +51,6 @@ pub(crate) fn pack_stretches<W: Sink>(
         from += count;
     }
     Ok(())
-}
-
-/// Writes the records of a stretch, and answers how many there are.
-fn pack_stretch<W: Sink>(
-    records: &[RecordView],
-    options: &Options,
-    samples: &mut [i32],
-    steps: &mut [(u64, LeapStep)],
-    packer: &mut Packer,
-    output: &mut W,
-) -> Result<u64, Failed>
-    requires some { 0 < length records.now }
-    requires sound { AllByRecursion IsSound (map view_of records.now) }
-    requires samples_fit { samples_of (map view_of records.now) ≤ length samples.old }
-    requires steps_fit { steps_of (map view_of records.now) ≤ length steps.old }
-    requires fits { StretchFits options.now (map view_of records.now) }
-    ensures ok { IfOk result (λ count. Wrote (IsStretchText options.now (map view_of records.now) count) 0
-        (W.written output.old) (W.written output.new)) }
-    ensures err { IfErr result (λ _. Wrote (IsStretchPart options.now (map view_of records.now)) 1
-        (W.written output.old) (W.written output.new)) }
-{
-    one_series();
-    let read = read_stretch(records, samples, steps);
-    let stretch = beginning(records);
-    let series = series_of(&stretch, &samples[..read.samples], &steps[..read.steps]);
-    // The series is the one that was found to fit.
-    match packer.pack_fitting(&series, options, output) {
-        Ok(count) => Ok(count),
-        Err(_) => Err(Failed),
-    }
 }
 
 /// The options of what is written behind so many records.

@@ -1,8 +1,7 @@
-//! What is known of a channel before its samples are read.
-ghost use Rattle.std.specs.Prelude.{◌≡◌, ◌<◌, ◌≤◌, ◌+◌, ◌++◌, ◌^◌, ◌-ℤ◌, [], All, IfSome, List, ℤ, length, map, take};
+//! What is known of records before their samples are read.
+ghost use Rattle.std.specs.Prelude.{◌≡◌, ◌<◌, ◌≤◌, ◌+◌, ◌++◌, ◌^◌, ◌-ℤ◌, All, IfSome, List, ℕ, ℤ, length, take};
 ghost use Rattle.std.specs.Prelude.{◌↔◌, IsTrue};
 ghost use Rattle.std.specs.Bool.{OnTrue};
-ghost use Rattle.std.specs.List.{AllByRecursion};
 ghost use Rattle.mseed_record.specs.View.{leap_of};
 ghost use Rattle.mseed_record.specs.Viewing.{view_of};
 ghost use Rattle.mseed_steim.specs.Reading.{count_of, IsWhole};
@@ -12,14 +11,12 @@ ghost use Rattle.mseed_audit.specs.Follows.{IsSound};
 ghost use Rattle.mseed_audit.specs.Judging.{step_in};
 ghost use Rattle.mseed_audit.specs.Series.{step_at};
 ghost use Rattle.mseed_repack.specs.private.Outline.{AreHeld, AreNear, IsKnown, IsOutline, is_held};
-ghost use Rattle.mseed_repack.specs.private.Reading.{channel_in, samples_of, step_count, steps_of};
-ghost use Rattle.mseed_repack.specs.private.Trails.{IsTrail};
+ghost use Rattle.mseed_repack.specs.private.Reading.{IsSoundWalk, samples_of, step_count, steps_of};
 
 use crate::reading::put_step;
-use crate::trail::Trail;
-use mseed_audit::is_of;
+use crate::walk::Walk;
 use mseed_pack::Encoding;
-use mseed_record::{Codes, RecordView};
+use mseed_record::RecordView;
 use mseed_steim::{Ends, ends_of, is_surely_near};
 use mseed_time::LeapStep;
 
@@ -34,7 +31,7 @@ pub(crate) enum Nearness {
     Unknown,
 }
 
-/// How many samples and leap seconds a channel has, and whether its samples are near one another.
+/// How many samples and leap seconds some records have, and whether their samples are near one another.
 #[derive(Clone, Copy)]
 pub(crate) struct Outline {
     pub(crate) samples: usize,
@@ -42,21 +39,14 @@ pub(crate) struct Outline {
     pub(crate) nearness: Nearness,
 }
 
-/// The outline of a channel of which each record is sound. Its leap seconds are put into the list.
-pub(crate) fn outline_channel(
-    views: &[RecordView],
-    trail: Trail,
-    codes: &Codes,
-    steps: &mut [(u64, LeapStep)],
-) -> Outline
-    requires trail { IsTrail codes.now views.now trail.first trail.nexts.now }
-    requires nexts { length trail.nexts.now ≡ length views.now }
-    requires sound { AllByRecursion IsSound (channel_in codes.now (map view_of views.now)) }
-    requires few { samples_of (channel_in codes.now (map view_of views.now)) < 2 ^ 64 }
-    requires steps_fit { steps_of (map view_of views.now) ≤ length steps.old }
-    ensures outline { IsOutline codes.now (channel_in codes.now (map view_of views.now))
+/// The outline of some records. Their leap seconds are put into the list.
+pub(crate) fn outline_records<'a, R: Walk<'a>>(records: R, steps: &mut [(u64, LeapStep)]) -> Outline
+    requires sound { IsSoundWalk R.leads R.left records }
+    requires few { samples_of (R.left records) < 2 ^ 64 }
+    requires steps_fit { steps_of (R.left records) ≤ length steps.old }
+    ensures outline { (key : List ℕ) → IsOutline key (R.left records)
         result.samples result.steps result.nearness steps.new }
-    ensures samples { result.samples ≡ samples_of (channel_in codes.now (map view_of views.now)) }
+    ensures samples { result.samples ≡ samples_of (R.left records) }
     ensures steps_inside { result.steps ≤ length steps.new }
 {
     let mut outline = Outline {
@@ -64,15 +54,9 @@ pub(crate) fn outline_channel(
         steps: 0,
         nearness: Nearness::Empty,
     };
-    let mut index = trail.first;
-    while index < views.len() {
-        let view = &views[index];
-        if is_of(codes, view) {
-            outline = outline_record(view, outline, steps);
-            index = trail.nexts[index];
-        } else {
-            index += 1;
-        }
+    let mut rest = records;
+    while let Some(view) = rest.next() {
+        outline = outline_record(&view, outline, steps);
     }
     outline
 }

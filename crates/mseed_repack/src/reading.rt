@@ -1,18 +1,16 @@
-//! Reading a channel into lists that are there.
-ghost use Rattle.std.specs.Prelude.{◌≡◌, ◌<◌, ◌≤◌, ◌+◌, ◌++◌, ◌^◌, ℤ, List, length, map, take};
-ghost use Rattle.std.specs.List.{AllByRecursion};
+//! Reading records into lists that are there.
+ghost use Rattle.std.specs.Prelude.{◌≡◌, ◌≤◌, ◌+◌, ◌++◌, ℤ, List, length, map, take};
 ghost use Rattle.mseed_record.specs.View.{leap_of};
 ghost use Rattle.mseed_record.specs.Viewing.{view_of};
 ghost use Rattle.mseed_steim.specs.Reading.{count_of, IsWhole};
 ghost use Rattle.mseed_audit.specs.Follows.{IsSound};
 ghost use Rattle.mseed_audit.specs.Judging.{step_in};
 ghost use Rattle.mseed_audit.specs.Series.{AreSteps, step_at};
-ghost use Rattle.mseed_repack.specs.private.Reading.{AreOf, channel_in, samples_of, step_count, steps_of};
-ghost use Rattle.mseed_repack.specs.private.Trails.{IsTrail};
+ghost use Rattle.mseed_repack.specs.private.Reading.{CanBeRead, step_count, steps_of};
+ghost use Rattle.mseed_repack.specs.private.Restretching.{AreOfAny};
 
-use crate::trail::Trail;
-use mseed_audit::is_of;
-use mseed_record::{Codes, RecordView};
+use crate::walk::Walk;
+use mseed_record::RecordView;
 use mseed_steim::fill_samples;
 use mseed_time::LeapStep;
 
@@ -23,22 +21,15 @@ pub(crate) struct Read {
     pub(crate) steps: usize,
 }
 
-/// Reads the samples and leap seconds of a channel of which each record is sound, from the beginning of the lists on,
-/// and answers how many there are. It takes no memory.
-pub(crate) fn read_channel(
-    views: &[RecordView],
-    trail: Trail,
-    codes: &Codes,
+/// Reads the samples and leap seconds of some records, from the beginning of the lists on, and answers how many there
+/// are. It takes no memory.
+pub(crate) fn read_records<'a, R: Walk<'a>>(
+    records: R,
     samples: &mut [i32],
     steps: &mut [(u64, LeapStep)],
 ) -> Read
-    requires trail { IsTrail codes.now views.now trail.first trail.nexts.now }
-    requires nexts { length trail.nexts.now ≡ length views.now }
-    requires sound { AllByRecursion IsSound (channel_in codes.now (map view_of views.now)) }
-    requires samples_fit { samples_of (channel_in codes.now (map view_of views.now)) ≤ length samples.old }
-    requires steps_fit { steps_of (map view_of views.now) ≤ length steps.old }
-    ensures read { AreOf codes.now (channel_in codes.now (map view_of views.now))
-        (take result.samples samples.new) (take result.steps steps.new) }
+    requires { CanBeRead R.leads R.left records (length samples.old) (length steps.old) }
+    ensures read { AreOfAny (R.left records) (take result.samples samples.new) (take result.steps steps.new) }
     ensures places { AreSteps result.samples (take result.steps steps.new) }
     ensures samples_inside { result.samples ≤ length samples.new }
     ensures steps_inside { result.steps ≤ length steps.new }
@@ -47,15 +38,9 @@ pub(crate) fn read_channel(
         samples: 0,
         steps: 0,
     };
-    let mut index = trail.first;
-    while index < views.len() {
-        let view = &views[index];
-        if is_of(codes, view) {
-            read = read_record(view, read, samples, steps);
-            index = trail.nexts[index];
-        } else {
-            index += 1;
-        }
+    let mut rest = records;
+    while let Some(view) = rest.next() {
+        read = read_record(&view, read, samples, steps);
     }
     read
 }

@@ -1,18 +1,18 @@
 //! Packing an archive anew by the stretches of its channels.
-ghost use Rattle.std.specs.Prelude.{◌≡◌, ◌≤◌, ◌^◌, length, map, All, IfErr, IfOk, OnOk};
+ghost use Rattle.std.specs.Prelude.{◌≡◌, ◌≤◌, ◌^◌, length, map, IfErr, IfOk, OnOk};
 ghost use Rattle.mseed_record.specs.Viewing.{view_of};
 ghost use Rattle.mseed_stream.specs.Device.{nothing_read};
 ghost use Rattle.mseed_audit.specs.Channels.{added_from};
 ghost use Rattle.mseed_audit.specs.Verdict.{AreVerdicts};
-ghost use Rattle.mseed_repack.specs.private.Reading.{channel_in, steps_of};
+ghost use Rattle.mseed_repack.specs.private.Archives.{HasRoomForTrail, HasRoomForRecords, records_on};
 ghost use Rattle.mseed_repack.specs.private.Restretching.{AreCut, AreLengths, AreRoomy, AreStretchesWithin};
 ghost use Rattle.mseed_repack.specs.private.Restretching.{FailsToStretch, IsPartIfFit, IsTextIfFit};
-ghost use Rattle.mseed_repack.specs.private.Trails.{AreLaid, IsTrail};
 ghost use Rattle.mseed_repack.specs.Repack.{Wrote};
 ghost use Rattle.mseed_repack.specs.ByStretches.{AreStandings, AreStretched, IsPartStretched, IsRestretching};
 ghost use Rattle.mseed_repack.specs.ByStretches.{Stands, WereStretched, kept_of};
 ghost use Rattle.mseed_repack.specs.declared.standing.Standing.{Standing};
 
+use crate::archive::{Archive, Trail};
 use crate::gathering::gather;
 use crate::numbering::pack_stretches;
 use crate::reading::count_steps;
@@ -20,7 +20,7 @@ use crate::refusing::{Left, left_of, refusal_unless, tell_left};
 use crate::repacking::{blank_steps, judge};
 use crate::standing::{Standing, stand_all};
 use crate::stretches_fault::StretchesFault;
-use crate::trail::{Trail, Trails, indices, lay_trails};
+use crate::trail::lay_trails;
 use mseed_audit::Verdict;
 use mseed_pack::{Options, Packer};
 use mseed_record::{Codes, RecordView};
@@ -77,64 +77,27 @@ fn restretch<A: Allocator + Copy, W: Sink, E: Sink>(
     ensures err { IfErr result (FailsToStretch options.now leave (map view_of views.now) channels.now
         (W.written output.old) (W.written output.new) (E.written errors.old) (E.written errors.new)) }
 {
-    let mut firsts = match indices(alloc, views.len(), channels.len()) {
-        Ok(firsts) => firsts,
+    let trails = match lay_trails(alloc, views, channels) {
+        Ok(trails) => trails,
         Err(_) => return Err(StretchesFault::Memory),
     };
-    let mut nexts = match indices(alloc, views.len(), views.len()) {
-        Ok(nexts) => nexts,
-        Err(_) => return Err(StretchesFault::Memory),
-    };
-    restretch_along(
-        alloc,
+    let archive = Archive {
         views,
         channels,
-        options,
-        leave,
-        &mut firsts,
-        &mut nexts,
-        output,
-        errors,
-    )
-}
-
-/// The same by the trails of the channels, which are laid in lists that have room for them.
-fn restretch_along<A: Allocator + Copy, W: Sink, E: Sink>(
-    alloc: A,
-    views: &[RecordView],
-    channels: &[(Codes, Verdict)],
-    options: &Options,
-    leave: bool,
-    firsts: &mut [usize],
-    nexts: &mut [usize],
-    output: &mut W,
-    errors: &mut E,
-) -> Result<Left, StretchesFault>
-    requires few { length views.now ≤ 2 ^ 40 }
-    requires verdicts { AreVerdicts (added_from 0 (map view_of views.now)) channels.now }
-    requires firsts { length firsts.old ≡ length channels.now }
-    requires none { All (λ first. first ≡ length views.now) firsts.old }
-    requires nexts { length nexts.old ≡ length views.now }
-    ensures ok { IfOk result (λ left. WereStretched options.now leave (map view_of views.now) channels.now left
-        (W.written output.old) (W.written output.new) (E.written errors.old) (E.written errors.new)) }
-    ensures err { IfErr result (FailsToStretch options.now leave (map view_of views.now) channels.now
-        (W.written output.old) (W.written output.new) (E.written errors.old) (E.written errors.new)) }
-{
+        firsts: &trails.firsts,
+        nexts: &trails.nexts,
+    };
     let mut steps = match blank_steps(alloc, count_steps(views)) {
         Ok(steps) => steps,
         Err(_) => return Err(StretchesFault::Memory),
     };
-    let mut records = match views.to_vec(alloc) {
+    let mut records = match archive.views.to_vec(alloc) {
         Ok(records) => records,
         Err(_) => return Err(StretchesFault::Memory),
     };
-    lay_trails(views, channels, firsts, nexts);
-    let trails = Trails { firsts, nexts };
     restretch_within(
         alloc,
-        views,
-        trails,
-        channels,
+        &archive,
         options,
         leave,
         &mut records,
@@ -147,9 +110,7 @@ fn restretch_along<A: Allocator + Copy, W: Sink, E: Sink>(
 /// The same with lists that have room for the records of a channel and for all leap seconds.
 fn restretch_within<'a, A: Allocator + Copy, W: Sink, E: Sink>(
     alloc: A,
-    views: &[RecordView<'a>],
-    trails: Trails,
-    channels: &[(Codes, Verdict)],
+    archive: &Archive<'_, 'a>,
     options: &Options,
     leave: bool,
     records: &mut [RecordView<'a>],
@@ -157,23 +118,19 @@ fn restretch_within<'a, A: Allocator + Copy, W: Sink, E: Sink>(
     output: &mut W,
     errors: &mut E,
 ) -> Result<Left, StretchesFault>
-    requires few { length views.now ≤ 2 ^ 40 }
-    requires verdicts { AreVerdicts (added_from 0 (map view_of views.now)) channels.now }
-    requires laid { AreLaid views.now channels.now trails.firsts.now trails.nexts.now }
-    requires room { length views.now ≤ length records.old }
-    requires steps_fit { steps_of (map view_of views.now) ≤ length steps.old }
-    ensures ok { IfOk result (λ left. WereStretched options.now leave (map view_of views.now) channels.now left
+    requires { HasRoomForRecords archive.now (length records.old) (length steps.old) }
+    ensures ok { IfOk result (λ left. WereStretched options.now leave
+        (map view_of archive.now.views.now) archive.now.channels.now left
         (W.written output.old) (W.written output.new) (E.written errors.old) (E.written errors.new)) }
-    ensures err { IfErr result (FailsToStretch options.now leave (map view_of views.now) channels.now
+    ensures err { IfErr result (FailsToStretch options.now leave
+        (map view_of archive.now.views.now) archive.now.channels.now
         (W.written output.old) (W.written output.new) (E.written errors.old) (E.written errors.new)) }
 {
     let mut samples = Vec::new(alloc);
     let mut lengths = Vec::new(alloc);
     let standings = match stand_all(
         alloc,
-        views,
-        trails,
-        channels,
+        archive,
         options,
         &mut lengths,
         records,
@@ -183,14 +140,12 @@ fn restretch_within<'a, A: Allocator + Copy, W: Sink, E: Sink>(
         Ok(standings) => standings,
         Err(_) => return Err(StretchesFault::Memory),
     };
-    if let Some(fault) = refusal_unless(leave, channels, &standings) {
+    if let Some(fault) = refusal_unless(leave, archive.channels, &standings) {
         return Err(fault);
     }
-    tell_left(channels, &standings, errors);
+    tell_left(archive.channels, &standings, errors);
     match pack_kept(
-        views,
-        trails,
-        channels,
+        archive,
         &standings,
         &lengths,
         options,
@@ -206,9 +161,7 @@ fn restretch_within<'a, A: Allocator + Copy, W: Sink, E: Sink>(
 
 /// Writes the records of the channels that fit, by how many records each of their stretches has.
 fn pack_kept<'a, A: Allocator, W: Sink>(
-    views: &[RecordView<'a>],
-    trails: Trails,
-    channels: &[(Codes, Verdict)],
+    archive: &Archive<'_, 'a>,
     standings: &[Standing],
     lengths: &[Vec<usize, A>],
     options: &Options,
@@ -217,25 +170,22 @@ fn pack_kept<'a, A: Allocator, W: Sink>(
     steps: &mut [(u64, LeapStep)],
     output: &mut W,
 ) -> Result<(), Failed>
-    requires few { length views.now ≤ 2 ^ 40 }
-    requires laid { AreLaid views.now channels.now trails.firsts.now trails.nexts.now }
-    requires room { length views.now ≤ length records.old }
-    requires standings { AreStandings options.now (map view_of views.now) channels.now standings.now }
-    requires cut { AreCut (map view_of views.now) channels.now standings.now
+    requires places { HasRoomForRecords archive.now (length records.old) (length steps.old) }
+    requires standings { AreStandings options.now (map view_of archive.now.views.now) archive.now.channels.now
+        standings.now }
+    requires cut { AreCut (map view_of archive.now.views.now) archive.now.channels.now standings.now
         (map (λ own. own.items) lengths.now) }
-    requires samples_fit { AreRoomy (length samples.old) (map view_of views.now) channels.now standings.now }
-    requires steps_fit { steps_of (map view_of views.now) ≤ length steps.old }
-    ensures ok { OnOk result (Wrote (AreStretched options.now (map view_of views.now)
-        (kept_of channels.now standings.now)) 0 (W.written output.old) (W.written output.new)) }
-    ensures err { IfErr result (λ _. Wrote (IsPartStretched options.now (map view_of views.now)
-        (kept_of channels.now standings.now)) 1 (W.written output.old) (W.written output.new)) }
+    requires samples_fit { AreRoomy (length samples.old) (map view_of archive.now.views.now)
+        archive.now.channels.now standings.now }
+    ensures ok { OnOk result (Wrote (AreStretched options.now (map view_of archive.now.views.now)
+        (kept_of archive.now.channels.now standings.now)) 0 (W.written output.old) (W.written output.new)) }
+    ensures err { IfErr result (λ _. Wrote (IsPartStretched options.now (map view_of archive.now.views.now)
+        (kept_of archive.now.channels.now standings.now)) 1 (W.written output.old) (W.written output.new)) }
 {
     let mut packer = Packer::new();
-    for (number, channel) in channels.iter().enumerate() {
+    for number in 0..archive.channels.len() {
         match pack_if_fit(
-            views,
-            trails.of(number),
-            &channel.0,
+            archive.trail(number),
             &standings[number],
             &lengths[number],
             options,
@@ -254,9 +204,7 @@ fn pack_kept<'a, A: Allocator, W: Sink>(
 
 /// Writes the records of a channel, if it fits, by how many records each of its stretches has.
 fn pack_if_fit<'a, W: Sink>(
-    views: &[RecordView<'a>],
-    trail: Trail,
-    codes: &Codes,
+    trail: Trail<'_, 'a>,
     standing: &Standing,
     lengths: &[usize],
     options: &Options,
@@ -266,26 +214,18 @@ fn pack_if_fit<'a, W: Sink>(
     packer: &mut Packer,
     output: &mut W,
 ) -> Result<(), Failed>
-    requires few { length views.now ≤ 2 ^ 40 }
-    requires trail { IsTrail codes.now views.now trail.first trail.nexts.now }
-    requires nexts { length trail.nexts.now ≡ length views.now }
-    requires room { length views.now ≤ length records.old }
-    requires stands { Stands options.now (channel_in codes.now (map view_of views.now)) standing.now }
-    requires lengths { standing.now ≡ Standing.Fit
-        → AreLengths lengths.now (channel_in codes.now (map view_of views.now)) }
-    requires samples_fit { standing.now ≡ Standing.Fit
-        → AreStretchesWithin (length samples.old) (channel_in codes.now (map view_of views.now)) }
-    requires steps_fit { steps_of (map view_of views.now) ≤ length steps.old }
-    ensures ok { OnOk result (Wrote
-        (IsTextIfFit options.now (channel_in codes.now (map view_of views.now)) standing.now) 0
+    requires places { HasRoomForTrail trail (length records.old) (length steps.old) }
+    requires stands { Stands options.now (records_on trail) standing.now }
+    requires lengths { standing.now ≡ Standing.Fit → AreLengths lengths.now (records_on trail) }
+    requires samples_fit { standing.now ≡ Standing.Fit → AreStretchesWithin (length samples.old) (records_on trail) }
+    ensures ok { OnOk result (Wrote (IsTextIfFit options.now (records_on trail.entry) standing.now) 0
         (W.written output.old) (W.written output.new)) }
-    ensures err { IfErr result (λ _. Wrote
-        (IsPartIfFit options.now (channel_in codes.now (map view_of views.now)) standing.now) 1
+    ensures err { IfErr result (λ _. Wrote (IsPartIfFit options.now (records_on trail.entry) standing.now) 1
         (W.written output.old) (W.written output.new)) }
 {
     match *standing {
         Standing::Fit => {
-            let count = gather(views, trail, codes, records);
+            let count = gather(trail, records);
             pack_stretches(
                 &records[..count],
                 lengths,

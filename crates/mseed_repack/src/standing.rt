@@ -2,23 +2,20 @@
 ghost use Rattle.std.specs.Prelude.{◌≡◌, ◌↔◌, ◌≤◌, ◌^◌, [], IsTrue, length, map, true, IfOk, OnOk};
 ghost use Rattle.std.specs.List.{AllByRecursion};
 ghost use Rattle.mseed_record.specs.Viewing.{view_of};
-ghost use Rattle.mseed_audit.specs.Channels.{added_from};
 ghost use Rattle.mseed_audit.specs.Follows.{IsSound};
-ghost use Rattle.mseed_audit.specs.Verdict.{AreVerdicts};
+ghost use Rattle.mseed_repack.specs.private.Archives.{HasRoomForRecords};
 ghost use Rattle.mseed_repack.specs.private.Reading.{steps_of};
 ghost use Rattle.mseed_repack.specs.private.Restretching.{AreCut, AreLengths, AreRoomy, AreStretchesWithin};
-ghost use Rattle.mseed_repack.specs.private.Trails.{AreLaid};
 ghost use Rattle.mseed_repack.specs.ByStretches.{AreStandings, Stands};
 ghost use Rattle.mseed_repack.specs.declared.standing.Standing.{Standing};
 
+use crate::archive::Archive;
 use crate::channel::are_sound;
 use crate::fitting::fit_stretches;
 use crate::gathering::gather;
 use crate::stretching::cut_stretches;
-use crate::trail::Trails;
-use mseed_audit::Verdict;
 use mseed_pack::{Options, PackFault};
-use mseed_record::{Codes, RecordView};
+use mseed_record::RecordView;
 use mseed_time::LeapStep;
 use std::alloc::{AllocError, Allocator};
 
@@ -38,31 +35,25 @@ pub enum Standing {
 /// are put into the list that there is for them.
 pub(crate) fn stand_all<'a, A: Allocator + Copy>(
     alloc: A,
-    views: &[RecordView<'a>],
-    trails: Trails,
-    channels: &[(Codes, Verdict)],
+    archive: &Archive<'_, 'a>,
     options: &Options,
     lengths: &mut Vec<Vec<usize, A>, A>,
     records: &mut [RecordView<'a>],
     samples: &mut Vec<i32, A>,
     steps: &mut [(u64, LeapStep)],
 ) -> Result<Vec<Standing, A>, AllocError>
-    requires few { length views.now ≤ 2 ^ 40 }
-    requires verdicts { AreVerdicts (added_from 0 (map view_of views.now)) channels.now }
-    requires laid { AreLaid views.now channels.now trails.firsts.now trails.nexts.now }
+    requires places { HasRoomForRecords archive.now (length records.old) (length steps.old) }
     requires none { lengths.old.items ≡ [] }
-    requires room { length views.now ≤ length records.old }
-    requires steps_fit { steps_of (map view_of views.now) ≤ length steps.old }
-    ensures standings { IfOk result (λ standings.
-        AreStandings options.now (map view_of views.now) channels.now standings.items) }
-    ensures roomy { IfOk result (λ standings.
-        AreRoomy (length samples.new.items) (map view_of views.now) channels.now standings.items) }
-    ensures cut { IfOk result (λ standings.
-        AreCut (map view_of views.now) channels.now standings.items (map (λ own. own.items) lengths.new.items)) }
+    ensures standings { IfOk result (λ standings. AreStandings options.now (map view_of archive.now.views.now)
+        archive.now.channels.now standings.items) }
+    ensures roomy { IfOk result (λ standings. AreRoomy (length samples.new.items)
+        (map view_of archive.now.views.now) archive.now.channels.now standings.items) }
+    ensures cut { IfOk result (λ standings. AreCut (map view_of archive.now.views.now) archive.now.channels.now
+        standings.items (map (λ own. own.items) lengths.new.items)) }
 {
     let mut standings = Vec::new(alloc);
-    for (number, channel) in channels.iter().enumerate() {
-        let count = gather(views, trails.of(number), &channel.0, records);
+    for (number, channel) in archive.channels.iter().enumerate() {
+        let count = gather(archive.trail(number), records);
         let continuous = channel.1.is_continuous();
         let mut own = Vec::new(alloc);
         let standing = stand(

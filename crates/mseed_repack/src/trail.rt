@@ -9,59 +9,41 @@ ghost use Rattle.mseed_record.specs.Viewing.{view_of};
 ghost use Rattle.mseed_record.specs.declared.view.RecordView.{RecordView};
 ghost use Rattle.mseed_audit.specs.Channels.{same_key};
 ghost use Rattle.mseed_repack.specs.Repack.{Channel};
-ghost use Rattle.mseed_repack.specs.private.Trails.{AreTrails, AreTrailsFrom};
+ghost use Rattle.mseed_repack.specs.private.Trails.{AreLaid, AreTrails, AreTrailsFrom};
 
 use mseed_audit::Verdict;
 use mseed_record::{Codes, RecordView};
 use std::alloc::{AllocError, Allocator};
 
-/// Where the records of a channel stand: the first, and behind each record with samples the next one of its channel.
-#[derive(Clone, Copy)]
-pub(crate) struct Trail<'a> {
-    pub(crate) first: usize,
-    pub(crate) nexts: &'a [usize],
+/// Where the first record of each channel stands, and behind each record with samples the next one of its channel. For
+/// a record that there isn't, there is the number of records.
+#[derive(Drop)]
+pub(crate) struct Trails<A: Allocator> {
+    pub(crate) firsts: Vec<usize, A>,
+    pub(crate) nexts: Vec<usize, A>,
 }
 
-/// The same of all channels: the first record of each.
-#[derive(Clone, Copy)]
-pub(crate) struct Trails<'a> {
-    pub(crate) firsts: &'a [usize],
-    pub(crate) nexts: &'a [usize],
-}
-
-impl<'a> Trails<'a> {
-    /// The trail of the channel with this number.
-    pub(crate) fn of(self, number: usize) -> Trail<'a>
-        requires { number < length self.firsts.now }
-        ensures first { result.first ≡ slice_index_or self.entry.firsts.now number 0 }
-        ensures nexts { result.nexts.now ≡ self.entry.nexts.now }
-    {
-        Trail {
-            first: self.firsts[number],
-            nexts: self.nexts,
-        }
-    }
-}
-
-/// So many indices, each the same.
+/// The trails of all channels, whose keys rise.
 ///
 /// # Errors
 ///
 /// `AllocError` where there is no memory for them.
-pub(crate) fn indices<A: Allocator + Copy>(
+pub(crate) fn lay_trails<A: Allocator + Copy>(
     alloc: A,
-    index: usize,
-    count: usize,
-) -> Result<Vec<usize, A>, AllocError>
-    ensures count { IfOk result (λ indices. length indices.items ≡ count) }
-    ensures each { IfOk result (λ indices. All (λ i. i ≡ index) indices.items) }
+    views: &[RecordView],
+    channels: &[(Codes, Verdict)],
+) -> Result<Trails<A>, AllocError>
+    requires { IsStrictlySortedBy (slice_cmp nat_cmp) (keys_of channels.now) }
+    ensures { IfOk result (λ trails. AreLaid views.now channels.now trails.firsts.items trails.nexts.items) }
 {
-    Ok(vec![in alloc; index; count]?)
+    let mut firsts = vec![in alloc; views.len(); channels.len()]?;
+    let mut nexts = vec![in alloc; views.len(); views.len()]?;
+    lay(views, channels, &mut firsts, &mut nexts);
+    Ok(Trails { firsts, nexts })
 }
 
-/// Lays the trails of all channels, whose keys rise. For a record that there isn't, a trail has the number of
-/// records, as each first one has before.
-pub(crate) fn lay_trails(
+/// The same in lists that have room for them, where there is no first record yet.
+fn lay(
     views: &[RecordView],
     channels: &[(Codes, Verdict)],
     firsts: &mut [usize],
@@ -71,7 +53,7 @@ pub(crate) fn lay_trails(
     requires firsts { length firsts.old ≡ length channels.now }
     requires none { All (λ first. first ≡ length views.now) firsts.old }
     requires nexts { length nexts.old ≡ length views.now }
-    ensures trails { AreTrails views.now channels.now firsts.new nexts.new }
+    ensures { AreTrails views.now channels.now firsts.new nexts.new }
 {
     for turn in 0..views.len() {
         let index = views.len() - 1 - turn;

@@ -1,11 +1,11 @@
--- A channel that is read into lists that are there.
-use Rattle.std.specs.Prelude.{◌≡◌, ℕ, ◌+◌, ℤ, List, [], ◌∷◌, length}
-use Rattle.std.specs.List.{filter}
+-- Records that are read into lists that are there.
+use Rattle.std.specs.Prelude.{◌≢◌, ℕ, ◌+◌, ◌≤◌, ℤ, List, [], ◌∷◌, length}
+use Rattle.std.specs.List.{AllByRecursion, filter}
 use Rattle.mseed_time.specs.declared.outcome.LeapStep.{LeapStep}
 use Rattle.mseed_time.specs.declared.rate.Rate.{Rate}
-use Rattle.mseed_record.specs.Header.{factor_at, multiplier_at}
 use Rattle.mseed_record.specs.View.{View, leap_of}
 use Rattle.mseed_audit.specs.Channels.{is_of}
+use Rattle.mseed_audit.specs.Follows.{IsSound}
 use Rattle.mseed_audit.specs.Judging.{step_in}
 use Rattle.mseed_audit.specs.Series.{HoldsAll, step_at}
 pub use Rattle.mseed_stretches.specs.Stretches.{samples_of}
@@ -25,12 +25,6 @@ steps_of (v ∷ vs) = step_count v + steps_of vs
 abbrev pub channel_in : List ℕ → List View → List View
 channel_in key views = filter (is_of key) views
 
--- the factor and multiplier of the rate are those of the first of these records
-abbrev pub IsFirstRate : List View → Rate → Type 0
-IsFirstRate [] rate = ⊥
-IsFirstRate (v ∷ vs) rate =
-    (rate.factor ≡ factor_at v.order v.bytes) × (rate.multiplier ≡ multiplier_at v.order v.bytes)
-
 -- the samples and leap seconds are those of the records, whatever the start and the rate are
 abbrev pub AreOf : List ℕ → List View → List ℤ → List (ℕ × LeapStep) → Type 0
 AreOf key vs samples steps =
@@ -47,3 +41,16 @@ AreOf key vs samples steps =
 abbrev pub samples_written : Verdict → ℕ
 samples_written (Continuous start rate records samples) = samples
 samples_written (Broken first count) = 0
+
+-- a walk leads to records, of which each is sound
+pub record IsSoundWalk {S : Type 0} (leads : S → Type 0) (left : S → List View) (walk : S) : Type 0 where
+  pub led : leads walk
+  pub some : left walk ≢ []
+  pub sound : AllByRecursion IsSound (left walk)
+
+-- and there is room for so many samples, and for so many leap seconds
+pub record CanBeRead {S : Type 0} (leads : S → Type 0) (left : S → List View) (walk : S) (room places : ℕ) : Type
+    0 where
+  pub walks : IsSoundWalk leads left walk
+  pub samples_fit : samples_of (left walk) ≤ room
+  pub steps_fit : steps_of (left walk) ≤ places

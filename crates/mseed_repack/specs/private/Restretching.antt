@@ -1,5 +1,5 @@
 -- What the steps of packing a channel by its stretches know.
-use Rattle.std.specs.Prelude.{Bool, false, ⊤, ◌≡◌, ℕ, ◌≤◌, ℤ, List, [], ◌∷◌, length, take, drop}
+use Rattle.std.specs.Prelude.{Bool, false, ⊤, ◌≡◌, ℕ, ◌≤◌, ◌^◌, ℤ, List, [], ◌∷◌, length, take, drop}
 use Rattle.std.specs.List.{concat, AllByRecursion}
 use Rattle.mseed_time.specs.declared.outcome.LeapStep.{LeapStep}
 use Rattle.mseed_record.specs.View.{View}
@@ -11,7 +11,7 @@ use Rattle.mseed_stretches.specs.Stretches.{AreStretchesUpTo, IsFirstStretch}
 use Rattle.mseed_stretches.specs.declared.stretch.Stretch.{Stretch}
 use Rattle.mseed_pack.specs.Packing.{PacksUpTo}
 use Rattle.mseed_pack.specs.declared.options.Options.{Options}
-use Rattle.mseed_repack.specs.private.Reading.{AreOf, samples_of}
+use Rattle.mseed_repack.specs.private.Reading.{AreOf, samples_of, steps_of}
 use Rattle.mseed_repack.specs.Repack.{Channel, IsFirst, records_in}
 use Rattle.mseed_repack.specs.Restretch.{ChannelFits, ChannelMisfits, IsChannelPart, IsChannelText}
 use Rattle.mseed_repack.specs.Restretch.{IsStretchPacked}
@@ -41,6 +41,14 @@ AreLengthsUpTo (n ∷ ns) vs left =
 -- all of the records are such stretches
 abbrev pub AreLengths : List ℕ → List View → Type 0
 AreLengths lengths vs = AreLengthsUpTo lengths vs []
+
+-- Sound records are such stretches, and there is room for the samples of one, and for the leap seconds of all.
+pub record AreCutInto (lengths : List ℕ) (vs : List View) (room places : ℕ) : Type 0 where
+  pub few : length vs ≤ 2 ^ 40
+  pub sound : AllByRecursion IsSound vs
+  pub lengths_are : AreLengths lengths vs
+  pub samples_fit : AreStretchesWithin room vs
+  pub steps_fit : steps_of vs ≤ places
 
 -- those of each channel that fits are
 abbrev pub AreCut : List View → List Channel → List Standing → List (List ℕ) → Type 0

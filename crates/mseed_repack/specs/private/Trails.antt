@@ -1,34 +1,31 @@
 -- Where the records of each channel stand in an archive.
-use Rattle.std.specs.Prelude.{◌≡◌, ℕ, ◌+◌, ◌<◌, ◌≤◌, List, length, map, take, slice_index_or, true}
+use Rattle.std.specs.Prelude.{◌≡◌, ℕ, ◌+◌, ◌<◌, ◌≤◌, List, length, map, drop, slice_index_or, true}
 use Rattle.mseed_record.specs.Viewing.{view_of}
 use Rattle.mseed_record.specs.declared.view.RecordView.{RecordView}
 use Rattle.mseed_audit.specs.Channels.{is_of}
 use Rattle.mseed_repack.specs.private.Reading.{channel_in}
 use Rattle.mseed_repack.specs.Repack.{Channel}
 
--- of the records from one index up to another none is of the channel with this key
-pub record Skips (key : List ℕ) (rs : List RecordView) (from at : ℕ) : Type 0 where
+-- the record at an index, where there is one, is of the channel with this key
+abbrev pub IsOfAt : List ℕ → List RecordView → ℕ → Type 0
+IsOfAt key rs at = (r : RecordView) → at < length rs → r ≡ slice_index_or rs at r → is_of key (view_of r) ≡ true
+
+-- of the records from one index on the first that is of the channel stands at another, where there is one
+pub record LeadsTo (key : List ℕ) (rs : List RecordView) (from at : ℕ) : Type 0 where
   pub order : from ≤ at
-  pub none : channel_in key (map view_of (take at rs)) ≡ channel_in key (map view_of (take from rs))
+  pub none : channel_in key (map view_of (drop from rs)) ≡ channel_in key (map view_of (drop at rs))
+  pub of : IsOfAt key rs at
 
 -- behind each of the channel's records from an index on, where the next one stands
 abbrev pub AreNexts : List ℕ → List RecordView → ℕ → List ℕ → Type 0
 AreNexts key rs from nexts =
     (i : ℕ) (r : RecordView) → from ≤ i → i < length rs → r ≡ slice_index_or rs i r → is_of key (view_of r) ≡ true
-    → Skips key rs (i + 1) (slice_index_or nexts i 0)
-
--- the record at an index, where there is one, is of the channel with this key
-abbrev pub IsOfAt : List ℕ → List RecordView → ℕ → Type 0
-IsOfAt key rs at = (r : RecordView) → at < length rs → r ≡ slice_index_or rs at r → is_of key (view_of r) ≡ true
+    → LeadsTo key rs (i + 1) (slice_index_or nexts i 0)
 
 -- of the channel's records from an index on, where the first one stands, and behind each the next one
 pub record IsTrailFrom (from : ℕ) (key : List ℕ) (rs : List RecordView) (first : ℕ) (nexts : List ℕ) : Type 0 where
-  pub first_is : Skips key rs from first
-  pub first_of : IsOfAt key rs first
+  pub first_is : LeadsTo key rs from first
   pub nexts_are : AreNexts key rs from nexts
-
-abbrev pub IsTrail : List ℕ → List RecordView → ℕ → List ℕ → Type 0
-IsTrail key rs first nexts = IsTrailFrom 0 key rs first nexts
 
 -- the same of each channel
 abbrev pub AreTrailsFrom : ℕ → List RecordView → List Channel → List ℕ → List ℕ → Type 0

@@ -1,4 +1,5 @@
-use Rattle.std.proofs.Common.{ℕ, ◌+◌, ◌≤◌, List, length, map, get_or, arith}
+use Rattle.std.proofs.Common.{ℕ, ◌+◌, ◌≤◌, List, length, map, get_or, arith, refl}
+use Rattle.std.proofs.lemmas.List.{length-map}
 use Rattle.mseed_record.specs.View.{View}
 use Rattle.mseed_record.specs.Viewing.{view_of}
 use Rattle.mseed_audit.specs.Follows.{IsSound}
@@ -10,39 +11,32 @@ use Rattle.mseed_repack.proofs.Restretched.{first_misfit, fit_more, fit_none}
 use Rattle.mseed_repack.proofs.fitting.fit_stretches.Goals as goal
 
 pub loop-from-init : goal.loop-from-init
-loop-from-init c = (fit_none c.args.options.now c.args.records.now, c.requires.lengths)
+loop-from-init c = (fit_none c.args.options.now c.args.records.now, c.requires.lengths_are)
 
 pub bounds-lengths-number : goal.bounds-lengths-number
 bounds-lengths-number c = (next_length c.args.lengths.now c.args.records.now c.loop-from.number c.loop-from.from
     c.loop-from-test.true c.loop-from.invariant.1).inside
 
-pub fit_stretch-requires-clause-some : goal.fit_stretch-requires-clause-some
-fit_stretch-requires-clause-some c =
-    some_length c.args.lengths.now c.args.records.now c.loop-from.number c.loop-from.from
-    (next_length c.args.lengths.now c.args.records.now c.loop-from.number c.loop-from.from
-    c.loop-from-test.true c.loop-from.invariant.1)
-
-pub fit_stretch-requires-clause-sound : goal.fit_stretch-requires-clause-sound
-fit_stretch-requires-clause-sound c =
-    each_cut IsSound c.args.records.now c.loop-from.from (get_or c.args.lengths.now c.loop-from.number 0)
-    c.requires.sound
-
-pub fit_stretch-requires-clause-samples_fit : goal.fit_stretch-requires-clause-samples_fit
-fit_stretch-requires-clause-samples_fit c =
+pub fit_series-requires : goal.fit_series-requires
+fit_series-requires c κs =
+    let rs = c.args.records.now in
     let l = c.loop-from in
-    let next = next_length c.args.lengths.now c.args.records.now l.number l.from c.loop-from-test.true
-    l.invariant.1 in
+    let next = next_length c.args.lengths.now rs l.number l.from c.loop-from-test.true l.invariant.1 in
+    let n : ℕ = get_or c.args.lengths.now l.number 0 in
     let same = l.auto.samples in
-    room_cut c.args.records.now l.from (get_or c.args.lengths.now l.number 0) (length c.args.samples.now)
-    (length l.samples) l.invariant.0.cut.done l.invariant.0.cut.cut next.first c.requires.samples_fit
-    (omega (arith, same))
-
-pub fit_stretch-requires-clause-steps_fit : goal.fit_stretch-requires-clause-steps_fit
-fit_stretch-requires-clause-steps_fit c =
-    let room : steps_of (map view_of c.args.records.now) ≤ length c.loop-from.steps =
-    omega (arith, c.requires.steps_fit, c.loop-from.auto.steps) in
-    steps_cut c.args.records.now c.loop-from.from (get_or c.args.lengths.now c.loop-from.number 0)
-    (length c.loop-from.steps) room
+    let room : steps_of (map view_of rs) ≤ length l.steps = omega (arith, c.requires.steps_fit, l.auto.steps) in (
+      (refl, tt),
+      record {
+        walks = record {
+          led = tt;
+          some = some_length c.args.lengths.now rs l.number l.from next;
+          sound = each_cut IsSound rs l.from n c.requires.sound;
+        };
+        samples_fit = room_cut rs l.from n (length c.args.samples.now) (length l.samples) l.invariant.0.cut.done
+            l.invariant.0.cut.cut next.first c.requires.samples_fit (omega (arith, same));
+        steps_fit = steps_cut rs l.from n (length l.steps) room;
+      },
+    )
 
 pub returns-in-Err-clause-err : goal.returns-in-Err-clause-err
 returns-in-Err-clause-err c =
@@ -60,7 +54,8 @@ overflow_add-from c =
     let next = next_length c.args.lengths.now rs l.number l.from c.loop-from-test.true l.invariant.1 in
     let n : ℕ = get_or c.args.lengths.now l.number 0 in
     let inside : l.from + n ≤ length rs = inside_next rs l.from n l.invariant.0.cut.inside next.fits in
-    omega (arith, inside, c.requires.few)
+    let long = length-map rs view_of in
+    omega (arith, inside, long, c.requires.few)
 
 pub loop-from-preserved : goal.loop-from-preserved
 loop-from-preserved c =

@@ -1,32 +1,48 @@
-use Rattle.std.proofs.Common.{◌≡◌, ◌<◌, List, length, map, take, arith, sym, ap, ◌∙◌}
-use Rattle.std.proofs.lemmas.List.{take_all}
+use Rattle.std.proofs.Common.{◌<◌, ◌+◌, length, set, arith}
 use Rattle.mseed_record.specs.Viewing.{view_of}
-use Rattle.mseed_record.specs.declared.view.RecordView.{RecordView}
-use Rattle.mseed_repack.specs.private.Reading.{channel_in}
-use Rattle.mseed_repack.proofs.Gathered.{gathered_more, gathered_none}
+use Rattle.mseed_repack.specs.private.Archives.{records_on}
+use Rattle.mseed_repack.proofs.Walks.{AreGatheredSo, count_so_far, gathered_more, gathered_none, gone_all, gone_more}
+use Rattle.mseed_repack.proofs.Walks.{gone_none}
 use Rattle.mseed_repack.proofs.gathering.gather.Goals as goal
 
-pub loop-index-init : goal.loop-index-init
-loop-index-init c =
-    gathered_none c.args.codes.now c.args.views.now c.args.trail.first c.args.out.now c.requires.trail.first_is
+pub loop-view-init : goal.loop-view-init
+loop-view-init c = (
+  c.requires.led,
+  gone_none (AreGatheredSo 0 c.args.out.now) (records_on c.args.trail) (gathered_none c.args.out.now),
+)
 
-pub loop-index-preserved-then-is_of : goal.loop-index-preserved-then-is_of
-loop-index-preserved-then-is_of c =
-    let rs = c.args.views.now in
-    let l = c.loop-index in
-    let r = c.index-views-index.result in
-    let room : l.count < length l.out =
-    omega (arith, l.invariant.few, c.loop-index-test.true, c.requires.room, l.auto.out) in
-    let next = c.requires.trail.nexts_are l.index r (omega arith) c.loop-index-test.true c.index-views-index.is
-    (sym c.if-is_of.ensures) in
-    gathered_more c.args.codes.now rs l.index _ l.count r l.out c.loop-index-test.true room c.index-views-index.is
-    c.if-is_of.ensures next l.invariant
+pub bounds-out-count : goal.bounds-out-count
+bounds-out-count c =
+    let l = c.loop-view in
+    let h = l.invariant.1 in
+    let far = count_so_far (AreGatheredSo l.count l.out) (records_on c.args.trail) (records_on l.rest)
+    (records_on c.next.new.self) (view_of c.in-Some.view) c.in-Some.ensures.next h in
+    omega (arith, far, h.holds.count_is, c.requires.room, l.auto.out)
+
+pub loop-view-preserved : goal.loop-view-preserved
+loop-view-preserved c =
+    let l = c.loop-view in
+    let h = l.invariant.1 in
+    let e = c.in-Some.ensures in
+    let r = c.in-Some.view in
+    let all = records_on c.args.trail in
+    let left = records_on l.rest in
+    let rest = records_on c.next.new.self in
+    let far = count_so_far (AreGatheredSo l.count l.out) all left rest (view_of r) e.next h in
+    let room : l.count < length l.out = omega (arith, far, h.holds.count_is, c.requires.room, l.auto.out) in (
+      e.leads,
+      gone_more (AreGatheredSo l.count l.out) (AreGatheredSo (l.count + 1) (set l.out l.count r)) all left rest
+          (view_of r) e.next h (gathered_more l.count r l.out h.gone room h.holds),
+    )
 
 pub returns-clause-records : goal.returns-clause-records
 returns-clause-records c =
-    let all : take c.loop-index.index c.args.views.now ≡ c.args.views.now =
-    take_all c.loop-index.index c.args.views.now (omega (arith, c.loop-index-test.false)) in
-    c.loop-index.invariant.records ∙ ap (λ (rs : List RecordView). channel_in c.args.codes.now (map view_of rs)) all
+    let l = c.loop-view in
+    (gone_all (AreGatheredSo l.count l.out) (records_on c.args.trail) (records_on l.rest) c.in_default.ensures.next.0
+    l.invariant.1).records
 
-pub returns-clause-inside : goal.returns-clause-inside
-returns-clause-inside c = c.loop-index.invariant.inside
+pub returns-clause-count : goal.returns-clause-count
+returns-clause-count c =
+    let l = c.loop-view in
+    (gone_all (AreGatheredSo l.count l.out) (records_on c.args.trail) (records_on l.rest) c.in_default.ensures.next.0
+    l.invariant.1).count_is

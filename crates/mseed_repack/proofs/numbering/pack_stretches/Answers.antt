@@ -1,4 +1,5 @@
-use Rattle.std.proofs.Common.{ℕ, ◌+◌, ◌<◌, ◌≤◌, List, length, map, get_or, arith, rules}
+use Rattle.std.proofs.Common.{ℕ, ◌+◌, ◌<◌, ◌≤◌, List, length, map, get_or, arith, refl, rules}
+use Rattle.std.proofs.lemmas.List.{length-map}
 use Rattle.mseed_record.specs.View.{View}
 use Rattle.mseed_record.specs.Viewing.{view_of}
 use Rattle.mseed_audit.specs.Follows.{IsSound}
@@ -14,32 +15,12 @@ use Rattle.mseed_repack.proofs.numbering.pack_stretches.Goals as goal
 pub loop-from-init : goal.loop-from-init
 loop-from-init g c = (
   packed_none c.args.options.now c.args.records.now (g.W.Sink.written c.args.output.now) c.args.options.now.numbered,
-  c.requires.lengths,
+  c.requires.cut.lengths_are,
 )
 
 pub bounds-lengths-number : goal.bounds-lengths-number
 bounds-lengths-number g c = (next_length c.args.lengths.now c.args.records.now c.loop-from.number c.loop-from.from
     c.loop-from-test.true c.loop-from.invariant.1).inside
-
-pub pack_stretch-requires-clause-some : goal.pack_stretch-requires-clause-some
-pack_stretch-requires-clause-some g c =
-    some_length c.args.lengths.now c.args.records.now c.loop-from.number c.loop-from.from
-    (next_length c.args.lengths.now c.args.records.now c.loop-from.number c.loop-from.from
-    c.loop-from-test.true c.loop-from.invariant.1)
-
-pub pack_stretch-requires-clause-sound : goal.pack_stretch-requires-clause-sound
-pack_stretch-requires-clause-sound g c =
-    each_cut IsSound c.args.records.now c.loop-from.from (get_or c.args.lengths.now c.loop-from.number 0)
-    c.requires.fits.sound
-
-pub pack_stretch-requires-clause-samples_fit : goal.pack_stretch-requires-clause-samples_fit
-pack_stretch-requires-clause-samples_fit g c =
-    let l = c.loop-from in
-    let next = next_length c.args.lengths.now c.args.records.now l.number l.from c.loop-from-test.true
-    l.invariant.1 in
-    let same = l.auto.samples in
-    room_cut c.args.records.now l.from (get_or c.args.lengths.now l.number 0) (length c.args.samples.now)
-    (length l.samples) l.invariant.0.done l.invariant.0.cut next.first c.requires.samples_fit (omega (arith, same))
 
 pub offset_bounds-lengths-number : goal.offset_bounds-lengths-number
 offset_bounds-lengths-number g c =
@@ -55,25 +36,34 @@ overflow_add-from g c =
     let next = next_length c.args.lengths.now rs l.number l.from c.loop-from-test.true l.invariant.1 in
     let n : ℕ = get_or c.args.lengths.now l.number 0 in
     let inside : l.from + n ≤ length rs = inside_next rs l.from n l.invariant.0.inside next.fits in
-    omega (arith, inside, c.requires.few)
+    let long = length-map rs view_of in
+    omega (arith, inside, long, c.requires.cut.few)
 
-pub pack_stretch-requires-clause-steps_fit : goal.pack_stretch-requires-clause-steps_fit
-pack_stretch-requires-clause-steps_fit g c =
-    let room : steps_of (map view_of c.args.records.now) ≤ length c.loop-from.steps =
-    omega (arith, c.requires.steps_fit, c.loop-from.auto.steps) in
-    steps_cut c.args.records.now c.loop-from.from (get_or c.args.lengths.now c.loop-from.number 0)
-    (length c.loop-from.steps) room
-
-pub pack_stretch-requires-clause-fits : goal.pack_stretch-requires-clause-fits
-pack_stretch-requires-clause-fits g c =
+pub pack_series-requires : goal.pack_series-requires
+pack_series-requires g c κs =
     let rs = c.args.records.now in
     let l = c.loop-from in
     let n : ℕ = get_or c.args.lengths.now l.number 0 in
     let next = next_length c.args.lengths.now rs l.number l.from c.loop-from-test.true l.invariant.1 in
-    cut_of (λ (s : List View). StretchFits l.next s) rs l.from n
-    (next_fits c.args.options.now rs l.from n l.next (g.W.Sink.written c.args.output.now)
-    (g.W.Sink.written l.output) c.requires.fits l.invariant.0
-    next.first)
+    let same = l.auto.samples in
+    let room : steps_of (map view_of rs) ≤ length l.steps = omega (arith, c.requires.cut.steps_fit, l.auto.steps) in (
+      (refl, tt),
+      (
+        record {
+          walks = record {
+            led = tt;
+            some = some_length c.args.lengths.now rs l.number l.from next;
+            sound = each_cut IsSound rs l.from n c.requires.fits.sound;
+          };
+          samples_fit = room_cut rs l.from n (length c.args.samples.now) (length l.samples) l.invariant.0.done
+              l.invariant.0.cut next.first c.requires.cut.samples_fit (omega (arith, same));
+          steps_fit = steps_cut rs l.from n (length l.steps) room;
+        },
+        cut_of (λ (s : List View). StretchFits l.next s) rs l.from n
+            (next_fits c.args.options.now rs l.from n l.next (g.W.Sink.written c.args.output.now)
+            (g.W.Sink.written l.output) c.requires.fits l.invariant.0 next.first),
+      ),
+    )
 
 pub returns-in-Err-clause-err : goal.returns-in-Err-clause-err
 returns-in-Err-clause-err g c =
@@ -82,7 +72,7 @@ returns-in-Err-clause-err g c =
     let n : ℕ = get_or c.args.lengths.now l.number 0 in
     let next = next_length c.args.lengths.now rs l.number l.from c.loop-from-test.true l.invariant.1 in
     let old = g.W.Sink.written l.output in
-    let new = g.W.Sink.written c.pack_stretch.new.output in
+    let new = g.W.Sink.written c.pack_series.new.output in
     part_packed c.args.options.now rs l.from n l.next (g.W.Sink.written c.args.output.now) old new l.invariant.0
     next.first
     (of_cut (λ (s : List View). Wrote (IsStretchPart l.next s) 1 old new) rs l.from n c.in-Err.ensures.err)
@@ -94,7 +84,7 @@ loop-from-preserved g c =
     let n : ℕ = get_or c.args.lengths.now l.number 0 in
     let next = next_length c.args.lengths.now rs l.number l.from c.loop-from-test.true l.invariant.1 in
     let old = g.W.Sink.written l.output in
-    let new = g.W.Sink.written c.pack_stretch.new.output in (
+    let new = g.W.Sink.written c.pack_series.new.output in (
       packed_more c.args.options.now rs l.from n c.in-Ok.written l.next c.numbered_on-next.result
           (g.W.Sink.written c.args.output.now) old new l.invariant.0 next.first next.fits
           (of_cut (λ (s : List View). Wrote (IsStretchText l.next s c.in-Ok.written) 0 old new) rs l.from n

@@ -5,4 +5,5 @@ use Rattle.mseed_repack.proofs.repacking.fit_all.Given as goal
 
 abbrev pub invariant-loop-number : goal.invariant-loop-number
 invariant-loop-number l =
-    All (λ (c : Channel). CanBePacked l.options (map view_of l.views) c.0) (take l.number l.channels)
+    All (λ (c : Channel). CanBePacked l.options (map view_of l.archive.views.now) c.0)
+    (take l.number l.archive.channels.now)

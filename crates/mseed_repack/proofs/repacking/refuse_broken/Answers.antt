@@ -1,8 +1,7 @@
 use Rattle.std.proofs.Common.{arith, map}
 use Rattle.mseed_record.specs.Viewing.{view_of}
 use Rattle.mseed_audit.specs.Follows.{IsContinuous}
-use Rattle.mseed_repack.specs.Repack.{AreContinuous, Channel, records_in}
-use Rattle.mseed_repack.proofs.Judged.{judged_each}
+use Rattle.mseed_repack.specs.Repack.{Channel, records_in}
 use Rattle.mseed_repack.proofs.Repacks.{all_passed, broken_at, continuous_next}
 use Rattle.mseed_repack.proofs.repacking.refuse_broken.Goals as goal
 
@@ -18,13 +17,7 @@ loop-channel-preserved c =
     c.channel-item.result c.is_continuous.result c.requires c.loop-channel-test.true c.channel-item.is
     c.is_continuous.ensures c.if-not-is_continuous.false c.loop-channel.invariant
 
-all-continuous : (c : goal.After-loop-channel) → AreContinuous (map view_of c.args.views.now) c.args.channels.now
-all-continuous c =
+pub returns-clause-ok : goal.returns-clause-ok
+returns-clause-ok c =
     all_passed (λ (d : Channel). IsContinuous (records_in (map view_of c.args.views.now) d.0)) c.args.channels.now
     c.loop-channel.channel-index (omega (arith, c.loop-channel-test.false)) c.loop-channel.invariant
-
-pub returns-clause-ok : goal.returns-clause-ok
-returns-clause-ok c = all-continuous c
-
-pub returns-clause-judged : goal.returns-clause-judged
-returns-clause-judged c = judged_each (map view_of c.args.views.now) c.args.channels.now c.requires (all-continuous c)

@@ -1,4 +1,4 @@
-use Rattle.std.proofs.Common.{◌≡◌, List, map, ap, ◌∙◌}
+use Rattle.std.proofs.Common.{◌≡◌, List, map, ap, arith, ◌∙◌}
 use Rattle.mseed_record.specs.View.{View}
 use Rattle.mseed_record.specs.Viewing.{view_of}
 use Rattle.mseed_stream.specs.Device.{BytesRead, BytesWritten}
@@ -29,9 +29,11 @@ returns-in_err-refuse_broken g c =
 pub repack_continuous-requires : goal.repack_continuous-requires
 repack_continuous-requires g c =
     let verdicts = rw (c.deref-2.ensures.value, ← c.as_slice-channels.ensures) at c.in_ok-verdicts.ensures.ok in
+    let few = c.in_ok-views.ensures.few in
     record {
-      judged = rw (c.deref-3.ensures.value, ← c.deref-4.ensures.value) at c.in_ok-refuse_broken.ensures.judged;
-      ascending = verdicts.ascending;
+      few = rw c.deref-4.ensures.value (omega (arith, few));
+      verdicts = rw c.deref-4.ensures.value verdicts;
+      continuous = rw (c.deref-3.ensures.value, ← c.deref-4.ensures.value) at c.in_ok-refuse_broken.ensures.ok;
     }
 
 pub returns : goal.returns

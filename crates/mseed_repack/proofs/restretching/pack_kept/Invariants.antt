@@ -6,5 +6,5 @@ use Rattle.mseed_repack.proofs.restretching.pack_kept.Given as goal
 
 abbrev pub invariant-loop-number : goal.invariant-loop-number
 invariant-loop-number g l =
-    Wrote (AreStretched l.options (map view_of l.views) (kept_of (take l.number l.channels)
+    Wrote (AreStretched l.options (map view_of l.archive.views.now) (kept_of (take l.number l.archive.channels.now)
     (take l.number l.standings))) 0 (g.W.Sink.written l.fn.output) (g.W.Sink.written l.output)

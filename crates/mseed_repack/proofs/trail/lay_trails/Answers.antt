@@ -1,39 +1,21 @@
-use Rattle.std.proofs.Common.{◌≡◌, ℕ, ◌+◌, ◌-◌, ◌<◌, length, subst, arith}
-use Rattle.mseed_repack.specs.private.Trails.{AreTrailsFrom}
-use Rattle.mseed_repack.proofs.Trails.{trails_none}
+use Rattle.std.proofs.Common.{◌≡◌, ◌++◌, List, ℕ, drop, length, rules, subst, sym, take}
+use Rattle.std.proofs.lemmas.List.{take_at}
+use Rattle.mseed_repack.specs.private.Trails.{AreLaid}
 use Rattle.mseed_repack.proofs.trail.lay_trails.Goals as goal
 
-pub loop-turn-init : goal.loop-turn-init
-loop-turn-init c = record {
-  trails = trails_none c.args.views.now c.args.channels.now c.args.firsts.now c.args.nexts.now
-      (length c.args.views.now - 0) (omega arith) c.requires.firsts c.requires.none;
-  firsts = c.requires.firsts;
-  nexts = c.requires.nexts;
-}
-
-pub loop-turn-preserved : goal.loop-turn-preserved
-loop-turn-preserved c =
-    let turn = c.loop-turn.turn in
-    let n = length c.args.views.now in
-    let index : ℕ = n - 1 - turn in
-    let before : n - turn ≡ index + 1 = omega (arith, c.loop-turn-test.true) in
-    let after : index ≡ n - (turn + 1) = omega (arith, c.loop-turn-test.true) in
-    let inside : index < n = omega (arith, c.loop-turn-test.true) in
-    let so_far = subst (λ (m : ℕ). AreTrailsFrom m c.args.views.now c.args.channels.now c.loop-turn.firsts
-    c.loop-turn.nexts) before c.loop-turn.invariant.trails in
-    record {
-      trails =
-          subst (λ (m : ℕ). AreTrailsFrom m c.args.views.now c.args.channels.now c.lead_to.new.firsts
-          c.lead_to.new.nexts) after
-          (c.lead_to.ensures.trails c.args.views.now inside c.index-views-index.is so_far);
-      firsts = omega (arith, c.lead_to.auto.firsts, c.loop-turn.invariant.firsts);
-      nexts = omega (arith, c.lead_to.auto.nexts, c.loop-turn.invariant.nexts);
-    }
-
+-- the lists are written back whole
 pub returns : goal.returns
-returns c =
-    let none : length c.args.views.now - c.loop-turn.turn ≡ 0 = omega (arith, c.loop-turn-test.false) in
-    record {
-      trails = subst (λ (m : ℕ). AreTrailsFrom m c.args.views.now c.args.channels.now c.loop-turn.firsts
-          c.loop-turn.nexts) none c.loop-turn.invariant.trails;
-    }
+returns g c =
+    let rs = c.args.views.now in
+    let cs = c.args.channels.now in
+    let firsts : List ℕ = c.lay.new.firsts in
+    let nexts : List ℕ = c.lay.new.nexts in
+    let further : List ℕ = drop (length nexts) c.in_ok-nexts.nexts.items in
+    let first_size : length firsts ≡ c.in_ok-firsts.firsts.len = search rules in
+    let next_size : length nexts ≡ c.in_ok-nexts.nexts.len = search rules in
+    let first_count : length firsts ≡ length cs = search rules in
+    let next_count : length nexts ≡ length rs = search rules in
+    subst (λ (ks : List ℕ). AreLaid rs cs ks (take c.in_ok-nexts.nexts.len (nexts ++ further)))
+    (sym (take_at firsts (drop (length firsts) c.in_ok-firsts.firsts.items) c.in_ok-firsts.firsts.len first_size))
+    (subst (λ (ks : List ℕ). AreLaid rs cs firsts ks) (sym (take_at nexts further c.in_ok-nexts.nexts.len next_size))
+    (record { trails = c.lay.ensures; firsts_count = first_count; nexts_count = next_count }))

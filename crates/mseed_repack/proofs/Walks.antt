@@ -1,0 +1,97 @@
+-- Records that a walk has gone over.
+use Rattle.std.proofs.Common.{◌≡◌, ℕ, ◌+◌, ◌≤◌, ℤ, List, [], ◌∷◌, ◌++◌, length, refl, sym, ap, subst, ◌∙◌, arith}
+use Rattle.std.proofs.Common.{append_assoc, append-nil, length-append, map, set, take, ◌<◌}
+use Rattle.std.specs.List.{AllByRecursion}
+use Rattle.std.proofs.lemmas.List.{map-append, take_more_set}
+use Rattle.mseed_time.specs.declared.outcome.LeapStep.{LeapStep}
+use Rattle.mseed_record.specs.View.{View}
+use Rattle.mseed_record.specs.Viewing.{view_of}
+use Rattle.mseed_record.specs.declared.view.RecordView.{RecordView}
+use Rattle.mseed_steim.specs.Reading.{count_of}
+use Rattle.mseed_repack.specs.private.Reading.{samples_of, step_count, steps_of}
+use Rattle.mseed_repack.specs.declared.outline.Nearness.{Nearness}
+use Rattle.mseed_repack.proofs.Outlines.{IsOutlined}
+use Rattle.mseed_repack.proofs.ReadChannels.{IsRead, samples_append, steps_append}
+
+-- something holds of the records before those that are left
+pub record IsGone (P : List View → Type 0) (all left : List View) : Type 0 where
+  pub gone : List View
+  pub parts : all ≡ gone ++ left
+  pub holds : P gone
+
+pub gone_none : (P : List View → Type 0) (all : List View) → P [] → IsGone P all all
+gone_none P all h = record { gone = []; parts = refl; holds = h }
+
+whole : (P : List View → Type 0) (all left rest : List View) (v : View) → left ≡ v ∷ rest → (h : IsGone P all left)
+    → all ≡ h.gone ++ v ∷ rest
+whole P all left rest v e h = h.parts ∙ ap (λ (vs : List View). h.gone ++ vs) e
+
+-- one more record
+pub gone_more : (P Q : List View → Type 0) (all left rest : List View) (v : View) → left ≡ v ∷ rest
+    → (h : IsGone P all left) → Q (h.gone ++ v ∷ []) → IsGone Q all rest
+gone_more P Q all left rest v e h next = record {
+  gone = h.gone ++ v ∷ [];
+  parts = whole P all left rest v e h ∙ sym (append_assoc h.gone (v ∷ []) rest);
+  holds = next;
+}
+
+-- none is left
+pub gone_all : (P : List View → Type 0) (all left : List View) → left ≡ [] → IsGone P all left → P all
+gone_all P all left e h =
+    subst P (sym (h.parts ∙ ap (λ (vs : List View). h.gone ++ vs) e ∙ append-nil h.gone)) h.holds
+
+-- what holds of each holds of the next one
+pub next_of : (Q : View → Type 0) (P : List View → Type 0) (all left rest : List View) (v : View) → left ≡ v ∷ rest
+    → IsGone P all left → AllByRecursion Q all → Q v
+next_of Q P all left rest v e h every =
+    behind h.gone (subst (λ (vs : List View). AllByRecursion Q vs) (whole P all left rest v e h) every)
+  where
+    behind : (us : List View) → AllByRecursion Q (us ++ v ∷ rest) → Q v
+    behind [] each = each.0
+    behind (u ∷ us) each = behind us each.1
+
+-- those before it and itself have no more samples, and bear no more leap seconds, than all have
+pub samples_so_far : (P : List View → Type 0) (all left rest : List View) (v : View) → left ≡ v ∷ rest
+    → (h : IsGone P all left) → samples_of h.gone + count_of v ≤ samples_of all
+samples_so_far P all left rest v e h =
+    let sum : samples_of all ≡ samples_of h.gone + samples_of (v ∷ rest) =
+    ap samples_of (whole P all left rest v e h) ∙ samples_append h.gone (v ∷ rest) in
+    omega (arith, sum)
+
+pub steps_so_far : (P : List View → Type 0) (all left rest : List View) (v : View) → left ≡ v ∷ rest
+    → (h : IsGone P all left) → steps_of h.gone + step_count v ≤ steps_of all
+steps_so_far P all left rest v e h =
+    let sum : steps_of all ≡ steps_of h.gone + steps_of (v ∷ rest) =
+    ap steps_of (whole P all left rest v e h) ∙ steps_append h.gone (v ∷ rest) in
+    omega (arith, sum)
+
+pub count_so_far : (P : List View → Type 0) (all left rest : List View) (v : View) → left ≡ v ∷ rest
+    → (h : IsGone P all left) → length h.gone + 1 ≤ length all
+count_so_far P all left rest v e h =
+    let sum : length all ≡ length h.gone + length (v ∷ rest) =
+    ap (λ (vs : List View). length vs) (whole P all left rest v e h) ∙ length-append h.gone (v ∷ rest) in
+    omega (arith, sum)
+
+-- what is read, and what is known, of the records that were gone over, whatever their key is
+abbrev pub AreReadSo : ℕ → ℕ → List ℤ → List (ℕ × LeapStep) → List View → Type 0
+AreReadSo m k samples steps vs = (key : List ℕ) → IsRead key vs m k samples steps
+
+abbrev pub AreOutlinedSo : ℕ → ℕ → Nearness → List (ℕ × LeapStep) → List View → Type 0
+AreOutlinedSo m k nearness steps vs = (key : List ℕ) → IsOutlined key vs m k nearness steps
+
+-- they were put into a list
+pub record AreGatheredSo (count : ℕ) (out : List RecordView) (vs : List View) : Type 0 where
+  pub records : map view_of (take count out) ≡ vs
+  pub count_is : count ≡ length vs
+
+pub gathered_none : (out : List RecordView) → AreGatheredSo 0 out []
+gathered_none out = record { records = refl; count_is = refl }
+
+pub gathered_more : (count : ℕ) (r : RecordView) (out : List RecordView) (vs : List View) → count < length out
+    → AreGatheredSo count out vs → AreGatheredSo (count + 1) (set out count r) (vs ++ view_of r ∷ [])
+gathered_more count r out vs room h = record {
+  records = ap (λ (qs : List RecordView). map view_of qs) (take_more_set out count r room)
+      ∙ map-append view_of (take count out) (r ∷ [])
+      ∙ ap (λ (us : List View). us ++ view_of r ∷ []) h.records;
+  count_is = let long = length-append vs (view_of r ∷ []) in omega (arith, long, h.count_is);
+}

@@ -1,0 +1,55 @@
+-- An archive, its channels, and where the records of each stand.
+use Rattle.std.specs.Prelude.{◌≡◌, ℕ, ◌≤◌, ◌^◌, List, length, map, drop, slice_index_or, All}
+use Rattle.mseed_record.specs.View.{View}
+use Rattle.mseed_record.specs.Viewing.{view_of}
+use Rattle.mseed_audit.specs.Channels.{added_from}
+use Rattle.mseed_audit.specs.Verdict.{AreVerdicts}
+use Rattle.mseed_repack.specs.private.Reading.{channel_in, samples_written, steps_of}
+use Rattle.mseed_repack.specs.private.Trails.{AreLaid, AreNexts, IsOfAt}
+use Rattle.mseed_repack.specs.Repack.{AreContinuous, Channel, records_in}
+use Rattle.mseed_repack.specs.declared.archive.Archive.{Archive}
+use Rattle.mseed_repack.specs.declared.archive.Trail.{Trail}
+
+-- the channels and the verdicts on them are those of the records, and the trails are laid
+pub record IsAudited (a : Archive) : Type 0 where
+  pub few : length a.views.now ≤ 2 ^ 40
+  pub verdicts : AreVerdicts (added_from 0 (map view_of a.views.now)) a.channels.now
+  pub laid : AreLaid a.views.now a.channels.now a.firsts.now a.nexts.now
+
+-- the records of a channel from an index on
+abbrev pub records_on : Trail → List View
+records_on t = channel_in t.codes.now (map view_of (drop t.index t.views.now))
+
+-- the record at the index is of the channel, and the next ones stand behind it
+pub record IsLed (t : Trail) : Type 0 where
+  pub of : IsOfAt t.codes.now t.views.now t.index
+  pub nexts_are : AreNexts t.codes.now t.views.now t.index t.nexts.now
+  pub nexts_count : length t.nexts.now ≡ length t.views.now
+
+-- the records are those of the archive's channel with this number
+pub record IsTrailOf (a : Archive) (number : ℕ) (t : Trail) : Type 0 where
+  pub channel : Channel
+  pub at : channel ≡ slice_index_or a.channels.now number channel
+  pub codes_are : t.codes.now ≡ channel.0
+  pub led : IsLed t
+  pub records_are : records_on t ≡ records_in (map view_of a.views.now) channel.0
+
+-- each channel is continuous, and there is room for so many samples of one, and for so many leap seconds
+pub record HasRoomForSeries (a : Archive) (room places : ℕ) : Type 0 where
+  pub audited : IsAudited a
+  pub continuous : AreContinuous (map view_of a.views.now) a.channels.now
+  pub samples_fit : All (λ c. samples_written c.1 ≤ room) a.channels.now
+  pub steps_fit : steps_of (map view_of a.views.now) ≤ places
+
+-- there is room for so many records, and for so many leap seconds
+pub record HasRoomForRecords (a : Archive) (room places : ℕ) : Type 0 where
+  pub audited : IsAudited a
+  pub records_fit : length a.views.now ≤ room
+  pub steps_fit : steps_of (map view_of a.views.now) ≤ places
+
+-- the same of the records of one channel
+pub record HasRoomForTrail (t : Trail) (room places : ℕ) : Type 0 where
+  pub led : IsLed t
+  pub few : length (records_on t) ≤ 2 ^ 40
+  pub records_fit : length (records_on t) ≤ room
+  pub steps_fit : steps_of (records_on t) ≤ places

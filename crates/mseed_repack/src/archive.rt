@@ -1,0 +1,59 @@
+//! An archive: its records, its channels, and where the records of each channel stand.
+ghost use Rattle.std.specs.Prelude.{◌<◌, length};
+ghost use Rattle.mseed_repack.specs.private.Archives.{IsAudited, IsLed, IsTrailOf, records_on};
+
+use crate::walk::Walk;
+use mseed_audit::Verdict;
+use mseed_record::{Codes, RecordView};
+
+/// The records of an archive, its channels with what the audit says of each, and the trails of these: where the first
+/// record of each channel stands, and behind each record with samples the next one of its channel.
+#[derive(Clone, Copy)]
+pub(crate) struct Archive<'r, 'a> {
+    pub(crate) views: &'r [RecordView<'a>],
+    pub(crate) channels: &'r [(Codes, Verdict)],
+    pub(crate) firsts: &'r [usize],
+    pub(crate) nexts: &'r [usize],
+}
+
+impl<'r, 'a> Archive<'r, 'a> {
+    /// The records of the channel with this number.
+    pub(crate) fn trail(&self, number: usize) -> Trail<'r, 'a>
+        requires audited { IsAudited self.now }
+        requires inside { number < length self.now.channels.now }
+        ensures { IsTrailOf self.now number result }
+    {
+        let channels = self.channels;
+        let channel = &channels[number];
+        Trail {
+            codes: &channel.0,
+            views: self.views,
+            nexts: self.nexts,
+            index: self.firsts[number],
+        }
+    }
+}
+
+/// The records of one channel of an archive, from an index on.
+#[derive(Clone, Copy)]
+pub(crate) struct Trail<'r, 'a> {
+    pub(crate) codes: &'r Codes,
+    pub(crate) views: &'r [RecordView<'a>],
+    pub(crate) nexts: &'r [usize],
+    pub(crate) index: usize,
+}
+
+impl<'r, 'a> Walk<'a> for Trail<'r, 'a> {
+    ghost left = { records_on };
+
+    ghost leads = { IsLed };
+
+    fn next(&mut self) -> Option<RecordView<'a>> {
+        if self.index >= self.views.len() {
+            return None;
+        }
+        let view = self.views[self.index];
+        self.index = self.nexts[self.index];
+        Some(view)
+    }
+}

@@ -1,0 +1,44 @@
+//! Records that are gone over one after another.
+ghost use Rattle.std.specs.Prelude.{List, drop, map};
+ghost use Rattle.std.specs.Iterator.{YieldsFirstBy};
+ghost use Rattle.mseed_record.specs.View.{View};
+ghost use Rattle.mseed_record.specs.Viewing.{view_of};
+
+use mseed_record::RecordView;
+
+/// Records that are gone over in their order, and again from each copy.
+pub(crate) trait Walk<'a>: Copy {
+    /// Those that are left.
+    ghost left: { Self → List View };
+
+    /// It leads from each to the next.
+    ghost leads: { Self → Type 0 };
+
+    /// The next record, where one is left.
+    fn next(&mut self) -> Option<RecordView<'a>>
+        requires { leads self.old }
+        ensures leads { leads self.new }
+        ensures next { YieldsFirstBy view_of left self.old result self.new };
+}
+
+/// Records that stand one behind another, from an index on.
+#[derive(Clone, Copy)]
+pub(crate) struct Row<'r, 'a> {
+    pub(crate) records: &'r [RecordView<'a>],
+    pub(crate) index: usize,
+}
+
+impl<'r, 'a> Walk<'a> for Row<'r, 'a> {
+    ghost left = { λ s. map view_of (drop s.index s.records.now) };
+
+    ghost leads = { λ s. Unit {0} };
+
+    fn next(&mut self) -> Option<RecordView<'a>> {
+        if self.index >= self.records.len() {
+            return None;
+        }
+        let view = self.records[self.index];
+        self.index += 1;
+        Some(view)
+    }
+}
