@@ -1,6 +1,5 @@
 -- The rings of a feed before its first record.
-use Rattle.std.proofs.Common.{◌≡◌, ◌<◌, ◌≤◌, ◌^◌, [], ◌∷◌, List, map, arith}
-use Rattle.std.specs.List.{AllByRecursion}
+use Rattle.std.proofs.Common.{◌<◌, ◌^◌, [], ◌∷◌, List, map, arith}
 use Rattle.slink_wire.specs.Place.{Fields}
 use Rattle.mseed.specs.Filling.{ring_of}
 use Rattle.mseed.specs.Live.{CanNumber}

@@ -16,6 +16,7 @@ mod host_words;
 mod listing;
 mod live;
 mod numbers;
+mod options;
 mod outcome;
 mod places;
 mod planning;

@@ -1,4 +1,4 @@
-use Rattle.std.proofs.Common.{◌≡◌, ℕ, List, subst, sym}
+use Rattle.std.proofs.Common.{ℕ, List, subst, sym}
 use Rattle.slink_live.specs.Input.{IsInputFault, places_of}
 use Rattle.mseed_stream.specs.Telling.{Tells}
 use Rattle.mseed.specs.Plans.{fill_text}
