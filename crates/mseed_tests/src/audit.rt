@@ -3,10 +3,9 @@
 mod assembling;
 mod auditing;
 mod cutting;
-mod devices;
+pub(crate) mod devices;
 mod framing;
 mod keeping;
-mod records;
 mod telling;
 mod times;
 mod writing;

@@ -10,14 +10,14 @@ use mseed_join::{
     HEADER, push_channel_line, push_counts_line, push_faults_line, read_channel_line,
     read_counts_line, read_fault_line, read_faults_line,
 };
-use mseed_record::{Codes, FrameFault, Leap};
-use mseed_stream::StreamFault;
+use mseed_record::{Codes, Leap};
 use mseed_time::{Micros, Ratio};
+use std::alloc::{AllocError, Global};
 use std::process::Abort;
 use std::test::Fail;
 
 /// A channel of a record, and the same with one that begins 25,001 microseconds late behind it.
-const LINES: [&str; 2] = [
+static LINES: [&str; 2] = [
     "58585354412020202042485A records 1 samples 16 head 1 0 1704067200000000 20/1 \
         tail 1704067200000000 16 20/1 none findings 0\n",
     "58585354412020202042485A records 2 samples 32 head 1 0 1704067200000000 20/1 \
@@ -25,7 +25,7 @@ const LINES: [&str; 2] = [
 ];
 
 /// Each way to write a field.
-const FIELDS: [&str; 19] = [
+static FIELDS: [&str; 19] = [
     "head none tail none findings 9223372036854775807 first 9223372036854775807 9223372036854775807 time year",
     "head none tail none findings 1 first 1 0 time day",
     "head none tail none findings 1 first 1 0 time hour",
@@ -48,7 +48,7 @@ const FIELDS: [&str; 19] = [
 ];
 
 /// What comes behind a key and the counts, and is no channel's line.
-const REFUSED: [&str; 27] = [
+static REFUSED: [&str; 27] = [
     "head none tail none findings 0",
     "head 1 0 0 20/1 tail none findings 0",
     "head none tail 0 16 20/1 none findings 0",
@@ -79,7 +79,7 @@ const REFUSED: [&str; 27] = [
 ];
 
 /// The lines of faults behind 128 bytes.
-const FAULTS: [&str; 10] = [
+static FAULTS: [&str; 10] = [
     "fault at 128 notdata\n",
     "fault at 128 order\n",
     "fault at 128 chain\n",
@@ -93,7 +93,7 @@ const FAULTS: [&str; 10] = [
 ];
 
 /// What is no line of a fault behind 128 bytes.
-const NO_FAULTS: [&str; 6] = [
+static NO_FAULTS: [&str; 6] = [
     "fault at 127 read\n",
     "fault at 0128 read\n",
     "fault at 128 read",
@@ -103,11 +103,12 @@ const NO_FAULTS: [&str; 6] = [
 ];
 
 /// The line of a channel with these fields.
-fn line_with(text: &mut Vec<u8>, fields: &str) -> Result<(), Fail> {
-    text.extend_from_slice(b"000A1F20FF30390941465F7E records 12 samples 345 ")?;
-    text.extend_from_slice(fields.as_bytes())?;
-    text.extend_from_slice(b"\n")?;
-    Ok(())
+fn line_with(alloc: Global, fields: &str) -> Result<Vec<u8>, AllocError> {
+    let mut line = Vec::new(alloc);
+    line.extend_from_slice(b"000A1F20FF30390941465F7E records 12 samples 345 ")?;
+    line.extend_from_slice(fields.as_bytes())?;
+    line.push(b'\n')?;
+    Ok(line)
 }
 
 /// The beginning of the channel of both lines.
@@ -160,69 +161,80 @@ fn two(start: Micros, late: Micros, rate: Ratio) -> Channel {
     }
 }
 
+/// Whether the line of a channel is that of the first instant of 2024 and 20 samples a second, and reads so.
+fn is_read(line: &str, wanted: Channel) -> bool {
+    match read_channel_line(line.as_bytes()) {
+        Some((codes, channel)) => codes == Codes::of_key(*b"XXSTA    BHZ") && channel == wanted,
+        None => false,
+    }
+}
+
 #[test]
 fn reads_rows(rt: HostRuntime) {
     let start = Micros::new(1_704_067_200_000_000).expect(&rt, "an instant");
     let late = Micros::new(1_704_067_200_825_001).expect(&rt, "an instant");
     let rate = Ratio::new(20, 1).expect(&rt, "a rate");
-    let codes = Codes::of_key(*b"XXSTA    BHZ");
-    let one = one(start, rate);
-    let two = two(start, late, rate);
-    assert_eq!(rt; read_channel_line(LINES[0].as_bytes()), Some((codes, one)));
-    assert_eq!(rt; read_channel_line(LINES[1].as_bytes()), Some((codes, two)));
-    assert_eq!(rt; read_counts_line(b"records 2 bytes 256\n"), Some((2, 256)));
-    assert_eq!(rt; read_faults_line(b"faults 3\n"), Some(3));
-    assert_eq!(rt; HEADER, b"mseed part 1\n".as_slice());
+    assert!(rt; is_read(LINES[0], one(start, rate)));
+    assert!(rt; is_read(LINES[1], two(start, late, rate)));
+    assert!(rt; read_counts_line(b"records 2 bytes 256\n") == Some((2, 256)));
+    assert!(rt; read_faults_line(b"faults 3\n") == Some(3));
+    assert!(rt; HEADER == b"mseed part 1\n".as_slice());
+}
+
+/// Whether what is read of a channel's line is written as it was.
+fn is_written_again(alloc: Global, line: &[u8]) -> Result<bool, AllocError> {
+    let mut text = Vec::new(alloc);
+    match read_channel_line(line) {
+        Some((codes, channel)) => push_channel_line(&mut text, &codes, &channel)?,
+        None => return Ok(false),
+    }
+    Ok(text.as_slice() == line)
+}
+
+/// Whether what is read of a fault's line is written as it was.
+fn is_fault_written_again(alloc: Global, line: &[u8]) -> Result<bool, AllocError> {
+    let mut text = Vec::new(alloc);
+    match read_fault_line(line, 128) {
+        Some(fault) => push_fault_line(&mut text, &fault)?,
+        None => return Ok(false),
+    }
+    Ok(text.as_slice() == line)
+}
+
+/// The lines of counts, of no faults and of three.
+fn counts(alloc: Global) -> Result<Vec<u8>, AllocError> {
+    let mut text = Vec::new(alloc);
+    push_counts_line(&mut text, 2, 256)?;
+    push_faults_line(&mut text, 0)?;
+    push_faults_line(&mut text, 3)?;
+    Ok(text)
 }
 
 #[test]
 fn writes_what_it_reads(rt: HostRuntime) -> Result<(), Fail> {
-    let mut line = Vec::new(rt.alloc());
-    let mut text = Vec::new(rt.alloc());
-    for (row, fields) in FIELDS.iter().enumerate() {
-        line.clear();
-        line_with(&mut line, fields)?;
-        text.clear();
-        let read = read_channel_line(&line);
-        assert!(rt; read.is_some(), "row {row}");
-        if let Some((codes, channel)) = read {
-            push_channel_line(&mut text, &codes, &channel)?;
-        }
-        assert_eq!(rt; text.as_slice(), line.as_slice(), "row {row}");
+    for fields in &FIELDS {
+        let line = line_with(rt.alloc(), fields)?;
+        assert!(rt; is_written_again(rt.alloc(), &line)?, "{fields}");
     }
-    for (row, fault) in FAULTS.iter().enumerate() {
-        text.clear();
-        let read = read_fault_line(fault.as_bytes(), 128);
-        assert!(rt; read.is_some(), "row {row}");
-        if let Some(fault) = read {
-            push_fault_line(&mut text, &fault)?;
-        }
-        assert_eq!(rt; text.as_slice(), fault.as_bytes(), "row {row}");
+    for fault in &FAULTS {
+        assert!(rt;
+            is_fault_written_again(rt.alloc(), fault.as_bytes())?,
+            "{fault}"
+        );
     }
-    text.clear();
-    push_counts_line(&mut text, 2, 256)?;
-    push_faults_line(&mut text, 0)?;
-    push_faults_line(&mut text, 3)?;
-    assert_eq!(rt;
-        text.as_slice(),
-        b"records 2 bytes 256\nfaults 3\n".as_slice()
-    );
+    let text = counts(rt.alloc())?;
+    assert!(rt; text.as_slice() == b"records 2 bytes 256\nfaults 3\n".as_slice());
     Ok(())
 }
 
 #[test]
 fn refuses_other_texts(rt: HostRuntime) -> Result<(), Fail> {
-    let mut line = Vec::new(rt.alloc());
-    for (row, fields) in REFUSED.iter().enumerate() {
-        line.clear();
-        line_with(&mut line, fields)?;
-        assert!(rt; read_channel_line(&line).is_none(), "row {row}");
+    for fields in &REFUSED {
+        let line = line_with(rt.alloc(), fields)?;
+        assert!(rt; read_channel_line(&line).is_none(), "{fields}");
     }
-    for (row, text) in NO_FAULTS.iter().enumerate() {
-        assert!(rt;
-            read_fault_line(text.as_bytes(), 128).is_none(),
-            "row {row}"
-        );
+    for text in &NO_FAULTS {
+        assert!(rt; read_fault_line(text.as_bytes(), 128).is_none(), "{text}");
     }
     let whole = LINES[0].as_bytes();
     for end in 0..whole.len() {
@@ -234,26 +246,26 @@ fn refuses_other_texts(rt: HostRuntime) -> Result<(), Fail> {
     Ok(())
 }
 
+/// Writes the second line with the memory of a heap, and says whether it was enough. Where it wasn't, a prefix is
+/// written.
+fn is_enough(rt: &impl Abort, heap: &LocalHeap, codes: &Codes, channel: &Channel) -> bool {
+    let mut text = Vec::new(heap);
+    let is_whole = push_channel_line(&mut text, codes, channel).is_ok();
+    let line = LINES[1].as_bytes();
+    assert!(rt; line.starts_with(&text) && (!is_whole || text.len() == line.len()));
+    is_whole
+}
+
 #[test]
 fn refuses_memory(rt: HostRuntime) -> Result<(), Fail> {
-    let read = read_channel_line(LINES[1].as_bytes());
-    assert!(rt; read.is_some());
-    let Some((codes, channel)) = read else {
-        return Ok(());
-    };
-    let mut written = false;
-    let mut refused = false;
+    let (codes, channel) = read_channel_line(LINES[1].as_bytes()).ok_or("no channel")?;
+    let mut written = 0usize;
     for size in 1..=64 {
         let heap = LocalHeap::new(rt.alloc(), size * 16)?;
-        let mut text = Vec::new(&heap);
-        if push_channel_line(&mut text, &codes, &channel).is_ok() {
-            written = true;
-            assert_eq!(rt; text.as_slice(), LINES[1].as_bytes(), "{size}");
-        } else {
-            refused = true;
-            assert!(rt; LINES[1].as_bytes().starts_with(&text), "{size}");
+        if is_enough(&rt, &heap, &codes, &channel) {
+            written = written.saturating_add(1);
         }
     }
-    assert!(rt; written && refused);
+    assert!(rt; 0 < written && written < 64);
     Ok(())
 }

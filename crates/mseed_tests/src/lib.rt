@@ -9,6 +9,8 @@ mod join;
 #[cfg(test)]
 mod parts;
 #[cfg(test)]
+mod records;
+#[cfg(test)]
 mod repack;
 #[cfg(test)]
 mod steim;

@@ -3,11 +3,18 @@ use mseed_audit::{Channel, Finding, Findings, Head, Tail, Why};
 use mseed_parts::{JoinFault, Part};
 use mseed_record::{Codes, Leap};
 use mseed_time::{Micros, Ratio};
+use std::alloc::Global;
 use std::process::Abort;
 
 const BHZ: [u8; 12] = *b"XXSTA    BHZ";
 
 const BHN: [u8; 12] = *b"XXSTA    BHN";
+
+/// When the first archive begins.
+const FIRST_START: i64 = 1_704_067_200_000_000;
+
+/// And the second.
+const SECOND_START: i64 = 1_704_067_200_825_001;
 
 /// What begins an archive with one record of 16 samples at 20 a second.
 fn head(rt: &impl Abort, start: i64) -> Head {
@@ -30,6 +37,7 @@ fn tail(rt: &impl Abort, start: i64) -> Tail {
     }
 }
 
+/// The channel of one record.
 fn alone(rt: &impl Abort, start: i64) -> Channel {
     Channel {
         records: 1,
@@ -41,47 +49,62 @@ fn alone(rt: &impl Abort, start: i64) -> Channel {
     }
 }
 
-#[test]
-fn joins_two_parts(rt: HostRuntime) {
-    let starts = (1_704_067_200_000_000, 1_704_067_200_825_001);
-    let codes = Codes::of_key(BHZ);
-    let mut first = Part::new(rt.alloc());
-    let mut second = Part::new(rt.alloc());
-    assert_eq!(rt; first.add_channel(codes, &alone(&rt, starts.0)), Ok(None));
-    assert_eq!(rt; second.add_channel(codes, &alone(&rt, starts.1)), Ok(None));
-    assert_eq!(rt;
-        second.add_channel(Codes::of_key(BHN), &alone(&rt, starts.1)),
-        Ok(None)
-    );
-    assert_eq!(rt; first.add_counts(1, 128), Ok(()));
-    assert_eq!(rt; first.add_counts(u64::MAX >> 1, 0), Err(JoinFault::Limit));
-    assert_eq!(rt; second.add_counts(2, 256), Ok(()));
-    let found = Finding {
-        number: 2,
-        offset: 128,
-        why: Why::Gap(25_001),
-    };
-    let wanted = Channel {
+/// The channel of both.
+fn both(rt: &impl Abort) -> Channel {
+    Channel {
         records: 2,
         samples: 32,
         findings: Findings::Counted {
             count: 1,
-            first: found,
-            head: Some(head(&rt, starts.0)),
-            tail: Some(tail(&rt, starts.1)),
+            first: Finding {
+                number: 2,
+                offset: 128,
+                why: Why::Gap(25_001),
+            },
+            head: Some(head(rt, FIRST_START)),
+            tail: Some(tail(rt, SECOND_START)),
         },
-    };
-    match first.join(&second) {
-        Ok(part) => {
-            assert_eq!(rt; (part.records(), part.bytes()), (3, 384));
-            match part.into_channels(rt.alloc()) {
-                Ok(channels) => {
-                    assert_eq!(rt; channels.len(), 2);
-                    assert_eq!(rt; channels.get(1), Some(&(codes, wanted)));
-                }
-                Err(_) => assert!(rt; false),
-            }
-        }
-        Err(_) => assert!(rt; false),
     }
+}
+
+/// Adds a channel of one record, which there is room for.
+fn add(rt: &impl Abort, part: &mut Part, key: [u8; 12], start: i64) {
+    assert!(rt; part.add_channel(Codes::of_key(key), &alone(rt, start)) == Ok(None));
+}
+
+/// The part of the first archive.
+fn first_part(rt: &impl Abort, alloc: Global) -> Part {
+    let mut part = Part::new(alloc);
+    add(rt, &mut part, BHZ, FIRST_START);
+    assert!(rt; part.add_counts(1, 128) == Ok(()));
+    assert!(rt; part.add_counts(u64::MAX >> 1, 0) == Err(JoinFault::Limit));
+    part
+}
+
+/// That of the second, which has another channel too.
+fn second_part(rt: &impl Abort, alloc: Global) -> Part {
+    let mut part = Part::new(alloc);
+    add(rt, &mut part, BHZ, SECOND_START);
+    add(rt, &mut part, BHN, SECOND_START);
+    assert!(rt; part.add_counts(2, 256) == Ok(()));
+    part
+}
+
+/// Whether the second of two channels is the one of both records.
+fn are_joined(channels: &[(Codes, Channel)], wanted: Channel) -> bool {
+    match channels {
+        [_, (codes, channel)] => *codes == Codes::of_key(BHZ) && *channel == wanted,
+        _ => false,
+    }
+}
+
+#[test]
+fn joins_two_parts(rt: HostRuntime) {
+    let first = first_part(&rt, rt.alloc());
+    let part = first
+        .join(&second_part(&rt, rt.alloc()))
+        .expect(&rt, "a part");
+    assert!(rt; part.records() == 3 && part.bytes() == 384);
+    let channels = part.into_channels(rt.alloc()).expect(&rt, "memory");
+    assert!(rt; are_joined(&channels, both(&rt)));
 }

@@ -1,105 +1,106 @@
 //! A channel whose clock drifts, and which has a gap, packed anew by its stretches; and an archive with a log.
+ghost use Rattle.std.specs.Prelude.{◌≤◌, ◌^◌, length};
+
+use crate::records::{change, put, view, with};
 use mseed_pack::Options;
 use mseed_record::RecordView;
 use mseed_repack::{ChannelFault, Left, repack_channel, repack_stretches};
 use mseed_stream::Counted;
+use std::alloc::Global;
 use std::process::Abort;
 
-/// 16 samples at 20 a second from the first instant of 2024, of the channel XX_STA__BHZ.
-const FIRST: [u8; 128] = [
-    57, 57, 57, 57, 57, 57, 68, 32, // the sequence number, the quality and the reserved byte
-    83, 84, 65, 32, 32, 32, 32, 66, 72, 90, 88, 88, // station, location, channel and network
-    7, 232, 0, 1, 0, 0, 0, 0, 0, 0, // the start
-    0, 16, 0, 20, 0, 1, // the samples, the factor and the multiplier
-    0, 0, 0, 2, 0, 0, 0, 0, 0, 64, 0, 48, // flags, blockettes, correction, and where things stand
-    3, 232, 0, 56, 3, 1, 7, 0, // blockette 1000
-    3, 233, 0, 0, 0, 0, 0, 0, // blockette 1001
-    0, 0, 0, 0, 0, 0, 0, 1, 0, 0, 0, 2, 0, 0, 0, 3, 0, 0, 0, 4, 0, 0, 0, 5, 0, 0, 0, 6, 0, 0, 0, 7,
-    0, 0, 0, 8, 0, 0, 0, 9, 0, 0, 0, 10, 0, 0, 0, 11, 0, 0, 0, 12, 0, 0, 0, 13, 0, 0, 0, 14, 0, 0,
-    0, 15,
-];
-
-/// The first record with other bytes at some offsets.
-fn with(parts: &[(usize, &[u8])]) -> [u8; 128] {
-    let mut record = FIRST;
-    for (offset, bytes) in parts {
-        for (byte, new) in record.iter_mut().skip(*offset).zip(*bytes) {
-            *byte = *new;
-        }
-    }
+/// The first record by its last number, with other bytes at some offsets.
+fn numbered(parts: &[(usize, &[u8])]) -> [u8; 128] {
+    let mut record = with(&[(0, b"999999")]);
+    change(&mut record, parts);
     record
 }
 
-fn view<'a>(rt: &impl Abort, bytes: &'a [u8]) -> RecordView<'a> {
-    RecordView::of(bytes).expect(rt, "a record")
+/// Three records, one behind another.
+fn three(first: &[u8; 128], second: &[u8; 128], third: &[u8; 128]) -> [u8; 384] {
+    let mut bytes = [0; 384];
+    put(&mut bytes, 0, first);
+    put(&mut bytes, 128, second);
+    put(&mut bytes, 256, third);
+    bytes
+}
+
+/// Packs the records of a channel anew from this number on. Answers how that went, and what is written.
+fn repacked(
+    rt: &impl Abort,
+    alloc: Global,
+    records: &[RecordView],
+    number: u32,
+) -> (Result<(), ChannelFault>, Vec<u8>)
+    requires { length records.now ≤ 2 ^ 40 }
+{
+    let options = Options::new(7, 3, number).expect(rt, "options");
+    let mut output = Counted::new(Vec::new(alloc));
+    let answer = repack_channel(alloc, records, &options, &mut output);
+    (answer, output.into_inner())
 }
 
 #[test]
 fn packs_a_channel_by_its_stretches(rt: HostRuntime) {
+    let first = numbered(&[]);
     // 10 ms late, less than the 12.5 ms of a quarter of a period; and 8.4 s late.
-    let drifted = with(&[(28, &[31, 164])]);
-    let apart = with(&[(26, &[10])]);
-    let records = [view(&rt, &FIRST), view(&rt, &drifted), view(&rt, &apart)];
-    let options = Options::new(7, 3, 999_999).expect(&rt, "options");
-    let mut output = Counted::new(Vec::new(rt.alloc()));
-    assert_eq!(rt;
-        repack_channel(rt.alloc(), &records, &options, &mut output),
-        Ok(())
-    );
+    let drifted = numbered(&[(28, &[31, 164])]);
+    let apart = numbered(&[(26, &[10])]);
+    let records = [view(&rt, &first), view(&rt, &drifted), view(&rt, &apart)];
+    let (answer, packed) = repacked(&rt, rt.alloc(), &records, 999_999);
+    assert!(rt; answer == Ok(()));
     // The second record is written by the clock of the first, the third by its own, and the numbers run on.
     let second = with(&[(0, b"000000"), (28, &[31, 64])]);
     let third = with(&[(0, b"000001"), (26, &[10])]);
-    let mut wanted = [0; 384];
-    wanted[..128].copy_from_slice(&FIRST);
-    wanted[128..256].copy_from_slice(&second);
-    wanted[256..].copy_from_slice(&third);
-    let packed = output.into_inner();
-    assert_eq!(rt; packed.as_slice(), wanted.as_slice());
+    assert!(rt; packed.as_slice() == three(&first, &second, &third).as_slice());
+}
+
+/// Whether a channel of the first record and these bytes is broken, and nothing is written of it.
+fn is_broken(rt: &impl Abort, alloc: Global, bytes: &[u8; 128]) -> bool {
+    let first = numbered(&[]);
+    let records = [view(rt, &first), view(rt, bytes)];
+    let (answer, packed) = repacked(rt, alloc, &records, 1);
+    answer == Err(ChannelFault::Broken) && packed.is_empty()
 }
 
 #[test]
 fn refuses_what_is_not_sound(rt: HostRuntime) {
-    // No samples; and doubles (encoding 5), which aren't read.
-    for bytes in [with(&[(30, &[0, 0])]), with(&[(52, &[5])])] {
-        let records = [view(&rt, &FIRST), view(&rt, &bytes)];
-        let options = Options::new(7, 3, 1).expect(&rt, "options");
-        let mut output = Counted::new(Vec::new(rt.alloc()));
-        let answer = repack_channel(rt.alloc(), &records, &options, &mut output);
-        assert_eq!(rt; answer, Err(ChannelFault::Broken));
-        assert_eq!(rt; output.into_inner().len(), 0);
-    }
+    assert!(rt;
+        is_broken(&rt, rt.alloc(), &numbered(&[(30, &[0, 0])])),
+        "no samples"
+    );
+    // Doubles (encoding 5), which aren't read.
+    assert!(rt;
+        is_broken(&rt, rt.alloc(), &numbered(&[(52, &[5])])),
+        "doubles"
+    );
 }
 
 #[test]
 fn packs_an_archive_and_leaves_out_its_log(rt: HostRuntime) {
     // Text (encoding 0), which isn't read, of another channel; and a gap of 8.4 s.
-    let log = with(&[(15, b"LOG"), (52, &[0])]);
-    let apart = with(&[(26, &[10])]);
-    let mut archive = [0; 384];
-    archive[..128].copy_from_slice(&FIRST);
-    archive[128..256].copy_from_slice(&log);
-    archive[256..].copy_from_slice(&apart);
+    let log = numbered(&[(15, b"LOG"), (52, &[0])]);
+    let archive = three(&numbered(&[]), &log, &numbered(&[(26, &[10])]));
     let options = Options::new(7, 3, 1).expect(&rt, "options");
-    let mut input = Counted::new(archive.as_slice());
     let mut output = Counted::new(Vec::new(rt.alloc()));
     let mut lines = Counted::new(Vec::new(rt.alloc()));
     let answer = repack_stretches(
         rt.alloc(),
         &options,
         true,
-        &mut input,
+        &mut Counted::new(archive.as_slice()),
         &mut output,
         &mut lines,
     );
-    assert_eq!(rt; answer, Ok(Left::Broken));
-    let mut wanted = [0; 256];
-    wanted[..128].copy_from_slice(&with(&[(0, b"000001")]));
-    wanted[128..].copy_from_slice(&with(&[(0, b"000002"), (26, &[10])]));
-    let packed = output.into_inner();
-    assert_eq!(rt; packed.as_slice(), wanted.as_slice());
+    assert!(rt; answer == Ok(Left::Broken));
+    assert!(rt; are_both(&output.into_inner()));
     let reported = lines.into_inner();
-    assert_eq!(rt;
-        reported.as_slice(),
-        b"mseed: XX_STA__LOG is broken\n".as_slice()
-    );
+    assert!(rt; reported.as_slice() == b"mseed: XX_STA__LOG is broken\n".as_slice());
+}
+
+/// Whether these are both records of an archive without its log, with the first two numbers.
+fn are_both(packed: &[u8]) -> bool {
+    let first = with(&[(0, b"000001")]);
+    let second = with(&[(0, b"000002"), (26, &[10])]);
+    packed.strip_prefix(first.as_slice()) == Some(second.as_slice())
 }

@@ -1,38 +1,36 @@
 //! Series that are put together from records.
 
-use super::records::{BHN, FIRST, LATE, NEXT, with};
-use mseed_audit::{Finding, NotContinuous, Why, series};
-use mseed_record::RecordView;
+use crate::records::{BHN, FIRST, LATE, NEXT, view, with};
+use mseed_audit::{Finding, NotContinuous, Series, Why, series};
+use mseed_record::Codes;
 use mseed_time::{LeapStep, Micros};
-use std::process::Abort;
 use std::test::Fail;
 
 /// The samples of the first record, twice.
-const TWICE: [i32; 32] = [
+static TWICE: [i32; 32] = [
     0, 1, 2, 3, 4, 5, 6, 7, 8, 9, 10, 11, 12, 13, 14, 15, 0, 1, 2, 3, 4, 5, 6, 7, 8, 9, 10, 11, 12,
     13, 14, 15,
 ];
 
-/// The view of a record.
-fn view<'a>(rt: &impl Abort, bytes: &'a [u8]) -> RecordView<'a> {
-    RecordView::of(bytes).expect(rt, "a record")
+/// Whether a series of this channel begins a second late and has those samples, a leap second between them.
+fn is_twice(series: &Series, codes: Codes) -> bool {
+    series.codes() == codes
+        && Some(series.start()) == Micros::new(1_704_067_201_000_000)
+        && series.rate().pair() == (20, 1)
+        && series.samples() == TWICE.as_slice()
+        && series.steps() == [(16, LeapStep::Plus)].as_slice()
 }
 
 #[test]
 fn joins_the_samples_of_a_channel(rt: HostRuntime) {
     // The first begins a second late and says that a leap second comes before its end.
     let first = with(&[(26, &[1]), (36, &[0x10])]);
-    let (next, other) = (with(NEXT), with(BHN));
+    let next = with(NEXT);
+    let other = with(BHN);
     let views = [view(&rt, &first), view(&rt, &other), view(&rt, &next)];
     let codes = views[0].codes();
     match series(rt.alloc(), &views, &codes) {
-        Ok(series) => {
-            assert_eq!(rt; series.codes(), codes);
-            assert_eq!(rt; Some(series.start()), Micros::new(1_704_067_201_000_000));
-            assert_eq!(rt; series.rate().pair(), (20, 1));
-            assert_eq!(rt; series.samples(), TWICE.as_slice());
-            assert_eq!(rt; series.steps(), [(16, LeapStep::Plus)].as_slice());
-        }
+        Ok(series) => assert!(rt; is_twice(&series, codes)),
         Err(_) => assert!(rt; false, "a continuous channel"),
     }
 }
@@ -43,29 +41,33 @@ fn is_given_leap_seconds(rt: HostRuntime) -> Result<(), Fail> {
     let views = [view(&rt, &FIRST)];
     match series(rt.alloc(), &views, &views[0].codes()) {
         Ok(mut series) => {
-            let were_set = series.set_steps(steps).is_ok();
-            assert!(rt; were_set && series.steps().len() == 2);
+            assert!(rt; series.set_steps(steps).is_ok() && series.steps().len() == 2);
         }
         Err(_) => assert!(rt; false, "a continuous channel"),
     }
     Ok(())
 }
 
+/// Whether there is no series for this reason.
+fn is_refused(answer: Result<Series, NotContinuous>, wanted: NotContinuous) -> bool {
+    match answer {
+        Ok(_) => false,
+        Err(fault) => fault == wanted,
+    }
+}
+
 #[test]
 fn says_why_there_is_no_series(rt: HostRuntime) {
-    let (late, missing) = (with(LATE), with(BHN));
+    let late = with(LATE);
+    let missing = with(BHN);
     let views = [view(&rt, &FIRST), view(&rt, &late)];
-    let broken = Finding {
+    let broken = NotContinuous::Broken(Finding {
         number: 2,
         offset: 128,
         why: Why::Gap(25_001),
-    };
-    match series(rt.alloc(), &views, &views[0].codes()) {
-        Ok(_) => assert!(rt; false, "a broken channel"),
-        Err(fault) => assert_eq!(rt; fault, NotContinuous::Broken(broken)),
-    }
-    match series(rt.alloc(), &views, &view(&rt, &missing).codes()) {
-        Ok(_) => assert!(rt; false, "no channel"),
-        Err(fault) => assert_eq!(rt; fault, NotContinuous::Absent),
-    }
+    });
+    let answer = series(rt.alloc(), &views, &views[0].codes());
+    assert!(rt; is_refused(answer, broken), "a broken channel");
+    let answer = series(rt.alloc(), &views, &view(&rt, &missing).codes());
+    assert!(rt; is_refused(answer, NotContinuous::Absent), "no channel");
 }

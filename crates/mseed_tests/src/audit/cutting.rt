@@ -5,15 +5,17 @@ ghost use Rattle.mseed_stream.specs.Counted.{read_by};
 ghost use Rattle.mseed_stream.specs.Cutting.{IsAlong};
 ghost use Rattle.mseed_stream.specs.Device.{nothing_read};
 
+use super::devices::{NEVER, Pieces};
 use linked_list_allocator::LocalHeap;
 use mseed_stream::{Buffered, Counted, Cutter, Source, StreamFault, split, split_in};
 use std::alloc::{AllocError, Allocator, Global};
 use std::io;
-use std::io::{BufReader, Read};
+use std::io::BufReader;
+use std::process::Abort;
 use std::test::Fail;
 
 /// The header of a record of 48 32-bit integers from the first instant of 2024, and its blockettes.
-const HEAD: [u8; 64] = [
+static HEAD: [u8; 64] = [
     48, 48, 48, 48, 48, 49, 68, 32, // the sequence number, the quality and the reserved byte
     83, 84, 65, 32, 32, 32, 32, 66, 72, 90, 88, 88, // station, location, channel and network
     7, 232, 0, 1, 0, 0, 0, 0, 0, 0, // the start
@@ -26,28 +28,6 @@ const HEAD: [u8; 64] = [
 /// Where blockette 1000 has the length exponent.
 const EXPONENT: usize = 54;
 
-/// Tells pieces of at most so many bytes, and fails once behind so many calls.
-#[derive(Drop)]
-struct Pieces<'a> {
-    rest: &'a [u8],
-    most: usize,
-    calls_before_failure: Option<usize>,
-}
-
-impl Read for Pieces<'_> {
-    fn read(&mut self, buf: &mut [u8]) -> io::Result<usize> {
-        if self.calls_before_failure == Some(0) {
-            self.calls_before_failure = None;
-            return Err(io::ErrorKind::Interrupted.into());
-        }
-        self.calls_before_failure = self.calls_before_failure.map(|n| n.saturating_sub(1));
-        let n = self.most.min(buf.len()).min(self.rest.len());
-        buf[..n].copy_from_slice(&self.rest[..n]);
-        self.rest = &self.rest[n..];
-        Ok(n)
-    }
-}
-
 /// The bytes in pieces, of which nothing was read yet.
 fn in_pieces(rest: &[u8], most: usize) -> Counted<Pieces<'_>>
     ensures { read_by result ≡ nothing_read }
@@ -55,12 +35,13 @@ fn in_pieces(rest: &[u8], most: usize) -> Counted<Pieces<'_>>
     Counted::new(Pieces {
         rest,
         most,
-        calls_before_failure: None,
+        calls_before_failure: NEVER,
+        kind: io::ErrorKind::Interrupted,
     })
 }
 
 /// What a cutter answered.
-#[derive(Clone, Copy, Debug, PartialEq, Eq)]
+#[derive(Clone, Copy, PartialEq, Eq)]
 enum Answer {
     /// A record of so many bytes, and where it begins.
     Record(u64, usize),
@@ -153,13 +134,37 @@ fn cuts_records_in_any_pieces(rt: HostRuntime) -> Result<(), Fail> {
         Answer::End,
     ];
     for most in [1, 3, 48, 256, 900] {
-        assert_eq!(rt;
-            answers(rt.alloc(), &mut in_pieces(&bytes, most)),
-            wanted,
+        assert!(rt;
+            answers(rt.alloc(), &mut in_pieces(&bytes, most)) == wanted,
             "{most}"
         );
     }
     Ok(())
+}
+
+/// Whether a record of so many bytes is looked at where it lies, or else copied, and the cutter has so much room then.
+fn lends<A: Allocator, R: Source>(
+    cutter: &mut Cutter<A>,
+    source: &mut R,
+    record: Answer,
+    room: usize,
+) -> bool
+    requires { IsAlong (R.read source.old) cutter.old }
+    ensures { IsAlong (R.read source.new) cutter.new }
+{
+    answer_where_it_lies(cutter, source) == record && cutter.room() == room
+}
+
+/// Whether a cutter lends records of 128, 256 and 512 bytes. It copies the first, and the last, which comes in two
+/// pieces.
+fn lends_three<R: Source>(alloc: Global, source: &mut R) -> bool
+    requires { R.read source.old ≡ nothing_read }
+{
+    let mut cutter = Cutter::new(alloc);
+    lends(&mut cutter, source, Answer::Record(0, 128), 128)
+        && lends(&mut cutter, source, Answer::Record(128, 256), 128)
+        && lends(&mut cutter, source, Answer::Record(384, 512), 512)
+        && lends(&mut cutter, source, Answer::End, 512)
 }
 
 #[test]
@@ -168,23 +173,11 @@ fn lends_records_where_they_lie(rt: HostRuntime) -> Result<(), Fail> {
     let pieces = Pieces {
         rest: &bytes,
         most: 700,
-        calls_before_failure: None,
+        calls_before_failure: NEVER,
+        kind: io::ErrorKind::Interrupted,
     };
     let mut source = Buffered::new(BufReader::with_capacity(rt.alloc(), 4096, pieces)?);
-    let mut cutter = Cutter::new(rt.alloc());
-    let first = answer_where_it_lies(&mut cutter, &mut source);
-    let second = answer_where_it_lies(&mut cutter, &mut source);
-    assert_eq!(rt; cutter.room(), 128, "the first alone was copied");
-    let third = answer_where_it_lies(&mut cutter, &mut source);
-    assert_eq!(rt; cutter.room(), 512, "the third came in two pieces");
-    let last = answer_where_it_lies(&mut cutter, &mut source);
-    let wanted = [
-        Answer::Record(0, 128),
-        Answer::Record(128, 256),
-        Answer::Record(384, 512),
-        Answer::End,
-    ];
-    assert_eq!(rt; [first, second, third, last], wanted);
+    assert!(rt; lends_three(rt.alloc(), &mut source));
     Ok(())
 }
 
@@ -195,34 +188,56 @@ fn keeps_the_fault_of_a_read(rt: HostRuntime) -> Result<(), Fail> {
     let mut source = Counted::new(Pieces {
         rest: &bytes,
         most: 1,
-        calls_before_failure: Some(200),
+        calls_before_failure: 200,
+        kind: io::ErrorKind::Interrupted,
     });
     let wanted = [Answer::Record(0, 128), fault, fault, fault];
-    assert_eq!(rt; answers(rt.alloc(), &mut source), wanted);
-    assert_eq!(rt; source.get_ref().rest.len(), 56, "the reader would go on");
+    assert!(rt; answers(rt.alloc(), &mut source) == wanted);
+    assert!(rt; source.get_ref().rest.len() == 56, "the reader would go on");
     Ok(())
+}
+
+/// As many blocks of 32 bytes as a heap has, or so many.
+pub(super) fn blocks_of<'a>(
+    alloc: Global,
+    heap: &'a LocalHeap,
+    most: usize,
+) -> Result<Vec<Vec<u8, &'a LocalHeap>>, AllocError> {
+    let mut blocks = Vec::new(alloc);
+    for _ in 0..most {
+        if let Ok(block) = Vec::with_capacity(heap, 32) {
+            blocks.push(block)?;
+        }
+    }
+    Ok(blocks)
 }
 
 #[test]
 fn goes_on_where_memory_is_refused_in_turn(rt: HostRuntime) -> Result<(), Fail> {
     let bytes = records(rt.alloc(), &[9, 7])?;
     let heap = LocalHeap::new(rt.alloc(), 2048)?;
-    let mut blocks = Vec::new(rt.alloc());
-    for _ in 0..64 {
-        if let Ok(block) = Vec::<u8, _>::with_capacity(&heap, 32) {
-            blocks.push(block)?;
-        }
-    }
+    let mut blocks = blocks_of(rt.alloc(), &heap, 64)?;
     let mut cutter = Cutter::new(&heap);
     let mut source = in_pieces(&bytes, 100);
     let refusals = refusals_before_record(&mut cutter, &mut source, &mut blocks);
-    assert!(rt; refusals.is_some_and(|n| n > 3));
-    assert_eq!(rt;
-        next_answer(&mut cutter, &mut source),
-        Answer::Record(512, 128)
-    );
-    assert_eq!(rt; next_answer(&mut cutter, &mut source), Answer::End);
+    assert!(rt; refusals.expect(&rt, "a record") > 3);
+    assert!(rt; next_answer(&mut cutter, &mut source) == Answer::Record(512, 128));
+    assert!(rt; next_answer(&mut cutter, &mut source) == Answer::End);
     Ok(())
+}
+
+/// Splits twenty records with the memory of a heap, and says whether it was enough.
+fn splits(rt: &impl Abort, heap: &LocalHeap, bytes: &[u8]) -> bool {
+    match split_in(heap, bytes) {
+        Ok(views) => {
+            assert!(rt; views.len() == 20);
+            true
+        }
+        Err(fault) => {
+            assert!(rt; fault == StreamFault::Memory);
+            false
+        }
+    }
 }
 
 #[test]
@@ -231,16 +246,10 @@ fn answers_memory_of_a_slice(rt: HostRuntime) -> Result<(), Fail> {
     let mut was_split = false;
     for size in 0..64 {
         let heap = LocalHeap::new(rt.alloc(), size * 64)?;
-        match split_in(&heap, &bytes) {
-            Ok(views) => {
-                was_split = true;
-                assert_eq!(rt; views.len(), 20);
-            }
-            Err(fault) => assert_eq!(rt; fault, StreamFault::Memory),
-        }
+        was_split = splits(&rt, &heap, &bytes) || was_split;
     }
     assert!(rt; was_split);
-    assert_eq!(rt; split(rt.alloc(), &bytes)?.len(), 20);
+    assert!(rt; split(rt.alloc(), &bytes)?.len() == 20);
     Ok(())
 }
 
@@ -248,11 +257,10 @@ fn answers_memory_of_a_slice(rt: HostRuntime) -> Result<(), Fail> {
 fn lends_the_longest_record(rt: HostRuntime) -> Result<(), Fail> {
     let bytes = records(rt.alloc(), &[20])?;
     let mut cutter = Cutter::new(rt.alloc());
-    assert_eq!(rt; cutter.room(), 0);
+    assert!(rt; cutter.room() == 0);
     let mut source = in_pieces(&bytes, 4096);
     let record = cutter.next(&mut source)?.expect(&rt, "a record");
     assert!(rt; record.bytes() == bytes.as_slice());
-    assert_eq!(rt; cutter.room(), 1_048_576);
-    assert_eq!(rt; cutter.offset(), 1_048_576);
+    assert!(rt; cutter.room() == 1_048_576 && cutter.offset() == 1_048_576);
     Ok(())
 }

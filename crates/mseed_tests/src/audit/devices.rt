@@ -9,36 +9,47 @@ use mseed_stream::{
 use std::alloc::Global;
 use std::io;
 use std::io::{BufReader, Read, Write};
+use std::process::Abort;
 use std::test::Fail;
 
-/// Tells one byte a call, and fails at one of its calls.
+/// Behind more calls than there are.
+pub(super) const NEVER: usize = usize::MAX;
+
+/// Tells pieces of at most so many bytes, and fails once behind so many calls.
 #[derive(Drop)]
-struct Dripping {
-    bytes: &'static [u8],
-    calls_before_failure: Option<usize>,
+pub(super) struct Pieces<'a> {
+    pub(super) rest: &'a [u8],
+    pub(super) most: usize,
+    pub(super) calls_before_failure: usize,
+    pub(super) kind: io::ErrorKind,
 }
 
-impl Read for Dripping {
+impl Read for Pieces<'_> {
     fn read(&mut self, buf: &mut [u8]) -> io::Result<usize> {
-        if self.calls_before_failure == Some(0) {
-            self.calls_before_failure = None;
-            return Err(io::ErrorKind::Other.into());
+        if self.calls_before_failure == 0 {
+            self.calls_before_failure = NEVER;
+            return Err(self.kind.into());
         }
-        self.calls_before_failure = self.calls_before_failure.map(|n| n.saturating_sub(1));
-        if self.bytes.is_empty() || buf.is_empty() {
-            return Ok(0);
-        }
-        buf[0] = self.bytes[0];
-        self.bytes = &self.bytes[1..];
-        Ok(1)
+        self.calls_before_failure -= 1;
+        let n = self.most.min(buf.len()).min(self.rest.len());
+        buf[..n].copy_from_slice(&self.rest[..n]);
+        self.rest = &self.rest[n..];
+        Ok(n)
     }
 }
 
-fn hello_failing_behind(calls_before_failure: Option<usize>) -> Counted<Dripping> {
-    Counted::new(Dripping {
-        bytes: b"hello",
+/// Tells one byte a call, and fails once behind so many calls.
+fn dripping(calls_before_failure: usize) -> Pieces<'static> {
+    Pieces {
+        rest: b"hello",
+        most: 1,
         calls_before_failure,
-    })
+        kind: io::ErrorKind::Other,
+    }
+}
+
+fn hello_failing_behind(calls_before_failure: usize) -> Counted<Pieces<'static>> {
+    Counted::new(dripping(calls_before_failure))
 }
 
 /// Says that it is at its end, and tells a byte when it is called again.
@@ -58,12 +69,14 @@ impl Read for Waking {
     }
 }
 
-/// Takes two bytes a call while there is room, and then fails or takes none.
+/// Takes so many bytes a call at most while there is room, and then fails or takes none. Counts its writes.
 #[derive(Drop)]
-struct Filling {
-    taken: Vec<u8>,
+pub(crate) struct Filling {
+    pub(crate) taken: Vec<u8>,
     room: usize,
+    most: usize,
     fails: bool,
+    pub(crate) writes: usize,
 }
 
 impl Write for Filling {
@@ -71,17 +84,29 @@ impl Write for Filling {
         if self.room == 0 && self.fails {
             return Err(io::ErrorKind::Other.into());
         }
-        let n = bytes.len().min(self.room).min(2);
+        let n = bytes.len().min(self.room).min(self.most);
         if self.taken.extend_from_slice(&bytes[..n]).is_err() {
             return Err(io::ErrorKind::OutOfMemory.into());
         }
         self.room -= n;
+        self.writes = self.writes.saturating_add(1);
         Ok(n)
     }
 
     fn flush(&mut self) -> io::Result<()> {
         Ok(())
     }
+}
+
+/// A sink that takes so many bytes, and fails from then on.
+pub(crate) fn sink_with(alloc: Global, room: usize) -> Counted<Filling> {
+    Counted::new(Filling {
+        taken: Vec::new(alloc),
+        room,
+        most: usize::MAX,
+        fails: true,
+        writes: 0,
+    })
 }
 
 // ---- what callers prove of a new `Counted`, with no proof of their own
@@ -106,27 +131,41 @@ fn expect_nothing_read<R: Source>(source: &mut R)
 
 #[test]
 fn reads_one_byte_a_call(rt: HostRuntime) -> Result<(), Fail> {
-    let bytes = read_all(rt.alloc(), &mut hello_failing_behind(None))?;
-    assert_eq!(rt; bytes.as_slice(), b"hello".as_slice());
+    let bytes = read_all(rt.alloc(), &mut hello_failing_behind(NEVER))?;
+    assert!(rt; bytes.as_slice() == b"hello".as_slice());
     let bytes = read_new(rt.alloc(), b"hello".as_slice())?;
-    assert_eq!(rt; bytes.as_slice(), b"hello".as_slice());
+    assert!(rt; bytes.as_slice() == b"hello".as_slice());
     Ok(())
+}
+
+/// Whether a reader that fails once is read so far, and then to its end.
+fn fails_behind(alloc: Global, reported: usize, rest: &[u8]) -> Result<bool, StreamFault> {
+    let mut source = hello_failing_behind(reported);
+    let fault = read_all(alloc, &mut source).err();
+    let bytes = read_all(alloc, &mut source)?;
+    Ok(fault == Some(StreamFault::Read(reported as u64)) && bytes.as_slice() == rest)
 }
 
 #[test]
 fn says_where_a_read_failed(rt: HostRuntime) -> Result<(), Fail> {
     let hello = b"hello".as_slice();
     for reported in 0..6 {
-        let mut source = hello_failing_behind(Some(reported));
-        let fault = read_all(rt.alloc(), &mut source).err();
         assert!(rt;
-            fault == Some(StreamFault::Read(reported as u64)),
+            fails_behind(rt.alloc(), reported, &hello[reported..])?,
             "behind {reported} bytes"
         );
-        let rest = read_all(rt.alloc(), &mut source)?;
-        assert_eq!(rt; rest.as_slice(), &hello[reported..]);
     }
     Ok(())
+}
+
+/// Whether a source answers so.
+fn pulls<R: Source>(source: &mut R, buf: &mut [u8], wanted: Result<usize, Failed>) -> bool {
+    source.pull(buf) == wanted
+}
+
+/// Whether a source that fails behind its first byte is asked on, and not for no bytes.
+fn fails_once<R: Source>(source: &mut R, buf: &mut [u8]) -> bool {
+    pulls(source, buf, Ok(1)) && pulls(source, buf, Err(Failed)) && pulls(source, buf, Ok(1))
 }
 
 #[test]
@@ -134,75 +173,71 @@ fn asks_no_reader_behind_its_end(rt: HostRuntime) {
     let mut source = Counted::new(Waking { calls: 0 });
     let mut buf = [0; 4];
     for _ in 0..3 {
-        assert_eq!(rt; source.pull(&mut buf), Ok(0));
-        assert_eq!(rt; source.get_ref().calls, 1);
+        assert!(rt; pulls(&mut source, &mut buf, Ok(0)) && source.get_ref().calls == 1);
     }
-    let mut source = hello_failing_behind(Some(1));
-    assert_eq!(rt; source.pull(&mut []), Ok(0), "no room is no end");
-    assert_eq!(rt; source.pull(&mut buf), Err(Failed));
-    assert_eq!(rt; source.pull(&mut buf), Ok(1));
-    assert_eq!(rt; source.into_inner().bytes, b"ello".as_slice());
+    let mut source = hello_failing_behind(1);
+    assert!(rt; pulls(&mut source, &mut [], Ok(0)), "no room is no end");
+    assert!(rt; pulls(&mut source, &mut buf, Err(Failed)));
+    assert!(rt; pulls(&mut source, &mut buf, Ok(1)));
+    assert!(rt; source.into_inner().rest == b"ello".as_slice());
 }
 
 #[test]
 fn asks_a_buffered_reader_once_a_call(rt: HostRuntime) -> Result<(), Fail> {
-    let reader = Dripping {
-        bytes: b"hello",
-        calls_before_failure: Some(1),
-    };
-    let mut source = Buffered::new(BufReader::with_capacity(rt.alloc(), 4, reader)?);
+    let mut source = Buffered::new(BufReader::with_capacity(rt.alloc(), 4, dripping(1))?);
     let mut buf = [0; 3];
-    assert_eq!(rt; source.pull(&mut buf), Ok(1));
-    assert_eq!(rt; source.pull(&mut buf), Err(Failed));
-    assert_eq!(rt; source.pull(&mut buf), Ok(1));
-    assert_eq!(rt; buf[0], b'e');
+    assert!(rt; fails_once(&mut source, &mut buf));
+    assert!(rt; buf[0] == b'e');
     Ok(())
+}
+
+/// Whether hello is written as far as there is room, and no bytes are written then.
+fn writes(alloc: Global, room: usize, fails: bool) -> bool {
+    let mut sink = Counted::new(Filling {
+        taken: Vec::new(alloc),
+        room,
+        most: 2,
+        fails,
+        writes: 0,
+    });
+    let answer = write_all_of(&mut sink, b"hello");
+    answer == (if room < 5 { Err(room) } else { Ok(()) })
+        && sink.get_ref().taken.as_slice() == &b"hello"[..room.min(5)]
+        && write_all_of(&mut sink, b"") == Ok(())
 }
 
 #[test]
 fn writes_what_there_is_room_for(rt: HostRuntime) {
-    for fails in [false, true] {
-        for room in 0..7 {
-            let mut sink = Counted::new(Filling {
-                taken: Vec::new(rt.alloc()),
-                room,
-                fails,
-            });
-            let answer = write_all_of(&mut sink, b"hello");
-            assert_eq!(rt;
-                answer,
-                if room < 5 { Err(room) } else { Ok(()) },
-                "{fails} {room}"
-            );
-            assert_eq!(rt;
-                sink.get_ref().taken.as_slice(),
-                &b"hello"[..room.min(5)],
-                "{fails} {room}"
-            );
-            assert_eq!(rt; write_all_of(&mut sink, b""), Ok(()), "{fails} {room}");
+    for room in 0..7 {
+        assert!(rt; writes(rt.alloc(), room, false), "{room}");
+        assert!(rt; writes(rt.alloc(), room, true), "fails {room}");
+    }
+}
+
+/// Reads bytes with the memory of a heap, and says whether it was enough.
+fn reads(rt: &impl Abort, heap: &LocalHeap, bytes: &[u8]) -> bool {
+    match read_all_in(heap, &mut Counted::new(bytes)) {
+        Ok(read) => {
+            assert!(rt; read.as_slice() == bytes);
+            true
+        }
+        Err(fault) => {
+            assert!(rt; fault == StreamFault::Memory);
+            false
         }
     }
 }
 
 #[test]
 fn answers_memory_where_a_allocation_is_refused(rt: HostRuntime) -> Result<(), Fail> {
-    let reported = [7; 600];
-    let mut was_refused = false;
-    let mut was_read = false;
+    let mut was_read = 0usize;
     for size in 0..100 {
         let heap = LocalHeap::new(rt.alloc(), size * 16)?;
-        match read_all_in(&heap, &mut Counted::new(reported.as_slice())) {
-            Ok(bytes) => {
-                was_read = true;
-                assert_eq!(rt; bytes.as_slice(), reported.as_slice());
-            }
-            Err(fault) => {
-                was_refused = true;
-                assert_eq!(rt; fault, StreamFault::Memory);
-            }
+        if reads(&rt, &heap, &[7; 600]) {
+            was_read = was_read.saturating_add(1);
         }
     }
-    assert!(rt; was_refused && was_read);
+    assert!(rt; 0 < was_read && was_read < 100);
     Ok(())
 }
 
@@ -229,13 +264,13 @@ impl Write for Stumbling {
 #[test]
 fn asks_a_writer_once_a_call(rt: HostRuntime) {
     let mut sink = Counted::new(Stumbling { has_failed: false });
-    assert_eq!(rt; sink.put(b"h"), Err(Failed));
-    assert_eq!(rt; sink.put(b"h"), Ok(1));
+    assert!(rt; sink.put(b"h") == Err(Failed));
+    assert!(rt; sink.put(b"h") == Ok(1));
 }
 
 #[test]
 fn takes_an_empty_write_unless_its_writer_fails(rt: HostRuntime) {
     let mut sink = Counted::new(Stumbling { has_failed: false });
-    assert_eq!(rt; sink.put(b""), Err(Failed));
-    assert_eq!(rt; sink.put(b""), Ok(0));
+    assert!(rt; sink.put(b"") == Err(Failed));
+    assert!(rt; sink.put(b"") == Ok(0));
 }

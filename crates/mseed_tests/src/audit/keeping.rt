@@ -1,85 +1,97 @@
 //! What an audit keeps of channels.
 
-use super::records::{BHN, FIRST, LATE, NEXT, with};
-use mseed_audit::{Audit, Channels, Finding, Findings, Head, Tail, Why};
-use mseed_record::{Leap, RecordView};
+use crate::records::{BHN, FIRST, LATE, NEXT, view, with};
+use mseed_audit::{Audit, Channel, Channels, Finding, Findings, Head, Tail, Why};
+use mseed_record::Leap;
 use mseed_time::{Micros, Ratio};
-use std::alloc::Allocator;
+use std::alloc::Global;
 use std::process::Abort;
 
-/// What is kept of the channels of records of 128 bytes that stand one behind another.
-fn kept<A: Allocator + Copy>(
-    rt: &impl Abort,
-    alloc: A,
-    records: &[[u8; 128]],
-) -> Option<Channels<A>> {
-    let mut audit = Audit::new(alloc);
-    let mut offset = 0;
-    for bytes in records {
-        assert!(rt; audit.added() < 1000 && offset < 1000);
-        let view = RecordView::of(bytes).expect(rt, "a record");
-        assert_eq!(rt; audit.add(&view, offset), Ok(()));
-        offset += 128;
-    }
-    audit.into_channels(alloc).ok()
+/// Adds a record of 128 bytes to an audit of few. Answers where the next one stands.
+fn add(rt: &impl Abort, audit: &mut Audit, offset: u64, bytes: &[u8; 128]) -> u64 {
+    assert!(rt; audit.added() < 1000 && offset < 1000);
+    let view = view(rt, bytes);
+    assert!(rt; audit.add(&view, offset).is_ok());
+    offset + 128
 }
 
-/// The first record's beginning and end, where it has this number, offset and start.
-fn ends(rt: &impl Abort, (number, offset): (u64, u64), micros: i64) -> (Head, Tail) {
-    let start = Micros::new(micros).expect(rt, "an instant");
-    let rate = Ratio::new(20, 1).expect(rt, "a ratio");
-    let head = Head {
+/// What is kept of the channels of three records of 128 bytes that stand one behind another.
+fn kept(
+    rt: &impl Abort,
+    alloc: Global,
+    first: &[u8; 128],
+    second: &[u8; 128],
+    third: &[u8; 128],
+) -> Channels {
+    let mut audit = Audit::new(alloc);
+    let offset = add(rt, &mut audit, 0, first);
+    let offset = add(rt, &mut audit, offset, second);
+    add(rt, &mut audit, offset, third);
+    audit.into_channels(alloc).expect(rt, "memory")
+}
+
+/// The beginning of a channel whose first record has this number, offset and start.
+fn head(rt: &impl Abort, number: u64, offset: u64, micros: i64) -> Head {
+    Head {
         number,
         offset,
-        start,
-        rate,
-    };
-    let tail = Tail {
-        start,
+        start: Micros::new(micros).expect(rt, "an instant"),
+        rate: Ratio::new(20, 1).expect(rt, "a ratio"),
+    }
+}
+
+/// The end of a channel whose last record begins then.
+fn tail(rt: &impl Abort, micros: i64) -> Tail {
+    Tail {
+        start: Micros::new(micros).expect(rt, "an instant"),
         samples: 16,
-        rate,
+        rate: Ratio::new(20, 1).expect(rt, "a ratio"),
         leap: Leap::None,
-    };
-    (head, tail)
+    }
+}
+
+/// No finding, between these ends.
+fn nothing(head: Head, tail: Tail) -> Findings {
+    Findings::Nothing { head, tail }
+}
+
+/// Whether so many records are kept of a channel, with 16 samples each, and these findings.
+fn has(channel: &Channel, records: u64, findings: Findings) -> bool {
+    channel.records == records
+        && channel.samples == records.saturating_mul(16)
+        && channel.findings == findings
 }
 
 #[test]
 fn keeps_beginnings_and_ends(rt: HostRuntime) {
-    let channels = kept(&rt, rt.alloc(), &[FIRST, with(BHN), with(NEXT)]).expect(&rt, "memory");
+    let channels = kept(&rt, rt.alloc(), &FIRST, &with(BHN), &with(NEXT));
     let [(north, one), (vertical, two)] = channels.as_slice() else {
         panic!(rt; "two channels");
     };
     assert!(rt; north.key() < vertical.key());
-    let (head, tail) = ends(&rt, (2, 128), 1_704_067_200_000_000);
-    assert_eq!(rt; (one.records, one.samples), (1, 16));
-    assert_eq!(rt; one.findings, Findings::Nothing { head, tail });
-    let (head, _) = ends(&rt, (1, 0), 1_704_067_200_000_000);
-    let (_, tail) = ends(&rt, (3, 256), 1_704_067_200_800_000);
-    assert_eq!(rt; (two.records, two.samples), (2, 32));
-    assert_eq!(rt; two.findings, Findings::Nothing { head, tail });
+    let start = 1_704_067_200_000_000;
+    assert!(rt; has(one, 1, nothing(head(&rt, 2, 128, start), tail(&rt, start))));
+    let next = 1_704_067_200_800_000;
+    assert!(rt; has(two, 2, nothing(head(&rt, 1, 0, start), tail(&rt, next))));
 }
 
 #[test]
 fn keeps_the_first_finding(rt: HostRuntime) {
     // The first record has no rate; the third begins late behind the second.
-    let channels = kept(&rt, rt.alloc(), &[with(&[(33, &[0])]), FIRST, with(LATE)]).expect(
-        &rt, "memory",
-    );
+    let no_rate = with(&[(33, &[0])]);
+    let channels = kept(&rt, rt.alloc(), &no_rate, &FIRST, &with(LATE));
     let [(_, channel)] = channels.as_slice() else {
         panic!(rt; "one channel");
     };
-    let first = Finding {
-        number: 1,
-        offset: 0,
-        why: Why::Rate,
-    };
-    let (_, tail) = ends(&rt, (3, 256), 1_704_067_200_825_001);
     let findings = Findings::Counted {
         count: 2,
-        first,
+        first: Finding {
+            number: 1,
+            offset: 0,
+            why: Why::Rate,
+        },
         head: None,
-        tail: Some(tail),
+        tail: Some(tail(&rt, 1_704_067_200_825_001)),
     };
-    assert_eq!(rt; (channel.records, channel.samples), (3, 48));
-    assert_eq!(rt; channel.findings, findings);
+    assert!(rt; has(channel, 3, findings));
 }

@@ -1,15 +1,16 @@
 //! Parts that are joined: rows with what is written, reported and answered.
 
 use super::auditing::{OF_FIRST, OF_LATE};
+use crate::audit::devices::sink_with;
 use linked_list_allocator::LocalHeap;
 use mseed_join::{Form, Joined, JoinsFault, join};
 use mseed_stream::Counted;
-use std::io;
-use std::io::Write;
+use std::alloc::{AllocError, Global};
+use std::process::Abort;
 use std::test::Fail;
 
 /// The last line of the part of an archive that ends with a fault behind its first record.
-const FAULT: &str = "fault at 128 truncated 1\n";
+pub(super) const FAULT: &str = "fault at 128 truncated 1\n";
 
 /// The audit of both records.
 const AUDIT: &str = "XX_STA__BHZ broken findings 1 first record 2 offset 128 gap 25001\n\
@@ -22,7 +23,7 @@ const PART: &str = "mseed part 1\n\
     records 2 bytes 256\n";
 
 /// The audit of the first record, which ends with a fault.
-const CUT: &str =
+pub(super) const CUT: &str =
     "XX_STA__BHZ continuous 2024-01-01T00:00:00.000000 rate 20/1 records 1 samples 16\n\
     records 1 channels 1\n\
     fault at 128 truncated 1\n";
@@ -33,126 +34,143 @@ const PASSED: &str = "XX_STA__BHZ broken findings 1 first record 2 offset 128 ga
     faults 1\n";
 
 /// What is reported of that fault.
-const TOLD: &str = "mseed: part 1 fault at 128 truncated 1\n";
+pub(super) const REPORTED: &str = "mseed: part 1 fault at 128 truncated 1\n";
 
-/// What is joined and how, and what is written, reported and answered.
-#[derive(Clone, Copy, Debug)]
+/// Three texts, one behind another.
+pub(super) fn joint(alloc: Global, parts: &[&str; 3]) -> Result<Vec<u8>, AllocError> {
+    let mut bytes = Vec::new(alloc);
+    for part in parts {
+        bytes.extend_from_slice(part.as_bytes())?;
+    }
+    Ok(bytes)
+}
+
+/// How parts are joined, and what is written, reported and answered.
 struct Row {
+    parts: [&'static str; 3],
     form: Form,
     past_faults: bool,
-    parts: [&'static str; 3],
     text: &'static str,
     reported: &'static str,
     joined: Joined,
 }
 
-/// Both records, of which the first ends as the table says.
-fn both(
-    form: Form,
-    past_faults: bool,
-    end: &'static str,
-    (text, reported): (&'static str, &'static str),
-    (broken, fault): (u64, bool),
-) -> Row {
+static ROWS: [Row; 5] = [
     Row {
-        form,
-        past_faults,
-        parts: [OF_FIRST, end, OF_LATE],
-        text,
-        reported,
-        joined: Joined { broken, fault },
-    }
-}
-
-#[test]
-fn joins_parts(rt: HostRuntime) -> Result<(), Fail> {
-    let nothing = Row {
+        parts: ["", "", ""],
         form: Form::Audit,
         past_faults: false,
-        parts: ["", "", ""],
         text: "records 0 channels 0\n",
         reported: "",
         joined: Joined {
             broken: 0,
             fault: false,
         },
-    };
-    let rows = [
-        nothing,
-        both(Form::Audit, false, "", (AUDIT, ""), (1, false)),
-        both(Form::Part, false, "", (PART, ""), (1, false)),
-        both(Form::Audit, false, FAULT, (CUT, ""), (0, true)),
-        both(Form::Audit, true, FAULT, (PASSED, TOLD), (1, true)),
-    ];
-    for (index, row) in rows.iter().enumerate() {
-        let mut bytes = Vec::new(rt.alloc());
-        for part in &row.parts {
-            bytes.extend_from_slice(part.as_bytes())?;
-        }
-        let mut source = Counted::new(bytes.as_slice());
-        let mut sink = Counted::new(Vec::new(rt.alloc()));
-        let mut errors = Counted::new(Vec::new(rt.alloc()));
-        let alloc = rt.alloc();
-        let answer = join(
-            alloc,
-            row.form,
-            row.past_faults,
-            &mut source,
-            &mut sink,
-            &mut errors,
-        );
-        assert_eq!(rt; answer, Ok(row.joined), "row {index}");
-        assert_eq!(rt;
-            sink.into_inner().as_slice(),
-            row.text.as_bytes(),
-            "row {index}"
-        );
-        assert_eq!(rt;
-            errors.into_inner().as_slice(),
-            row.reported.as_bytes(),
-            "row {index}"
-        );
+    },
+    Row {
+        parts: [OF_FIRST, "", OF_LATE],
+        form: Form::Audit,
+        past_faults: false,
+        text: AUDIT,
+        reported: "",
+        joined: Joined {
+            broken: 1,
+            fault: false,
+        },
+    },
+    Row {
+        parts: [OF_FIRST, "", OF_LATE],
+        form: Form::Part,
+        past_faults: false,
+        text: PART,
+        reported: "",
+        joined: Joined {
+            broken: 1,
+            fault: false,
+        },
+    },
+    Row {
+        parts: [OF_FIRST, FAULT, OF_LATE],
+        form: Form::Audit,
+        past_faults: false,
+        text: CUT,
+        reported: "",
+        joined: Joined {
+            broken: 0,
+            fault: true,
+        },
+    },
+    Row {
+        parts: [OF_FIRST, FAULT, OF_LATE],
+        form: Form::Audit,
+        past_faults: true,
+        text: PASSED,
+        reported: REPORTED,
+        joined: Joined {
+            broken: 1,
+            fault: true,
+        },
+    },
+];
+
+/// Whether parts are joined as a row says.
+fn is_joined(alloc: Global, row: &Row) -> Result<bool, AllocError> {
+    let bytes = joint(alloc, &row.parts)?;
+    let mut source = Counted::new(bytes.as_slice());
+    let mut sink = Counted::new(Vec::new(alloc));
+    let mut errors = Counted::new(Vec::new(alloc));
+    let answer = join(
+        alloc,
+        row.form,
+        row.past_faults,
+        &mut source,
+        &mut sink,
+        &mut errors,
+    );
+    Ok(
+        answer == Ok(row.joined)
+            && sink.into_inner().as_slice() == row.text.as_bytes()
+            && errors.into_inner().as_slice() == row.reported.as_bytes(),
+    )
+}
+
+#[test]
+fn joins_parts(rt: HostRuntime) -> Result<(), Fail> {
+    for (index, row) in ROWS.iter().enumerate() {
+        assert!(rt; is_joined(rt.alloc(), row)?, "row {index}");
     }
     Ok(())
 }
 
-#[test]
-fn names_bad_lines(rt: HostRuntime) {
-    let rows: [(&str, u64); 5] = [
-        ("mseed part 2\n", 1),
-        ("mseed part 1\n", 2),
-        ("mseed part 1\nrecords 1 bytes\n", 2),
-        ("mseed part 1\nrecords 1 bytes 128", 2),
-        ("mseed part 1\nrecords 1 bytes 128\nfaults 0\n", 3),
-    ];
-    for (row, (text, line)) in rows.iter().enumerate() {
-        let mut source = Counted::new(text.as_bytes());
-        let mut sink = Counted::new(Vec::new(rt.alloc()));
-        let mut errors = Counted::new(Vec::new(rt.alloc()));
-        let answer = join(
-            rt.alloc(),
-            Form::Audit,
-            false,
-            &mut source,
-            &mut sink,
-            &mut errors,
-        );
-        assert_eq!(rt; answer, Err(JoinsFault::Line(*line)), "row {row}");
-        assert!(rt; sink.into_inner().is_empty(), "row {row}");
-    }
+/// Texts that are no parts, and their first bad lines.
+static BAD_LINES: [(&str, u64); 5] = [
+    ("mseed part 2\n", 1),
+    ("mseed part 1\n", 2),
+    ("mseed part 1\nrecords 1 bytes\n", 2),
+    ("mseed part 1\nrecords 1 bytes 128", 2),
+    ("mseed part 1\nrecords 1 bytes 128\nfaults 0\n", 3),
+];
+
+/// Whether the audit of a text is refused at this line, with nothing written.
+fn is_bad_at(alloc: Global, text: &str, line: u64) -> bool {
+    let mut source = Counted::new(text.as_bytes());
+    let mut sink = Counted::new(Vec::new(alloc));
+    let mut errors = Counted::new(Vec::new(alloc));
+    let answer = join(
+        alloc,
+        Form::Audit,
+        false,
+        &mut source,
+        &mut sink,
+        &mut errors,
+    );
+    answer == Err(JoinsFault::Line(line)) && sink.into_inner().is_empty()
 }
 
-/// Takes nothing.
-#[derive(Drop)]
-struct Full;
-
-impl Write for Full {
-    fn write(&mut self, _bytes: &[u8]) -> io::Result<usize> {
-        Err(io::ErrorKind::Other.into())
-    }
-
-    fn flush(&mut self) -> io::Result<()> {
-        Ok(())
+#[test]
+fn names_bad_lines(rt: HostRuntime) {
+    for (text, line) in &BAD_LINES {
+        assert!(rt; is_bad_at(rt.alloc(), text, *line), "{text}");
     }
 }
 
@@ -160,7 +178,7 @@ impl Write for Full {
 fn says_that_the_output_failed(rt: HostRuntime) {
     let mut source = Counted::new(OF_FIRST.as_bytes());
     let mut errors = Counted::new(Vec::new(rt.alloc()));
-    let mut sink = Counted::new(Full);
+    let mut sink = sink_with(rt.alloc(), 0);
     let answer = join(
         rt.alloc(),
         Form::Part,
@@ -169,40 +187,37 @@ fn says_that_the_output_failed(rt: HostRuntime) {
         &mut sink,
         &mut errors,
     );
-    assert_eq!(rt; answer, Err(JoinsFault::Write));
+    assert!(rt; answer == Err(JoinsFault::Write));
+}
+
+/// Joins the first part alone with the memory of a heap, and says whether it was enough. Where it wasn't, nothing is
+/// written.
+fn is_enough(rt: &impl Abort, alloc: Global, heap: &LocalHeap) -> bool {
+    let mut source = Counted::new(OF_FIRST.as_bytes());
+    let mut sink = Counted::new(Vec::new(alloc));
+    let mut errors = Counted::new(Vec::new(alloc));
+    match join(heap, Form::Part, false, &mut source, &mut sink, &mut errors) {
+        Ok(_) => {
+            assert!(rt; sink.into_inner().as_slice() == OF_FIRST.as_bytes());
+            true
+        }
+        Err(fault) => {
+            assert!(rt; fault == JoinsFault::Memory && sink.into_inner().is_empty());
+            false
+        }
+    }
 }
 
 #[test]
 fn writes_nothing_where_memory_is_refused(rt: HostRuntime) -> Result<(), Fail> {
-    let mut was_refused = false;
-    let mut was_joined = false;
+    let mut enough = 0usize;
     // The buffer for lines takes 64 KiB of it.
     for size in 1..=64 {
         let heap = LocalHeap::new(rt.alloc(), size * 2048)?;
-        let mut source = Counted::new(OF_FIRST.as_bytes());
-        let mut sink = Counted::new(Vec::new(rt.alloc()));
-        let mut errors = Counted::new(Vec::new(rt.alloc()));
-        let answer = join(
-            &heap,
-            Form::Part,
-            false,
-            &mut source,
-            &mut sink,
-            &mut errors,
-        );
-        let text = sink.into_inner();
-        match answer {
-            Ok(_) => {
-                was_joined = true;
-                assert_eq!(rt; text.as_slice(), OF_FIRST.as_bytes(), "{size}");
-            }
-            Err(fault) => {
-                was_refused = true;
-                assert_eq!(rt; fault, JoinsFault::Memory, "{size}");
-                assert!(rt; text.is_empty(), "{size}");
-            }
+        if is_enough(&rt, rt.alloc(), &heap) {
+            enough = enough.saturating_add(1);
         }
     }
-    assert!(rt; was_joined && was_refused);
+    assert!(rt; 0 < enough && enough < 64);
     Ok(())
 }

@@ -1,11 +1,13 @@
 //! Parts that are joined with a line for each border: rows with what is written, reported and answered.
 
 use super::auditing::{OF_FIRST, OF_LATE};
+use super::joining::{CUT, FAULT, REPORTED, joint};
+use crate::audit::devices::sink_with;
 use linked_list_allocator::LocalHeap;
 use mseed_join::{Joined, JoinsFault, join_each};
 use mseed_stream::Counted;
-use std::io;
-use std::io::Write;
+use std::alloc::{AllocError, Global};
+use std::process::Abort;
 use std::test::Fail;
 
 /// The line of the border between both records.
@@ -22,32 +24,19 @@ const PASSED: &str = "128 XX_STA__BHZ record 2 start 2024-01-01T00:00:00.825001 
     records 2 channels 1\n\
     faults 1\n";
 
-/// The audit of the first record, which ends with a fault.
-const CUT: &str =
-    "XX_STA__BHZ continuous 2024-01-01T00:00:00.000000 rate 20/1 records 1 samples 16\n\
-    records 1 channels 1\n\
-    fault at 128 truncated 1\n";
-
-/// The last line of the part of an archive that ends with a fault behind its first record.
-const FAULT: &str = "fault at 128 truncated 1\n";
-
-/// What is reported of that fault.
-const TOLD: &str = "mseed: part 1 fault at 128 truncated 1\n";
-
-/// What is joined and how, and what is written, reported and answered.
-#[derive(Clone, Copy, Debug)]
+/// How parts are joined, and what is written, reported and answered.
 struct Row {
-    past_faults: bool,
     parts: [&'static str; 3],
+    past_faults: bool,
     text: &'static str,
     reported: &'static str,
     joined: Result<Joined, JoinsFault>,
 }
 
-const ROWS: [Row; 5] = [
+static ROWS: [Row; 5] = [
     Row {
-        past_faults: false,
         parts: ["", "", ""],
+        past_faults: false,
         text: "records 0 channels 0\n",
         reported: "",
         joined: Ok(Joined {
@@ -56,8 +45,8 @@ const ROWS: [Row; 5] = [
         }),
     },
     Row {
-        past_faults: false,
         parts: [OF_FIRST, "", OF_LATE],
+        past_faults: false,
         text: EACH,
         reported: "",
         joined: Ok(Joined {
@@ -66,8 +55,8 @@ const ROWS: [Row; 5] = [
         }),
     },
     Row {
-        past_faults: false,
         parts: [OF_FIRST, FAULT, OF_LATE],
+        past_faults: false,
         text: CUT,
         reported: "",
         joined: Ok(Joined {
@@ -76,109 +65,87 @@ const ROWS: [Row; 5] = [
         }),
     },
     Row {
-        past_faults: true,
         parts: [OF_FIRST, FAULT, OF_LATE],
+        past_faults: true,
         text: PASSED,
-        reported: TOLD,
+        reported: REPORTED,
         joined: Ok(Joined {
             broken: 1,
             fault: true,
         }),
     },
     Row {
-        past_faults: false,
         parts: [OF_FIRST, OF_LATE, "mseed part 2\n"],
+        past_faults: false,
         text: BORDER,
         reported: "",
         joined: Err(JoinsFault::Line(7)),
     },
 ];
 
+/// Whether parts are joined as a row says.
+fn is_joined(alloc: Global, row: &Row) -> Result<bool, AllocError> {
+    let bytes = joint(alloc, &row.parts)?;
+    let mut source = Counted::new(bytes.as_slice());
+    let mut sink = Counted::new(Vec::new(alloc));
+    let mut errors = Counted::new(Vec::new(alloc));
+    let answer = join_each(alloc, row.past_faults, &mut source, &mut sink, &mut errors);
+    Ok(
+        answer == row.joined
+            && sink.into_inner().as_slice() == row.text.as_bytes()
+            && errors.into_inner().as_slice() == row.reported.as_bytes(),
+    )
+}
+
 #[test]
 fn joins_with_borders(rt: HostRuntime) -> Result<(), Fail> {
     for (index, row) in ROWS.iter().enumerate() {
-        let mut bytes = Vec::new(rt.alloc());
-        for part in &row.parts {
-            bytes.extend_from_slice(part.as_bytes())?;
-        }
-        let mut source = Counted::new(bytes.as_slice());
-        let mut sink = Counted::new(Vec::new(rt.alloc()));
-        let mut errors = Counted::new(Vec::new(rt.alloc()));
-        let alloc = rt.alloc();
-        let answer = join_each(alloc, row.past_faults, &mut source, &mut sink, &mut errors);
-        assert_eq!(rt; answer, row.joined, "row {index}");
-        assert_eq!(rt;
-            sink.into_inner().as_slice(),
-            row.text.as_bytes(),
-            "row {index}"
-        );
-        assert_eq!(rt;
-            errors.into_inner().as_slice(),
-            row.reported.as_bytes(),
-            "row {index}"
-        );
+        assert!(rt; is_joined(rt.alloc(), row)?, "row {index}");
     }
     Ok(())
-}
-
-/// Takes nothing.
-#[derive(Drop)]
-struct Full;
-
-impl Write for Full {
-    fn write(&mut self, _bytes: &[u8]) -> io::Result<usize> {
-        Err(io::ErrorKind::Other.into())
-    }
-
-    fn flush(&mut self) -> io::Result<()> {
-        Ok(())
-    }
 }
 
 #[test]
 fn says_that_no_line_was_taken(rt: HostRuntime) -> Result<(), Fail> {
-    let mut bytes = Vec::new(rt.alloc());
-    for part in &[OF_FIRST, OF_LATE, "mseed part 2\n"] {
-        bytes.extend_from_slice(part.as_bytes())?;
-    }
+    let bytes = joint(rt.alloc(), &[OF_FIRST, OF_LATE, "mseed part 2\n"])?;
     let mut source = Counted::new(bytes.as_slice());
     let mut errors = Counted::new(Vec::new(rt.alloc()));
-    let mut sink = Counted::new(Full);
-    let alloc = rt.alloc();
+    let mut sink = sink_with(rt.alloc(), 0);
     // The line of the border comes before the bad line is read.
-    let answer = join_each(alloc, false, &mut source, &mut sink, &mut errors);
-    assert_eq!(rt; answer, Err(JoinsFault::Write));
+    let answer = join_each(rt.alloc(), false, &mut source, &mut sink, &mut errors);
+    assert!(rt; answer == Err(JoinsFault::Write));
     Ok(())
+}
+
+/// Joins both parts with the memory of a heap, and says whether it was enough. Where it wasn't, a prefix is written.
+fn is_enough(rt: &impl Abort, alloc: Global, heap: &LocalHeap, bytes: &[u8]) -> bool {
+    let mut source = Counted::new(bytes);
+    let mut sink = Counted::new(Vec::new(alloc));
+    let mut errors = Counted::new(Vec::new(alloc));
+    match join_each(heap, false, &mut source, &mut sink, &mut errors) {
+        Ok(_) => {
+            assert!(rt; sink.into_inner().as_slice() == EACH.as_bytes());
+            true
+        }
+        Err(fault) => {
+            assert!(rt; fault == JoinsFault::Memory);
+            assert!(rt; EACH.as_bytes().starts_with(&sink.into_inner()));
+            false
+        }
+    }
 }
 
 #[test]
 fn writes_a_prefix_where_memory_is_refused(rt: HostRuntime) -> Result<(), Fail> {
-    let mut bytes = Vec::new(rt.alloc());
-    for part in &[OF_FIRST, OF_LATE] {
-        bytes.extend_from_slice(part.as_bytes())?;
-    }
-    let mut was_refused = false;
-    let mut was_joined = false;
+    let bytes = joint(rt.alloc(), &[OF_FIRST, OF_LATE, ""])?;
+    let mut enough = 0usize;
     // The buffer for lines takes 64 KiB of it.
     for size in 1..=64 {
         let heap = LocalHeap::new(rt.alloc(), size * 2048)?;
-        let mut source = Counted::new(bytes.as_slice());
-        let mut sink = Counted::new(Vec::new(rt.alloc()));
-        let mut errors = Counted::new(Vec::new(rt.alloc()));
-        let answer = join_each(&heap, false, &mut source, &mut sink, &mut errors);
-        let text = sink.into_inner();
-        match answer {
-            Ok(_) => {
-                was_joined = true;
-                assert_eq!(rt; text.as_slice(), EACH.as_bytes(), "{size}");
-            }
-            Err(fault) => {
-                was_refused = true;
-                assert_eq!(rt; fault, JoinsFault::Memory, "{size}");
-                assert!(rt; EACH.as_bytes().starts_with(&text), "{size}");
-            }
+        if is_enough(&rt, rt.alloc(), &heap, &bytes) {
+            enough = enough.saturating_add(1);
         }
     }
-    assert!(rt; was_joined && was_refused);
+    assert!(rt; 0 < enough && enough < 64);
     Ok(())
 }

@@ -1,9 +1,10 @@
 //! Samples of made payloads, compared with sums of one difference after another: words of every row and damaged
 //! ones, few samples and many, and first samples within a frame's reach of both limits.
 
-use super::record::{STEIM_1, record};
+use super::record::{STEIM_1, is_read, record};
+use crate::records::put;
 use mseed_record::RecordView;
-use mseed_steim::{Differences, Ends, ReadFault, Scheme, check_samples, fill_samples};
+use mseed_steim::{Differences, ReadFault, Scheme};
 use std::process::Abort;
 
 /// Payloads of each scheme.
@@ -27,31 +28,44 @@ fn tame(scheme: Scheme, code: u32, word: u32) -> (u32, u32) {
     }
 }
 
-/// Fills three frames by numbers from this one on, tame words or any, and gives the number after them.
+/// A code and a word of a number, tame or any.
+fn word_by(scheme: Scheme, is_tame: bool, number: u64) -> (u32, u32) {
+    let word = (number >> 32) as u32;
+    let code = (number >> 8 & 3) as u32;
+    if is_tame {
+        tame(scheme, code, word)
+    } else {
+        (code, word)
+    }
+}
+
+/// Fills a frame by numbers from this one on, tame words or any, and gives the number after them.
+fn fill_frame(frame: &mut [u8; 64], scheme: Scheme, is_tame: bool, number: u64) -> u64 {
+    let mut number = number;
+    let mut codes = 0u32;
+    for place in 1..16usize {
+        number = next_number(number);
+        let (code, word) = word_by(scheme, is_tame, number);
+        codes = codes << 2 | code & 3;
+        put(frame, 4 * place, &word.to_be_bytes());
+    }
+    put(frame, 0, &codes.to_be_bytes());
+    number
+}
+
+/// Fills three frames likewise.
 fn fill(payload: &mut [u8; 192], scheme: Scheme, is_tame: bool, number: u64) -> u64 {
     let mut number = number;
-    for frame in 0..3usize {
-        let mut codes = 0u32;
-        for place in 1..16usize {
-            number = next_number(number);
-            let word = (number >> 32) as u32;
-            let code = (number >> 8 & 3) as u32;
-            let (code, word) = if is_tame {
-                tame(scheme, code, word)
-            } else {
-                (code, word)
-            };
-            codes |= (code & 3) << (30 - 2 * place);
-            let at = 64 * frame + 4 * place;
-            payload[at..at + 4].copy_from_slice(&word.to_be_bytes());
-        }
-        payload[64 * frame..64 * frame + 4].copy_from_slice(&codes.to_be_bytes());
+    let mut frame = [0; 64];
+    for index in 0..3usize {
+        number = fill_frame(&mut frame, scheme, is_tame, number);
+        put(payload, 64 * index, &frame);
     }
     number
 }
 
 /// Codes and words of Steim-1 whose differences are the least and the most of their width, in turn and alone.
-const EDGES_ONE: [(u32, u32); 18] = [
+static EDGES_ONE: [(u32, u32); 18] = [
     (1, 0x8080_8080),
     (1, 0x7F7F_7F7F),
     (1, 0x807F_807F),
@@ -73,7 +87,7 @@ const EDGES_ONE: [(u32, u32); 18] = [
 ];
 
 /// Codes and words of each row of Steim-2 but that of 30 bits: the least of its width, the most, and both in turn.
-const EDGES_TWO: [(u32, u32); 18] = [
+static EDGES_TWO: [(u32, u32); 18] = [
     (1, 0x8080_8080),
     (1, 0x7F7F_7F7F),
     (1, 0x807F_807F),
@@ -94,18 +108,26 @@ const EDGES_TWO: [(u32, u32); 18] = [
     (3, 0x8878_7878),
 ];
 
-/// Fills three frames with these words one after another, from one of them on.
-fn fill_edges(payload: &mut [u8; 192], edges: &[(u32, u32); 18], from: usize) {
-    for frame in 0..3usize {
-        let mut codes = 0u32;
-        for place in 1..16usize {
-            let (code, word) = edges[(from % 18 + 15 * frame + place) % 18];
-            codes |= (code & 3) << (30 - 2 * place);
-            let at = 64 * frame + 4 * place;
-            payload[at..at + 4].copy_from_slice(&word.to_be_bytes());
-        }
-        payload[64 * frame..64 * frame + 4].copy_from_slice(&codes.to_be_bytes());
+/// Fills a frame with these words one after another, from one of them on.
+fn fill_edge_frame(frame: &mut [u8; 64], edges: &[(u32, u32); 18], from: usize) {
+    let mut codes = 0u32;
+    for place in 1..16usize {
+        let (code, word) = edges[from.wrapping_add(place) % 18];
+        codes = codes << 2 | code & 3;
+        put(frame, 4 * place, &word.to_be_bytes());
     }
+    put(frame, 0, &codes.to_be_bytes());
+}
+
+/// Three frames likewise.
+fn edge_frames(edges: &[(u32, u32); 18], from: usize) -> [u8; 192] {
+    let mut payload = [0; 192];
+    let mut frame = [0; 64];
+    for index in 0..3usize {
+        fill_edge_frame(&mut frame, edges, from.wrapping_add(15 * index));
+        put(&mut payload, 64 * index, &frame);
+    }
+    payload
 }
 
 /// A first sample: near a limit, near where a frame's reach to it ends, or anywhere.
@@ -120,17 +142,22 @@ fn first_by(number: u64) -> i32 {
     }
 }
 
+/// The next difference, or the fault where there is none behind so many.
+fn next_difference(items: &mut Differences<'_>, met: usize) -> Result<i32, ReadFault> {
+    match items.next() {
+        Some(Ok(difference)) => Ok(difference),
+        Some(Err(bad)) => Err(ReadFault::BadWord(bad.frame, bad.word)),
+        None => Err(ReadFault::Short(met)),
+    }
+}
+
 /// Sums up a payload's differences from its first sample on, one after another, each into its place. An error is the
 /// one of a record with as many samples as places.
 fn sum_up(payload: &[u8], scheme: Scheme, first: i32, places: &mut [i32]) -> Result<(), ReadFault> {
     let mut items = Differences::over(payload, scheme);
     let (mut last, mut left) = (i64::from(first), None);
     for met in 0..places.len() {
-        let difference = match items.next() {
-            Some(Ok(difference)) => difference,
-            Some(Err(bad)) => return Err(ReadFault::BadWord(bad.frame, bad.word)),
-            None => return Err(ReadFault::Short(met)),
-        };
+        let difference = next_difference(&mut items, met)?;
         if 0 < met {
             last = last.saturating_add(i64::from(difference));
         }
@@ -139,13 +166,9 @@ fn sum_up(payload: &[u8], scheme: Scheme, first: i32, places: &mut [i32]) -> Res
             Err(_) => left = left.or(Some(ReadFault::Overflow(met))),
         }
     }
-    left.map_or(Ok(()), Err)
-}
-
-/// Puts bytes into a record from this offset on.
-fn put(record: &mut [u8; 256], offset: usize, bytes: &[u8]) {
-    for (place, byte) in record.iter_mut().skip(offset).zip(bytes) {
-        *place = *byte;
+    match left {
+        Some(fault) => Err(fault),
+        None => Ok(()),
     }
 }
 
@@ -170,70 +193,73 @@ fn record_of(
     bytes
 }
 
-/// Compares what is checked and filled in of a payload's record with its sums.
-fn assert_same(rt: &impl Abort, payload: &[u8; 192], scheme: Scheme, samples: u16, first: i32) {
+/// Whether what is checked and filled in of a record of so many samples is this.
+fn reads(bytes: &[u8], samples: u16, wanted: Result<&[i32], ReadFault>) -> bool {
+    match RecordView::of(bytes) {
+        Ok(view) => view.samples() == samples && is_read(&view, wanted),
+        Err(_) => false,
+    }
+}
+
+/// Whether what is checked and filled in of a payload's record agrees with its sums.
+fn is_same(payload: &[u8; 192], scheme: Scheme, samples: u16, first: i32) -> bool {
     let count = usize::from(samples);
-    let (mut kept, mut put) = ([0; 320], [0; 320]);
-    if samples == 0 || 320 < samples {
-        assert!(rt; false, "{samples} samples");
-        return;
+    let mut kept = [0; 320];
+    if count == 0 || 320 < count {
+        return false;
     }
-    let wanted = sum_up(payload, scheme, first, &mut kept[..count]);
-    let last = kept[count - 1];
-    let bytes = record_of(payload, scheme, samples, first, last);
-    let Ok(view) = RecordView::of(&bytes) else {
-        assert!(rt; false, "no record");
-        return;
-    };
-    if view.samples() != samples {
-        assert!(rt; false, "{} samples in place of {samples}", view.samples());
-        return;
+    let summed = sum_up(payload, scheme, first, &mut kept[..count]);
+    let bytes = record_of(payload, scheme, samples, first, kept[count - 1]);
+    match summed {
+        Ok(()) => reads(&bytes, samples, Ok(&kept[..count])),
+        Err(fault) => reads(&bytes, samples, Err(fault)),
     }
-    let ends = wanted.map(|()| Ends { first, last });
-    assert_eq!(rt;
-        check_samples(&view),
-        ends,
-        "{scheme:?}, {samples} samples from {first}"
-    );
-    let filled = fill_samples(&view, &mut put[..count]);
-    assert_eq!(rt;
-        filled,
-        wanted,
-        "{scheme:?}, {samples} samples from {first} kept"
-    );
-    if wanted.is_ok() {
+}
+
+/// Checks that made payloads of a scheme agree, by numbers from this one on, and gives the number after them.
+fn assert_made(rt: &impl Abort, scheme: Scheme, number: u64) -> u64 {
+    let mut payload = [0; 192];
+    let mut number = number;
+    for round in 0..ROUNDS {
+        number = next_number(fill(&mut payload, scheme, round % 8 != 0, number));
+        let samples = 1 + (number >> 48) as u16 % 300;
         assert!(rt;
-            put == kept,
-            "{scheme:?}, {samples} samples from {first} kept"
+            is_same(&payload, scheme, samples, first_by(number)),
+            "{round}"
         );
     }
+    number
 }
 
 #[test]
 fn reads_made_frames(rt: HostRuntime) {
-    let mut payload = [0; 192];
-    let mut number = 0x2545_F491_4F6C_DD1D;
-    for scheme in [Scheme::One, Scheme::Two] {
-        for round in 0..ROUNDS {
-            number = fill(&mut payload, scheme, round % 8 != 0, number);
-            number = next_number(number);
-            let samples = 1 + (number >> 48) as u16 % 300;
-            assert_same(&rt, &payload, scheme, samples, first_by(number));
+    let number = assert_made(&rt, Scheme::One, 0x2545_F491_4F6C_DD1D);
+    assert_made(&rt, Scheme::Two, number);
+}
+
+/// Whether the edges from one on agree, few samples and many, from first samples of each kind.
+fn are_same(scheme: Scheme, edges: &[(u32, u32); 18], from: usize) -> bool {
+    let payload = edge_frames(edges, from);
+    for samples in [1, 2, 50, 90, 120, 160, 300] {
+        for first in [0, i32::MAX, i32::MIN, 1 << 30] {
+            if !is_same(&payload, scheme, samples, first) {
+                return false;
+            }
         }
     }
+    true
 }
 
 #[test]
 fn reads_the_edges_of_each_row(rt: HostRuntime) {
-    let mut payload = [0; 192];
-    for (scheme, edges) in [(Scheme::One, EDGES_ONE), (Scheme::Two, EDGES_TWO)] {
-        for from in 0..18usize {
-            fill_edges(&mut payload, &edges, from);
-            for samples in [1, 2, 50, 90, 120, 160, 300] {
-                for first in [0, i32::MAX, i32::MIN, 1 << 30] {
-                    assert_same(&rt, &payload, scheme, samples, first);
-                }
-            }
-        }
+    for from in 0..18usize {
+        assert!(rt;
+            are_same(Scheme::One, &EDGES_ONE, from),
+            "Steim-1 from {from}"
+        );
+        assert!(rt;
+            are_same(Scheme::Two, &EDGES_TWO, from),
+            "Steim-2 from {from}"
+        );
     }
 }

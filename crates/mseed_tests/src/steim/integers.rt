@@ -1,6 +1,6 @@
 //! Samples that are integers.
 
-use super::record::{Row, assert_record, record};
+use super::record::{Row, is_record, record};
 use mseed_steim::ReadFault;
 
 const LONG: Row = Row {
@@ -31,60 +31,55 @@ const SHORT_LITTLE: Row = Row {
     ..SHORT
 };
 
+/// The samples of the rows of 32 bits.
+const LONGS: &[i32] = &[1, -1, i32::MIN];
+
+/// Those of the rows of 16.
+const SHORTS: &[i32] = &[1, -1, -32768, 32767];
+
+/// Rows, and what is read of them.
+static ROWS: [(&str, Row, Result<&[i32], ReadFault>); 9] = [
+    ("32 bits", LONG, Ok(LONGS)),
+    ("32 bits, little-endian", LONG_LITTLE, Ok(LONGS)),
+    ("16 bits", SHORT, Ok(SHORTS)),
+    ("16 bits, little-endian", SHORT_LITTLE, Ok(SHORTS)),
+    ("32 bits to the end", Row { data: 244, ..LONG }, Ok(LONGS)),
+    (
+        "32 bits past the end",
+        Row {
+            data: 244,
+            samples: 4,
+            ..LONG
+        },
+        Err(ReadFault::Short(3)),
+    ),
+    ("16 bits to the end", Row { data: 248, ..SHORT }, Ok(SHORTS)),
+    (
+        "16 bits past the end",
+        Row { data: 249, ..SHORT },
+        Err(ReadFault::Short(3)),
+    ),
+    ("another encoding", FLOATS, Err(ReadFault::Encoding(4))),
+];
+
+/// An encoding that isn't read.
+const FLOATS: Row = Row {
+    encoding: 4,
+    data: 0,
+    ..LONG
+};
+
 #[test]
 fn reads_integers(rt: HostRuntime) {
-    let long: &[i32] = &[1, -1, i32::MIN];
-    let short: &[i32] = &[1, -1, -32768, 32767];
-    let cases: [(&str, Row, Result<&[i32], ReadFault>); 9] = [
-        ("32 bits", LONG, Ok(long)),
-        ("32 bits, little-endian", LONG_LITTLE, Ok(long)),
-        ("16 bits", SHORT, Ok(short)),
-        ("16 bits, little-endian", SHORT_LITTLE, Ok(short)),
-        ("32 bits to the end", Row { data: 244, ..LONG }, Ok(long)),
-        (
-            "32 bits past the end",
-            Row {
-                data: 244,
-                samples: 4,
-                ..LONG
-            },
-            Err(ReadFault::Short(3)),
-        ),
-        ("16 bits to the end", Row { data: 248, ..SHORT }, Ok(short)),
-        (
-            "16 bits past the end",
-            Row { data: 249, ..SHORT },
-            Err(ReadFault::Short(3)),
-        ),
-        (
-            "another encoding",
-            Row {
-                encoding: 4,
-                data: 0,
-                ..LONG
-            },
-            Err(ReadFault::Encoding(4)),
-        ),
-    ];
-    for (name, row, wanted) in cases {
-        assert_record(&rt, rt.alloc(), name, &record(&row), wanted);
+    for (name, row, wanted) in &ROWS {
+        assert!(rt; is_record(rt.alloc(), &record(row), *wanted), "{name}");
     }
 }
 
 #[test]
 fn refuses_another_rate_first(rt: HostRuntime) {
-    let mut bytes = record(&Row {
-        encoding: 4,
-        data: 0,
-        ..LONG
-    });
+    let mut bytes = record(&FLOATS);
     bytes[56] = 0;
     bytes[57] = 100;
-    assert_record(
-        &rt,
-        rt.alloc(),
-        "blockette 100",
-        &bytes,
-        Err(ReadFault::Blockette100),
-    );
+    assert!(rt; is_record(rt.alloc(), &bytes, Err(ReadFault::Blockette100)));
 }

@@ -2,82 +2,101 @@
 
 use mseed_steim::{Packed, Scheme, TooLargeAt, least_words, pack_word, pack_words};
 
-const DIFFERENCES: [i32; 5] = [300, 1, 1, 1, 1];
+static DIFFERENCES: [i32; 5] = [300, 1, 1, 1, 1];
+
+/// A scheme, the index of a difference, and the word that is packed from there on.
+type Word = (Scheme, usize, (u8, u32, usize));
+
+static WORDS: [Word; 5] = [
+    (Scheme::Two, 0, (2, 0xD2C0_0401, 3)),
+    (Scheme::Two, 3, (2, 0x8000_8001, 2)),
+    (Scheme::One, 0, (2, 0x012C_0001, 2)),
+    (Scheme::One, 2, (2, 0x0001_0001, 2)),
+    (Scheme::One, 4, (3, 0x0000_0001, 1)),
+];
+
+/// Whether a word is packed as a row says.
+fn is_packed((scheme, from, wanted): &Word) -> bool {
+    *from < DIFFERENCES.len() && pack_word(*scheme, &DIFFERENCES[*from..]) == Ok(*wanted)
+}
 
 #[test]
 fn packs_worked_words(rt: HostRuntime) {
-    let cases: [(Scheme, usize, (u8, u32, usize)); 5] = [
-        (Scheme::Two, 0, (2, 0xD2C0_0401, 3)),
-        (Scheme::Two, 3, (2, 0x8000_8001, 2)),
-        (Scheme::One, 0, (2, 0x012C_0001, 2)),
-        (Scheme::One, 2, (2, 0x0001_0001, 2)),
-        (Scheme::One, 4, (3, 0x0000_0001, 1)),
-    ];
-    for (scheme, from, wanted) in cases {
-        if from < DIFFERENCES.len() {
-            assert_eq!(rt; pack_word(scheme, &DIFFERENCES[from..]), Ok(wanted));
+    for (row, word) in WORDS.iter().enumerate() {
+        assert!(rt; is_packed(word), "row {row}");
+    }
+}
+
+/// A scheme, how many words the differences take in it, and the frame's first words.
+type Frame = (Scheme, usize, &'static [u32]);
+
+static FRAMES: [Frame; 2] = [
+    (
+        Scheme::Two,
+        2,
+        &[0x0280_0000, 0, 0, 0xD2C0_0401, 0x8000_8001],
+    ),
+    (
+        Scheme::One,
+        3,
+        &[0x02B0_0000, 0, 0, 0x012C_0001, 0x0001_0001, 1],
+    ),
+];
+
+/// Whether a frame has these words, and zeros behind them.
+fn has_words(frame: &[u8; 64], wanted: &[u32]) -> bool {
+    for index in 0..16 {
+        if word_at(frame, index) != wanted.get(index).copied().unwrap_or(0) {
+            return false;
         }
     }
+    true
+}
+
+/// Whether a frame is packed as a row says.
+fn is_frame_packed((scheme, words, wanted): &Frame) -> bool {
+    let mut frame = [255; 64];
+    pack_words(*scheme, &DIFFERENCES, &mut frame)
+        == Ok(Packed {
+            used: 5,
+            words: *words,
+        })
+        && has_words(&frame, wanted)
 }
 
 #[test]
 fn packs_worked_frames(rt: HostRuntime) {
-    let cases: [(Scheme, usize, &[u32]); 2] = [
-        (
-            Scheme::Two,
-            2,
-            &[0x0280_0000, 0, 0, 0xD2C0_0401, 0x8000_8001],
-        ),
-        (
-            Scheme::One,
-            3,
-            &[0x02B0_0000, 0, 0, 0x012C_0001, 0x0001_0001, 1],
-        ),
-    ];
-    for (scheme, words, wanted) in cases {
-        let mut frame = [255; 64];
-        assert_eq!(rt;
-            pack_words(scheme, &DIFFERENCES, &mut frame),
-            Ok(Packed { used: 5, words })
-        );
-        for (at, bytes) in frame.as_chunks::<4>().0.iter().enumerate() {
-            let word = if at < wanted.len() { wanted[at] } else { 0 };
-            assert_eq!(rt; u32::from_be_bytes(*bytes), word, "word {at}");
-        }
+    for (row, frame) in FRAMES.iter().enumerate() {
+        assert!(rt; is_frame_packed(frame), "row {row}");
     }
 }
 
+/// Differences, and how few words they take.
+static FEWEST: [(&[i32], Result<u64, TooLargeAt>); 7] = [
+    (&[], Ok(0)),
+    (&[300, 1, 1, 1, 1], Ok(2)),
+    (&[8; 7], Ok(2)),
+    (&[0, 0, 0, 0, 0, 0, 200], Ok(2)),
+    (&[40; 6], Ok(2)),
+    (&[0; 722], Ok(104)),
+    (&[0, 536_870_912], Err(TooLargeAt { index: 1 })),
+];
+
 #[test]
 fn counts_the_fewest_words(rt: HostRuntime) {
-    let zeros = [0; 722];
-    let mut zeros_and_200 = [0; 7];
-    zeros_and_200[6] = 200;
-    let cases: [(&[i32], Result<u64, TooLargeAt>); 7] = [
-        (&[], Ok(0)),
-        (&DIFFERENCES, Ok(2)),
-        (&[8; 7], Ok(2)),
-        (&zeros_and_200, Ok(2)),
-        (&[40; 6], Ok(2)),
-        (&zeros, Ok(104)),
-        (&[0, 536_870_912], Err(TooLargeAt { index: 1 })),
-    ];
-    for (differences, wanted) in cases {
-        assert_eq!(rt; least_words(differences), wanted);
+    for (row, (differences, wanted)) in FEWEST.iter().enumerate() {
+        assert!(rt; least_words(differences) == *wanted, "row {row}");
     }
-    let mut frame = [0; 64];
-    assert_eq!(rt;
-        pack_words(Scheme::Two, &[0, 536_870_912], &mut frame),
-        Err(TooLargeAt { index: 1 })
-    );
+    let packed = pack_words(Scheme::Two, &[0, 536_870_912], &mut [0; 64]);
+    assert!(rt; packed == Err(TooLargeAt { index: 1 }));
 }
 
 /// The word of packed frames at this index.
 fn word_at(frames: &[u8], index: usize) -> u32 {
-    frames
-        .as_chunks::<4>()
-        .0
-        .get(index)
-        .map_or(0, |bytes| u32::from_be_bytes(*bytes))
+    match frames.as_chunks::<4>().0.get(index) {
+        Some(bytes) => u32::from_be_bytes(*bytes),
+        None => 0,
+    }
 }
 
 /// Differences of many widths, in stretches of some of about one width.
@@ -92,32 +111,44 @@ fn many_widths() -> [i32; 700] {
     diffs
 }
 
+/// Whether packed frames have a word at this index, and its code.
+fn has_word(frames: &[u8], index: usize, code: u8, word: u32) -> bool {
+    let codes = word_at(frames, index / 16 * 16);
+    word_at(frames, index) == word && codes >> (30 - 2 * (index % 16)) & 3 == u32::from(code)
+}
+
+/// How many differences are used and words filled, if each word of packed frames is the fullest one of the differences
+/// that are left.
+fn packed_by_word(scheme: Scheme, diffs: &[i32], frames: &[u8]) -> Option<Packed> {
+    let mut used = 0usize;
+    let mut words = 0usize;
+    for index in 3..1008 {
+        let left = diffs.get(used..).unwrap_or(&[]);
+        if index % 16 == 0 || left.is_empty() {
+            continue;
+        }
+        let (code, word, count) = pack_word(scheme, left).ok()?;
+        if !has_word(frames, index, code, word) {
+            return None;
+        }
+        used = used.wrapping_add(count);
+        words = words.wrapping_add(1);
+    }
+    Some(Packed { used, words })
+}
+
+/// Whether the differences of many widths are all packed, word by word.
+fn packs_all(scheme: Scheme) -> bool {
+    let diffs = many_widths();
+    let mut frames = [255; 4032];
+    match pack_words(scheme, &diffs, &mut frames) {
+        Ok(packed) => packed.used == 700 && packed_by_word(scheme, &diffs, &frames) == Some(packed),
+        Err(_) => false,
+    }
+}
+
 #[test]
 fn packs_as_word_by_word(rt: HostRuntime) {
-    let diffs = many_widths();
-    for scheme in [Scheme::One, Scheme::Two] {
-        let mut frames = [255; 4032];
-        let packed = pack_words(scheme, &diffs, &mut frames);
-        let mut used = 0usize;
-        let mut words = 0usize;
-        for index in 3..1008 {
-            let left = diffs.get(used..).unwrap_or(&[]);
-            if index % 16 == 0 || left.is_empty() {
-                continue;
-            }
-            if let Ok((code, word, count)) = pack_word(scheme, left) {
-                let codes = word_at(&frames, index / 16 * 16);
-                assert_eq!(rt; word_at(&frames, index), word, "word {index}");
-                assert_eq!(rt;
-                    codes >> (30 - 2 * (index % 16)) & 3,
-                    u32::from(code),
-                    "code {index}"
-                );
-                used = used.wrapping_add(count);
-                words = words.wrapping_add(1);
-            }
-        }
-        assert_eq!(rt; packed, Ok(Packed { used, words }));
-        assert_eq!(rt; used, 700);
-    }
+    assert!(rt; packs_all(Scheme::One));
+    assert!(rt; packs_all(Scheme::Two));
 }

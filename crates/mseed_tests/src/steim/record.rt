@@ -1,12 +1,16 @@
 //! Records of 256 bytes, made of the parts that their samples hang on.
 
+ghost use Rattle.std.specs.Prelude.{◌<◌};
+ghost use Rattle.mseed_record.specs.Viewing.{view_of};
+ghost use Rattle.mseed_steim.specs.Reading.{count_of};
+
+use crate::records::put;
 use mseed_record::RecordView;
 use mseed_steim::{Ends, ReadFault, check_samples, ends_of, fill_samples, read_samples};
 use std::alloc::Global;
-use std::process::Abort;
 
 /// A header of 64 bytes for a record of 2^8, with the blockettes 1000 and 1001.
-const HEADER: [u8; 64] = [
+static HEADER: [u8; 64] = [
     48, 48, 48, 48, 48, 49, 68, 32, // the sequence number, the quality and the reserved byte
     83, 84, 65, 32, 32, 32, 32, 66, 72, 90, 88, 88, // station, location, channel and network
     7, 232, 0, 1, 0, 0, 0, 0, 0, 0, // the start
@@ -40,80 +44,84 @@ pub const STEIM_1: Row = Row {
     frames: &[&[0x0100_0000, 100, 103, 0x0001_0101]],
 };
 
+/// Puts words into a record from this offset on.
+fn put_words(bytes: &mut [u8; 256], offset: usize, words: &[u32]) {
+    let mut at = offset;
+    for word in words {
+        put(bytes, at, &word.to_be_bytes());
+        at = at.saturating_add(4);
+    }
+}
+
 /// The record of a row, zeros behind the words of each frame.
 pub fn record(row: &Row) -> [u8; 256] {
     let mut bytes = [0; 256];
-    bytes[..64].copy_from_slice(&HEADER);
+    put(&mut bytes, 0, &HEADER);
     bytes[31] = row.samples;
     bytes[45] = row.data;
     bytes[52] = row.encoding;
     bytes[53] = row.word_order;
     let mut frame = usize::from(row.data).max(64);
     for words in row.frames {
-        let mut at = frame;
-        for word in *words {
-            for byte in word.to_be_bytes() {
-                if at < 256 {
-                    bytes[at] = byte;
-                    at += 1;
-                }
-            }
-        }
-        frame = frame.saturating_add(64).min(256);
+        put_words(&mut bytes, frame, words);
+        frame = frame.saturating_add(64);
     }
     bytes
 }
 
-/// Checks what is filled in of a record of 64 samples or fewer.
-fn assert_filled(
-    rt: &impl Abort,
-    name: &str,
-    view: &RecordView<'_>,
-    wanted: Result<&[i32], ReadFault>,
-) {
-    let samples = usize::from(view.samples());
-    let mut places = [0; 64];
-    if samples == 0 || places.len() < samples {
-        assert!(rt; false, "{name}: {samples} samples");
-        return;
-    }
-    match fill_samples(view, &mut places[..samples]) {
-        Ok(()) => assert_eq!(rt; Ok(&places[..samples]), wanted, "{name}"),
-        Err(fault) => assert_eq!(rt; Err(fault), wanted, "{name}"),
+/// Whether a record's check answers the ends of these samples, or this fault.
+fn is_checked(view: &RecordView<'_>, wanted: Result<&[i32], ReadFault>) -> bool
+    requires { 0 < count_of (view_of view.now) }
+{
+    let ends = check_samples(view);
+    match wanted {
+        Ok(samples) => ends == Ok(ends_among(samples)),
+        Err(fault) => ends == Err(fault),
     }
 }
 
-/// Checks what all calls say of a record.
-pub fn assert_record(
-    rt: &impl Abort,
-    alloc: Global,
-    name: &str,
-    bytes: &[u8],
-    wanted: Result<&[i32], ReadFault>,
-) {
-    let Ok(view) = RecordView::of(bytes) else {
-        assert!(rt; false, "{name}: no record");
-        return;
-    };
-    if view.samples() == 0 {
-        assert!(rt; false, "{name}: no samples");
-        return;
+/// The first and the last of some samples.
+fn ends_among(samples: &[i32]) -> Ends {
+    Ends {
+        first: samples.first().copied().unwrap_or(0),
+        last: samples.last().copied().unwrap_or(0),
     }
-    assert_filled(rt, name, &view, wanted);
-    let ends = check_samples(&view);
-    match read_samples(alloc, &view) {
-        Ok(samples) => {
-            assert_eq!(rt; Ok(samples.as_slice()), wanted, "{name}");
-            let found = Ends {
-                first: samples.first().copied().unwrap_or(0),
-                last: samples.last().copied().unwrap_or(0),
-            };
-            assert_eq!(rt; ends, Ok(found), "{name}");
-            assert_eq!(rt; ends_of(&view), found, "{name}");
+}
+
+/// Whether these samples are filled in of a record of 320 or fewer, or this fault is answered.
+fn is_filled(view: &RecordView<'_>, wanted: Result<&[i32], ReadFault>) -> bool {
+    let count = usize::from(view.samples());
+    let mut places = [0; 320];
+    if count == 0 || 320 < count {
+        return false;
+    }
+    match fill_samples(view, &mut places[..count]) {
+        Ok(()) => wanted == Ok(&places[..count]),
+        Err(fault) => wanted == Err(fault),
+    }
+}
+
+/// Whether these samples are checked and filled in of a record that has some, or this fault is answered.
+pub fn is_read(view: &RecordView<'_>, wanted: Result<&[i32], ReadFault>) -> bool {
+    view.samples() != 0 && is_checked(view, wanted) && is_filled(view, wanted)
+}
+
+/// Whether a list of these samples is made of a record, and they have its ends, or this fault is answered.
+fn is_listed(alloc: Global, view: &RecordView<'_>, wanted: Result<&[i32], ReadFault>) -> bool
+    requires { 0 < count_of (view_of view.now) }
+{
+    match read_samples(alloc, view) {
+        Ok(samples) => { ends_of(view) == ends_among(&samples) && wanted == Ok(samples.as_slice()) }
+        Err(fault) => wanted == Err(fault),
+    }
+}
+
+/// Whether all calls read these samples of a record, or answer this fault.
+pub fn is_record(alloc: Global, bytes: &[u8], wanted: Result<&[i32], ReadFault>) -> bool {
+    match RecordView::of(bytes) {
+        Ok(view) => {
+            view.samples() != 0 && is_read(&view, wanted) && is_listed(alloc, &view, wanted)
         }
-        Err(fault) => {
-            assert_eq!(rt; Err(fault), wanted, "{name}");
-            assert_eq!(rt; ends, Err(fault), "{name}");
-        }
+        Err(_) => false,
     }
 }

@@ -1,7 +1,8 @@
 //! Samples of Steim frames, worked by hand from the words.
 
-use super::record::{Row, STEIM_1, assert_record, record};
+use super::record::{Row, STEIM_1, is_record, record};
 use mseed_steim::{BadWordAt, Differences, ReadFault, Scheme};
+use std::alloc::Global;
 
 /// A row of a table: its name, its scheme, its samples, its frames, and what is read.
 type Case = (
@@ -12,7 +13,7 @@ type Case = (
     Result<&'static [i32], ReadFault>,
 );
 
-const CASES: [Case; 19] = [
+static CASES: [Case; 19] = [
     (
         "four differences",
         Scheme::One,
@@ -148,57 +149,60 @@ const CASES: [Case; 19] = [
     ),
 ];
 
-/// The record of a case.
-fn row_of((_, scheme, samples, frames, _): Case) -> Row {
+/// Whether the record of a case is read so.
+fn is_case(alloc: Global, (_, scheme, samples, frames, wanted): &Case) -> bool {
     let encoding = match scheme {
         Scheme::One => 10,
         Scheme::Two => 11,
     };
-    Row {
+    let row = Row {
         encoding,
-        samples,
-        frames,
+        samples: *samples,
+        frames: *frames,
         ..STEIM_1
-    }
+    };
+    is_record(alloc, &record(&row), *wanted)
 }
 
 #[test]
 fn reads_steim(rt: HostRuntime) {
-    for case in CASES {
-        assert_record(&rt, rt.alloc(), case.0, &record(&row_of(case)), case.4);
+    for case in &CASES {
+        assert!(rt; is_case(rt.alloc(), case), "{}", case.0);
     }
 }
 
+/// Records that have no payload, and their faults.
+static REFUSED: [(&str, Row, ReadFault); 3] = [
+    (
+        "less than a frame",
+        Row {
+            data: 200,
+            ..STEIM_1
+        },
+        ReadFault::Short(0),
+    ),
+    (
+        "little-endian",
+        Row {
+            word_order: 0,
+            ..STEIM_1
+        },
+        ReadFault::LittleSteim,
+    ),
+    (
+        "data within the header",
+        Row {
+            data: 47,
+            ..STEIM_1
+        },
+        ReadFault::DataOffset,
+    ),
+];
+
 #[test]
 fn refuses_what_is_no_payload(rt: HostRuntime) {
-    let cases: [(&str, Row, ReadFault); 3] = [
-        (
-            "less than a frame",
-            Row {
-                data: 200,
-                ..STEIM_1
-            },
-            ReadFault::Short(0),
-        ),
-        (
-            "little-endian",
-            Row {
-                word_order: 0,
-                ..STEIM_1
-            },
-            ReadFault::LittleSteim,
-        ),
-        (
-            "data within the header",
-            Row {
-                data: 47,
-                ..STEIM_1
-            },
-            ReadFault::DataOffset,
-        ),
-    ];
-    for (name, row, wanted) in cases {
-        assert_record(&rt, rt.alloc(), name, &record(&row), Err(wanted));
+    for (name, row, fault) in &REFUSED {
+        assert!(rt; is_record(rt.alloc(), &record(row), Err(*fault)), "{name}");
     }
 }
 
@@ -222,6 +226,17 @@ const BYTES: [u32; 16] = [
     0x0101_01FF,
 ];
 
+/// Whether a payload hands out one difference at first, and then has 59 others ready.
+fn is_run(payload: &[u8]) -> bool {
+    let mut rest = [1; 59];
+    rest[58] = -1;
+    let mut items = Differences::over(payload, Scheme::Two);
+    items.ready().is_empty()
+        && items.next() == Some(Ok(1))
+        && items.ready() == rest.as_slice()
+        && items.count() == 59
+}
+
 #[test]
 fn unpacks_a_run_of_bytes(rt: HostRuntime) {
     let row = Row {
@@ -234,14 +249,18 @@ fn unpacks_a_run_of_bytes(rt: HostRuntime) {
         samples[i] = 5 + i as i32;
     }
     let bytes = record(&row);
-    assert_record(&rt, rt.alloc(), "29 of 60", &bytes, Ok(&samples));
-    let mut rest = [1; 59];
-    rest[58] = -1;
-    let mut items = Differences::over(&bytes[64..192], Scheme::Two);
-    assert!(rt; items.ready().is_empty());
-    assert_eq!(rt; items.next(), Some(Ok(1)));
-    assert_eq!(rt; items.ready(), rest.as_slice());
-    assert_eq!(rt; items.count(), 59);
+    assert!(rt; is_record(rt.alloc(), &bytes, Ok(&samples)), "29 of 60");
+    assert!(rt; is_run(&bytes[64..192]));
+}
+
+/// Whether the next difference is this one.
+fn hands_out(items: &mut Differences<'_>, wanted: Option<Result<i32, BadWordAt>>) -> bool {
+    items.next() == wanted
+}
+
+/// How many differences a payload hands out.
+fn count_of(payload: &[u8], scheme: Scheme) -> usize {
+    Differences::over(payload, scheme).count()
 }
 
 #[test]
@@ -251,13 +270,15 @@ fn hands_out_differences(rt: HostRuntime) {
         frames: &[&[0x0180_0000, 100, 103, 0x0001_0203, 0, 0x0001_0203]],
         ..STEIM_1
     });
-    let mut items = Differences::over(&bytes[64..], Scheme::Two);
-    for wanted in [0, 1, 2, 3] {
-        assert_eq!(rt; items.next(), Some(Ok(wanted)));
+    let payload = &bytes[64..];
+    let mut items = Differences::over(payload, Scheme::Two);
+    for wanted in 0..4 {
+        assert!(rt; hands_out(&mut items, Some(Ok(wanted))), "{wanted}");
     }
-    assert_eq!(rt; items.next(), Some(Err(BadWordAt { frame: 0, word: 4 })));
-    assert_eq!(rt; items.next(), None);
-    assert_eq!(rt; items.next(), None);
-    assert_eq!(rt; Differences::over(&bytes[64..], Scheme::One).count(), 6);
-    assert_eq!(rt; Differences::over(&bytes[64..127], Scheme::Two).count(), 0);
+    let bad = BadWordAt { frame: 0, word: 4 };
+    assert!(rt; hands_out(&mut items, Some(Err(bad))));
+    assert!(rt; hands_out(&mut items, None));
+    assert!(rt; hands_out(&mut items, None));
+    assert!(rt; count_of(payload, Scheme::One) == 6);
+    assert!(rt; count_of(payload.get(..63).unwrap_or(payload), Scheme::Two) == 0);
 }

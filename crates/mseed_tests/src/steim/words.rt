@@ -1,9 +1,9 @@
 //! Words and the differences that they spell, made by a program of its own from the manual's tables.
 
+use super::Word;
 use mseed_steim::Scheme;
 
-/// A scheme, a code, a word, and its differences. None stands for a bad word.
-pub const WORDS: [(Scheme, u8, u32, Option<&[i32]>); 100] = [
+pub static WORDS: [Word; 100] = [
     (Scheme::One, 0, 0x20000000, Some(&[])),
     (Scheme::Two, 2, 0x74F72C90, Some(&[-185127792])),
     (Scheme::One, 1, 0xF9119163, Some(&[-7, 17, -111, 99])),

@@ -1,7 +1,10 @@
 //! The records of the rows, each one sound record but for some of its bytes.
 
+use mseed_record::RecordView;
+use std::process::Abort;
+
 /// 16 samples at 20 a second from the first instant of 2024, of the channel XX_STA__BHZ.
-pub(super) const FIRST: [u8; 128] = [
+pub(crate) static FIRST: [u8; 128] = [
     48, 48, 48, 48, 48, 49, 68, 32, // the sequence number, the quality and the reserved byte
     83, 84, 65, 32, 32, 32, 32, 66, 72, 90, 88, 88, // station, location, channel and network
     7, 232, 0, 1, 0, 0, 0, 0, 0, 0, // the start
@@ -15,29 +18,44 @@ pub(super) const FIRST: [u8; 128] = [
 ];
 
 /// Another start: the record follows the first one.
-pub(super) const NEXT: &[(usize, &[u8])] = &[(28, &[31, 64])];
+pub(crate) static NEXT: &[(usize, &[u8])] = &[(28, &[31, 64])];
 
 /// Another start: the record begins half a sample and a microsecond late behind the first one.
-pub(super) const LATE: &[(usize, &[u8])] = &[(28, &[32, 58]), (61, &[1])];
+pub(crate) static LATE: &[(usize, &[u8])] = &[(28, &[32, 58]), (61, &[1])];
 
 /// Another channel: XX_STA__BHN.
-pub(super) const BHN: &[(usize, &[u8])] = &[(17, b"N")];
+pub(crate) static BHN: &[(usize, &[u8])] = &[(17, b"N")];
+
+/// Puts bytes into others from this offset on.
+pub(crate) fn put(place: &mut [u8], offset: usize, bytes: &[u8]) {
+    for (old, new) in place.iter_mut().skip(offset).zip(bytes) {
+        *old = *new;
+    }
+}
+
+/// Puts other bytes into a record at some offsets.
+pub(crate) fn change(record: &mut [u8; 128], parts: &[(usize, &[u8])]) {
+    for (offset, bytes) in parts {
+        put(record, *offset, bytes);
+    }
+}
 
 /// The first record with other bytes at some offsets.
-pub(super) fn with(parts: &[(usize, &[u8])]) -> [u8; 128] {
+pub(crate) fn with(parts: &[(usize, &[u8])]) -> [u8; 128] {
     let mut record = FIRST;
-    for (offset, bytes) in parts {
-        for (byte, new) in record.iter_mut().skip(*offset).zip(*bytes) {
-            *byte = *new;
-        }
-    }
+    change(&mut record, parts);
     record
 }
 
 /// The bytes of the first record and another.
-pub(super) fn two(next: &[u8; 128]) -> [u8; 256] {
+pub(crate) fn two(next: &[u8; 128]) -> [u8; 256] {
     let mut bytes = [0; 256];
-    bytes[..128].copy_from_slice(&FIRST);
-    bytes[128..].copy_from_slice(next);
+    put(&mut bytes, 0, &FIRST);
+    put(&mut bytes, 128, next);
     bytes
+}
+
+/// The view of a record.
+pub(crate) fn view<'a>(rt: &impl Abort, bytes: &'a [u8]) -> RecordView<'a> {
+    RecordView::of(bytes).expect(rt, "a record")
 }
