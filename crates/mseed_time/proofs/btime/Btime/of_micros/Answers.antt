@@ -19,7 +19,8 @@ returns-clause-unique c t u spells = name_unique _ _ _ _ _ (returns-clause-names
 pub returns-clause-no_name : goal.returns-clause-no_name
 returns-clause-no_name c = ((λ h. absurd (cc h)), λ none. absurd (none _ _ (returns-clause-names c)))
 
-pub returns-then-since_1800-lt-START_OF_1900-clause-no_name : goal.returns-then-since_1800-lt-START_OF_1900-clause-no_name
+pub returns-then-since_1800-lt-START_OF_1900-clause-no_name :
+    goal.returns-then-since_1800-lt-START_OF_1900-clause-no_name
 returns-then-since_1800-lt-START_OF_1900-clause-no_name c =
     let outside : IsOutside c.args.instant = search rules in
     ((λ _. outside_unnamed c.args.instant outside), (λ _ i. true))
