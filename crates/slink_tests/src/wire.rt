@@ -14,70 +14,85 @@ fn with_header(header: &[u8; 8]) -> [u8; 520] {
     packet
 }
 
+/// The number of a packet that begins so, if it is one.
+fn number_behind(header: &[u8; 8]) -> Option<u32> {
+    match Packet::read(&with_header(header)) {
+        Ok((number, _)) => Some(number),
+        Err(_) => None,
+    }
+}
+
+/// The first eight bytes of a packet, and its number, if it is one.
+static HEADERS: [(&[u8; 8], Option<u32>); 8] = [
+    (b"SLFFFFFF", Some(16_777_215)),
+    (b"SL000000", Some(0)),
+    (b"SLabcDEF", Some(11_259_375)),
+    (b"SL00001f", Some(31)),
+    (b"SL00000g", None),
+    (b"SL 0001f", None),
+    (b"SX000000", None),
+    (b"sl000000", None),
+];
+
 #[test]
 fn writes_and_reads_packets(rt: HostRuntime) {
     let written = Packet::write(16_777_215, &[7; 512]);
     assert_eq!(rt; &written[..10], b"SLFFFFFF\x07\x07".as_slice());
-    let cases: [(&[u8; 8], Option<u32>); 8] = [
-        (b"SLFFFFFF", Some(16_777_215)),
-        (b"SL000000", Some(0)),
-        (b"SLabcDEF", Some(11_259_375)),
-        (b"SL00001f", Some(31)),
-        (b"SL00000g", None),
-        (b"SL 0001f", None),
-        (b"SX000000", None),
-        (b"sl000000", None),
-    ];
-    for (header, wanted) in cases {
-        assert_eq!(rt;
-            Packet::read(&with_header(header))
-                .ok()
-                .map(|(number, _)| number),
-            wanted,
-            "{header:?}"
-        );
+    for (header, wanted) in &HEADERS {
+        assert!(rt; number_behind(header) == *wanted, "{header:?}");
     }
 }
 
-#[test]
-fn spells_places(rt: HostRuntime) {
-    let cases: [(&[u8], Option<(&[u8], &[u8])>); 8] = [
-        (b"XX_STA", Some((b"STA", b"XX"))),
-        (b"x_a1B2c", Some((b"a1B2c", b"x"))),
-        (b"XX_ABCDEF", None),
-        (b"XXX_STA", None),
-        (b"XX_", None),
-        (b"_STA", None),
-        (b"XXSTA", None),
-        (b"XX_S_A", None),
-    ];
-    for (text, wanted) in cases {
-        match (Place::read(text), wanted) {
-            (Ok(place), Some((sta, net))) => {
-                assert_eq!(rt; place.station(), sta);
-                assert_eq!(rt; place.network(), net);
-            }
-            (found, wanted) => assert!(rt; found.is_err() && wanted.is_none(), "{text:?}"),
-        }
+/// Whether a text spells this station and this network, or no place.
+fn spells(text: &[u8], wanted: Option<(&[u8], &[u8])>) -> bool {
+    match (Place::read(text), wanted) {
+        (Ok(place), Some((sta, net))) => place.station() == sta && place.network() == net,
+        (found, wanted) => found.is_err() && wanted.is_none(),
     }
 }
+
+/// A text, and the station and the network that it spells, if it is a place.
+static SPELLED: [(&[u8], Option<(&[u8], &[u8])>); 8] = [
+    (b"XX_STA", Some((b"STA", b"XX"))),
+    (b"x_a1B2c", Some((b"a1B2c", b"x"))),
+    (b"XX_ABCDEF", None),
+    (b"XXX_STA", None),
+    (b"XX_", None),
+    (b"_STA", None),
+    (b"XXSTA", None),
+    (b"XX_S_A", None),
+];
+
+#[test]
+fn spells_places(rt: HostRuntime) {
+    for (text, wanted) in &SPELLED {
+        assert!(rt; spells(text, *wanted), "{text:?}");
+    }
+}
+
+/// Whether so much of a piece is used, and it ends this line, or none.
+fn takes(lines: &mut Lines, piece: &[u8], used: usize, line: Option<&[u8]>) -> bool {
+    let emitted = lines.take(piece);
+    emitted.used == used
+        && match emitted.what {
+            What::Line(found) => Some(found.as_slice()) == line,
+            What::More => line.is_none(),
+            What::TooLong => false,
+        }
+}
+
+/// A piece of a stream, how much of it is used, and the line that it ends, if it ends one.
+static PIECES: [(&[u8], usize, Option<&[u8]>); 3] = [
+    (b"HEL", 3, None),
+    (b"LO\r\nEND\r", 3, Some(b"HELLO")),
+    (b"\nEND\r", 5, Some(b"END")),
+];
 
 #[test]
 fn takes_lines_in_pieces(rt: HostRuntime) {
     let mut lines = Lines::new();
-    let cases: [(&[u8], usize, Option<&[u8]>); 3] = [
-        (b"HEL", 3, None),
-        (b"LO\r\nEND\r", 3, Some(b"HELLO")),
-        (b"\nEND\r", 5, Some(b"END")),
-    ];
-    for (piece, used, line) in cases {
-        let emitted = lines.take(piece);
-        assert_eq!(rt; emitted.used, used);
-        match emitted.what {
-            What::Line(found) => assert_eq!(rt; Some(found.as_slice()), line),
-            What::More => assert!(rt; line.is_none()),
-            What::TooLong => assert!(rt; false, "too long"),
-        }
+    for (piece, used, line) in &PIECES {
+        assert!(rt; takes(&mut lines, piece, *used, *line), "{piece:?}");
     }
 }
 
@@ -97,60 +112,62 @@ fn ends_at_a_line_too_long(rt: HostRuntime) {
     assert!(rt; matches!(emitted.what, What::TooLong));
 }
 
+/// A line, and its command.
+static COMMANDS: [(&[u8], Command); 24] = [
+    (b"HELLO", Command::Hello),
+    (b"  hello ", Command::Hello),
+    (
+        b"STATION STA",
+        Command::Station {
+            sta: *b"STA  ",
+            net: None,
+        },
+    ),
+    (
+        b" station   a1B2c  ",
+        Command::Station {
+            sta: *b"a1B2c",
+            net: None,
+        },
+    ),
+    (
+        b"STATION STA XX",
+        Command::Station {
+            sta: *b"STA  ",
+            net: Some(*b"XX"),
+        },
+    ),
+    (
+        b"Station STA  x",
+        Command::Station {
+            sta: *b"STA  ",
+            net: Some(*b"x "),
+        },
+    ),
+    (b"SELECT", Command::SelectAll),
+    (b" select ", Command::SelectAll),
+    (b"DATA", Command::Data(None)),
+    (b"  data   1f ", Command::Data(Some(31))),
+    (b"FETCH", Command::Fetch(None)),
+    (b"fetch FFffFF", Command::Fetch(Some(16_777_215))),
+    (b"END", Command::End),
+    (b"bye  ", Command::Bye),
+    (b"DATA 1234567", Command::Other),
+    (b"DATA 12g", Command::Other),
+    (b"STATION ABCDEF", Command::Other),
+    (b"STATION STA XXX", Command::Other),
+    (b"SELECT BHZ", Command::Other),
+    (b"HELLO x", Command::Other),
+    (b"HEL\0LO", Command::Other),
+    (b"DATA\t1", Command::Other),
+    (b"   ", Command::Other),
+    (b"", Command::Other),
+];
+
 #[test]
 fn reads_commands(rt: HostRuntime) {
-    let cases: [(&[u8], Command); 24] = [
-        (b"HELLO", Command::Hello),
-        (b"  hello ", Command::Hello),
-        (
-            b"STATION STA",
-            Command::Station {
-                sta: *b"STA  ",
-                net: None,
-            },
-        ),
-        (
-            b" station   a1B2c  ",
-            Command::Station {
-                sta: *b"a1B2c",
-                net: None,
-            },
-        ),
-        (
-            b"STATION STA XX",
-            Command::Station {
-                sta: *b"STA  ",
-                net: Some(*b"XX"),
-            },
-        ),
-        (
-            b"Station STA  x",
-            Command::Station {
-                sta: *b"STA  ",
-                net: Some(*b"x "),
-            },
-        ),
-        (b"SELECT", Command::SelectAll),
-        (b" select ", Command::SelectAll),
-        (b"DATA", Command::Data(None)),
-        (b"  data   1f ", Command::Data(Some(31))),
-        (b"FETCH", Command::Fetch(None)),
-        (b"fetch FFffFF", Command::Fetch(Some(16_777_215))),
-        (b"END", Command::End),
-        (b"bye  ", Command::Bye),
-        (b"DATA 1234567", Command::Other),
-        (b"DATA 12g", Command::Other),
-        (b"STATION ABCDEF", Command::Other),
-        (b"STATION STA XXX", Command::Other),
-        (b"SELECT BHZ", Command::Other),
-        (b"HELLO x", Command::Other),
-        (b"HEL\0LO", Command::Other),
-        (b"DATA\t1", Command::Other),
-        (b"   ", Command::Other),
-        (b"", Command::Other),
-    ];
-    for (line, wanted) in cases {
-        assert_eq!(rt; Command::read(line), wanted, "{line:?}");
+    for (line, wanted) in &COMMANDS {
+        assert!(rt; Command::read(line) == *wanted, "{line:?}");
     }
 }
 
@@ -170,16 +187,18 @@ fn writes_requests(rt: HostRuntime) -> Result<(), Fail> {
     Ok(())
 }
 
+/// A reply, and its bytes.
+static REPLIES: [(Reply, &[u8]); 4] = [
+    (Reply::Nothing, b""),
+    (Reply::Ok, b"OK\r\n"),
+    (Reply::Error, b"ERROR\r\n"),
+    (Reply::Hello, b"SeedLink v3.0 (mseed)\r\nmseed feed\r\n"),
+];
+
 #[test]
 fn replies(rt: HostRuntime) {
-    let cases: [(Reply, &[u8]); 4] = [
-        (Reply::Nothing, b""),
-        (Reply::Ok, b"OK\r\n"),
-        (Reply::Error, b"ERROR\r\n"),
-        (Reply::Hello, b"SeedLink v3.0 (mseed)\r\nmseed feed\r\n"),
-    ];
-    for (reply, wanted) in cases {
-        assert_eq!(rt; reply.bytes(), wanted);
+    for (reply, wanted) in &REPLIES {
+        assert!(rt; reply.bytes() == *wanted, "{reply:?}");
     }
 }
 
