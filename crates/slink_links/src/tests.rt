@@ -21,6 +21,15 @@ use std::test::Fail;
 /// Room for all that is written.
 pub(crate) const ALL: usize = 1 << 20;
 
+/// The line of a link that failed, where the status says so.
+pub(crate) fn line_of(status: u8) -> &'static [u8] {
+    if status == 0 {
+        b""
+    } else {
+        b"mseed: link failed\n"
+    }
+}
+
 /// Tells its bytes, and takes bytes while there is room; then it fails.
 #[derive(Drop)]
 pub(crate) struct Pipe<'a> {

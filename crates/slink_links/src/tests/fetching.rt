@@ -1,6 +1,6 @@
 //! Worked rows of fetching.
 
-use super::{ALL, Clockless, Links, output, station, taken_by, two_packets, two_records};
+use super::{ALL, Clockless, Links, line_of, output, station, taken_by, two_packets, two_records};
 use crate::fetching::fetch_all;
 use crate::host::{Address, Host, Timeout};
 use crate::plan::FetchPlan;
@@ -62,35 +62,49 @@ fn fetch_over(
     })
 }
 
+/// Whether so many links accepted the lines of a client that lacks record 1.
+fn are_from_1(written: &[Vec<u8>], links: usize) -> bool {
+    for lines in written {
+        if lines.as_slice() != FROM_1 {
+            return false;
+        }
+    }
+    written.len() == links
+}
+
+/// Whether a fetch ended so, with these records.
+fn ended(fetched: &Fetched, status: u8, records: Option<&[u8]>) -> bool {
+    fetched.status == status
+        && fetched.line.as_slice() == line_of(status)
+        && Some(fetched.records.as_slice()) == records
+}
+
+/// At most so many tries; of the links that come, how many bytes each tells; the status; how many bytes of records 1
+/// and 2 are written; and how many links accepted the lines of the client.
+static FETCHES: [(u64, &[Option<usize>], u8, usize, usize); 6] = [
+    (1, &[Some(1051)], 0, 1024, 1),
+    // Cut off in the packet of record 1, and then behind it.
+    (2, &[Some(8 + 519), Some(1051)], 0, 1024, 2),
+    (2, &[Some(8 + 519), Some(8 + 520)], 2, 512, 2),
+    (1, &[None, Some(1051)], 2, 0, 0),
+    (2, &[None, Some(1051)], 0, 1024, 1),
+    (3, &[None, Some(8 + 520), None], 2, 512, 1),
+];
+
 #[test]
 fn fetches_over_one_link_after_another(rt: HostRuntime) -> Result<(), Fail> {
     let all = two_packets(rt.alloc())?;
-    // At most so many tries; of the links that come, how many bytes each tells; the status; how many bytes of records 1
-    // and 2 are written; and how many links accepted the lines of the client.
-    let rows: [(u64, &[Option<usize>], u8, usize, usize); 6] = [
-        (1, &[Some(1051)], 0, 1024, 1),
-        // Cut off in the packet of record 1, and then behind it.
-        (2, &[Some(8 + 519), Some(1051)], 0, 1024, 2),
-        (2, &[Some(8 + 519), Some(8 + 520)], 2, 512, 2),
-        (1, &[None, Some(1051)], 2, 0, 0),
-        (2, &[None, Some(1051)], 0, 1024, 1),
-        (3, &[None, Some(8 + 520), None], 2, 512, 1),
-    ];
     let written = two_records(rt.alloc())?;
-    for (tries, counts, status, length, links) in &rows {
+    for (tries, counts, status, length, links) in &FETCHES {
         let fetched = fetch_over(rt.alloc(), *tries, all.as_slice(), counts)?;
-        assert_eq!(rt; fetched.status, *status);
-        let line: &[u8] = if *status == 0 {
-            b""
-        } else {
-            b"mseed: link failed\n"
-        };
-        assert_eq!(rt; fetched.line.as_slice(), line);
-        assert!(rt; written.as_slice().get(..*length) == Some(fetched.records.as_slice()));
-        assert_eq!(rt; fetched.written.len(), *links);
-        for written in &fetched.written {
-            assert_eq!(rt; written.as_slice(), FROM_1);
-        }
+        assert!(rt;
+            ended(&fetched, *status, written.as_slice().get(..*length)),
+            "{counts:?}"
+        );
+        assert!(rt;
+            are_from_1(fetched.written.as_slice(), *links),
+            "{counts:?}"
+        );
     }
     Ok(())
 }
@@ -161,21 +175,22 @@ fn ends_at_once_where_no_try_helps(rt: HostRuntime) -> Result<(), Fail> {
     Ok(())
 }
 
+/// How many bytes each link tells, and the pauses in tenths of a second. Behind 528 bytes a record is whole.
+static PAUSES: [(&[Option<usize>], &[u8]); 5] = [
+    (&[], b""),
+    (&[None], b""),
+    (
+        &[None, Some(8), Some(527), None, None, None, None, None, None],
+        &[1, 2, 4, 8, 16, 32, 50, 50],
+    ),
+    (&[None, None, Some(528), None, None], &[1, 2, 1, 2]),
+    (&[Some(528), Some(1051), None], &[1]),
+];
+
 #[test]
 fn waits_between_tries(rt: HostRuntime) -> Result<(), Fail> {
     let all = two_packets(rt.alloc())?;
-    // How many bytes each link tells, and the pauses in tenths of a second. Behind 528 bytes a record is whole.
-    let rows: [(&[Option<usize>], &[u8]); 5] = [
-        (&[], b""),
-        (&[None], b""),
-        (
-            &[None, Some(8), Some(527), None, None, None, None, None, None],
-            &[1, 2, 4, 8, 16, 32, 50, 50],
-        ),
-        (&[None, None, Some(528), None, None], &[1, 2, 1, 2]),
-        (&[Some(528), Some(1051), None], &[1]),
-    ];
-    for (counts, pauses) in &rows {
+    for (counts, pauses) in &PAUSES {
         let fetched = fetch_over(rt.alloc(), counts.len() as u64, all.as_slice(), counts)?;
         assert_eq!(rt; fetched.pauses.as_slice(), *pauses);
     }

@@ -1,6 +1,6 @@
 //! Worked rows of serving.
 
-use super::{ALL, Links, output, taken_by, three_pushed, two_packets};
+use super::{ALL, Links, line_of, output, taken_by, three_pushed, two_packets};
 use crate::host::{Address, Timeout};
 use crate::plan::ServePlan;
 use crate::planned::serve_planned;
@@ -10,45 +10,47 @@ use std::test::Fail;
 /// What a client says that lacks records 1 and 2.
 const REQUEST: &[u8] = b"STATION STA XX\r\nFETCH 1\r\nEND\r\n";
 
-/// A link whose client lacks records 1 and 2, with room for so many bytes.
-fn asking(room: usize) -> Option<(&'static [u8], usize)> {
-    Some((REQUEST, room))
+/// A link whose client lacks both records, and takes all.
+const ASKING: Option<(&[u8], usize)> = Some((REQUEST, ALL));
+
+/// How many connections, the links that come, the status, and how many of all bytes each link accepted.
+static SERVED: [(u64, &[Option<(&[u8], usize)>], u8, &[usize]); 8] = [
+    (0, &[ASKING], 0, &[]),
+    (1, &[ASKING], 0, &[1051]),
+    (1, &[ASKING, ASKING], 0, &[1051]),
+    (2, &[ASKING, ASKING], 0, &[1051, 1051]),
+    (2, &[Some((b"", ALL)), ASKING], 0, &[0, 1051]),
+    (2, &[None, ASKING], 2, &[1051]),
+    (2, &[Some((REQUEST, 8 + 519)), ASKING], 2, &[527, 1051]),
+    (
+        3,
+        &[Some((REQUEST, 3)), None, Some((REQUEST, 1050))],
+        2,
+        &[3, 1050],
+    ),
+];
+
+/// Whether links accepted so many of all bytes.
+fn are_of(taken: &[Vec<u8>], all: &[u8], counts: &[usize]) -> bool {
+    for (bytes, count) in taken.iter().zip(counts) {
+        if all.get(..*count) != Some(bytes.as_slice()) {
+            return false;
+        }
+    }
+    taken.len() == counts.len()
 }
 
 #[test]
 fn serves_each_connection(rt: HostRuntime) -> Result<(), Fail> {
     let feed = three_pushed(rt.alloc())?;
     let all = two_packets(rt.alloc())?;
-    let all = all.as_slice();
-    let silent: Option<(&[u8], usize)> = Some((b"", ALL));
-    // How many connections, the links that come, the status, and how many of all bytes each link accepted.
-    let rows: [(u64, &[Option<(&[u8], usize)>], u8, &[usize]); 8] = [
-        (0, &[asking(ALL)], 0, &[]),
-        (1, &[asking(ALL)], 0, &[1051]),
-        (1, &[asking(ALL), asking(ALL)], 0, &[1051]),
-        (2, &[asking(ALL), asking(ALL)], 0, &[1051, 1051]),
-        (2, &[silent, asking(ALL)], 0, &[0, 1051]),
-        (2, &[None, asking(ALL)], 2, &[1051]),
-        (2, &[asking(8 + 519), asking(ALL)], 2, &[527, 1051]),
-        (3, &[asking(3), None, asking(1050)], 2, &[3, 1050]),
-    ];
-    for (connections, links, status, counts) in &rows {
+    for (connections, links, status, counts) in &SERVED {
         let mut links = Links::new(rt.alloc(), links)?;
         let mut errors = output(rt.alloc(), ALL);
-        assert_eq!(rt;
-            serve_all(&feed, *connections, &mut links, &mut errors),
-            *status
-        );
-        let line: &[u8] = if *status == 0 {
-            b""
-        } else {
-            b"mseed: link failed\n"
-        };
-        assert_eq!(rt; taken_by(errors).as_slice(), line);
-        assert_eq!(rt; links.taken.len(), counts.len());
-        for (taken, count) in links.taken.iter().zip(*counts) {
-            assert!(rt; all.get(..*count) == Some(taken.as_slice()));
-        }
+        let ended = serve_all(&feed, *connections, &mut links, &mut errors);
+        assert_eq!(rt; ended, *status);
+        assert!(rt; taken_by(errors).as_slice() == line_of(*status));
+        assert!(rt; are_of(links.taken.as_slice(), all.as_slice(), counts));
     }
     Ok(())
 }
@@ -63,7 +65,7 @@ fn serves_as_planned(rt: HostRuntime) -> Result<(), Fail> {
             timeout: Timeout { seconds: 600 },
             feed: three_pushed(rt.alloc())?,
         };
-        let mut links = Links::new(rt.alloc(), &[asking(ALL), asking(ALL), asking(ALL)])?;
+        let mut links = Links::new(rt.alloc(), &[ASKING, ASKING, ASKING])?;
         let mut errors = output(rt.alloc(), ALL);
         assert_eq!(rt; serve_planned(&plan, &mut links, &mut errors), 0);
         assert_eq!(rt; links.coming.len() + connections as usize, 3);
