@@ -163,7 +163,7 @@ fn pulls<R: Source>(source: &mut R, buf: &mut [u8], wanted: Result<usize, Failed
     source.pull(buf) == wanted
 }
 
-/// Whether a source that fails behind its first byte is asked on, and not for no bytes.
+/// Whether a source that fails behind its first byte goes on behind the failure.
 fn fails_once<R: Source>(source: &mut R, buf: &mut [u8]) -> bool {
     pulls(source, buf, Ok(1)) && pulls(source, buf, Err(Failed)) && pulls(source, buf, Ok(1))
 }
