@@ -1,5 +1,6 @@
 //! Words and numbers at the start of a text.
-ghost use Rattle.std.specs.Prelude.{◌≡◌, ◌+◌, ◌-◌, ◌*◌, ◌≤◌, ◌<◌, ◌^◌, IfSome, IfNone, pos, neg_ℤ, ◌≤ℤ◌};
+ghost use Rattle.std.specs.Prelude.{◌≡◌, ◌+◌, ◌-◌, ◌*◌, ◌≤◌, ◌<◌, ◌^◌, ℕ, IfSome, IfNone, nat_le, pos, neg_ℤ};
+ghost use Rattle.std.specs.Prelude.{◌≤ℤ◌};
 ghost use Rattle.std.specs.Option.{option_map};
 ghost use Rattle.mseed_join.specs.private.Reading.{after, behind_at, number_at, integer_at, more_at, is_digit};
 
@@ -25,23 +26,104 @@ pub(crate) fn behind_at<'a>(word: &[u8], largest: u64, bytes: &'a [u8]) -> Optio
 }
 
 /// A number that is at most so large, without leading zeros, and the bytes behind it.
-#[tactic(auto, unfolding(crate::specs::private::Reading::number_at))]
 pub(crate) fn number_at(largest: u64, bytes: &[u8]) -> Option<(u64, &[u8])>
     ensures value { option_map (λ x. (x.0, x.1.now)) result ≡ number_at largest bytes.now }
     ensures bounded { IfSome result (λ x. x.0 ≤ largest) }
+{
+    spelled_at(largest, bytes)
+}
+
+/// As [`number_at`], of a number that may be larger.
+pub(crate) fn wide_at(bytes: &[u8]) -> Option<(u128, &[u8])>
+    ensures { option_map (λ x. (x.0, x.1.now)) result ≡ number_at (2 ^ 128 - 1) bytes.now }
+{
+    spelled_at(u128::MAX, bytes)
+}
+
+/// A number that is read digit by digit.
+trait Spelled: Copy {
+    // The number.
+    ghost value: { Self → ℕ };
+
+    // No number of the type is as large.
+    ghost limit: { ℕ };
+
+    /// The number of one digit.
+    fn of(digit: u8) -> Self
+        ensures { value result ≡ digit };
+
+    /// The number with one more digit, if it fits.
+    fn with_digit(self, digit: u8) -> Option<Self>
+        requires { digit < 10 }
+        ensures some { IfSome result (λ n. value n ≡ 10 * value self + digit) }
+        ensures none { IfNone result (limit ≤ 10 * value self + digit) };
+
+    /// Whether the number is no larger.
+    fn is_within(self, largest: Self) -> bool
+        ensures { result ≡ nat_le (value self) (value largest) };
+}
+
+impl Spelled for u64 {
+    ghost value = { λ n. n };
+
+    ghost limit = { 2 ^ 64 };
+
+    fn of(digit: u8) -> Self {
+        u64::from(digit)
+    }
+
+    fn with_digit(self, digit: u8) -> Option<Self> {
+        self.checked_mul(10)?.checked_add(u64::from(digit))
+    }
+
+    fn is_within(self, largest: Self) -> bool {
+        self <= largest
+    }
+}
+
+impl Spelled for u128 {
+    ghost value = { λ n. n };
+
+    ghost limit = { 2 ^ 128 };
+
+    fn of(digit: u8) -> Self {
+        u128::from(digit)
+    }
+
+    fn with_digit(self, digit: u8) -> Option<Self> {
+        self.checked_mul(10)?.checked_add(u128::from(digit))
+    }
+
+    fn is_within(self, largest: Self) -> bool {
+        self <= largest
+    }
+}
+
+fn is_digit(byte: u8) -> bool
+    ensures { result ≡ is_digit byte }
+{
+    byte >= b'0' && byte <= b'9'
+}
+
+/// A number that is at most so large, without leading zeros, and the bytes behind it.
+#[tactic(auto, unfolding(crate::specs::private::Reading::number_at))]
+fn spelled_at<N: Spelled>(largest: N, bytes: &[u8]) -> Option<(N, &[u8])>
+    requires { N.value largest < N.limit }
+    ensures value { option_map (λ x. (N.value x.0, x.1.now)) result ≡ number_at (N.value largest) bytes.now }
+    ensures bounded { IfSome result (λ x. N.value x.0 ≤ N.value largest) }
 {
     match bytes {
         [] => None,
         [first, rest @ ..] => {
             if *first == b'0' {
-                return Some((0, rest));
+                return Some((N::of(0), rest));
             }
             if !is_digit(*first) {
                 return None;
             }
-            match more_at(u64::from(*first - b'0'), rest) {
+            match more_at(N::of(*first - b'0'), rest) {
                 Some((number, rest)) => {
-                    if number <= largest {
+                    if number.is_within(largest) {
                         Some((number, rest))
                     } else {
                         None
@@ -53,35 +135,10 @@ pub(crate) fn number_at(largest: u64, bytes: &[u8]) -> Option<(u64, &[u8])>
     }
 }
 
-/// As [`number_at`], of a number that may be larger.
-#[tactic(auto, unfolding(crate::specs::private::Reading::number_at))]
-pub(crate) fn wide_at(bytes: &[u8]) -> Option<(u128, &[u8])>
-    ensures { option_map (λ x. (x.0, x.1.now)) result ≡ number_at (2 ^ 128 - 1) bytes.now }
-{
-    match bytes {
-        [] => None,
-        [first, rest @ ..] => {
-            if *first == b'0' {
-                return Some((0, rest));
-            }
-            if !is_digit(*first) {
-                return None;
-            }
-            wide_more_at(u128::from(*first - b'0'), rest)
-        }
-    }
-}
-
-fn is_digit(byte: u8) -> bool
-    ensures { result ≡ is_digit byte }
-{
-    byte >= b'0' && byte <= b'9'
-}
-
 /// Further digits of a number; nothing where it doesn't fit.
-fn more_at(number: u64, bytes: &[u8]) -> Option<(u64, &[u8])>
-    ensures some { IfSome result (λ x. (x.0, x.1.now) ≡ more_at number bytes.now) }
-    ensures none { IfNone result (2 ^ 64 ≤ (more_at number bytes.now).0) }
+fn more_at<N: Spelled>(number: N, bytes: &[u8]) -> Option<(N, &[u8])>
+    ensures some { IfSome result (λ x. (N.value x.0, x.1.now) ≡ more_at (N.value number) bytes.now) }
+    ensures none { IfNone result (N.limit ≤ (more_at (N.value number) bytes.now).0) }
 {
     let mut number = number;
     let mut rest = bytes;
@@ -92,7 +149,7 @@ fn more_at(number: u64, bytes: &[u8]) -> Option<(u64, &[u8])>
                 if !is_digit(*digit) {
                     return Some((number, rest));
                 }
-                match with_digit(number, *digit - b'0') {
+                match number.with_digit(*digit - b'0') {
                     Some(more) => {
                         number = more;
                         rest = others;
@@ -101,56 +158,6 @@ fn more_at(number: u64, bytes: &[u8]) -> Option<(u64, &[u8])>
                 }
             }
         }
-    }
-}
-
-/// The number with one more digit, if it fits.
-fn with_digit(number: u64, digit: u8) -> Option<u64>
-    requires { digit < 10 }
-    ensures some { IfSome result (λ n. n ≡ 10 * number + digit) }
-    ensures none { IfNone result (2 ^ 64 ≤ 10 * number + digit) }
-{
-    match number.checked_mul(10) {
-        Some(tens) => tens.checked_add(u64::from(digit)),
-        None => None,
-    }
-}
-
-/// As [`more_at`], of a number that may be larger.
-fn wide_more_at(number: u128, bytes: &[u8]) -> Option<(u128, &[u8])>
-    ensures some { IfSome result (λ x. (x.0, x.1.now) ≡ more_at number bytes.now) }
-    ensures none { IfNone result (2 ^ 128 ≤ (more_at number bytes.now).0) }
-{
-    let mut number = number;
-    let mut rest = bytes;
-    loop {
-        match rest {
-            [] => return Some((number, rest)),
-            [digit, others @ ..] => {
-                if !is_digit(*digit) {
-                    return Some((number, rest));
-                }
-                match wide_with_digit(number, *digit - b'0') {
-                    Some(more) => {
-                        number = more;
-                        rest = others;
-                    }
-                    None => return None,
-                }
-            }
-        }
-    }
-}
-
-/// As [`with_digit`], of a number that may be larger.
-fn wide_with_digit(number: u128, digit: u8) -> Option<u128>
-    requires { digit < 10 }
-    ensures some { IfSome result (λ n. n ≡ 10 * number + digit) }
-    ensures none { IfNone result (2 ^ 128 ≤ 10 * number + digit) }
-{
-    match number.checked_mul(10) {
-        Some(tens) => tens.checked_add(u128::from(digit)),
-        None => None,
     }
 }
 
