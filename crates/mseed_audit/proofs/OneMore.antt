@@ -9,9 +9,18 @@ use Rattle.mseed_audit.specs.Verdict.{says_continuous}
 use Rattle.mseed_audit.specs.Summary.{broken_count}
 
 -- the prefix with one more
-prefix_more : (vs : List (List ℕ × Verdict)) (n : ℕ) (v : List ℕ × Verdict) → n < length vs → v ≡ get_or vs n v
+pub prefix_more : {X : Type 0} (vs : List X) (n : ℕ) (v : X) → n < length vs → v ≡ get_or vs n v
     → take (n + 1) vs ≡ take n vs ++ v ∷ []
-prefix_more vs n v h is = take_more vs n v h ∙ ap (λ (w : List ℕ × Verdict). take n vs ++ w ∷ []) (sym is)
+prefix_more vs n v h is = take_more vs n v h ∙ ap (λ w. take n vs ++ w ∷ []) (sym is)
+
+-- lines with one more, behind some text
+pub text_more : {X : Type 0} (line : X → List ℕ) (lines : List X → List ℕ)
+    → ((vs : List X) (v : X) → lines (vs ++ v ∷ []) ≡ lines vs ++ line v)
+    → (vs : List X) (n : ℕ) (v : X) (first old new : List ℕ) → n < length vs → v ≡ get_or vs n v
+    → old ≡ first ++ lines (take n vs) → new ≡ old ++ line v → new ≡ first ++ lines (take (n + 1) vs)
+text_more line lines snoc vs n v first old new h is before one =
+    one ∙ ap (λ (xs : List ℕ). xs ++ line v) before ∙ append_assoc first (lines (take n vs)) (line v)
+    ∙ ap (λ (xs : List ℕ). first ++ xs) (sym (ap lines (prefix_more vs n v h is) ∙ snoc (take n vs) v))
 
 lines_snoc : (vs : List (List ℕ × Verdict)) (v : List ℕ × Verdict)
     → verdict_lines (vs ++ v ∷ []) ≡ verdict_lines vs ++ verdict_line v.0 v.1
@@ -19,16 +28,10 @@ lines_snoc [] v = append-nil (verdict_line v.0 v.1)
 lines_snoc (w ∷ vs) v = ap (λ (xs : List ℕ). verdict_line w.0 w.1 ++ xs) (lines_snoc vs v)
     ∙ sym (append_assoc (verdict_line w.0 w.1) (verdict_lines vs) (verdict_line v.0 v.1))
 
--- the lines with one more, behind some text
 pub lines_more : (vs : List (List ℕ × Verdict)) (n : ℕ) (v : List ℕ × Verdict) (first old new : List ℕ) → n < length vs
     → v ≡ get_or vs n v → old ≡ first ++ verdict_lines (take n vs)
     → new ≡ old ++ verdict_line v.0 v.1 → new ≡ first ++ verdict_lines (take (n + 1) vs)
-lines_more vs n v first old new h is before one =
-    let lines : verdict_lines (take (n + 1) vs) ≡ verdict_lines (take n vs) ++ verdict_line v.0 v.1 =
-    ap verdict_lines (prefix_more vs n v h is) ∙ lines_snoc (take n vs) v in
-    one ∙ ap (λ (xs : List ℕ). xs ++ verdict_line v.0 v.1) before
-    ∙ append_assoc first (verdict_lines (take n vs)) (verdict_line v.0 v.1)
-    ∙ ap (λ (xs : List ℕ). first ++ xs) (sym lines)
+lines_more = text_more (λ v. verdict_line v.0 v.1) verdict_lines lines_snoc
 
 count_snoc : (vs : List (List ℕ × Verdict)) (v : List ℕ × Verdict)
     → broken_count (vs ++ v ∷ []) ≡ broken_count vs + (if says_continuous v.1 then 0 else 1)

@@ -62,7 +62,7 @@ each_one only excludes input h a b =
     ∙ ap (λ (xs : List ℕ). reported_lines b.reported ++ xs) (text_one a.audited b.audited same)
 
 -- a record with samples is of its channel alone
-of_some : (key : List ℕ) (v : View) → 0 < count_of v → is_of key v ≡ same_key key (key_at v.bytes)
+pub of_some : (key : List ℕ) (v : View) → 0 < count_of v → is_of key v ≡ same_key key (key_at v.bytes)
 of_some key v some =
     let yes : nat_lt 0 (count_of v) ≡ true = search rules in
     ap (λ (b : Bool). b && same_key key (key_at v.bytes)) yes
@@ -72,7 +72,7 @@ of_none key v silent =
     let no : nat_lt 0 (count_of v) ≡ false = search rules in
     ap (λ (b : Bool). b && same_key key (key_at v.bytes)) no
 
-samples_of : (key : List ℕ) (v : View) → is_of key v ≡ true → 0 < count_of v
+pub samples_of : (key : List ℕ) (v : View) → is_of key v ≡ true → 0 < count_of v
 samples_of key v e = go (count_of v) refl
   where
     go : (n : ℕ) → count_of v ≡ n → 0 < count_of v
@@ -80,22 +80,22 @@ samples_of key v e = go (count_of v) refl
     go (suc n) z = omega (arith, z)
 
 -- the record is of the channel
-channel_with : (key : List ℕ) (p : Placed) (ps : List Placed) → is_of key p.view ≡ true
+pub channel_with : (key : List ℕ) (p : Placed) (ps : List Placed) → is_of key p.view ≡ true
     → channel_in key (p ∷ ps) ≡ p ∷ channel_in key ps
 channel_with key p ps e = rw e refl
 
-channel_without : (key : List ℕ) (p : Placed) (ps : List Placed) → is_of key p.view ≡ false
+pub channel_without : (key : List ℕ) (p : Placed) (ps : List Placed) → is_of key p.view ≡ false
     → channel_in key (p ∷ ps) ≡ channel_in key ps
 channel_without key p ps e = rw e refl
 
-last_with : (key : List ℕ) (p : Placed) (earlier : List Placed) → is_of key p.view ≡ true
+pub last_with : (key : List ℕ) (p : Placed) (earlier : List Placed) → is_of key p.view ≡ true
     → last_of None (channel_in key (earlier ++ p ∷ [])) ≡ Some p.view
 last_with key p earlier e =
     ap (λ (ps : List Placed). last_of None ps) (filter-append (λ q. is_of key q.view) earlier (p ∷ [])
     ∙ ap (λ (ps : List Placed). channel_in key earlier ++ ps) (channel_with key p [] e))
     ∙ last_snoc None (channel_in key earlier) p
 
-last_without : (key : List ℕ) (p : Placed) (earlier : List Placed) → is_of key p.view ≡ false
+pub last_without : (key : List ℕ) (p : Placed) (earlier : List Placed) → is_of key p.view ≡ false
     → channel_in key (earlier ++ p ∷ []) ≡ channel_in key earlier
 last_without key p earlier e =
     filter-append (λ q. is_of key q.view) earlier (p ∷ []) ∙ ap (λ (ps : List Placed). channel_in key earlier ++ ps)
@@ -108,7 +108,7 @@ reported_here : (key : List ℕ) (p : Placed) (why : Option Why) (rest : List Re
 reported_here key p None rest e = refl
 reported_here key p (Some why) rest e = rw e refl
 
-reported_elsewhere : (key : List ℕ) (p : Placed) (why : Option Why) (rest : List Reported) (channel : List Placed)
+pub reported_elsewhere : (key : List ℕ) (p : Placed) (why : Option Why) (rest : List Reported) (channel : List Placed)
     → is_of key p.view ≡ false → IsFoundOf channel p.view why
     → reported_with key (reported_at p why ++ rest) ≡ reported_with key rest
 reported_elsewhere key p None rest channel e h = refl

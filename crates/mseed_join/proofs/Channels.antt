@@ -1,21 +1,16 @@
 -- Channels, one after another: their lines, and how many are broken.
 use Rattle.std.proofs.Common.{◌≡◌, ℕ, ◌+◌, ◌<◌, ◌++◌, List, [], ◌∷◌, length, map, take, get_or, Option, refl, sym}
 use Rattle.std.proofs.Common.{ap, ◌∙◌, append_assoc, append-nil, arith}
-use Rattle.std.proofs.lemmas.List.{take_more}
 use Rattle.mseed_audit.specs.declared.channel.Channel.{Channel}
 use Rattle.mseed_audit.specs.declared.channel.Findings.{Findings}
 use Rattle.mseed_audit.specs.declared.channel.Findings.TheVariants.{Nothing, Counted}
 use Rattle.mseed_audit.specs.Summary.{broken_count}
 use Rattle.mseed_audit.specs.Text.{end_line}
 use Rattle.mseed_stream.specs.declared.fault.StreamFault.{StreamFault}
+use Rattle.mseed_audit.proofs.OneMore.{prefix_more, text_more}
 use Rattle.mseed_join.specs.Joined.{verdict_at}
 use Rattle.mseed_join.specs.Lines.{channel_line, counts_line, faults_line, header_line}
 use Rattle.mseed_join.specs.Written.{channel_lines, part_text}
-
--- the prefix with one more
-prefix_more : (cs : List (List ℕ × Channel)) (n : ℕ) (c : List ℕ × Channel) → n < length cs → c ≡ get_or cs n c
-    → take (n + 1) cs ≡ take n cs ++ c ∷ []
-prefix_more cs n c h is = take_more cs n c h ∙ ap (λ (d : List ℕ × Channel). take n cs ++ d ∷ []) (sym is)
 
 lines_snoc : (cs : List (List ℕ × Channel)) (c : List ℕ × Channel)
     → channel_lines (cs ++ c ∷ []) ≡ channel_lines cs ++ channel_line c.0 c.1
@@ -27,12 +22,7 @@ lines_snoc (d ∷ cs) c = ap (λ (xs : List ℕ). channel_line d.0 d.1 ++ xs) (l
 pub lines_more : (cs : List (List ℕ × Channel)) (n : ℕ) (c : List ℕ × Channel) (first old new : List ℕ)
     → n < length cs → c ≡ get_or cs n c → old ≡ first ++ channel_lines (take n cs)
     → new ≡ old ++ channel_line c.0 c.1 → new ≡ first ++ channel_lines (take (n + 1) cs)
-lines_more cs n c first old new h is before one =
-    let lines : channel_lines (take (n + 1) cs) ≡ channel_lines (take n cs) ++ channel_line c.0 c.1 =
-    ap channel_lines (prefix_more cs n c h is) ∙ lines_snoc (take n cs) c in
-    one ∙ ap (λ (xs : List ℕ). xs ++ channel_line c.0 c.1) before
-    ∙ append_assoc first (channel_lines (take n cs)) (channel_line c.0 c.1)
-    ∙ ap (λ (xs : List ℕ). first ++ xs) (sym lines)
+lines_more = text_more (λ c. channel_line c.0 c.1) channel_lines lines_snoc
 
 -- a channel with findings is broken
 abbrev pub broken_by : Findings → ℕ

@@ -10,7 +10,6 @@ use Rattle.mseed_record.specs.declared.frame.Scan.TheVariants.{Not}
 use Rattle.mseed_record.specs.Record.{IsRecord}
 use Rattle.mseed_record.specs.Scan.{Decides}
 use Rattle.mseed_record.specs.View.{View, IsView}
-use Rattle.mseed_record.proofs.Viewed.{view_once}
 use Rattle.mseed_stream.specs.Archive.{End, IsArchive, IsEndOf, clean, frame, truncated, is_clean, is_frame}
 use Rattle.mseed_stream.specs.Cutting.{read_from}
 use Rattle.mseed_stream.specs.Device.{BytesRead}
@@ -19,6 +18,7 @@ use Rattle.mseed_stream.specs.declared.fault.StreamFault.{StreamFault}
 use Rattle.mseed_stream.specs.declared.fault.StreamFault.TheVariants.{Frame, Truncated, Read, Turns, Memory}
 use Rattle.mseed_stream.proofs.Ends.{one_end}
 use Rattle.mseed_stream.proofs.Handed.{no_further}
+use Rattle.mseed_stream.proofs.OneInput.{same_views}
 use Rattle.mseed_stream.proofs.Records.{one_archive, view_record}
 use Rattle.mseed_parts.specs.Parts.{bytes_in as size_of}
 use Rattle.mseed_parts.proofs.Placing.{bytes_append}
@@ -153,18 +153,6 @@ archive_of bytes views rest at cut is = record {
   each = records_in views cut.views_are;
   no_further = no_further rest at is;
 }
-
-same_views : (vs ws : List View) → AllByRecursion IsView vs → AllByRecursion IsView ws → bytes_in vs ≡ bytes_in ws
-    → vs ≡ ws
-same_views [] [] h k e = refl
-same_views [] (w ∷ ws) h k e = cc
-same_views (v ∷ vs) [] h k e = cc
-same_views (v ∷ vs) (w ∷ ws) h k e =
-    let bytes : v.bytes ≡ w.bytes = cc in
-    let more : bytes_in vs ≡ bytes_in ws = cc in
-    let here : v ≡ w = view_once w v k.0 h.0 bytes in
-    let others : vs ≡ ws = same_views vs ws h.1 k.1 more in
-    λ i. here i ∷ others i
 
 -- bytes are records and a rest in one way, and end in one way
 one_cut : (bytes : List ℕ) (vs ws : List View) (rest left : List ℕ) (a b : Option StreamFault)

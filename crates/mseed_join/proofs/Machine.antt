@@ -149,7 +149,7 @@ nothing_first x rest l e =
     let zero_all : length (text_of_line x ++ rest) ≡ 0 = ap length e in
     absurd (omega (arith, some, zero_all, length-append (text_of_line x) rest))
 
-first_same : (x y : Line) (r s : List ℕ) → IsLine x → IsLine y → text_of_line x ++ r ≡ text_of_line y ++ s
+pub first_same : (x y : Line) (r s : List ℕ) → IsLine x → IsLine y → text_of_line x ++ r ≡ text_of_line y ++ s
     → (x ≡ y) × (r ≡ s)
 first_same x y r s l m e =
     let t : IsEnded (text_of_line x) = ended x l in

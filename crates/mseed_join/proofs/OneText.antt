@@ -5,35 +5,14 @@ use Rattle.std.proofs.lemmas.List.{length-append}
 use Rattle.mseed_stream.specs.declared.fault.StreamFault.{StreamFault}
 use Rattle.mseed_join.specs.Lines.{Line, header, channel, counts, faults, fault, text_of_line, IsLine}
 use Rattle.mseed_join.specs.Written.{Spells, Written}
-use Rattle.mseed_join.proofs.Ended.{IsEnded, ended, same_line}
-use Rattle.mseed_join.proofs.OneLine.{line_one}
 use Rattle.mseed_join.proofs.Machine.{AreAll, Entries, all_rows, end_row, faults_row, lines_text, rows, texts_all}
-use Rattle.mseed_join.proofs.Machine.{texts_are}
+use Rattle.mseed_join.proofs.Machine.{first_same, nothing_first, texts_are}
 
 -- ---- lines one behind another
-nothing_first : (x : Line) (rest : List ℕ) → IsLine x → [] ≡ text_of_line x ++ rest → ⊥
-nothing_first x rest l e =
-    let t : IsEnded (text_of_line x) = ended x l in
-    let some : length (text_of_line x) ≡ length t.body + 1 =
-    ap (λ (xs : List ℕ). length xs) t.is ∙ length-append t.body (10 ∷ []) in
-    let zero_all : 0 ≡ length (text_of_line x ++ rest) = ap (λ (xs : List ℕ). length xs) e in
-    omega (arith, some, zero_all, length-append (text_of_line x) rest)
-
-first_same : (x y : Line) (r s : List ℕ) → IsLine x → IsLine y → text_of_line x ++ r ≡ text_of_line y ++ s
-    → (x ≡ y) × (r ≡ s)
-first_same x y r s l m e =
-    let t : IsEnded (text_of_line x) = ended x l in
-    let u : IsEnded (text_of_line y) = ended y m in
-    let same : t.body ++ 10 ∷ r ≡ u.body ++ 10 ∷ s =
-    sym (append_assoc t.body (10 ∷ []) r) ∙ ap (λ (a : List ℕ). a ++ r) (sym t.is) ∙ e
-    ∙ ap (λ (a : List ℕ). a ++ s) u.is ∙ append_assoc u.body (10 ∷ []) s in
-    let both = same_line t.body u.body r s t.is_plain u.is_plain same in
-    (line_one x y l m (t.is ∙ ap (λ (a : List ℕ). a ++ 10 ∷ []) both.0 ∙ sym u.is), both.1)
-
 lines_one : (xs ys : List Line) → AreAll xs → AreAll ys → lines_text xs ≡ lines_text ys → xs ≡ ys
 lines_one [] [] p q e = refl
-lines_one [] (y ∷ ys) p q e = absurd (nothing_first y (lines_text ys) q.0 e)
-lines_one (x ∷ xs) [] p q e = absurd (nothing_first x (lines_text xs) p.0 (sym e))
+lines_one [] (y ∷ ys) p q e = absurd (nothing_first y (lines_text ys) q.0 (sym e))
+lines_one (x ∷ xs) [] p q e = absurd (nothing_first x (lines_text xs) p.0 e)
 lines_one (x ∷ xs) (y ∷ ys) p q e =
     let both = first_same x y (lines_text xs) (lines_text ys) p.0 q.0 e in
     let more : xs ≡ ys = lines_one xs ys p.1 q.1 both.1 in

@@ -19,8 +19,9 @@ use Rattle.mseed_audit.specs.Judging.{IsFound, why_after, why_from}
 use Rattle.mseed_audit.specs.Reported.{Reported, AreReported, AreReportedOf, IsFoundOf, channel_in, last_of}
 use Rattle.mseed_audit.specs.Reported.{reported_at, reported_with}
 use Rattle.mseed_audit.specs.Reported.{none as nothing_reported, one as one_reported}
-use Rattle.mseed_audit.proofs.Lasts.{last_snoc}
 use Rattle.mseed_audit.proofs.Maps.{same_is}
+use Rattle.mseed_audit.proofs.OneTelling.{channel_with, channel_without, last_with, last_without, of_some}
+use Rattle.mseed_audit.proofs.OneTelling.{reported_elsewhere, samples_of}
 use Rattle.mseed_parts.specs.Joining.{border_of, border_why, found_at, moved_finding}
 use Rattle.mseed_parts.proofs.Behind.{HaveOneFinding, border_is, own_found, sound_found}
 use Rattle.mseed_parts.proofs.Placing.{moved}
@@ -33,65 +34,15 @@ pub data AreReportedIn : Option View → List Placed → List Reported → Type 
       → AreReportedIn (Some p.view) ps reported → AreReportedIn before (p ∷ ps) (reported_at p why ++ reported)
 
 -- ---- of the records of an archive, those of a channel
-of_some : (key : List ℕ) (v : View) → 0 < count_of v → is_of key v ≡ same_key key (key_at v.bytes)
-of_some key v some =
-    let yes : nat_lt 0 (count_of v) ≡ true = search rules in
-    ap (λ (b : Bool). b && same_key key (key_at v.bytes)) yes
-
-of_none : (key : List ℕ) (v : View) → count_of v ≡ 0 → is_of key v ≡ false
-of_none key v silent =
-    let no : nat_lt 0 (count_of v) ≡ false = search rules in
-    ap (λ (b : Bool). b && same_key key (key_at v.bytes)) no
-
-samples_of : (key : List ℕ) (v : View) → is_of key v ≡ true → 0 < count_of v
-samples_of key v e = go (count_of v) refl
-  where
-    go : (n : ℕ) → count_of v ≡ n → 0 < count_of v
-    go zero z = absurd (false≢true (sym (of_none key v z) ∙ e))
-    go (suc n) z = omega (arith, z)
-
 -- a record of a channel has its key
 pub key_of : (key : List ℕ) (v : View) → is_of key v ≡ true → same_key key (key_at v.bytes) ≡ true
 key_of key v e = sym (of_some key v (samples_of key v e)) ∙ e
-
-channel_with : (key : List ℕ) (p : Placed) (ps : List Placed) → is_of key p.view ≡ true
-    → channel_in key (p ∷ ps) ≡ p ∷ channel_in key ps
-channel_with key p ps e = rw e refl
-
-channel_without : (key : List ℕ) (p : Placed) (ps : List Placed) → is_of key p.view ≡ false
-    → channel_in key (p ∷ ps) ≡ channel_in key ps
-channel_without key p ps e = rw e refl
-
-last_with : (key : List ℕ) (p : Placed) (earlier : List Placed) → is_of key p.view ≡ true
-    → last_of None (channel_in key (earlier ++ p ∷ [])) ≡ Some p.view
-last_with key p earlier e =
-    ap (λ (ps : List Placed). last_of None ps) (filter-append (λ q. is_of key q.view) earlier (p ∷ [])
-    ∙ ap (λ (ps : List Placed). channel_in key earlier ++ ps) (channel_with key p [] e))
-    ∙ last_snoc None (channel_in key earlier) p
-
-last_without : (key : List ℕ) (p : Placed) (earlier : List Placed) → is_of key p.view ≡ false
-    → channel_in key (earlier ++ p ∷ []) ≡ channel_in key earlier
-last_without key p earlier e =
-    filter-append (λ q. is_of key q.view) earlier (p ∷ []) ∙ ap (λ (ps : List Placed). channel_in key earlier ++ ps)
-    (channel_without key p [] e) ∙ append-nil (channel_in key earlier)
 
 reported_here : (key : List ℕ) (p : Placed) (why : Option Why) (rest : List Reported)
     → same_key key (key_at p.view.bytes) ≡ true
     → reported_with key (reported_at p why ++ rest) ≡ reported_at p why ++ reported_with key rest
 reported_here key p None rest e = refl
 reported_here key p (Some why) rest e = rw e refl
-
-reported_elsewhere : (key : List ℕ) (p : Placed) (why : Option Why) (rest : List Reported) (channel : List Placed)
-    → is_of key p.view ≡ false → IsFoundOf channel p.view why
-    → reported_with key (reported_at p why ++ rest) ≡ reported_with key rest
-reported_elsewhere key p None rest channel e h = refl
-reported_elsewhere key p (Some why) rest channel e h = go (count_of p.view) refl
-  where
-    go : (n : ℕ) → count_of p.view ≡ n → reported_with key (reported_at p (Some why) ++ rest) ≡ reported_with key rest
-    go zero z = absurd (let no : Some why ≡ None = h.silent z in cc)
-    go (suc n) z =
-        let other : same_key key (key_at p.view.bytes) ≡ false = sym (of_some key p.view (omega (arith, z))) ∙ e in
-        rw other refl
 
 by_channel : (key : List ℕ) (earlier : List Placed) (p : Placed) (ps : List Placed) (why : Option Why)
     (rest : List Reported) (b : Bool) → is_of key p.view ≡ b

@@ -84,7 +84,7 @@ refused_whole b f s d (n, (t, past)) = ⊎_elim
     (cases_lt (index b (length b) s) (index b n t))
 
 -- records of the same bytes have the same views
-same_views : (vs ws : List View) → AllByRecursion IsView vs → AllByRecursion IsView ws → bytes_in vs ≡ bytes_in ws
+pub same_views : (vs ws : List View) → AllByRecursion IsView vs → AllByRecursion IsView ws → bytes_in vs ≡ bytes_in ws
     → vs ≡ ws
 same_views [] [] h k e = refl
 same_views [] (w ∷ ws) h k e = cc
@@ -116,7 +116,7 @@ one_views bytes offset vs ws a b =
     same_views vs ws a.each b.each both.0
 
 -- no record begins behind the last
-none_behind : (end : Option StreamFault) (offset : ℕ) (h : BytesRead) → IsEnd end offset h
+pub none_behind : (end : Option StreamFault) (offset : ℕ) (h : BytesRead) → IsEnd end offset h
     → HasNoFurther (read_from offset h)
 none_behind None offset h is = no_further (read_from offset h) clean is.0.0
 none_behind (Some (Frame n f)) offset h is = no_further (read_from offset h) (frame f) is.0.1
