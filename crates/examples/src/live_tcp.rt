@@ -27,9 +27,19 @@ pub fn serve_over_tcp<N: Net + Clock, I: Read + AsRawFd + Drop>(
     };
     let mut tcp = Tcp::bind(host, alloc, plan, input)?;
     let _ = tcp.address()?;
-    let served = server.serve(&mut tcp);
+    serve_all(server, &mut tcp)
+}
+
+/// Serves the input, and on where something is wrong with it, until all links are done.
+pub fn serve_all<C: Net + Clock, I: Read + AsRawFd + Drop>(
+    server: &mut Server,
+    tcp: &mut Tcp<'_, C, I>,
+) -> io::Result<Result<(), InputFault>>
+    requires { IsSound server.old }
+{
+    let served = server.serve(tcp);
     if served.is_err() {
-        let _ = server.serve(&mut tcp);
+        let _ = server.serve(tcp);
     }
     if tcp.has_failed() {
         return Err(io::ErrorKind::Other.into());
