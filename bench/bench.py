@@ -71,8 +71,9 @@ def instructions(call, archive):
     """The instructions of one run."""
     with open(archive, "rb") as source:
         call = ["valgrind", "--tool=cachegrind", "--cache-sim=no", "--cachegrind-out-file=/dev/null", *call]
-        told = subprocess.run(call, stdin=source, stdout=subprocess.DEVNULL, stderr=subprocess.PIPE, text=True).stderr
-    return int(re.search(r"I +refs: +([\d,]+)", told).group(1).replace(",", ""))
+        reported = subprocess.run(call, stdin=source, stdout=subprocess.DEVNULL, stderr=subprocess.PIPE,
+                                  text=True).stderr
+    return int(re.search(r"I +refs: +([\d,]+)", reported).group(1).replace(",", ""))
 
 
 def samples_in(mseed, archive):

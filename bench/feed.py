@@ -96,8 +96,8 @@ def instructions(mseed, counted, records, connections=1):
         with open(output, "wb") as target:
             fetched = subprocess.run(fetch, stdout=target, stderr=subprocess.PIPE, text=True, check=True).stderr
         subprocess.run(["cmp", archive, output], check=True)
-    told = server.communicate(timeout=300)[1] if counted == "serve" else fetched
-    return int(re.search(r"I +refs: +([\d,]+)", told).group(1).replace(",", ""))
+    reported = server.communicate(timeout=300)[1] if counted == "serve" else fetched
+    return int(re.search(r"I +refs: +([\d,]+)", reported).group(1).replace(",", ""))
 
 
 def count(mseed):

@@ -165,12 +165,12 @@ def delays(mseed, who, records=500, links=64):
         server, port = live.process, live.port
     words = [LOOP, "time", str(port), str(links), str(records)]
     clock = subprocess.Popen(words, stdin=subprocess.PIPE, stdout=server.stdin, stderr=subprocess.PIPE)
-    told = clock.communicate(record_of(STA, 0), timeout=300)[1]
+    reported = clock.communicate(record_of(STA, 0), timeout=300)[1]
     server.stdin.close()
     server.wait(timeout=60)
     if clock.returncode:
         sys.exit(f"{who}: the clock failed")
-    return [float(word) for word in told.split()]
+    return [float(word) for word in reported.split()]
 
 
 def main():

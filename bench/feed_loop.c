@@ -65,7 +65,7 @@ static int
 serve (int listener, const struct sockaddr_in *address)
 {
   struct epoll_event events[64];
-  char packet[PACKET], said[256], head[9];
+  char packet[PACKET], reply[256], head[9];
   int links[MOST], count = 0, poll = epoll_create1 (0), k, n, l;
   size_t held = 0;
   unsigned number = 0;
@@ -83,7 +83,7 @@ serve (int listener, const struct sockaddr_in *address)
 
       if (fd == listener && count < MOST)
         links[count++] = take (poll, listener);
-      else if (fd != 0 && read (fd, said, sizeof said) <= 0)
+      else if (fd != 0 && read (fd, reply, sizeof reply) <= 0)
         epoll_ctl (poll, EPOLL_CTL_DEL, fd, NULL);
       if (fd != 0)
         continue;
@@ -138,7 +138,7 @@ by_size (const void *a, const void *b)
 static int
 clock_links (const struct sockaddr_in *address, int count, int records)
 {
-  double *took = malloc (sizeof (double) * (size_t)count * (size_t)records), start;
+  double *delays = malloc (sizeof (double) * (size_t)count * (size_t)records), start;
   char record[RECORD], packet[PACKET];
   struct epoll_event events[64];
   int poll = epoll_create1 (0), k, n, r, there, all = count * records, next = 0;
@@ -156,11 +156,11 @@ clock_links (const struct sockaddr_in *address, int count, int records)
       for (n = epoll_wait (poll, events, 64, -1), k = 0; k < n; k++)
       {
         read_all (events[k].data.fd, packet, PACKET);
-        took[next++] = now () - start;
+        delays[next++] = now () - start;
       }
   }
-  qsort (took, (size_t)all, sizeof *took, by_size);
-  fprintf (stderr, "%.3f %.3f\n", took[all / 2], took[all * 99L / 100]);
+  qsort (delays, (size_t)all, sizeof *delays, by_size);
+  fprintf (stderr, "%.3f %.3f\n", delays[all / 2], delays[all * 99L / 100]);
   return 0;
 }
 

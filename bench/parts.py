@@ -111,16 +111,16 @@ def seconds(words, input, **env):
 
 def measure(mseed, archive, ways, rounds):
     """The median seconds of each way. All of them write the same."""
-    took, texts = {way: [] for way in ways}, set()
+    measured, texts = {way: [] for way in ways}, set()
     for turn in range(rounds):
         for way in list(ways)[:: -1 if turn % 2 else 1]:
             words, cores = ways[way]
             cost, text = seconds(words, archive, MSEED=mseed, CORES=cores)
-            took[way].append(cost)
+            measured[way].append(cost)
             texts.add(text)
     if len(texts) > 1:
         sys.exit("the texts differ")
-    return {way: statistics.median(costs) for way, costs in took.items()}
+    return {way: statistics.median(costs) for way, costs in measured.items()}
 
 
 def line(way, cost, path, more=""):

@@ -103,18 +103,18 @@ def main():
         root = os.path.join(folder, "archive")
         size, files = make_tree(root, options.megabytes)
         time.sleep(1)
-        took = {number: [] for number in jobs}
+        measured = {number: [] for number in jobs}
         for turn in range(options.rounds):
             for number in jobs[:: -1 if turn % 2 else 1]:
-                figures, said = measure(root, folder, number, env)
-                took[number].append(figures)
-        if f"files {files} bytes {size} channels {len(CODES)} continuous {len(CODES)} " not in f"{said} ":
-            sys.exit(said)
-    print(said)
+                figures, outcome = measure(root, folder, number, env)
+                measured[number].append(figures)
+        if f"files {files} bytes {size} channels {len(CODES)} continuous {len(CODES)} " not in f"{outcome} ":
+            sys.exit(outcome)
+    print(outcome)
     rows = []
     for number in jobs:
         for place, way in enumerate(WAYS):
-            seconds, busy = (statistics.median(figures[place][kind] for figures in took[number]) for kind in (0, 1))
+            seconds, busy = (statistics.median(figures[place][kind] for figures in measured[number]) for kind in (0, 1))
             rows.append([way, number, f"{seconds:.2f}", f"{busy:.2f}", f"{size / seconds / 1e6:,.0f}"])
             print("{:32} {:>2} processes {:>7} s, {:>7} s of processors, {:>7} MB/s".format(*rows[-1]))
     if options.write:

@@ -15,7 +15,7 @@
  * - A struct that is passed in is set before, also where the call only writes it: by memset to 0, say.
  * - No call is made from a signal handler, or in a child that a process with threads forked.
  *
- * Memory is asked of malloc by mseed_audit, mseed_audit_each and mseed_part, and given back before they return; the
+ * Memory is requested of malloc by mseed_audit, mseed_audit_each and mseed_part, and given back before they return; the
  * others ask for none. Where malloc refuses, the call answers MSEED_NO_MEMORY and has written nothing.
  *
  * The library is for machines with 64-bit pointers whose bytes are little-endian (x86-64). Link with -lmseed_c, or by
@@ -47,7 +47,7 @@ enum mseed_code
   MSEED_NO_ROW = 4,
   /* there are fewer places for samples than are needed; */
   MSEED_NO_ROOM = 5,
-  /* more bytes are needed before it can be said what stands there: at the end of an archive, it is cut off. */
+  /* more bytes are needed before it can be known what stands there: at the end of an archive, it is cut off. */
   MSEED_TRUNCATED = 6,
 
   /* No record begins there, whatever bytes may come behind: these aren't the first bytes of a data record; */

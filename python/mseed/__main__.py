@@ -4,7 +4,7 @@ import argparse
 import sys
 from typing import List, Optional
 
-from mseed._auditing import told
+from mseed._auditing import audited
 from mseed._memory import bytes_of
 from mseed._reading import read
 
@@ -24,7 +24,7 @@ def main(words: Optional[List[str]] = None) -> int:
     lister.add_argument("file", metavar="FILE")
     given = parser.parse_args(words)
     if given.command == "audit":
-        text, status, _ = told(given.call, bytes_of(given.file))
+        text, status, _ = audited(given.call, bytes_of(given.file))
         sys.stdout.write(text)
         return status
     traces = read(given.file, skip=True)

@@ -57,7 +57,7 @@ class Audit:
         return self.status == 0
 
 
-def told(call: str, data: bytes) -> Tuple[str, int, Totals]:
+def audited(call: str, data: bytes) -> Tuple[str, int, Totals]:
     """The text that a call tells of an archive, its status and its totals."""
     totals = Totals()
     room = 1 << 16
@@ -76,7 +76,7 @@ def audit(archive: Archive) -> Audit:
 
     archive: a path, or bytes.
     """
-    text, status, totals = told("mseed_audit", bytes_of(archive))
+    text, status, totals = audited("mseed_audit", bytes_of(archive))
     return Audit(text, status, totals.records, totals.channels, totals.broken)
 
 
@@ -85,7 +85,7 @@ def part(archive: Archive) -> str:
 
     archive: a path, or bytes.
     """
-    return told("mseed_part", bytes_of(archive))[0]
+    return audited("mseed_part", bytes_of(archive))[0]
 
 
 def findings(archive: Archive) -> List[Finding]:
@@ -98,7 +98,7 @@ def findings(archive: Archive) -> List[Finding]:
 
 def findings_and_fault(data: bytes) -> Tuple[List[Finding], Optional[Tuple[int, str]]]:
     """Each record with a finding; and where reading ended and why, if the archive doesn't end where a record ends."""
-    text, _, _ = told("mseed_audit_each", data)
+    text, _, _ = audited("mseed_audit_each", data)
     lines = text.splitlines()
     found = []
     for line in lines:

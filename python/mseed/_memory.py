@@ -33,7 +33,7 @@ def address_of(data: bytes) -> int:
 
 
 def room_for(count: int) -> Samples:
-    """Places for so many samples, of which nothing is said yet."""
+    """Places for so many samples, of which nothing is known yet."""
     if numpy is not None:
         return numpy.empty(max(count, 1), numpy.int32)
     return array("i", bytes(4 * max(count, 1)))

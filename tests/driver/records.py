@@ -34,7 +34,7 @@ def record(codes: bytes = b"STA    BHZXX", quality: bytes = b"D", year: int = 20
            multiplier: int = 1, activity: int = 0, correction: int = 0, encoding: int = 3, word_order: int = 1,
            exponent: int = 7, micros: int = 0, next: int = 0, first: int = 48, order: str = ">", frames: int = 0,
            sequence: int = 1, blockettes: Optional[bytes] = None, data: bytes = integers(range(16))) -> bytes:
-    """The record but for what is named. The first blockette is said to be at `first`; the header and `blockettes` are
+    """The record but for what is named. The first blockette is given as at `first`; the header and `blockettes` are
     at the beginning, whatever it says."""
     header = b"%06d" % sequence + quality + b" " + codes
     header += struct.pack(order + "HHBBBBH", year, day, hour, minute, second, 0, fraction)

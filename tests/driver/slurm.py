@@ -93,7 +93,7 @@ class Slurm:
         self.wait_for(lambda: (self.folder / "munge.socket").exists())
         self.begin("slurmctld", "-D")
         self.begin("slurmd", "-D")
-        self.wait_for(lambda: self.said("sinfo", "--noheader", "--format=%t") == "idle")
+        self.wait_for(lambda: self.outcome("sinfo", "--noheader", "--format=%t") == "idle")
 
     def begin(self, daemon: str, *words: str) -> None:
         """Starts a daemon, which stays a child of this process."""
@@ -109,7 +109,7 @@ class Slurm:
                 raise NotUp((self.folder / "log").read_text(encoding="utf-8", errors="replace")[-2000:])
             time.sleep(0.05)
 
-    def said(self, *words: str) -> str:
+    def outcome(self, *words: str) -> str:
         """What one of its commands says; nothing where that takes too long."""
         try:
             return subprocess.run(words, env={**os.environ, **self.env}, stdin=subprocess.DEVNULL,
@@ -121,9 +121,9 @@ class Slurm:
     def end(self) -> None:
         """Ends what runs, and the daemons, the last first."""
         with contextlib.suppress(NotUp, OSError):
-            if len(self.daemons) == len(DAEMONS) and self.said("squeue", "--noheader"):
-                self.said("scancel", f"--user={os.getuid()}")
-                self.wait_for(lambda: not self.said("squeue", "--noheader"))
+            if len(self.daemons) == len(DAEMONS) and self.outcome("squeue", "--noheader"):
+                self.outcome("scancel", f"--user={os.getuid()}")
+                self.wait_for(lambda: not self.outcome("squeue", "--noheader"))
         for daemon in reversed(self.daemons):
             daemon.terminate()
             try:

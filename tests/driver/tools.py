@@ -77,7 +77,7 @@ def damaged(files: dict[str, list[bytes]]) -> None:
     # A gap of a record, and a record that was sent twice.
     del of("AAA", "BHE", 0)[50]
     of("AAA", "BHE", 3).insert(30, of("AAA", "BHE", 3)[30])
-    # A day that was written twice, and two days that took each other's place.
+    # A day that was written twice, and two days that changed places.
     of("BBB", "BHZ", 2).extend(list(of("BBB", "BHZ", 2)))
     first, second = (place("BBB", "BHN", DAYS[number]) for number in (2, 3))
     files[first], files[second] = files[second], files[first]
@@ -126,8 +126,8 @@ def rest() -> None:
     time.sleep(0.2)
 
 
-def said(result: Result) -> tuple[int, list[str], str]:
-    """How a tool ended, the lines that it wrote, and what it told."""
+def outcome(result: Result) -> tuple[int, list[str], str]:
+    """How a tool ended, the lines that it wrote, and what it reported."""
     return result.status, result.out.decode().splitlines(), result.err.decode()
 
 

@@ -161,7 +161,7 @@ class Record:
 
 @functools.lru_cache(maxsize=256)
 def record_of(bytes: bytes) -> Record:
-    """The record with these bytes. Those of an archive are asked for more than once."""
+    """The record with these bytes. Those of an archive are wanted more than once."""
     return Record(bytes)
 
 

@@ -44,7 +44,7 @@ def command(line: bytes) -> str:
 
 
 def lines_of(stream: bytes) -> list[bytes]:
-    """The lines in front of the first that is too long."""
+    """The lines before the first that is too long."""
     pieces = [piece.lstrip(b"\n") for piece in stream.split(b"\r")]
     long = [len(piece) > 255 for piece in pieces]
     end = long.index(True) if True in long else len(pieces) - 1
@@ -119,7 +119,7 @@ def main() -> None:
     print("/// The stream, in pieces. Its last line but one is too long.")
     print(f"pub const PIECES: [&[u8]; {len(pieces)}] = [")
     print("\n".join(f"    {one}," for one in pieces))
-    print("];\n\n/// What its lines in front of that one command.")
+    print("];\n\n/// What its lines before that one command.")
     print(f"pub const COMMANDS: [Command; {len(commands)}] = [")
     print("\n".join(f"    {one}," for one in commands))
     print("];")

@@ -19,12 +19,12 @@ class Numbered:
     def __init__(self, places: Sequence[Place], first: int, records: Sequence[bytes]):
         self.places, self.first, self.records = places, first, records
 
-    def packets(self, asked: Sequence[tuple[Place, Optional[int]]]) -> bytes:
-        """The packets of the stations that were asked for, each from a number on, in the order of the numbers."""
+    def packets(self, requested: Sequence[tuple[Place, Optional[int]]]) -> bytes:
+        """The packets of the stations that were requested, each from a number on, in the order of the numbers."""
         sent = b""
         for index, record in enumerate(self.records):
             number = self.first + index
-            for place, start in asked:
+            for place, start in requested:
                 behind = 0 if start is None else (start - self.first) % SPAN
                 if place.bears(record) and index >= behind:
                     sent += b"SL%06X" % (number % SPAN) + record
@@ -32,8 +32,8 @@ class Numbered:
 
 
 def serve_link(link: socket.socket, feed: Numbered) -> None:
-    """Answers each line with OK, and END with all that was asked for."""
-    asked: list[tuple[Place, Optional[int]]] = []
+    """Answers each line with OK, and END with all that was requested."""
+    requested: list[tuple[Place, Optional[int]]] = []
     kept = b""
     while brought := received(link, 512):
         kept += brought
@@ -41,13 +41,13 @@ def serve_link(link: socket.socket, feed: Numbered) -> None:
             line, kept = kept.split(b"\r\n", 1)
             name, words = command_of(line)
             if name == "END":
-                send(link, feed.packets(asked) + b"END")
+                send(link, feed.packets(requested) + b"END")
                 link.shutdown(socket.SHUT_WR)
                 return
             if name == "STATION":
                 [chosen] = [place for place in feed.places if (place.sta, place.net) == words]
             if name == "FETCH":
-                asked.append((chosen, int(words[0], 16) if words[0] else None))
+                requested.append((chosen, int(words[0], 16) if words[0] else None))
             send(link, b"OK\r\n")
 
 

@@ -125,7 +125,7 @@ def true_answer(feed: list[Ring], client: Client) -> bytes:
 
 
 def stream_of_server(source: Random, feed: list[Ring], client: Client) -> bytes:
-    """A stream of a server to a client, of which nothing else is asked."""
+    """A stream of a server to a client, of which nothing else is requested."""
     kind = source.random()
     replies = b"OK\r\n" * (2 * len(client.places))
     if kind < 0.05:

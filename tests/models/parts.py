@@ -199,7 +199,7 @@ class Joiner:
         self.past_faults = past_faults
         self.joint = Part()
         self.borders: list[str] = []
-        self.told: list[str] = []
+        self.reported: list[str] = []
         self.parts = 0
         self.state, self.key, self.own_bytes, self.is_counted = "behind", b"", 0, True
 
@@ -266,7 +266,7 @@ class Joiner:
         self.state = "behind"
         if self.past_faults:
             self.joint.faults = added(self.joint.faults, 1)
-            self.told.append(f"mseed: part {self.parts} {line}")
+            self.reported.append(f"mseed: part {self.parts} {line}")
         elif self.is_counted:
             self.joint.fault = found[2]
 
@@ -291,6 +291,6 @@ def join(text: bytes, part: bool = False, each: bool = False, past_faults: bool 
             refused = f"mseed: bad part at line {len(lines) + 1}"
     borders = text_of(joiner.borders) if each else b""
     if refused:
-        return 2, borders, text_of([*joiner.told, refused])
+        return 2, borders, text_of([*joiner.reported, refused])
     joint = joiner.joint
-    return joint.status(), joint.part_text() if part else borders + joint.audit_text(), text_of(joiner.told)
+    return joint.status(), joint.part_text() if part else borders + joint.audit_text(), text_of(joiner.reported)

@@ -5,7 +5,7 @@ wanted next; then the bytes on their way to the server and to the client, where 
 
 A world is counted: no ring, no buffer, no part of a packet. Of each place so many records were pushed, and of these
 the ones from the first on are held, so many. A link has the lines sent so far, the answers sent, and three counts: the
-bytes that the server took, those delivered to the client, and those that the client took.
+bytes that the server accepted, those delivered to the client, and those that the client accepted.
 """
 
 from __future__ import annotations
@@ -216,6 +216,6 @@ TWO_STATIONS = [
 def two_stations() -> Iterator[tuple[bytes, str]]:
     """The rows up to each of them, each as a schedule with its world."""
     steps: list[tuple[int, int]] = []
-    for more, held, said in TWO_STATIONS:
+    for more, held, outcome in TWO_STATIONS:
         steps = steps + more
-        yield bytes_of(True, 8, 0, [None, None], steps), held + (" none\n" if said is None else f" {said} 0\n")
+        yield bytes_of(True, 8, 0, [None, None], steps), held + (" none\n" if outcome is None else f" {outcome} 0\n")

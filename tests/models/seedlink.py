@@ -71,7 +71,7 @@ class Ring:
         return found if found <= self.next() else None
 
     def granted(self, mode: str, number: Optional[int]) -> Optional[int]:
-        """Where a grant begins: at the number asked for, if it is there, else by the mode."""
+        """Where a grant begins: at the number requested, if it is there, else by the mode."""
         if number is not None:
             return self.resolve(number)
         return self.next() if mode == "DATA" else self.oldest()

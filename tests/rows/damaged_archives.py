@@ -79,7 +79,8 @@ def damaged(source: Random) -> bytes:
 
 
 def as_in_python(kind: str, archives: Iterator[tuple[str, bytes]], each: int) -> Cases:
-    """All archives are audited, and of one of so many each finding is told and the channels are packed anew, as in Python;
+    """All archives are audited, and of one of so many each finding is listed and the channels are packed anew, as in
+    Python;
     and they are of all kinds."""
     seen = {0: 0, 1: 0, 2: 0}
     for number, (name, archive) in enumerate(archives):

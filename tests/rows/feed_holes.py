@@ -61,9 +61,9 @@ def common_numbers() -> Cases:
     status, output, errors = fetch(PLACES, server.port, HOLES)
     yield Fact("all three past holes", 0, status)
     yield holds("all three past holes: all in their order", cut_up(output) == records, len(output))
-    told = errors.splitlines()
+    reported = errors.splitlines()
     for place in PLACES:
-        ours = [line for line in told if place.text.encode() in line]
+        ours = [line for line in reported if place.text.encode() in line]
         yield Fact(f"all three past holes: the lines of {place.text}", hole_lines(place, None, first, records), ours)
     server.close()
 
@@ -81,10 +81,10 @@ def cut_links() -> Cases:
     for place in PLACES:
         yield holds(f"cut links past holes: the records of {place.text}, each once",
                     of_place(place, came) == of_place(place, records), len(of_place(place, came)))
-    # What is told of each station is the same as over one link: the first record's number isn't known before it.
-    told = errors.splitlines()
+    # What is named each station is the same as over one link: the first record's number isn't known before it.
+    reported = errors.splitlines()
     for place in PLACES:
-        ours = [line for line in told if place.text.encode() in line]
+        ours = [line for line in reported if place.text.encode() in line]
         yield Fact(f"cut links past holes: the lines of {place.text}", hole_lines(place, None, 0xFFFFC0, records), ours)
     server.close()
 
@@ -109,14 +109,14 @@ def boundaries() -> Cases:
         words = [HOLES, "--tell-next"]
         name = f"{want:06X} is wanted and {got:06X} comes"
         speaker = Speaker([[stream], [stream]])
-        asked = fetch_words([STA], speaker.port, HOLES, wants=[want])
-        told = fetch_words([STA], speaker.port, *words, wants=[want])
+        requested = fetch_words([STA], speaker.port, HOLES, wants=[want])
+        reported = fetch_words([STA], speaker.port, *words, wants=[want])
         if is_taken:
-            yield Row(name, b"", asked, 0, record, line)
-            yield Row(f"{name}, all told", b"", told, 0, record, line + first + after)
+            yield Row(name, b"", requested, 0, record, line)
+            yield Row(f"{name}, all reported", b"", reported, 0, record, line + first + after)
         else:
-            yield Row(name, b"", asked, 2, b"", BAD_FEED)
-            yield Row(f"{name}, all told", b"", told, 2, b"", BAD_FEED + after)
+            yield Row(name, b"", requested, 2, b"", BAD_FEED)
+            yield Row(f"{name}, all reported", b"", reported, 2, b"", BAD_FEED + after)
 
 
 def words() -> Cases:
@@ -124,8 +124,8 @@ def words() -> Cases:
     yield Row("serve has no such flag", b"", ["serve", "--port", "1", "--station", "STA", "--network", "XX", HOLES], 3,
               b"", BAD_VALUE)
     speaker = Speaker([[OK * 2 + b"SL000007" + record_of(STA, 0) + b"END"]])
-    asked = fetch_words([STA], speaker.port, HOLES, "--tell-next", wants=[5])
-    yield Row("an output that takes nothing behind a hole", b"", asked, 2, b"",
+    requested = fetch_words([STA], speaker.port, HOLES, "--tell-next", wants=[5])
+    yield Row("an output that takes nothing behind a hole", b"", requested, 2, b"",
               b"mseed: hole XX_STA 000005 000007\nmseed: first XX_STA:000007\nmseed: write failed\n"
               b"mseed: next --network XX --station STA --from 000007\n", out_to="/dev/full")
 

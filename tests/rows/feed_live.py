@@ -23,7 +23,7 @@ from driver.texts import BAD_VALUE, LINK_FAILED, About
 from models.seedlink import Place, record_of
 
 STA, STB = Place("XX_STA"), Place("XX_STB")
-ASKED = b"STATION STA XX\r\nDATA %06X\r\nEND\r\n"
+REQUEST = b"STATION STA XX\r\nDATA %06X\r\nEND\r\n"
 GRANTED = b"OK\r\nOK\r\n"
 PACKET = 520
 FINE = Ended(0, b"", b"")
@@ -85,8 +85,8 @@ class Live:
             self.process.stdin.write(piece)
             self.process.stdin.flush()
 
-    def told(self) -> bytes:
-        """What it said so far."""
+    def reported(self) -> bytes:
+        """What it wrote so far."""
         return contents_of(self.errors)
 
     def end_input(self) -> None:
@@ -97,7 +97,7 @@ class Live:
     def end(self) -> Ended:
         """How it ended, once its input has."""
         self.end_input()
-        return Ended(status_of(self.process), b"", self.told())
+        return Ended(status_of(self.process), b"", self.reported())
 
     def kill(self) -> None:
         """Ends it at once."""
@@ -105,7 +105,7 @@ class Live:
         self.process.wait()
 
     def ticks(self) -> int:
-        """The processor time that it took so far, in hundredths of a second."""
+        """The processor time that it needed so far, in hundredths of a second."""
         fields = Path(f"/proc/{self.process.pid}/stat").read_text(encoding="ascii").split()
         return int(fields[13]) + int(fields[14])
 
@@ -123,7 +123,7 @@ def granted(port: int, number: int, room: Optional[int] = None) -> Optional[sock
         link.setsockopt(socket.SOL_SOCKET, socket.SO_RCVBUF, room)
     with contextlib.suppress(OSError):
         link.connect((HOST, port))
-        link.sendall(ASKED % number)
+        link.sendall(REQUEST % number)
         if received_up_to(link, len(GRANTED)) == GRANTED:
             return link
     link.close()
@@ -245,8 +245,8 @@ def times() -> Cases:
     yield holds("one that takes nothing is given up, though the input goes on", until(lambda: live.links() == 0, 60))
     yield holds("the server goes on", live.is_going())
     rest = held_of(taken(deaf, PACKET * MANY))
-    yield holds("one that took nothing was sent a beginning", rest == numbered(records)[: len(rest)])
-    yield Fact("the server of one that took nothing ends", FINE, live.end())
+    yield holds("one that accepted nothing was sent a beginning", rest == numbered(records)[: len(rest)])
+    yield Fact("the server of one that accepted nothing ends", FINE, live.end())
 
 
 def killed_and_started_anew() -> Cases:
@@ -282,7 +282,7 @@ def more_than_clients() -> Cases:
     first, second, third = granted(live.port, 0), granted(live.port, 0), dialled(live.port)
     yield Fact("one that waits for records has those of its place", numbered(records[::2]),
                held_of(received_up_to(first, PACKET * 30)))
-    third.sendall(ASKED % 0)
+    third.sendall(REQUEST % 0)
     third.settimeout(0.5)
     with contextlib.suppress(socket.timeout):
         yield Fact("a third one, with two slots, isn't served", "a time-out", third.recv(1))
@@ -312,12 +312,12 @@ def granted_of(links: Sequence[socket.socket], least: int) -> list[socket.socket
 
 
 def exact_numbers() -> Cases:
-    """As many are served at once as was said, or 64: not one more, and as many again for those that go."""
+    """As many are served at once as the words give, or 64: not one more, and as many again for those that go."""
     for options, most, leaving in [(["--clients", 1], 1, 1), (["--clients", 5], 5, 3), ([], 64, 6)]:
         live = Live("--timeout", 60, *options)
         links = [dialled(live.port) for _ in range(most + leaving + 2)]
         for link in links:
-            link.sendall(ASKED % 0)
+            link.sendall(REQUEST % 0)
         first = granted_of(links, most)
         yield Fact(f"{len(links)} that dial, of whom {most} may stand", most, len(first))
         for link in first[:leaving]:
@@ -390,8 +390,8 @@ def closed_streams() -> Cases:
         sent = b"".join(b"SL%06X" % held.number + held.bytes for held in numbered(records))
         yield Fact(f"a client of serve --live with {closed} closed", sent, taken(link, PACKET * 9))
         link.close()
-        said = b"" if 2 in closed else b"mseed: fault at 1536 notdata\n"
-        yield Fact(f"serve --live with {closed} closed", Ended(2, b"", said), live.end())
+        outcome = b"" if 2 in closed else b"mseed: fault at 1536 notdata\n"
+        yield Fact(f"serve --live with {closed} closed", Ended(2, b"", outcome), live.end())
 
 
 # What may be wrong behind three records, and the line that says so.
@@ -421,10 +421,10 @@ def told_at_once() -> Cases:
     live = Live("--timeout", 60, "--capacity", MANY)
     slow = granted(live.port, 0, room=1 << 16)
     live.feed(b"".join(records) + b"x" * 64)
-    yield holds("the line is told at once", until(lambda: live.told() == line, 60), live.told())
+    yield holds("the line is reported at once", until(lambda: live.reported() == line, 60), live.reported())
     yield holds("a client that has much to take yet is served on", live.is_going() and live.links() >= 1)
     late = dialled(live.port)
-    late.sendall(ASKED % 0)
+    late.sendall(REQUEST % 0)
     yield holds("it takes all that came before", held_of(taken(slow, PACKET * (MANY + 1))) == numbered(records))
     slow.close()
     yield Fact("the server ends once it has", Ended(2, b"", line), live.end())

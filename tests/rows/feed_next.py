@@ -47,7 +47,7 @@ def lines() -> Cases:
     first = b"mseed: first XX_STA:000005\n"
     yield from at_a_speaker("two records", OK * 2 + two + b"END", [STA], [], 0, both,
                             first + NEXT + b" --from 000007\n", TELL)
-    yield from at_a_speaker("two records, nothing asked for", OK * 2 + two + b"END", [STA], [], 0, both, b"")
+    yield from at_a_speaker("two records, nothing requested", OK * 2 + two + b"END", [STA], [], 0, both, b"")
     yield from at_a_speaker("no record and no number", OK * 2 + b"END", [STA], [], 0, b"", NEXT + b"\n", TELL)
     yield from at_a_speaker("no record", OK * 2 + b"END", [STA], [0xABC], 0, b"", NEXT + b" --from 000ABC\n", TELL)
     yield from at_a_speaker("closed at once", b"", [STA], [], 2, b"", LINK_FAILED + NEXT + b"\n", TELL)
@@ -68,7 +68,7 @@ def lines() -> Cases:
         record_of(STB, 0) + record_of(STA, 0) + record_of(STB, 1) + record_of(STA, 1),
         b"mseed: first XX_STB:000010\nmseed: first XX_STA:000003\n"
         + NEXT + b" --from 000005 XX_STB:000012 n_A1b2C\n", TELL)
-    yield from at_a_speaker("three stations with numbers, refused", b"ERROR\r\n", [STA, STB, OTHER], [None, 7, 0xFFFFFF],
+    yield from at_a_speaker("three stations, refused", b"ERROR\r\n", [STA, STB, OTHER], [None, 7, 0xFFFFFF],
                             2, b"", REFUSED + NEXT + b" XX_STB:000007 n_A1b2C:FFFFFF\n", TELL)
     yield Row("serve has no such flag", b"", ["serve", "--port", "1", "--station", "STA", "--network", "XX", TELL], 3,
               b"", BAD_VALUE)
@@ -77,7 +77,7 @@ def lines() -> Cases:
 
 
 def firsts_in(errors: bytes) -> dict[str, int]:
-    """The number of the first record of each station that was told of."""
+    """The number of the first record of each station that was named."""
     found = re.findall(rb"^mseed: first ([A-Za-z0-9_]+):([0-9A-F]{6})$", errors, re.MULTILINE)
     return {label.decode(): int(digits, 16) for label, digits in found}
 
@@ -96,7 +96,7 @@ def killed_clients() -> Cases:
     records = [record_of(source.choice(places), index) for index in range(40000)]
     server = Server(b"".join(records), places, "--capacity", len(records), "--first", "FFFF00",
                     "--connections", 1000)
-    came_to, wants, kills, untold = b"", [None, None], 0, 0
+    came_to, wants, kills, unreported = b"", [None, None], 0, 0
     while True:
         fetching = Fetching(fetch_words(places, server.port, TELL, wants=wants))
         if kills < 25:
@@ -109,14 +109,14 @@ def killed_clients() -> Cases:
         for k, place in enumerate(places):
             count = len(of_place(place, whole))
             if count and place.text not in firsts:
-                untold += 1
+                unreported += 1
             if place.text in firsts:
                 wants[k] = (firsts[place.text] + count) % SPAN
         came_to += whole
         if status == 0:
             break
     server.kill()
-    yield Fact("killed clients: each station with records was told of", 0, untold)
+    yield Fact("killed clients: each station with records was named", 0, unreported)
     yield holds("killed clients: many were killed", kills >= 5, kills)
     for place in places:
         came = of_place(place, came_to)
@@ -166,7 +166,7 @@ def before_the_record() -> Cases:
         end = time.monotonic() + LIMIT
         while contents_of(errors) != line and process.poll() is None and time.monotonic() < end:
             time.sleep(0.01)
-        yield Fact("told before it is written", (line, None), (contents_of(errors), process.poll()))
+        yield Fact("reported before it is written", (line, None), (contents_of(errors), process.poll()))
         process.kill()
         process.wait()
     os.close(out)
@@ -174,7 +174,7 @@ def before_the_record() -> Cases:
 
 
 def over_tries() -> Cases:
-    """Over several tries of one `fetch`, a station's first record is told of once."""
+    """Over several tries of one `fetch`, a station's first record is named once."""
     records = [record_of(STA, index) for index in range(20)]
     server = Server(b"".join(records), [STA], "--connections", 10)
     proxy = Proxy(lambda: server.port, [Cut(None, 3000), Cut(None, 2000)])
@@ -182,7 +182,7 @@ def over_tries() -> Cases:
     proxy.close()
     server.kill()
     yield Fact("over tries: each record once", (0, b"".join(records)), (status, output))
-    yield Fact("over tries: the first is told of once", b"mseed: first XX_STA:000000\n" + NEXT + b" --from 000014\n",
+    yield Fact("over tries: the first is named once", b"mseed: first XX_STA:000000\n" + NEXT + b" --from 000014\n",
                errors)
 
 

@@ -23,7 +23,7 @@ ARCHIVE = b"".join(RECORDS)
 PACKETS = [b"SL%06X" % number + record for number, record in enumerate(RECORDS)]
 GRANTED = b"OK\r\nOK\r\n"
 FETCHED = GRANTED + b"".join(PACKETS) + b"END"
-ASKED = b"STATION STA XX\r\nFETCH\r\nEND\r\n"
+REQUEST = b"STATION STA XX\r\nFETCH\r\nEND\r\n"
 FINE, FAILED = Ended(0, b"", b""), Ended(2, b"", LINK_FAILED)
 ALL = Ended(0, ARCHIVE, b"")
 
@@ -120,7 +120,7 @@ def silent_clients() -> Cases:
         server = Server(ARCHIVE, [STA], "--timeout", 1, "--connections", 2)
         with dialled(server.port) as link, dialled(server.port) as next_link:
             threading.Thread(target=act, args=(link, deeds), daemon=True).start()
-            next_link.sendall(ASKED)
+            next_link.sendall(REQUEST)
             brought = received_up_to(next_link, len(FETCHED))
         return brought, server.end()
 
@@ -136,13 +136,13 @@ def full_link() -> Cases:
     archive = b"".join(record_of(STA, index) for index in range(40000))
     server = Server(archive, [STA], "--capacity", 40000, "--timeout", 1)
     with dialled(server.port) as link:
-        link.sendall(ASKED)
+        link.sendall(REQUEST)
         ended = server.end()
     yield Fact("serve behind a client that reads nothing", FAILED, ended)
 
 
 def streaming() -> Cases:
-    """A client that has said all may be silent for longer than the time."""
+    """A client that has sent all may be silent for longer than the time."""
     server = Server(ARCHIVE, [STA], "--timeout", 1)
     with dialled(server.port) as link:
         link.sendall(b"STATION STA XX\r\nDATA 0\r\nEND\r\n")
@@ -169,7 +169,7 @@ def restarted() -> Cases:
     link, _ = listener.accept()
     with link, listener:
         link.sendall(GRANTED + PACKETS[0])
-        received_up_to(link, len(ASKED))
+        received_up_to(link, len(REQUEST))
     server = Server(ARCHIVE, [STA], port=port)
     yield Fact("a server that is started anew", ALL, fetching.end())
     yield Fact("the server that was started anew", FINE, server.end())

@@ -135,7 +135,7 @@ TIMELESS = channel(head="none", tail="none", findings="1 first 1 0 time day")
 
 
 def firsts() -> Cases:
-    """Which finding of a channel is told first, and how many there are."""
+    """Which finding of a channel is reported first, and how many there are."""
     # A head that has a finding of its own isn't joined, and a tail without a valid rate isn't either.
     yield from joins("a head with a finding of its own", 1, [FIRST, part(UNREAD, ONE)],
                      f"{BHZ} broken findings 1 first record 2 offset 128 encoding 4\nrecords 2 channels 1\n",
@@ -241,7 +241,7 @@ def faults() -> Cases:
 
 
 def past_faults() -> Cases:
-    """With `--past-faults` each part counts, and each fault is told."""
+    """With `--past-faults` each part counts, and each fault is reported."""
     past = ["--past-faults"]
     joint = part(OF_BOTH, counts(2, 256))
     yield from joins("no fault", 1, [FIRST, LATE], f"{FOUND}records 2 channels 1\n", joint, more=past)
@@ -279,7 +279,7 @@ BHN_BORDER, BHZ_BORDER = (f"256 {name} record 3 start 2024-01-01T00:00:00.825001
 
 def bad_behind_borders() -> Cases:
     """Of a text with a bad line nothing is written, or with `--each` the lines of the borders before it; and the faults
-    before it are all that is told."""
+    before it are all that is reported."""
     first, two = part(BHN_FIRST, OF_FIRST, counts(2, 256)), counts(2, 256)
     one, all_of = BHN_BORDER, BHN_BORDER + BHZ_BORDER
     for name, second, line, lines in (
@@ -298,9 +298,9 @@ def bad_behind_borders() -> Cases:
     ):
         text, error = (first + second).encode(), f"mseed: bad part at line {line}\n"
         for words in (["--past-faults"], ["--part"], [], ["--each"], ["--each", "--past-faults"]):
-            told = "mseed: part 2 fault at 256 order\n" if "order" in second and "--past-faults" in words else ""
+            reported = "mseed: part 2 fault at 256 order\n" if "order" in second and "--past-faults" in words else ""
             yield Row(f"{name} is bad: join {' '.join(words)}", text, ["join", *words], 2,
-                      lines.encode() if "--each" in words else b"", (told + error).encode())
+                      lines.encode() if "--each" in words else b"", (reported + error).encode())
 
 
 def tells(name: str, status: int, parts: Sequence[str], lines: str, text: str, errors: str = "",

@@ -105,11 +105,12 @@ def past(run: Run, source: Random, name: str, archives: Sequence[bytes], parts: 
     are joined by way of other joint parts."""
     sound = b"".join(archive[: counts_of(part)[1]] for archive, part in zip(archives, parts))
     found = [(number, FAULT.search(part)) for number, part in enumerate(parts, 1)]
-    told = b"".join(b"mseed: part %d %s" % (number, fault[0]) for number, fault in found if fault)
-    audited, faults = run("audit", sound), told.count(b"\n")
+    reported = b"".join(b"mseed: part %d %s" % (number, fault[0]) for number, fault in found if fault)
+    audited, faults = run("audit", sound), reported.count(b"\n")
     wanted = Result(2 if faults else audited.status, with_faults(audited.out, faults), b"")
     joint = b"".join(run("join --past-faults --part", group).out for group in in_groups(source, parts))
-    return [Fact(f"{name}: join --past-faults", wanted._replace(err=told), run("join --past-faults", b"".join(parts))),
+    return [Fact(f"{name}: join --past-faults", wanted._replace(err=reported),
+                 run("join --past-faults", b"".join(parts))),
             *(Fact(f"{name}: {words}, by way of joint parts", wanted, run(words, joint))
               for words in ("join", "join --past-faults"))]
 

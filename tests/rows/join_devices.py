@@ -31,7 +31,7 @@ BORDER = f"128 {BHZ} record 2 start 2024-01-01T00:00:00.825001 gap 25001\n"
 JOINT = part(OF_BOTH, counts(2, 256))
 CUT = "fault at 128 truncated 10"
 FAULTY = part(OF_FIRST, ONE, CUT) + part(OF_LATE, ONE, CUT)
-TOLD = [f"mseed: part {number} {CUT}\n" for number in (1, 2)]
+REPORTED = [f"mseed: part {number} {CUT}\n" for number in (1, 2)]
 # Behind a bad line nothing matters.
 BAD = GAPPED + part("none") + GAPPED
 
@@ -60,8 +60,9 @@ def inputs(failing: str) -> Cases:
         yield from reads(failing, GAPPED, ["join", "--part"], size, "", fault)
     for size in range(len(FAULTY) + 1):
         lines = FAULTY[:size].count("\n")
-        told = "".join(TOLD[: lines // 4])
-        yield from reads(failing, FAULTY, ["join", "--past-faults"], size, "", f"{told}mseed: fault at {size} read\n")
+        reported = "".join(REPORTED[: lines // 4])
+        yield from reads(failing, FAULTY, ["join", "--past-faults"], size, "",
+                         f"{reported}mseed: fault at {size} read\n")
     # The bad line is the eighth.
     end = len(GAPPED + "mseed part 1\nnone\n")
     for size in range(end - 30, end + 60):
@@ -74,11 +75,11 @@ def inputs(failing: str) -> Cases:
 def outputs(failing: str) -> Cases:
     """Outputs that take each prefix of the text and no more."""
     two = f"{BHZ} {NONE} records 2 samples 32\nrecords 2 channels 1\n"
-    for words, parts, status, text, told in (
+    for words, parts, status, text, reported in (
         ([], FIRST + NEXT, 0, two, ""), ([], GAPPED, 1, TEXT, ""), (["--part"], GAPPED, 1, JOINT, ""),
         (["--each"], GAPPED, 1, BORDER + TEXT, ""),
-        (["--each", "--past-faults"], FAULTY, 2, f"{BORDER}{TEXT}faults 2\n", "".join(TOLD)),
-        (["--part", "--past-faults"], FAULTY, 2, part(OF_BOTH, counts(2, 256), "faults 2"), "".join(TOLD)),
+        (["--each", "--past-faults"], FAULTY, 2, f"{BORDER}{TEXT}faults 2\n", "".join(REPORTED)),
+        (["--part", "--past-faults"], FAULTY, 2, part(OF_BOTH, counts(2, 256), "faults 2"), "".join(REPORTED)),
     ):
         words = ["join", *words]
         for room in range(len(text) + 1):
@@ -86,7 +87,7 @@ def outputs(failing: str) -> Cases:
                 error = WRITE_FAILED if room < len(text) else b""
                 yield Row(f"{' '.join(words)} onto an output that takes {room} of {len(text)} bytes, {piece} at once",
                           parts.encode(), words, 2 if room < len(text) else status, text[:room].encode(),
-                          told.encode() + error, env=preloaded(failing, WRITE_ROOM=room, PIECE=piece))
+                          reported.encode() + error, env=preloaded(failing, WRITE_ROOM=room, PIECE=piece))
     yield Row("a full output", GAPPED.encode(), ["join"], 2, b"", WRITE_FAILED, out_to="/dev/full")
     yield Row("a full output, and nothing to write", BAD.encode(), ["join"], 2, b"", b"mseed: bad part at line 8\n",
               out_to="/dev/full")
@@ -101,11 +102,11 @@ def outputs(failing: str) -> Cases:
 
 def errors(failing: str) -> Cases:
     """A standard error that takes each prefix of its lines and no more: the status and the output stay the same."""
-    bad, told = "mseed: bad part at line 8\n", "".join(TOLD)
+    bad, reported = "mseed: bad part at line 8\n", "".join(REPORTED)
     past = part(OF_BOTH, counts(2, 256), "faults 2")
     for words, parts, out, lines in (([], BAD, "", bad),
-                                     (["--past-faults", "--part"], FAULTY, past, told),
-                                     (["--past-faults", "--part"], FAULTY + "none\n", "", told),
+                                     (["--past-faults", "--part"], FAULTY, past, reported),
+                                     (["--past-faults", "--part"], FAULTY + "none\n", "", reported),
                                      (["--each"], BAD, BORDER, bad)):
         words = ["join", *words]
         for room in range(len(lines) + 1):
@@ -143,19 +144,19 @@ def refusals(refusing: str) -> Cases:
         words = ["join", *words]
         yield from refuses(" ".join(words), Row("", parts, words, status), refusing, "--each" in words)
     past, none = ["join", "--past-faults", "--part"], b"none\n"
-    faulty, told = FAULTY.encode(), "".join(TOLD).encode()
+    faulty, reported = FAULTY.encode(), "".join(REPORTED).encode()
     yield from tells(refusing, "a bad line", Row("", parts + none, ["join"], 2, b"", b"mseed: bad part at line 12\n"))
     joint = part(OF_BOTH, counts(2, 256), "faults 2").encode()
-    yield from tells(refusing, "faults", Row("", faulty, past, 2, joint, told))
+    yield from tells(refusing, "faults", Row("", faulty, past, 2, joint, reported))
     yield from tells(refusing, "faults and a bad line",
-                     Row("", faulty + none, past, 2, b"", told + b"mseed: bad part at line 9\n"))
+                     Row("", faulty + none, past, 2, b"", reported + b"mseed: bad part at line 9\n"))
 
 
 def tells(refusing: str, name: str, row: Row) -> Cases:
     """A run of status 2 in any case, with each allocation refused in turn, alone and with all behind it: it tells some
     of the faults before it ends for want of memory, and writes nothing."""
     whole = Result(2, row.out, row.err)
-    ends = [Result(2, b"", "".join(TOLD[:count]).encode() + NO_MEMORY) for count in range(len(TOLD) + 1)]
+    ends = [Result(2, b"", "".join(REPORTED[:count]).encode() + NO_MEMORY) for count in range(len(REPORTED) + 1)]
     for number, came in refused_in_turn(row, refusing):
         if came == whole:
             break
@@ -207,8 +208,8 @@ def peak_over(words: Sequence[str], text: bytes) -> tuple[Result, int]:
                 written += process.stdin.write(text[written : written + 65536])
             while process.poll() is None and time.monotonic() < until:
                 if waits(process):
-                    told = Path(f"/proc/{process.pid}/status").read_text(encoding="ascii")
-                    peak = re.search(r"VmHWM:\s*(\d+) kB", told)
+                    reported = Path(f"/proc/{process.pid}/status").read_text(encoding="ascii")
+                    peak = re.search(r"VmHWM:\s*(\d+) kB", reported)
                     break
                 time.sleep(0.01)
         process.stdin.close()

@@ -15,7 +15,7 @@ OPTIONS = [[], ["--part"], ["--past-faults"], ["--part", "--past-faults"]]
 # A part with each line that there may be.
 LINES = ["mseed part 1", channel(BHN_KEY), channel(findings="2 first 1 0 short 4"), counts(2, 256), "faults 7",
          "fault at 256 truncated 5"]
-# Parts in front of it, with borders that have no finding.
+# Parts before it, with borders that have no finding.
 IN_FRONT = LATE.replace(OF_LATE, OF_FIRST) + NEXT
 
 
@@ -26,12 +26,12 @@ def text_of(lines: Sequence[str]) -> str:
 
 def bad(name: str, text: str, line: int) -> Iterator[Row]:
     """A text of which this line is bad: by itself with each of the options in turn, and behind other parts. A fault
-    before it, which is of the first part, is told."""
+    before it, which is of the first part, is reported."""
     before = [f"mseed: part 1 {one}\n" for one in text.split("\n")[: line - 1] if one.startswith("fault at ")]
     for words in OPTIONS[:3]:
-        told = "".join(before) if "--past-faults" in words else ""
+        reported = "".join(before) if "--past-faults" in words else ""
         yield Row(f"{name}: join {' '.join(words)}", text.encode(), ["join", *words], 2, b"",
-                  f"{told}mseed: bad part at line {line}\n".encode())
+                  f"{reported}mseed: bad part at line {line}\n".encode())
     yield Row(f"{name}, behind other parts", (IN_FRONT + text).encode(), ["join"], 2, b"",
               f"mseed: bad part at line {line + 6}\n".encode())
 
@@ -61,7 +61,7 @@ def lines_that_lack() -> Cases:
         ("the fault twice", [*LINES, fault], 7),
         ("a part without a first line behind another", [*LINES, bhn, records], 7),
         ("an empty line", [""], 1),
-        ("an empty line in front", ["", *LINES], 1),
+        ("an empty line before it", ["", *LINES], 1),
         ("an empty line within", [begin, "", *LINES[1:]], 2),
         ("an empty line behind the counts", [*LINES[:4], ""], 5),
         ("an empty line behind", [*LINES, ""], 7),
@@ -215,12 +215,12 @@ def believed() -> Cases:
     yield from comes_back("a part with each line", 2, *LINES[1:])
 
 
-def passes(name: str, texts: Sequence[str], line: int, words: Sequence[str] = (), told: str = "") -> Iterator[Row]:
+def passes(name: str, texts: Sequence[str], line: int, words: Sequence[str] = (), reported: str = "") -> Iterator[Row]:
     """Parts of which this line has a number that passes."""
     text = "".join(texts).encode()
     for option in ([], ["--part"]):
         yield Row(f"{name} passes: join {' '.join([*option, *words])}", text, ["join", *option, *words], 2, b"",
-                  f"{told}mseed: bad part at line {line}\n".encode())
+                  f"{reported}mseed: bad part at line {line}\n".encode())
 
 
 def holds_all(name: str, texts: Sequence[str], status: int, *lines: str, words: Sequence[str] = ()) -> Iterator[Row]:
@@ -249,21 +249,21 @@ def findings() -> Cases:
     """Findings are summed, with that of the border and without it."""
     found = "first 1 0 norate"
 
-    def front(count: int) -> str:
+    def prefix(count: int) -> str:
         return part(channel(findings=f"{count} {found}"), ONE)
 
     unread = part(channel(head="none", tail=LATE_TAIL, findings="1 first 1 0 encoding 4"), ONE)
     two = LATE.replace("findings 0", "findings 1 first 1 0 gap 5")
-    yield from passes("a finding of the border", [front(LARGEST), LATE], 5)
-    yield from passes("a finding of the second part", [front(LARGEST), unread], 5)
-    yield from passes("a finding of each", [front(LARGEST - 1), two], 5)
+    yield from passes("a finding of the border", [prefix(LARGEST), LATE], 5)
+    yield from passes("a finding of the second part", [prefix(LARGEST), unread], 5)
+    yield from passes("a finding of each", [prefix(LARGEST - 1), two], 5)
     most, joined = f"{LARGEST} {found}", {"records": 2, "samples": 32}
-    yield from holds_all("no finding of the border", [front(LARGEST), NEXT], 1,
+    yield from holds_all("no finding of the border", [prefix(LARGEST), NEXT], 1,
                          channel(tail=LATE_TAIL, findings=most, **joined), counts(2, 256))
     late_tail = f"{START + 825001} 16 20/1 none"
-    yield from holds_all("a finding of the border", [front(LARGEST - 1), LATE], 1,
+    yield from holds_all("a finding of the border", [prefix(LARGEST - 1), LATE], 1,
                          channel(tail=late_tail, findings=most, **joined), counts(2, 256))
-    yield from holds_all("a finding of each", [front(LARGEST - 2), two], 1,
+    yield from holds_all("a finding of each", [prefix(LARGEST - 2), two], 1,
                          channel(tail=late_tail, findings=most, **joined), counts(2, 256))
 
 
@@ -277,10 +277,10 @@ def goes_up() -> Cases:
     kept, other = channel(findings="1 first 1 0 leap"), channel(BHN_KEY)
     for status, (line, risen) in enumerate(zip(lines, up)):
         name = ["the head", "the first finding"][status]
-        for front, is_kept in ((kept, "not kept"), (other, "kept")):
-            yield from passes(f"the number of {name}, {is_kept}", [part(front, counts(many, 0)),
+        for prefix, is_kept in ((kept, "not kept"), (other, "kept")):
+            yield from passes(f"the number of {name}, {is_kept}", [part(prefix, counts(many, 0)),
                                                                   part(line, counts(0, 0))], 5)
-            yield from passes(f"the offset of {name}, {is_kept}", [part(front, counts(0, LARGEST - 15)),
+            yield from passes(f"the offset of {name}, {is_kept}", [part(prefix, counts(0, LARGEST - 15)),
                                                                   part(line, counts(0, 0))], 5)
         # 17 and LARGEST - 17, and 16 and LARGEST - 16.
         yield from holds_all(f"{name}, kept", [part(other, counts(many - 1, many)), part(line, counts(1, 16))], status,
@@ -304,15 +304,16 @@ def counts_and_faults() -> Cases:
                       ["--past-faults"])
     yield from holds_all("one fault that ends all", [many, part(nothing, fault)], 2, nothing, f"faults {LARGEST}",
                          fault)
-    told = f"mseed: part 1 {fault}\n"
-    yield from passes("faults behind one that was told", [part(nothing, fault), many], 6, ["--past-faults"], told)
+    reported = f"mseed: part 1 {fault}\n"
+    yield from passes("faults behind one that was reported", [part(nothing, fault), many], 6, ["--past-faults"],
+                      reported)
     # Behind a fault.
-    front = part(channel(records=LARGEST), counts(LARGEST, LARGEST), f"faults {LARGEST}", f"fault at {LARGEST} read")
-    yield from holds_all("what isn't counted", [front, LATE, part(*LINES[1:])], 2, *front.splitlines()[1:])
-    yield from passes("what isn't counted, and a bad line", [front, LATE, part("none")], 10)
-    yield from passes("what isn't counted, and a channel out of order", [front, part(OF_FIRST, OF_FIRST, ONE)], 8)
-    yield from passes("what isn't counted, and an end within a part", [front, LATE, part(OF_FIRST)], 11)
-    yield from passes("what is counted past a fault", [front.replace(f"faults {LARGEST}", "faults 1"), LATE], 7,
+    prefix = part(channel(records=LARGEST), counts(LARGEST, LARGEST), f"faults {LARGEST}", f"fault at {LARGEST} read")
+    yield from holds_all("what isn't counted", [prefix, LATE, part(*LINES[1:])], 2, *prefix.splitlines()[1:])
+    yield from passes("what isn't counted, and a bad line", [prefix, LATE, part("none")], 10)
+    yield from passes("what isn't counted, and a channel out of order", [prefix, part(OF_FIRST, OF_FIRST, ONE)], 8)
+    yield from passes("what isn't counted, and an end within a part", [prefix, LATE, part(OF_FIRST)], 11)
+    yield from passes("what is counted past a fault", [prefix.replace(f"faults {LARGEST}", "faults 1"), LATE], 7,
                       ["--past-faults"], f"mseed: part 1 fault at {LARGEST} read\n")
 
 

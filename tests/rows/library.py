@@ -72,16 +72,16 @@ def sweeps(built: Path, folder: Path) -> Cases:
     program = folder / "sweep"
     yield Fact("the sweep compiles", "", compiled(built, SOURCES / "library_sweep.c", program, ["-std=c99"]).stdout)
     for name, step in STEPS.items():
-        said = ran([str(program), str(SAMPLES / f"{name}.mseed"), str(step)])
-        yield holds(f"{name}: every call keeps to its rooms", re.fullmatch(r"\d+ calls\n", said), said)
+        outcome = ran([str(program), str(SAMPLES / f"{name}.mseed"), str(step)])
+        yield holds(f"{name}: every call keeps to its rooms", re.fullmatch(r"\d+ calls\n", outcome), outcome)
     for name in ("two_records", "steim2", "steim2_one_bit"):
         if shutil.which("valgrind") is None:
             yield Skipped(f"{name} under valgrind", "valgrind")
             continue
         words = ["valgrind", "--quiet", "--error-exitcode=9", "--leak-check=full", str(program),
                  str(SAMPLES / f"{name}.mseed"), "97" if name == "two_records" else "1", "once"]
-        said = ran(words[:-1] if name == "two_records" else words)
-        yield holds(f"{name}: valgrind finds nothing", re.fullmatch(r"\d+ calls\n", said), said[-1500:])
+        outcome = ran(words[:-1] if name == "two_records" else words)
+        yield holds(f"{name}: valgrind finds nothing", re.fullmatch(r"\d+ calls\n", outcome), outcome[-1500:])
 
 
 def refusals(built: Path, folder: Path) -> Cases:
@@ -114,8 +114,9 @@ def readme(built: Path, folder: Path) -> Cases:
     yield Fact("README's example in C compiles", "", compiled(built, code, program).stdout)
     records = [record for _, record in cut(gap)[0]]
     with (SAMPLES / "network_gap.mseed").open("rb") as source:
-        said = subprocess.run([str(program)], stdin=source, stdout=subprocess.PIPE, text=True, check=False).stdout
-    yield Fact("README's example in C", f"ok: {len(records)} records, {sum(r.count for r in records)} samples\n", said)
+        outcome = subprocess.run([str(program)], stdin=source, stdout=subprocess.PIPE, text=True, check=False).stdout
+    wanted = f"ok: {len(records)} records, {sum(r.count for r in records)} samples\n"
+    yield Fact("README's example in C", wanted, outcome)
     if not os.path.exists(PYTHON):
         yield Skipped("README's examples in Python", PYTHON)
         return
@@ -149,8 +150,8 @@ def installed(built: Path, folder: Path) -> Cases:
         yield Skipped("an installed library", "make lib, and pkg-config")
         return
     place = folder / "installed"
-    said = ran(["make", "--silent", "-C", str(ROOT), "install-lib", f"PREFIX={place}"])
-    yield holds("the library is installed", said.startswith("Installed"), said)
+    outcome = ran(["make", "--silent", "-C", str(ROOT), "install-lib", f"PREFIX={place}"])
+    yield holds("the library is installed", outcome.startswith("Installed"), outcome)
     code = folder / "alone.c"
     code.write_text(ALONE, encoding="ascii")
     flags = ran(["env", f"PKG_CONFIG_PATH={place}/lib/pkgconfig", "pkg-config", "--cflags", "--libs", "mseed"]).split()

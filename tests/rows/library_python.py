@@ -73,7 +73,7 @@ print(mseed.write(file, traces, length=256), mseed.read(file)[0].start_ns == tra
 print(mseed.audit(b"").text.strip(), mseed.read(b""))
 """
 
-SAID = """\
+EXPECTED = """\
 1 [] XX.STA..BHZ 1704067200000000000 2024-01-01T00:00:00+00:00 20.0 20
 True 32 1704067201550000000
 [(1704067200000000000, 16, 1), (1704067200825001000, 16, 2)]
@@ -143,8 +143,8 @@ def at_random(built: Path, numpy: bool) -> Cases:
         return (ended.stdout + ended.stderr).decode()
 
     with ThreadPoolExecutor(parts) as pool:
-        for seed, said in enumerate(pool.map(one, range(20261125, 20261125 + parts))):
-            yield Fact(f"archives {manner}, part {seed + 1}", f"{count} archives {count // 10} packings\n", said)
+        for seed, outcome in enumerate(pool.map(one, range(20261125, 20261125 + parts))):
+            yield Fact(f"archives {manner}, part {seed + 1}", f"{count} archives {count // 10} packings\n", outcome)
 
 
 def command(built: Path) -> Cases:
@@ -167,8 +167,8 @@ def typed() -> Cases:
         for name, rest in re.findall(r"^ *(?:def|class) (\w+)([^\"]*?):\n(?= *\"\"\")", text, re.MULTILINE | re.DOTALL):
             if "(" in rest and not name[0].isupper():
                 yield holds(f"{path.name}: {name} has types", "->" in rest, rest)
-        untold = re.findall(r"^ *(?:def|class) (\w+)[^\"]*?:\n(?! *\"\"\")", text, re.MULTILINE)
-        yield Fact(f"{path.name}: texts are missing of", [], [name for name in untold if not name.startswith("__")])
+        unreported = re.findall(r"^ *(?:def|class) (\w+)[^\"]*?:\n(?! *\"\"\")", text, re.MULTILINE)
+        yield Fact(f"{path.name}: texts are missing of", [], [name for name in unreported if not name.startswith("__")])
 
 
 def rows() -> Cases:
@@ -179,7 +179,7 @@ def rows() -> Cases:
         yield Skipped("the package for Python", WANTS)
         return
     with tempfile.TemporaryDirectory() as folder:
-        yield Fact("by hand, without NumPy", SAID, run(built, BY_HAND, folder, numpy=False))
+        yield Fact("by hand, without NumPy", EXPECTED, run(built, BY_HAND, folder, numpy=False))
         yield from command(built)
         yield Fact("an ObsPy trace, without NumPy", "obspy XX STA '' BHZ 1704067200000000000 20.0 False\n",
                    run(built, OBSPY, STAND_IN, numpy=False))
@@ -187,7 +187,7 @@ def rows() -> Cases:
         if not has_numpy():
             yield Skipped("the package with NumPy", NUMPY)
             return
-        yield Fact("by hand, with NumPy", SAID, run(built, BY_HAND, folder))
+        yield Fact("by hand, with NumPy", EXPECTED, run(built, BY_HAND, folder))
         yield Fact("views and threads", "{'int32'} 1 9\n[0, 1, 2, 3, 4] True\n[]\n", run(built, WITH_NUMPY, folder))
         yield Fact("an ObsPy trace", "obspy XX STA '' BHZ 1704067200000000000 20.0 True\n", run(built, OBSPY, STAND_IN))
         yield from at_random(built, True)

@@ -24,7 +24,7 @@ ENOUGH = 16777216
 
 def refuses(name: str, row: Row, refusing: str, is_listing: bool = False) -> Generator[Case, None, int]:
     """A run with each allocation refused in turn, until there is none to refuse; then all is as without. How many runs
-    that took."""
+    that needed."""
     whole = replace(row, env=preloaded(refusing, REFUSE=0)).run()
     out: Expected = PrefixOf(whole.out) if is_listing else b""
     yield Fact(f"{name} with all its memory", row.status, whole.status)

@@ -49,7 +49,7 @@ REFUSED: list[tuple[str, str, bytes, Sequence[str]]] = [
     ("a station filled with NULs", "record 1 is not of this feed", record(codes=b"STA\0\0  BHZXX", exponent=9), []),
     ("a network with a NUL", "record 1 is not of this feed", record(codes=b"STA    BHZX\0", exponent=9), []),
     ("a record of another place behind many", "record 1200 is not of this feed", STA * 1199 + STB, []),
-    ("a second place that is not asked for", "record 2 is not of this feed", BOTH, []),
+    ("a second place that is not requested", "record 2 is not of this feed", BOTH, []),
     ("a third place", "record 3 is not of this feed", STA + STA + OTHER + STA, ["XX_STB"]),
     ("an end within a record", "fault at 512 truncated 300", CUT, []),
     ("an end within a header", "fault at 1024 truncated 47", STA + STA + STA[:47], []),

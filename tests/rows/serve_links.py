@@ -22,7 +22,7 @@ ENDED = (0, b"", b"")
 RECORDS = [record_of(STA, index) for index in range(40)]
 PACKETS = b"".join(b"SL%06X" % number + record for number, record in enumerate(RECORDS))
 STATION = b"STATION STA XX\r\n"
-ASKED = STATION + b"FETCH\r\nEND\r\n"
+REQUEST = STATION + b"FETCH\r\nEND\r\n"
 GRANTED = b"OK\r\nOK\r\n"
 FETCHED = GRANTED + PACKETS + b"END"
 
@@ -127,7 +127,7 @@ def unread() -> Cases:
     """A client that sends more than the server reads, in one write with its last line."""
     server = served()
     with linked(server.port) as link:
-        link.sendall(ASKED + STATION * 3000)
+        link.sendall(REQUEST + STATION * 3000)
         await_close(server, link)
         rest, is_reset = rest_of(link)
     yield holds("what was sent to a client that sends more", rest == FETCHED, (len(rest), len(FETCHED)))
@@ -139,8 +139,8 @@ def held(name: str, pause: Optional[float]) -> Cases:
     """A client that doesn't close its link, and sends a byte after each pause, if any. The next one is served."""
     server = served("--connections", 2)
     with linked(server.port) as first, linked(server.port) as link:
-        first.sendall(ASKED)
-        link.sendall(ASKED)
+        first.sendall(REQUEST)
+        link.sendall(REQUEST)
         link.setblocking(False)
         brought, end = b"", time.monotonic() + LIMIT
         while len(brought) < len(FETCHED) and time.monotonic() < end:

@@ -103,7 +103,8 @@ def killed(cluster: Cluster, sound: Path, files: Sequence[Path], state: Path) ->
     words = ["--parts", str(parts), "--tasks", "2", "--sbatch=--partition=all", str(sound)]
     came = cluster.run(*words, env={"KILLED": "1"})
     made = made_in(parts)
-    yield holds("a task that was killed is told", came.status == 2 and not came.out and b"parts lack" in came.err, came)
+    yield holds("a task that was killed is reported",
+                came.status == 2 and not came.out and b"parts lack" in came.err, came)
     yield holds("some parts were made", 5 < len(made) < len(files), len(made))
     wanted = program(["audit"], b"".join(path.read_bytes() for path in files))
     yield Fact("the run started anew", wanted, cluster.run(*words))

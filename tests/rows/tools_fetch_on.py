@@ -18,7 +18,7 @@ from driver.feed import Cut, Proxy, Server, kept
 from driver.links import free_port, listening, port_of
 from driver.program import LIMIT, PROGRAM
 from driver.rows import Cases, Fact, Result, holds
-from driver.tools import TOOLS, said, tool
+from driver.tools import TOOLS, outcome, tool
 from models.peers import Speaker
 from models.seedlink import Place, record_of
 from rows.feed_cuts import is_each_once, records_at_random
@@ -46,9 +46,9 @@ def started(given: Sequence[str]) -> subprocess.Popen:
 
 
 def ended(run: subprocess.Popen) -> tuple[int, str]:
-    """How it ended, and what it told."""
-    told = run.communicate(timeout=LIMIT)[1]
-    return run.returncode, told.decode()
+    """How it ended, and what it reported."""
+    reported = run.communicate(timeout=LIMIT)[1]
+    return run.returncode, reported.decode()
 
 
 def size_of(out: Path) -> int:
@@ -77,31 +77,33 @@ def whole(folder: Path) -> Cases:
     first = 2**24 - 20
     options = ["--capacity", 400, "--first", f"{first:X}", "--connections", 1000000]
     server = Server(b"".join(records[:300]), PLACES, *options)
-    yield Fact("a feed is fetched", (0, [], ""), said(tool("fetch_on", *words(out, server.port))))
+    yield Fact("a feed is fetched", (0, [], ""), outcome(tool("fetch_on", *words(out, server.port))))
     held = out.read_bytes()
     yield holds("it is held", is_each_once(PLACES, records[:300], held), len(held))
     yield Fact("the numbers are kept", {place.text: [[0, first]] for place in PLACES}, numbers_of(out))
     counts = [sum(place.bears(record) for record in records[:300]) for place in PLACES]
     one, *others = [f"{(first + count) % 2**24:06X}" for count in counts]
-    told = " ".join([f"--network XX --station STA --from {one}",
+    reported = " ".join([f"--network XX --station STA --from {one}",
                      *(f"{place.text}:{number}" for place, number in zip(PLACES[1:], others))])
-    yield Fact("nothing is new", (0, [told], ""), said(tool("fetch_on", "--tell-next", *words(out, server.port))))
+    yield Fact("nothing is new", (0, [reported], ""),
+               outcome(tool("fetch_on", "--tell-next", *words(out, server.port))))
     yield holds("nothing is added", out.read_bytes() == held, size_of(out))
     server.kill()
     server = Server(b"".join(records), PLACES, *options)
     for begun in (b"", b"0", record_of(STA, 5)[:511]):
         out.write_bytes(held + begun)
         yield Fact(f"a feed is gone on with behind {len(begun)} bytes", (0, [], ""),
-                   said(tool("fetch_on", *words(out, server.port))))
+                   outcome(tool("fetch_on", *words(out, server.port))))
         now = out.read_bytes()
         yield holds(f"what was held stays, behind {len(begun)} bytes", now.startswith(held), len(now))
         yield holds(f"what lacked is held, behind {len(begun)} bytes", is_each_once(PLACES, records, now), len(now))
     one, ours = folder / "from", [record for record in records if STB.bears(record)]
     given = ["--from", f"{(first + 30) % 2**24:X}"]
-    yield Fact("a feed from a number on", (0, [], ""), said(tool("fetch_on", *words(one, server.port, [STB], *given))))
+    yield Fact("a feed from a number on", (0, [], ""),
+               outcome(tool("fetch_on", *words(one, server.port, [STB], *given))))
     yield holds("it is held from there", one.read_bytes() == b"".join(ours[30:]), size_of(one))
     yield Fact("a place more, and the number again", (0, [], ""),
-               said(tool("fetch_on", *words(one, server.port, [STB, STA], *given))))
+               outcome(tool("fetch_on", *words(one, server.port, [STB, STA], *given))))
     wanted = [record for record in records if STA.bears(record)] + ours[30:]
     yield holds("both are held", is_each_once([STA, STB], wanted, one.read_bytes()), size_of(one))
     server.kill()
@@ -127,7 +129,7 @@ def kills(folder: Path) -> Cases:
     yield holds("runs were killed", ends.count(-signal.SIGKILL) > KILLS // 2, ends)
     within = {size for size in sizes if 0 < size < len(archive)}
     yield holds("they were killed here and there", len(within) > KILLS // 3, sizes)
-    yield Fact("a run that was killed is gone on with", (0, [], ""), said(tool("fetch_on", *given)))
+    yield Fact("a run that was killed is gone on with", (0, [], ""), outcome(tool("fetch_on", *given)))
     yield holds("the same bytes are held", out.read_bytes() == archive, size_of(out))
     yield holds("serve goes on", server.is_going())
     server.kill()
@@ -139,13 +141,14 @@ def one_writer(folder: Path) -> Cases:
     run = started(words(out, port_of(silent)))
     link, _ = silent.accept()
     refused = (2, [], f"fetch_on: {out}: held by another run\n")
-    yield Fact("a second writer is refused", refused, said(tool("fetch_on", *words(out, port_of(silent)))))
+    yield Fact("a second writer is refused", refused, outcome(tool("fetch_on", *words(out, port_of(silent)))))
     run.terminate()
     yield Fact("a run that is stopped", (2, "fetch_on: stopped by SIGTERM\n"), ended(run))
     link.close()
     records = records_at_random(SEED, [STA], 20)
     server = Server(b"".join(records), [STA])
-    yield Fact("and then another one may write", (0, [], ""), said(tool("fetch_on", *words(out, server.port, [STA]))))
+    yield Fact("and then another one may write", (0, [], ""),
+               outcome(tool("fetch_on", *words(out, server.port, [STA]))))
     yield holds("it has written", out.read_bytes() == b"".join(records), size_of(out))
     silent.close()
 
@@ -171,7 +174,7 @@ def coming_back(folder: Path) -> Cases:
     source = Random(SEED)
     cuts = [Cut(None, source.randrange(1, 40000), source.random() < 0.5) for _ in range(20)]
     cut, proxy = folder / "cut", Proxy(lambda: server.port, cuts)
-    yield Fact("links that are cut", (0, [], ""), said(tool("fetch_on", *words(cut, proxy.port))))
+    yield Fact("links that are cut", (0, [], ""), outcome(tool("fetch_on", *words(cut, proxy.port))))
     yield holds("links that are cut: each record is held once", is_each_once(PLACES, records, cut.read_bytes()),
                 size_of(cut))
     yield holds("links were cut", proxy.carried > 20, proxy.carried)
@@ -191,33 +194,34 @@ def holes(folder: Path) -> Cases:
     speaker = Speaker([[GRANTED + packets(records[:4], numbers[:4])],
                        [GRANTED + packets(records[4:], numbers[4:]) + b"END"], [GRANTED + b"END"]])
     given = words(out, speaker.port, [STA], "--holes", "--tell-next")
-    told = (0, ["--network XX --station STA --from 00002A"], "")
-    yield Fact("numbers that leave some out", told, said(tool("fetch_on", *given)))
+    reported = (0, ["--network XX --station STA --from 00002A"], "")
+    yield Fact("numbers that leave some out", reported, outcome(tool("fetch_on", *given)))
     yield Fact("the records are held", b"".join(records), out.read_bytes())
-    yield Fact("and again", told, said(tool("fetch_on", *given)))
+    yield Fact("and again", reported, outcome(tool("fetch_on", *given)))
     speaker.close()
-    asked = [sent.split(b"FETCH")[1].split(b"\r")[0] for sent, _ in speaker.received]
-    yield Fact("what was asked for", [b"", b" 00000D", b" 00002A"], asked)
+    requested = [sent.split(b"FETCH")[1].split(b"\r")[0] for sent, _ in speaker.received]
+    yield Fact("what was requested", [b"", b" 00000D", b" 00002A"], requested)
 
 
 def failing(folder: Path) -> Cases:
-    """What it can't go on after, and how that is told."""
+    """What it can't go on after, and how that is reported."""
     records = records_at_random(SEED, [STA], 4)
     nobody = words(folder / "nobody", free_port(), [STA], "--tries", "3")
     begun = time.monotonic()
-    yield Fact("nobody is there", (2, [], LINK_FAILED), said(tool("fetch_on", *nobody)))
+    yield Fact("nobody is there", (2, [], LINK_FAILED), outcome(tool("fetch_on", *nobody)))
     yield holds("it has waited between tries", time.monotonic() - begun >= 0.3)
     server = Server(b"".join(records), [STA], "--connections", 1000000)
     refused = words(folder / "refused", server.port, [STA], "--from", "9", "--tries", "3")
-    yield Fact("a number that the server hasn't", (2, [], REFUSED), said(tool("fetch_on", *refused)))
+    yield Fact("a number that the server hasn't", (2, [], REFUSED), outcome(tool("fetch_on", *refused)))
     server.kill()
     speaker = Speaker([[GRANTED + b"SL000005" + records[0] + b"SL000007" + records[1]]])
     gap = folder / "gap"
-    yield Fact("a number that is left out", (2, [], BAD_FEED), said(tool("fetch_on", *words(gap, speaker.port, [STA]))))
+    yield Fact("a number that is left out", (2, [], BAD_FEED),
+               outcome(tool("fetch_on", *words(gap, speaker.port, [STA]))))
     yield Fact("what came before is held", (records[0], {STA.text: [[0, 5]]}), (gap.read_bytes(), numbers_of(gap)))
     speaker.close()
     yield Fact("a station that is none", (3, [], "mseed: bad value\n"),
-               said(tool("fetch_on", *words(folder / "none", 1, [Place("XX_TOOLONG")]))))
+               outcome(tool("fetch_on", *words(folder / "none", 1, [Place("XX_TOOLONG")]))))
     for given in ([], [str(folder / "few")], [*nobody, "--tries", "0"], [*nobody, STA.text], [*nobody, "--no-such"]):
         yield Fact(f"fetch_on {' '.join(given)}", 3, tool("fetch_on", *given).status)
     yield holds("the help has an example", b"example" in tool("fetch_on", "--help").out)

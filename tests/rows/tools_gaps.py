@@ -12,7 +12,7 @@ from pathlib import Path
 
 from driver.program import SAMPLES
 from driver.rows import Cases, Fact, holds
-from driver.tools import DAYS, make_tree, place, said, tool
+from driver.tools import DAYS, make_tree, place, outcome, tool
 
 HEADS = ["source", "last sample", "next sample", "delta", "samples"]
 # The last sample stands a second before the end, from which the next record is so many seconds away.
@@ -40,12 +40,12 @@ def in_csv(text: bytes) -> list[list[str]]:
 
 def of_tree(root: Path) -> Cases:
     """The archive, in each form."""
-    told = "".join(f"{root / path}: {what}\n" for path, what in FAULTS).encode()
+    reported = "".join(f"{root / path}: {what}\n" for path, what in FAULTS).encode()
     for words, wanted in (([], BREAKS), (["--by-time"], BY_TIME)):
         came = tool("gaps", "--csv", *words, str(root))
-        yield Fact(f"the sample tree, {' '.join(['--csv', *words])}", (2, [HEADS, *wanted], told),
+        yield Fact(f"the sample tree, {' '.join(['--csv', *words])}", (2, [HEADS, *wanted], reported),
                    (came.status, in_csv(came.out), came.err))
-    status, lines, _ = said(tool("gaps", str(root)))
+    status, lines, _ = outcome(tool("gaps", str(root)))
     yield Fact("the sample tree, as text", (2, [HEADS, *BREAKS]),
                (status, [re.split("  +", line) for line in lines]))
     yield holds("the columns are as wide as they have to be", len({line.index("2", 12) for line in lines[1:]}) == 1
@@ -69,10 +69,10 @@ def of_files() -> Cases:
     yield Fact("files before and behind an option", (0, [HEADS, twice, gap]),
                (lambda came: (came.status, in_csv(came.out)))(tool("gaps", two, two, "--csv", one)))
     yield Fact("a sample without a gap", (0, ["source  last sample  next sample  delta  samples"], ""),
-               said(tool("gaps", two)))
+               outcome(tool("gaps", two)))
     junk = str(SAMPLES / "network_junk.mseed")
     yield Fact("a sample with junk", (2, f"{junk}: fault at 14336 notdata, 512 bytes skipped\n"),
-               (lambda came: (came[0], came[2]))(said(tool("gaps", junk))))
+               (lambda came: (came[0], came[2]))(outcome(tool("gaps", junk))))
     yield Fact("no such file", 2, tool("gaps", "/no/such/file").status)
     for words in ([], ["--csv", "--json", one], ["--state", "/tmp/state", one], [str(SAMPLES), one]):
         yield Fact(f"gaps {' '.join(words)}", 3, tool("gaps", *words).status)

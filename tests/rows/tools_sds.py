@@ -21,7 +21,7 @@ from typing import Iterator, Optional
 from driver.program import PROGRAM
 from driver.records import record
 from driver.rows import Cases, Fact, Result, holds
-from driver.tools import DAYS, TOOLS, batches, make_tree, place, rest, said, tool, write_tree
+from driver.tools import DAYS, TOOLS, batches, make_tree, place, rest, outcome, tool, write_tree
 from models.auditing import Record, findings, name_of, record_of, scan, start_of, time_of
 from models.series import records_for, series_for
 from rows.damaged_archives import harm
@@ -33,7 +33,7 @@ KILLS = 20
 SPAN = "from 2016-12-30T00:00:00.000000 to 2017-01-04T00:00:00.000000"
 NO_GAPS, NO_OVERLAPS = "gaps 0 0.000000 s", "overlaps 0 0.000000 s"
 # Five days have 432,001 seconds. A record of 512 bytes has 721.
-SAID = f"""\
+EXPECTED = f"""\
 XX_AAA__BHE days 5 records 600 samples 432001 {SPAN} gaps 1 721.000000 s overlaps 1 721.000000 s findings 2
 XX_AAA__BHN days 5 records 70 samples 432001 {SPAN} {NO_GAPS} {NO_OVERLAPS} findings 0
 XX_AAA__BHZ days 5 records 600 samples 432001 {SPAN} {NO_GAPS} {NO_OVERLAPS} findings 0
@@ -82,13 +82,13 @@ def sample(folder: Path) -> Cases:
     root, state = folder / "archive", folder / "state"
     make_tree(root)
     rest()
-    yield Fact("the sample tree", (2, [*SAID, TOTAL], ""), said(tool("sds", str(root))))
+    yield Fact("the sample tree", (2, [*EXPECTED, TOTAL], ""), outcome(tool("sds", str(root))))
     each = [line_of(*values) for values in EACH]
-    yield Fact("each finding of the sample tree", (2, [*each, *SAID, TOTAL], ""),
-               said(tool("sds", "--each", str(root))))
+    yield Fact("each finding of the sample tree", (2, [*each, *EXPECTED, TOTAL], ""),
+               outcome(tool("sds", "--each", str(root))))
     for name in ("with nothing kept", "with all kept"):
-        yield Fact(f"the sample tree, {name}", (2, [*each, *SAID, TOTAL], ""),
-                   said(tool("sds", "--each", "-j", "3", "--state", str(state), str(root))))
+        yield Fact(f"the sample tree, {name}", (2, [*each, *EXPECTED, TOTAL], ""),
+                   outcome(tool("sds", "--each", "-j", "3", "--state", str(state), str(root))))
     yield from in_json(tool("sds", "--each", "--json", "--state", str(state), str(root)))
     texts = sorted(path.suffix for path in state.rglob("*") if path.is_file())
     # A text for each channel and year; the lock; nothing that was begun.
@@ -98,10 +98,10 @@ def sample(folder: Path) -> Cases:
 
 def in_json(came: Result) -> Cases:
     """The sample tree as JSON."""
-    told = json.loads(came.out)
-    by_name = {channel["channel"]: channel for channel in told["channels"]}
-    yield Fact("the sample tree's names in JSON", [line.split()[0] for line in SAID if line.startswith("XX")],
-               [channel["channel"] for channel in told["channels"]])
+    reported = json.loads(came.out)
+    by_name = {channel["channel"]: channel for channel in reported["channels"]}
+    yield Fact("the sample tree's names in JSON", [line.split()[0] for line in EXPECTED if line.startswith("XX")],
+               [channel["channel"] for channel in reported["channels"]])
     first = 1483056000000000
     yield Fact("a channel in JSON", {
         "channel": "XX_CCC__BHZ", "state": "broken", "days": 2, "records": 240, "samples": 172800, "from": first,
@@ -113,9 +113,9 @@ def in_json(came: Result) -> Cases:
     yield Fact("a log in JSON", ("undecoded", 20 * 5, None),
                tuple(by_name["XX_BBB__LOG"].get(word) for word in ("state", "samples", "findings")))
     words = ("file", "offset", "name", "number", "start", "why")
-    yield Fact("each finding in JSON", [dict(zip(words, values)) for values in EACH], told["each"])
-    yield Fact("the total in JSON", TOTAL, " ".join(f"{word} {number}" for word, number in told["total"].items()))
-    yield Fact("misplaced files in JSON", [SAID[-1].split()[1]], told["misplaced"])
+    yield Fact("each finding in JSON", [dict(zip(words, values)) for values in EACH], reported["each"])
+    yield Fact("the total in JSON", TOTAL, " ".join(f"{word} {number}" for word, number in reported["total"].items()))
+    yield Fact("misplaced files in JSON", [EXPECTED[-1].split()[1]], reported["misplaced"])
 
 
 def kept(root: Path, state: Path) -> Cases:
@@ -128,7 +128,7 @@ def kept(root: Path, state: Path) -> Cases:
         path = root / place("AAA", "BHZ", DAYS[0])
         path.write_bytes(path.read_bytes()[:-512])
         rest()
-        came = said(tool("sds", "--state", str(state), str(root), program=program.path))
+        came = outcome(tool("sds", "--state", str(state), str(root), program=program.path))
         yield Fact("a run after a change reads that file", (1, True),
                    (program.audits(), any(line.startswith("XX_AAA__BHZ") and line.endswith(
                        "gaps 1 601.000000 s overlaps 0 0.000000 s findings 1") for line in came[1])))
@@ -136,9 +136,9 @@ def kept(root: Path, state: Path) -> Cases:
         whole = text.read_bytes()
         for content in (b"", b"{", b"[]", b'{"form": 1}', whole[:-20], whole.replace(b"mseed", b"")):
             text.write_bytes(content)
-            again = said(tool("sds", "--state", str(state), str(root), program=program.path))
+            again = outcome(tool("sds", "--state", str(state), str(root), program=program.path))
             yield Fact(f"a text of {len(content)} bytes that isn't whole", (2, came), (program.audits(), again))
-    inside = said(tool("sds", "--state", str(root / "state"), str(root)))
+    inside = outcome(tool("sds", "--state", str(root / "state"), str(root)))
     yield Fact("a state in the archive", (2, [], f"sds: {root / 'state'}: is in the archive, which is only read\n"),
                inside)
 
@@ -158,7 +158,7 @@ class counting:
         self.path.unlink()
 
     def audits(self) -> int:
-        """How many there were since this was asked last."""
+        """How many there were since this was called last."""
         count = len(self.log.read_bytes()) if self.log.exists() else 0
         self.log.write_bytes(b"")
         return count
@@ -233,7 +233,7 @@ def trees_at_random(folder: Path, count: int) -> Cases:
             found, line = expected_of(own, key)
             lines += found
             wanted += [line] if line else []
-        status, came, err = said(tool("sds", "-j", "2", "--each", str(root)))
+        status, came, err = outcome(tool("sds", "-j", "2", "--each", str(root)))
         channels = [re.sub(r"from \S+ to \S+", "..", line) for line in came
                     if line.startswith("XX_STA") and " days 0 " not in line]
         yield Fact(f"the tree of seed {seed}: findings", lines, [line for line in came if line.startswith("202")])
@@ -269,7 +269,7 @@ def kills(folder: Path) -> Cases:
         words = ["-j", "2", "--each", "--state", str(state), str(root)]
         begun = time.monotonic()
         first = ["-j", "2", "--each", "--state", str(folder / "first"), str(root)]
-        whole = said(tool("sds", *first, program=program.path))
+        whole = outcome(tool("sds", *first, program=program.path))
         lasts, all_of = time.monotonic() - begun, program.audits()
         for _ in range(KILLS):
             run = subprocess.Popen([sys.executable, str(TOOLS / "sds"), *words], stdout=subprocess.DEVNULL,
@@ -284,15 +284,15 @@ def kills(folder: Path) -> Cases:
         # What a killed run has begun may still be counted.
         rest()
         program.audits()
-        yield Fact("a run that was killed goes on", whole, said(tool("sds", *words, program=program.path)))
+        yield Fact("a run that was killed goes on", whole, outcome(tool("sds", *words, program=program.path)))
         came = program.audits()
         yield holds("it reads less than all", came < all_of, (came, all_of))
         yield Fact("and then all is kept", (whole, 0),
-                   (said(tool("sds", *words, program=program.path)), program.audits()))
+                   (outcome(tool("sds", *words, program=program.path)), program.audits()))
 
 
 def changing(folder: Path) -> Cases:
-    """A file that changes while it is read is told, and nothing of it counts or is kept."""
+    """A file that changes while it is read is reported, and nothing of it counts or is kept."""
     root = folder / "changing"
     path = place("STA", "BHZ", DAYS[0])
     write_tree(root, {path: record(year=2016, day=365)})
@@ -303,7 +303,7 @@ def changing(folder: Path) -> Cases:
     rest()
     for _ in range(2):
         size = (root / path).stat().st_size + 1
-        status, lines, _ = said(tool("sds", "--state", str(folder / "slow-state"), str(root), program=program))
+        status, lines, _ = outcome(tool("sds", "--state", str(folder / "slow-state"), str(root), program=program))
         yield Fact("a file that changes", (2, [
             f"XX_STA__BHZ days 0 records 0 samples 0 from none to none {NO_GAPS} {NO_OVERLAPS} findings 0",
             f"  changed {path}", f"files 1 bytes {size} channels 0 continuous 0 broken 0 undecoded 0 faults 1"]),
@@ -311,7 +311,7 @@ def changing(folder: Path) -> Cases:
     with open(folder / "slow-state" / "lock", "ab") as lock:
         fcntl.flock(lock, fcntl.LOCK_EX)
         yield Fact("a state that another run holds", (2, [], f"sds: {folder}/slow-state/lock: held by another run\n"),
-                   said(tool("sds", "--state", str(folder / "slow-state"), str(root))))
+                   outcome(tool("sds", "--state", str(folder / "slow-state"), str(root))))
 
 
 def bar(folder: Path) -> Cases:
@@ -337,12 +337,12 @@ def small(folder: Path) -> Cases:
     empty = folder / "empty"
     empty.mkdir()
     none = "files 0 bytes 0 channels 0 continuous 0 broken 0 undecoded 0 faults 0"
-    yield Fact("an archive without files", (0, [none], ""), said(tool("sds", str(empty))))
+    yield Fact("an archive without files", (0, [none], ""), outcome(tool("sds", str(empty))))
     yield Fact("no archive", 2, tool("sds", str(folder / "nothing")).status)
     yield Fact("no program", 2, tool("sds", str(empty), program=folder / "nothing").status)
     for words in ([], ["--no-such-word", str(empty)], ["-j", "0", str(empty)], [str(empty), str(empty)]):
         yield Fact(f"sds {' '.join(words)}", 3, tool("sds", *words).status)
-    help_of = said(tool("sds", "--help"))
+    help_of = outcome(tool("sds", "--help"))
     yield holds("the help has an example", help_of[0] == 0 and any("example" in line for line in help_of[1]))
     one = folder / "one"
     write_tree(one, {"2024/XX/STA/BHZ.D/XX.STA..BHZ.D.2024.001": record(), "2024/XX/STA/BHZ.D/.hidden": b"x",
@@ -353,7 +353,7 @@ def small(folder: Path) -> Cases:
         f"XX_STA__BHZ days 1 records 1 samples 16 from 2024-01-01T00:00:00.000000 to {time_of(1704067200800000)} "
         f"{NO_GAPS} {NO_OVERLAPS} findings 0", "misplaced 2024/XX/STA/BHZ.D/XX.STA..BHZ.D.2023.365",
         "misplaced 2024/XX/STA/BHZ.D/XX.STA..BHZ.D.2024.367", "misplaced 2024/XX/notes", "misplaced readme.txt",
-        "files 1 bytes 128 channels 1 continuous 1 broken 0 undecoded 0 faults 0"], ""), said(tool("sds", str(one))))
+        "files 1 bytes 128 channels 1 continuous 1 broken 0 undecoded 0 faults 0"], ""), outcome(tool("sds", str(one))))
 
 
 def rows() -> Cases:

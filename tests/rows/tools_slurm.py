@@ -43,26 +43,26 @@ def of_damaged(cluster: Cluster, damaged: Path) -> Cases:
 
 
 class Slow:
-    """A program that does what the one that is tested does, and tells of each audit which process asked for it. As long
+    """A program that does what the one that is tested does, and names of each audit the process that wanted it. As long
     as it is held, each audit takes a while."""
 
     def __init__(self, folder: Path):
-        self.path, self.log, self.held = folder / "slow", folder / "asked", folder / "held"
+        self.path, self.log, self.held = folder / "slow", folder / "requested", folder / "held"
         self.path.write_text(f'#!/bin/sh\n[ "$1" = audit ] && echo $PPID >> {self.log}\n'
                              f'[ "$1" = audit ] && [ -e {self.held} ] && sleep 0.5\nexec {PROGRAM} "$@"\n',
                              encoding="utf-8")
         self.path.chmod(0o755)
         self.held.touch()
 
-    def asked(self) -> list[int]:
-        """The processes that asked for audits, one after another."""
+    def requested(self) -> list[int]:
+        """The processes that called for audits, one after another."""
         return [int(word) for word in self.log.read_text(encoding="ascii").split()] if self.log.exists() else []
 
     def killed(self) -> Optional[int]:
         """Kills the first task that has begun some audits, and says which one."""
         end = time.monotonic() + LIMIT
         while time.monotonic() < end:
-            task = next((task for task, count in Counter(self.asked()).items() if count == BEGUN), None)
+            task = next((task for task, count in Counter(self.requested()).items() if count == BEGUN), None)
             if task is not None:
                 os.kill(task, signal.SIGKILL)
                 return task
@@ -81,16 +81,16 @@ def of_killed(cluster: Cluster, sound: Path, wanted: Result) -> Cases:
         came = running.result()
     made = made_in(parts)
     # The other task has made its five parts, or has been stopped too: not all are there.
-    yield holds("Slurm: a task that was killed is told",
+    yield holds("Slurm: a task that was killed is reported",
                 came.status == 2 and not came.out and b"parts lack" in came.err, came)
     yield holds("Slurm: some parts were made", BEGUN - 1 <= len(made) < 10, len(made))
     slow.held.unlink()
-    before = len(slow.asked())
+    before = len(slow.requested())
     yield Fact("Slurm: the run started anew", wanted, cluster.run(*words, env=env))
     again = made_in(parts)
     yield holds("Slurm: parts that were made stay", made.items() <= again.items())
     yield Fact("Slurm: only the parts that lacked are made", (10, 10 - len(made)),
-               (len(again), len(slow.asked()) - before))
+               (len(again), len(slow.requested()) - before))
 
 
 def all_of(folder: Path) -> Sequence[Case]:

@@ -14,7 +14,7 @@ from typing import Iterator, NamedTuple
 
 from driver.program import PROGRAM, ROOT, SAMPLES
 from driver.rows import Cases, Fact, holds
-from driver.tools import TOOLS, make_tree, said, tool
+from driver.tools import TOOLS, make_tree, outcome, tool
 
 SPACE = "{http://www.w3.org/2000/svg}"
 # Of names with eleven letters the axis begins here; it has five days, of 199 pixels each.
@@ -60,7 +60,7 @@ def of_tree(folder: Path) -> Cases:
                         mark("gap", (36050 + 360.5) * second), mark("overlap", 3 + (21630 + 360.5) * second)],
         "XX_AAA__BHN": [bar("continuous", 0, 5)],
         "XX_AAA__BHZ": [bar("continuous", 0, 5)],
-        # Two days took each other's place: all is there, and the overlap says so.
+        # Two days changed places: all is there, and the overlap says so.
         "XX_BBB__BHN": [bar("gap", 2, 3), bar("gap", 3, 4), bar("broken", 0, 5, 4), bar("overlap", 2, 4)],
         "XX_BBB__BHZ": [bar("broken", 0, 5, 2), bar("overlap", 2, 3)],
         "XX_BBB__LOG": [Part("undecoded", LEFT + DAY * (day + 0.5), 1.0, 1) for day in range(5)],
@@ -86,9 +86,10 @@ def of_tree(folder: Path) -> Cases:
                words["legend"])
     yield Fact("the title", (["a < b"], ["2016-12-30T00:00:00 to 2017-01-04T00:00:00 UTC"]),
                (words["title"], words["when"]))
-    told = [one.text for one in picture.iter(f"{SPACE}title")]
-    yield holds("a mark says what it is", "XX_CCC__BHN gap of 601.000000 s before 2017-01-01T00:00:00.000000" in told
-                and "XX_CCC__BHE lastdiffers 0 1 at 2017-01-03T01:48:09.000000" in told, told)
+    reported = [one.text for one in picture.iter(f"{SPACE}title")]
+    yield holds("a mark says what it is",
+                "XX_CCC__BHN gap of 601.000000 s before 2017-01-01T00:00:00.000000" in reported
+                and "XX_CCC__BHE lastdiffers 0 1 at 2017-01-03T01:48:09.000000" in reported, reported)
 
 
 def made_up(count: int) -> Iterator[tuple]:
@@ -151,7 +152,7 @@ def of_files() -> Cases:
     yield Fact("what docs/timeline.svg shows", {"continuous", "broken", "gap", "overlap", "finding"}, kinds)
     yield Fact("no such file", 2, tool("timeline", "/no/such/file").status)
     yield Fact("no words", 3, tool("timeline").status)
-    yield holds("the help has an example", "example" in "".join(said(tool("timeline", "--help"))[1]))
+    yield holds("the help has an example", "example" in "".join(outcome(tool("timeline", "--help"))[1]))
 
 
 def rows() -> Cases:

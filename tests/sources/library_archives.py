@@ -17,7 +17,7 @@ from driver.batches import Batch
 from models.auditing import channels_of, cut, findings, time_of
 from models.packing import Series, packed
 from models.series import series_for
-from mseed._auditing import BORDERS, told
+from mseed._auditing import BORDERS, audited
 from mseed._library import Row
 from mseed._reading import _rows_of
 from rows.damaged_archives import damaged
@@ -67,11 +67,11 @@ def shown(row: Row) -> str:
 
 
 def compare(archive: bytes, batch: Batch) -> int:
-    """Compares what is said of an archive; how many traces it has."""
+    """Compares what is reported of an archive; how many traces it has."""
     for call, words in (("mseed_audit", ["audit"]), ("mseed_audit_each", ["audit", "--each"]),
                         ("mseed_part", ["audit", "--part"])):
         run = batch.run(words, archive)
-        text, status, _ = told(call, archive)
+        text, status, _ = audited(call, archive)
         if (run.out.decode(), run.status) != (text, status):
             differs(call, archive, (run.out, run.status), (text, status))
     lines = batch.run(["show"], archive).out.decode().splitlines()

@@ -13,12 +13,12 @@
 void *__real_malloc (size_t size);
 void *__real_realloc (void *old, size_t size);
 
-static long refused, asked;
+static long refused, called;
 
 static int
 is_refused (void)
 {
-  return refused != 0 && ++asked == refused;
+  return refused != 0 && ++called == refused;
 }
 
 void *
@@ -86,9 +86,9 @@ main (int argc, char **argv)
       memset (room, 0xA5, sizeof room);
       memset (&totals, 0xA5, sizeof totals);
       memset (&packed, 0xA5, sizeof packed);
-      asked = 0;
+      called = 0;
       code = call (which);
-      if (asked < refused)
+      if (called < refused)
       {
         if (code == MSEED_NO_MEMORY)
           printf ("call %d: refused without a reason\n", which);
@@ -101,7 +101,7 @@ main (int argc, char **argv)
       count++;
     }
     if ((count != 0) != (which != 3))
-      printf ("call %d asked for memory %ld times\n", which, count);
+      printf ("call %d called for memory %ld times\n", which, count);
   }
   return 0;
 }

@@ -82,10 +82,10 @@ check_room (teller tell, const uint8_t *archive, size_t size, const uint8_t *who
             uint32_t status, size_t room, int at_end)
 {
   uint8_t *text = room_in (text_fence, room, at_end);
-  mseed_totals *told = room_in (small_fence, sizeof *told, at_end);
+  mseed_totals *answer = room_in (small_fence, sizeof *answer, at_end);
   size_t shown = room < totals->length ? room : (size_t)totals->length;
   calls++;
-  if (tell (archive, size, text, room, told) != status || memcmp (told, totals, sizeof *told) != 0)
+  if (tell (archive, size, text, room, answer) != status || memcmp (answer, totals, sizeof *answer) != 0)
     fail ("another answer", room);
   if (memcmp (text, whole, shown) != 0 || !is_pattern (text + shown, room - shown))
     fail ("another text", room);
@@ -128,23 +128,23 @@ check_places (const uint8_t *archive, size_t size, size_t nrows, size_t room, in
 {
   mseed_row *rows = room_in (rows_fence, nrows * sizeof *rows, at_end);
   int32_t *samples = room_in (samples_fence, room * sizeof *samples, at_end);
-  mseed_progress *told = room_in (small_fence, sizeof *told, at_end);
-  uint32_t code = mseed_read (archive, size, 0, rows, nrows, samples, room, told);
+  mseed_progress *answer = room_in (small_fence, sizeof *answer, at_end);
+  uint32_t code = mseed_read (archive, size, 0, rows, nrows, samples, room, answer);
   calls++;
-  if (told->rows > nrows || told->filled > room || told->offset > size)
+  if (answer->rows > nrows || answer->filled > room || answer->offset > size)
     fail ("more than there is room for", nrows);
-  if (told->rows > all.rows || memcmp (rows, all_rows, told->rows * sizeof *rows) != 0)
+  if (answer->rows > all.rows || memcmp (rows, all_rows, answer->rows * sizeof *rows) != 0)
     fail ("other rows", nrows);
-  if (memcmp (samples, all_samples, told->filled * sizeof *samples) != 0)
+  if (memcmp (samples, all_samples, answer->filled * sizeof *samples) != 0)
     fail ("other samples", room);
-  if (!is_pattern (rows + told->rows, (nrows - told->rows) * sizeof *rows))
+  if (!is_pattern (rows + answer->rows, (nrows - answer->rows) * sizeof *rows))
     fail ("a row behind the last", nrows);
-  if (nrows >= all.rows && room >= all_room && (code != all_code || told->offset != all.offset))
+  if (nrows >= all.rows && room >= all_room && (code != all_code || answer->offset != all.offset))
     if (!(code == MSEED_NO_ROW && nrows == all.rows))
       fail ("another code", nrows);
-  if (code == MSEED_NO_ROW && told->rows != nrows)
+  if (code == MSEED_NO_ROW && answer->rows != nrows)
     fail ("rows are left", nrows);
-  if (code == MSEED_NO_ROOM && told->filled + told->needed <= room)
+  if (code == MSEED_NO_ROOM && answer->filled + answer->needed <= room)
     fail ("places are left", room);
 }
 
@@ -158,18 +158,18 @@ check_steps (const uint8_t *archive, size_t size, int at_end)
     mseed_row want = all_rows[index], *row = room_in (rows_fence, sizeof *row, at_end);
     size_t count = want.code == MSEED_OK ? want.samples : 0;
     int32_t *samples = room_in (samples_fence, want.samples * sizeof *samples, at_end);
-    mseed_progress *told = room_in (small_fence, sizeof *told, at_end);
+    mseed_progress *answer = room_in (small_fence, sizeof *answer, at_end);
     mseed_detail *detail;
-    uint32_t code = mseed_read (archive, size, offset, row, 1, samples, want.samples, told);
+    uint32_t code = mseed_read (archive, size, offset, row, 1, samples, want.samples, answer);
     calls += 2;
     want.first = 0;
-    if (told->rows != 1 || told->filled != count || memcmp (row, &want, sizeof want) != 0)
+    if (answer->rows != 1 || answer->filled != count || memcmp (row, &want, sizeof want) != 0)
       fail ("another row by itself", offset);
     if (memcmp (samples, all_samples + filled, count * sizeof *samples) != 0)
       fail ("other samples by themselves", offset);
     if (code != MSEED_NO_ROW && code != MSEED_OK)
       fail ("another end by itself", offset);
-    offset = (size_t)told->offset;
+    offset = (size_t)answer->offset;
     detail = room_in (small_fence, sizeof *detail, at_end);
     samples = room_in (samples_fence, want.samples * sizeof *samples, at_end);
     code = mseed_samples (archive + want.offset, size - want.offset, samples, want.samples, detail);
@@ -185,12 +185,12 @@ static void
 check_heads (const uint8_t *archive, size_t size, int at_end)
 {
   mseed_row *rows = room_in (rows_fence, all.rows * sizeof *rows, at_end);
-  mseed_progress *told = room_in (small_fence, sizeof *told, at_end);
-  uint32_t code = mseed_rows (archive, size, 0, rows, all.rows, told);
+  mseed_progress *answer = room_in (small_fence, sizeof *answer, at_end);
+  uint32_t code = mseed_rows (archive, size, 0, rows, all.rows, answer);
   size_t index, count = 0;
   calls++;
-  if (told->rows != all.rows || told->offset != all.offset)
-    fail ("other heads", told->rows);
+  if (answer->rows != all.rows || answer->offset != all.offset)
+    fail ("other heads", answer->rows);
   if (code != all_code && !(code == MSEED_NO_ROW && all.offset < size))
     fail ("another code of heads", code);
   for (index = 0; index < all.rows; index++)
@@ -202,7 +202,7 @@ check_heads (const uint8_t *archive, size_t size, int at_end)
       fail ("another head", index);
     count += want.samples;
   }
-  if (told->filled != count)
+  if (answer->filled != count)
     fail ("another count", count);
 }
 
@@ -240,12 +240,12 @@ static void
 check_packing_room (const mseed_heading *heading, const int32_t *samples, size_t count, size_t size, size_t room,
                     int at_end)
 {
-  mseed_packed *told = room_in (small_fence, sizeof *told, at_end);
+  mseed_packed *answer = room_in (small_fence, sizeof *answer, at_end);
   uint8_t *records = room_in (records_fence, room, at_end);
   size_t shown = room < size ? room : size;
   calls++;
-  if (mseed_pack (heading, samples, count, records, room, told) != MSEED_OK || told->records * heading->length != size
-      || told->index != 0)
+  if (mseed_pack (heading, samples, count, records, room, answer) != MSEED_OK || answer->records * heading->length != size
+      || answer->index != 0)
     fail ("another answer of packing", room);
   if (memcmp (records, whole_packing, shown) != 0 || !is_pattern (records + shown, room - shown))
     fail ("another packing", room);
@@ -255,19 +255,19 @@ check_packing_room (const mseed_heading *heading, const int32_t *samples, size_t
 static void
 check_packed (const mseed_heading *heading, const int32_t *samples, size_t count, int all_rooms, int at_end)
 {
-  mseed_packed *told = room_in (small_fence, sizeof *told, at_end);
+  mseed_packed *answer = room_in (small_fence, sizeof *answer, at_end);
   uint8_t *records = room_in (records_fence, 0, at_end);
   size_t size, room;
   mseed_progress progress;
-  uint32_t code = mseed_pack (heading, samples, count, records, 0, told);
+  uint32_t code = mseed_pack (heading, samples, count, records, 0, answer);
   calls++;
   if (count == 0 ? code != MSEED_EMPTY : code != MSEED_OK && code != MSEED_SAMPLE_TOO_LARGE
       && code != MSEED_DIFFERENCE_TOO_LARGE)
     fail ("another code of packing", code);
   if (code != MSEED_OK)
     return;
-  size = (size_t)told->records * heading->length;
-  code = mseed_pack (heading, samples, count, whole_packing, sizeof whole_packing, told);
+  size = (size_t)answer->records * heading->length;
+  code = mseed_pack (heading, samples, count, whole_packing, sizeof whole_packing, answer);
   calls++;
   if (code != MSEED_OK || size > sizeof whole_packing)
     fail ("another code of packing", code);

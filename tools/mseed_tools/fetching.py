@@ -24,7 +24,7 @@ REFUSALS = 10
 
 
 class Wanted(NamedTuple):
-    """What is asked for: the words of the link, the places, and where a place begins of which nothing is held."""
+    """What is requested: the words of the link, the places, and where a place begins of which nothing is held."""
 
     link: list[str]
     places: list[str]
@@ -48,10 +48,10 @@ class Wanted(NamedTuple):
 
 
 class Ended(NamedTuple):
-    """How a run ended: its status, what it told last, and whether it brought a record."""
+    """How a run ended: its status, what it reported last, and whether it brought a record."""
 
     status: int
-    told: str
+    reported: str
     is_new: bool
 
 
@@ -60,7 +60,7 @@ class Run:
 
     def __init__(self, program: Program, words: Sequence[str], held: Held):
         self.held, self.text, self.rest, self.is_new = held, "", b"", False
-        self.told: list[str] = []
+        self.reported: list[str] = []
         self.next: Optional[dict[str, Optional[int]]] = None
         try:
             self.process = subprocess.Popen([program.path, *words], stdin=subprocess.DEVNULL, stdout=subprocess.PIPE,
@@ -89,10 +89,10 @@ class Run:
             for pipe in self.pipes:
                 pipe.close()
         self.judge(status)
-        return Ended(status, self.told[-1] if self.told else "", self.is_new)
+        return Ended(status, self.reported[-1] if self.reported else "", self.is_new)
 
     def brought(self, poller: select.poll) -> bytes:
-        """The next bytes of its output; none at its end. Meanwhile what it tells is heard."""
+        """The next bytes of its output; none at its end. Meanwhile what it writes beside it is read."""
         while True:
             for descriptor, _ in poller.poll():
                 if descriptor == self.out:
@@ -101,7 +101,7 @@ class Run:
                     poller.unregister(self.err)
 
     def hear(self) -> bool:
-        """Takes what it has told so far, and says whether it may tell more."""
+        """Takes what it has written so far; whether more may come."""
         try:
             while content := os.read(self.err, AT_ONCE):
                 *lines, self.text = (self.text + content.decode("utf-8", "replace")).split("\n")
@@ -123,7 +123,7 @@ class Run:
                 place, _, number = word.partition(":")
                 self.next[place] = int(number, 16) if number else None
         elif line:
-            self.told.append(line)
+            self.reported.append(line)
 
     def take(self, content: bytes) -> None:
         """Appends what is whole, behind its numbers."""
@@ -153,8 +153,8 @@ def fetched(program: Program, wanted: Wanted, held: Held, tries: int) -> Ended:
         if run.is_new:
             failed = refused = 0
         failed += 1
-        refused = refused + 1 if run.told == "mseed: refused" else 0
-        is_over = run.status in (0, BAD_WORDS) or run.told == "mseed: bad feed"
+        refused = refused + 1 if run.reported == "mseed: refused" else 0
+        is_over = run.status in (0, BAD_WORDS) or run.reported == "mseed: bad feed"
         if is_over or failed >= tries or refused >= REFUSALS:
             return run
         time.sleep(min(LONGEST, SHORTEST * 2 ** min(failed - 1, 16)))

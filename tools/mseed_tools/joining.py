@@ -68,7 +68,7 @@ class Border(NamedTuple):
 
 
 class Files:
-    """Files with what was read of them, one behind another, whose records are listed when they are asked for."""
+    """Files with what was read of them, one behind another, whose records are listed when they are wanted."""
 
     def __init__(self, program: Program, paths: Sequence[str], readings: Sequence[Reading]):
         self.program, self.paths, self.readings = program, paths, readings

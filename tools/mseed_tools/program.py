@@ -14,7 +14,7 @@ BUILT = Path(__file__).resolve().parents[2] / "crates" / "mseed" / "out" / "msee
 
 
 class ToolError(Exception):
-    """What a tool can't go on after; its text is told."""
+    """What a tool can't go on after; its text is reported."""
 
 
 class Done(NamedTuple):

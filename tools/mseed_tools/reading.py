@@ -129,7 +129,7 @@ def read_file(program: Program, path: str) -> Reading:
             return unread("read")
         pieces, faults = read_pieces(program, file, status.st_size)
         held = sum(piece.part.bytes for piece in pieces) + sum(fault.skipped for fault in faults)
-        # What has its name now is asked for, since another file may have taken its place.
+        # What has its name now is requested, since another file may have taken its place.
         after = os.stat(path)
     except OSError:
         return unread("read")

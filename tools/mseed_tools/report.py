@@ -54,7 +54,7 @@ class ChannelReport(NamedTuple):
 
 
 class Audit(NamedTuple):
-    """What is said of a tree."""
+    """What is reported of a tree."""
 
     tree: Tree
     reports: list[ChannelReport]
@@ -149,31 +149,31 @@ def print_text(audit: Audit, is_each: bool) -> None:
 
 
 def channel_in_json(report: ChannelReport) -> dict[str, object]:
-    """What is said of a channel, by the words of its line."""
+    """What is reported of a channel, by the words of its line."""
     channel = report.channel
     days = len({report.files[file].day for file in channel.files}) if channel else 0
-    said: dict[str, object] = {"channel": report.name, "state": channel.state if channel else "empty", "days": days,
+    outcome: dict[str, object] = {"channel": report.name, "state": channel.state if channel else "empty", "days": days,
                                "records": channel.records if channel else 0,
                                "samples": channel.samples if channel else 0,
                                "from": channel.start if channel else None, "to": channel.end if channel else None}
     for kind in ("gap", "overlap") if channel is None or channel.is_decoded else ():
         lengths = channel.of_kind(kind) if channel else []
-        said[f"{kind}s"] = {"count": len(lengths), "microseconds": sum(lengths)}
+        outcome[f"{kind}s"] = {"count": len(lengths), "microseconds": sum(lengths)}
     if channel is None or channel.is_decoded:
-        said["findings"] = channel.findings if channel else 0
-    said["missing"] = [list(run) for run in report.missing()]
+        outcome["findings"] = channel.findings if channel else 0
+    outcome["missing"] = [list(run) for run in report.missing()]
     for word in ("foreign", "fault", "changed", "empty"):
-        said[word] = [values for other, values in report.amiss() if other == word]
-    return said
+        outcome[word] = [values for other, values in report.amiss() if other == word]
+    return outcome
 
 
 def print_json(audit: Audit, is_each: bool) -> None:
     """Writes the report as JSON."""
-    said: dict[str, object] = {"channels": [channel_in_json(report) for report in audit.reports],
+    outcome: dict[str, object] = {"channels": [channel_in_json(report) for report in audit.reports],
                                "misplaced": audit.tree.misplaced, "total": audit.totals()}
     if is_each:
-        said["each"] = [{"file": path, **found._asdict()} for path, found in each_of(audit)]
-    write(json.dumps(said, indent=1) + "\n")
+        outcome["each"] = [{"file": path, **found._asdict()} for path, found in each_of(audit)]
+    write(json.dumps(outcome, indent=1) + "\n")
 
 
 def status_of(audit: Audit) -> int:

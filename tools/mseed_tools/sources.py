@@ -23,7 +23,7 @@ class Source(NamedTuple):
     files: Files
     channels: list[Channel]
 
-    def told(self) -> bool:
+    def reported(self) -> bool:
         """Tells what reading was faulty, on standard error, and whether there was any."""
         lines = []
         for path, reading in zip(self.files.paths, self.files.readings):
