@@ -32,10 +32,10 @@ WRONG = [
     "`no_call_of_this_name`",
     "`NoTypeOfThisName`",
     "`Cutter::next`, clause `no_clause`",
-    "`Cutter::offset`, clause `archive`",
-    "`Cutter::offset` and `Cutter::next`, clause `archive`",
+    "`Cutter::offset`, clause `called`",
+    "`Cutter::offset` and `Cutter::next`, clause `called`",
     "clause `archive`",
-    "clause `archive` of `Cutter::offset`",
+    "clause `called` of `Cutter::offset`",
     "`Cutter::next` (`device.rt`)",
     "[`Cutter::next`](crates/mseed_stream/src/device.rt)",
     "| `mseed_time` | is in another crate | `check_samples` |",
@@ -61,9 +61,9 @@ WRONG = [
     "`no words of a program <number>`",
 ]
 RIGHT = [
-    "`Cutter::offset`, `Cutter::next`, clause `archive`",
+    "`Cutter::offset`, `Cutter::next`, clause `called`",
     "[a part](docs/format.md#blockettes-and-framing-chapter-8)",
-    "`Cutter::next` (`cutter.rt`), clauses `archive` and `record`; `offset`",
+    "`Cutter::next` (`cutter.rt`), clauses `called` and `record`; `offset`",
     "[`Cutter::next`](crates/mseed_stream/src/cutter.rt), and clause `first` of `Source::pull`",
     "| promise | call | definition | fails |\n|---|---|---|---|\n"
     "| a | [`Rate::of`](crates/mseed_time/src/rate.rt) (`ok`, `value`); [`Rate::num`](crates/mseed_time/src/rate.rt) "

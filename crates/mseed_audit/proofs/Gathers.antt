@@ -1,7 +1,6 @@
 -- The lines of records with a finding, as they are gathered, written, and followed by the audit's text.
 use Rattle.std.proofs.Common.{◌≡◌, ℕ, ◌+◌, ◌++◌, List, [], length, take, refl, sym, ap, ◌∙◌, subst, append_assoc}
 use Rattle.std.proofs.Common.{append-nil, arith, inl, inr, Option, Result, Ok, Err}
-use Rattle.std.proofs.KnownBytes.{Appends-nil, Appends-trans}
 use Rattle.std.proofs.lemmas.List.{length-append}
 use Rattle.std.proofs.Math.Seq.{take-append-add, take-append_seam}
 use Rattle.std.specs.Result.{IsErrAnd}
@@ -16,7 +15,7 @@ use Rattle.mseed_audit.specs.declared.verdict.Verdict.{Verdict}
 use Rattle.mseed_audit.specs.Audit.{Held}
 use Rattle.mseed_audit.specs.Channels.{added_from}
 use Rattle.mseed_audit.specs.Each.{AreGathered, AuditedEach, IsEachOutcome, IsEachWritten, IsLinesFault, IsTelling}
-use Rattle.mseed_audit.specs.Each.{TakesMore, EmittedFirst, EmittedPart}
+use Rattle.mseed_audit.specs.Each.{EmittedFirst, EmittedPart}
 use Rattle.mseed_audit.specs.private.Gathered.{IsPrefixWritten}
 use Rattle.mseed_audit.specs.Summary.{IsSummary, text_of}
 use Rattle.mseed_audit.specs.Text.{audit_text, reported_lines}
@@ -285,15 +284,3 @@ pub each_err : (r : Result Summary EachFault) (Q : EachFault → Type 0) (fault 
 each_err (Ok x) Q fault h old new is q short = absurd is
 each_err (Err e) Q fault h old new is q short =
     subst (λ (x : EachFault). IsEachOutcome (Err x) h old new) (sym (q e is)) short
-
--- what a sink accepted by two calls
-pub takes_on : (a b c : BytesWritten) (p q r : Option (List ℕ)) → TakesMore a b p q → TakesMore b c q r
-    → TakesMore a c p r
-takes_on a b c p q r x y = (
-  x.0 ++ y.0,
-  y.1 ∙ (ap (λ (xs : List ℕ). xs ++ y.0) x.1 ∙ append_assoc a.bytes x.0 y.0),
-  Appends-trans p q r x.0 y.0 x.2 y.2,
-)
-
-pub takes_none : (s : BytesWritten) (p : Option (List ℕ)) → TakesMore s s p p
-takes_none s p = ([], sym (append-nil s.bytes), Appends-nil p)

@@ -1,17 +1,9 @@
--- What a device gave or accepted by two calls, and what it is then known to have left or to hold.
-use Rattle.std.proofs.Common.{◌≡◌, ◌++◌, [], ◌∙◌, ℕ, List, Option, ap, sym, subst, append_assoc, append-nil}
-use Rattle.std.proofs.KnownBytes.{Appends-nil, Consumes-trans}
+-- What a sink accepted, and what it is then known to hold.
+use Rattle.std.proofs.Common.{◌≡◌, ◌++◌, [], ◌∙◌, ℕ, List, Option, sym, subst, append-nil}
+use Rattle.std.proofs.KnownBytes.{Appends-nil}
 use Rattle.std.proofs.lemmas.List.{append_cancel_left}
 use Rattle.std.specs.Io.KnownBytes.{Appends}
-use Rattle.mseed_stream.specs.Cutting.{TellsMore}
-use Rattle.mseed_stream.specs.Device.{BytesRead, BytesWritten}
-
-pub tells_on : (a b c : BytesRead) (p q r : Option (List ℕ)) → TellsMore a b p q → TellsMore b c q r → TellsMore a c p r
-tells_on a b c p q r one two = (
-  one.0 ++ two.0,
-  two.1 ∙ (ap (λ (xs : List ℕ). xs ++ two.0) one.1 ∙ append_assoc a.bytes one.0 two.0),
-  Consumes-trans _ _ _ _ _ one.2 two.2,
-)
+use Rattle.mseed_stream.specs.Device.{BytesWritten}
 
 -- of the bytes that were taken there is one list
 pub grew : (old new : BytesWritten) (held holds : Option (List ℕ)) (taken bytes : List ℕ)

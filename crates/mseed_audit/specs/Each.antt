@@ -1,6 +1,5 @@
 -- What an audit writes that tells each record with a finding, and what it answers.
 use Rattle.std.specs.Prelude.{◌≡◌, ◌⊎◌, ℕ, ◌+◌, ◌<◌, List, ◌++◌, length, take, Option, Result, Ok, Err}
-use Rattle.std.specs.Io.KnownBytes.{Appends}
 use Rattle.mseed_record.specs.View.{View}
 use Rattle.mseed_stream.specs.Device.{BytesRead, BytesWritten}
 use Rattle.mseed_stream.specs.Walk.{AreViews}
@@ -61,10 +60,6 @@ pub record AreGathered (old new : BytesWritten) (gathered text : List ℕ) : Typ
   pub taken : List ℕ
   pub bytes : new.bytes ≡ old.bytes ++ taken
   pub joined : taken ++ gathered ≡ text
-
--- what a sink accepted, and what it's known to hold
-abbrev pub TakesMore : BytesWritten → BytesWritten → Option (List ℕ) → Option (List ℕ) → Type 0
-TakesMore old new held holds = (more : List ℕ) × (new.bytes ≡ old.bytes ++ more) × Appends held holds more
 
 -- all records up to the end were added, and the lines of those with a finding were written or are gathered
 pub record HasLines (held : Held) (end : Option StreamFault) (bytes : ℕ) (h : BytesRead) (old new : BytesWritten)

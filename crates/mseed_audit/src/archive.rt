@@ -1,9 +1,9 @@
 //! The audit of an archive.
-ghost use Rattle.std.specs.Prelude.{◌≡◌, ◌<◌, ◌≤◌, ◌+◌, ◌^◌, ◌∷◌, ◌++◌, [], List, ℕ, IfOk, OnOk, None, true};
-ghost use Rattle.std.specs.Io.KnownBytes.{Appends, IsAtEnd};
+ghost use Rattle.std.specs.Prelude.{◌≡◌, ◌<◌, ◌≤◌, ◌+◌, ◌^◌, ◌∷◌, ◌++◌, [], List, ℕ, IfOk, OnOk, None};
 ghost use Rattle.mseed_record.specs.View.{View};
 ghost use Rattle.mseed_record.specs.Viewing.{view_of};
-ghost use Rattle.mseed_stream.specs.Cutting.{IsAlong, TellsMore};
+ghost use Rattle.mseed_stream.specs.Calls.{ReadsOn, WritesOn};
+ghost use Rattle.mseed_stream.specs.Cutting.{IsAlong};
 ghost use Rattle.mseed_stream.specs.Device.{nothing_read};
 ghost use Rattle.mseed_stream.specs.Walk.{HasHandedOut};
 ghost use Rattle.mseed_audit.specs.Audit.{IsAuditOf};
@@ -77,17 +77,12 @@ pub fn audit<A: Allocator + Copy, R: Source, W: Sink>(
     ensures outcome { IsOutcome result (R.read source.new) (W.written sink.old) (W.written sink.new) }
 
     // What the source is known to have left is what was read of it, up to its end where the input is at its end.
-    ensures more { TellsMore (R.read source.old) (R.read source.new) (R.remaining source.old)
-        (R.remaining source.new) }
-    ensures known { (R.read source.new).is_at_end ≡ true → IsAtEnd (R.remaining source.new) }
+    ensures reads { ReadsOn (R.read source.old) (R.read source.new) (R.remaining source.old) (R.remaining source.new)
+        (R.beside source.old) (R.beside source.new) }
 
     // What the sink is known to hold grew by what it accepted.
-    ensures contents { (bytes : List ℕ) → (W.written sink.new).bytes ≡ (W.written sink.old).bytes ++ bytes
-        → Appends (W.contents sink.old) (W.contents sink.new) bytes }
-
-    // What the source takes, and what the sink tells, stay as they were.
-    ensures source_beside { R.beside source.new ≡ R.beside source.old }
-    ensures sink_beside { W.beside sink.new ≡ W.beside sink.old }
+    ensures writes { WritesOn (W.written sink.old) (W.written sink.new) (W.contents sink.old) (W.contents sink.new)
+        (W.beside sink.old) (W.beside sink.new) }
 {
     let (audit, end, _) = match gather(alloc, source) {
         Ok(gathered) => gathered,
@@ -126,12 +121,8 @@ pub fn gather<A: Allocator + Copy, R: Source>(
         × IsGathered found.0 found.1 found.2 (R.read source.new) views) }
 
     // What the source is known to have left is what was read of it, up to its end where the input is at its end.
-    ensures more { TellsMore (R.read source.old) (R.read source.new) (R.remaining source.old)
-        (R.remaining source.new) }
-    ensures known { (R.read source.new).is_at_end ≡ true → IsAtEnd (R.remaining source.new) }
-
-    // What the source takes stays as it was.
-    ensures beside { R.beside source.new ≡ R.beside source.old }
+    ensures reads { ReadsOn (R.read source.old) (R.read source.new) (R.remaining source.old) (R.remaining source.new)
+        (R.beside source.old) (R.beside source.new) }
 {
     let mut cutter = Cutter::new(alloc);
     let mut audit = Audit::new(alloc);
@@ -167,11 +158,8 @@ pub(crate) fn add_next<A: Allocator + Copy, R: Source>(
         → IsAuditOf audit.old (added_from 0 views)
         → IsNext lines result views cutter.old.offset (R.read source.old) (R.read source.new) cutter.new audit.new
         text.old.items text.new.items }
-    ensures more { TellsMore (R.read source.old) (R.read source.new) (R.remaining source.old)
-        (R.remaining source.new) }
-    ensures known { cutter.old.answer ≡ None → (R.read source.new).is_at_end ≡ true
-        → IsAtEnd (R.remaining source.new) }
-    ensures beside { R.beside source.new ≡ R.beside source.old }
+    ensures reads { cutter.old.answer ≡ None → ReadsOn (R.read source.old) (R.read source.new) (R.remaining source.old)
+        (R.remaining source.new) (R.beside source.old) (R.beside source.new) }
 {
     let offset = cutter.offset();
     if let Some(view) = cutter.peek(source) {

@@ -1,9 +1,8 @@
 //! The audit of an archive that tells each record with a finding.
-ghost use Rattle.std.specs.Prelude.{◌≡◌, ◌++◌, List, ℕ, [], IfErr, OnOk, true};
-ghost use Rattle.std.specs.Io.KnownBytes.{Appends, IsAtEnd};
-ghost use Rattle.mseed_stream.specs.Cutting.{TellsMore};
+ghost use Rattle.std.specs.Prelude.{◌≡◌, ◌++◌, List, ℕ, [], IfErr, OnOk};
+ghost use Rattle.mseed_stream.specs.Calls.{ReadsOn, WritesOn};
 ghost use Rattle.mseed_stream.specs.Device.{nothing_read};
-ghost use Rattle.mseed_audit.specs.Each.{IsEachOutcome, IsTelling, TakesMore};
+ghost use Rattle.mseed_audit.specs.Each.{IsEachOutcome, IsTelling};
 ghost use Rattle.mseed_audit.specs.private.Gathered.{IsPrefixWritten};
 
 use crate::archive::{Lines, Step, Summary, add_next, count_broken};
@@ -42,17 +41,12 @@ pub fn audit_each<A: Allocator + Copy, R: Source, W: Sink>(
     ensures outcome { IsEachOutcome result (R.read source.new) (W.written sink.old) (W.written sink.new) }
 
     // What the source is known to have left is what was read of it, up to its end where the input is at its end.
-    ensures more { TellsMore (R.read source.old) (R.read source.new) (R.remaining source.old)
-        (R.remaining source.new) }
-    ensures known { (R.read source.new).is_at_end ≡ true → IsAtEnd (R.remaining source.new) }
+    ensures reads { ReadsOn (R.read source.old) (R.read source.new) (R.remaining source.old) (R.remaining source.new)
+        (R.beside source.old) (R.beside source.new) }
 
     // What the sink is known to hold grew by what it accepted.
-    ensures contents { (bytes : List ℕ) → (W.written sink.new).bytes ≡ (W.written sink.old).bytes ++ bytes
-        → Appends (W.contents sink.old) (W.contents sink.new) bytes }
-
-    // What the source takes, and what the sink tells, stay as they were.
-    ensures source_beside { R.beside source.new ≡ R.beside source.old }
-    ensures sink_beside { W.beside sink.new ≡ W.beside sink.old }
+    ensures writes { WritesOn (W.written sink.old) (W.written sink.new) (W.contents sink.old) (W.contents sink.new)
+        (W.beside sink.old) (W.beside sink.new) }
 {
     let mut text = Vec::new(alloc);
     let (audit, end, _) = gather_each(alloc, source, sink, &mut text)?;
@@ -89,16 +83,12 @@ pub fn gather_each<A: Allocator + Copy, R: Source, W: Sink>(
     ensures reported { IsTelling result (R.read source.new) (W.written sink.old) (W.written sink.new) text.new.items }
 
     // What the source is known to have left is what was read of it, up to its end where the input is at its end.
-    ensures more { TellsMore (R.read source.old) (R.read source.new) (R.remaining source.old)
-        (R.remaining source.new) }
-    ensures known { (R.read source.new).is_at_end ≡ true → IsAtEnd (R.remaining source.new) }
+    ensures reads { ReadsOn (R.read source.old) (R.read source.new) (R.remaining source.old) (R.remaining source.new)
+        (R.beside source.old) (R.beside source.new) }
 
     // What the sink is known to hold grew by what it accepted.
-    ensures contents { TakesMore (W.written sink.old) (W.written sink.new) (W.contents sink.old) (W.contents sink.new) }
-
-    // What the source takes, and what the sink tells, stay as they were.
-    ensures source_beside { R.beside source.new ≡ R.beside source.old }
-    ensures sink_beside { W.beside sink.new ≡ W.beside sink.old }
+    ensures writes { WritesOn (W.written sink.old) (W.written sink.new) (W.contents sink.old) (W.contents sink.new)
+        (W.beside sink.old) (W.beside sink.new) }
 {
     let mut cutter = Cutter::new(alloc);
     let mut audit = Audit::new(alloc);
@@ -122,8 +112,8 @@ fn write_out<A: Allocator, W: Sink>(sink: &mut W, text: &mut Vec<u8, A>) -> Resu
     ensures fine { OnOk result ((W.written sink.new).failures ≡ (W.written sink.old).failures) }
     ensures err { IfErr result (λ fault. IsPrefixWritten fault (W.written sink.old) (W.written sink.new)
         text.old.items) }
-    ensures contents { TakesMore (W.written sink.old) (W.written sink.new) (W.contents sink.old) (W.contents sink.new) }
-    ensures beside { W.beside sink.new ≡ W.beside sink.old }
+    ensures writes { WritesOn (W.written sink.old) (W.written sink.new) (W.contents sink.old) (W.contents sink.new)
+        (W.beside sink.old) (W.beside sink.new) }
 {
     match write_all_of(sink, text) {
         Ok(()) => {

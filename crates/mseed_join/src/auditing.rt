@@ -1,8 +1,7 @@
 //! The audit of an archive that writes the part of what was read.
-ghost use Rattle.std.specs.Prelude.{◌≡◌, ◌++◌, List, ℕ, IfOk, map, true};
-ghost use Rattle.std.specs.Io.KnownBytes.{Appends, IsAtEnd};
+ghost use Rattle.std.specs.Prelude.{◌≡◌, ◌++◌, List, ℕ, IfOk, map};
 ghost use Rattle.mseed_record.specs.View.{View};
-ghost use Rattle.mseed_stream.specs.Cutting.{TellsMore};
+ghost use Rattle.mseed_stream.specs.Calls.{ReadsOn, WritesOn};
 ghost use Rattle.mseed_stream.specs.Device.{BytesRead, nothing_read};
 ghost use Rattle.mseed_audit.specs.Summary.{IsGathered, broken_count};
 ghost use Rattle.mseed_join.specs.AuditPart.{IsPartEachOutcome, IsPartOutcome};
@@ -33,17 +32,12 @@ pub fn audit_part<A: Allocator + Copy, R: Source, W: Sink>(
     ensures outcome { IsPartOutcome result (R.read source.new) (W.written sink.old) (W.written sink.new) }
 
     // What the source is known to have left is what was read of it, up to its end where the input is at its end.
-    ensures more { TellsMore (R.read source.old) (R.read source.new) (R.remaining source.old)
-        (R.remaining source.new) }
-    ensures known { (R.read source.new).is_at_end ≡ true → IsAtEnd (R.remaining source.new) }
+    ensures reads { ReadsOn (R.read source.old) (R.read source.new) (R.remaining source.old) (R.remaining source.new)
+        (R.beside source.old) (R.beside source.new) }
 
     // What the sink is known to hold grew by what it accepted.
-    ensures contents { (bytes : List ℕ) → (W.written sink.new).bytes ≡ (W.written sink.old).bytes ++ bytes
-        → Appends (W.contents sink.old) (W.contents sink.new) bytes }
-
-    // What the source takes, and what the sink tells, stay as they were.
-    ensures source_beside { R.beside source.new ≡ R.beside source.old }
-    ensures sink_beside { W.beside sink.new ≡ W.beside sink.old }
+    ensures writes { WritesOn (W.written sink.old) (W.written sink.new) (W.contents sink.old) (W.contents sink.new)
+        (W.beside sink.old) (W.beside sink.new) }
 {
     let (audit, end, bytes) = match gather(alloc, source) {
         Ok(gathered) => gathered,
@@ -75,17 +69,12 @@ pub fn audit_part_each<A: Allocator + Copy, R: Source, W: Sink>(
     ensures outcome { IsPartEachOutcome result (R.read source.new) (W.written sink.old) (W.written sink.new) }
 
     // What the source is known to have left is what was read of it, up to its end where the input is at its end.
-    ensures more { TellsMore (R.read source.old) (R.read source.new) (R.remaining source.old)
-        (R.remaining source.new) }
-    ensures known { (R.read source.new).is_at_end ≡ true → IsAtEnd (R.remaining source.new) }
+    ensures reads { ReadsOn (R.read source.old) (R.read source.new) (R.remaining source.old) (R.remaining source.new)
+        (R.beside source.old) (R.beside source.new) }
 
     // What the sink is known to hold grew by what it accepted.
-    ensures contents { (bytes : List ℕ) → (W.written sink.new).bytes ≡ (W.written sink.old).bytes ++ bytes
-        → Appends (W.contents sink.old) (W.contents sink.new) bytes }
-
-    // What the source takes, and what the sink tells, stay as they were.
-    ensures source_beside { R.beside source.new ≡ R.beside source.old }
-    ensures sink_beside { W.beside sink.new ≡ W.beside sink.old }
+    ensures writes { WritesOn (W.written sink.old) (W.written sink.new) (W.contents sink.old) (W.contents sink.new)
+        (W.beside sink.old) (W.beside sink.new) }
 {
     let mut text = Vec::new(alloc);
     let (audit, end, bytes) = gather_each(alloc, source, sink, &mut text)?;

@@ -1,7 +1,6 @@
 //! Parts joined, and what is written of their joint part.
-ghost use Rattle.std.specs.Prelude.{◌≡◌, ◌||◌, ◌++◌, ℕ, nat_lt, List, IfOk, OnOk, is_some, true};
-ghost use Rattle.std.specs.Io.KnownBytes.{Appends, IsAtEnd};
-ghost use Rattle.mseed_stream.specs.Cutting.{TellsMore};
+ghost use Rattle.std.specs.Prelude.{◌≡◌, ◌||◌, ◌++◌, ℕ, nat_lt, List, IfOk, OnOk, is_some};
+ghost use Rattle.mseed_stream.specs.Calls.{ReadsOn, WritesOn};
 ghost use Rattle.mseed_stream.specs.Device.{nothing_read};
 ghost use Rattle.mseed_join.specs.Joins.{IsAnswer, IsJoinOutcome, text_by};
 ghost use Rattle.mseed_join.specs.private.Refused.{refusal};
@@ -75,17 +74,12 @@ pub fn join<A: Allocator + Copy, R: Source, W: Sink, E: Sink>(
         (W.written sink.new) (E.written errors.old) (E.written errors.new) }
 
     // What the source is known to have left is what was read of it, up to its end where the input is at its end.
-    ensures more { TellsMore (R.read source.old) (R.read source.new) (R.remaining source.old)
-        (R.remaining source.new) }
-    ensures known { (R.read source.new).is_at_end ≡ true → IsAtEnd (R.remaining source.new) }
+    ensures reads { ReadsOn (R.read source.old) (R.read source.new) (R.remaining source.old) (R.remaining source.new)
+        (R.beside source.old) (R.beside source.new) }
 
     // What the sink is known to hold grew by what it accepted.
-    ensures contents { (bytes : List ℕ) → (W.written sink.new).bytes ≡ (W.written sink.old).bytes ++ bytes
-        → Appends (W.contents sink.old) (W.contents sink.new) bytes }
-
-    // What the source takes, and what the sink tells, stay as they were.
-    ensures source_beside { R.beside source.new ≡ R.beside source.old }
-    ensures sink_beside { W.beside sink.new ≡ W.beside sink.old }
+    ensures writes { WritesOn (W.written sink.old) (W.written sink.new) (W.contents sink.old) (W.contents sink.new)
+        (W.beside sink.old) (W.beside sink.new) }
 {
     let JointPart { part, faults, end } = match read_parts(alloc, past_faults, source, errors) {
         Ok(joint) => joint,

@@ -1,9 +1,7 @@
 //! Parts joined, with a line for each border with a finding.
-ghost use Rattle.std.specs.Prelude.{◌≡◌, ◌+◌, ◌++◌, ℕ, List, [], IfErr, OnOk, true};
-ghost use Rattle.std.specs.Io.KnownBytes.{Appends, IsAtEnd};
-ghost use Rattle.mseed_stream.specs.Cutting.{TellsMore};
+ghost use Rattle.std.specs.Prelude.{◌≡◌, ◌+◌, ◌++◌, ℕ, List, [], IfErr, OnOk};
+ghost use Rattle.mseed_stream.specs.Calls.{ReadsOn, WritesOn};
 ghost use Rattle.mseed_stream.specs.Device.{nothing_read};
-ghost use Rattle.mseed_audit.specs.Each.{TakesMore};
 ghost use Rattle.mseed_join.specs.Borders.{border_lines};
 ghost use Rattle.mseed_join.specs.JoinsEach.{IsJoinEachOutcome};
 ghost use Rattle.mseed_join.specs.private.Bordered.{IsCutShort, IsEachReading, IsFlushed, MovesOn};
@@ -43,17 +41,12 @@ pub fn join_each<A: Allocator + Copy, R: Source, W: Sink, E: Sink>(
         (W.written sink.new) (E.written errors.old) (E.written errors.new) }
 
     // What the source is known to have left is what was read of it, up to its end where the input is at its end.
-    ensures more { TellsMore (R.read source.old) (R.read source.new) (R.remaining source.old)
-        (R.remaining source.new) }
-    ensures known { (R.read source.new).is_at_end ≡ true → IsAtEnd (R.remaining source.new) }
+    ensures reads { ReadsOn (R.read source.old) (R.read source.new) (R.remaining source.old) (R.remaining source.new)
+        (R.beside source.old) (R.beside source.new) }
 
     // What the sink is known to hold grew by what it accepted.
-    ensures contents { (bytes : List ℕ) → (W.written sink.new).bytes ≡ (W.written sink.old).bytes ++ bytes
-        → Appends (W.contents sink.old) (W.contents sink.new) bytes }
-
-    // What the source takes, and what the sink tells, stay as they were.
-    ensures source_beside { R.beside source.new ≡ R.beside source.old }
-    ensures sink_beside { W.beside sink.new ≡ W.beside sink.old }
+    ensures writes { WritesOn (W.written sink.old) (W.written sink.new) (W.contents sink.old) (W.contents sink.new)
+        (W.beside sink.old) (W.beside sink.new) }
 {
     let mut text = Vec::new(alloc);
     let JointPart { part, faults, end } = read_each(
@@ -88,12 +81,10 @@ fn read_each<A: Allocator + Copy, R: Source, W: Sink, E: Sink>(
     requires text { text.old.items ≡ [] }
     ensures reported { IsEachReading result past (R.read source.new) (W.written sink.old) (W.written sink.new)
         (E.written errors.old) (E.written errors.new) text.new.items }
-    ensures more { TellsMore (R.read source.old) (R.read source.new) (R.remaining source.old)
-        (R.remaining source.new) }
-    ensures known { (R.read source.new).is_at_end ≡ true → IsAtEnd (R.remaining source.new) }
-    ensures contents { TakesMore (W.written sink.old) (W.written sink.new) (W.contents sink.old) (W.contents sink.new) }
-    ensures source_beside { R.beside source.new ≡ R.beside source.old }
-    ensures sink_beside { W.beside sink.new ≡ W.beside sink.old }
+    ensures reads { ReadsOn (R.read source.old) (R.read source.new) (R.remaining source.old) (R.remaining source.new)
+        (R.beside source.old) (R.beside source.new) }
+    ensures writes { WritesOn (W.written sink.old) (W.written sink.new) (W.contents sink.old) (W.contents sink.new)
+        (W.beside sink.old) (W.beside sink.new) }
 {
     let mut reader = match Reader::new(alloc, past) {
         Ok(reader) => reader,
@@ -121,8 +112,8 @@ fn add_border<A: Allocator, W: Sink>(
         (border_lines (border_by reported.now))) }
     ensures err { IfErr result (λ fault. IsCutShort fault (W.written sink.old) (W.written sink.new)
         (text.old.items ++ border_lines (border_by reported.now))) }
-    ensures contents { TakesMore (W.written sink.old) (W.written sink.new) (W.contents sink.old) (W.contents sink.new) }
-    ensures beside { W.beside sink.new ≡ W.beside sink.old }
+    ensures writes { WritesOn (W.written sink.old) (W.written sink.new) (W.contents sink.old) (W.contents sink.new)
+        (W.beside sink.old) (W.beside sink.new) }
 {
     match push_reported(text, reported) {
         Ok(()) => {}
@@ -143,8 +134,8 @@ fn add_border<A: Allocator, W: Sink>(
 /// Writes what is gathered before a fault, and answers why nothing more is written.
 fn stop<W: Sink>(sink: &mut W, lines: &[u8], fault: PartsFault) -> JoinsFault
     ensures flushed { IsFlushed (refusal fault) (W.written sink.old) (W.written sink.new) lines.now result }
-    ensures contents { TakesMore (W.written sink.old) (W.written sink.new) (W.contents sink.old) (W.contents sink.new) }
-    ensures beside { W.beside sink.new ≡ W.beside sink.old }
+    ensures writes { WritesOn (W.written sink.old) (W.written sink.new) (W.contents sink.old) (W.contents sink.new)
+        (W.beside sink.old) (W.beside sink.new) }
 {
     match write_all_of(sink, lines) {
         Ok(()) => refused(fault),

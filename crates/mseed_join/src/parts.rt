@@ -1,7 +1,6 @@
 //! Parts one behind another, read and joined.
-ghost use Rattle.std.specs.Prelude.{◌≡◌, true};
-ghost use Rattle.std.specs.Io.KnownBytes.{IsAtEnd};
-ghost use Rattle.mseed_stream.specs.Cutting.{TellsMore};
+ghost use Rattle.std.specs.Prelude.{◌≡◌};
+ghost use Rattle.mseed_stream.specs.Calls.{ReadsOn};
 ghost use Rattle.mseed_stream.specs.Device.{nothing_read};
 ghost use Rattle.mseed_stream.specs.Telling.{Tells};
 ghost use Rattle.mseed_join.specs.ReadParts.{IsReadOutcome};
@@ -36,12 +35,8 @@ pub fn read_parts<A: Allocator + Copy, R: Source, E: Sink>(
         (E.written errors.new) }
 
     // What the source is known to have left is what was read of it, up to its end where the input is at its end.
-    ensures more { TellsMore (R.read source.old) (R.read source.new) (R.remaining source.old)
-        (R.remaining source.new) }
-    ensures known { (R.read source.new).is_at_end ≡ true → IsAtEnd (R.remaining source.new) }
-
-    // What the source takes stays as it was.
-    ensures beside { R.beside source.new ≡ R.beside source.old }
+    ensures reads { ReadsOn (R.read source.old) (R.read source.new) (R.remaining source.old) (R.remaining source.new)
+        (R.beside source.old) (R.beside source.new) }
 {
     let mut reader = match Reader::new(alloc, past) {
         Ok(reader) => reader,

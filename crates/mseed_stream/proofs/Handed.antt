@@ -11,6 +11,8 @@ use Rattle.mseed_stream.specs.Archive.{HasNoFurther, IsArchive, HasRecords, End,
 use Rattle.mseed_stream.specs.Archive.{is_clean, is_frame, is_truncated}
 use Rattle.mseed_stream.specs.Device.{BytesRead}
 use Rattle.mseed_stream.specs.Cutting.{read_from, moves_by, handed_by, IfEnds, IsCutFault, IsCleanEnd}
+use Rattle.mseed_record.specs.View.{View}
+use Rattle.mseed_stream.specs.Walk.{AreViews}
 use Rattle.mseed_stream.specs.declared.fault.StreamFault.{StreamFault}
 use Rattle.mseed_stream.specs.declared.fault.StreamFault.TheVariants.{Frame, Truncated, Read, Turns, Memory}
 use Rattle.mseed_record.proofs.Called.{record_long}
@@ -34,6 +36,15 @@ all_more (y ∷ ys) x all is = (all.0, all_more ys x all.1 is)
 same_prefix : (old new more : List ℕ) (offset : ℕ) → offset ≤ length old → new ≡ old ++ more
     → take offset new ≡ take offset old
 same_prefix old new more offset l e = ap (λ (xs : List ℕ). take offset xs) e ∙ take-append-le offset old more l
+
+-- views stay so while more is read
+pub views_stay : (old new more : List ℕ) (offset : ℕ) (views : List View) → offset ≤ length old → new ≡ old ++ more
+    → AreViews old offset views → AreViews new offset views
+views_stay old new more offset views l e are = record {
+  each = are.each;
+  records = record { joined = same_prefix old new more offset l e ∙ are.records.joined; each = are.records.each };
+  offset_is = are.offset_is;
+}
 
 pub records_stay : (old new more : List ℕ) (offset : ℕ) (records : List (List ℕ)) → offset ≤ length old
     → new ≡ old ++ more → HasRecords old offset records → HasRecords new (offset + 0) (records ++ [])

@@ -1,13 +1,13 @@
 -- How a cutter stands to what its source gave, and what its answers mean.
 use Rattle.std.specs.Prelude.{⊤, ◌≡◌, ◌≢◌, Bool, true, false, ℕ, ◌+◌, ◌*◌, ◌^◌, ◌<◌, ◌≤◌, List, [], ◌∷◌, ◌++◌, length}
-use Rattle.std.specs.Prelude.{take, drop, if◌then◌else◌, Option, Some, None, IfSome, Result, Ok, Err}
-use Rattle.std.specs.Io.KnownBytes.{Consumes}
+use Rattle.std.specs.Prelude.{take, drop, if◌then◌else◌, Option, Some, None, IfSome, IfErr, Result, Ok, Err}
+use Rattle.std.specs.Io.KnownBytes.{Consumes, IsAtEnd}
 use Rattle.mseed_record.specs.declared.frame.Scan.TheVariants.{Need}
 use Rattle.mseed_record.specs.Record.{IsRecord}
 use Rattle.mseed_record.specs.Scan.{Decides}
 use Rattle.mseed_stream.specs.Device.{BytesRead}
 use Rattle.mseed_stream.specs.Standing.{Standing}
-use Rattle.mseed_stream.specs.Archive.{IsEndOf, clean, frame, truncated}
+use Rattle.mseed_stream.specs.Archive.{HasRecords, IsArchive, IsEndOf, clean, frame, truncated}
 use Rattle.mseed_stream.specs.declared.cutter.Ending.{Ending}
 use Rattle.mseed_stream.specs.declared.cutter.Ending.TheVariants.{Clean, Fault}
 use Rattle.mseed_stream.specs.declared.fault.StreamFault.{StreamFault}
@@ -170,3 +170,33 @@ IfEnds (Err (Truncated n have)) P = P
 IfEnds (Err (Read n)) P = P
 IfEnds (Err (Turns n)) P = P
 IfEnds (Err Memory) P = ⊤
+
+-- What the next answer says, by a cutter as it stood, what was read of its source before and after, and what the source
+-- is known to have left.
+pub record IsNextAnswer {X : Type 0} (result : Result (Option X) StreamFault) (c : Standing) (old new : BytesRead)
+    (left rest : Option (List ℕ)) : Type 0 where
+  -- What the source gave is kept, and what it is known to have left is what was read of it..
+  pub more : TellsMore old new left rest
+  -- ..up to its end where the input is at its end.
+  pub known : c.answer ≡ None → new.is_at_end ≡ true → IsAtEnd rest
+  -- There is no further record where the input ended behind the last.
+  pub end : result ≡ Ok None → IsCleanEnd c.offset new
+  -- A fault is what became of the input, at the offset.
+  pub fault : IfErr result (λ e. IsCutFault e c.offset new)
+  -- A record is the next of the archive.
+  pub records : (records : List (List ℕ)) → HasRecords old.bytes c.offset records
+      → HasRecords new.bytes (c.offset + moves_by result (read_from c.offset new))
+      (records ++ handed_by result (read_from c.offset new))
+  -- Where the records end for ever, those so far and the rest are the archive of the bytes read.
+  pub archive : (records : List (List ℕ)) → HasRecords old.bytes c.offset records
+      → IfEnds result (IsArchive new.bytes records (read_from c.offset new))
+  -- Memory is wanted only where framing wanted more than the buffer ever had.
+  pub memory : result ≡ Err Memory → NeedsRoom c.room (read_from c.offset new)
+  -- No more is read than framing asks for, and less only at the end, a failed read or the last turn.
+  pub read_to : c.answer ≡ None → IsReadTo (read_from c.offset new) (is_short result new.is_at_end)
+  -- A read failed exactly where the answer says so.
+  pub failed : c.answer ≡ None → new.failures ≡ old.failures + failed_by result
+  -- The answer for ever is given again, and the source is not called.
+  pub repeats : IfSome c.answer (λ e. (result ≡ answer_of e) × (new ≡ old))
+  -- No more bytes are held than the longest record has.
+  pub most : length new.bytes ≤ c.offset + 2 ^ 20

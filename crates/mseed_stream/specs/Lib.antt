@@ -1,5 +1,6 @@
 pub mod Archive
 pub mod Buffered
+pub mod Calls
 pub mod Counted
 pub mod Cutting
 pub mod Device

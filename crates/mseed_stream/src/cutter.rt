@@ -9,11 +9,10 @@ ghost use Rattle.mseed_record.specs.View.{View, IsView};
 ghost use Rattle.mseed_record.specs.Viewing.{view_of};
 ghost use Rattle.mseed_record.specs.declared.frame.Scan.TheVariants.{Need, Record};
 ghost use Rattle.mseed_stream.specs.Device.{read_also, nothing_read};
-ghost use Rattle.mseed_stream.specs.Archive.{HasRecords, IsArchive};
-ghost use Rattle.mseed_stream.specs.Cutting.{IsRead, IsAlong, IsStop, TellsMore, IsReadTo, is_short};
-ghost use Rattle.mseed_stream.specs.Cutting.{asks_of, count_of, IsCutFault, IsCleanEnd, NeedsRoom, held_of};
-ghost use Rattle.mseed_stream.specs.Cutting.{read_from, moves_by, failed_by, answer_of, kept_of, handed_by};
-ghost use Rattle.mseed_stream.specs.Cutting.{IfEnds, IsAhead, lent_whole};
+ghost use Rattle.mseed_stream.specs.Archive.{HasRecords};
+ghost use Rattle.mseed_stream.specs.Cutting.{IsRead, IsAlong, IsStop, TellsMore, IsNextAnswer, asks_of, count_of};
+ghost use Rattle.mseed_stream.specs.Cutting.{held_of, read_from, moves_by, answer_of, kept_of, IfEnds, IsAhead};
+ghost use Rattle.mseed_stream.specs.Cutting.{lent_whole};
 ghost use Rattle.mseed_stream.specs.Walk.{HasHandedOut, AreAllViews, IfGoesOn, end_of};
 ghost use Rattle.mseed_stream.specs.private.Steps.{IsFillFault, IsAnswerAtEnd, IsCut, MayCut, lent_of, settled};
 
@@ -155,60 +154,21 @@ impl<A: Allocator> Cutter<A> {
     pub fn next<R: Source>(&mut self, source: &mut R) -> Result<Option<RecordView<'_>>, StreamFault>
         requires { IsAlong (R.read source.old) self.old }
 
-        // What the source gave is kept, and what it is known to have left is what was read of it.
-        ensures more { TellsMore (R.read source.old) (R.read source.new) (R.remaining source.old)
-            (R.remaining source.new) }
+        // What is answered is what became of the input: its members tell what was read, which record is next, how the
+        // records end, and when an answer is given again.
+        ensures answer { IsNextAnswer result self.old (R.read source.old) (R.read source.new)
+            (R.remaining source.old) (R.remaining source.new) }
 
         // A record is lent as its view: the bytes read from the offset on.
         ensures record { IfOk result (λ o. IfSome o (λ r. IsView (view_of r)
             × ((view_of r).bytes ≡ read_from self.old.offset (R.read source.new)))) }
 
-        // There is no further record where the input ended behind the last.
-        ensures end { result ≡ Ok None → IsCleanEnd self.old.offset (R.read source.new) }
-
-        // A fault is what became of the input, at the offset.
-        ensures fault { IfErr result (λ e. IsCutFault e self.old.offset (R.read source.new)) }
-
-        // A record that is lent is the next of the archive.
-        ensures records { (records : List (List ℕ)) → HasRecords (R.read source.old).bytes self.old.offset records
-            → HasRecords (R.read source.new).bytes (self.old.offset + moves_by result (read_from self.old.offset
-            (R.read source.new))) (records ++ handed_by result (read_from self.old.offset (R.read source.new))) }
-
-        // Where the records end for ever, those so far and the rest are the archive of the bytes read.
-        ensures archive { (records : List (List ℕ)) → HasRecords (R.read source.old).bytes self.old.offset records
-            → IfEnds result (IsArchive (R.read source.new).bytes records (read_from self.old.offset
-            (R.read source.new))) }
-
         // Where the records end for ever, those so far are all of what was read.
         ensures all { (views : List View) → HasHandedOut (R.read source.old) self.old views
             → IfEnds result (AreAllViews (R.read source.new) views (end_of result)) }
 
-        // Memory is wanted only where framing wanted more than the buffer ever had.
-        ensures memory { result ≡ Err StreamFault.Memory
-            → NeedsRoom self.old.room (read_from self.old.offset (R.read source.new)) }
-
-        // No more is read than framing asks for, and less only at the end, a failed read or the last turn.
-        ensures read_to { self.old.answer ≡ None
-            → IsReadTo (read_from self.old.offset (R.read source.new)) (is_short result
-            (R.read source.new).is_at_end) }
-
         // A record asks the source.
         ensures called { IfOk result (λ o. IfSome o (λ r. (R.read source.old).calls < (R.read source.new).calls)) }
-
-        // A read failed exactly where the answer says so.
-        ensures failed { self.old.answer ≡ None
-            → (R.read source.new).failures ≡ (R.read source.old).failures + failed_by result }
-
-        // The answer for ever is given again, and the source is not called.
-        ensures repeats { IfSome self.old.answer (λ e. (result ≡ answer_of e)
-            × (R.read source.new ≡ R.read source.old)) }
-
-        // No more bytes are held than the longest record has.
-        ensures most { length (R.read source.new).bytes ≤ self.old.offset + 2 ^ 20 }
-
-        // The input's end is that of the bytes that the source is known to have.
-        ensures known { self.old.answer ≡ None → (R.read source.new).is_at_end ≡ true
-            → IsAtEnd (R.remaining source.new) }
 
         // What the source takes stays as it was.
         ensures beside { R.beside source.new ≡ R.beside source.old }
@@ -298,35 +258,15 @@ impl<A: Allocator> Cutter<A> {
     fn advance<R: Source>(&mut self, source: &mut R) -> Result<Option<usize>, StreamFault>
         requires { IsAlong (R.read source.old) self.old }
         ensures along { IsAlong (R.read source.new) self.new }
-        ensures more { TellsMore (R.read source.old) (R.read source.new) (R.remaining source.old)
-            (R.remaining source.new) }
+        ensures answer { IsNextAnswer result self.old (R.read source.old) (R.read source.new)
+            (R.remaining source.old) (R.remaining source.new) }
         ensures record { IfOk result (λ o. IfSome o (λ n. (n ≡ length self.new.prefix) × IsRecord self.new.prefix
             × (self.new.prefix ≡ read_from self.old.offset (R.read source.new)))) }
         ensures offset { self.new.offset ≡ self.old.offset + moves_by result self.new.prefix }
-        ensures end { result ≡ Ok None → IsCleanEnd self.old.offset (R.read source.new) }
-        ensures fault { IfErr result (λ e. IsCutFault e self.old.offset (R.read source.new)) }
-        ensures records { (records : List (List ℕ)) → HasRecords (R.read source.old).bytes self.old.offset records
-            → HasRecords (R.read source.new).bytes (self.old.offset + moves_by result (read_from self.old.offset
-            (R.read source.new))) (records ++ handed_by result (read_from self.old.offset (R.read source.new))) }
-        ensures archive { (records : List (List ℕ)) → HasRecords (R.read source.old).bytes self.old.offset records
-            → IfEnds result (IsArchive (R.read source.new).bytes records (read_from self.old.offset
-            (R.read source.new))) }
-        ensures memory { result ≡ Err StreamFault.Memory
-            → NeedsRoom self.old.room (read_from self.old.offset (R.read source.new)) }
-        ensures read_to { self.old.answer ≡ None
-            → IsReadTo (read_from self.old.offset (R.read source.new)) (is_short result
-            (R.read source.new).is_at_end) }
         ensures called { (R.read source.old).calls + 2 * count_of result + asks_of (held_of self.new) ≤
             (R.read source.new).calls + asks_of (held_of self.old) }
-        ensures failed { self.old.answer ≡ None
-            → (R.read source.new).failures ≡ (R.read source.old).failures + failed_by result }
-        ensures repeats { IfSome self.old.answer (λ e. (result ≡ answer_of e)
-            × (R.read source.new ≡ R.read source.old)) }
         ensures kept { self.new.answer ≡ kept_of result }
         ensures room { self.old.room ≤ self.new.room }
-        ensures most { length (R.read source.new).bytes ≤ self.old.offset + 2 ^ 20 }
-        ensures known { self.old.answer ≡ None → (R.read source.new).is_at_end ≡ true
-            → IsAtEnd (R.remaining source.new) }
         ensures beside { R.beside source.new ≡ R.beside source.old }
     {
         if let Some(ending) = self.ending {

@@ -48,7 +48,7 @@ pub returns-in_err-view : goal.returns-in_err-view
 returns-in_err-view g c = λ serving views can filled number.
     let read : BytesRead = g.R.Source.read c.next.new.source in
     let fault : StreamFault = c.in_err-view.field-0.0 in
-    let failed = c.in_err-view.ensures.failed filled.handed.goes_on in
+    let failed = c.in_err-view.ensures.answer.failed filled.handed.goes_on in
     not_pushed serving c.from_residual.result _ (stream_fault fault) views (g.R.Source.read c.args.input.now) read
     c.next.follows.lender-at-none c.args.feed.now c.from_residual.ensures.1 (λ e q. q)
     (broken_off RecordView serving fault read views filled.each (c.in_err-view.ensures.all views filled.handed)

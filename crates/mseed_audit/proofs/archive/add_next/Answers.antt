@@ -1,8 +1,10 @@
-use Rattle.std.proofs.Common.{◌≡◌, ◌++◌, ◌∷◌, [], ◌∙◌, ℕ, List, length, take, sym, ap, subst, arith, rules}
+use Rattle.std.proofs.Common.{◌≡◌, ◌≤◌, ◌++◌, ◌∷◌, [], ◌∙◌, ℕ, List, length, take, sym, ap, subst, arith, rules}
 use Rattle.mseed_record.specs.View.{View}
 use Rattle.mseed_record.specs.Viewing.{view_of}
 use Rattle.mseed_stream.specs.Device.{BytesRead}
-use Rattle.mseed_stream.specs.Walk.{HasHandedOut}
+use Rattle.mseed_stream.specs.Walk.{AreViews, HasHandedOut}
+use Rattle.mseed_stream.proofs.Calls.{reads_none}
+use Rattle.mseed_stream.proofs.Handed.{views_stay}
 use Rattle.mseed_audit.specs.Channels.{Added, added_from}
 use Rattle.mseed_audit.specs.Audit.{IsAuditOf}
 use Rattle.mseed_audit.specs.private.Gathered.{IsReportedMore}
@@ -52,3 +54,18 @@ returns-in_ok-add_reported-in-Ok-Some-clause-next g c = λ views before is.
       called = called;
       few = omega (arith, called, c.requires.few, c.in_ok-add_reported-in-Ok-Some.ensures.number);
     }
+
+pub returns-in_err-add_reported-clause-reads : goal.returns-in_err-add_reported-clause-reads
+returns-in_err-add_reported-clause-reads g c = λ goes_on.
+    reads_none (g.R.Source.read c.args.source.now) _ _ (c.requires.along.going_on goes_on)
+
+pub returns-in_err-add_reported-in-Ok-Some-clause-next : goal.returns-in_err-add_reported-in-Ok-Some-clause-next
+returns-in_err-add_reported-in-Ok-Some-clause-next g c = λ views before is.
+    let old : BytesRead = g.R.Source.read c.args.source.now in
+    let new : BytesRead = g.R.Source.read c.next.new.source in
+    let offset : ℕ = c.args.cutter.now.offset in
+    let within : offset ≤ length old.bytes = omega (arith, c.requires.along.read.reported) in
+    let more = c.next.ensures.answer.more in
+    let stay : AreViews new.bytes offset views =
+    views_stay old.bytes new.bytes more.0 offset views within more.1 before.records in
+    search rules

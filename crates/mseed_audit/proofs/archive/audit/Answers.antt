@@ -2,7 +2,7 @@ use Rattle.std.proofs.Common.{◌∙◌, ap, length, take}
 use Rattle.mseed_stream.specs.Device.{BytesRead, BytesWritten}
 use Rattle.mseed_audit.specs.Summary.{broken_count}
 use Rattle.mseed_audit.proofs.Outcomes.{with_verdicts, audited, text_is, summary_is, written, cut_off}
-use Rattle.mseed_audit.proofs.Reported.{grew, grew_none}
+use Rattle.mseed_stream.proofs.Calls.{writes_none}
 use Rattle.mseed_audit.proofs.archive.audit.Goals as goal
 
 pub returns-in-Ok-write_all_of-clause-outcome : goal.returns-in-Ok-write_all_of-clause-outcome
@@ -46,23 +46,18 @@ returns-clause-outcome g c =
           c.deref.result.now old new text write.err write.within write.failed,
     )
 
-pub returns-in-Err-clause-contents : goal.returns-in-Err-clause-contents
-returns-in-Err-clause-contents g c = grew_none (g.W.Sink.written c.args.sink.now) (g.W.Sink.contents c.args.sink.now)
+pub returns-in-Err-clause-writes : goal.returns-in-Err-clause-writes
+returns-in-Err-clause-writes g c = writes_none _ _ _
 
-pub returns-in-Err-push_audit-clause-contents : goal.returns-in-Err-push_audit-clause-contents
-returns-in-Err-push_audit-clause-contents g c =
-    grew_none (g.W.Sink.written c.args.sink.now) (g.W.Sink.contents c.args.sink.now)
+pub returns-in-Err-push_audit-clause-writes : goal.returns-in-Err-push_audit-clause-writes
+returns-in-Err-push_audit-clause-writes g c = writes_none _ _ _
 
-pub returns-in-Ok-write_all_of-clause-contents : goal.returns-in-Ok-write_all_of-clause-contents
-returns-in-Ok-write_all_of-clause-contents g c = λ bytes.
+pub returns-in-Ok-write_all_of-clause-writes : goal.returns-in-Ok-write_all_of-clause-writes
+returns-in-Ok-write_all_of-clause-writes g c =
     let write = c.in-Ok-write_all_of.ensures in
-    grew (g.W.Sink.written c.args.sink.now) (g.W.Sink.written c.write_all_of.new.sink)
-    (g.W.Sink.contents c.args.sink.now) (g.W.Sink.contents c.write_all_of.new.sink) c.deref.result.now bytes
-    write.ok write.known
+    record { contents = (c.deref.result.now, write.ok, write.known); beside = write.beside }
 
-pub returns-clause-contents : goal.returns-clause-contents
-returns-clause-contents g c = λ bytes.
+pub returns-clause-writes : goal.returns-clause-writes
+returns-clause-writes g c =
     let write = c.in-Err-write_all_of.ensures in
-    grew (g.W.Sink.written c.args.sink.now) (g.W.Sink.written c.write_all_of.new.sink)
-    (g.W.Sink.contents c.args.sink.now) (g.W.Sink.contents c.write_all_of.new.sink)
-    (take c.in-Err-write_all_of.taken c.deref.result.now) bytes write.err write.known
+    record { contents = (take c.in-Err-write_all_of.taken c.deref.result.now, write.err, write.known); beside = write.beside }

@@ -5,9 +5,9 @@ use Rattle.mseed_audit.specs.declared.each.EachFault.TheVariants.{Memory}
 use Rattle.mseed_audit.specs.Summary.{broken_count}
 use Rattle.mseed_audit.specs.Reported.{Reported}
 use Rattle.mseed_audit.proofs.Gathers.{audited_each, each_err, each_written, end_short, lines_outcome, memory_short}
-use Rattle.mseed_audit.proofs.Gathers.{rest_is, takes_on}
+use Rattle.mseed_audit.proofs.Gathers.{rest_is}
 use Rattle.mseed_audit.proofs.Outcomes.{with_verdicts, summary_is}
-use Rattle.mseed_audit.proofs.Reported.{grew}
+use Rattle.mseed_stream.proofs.Calls.{writes_on}
 use Rattle.mseed_audit.proofs.each.audit_each.Goals as goal
 
 pub returns-clause-outcome : goal.returns-clause-outcome
@@ -76,28 +76,10 @@ returns-in_err-audit-clause-outcome g c =
     each_err c.from_residual.result _ fault read first old c.from_residual.ensures.1 (λ e q. q)
     (lines_outcome fault read first old c.in_err-audit.ensures.reported)
 
-pub returns-in_err-audit-clause-contents : goal.returns-in_err-audit-clause-contents
-returns-in_err-audit-clause-contents g c = λ bytes same.
-    let takes = c.in_err-audit.ensures.contents in
-    grew (g.W.Sink.written c.args.sink.now) (g.W.Sink.written c.gather_each.new.sink) _ _ takes.0 bytes takes.1 takes.2
-    same
+pub returns-in_err-write_out-clause-writes : goal.returns-in_err-write_out-clause-writes
+returns-in_err-write_out-clause-writes g c =
+    writes_on _ _ _ _ _ _ _ _ _ c.in_ok-audit.ensures.writes c.in_err-write_out.ensures.writes
 
-pub returns-in-Err-clause-contents : goal.returns-in-Err-clause-contents
-returns-in-Err-clause-contents g c = λ bytes same.
-    let takes = c.in_ok-audit.ensures.contents in
-    grew (g.W.Sink.written c.args.sink.now) (g.W.Sink.written c.gather_each.new.sink) _ _ takes.0 bytes takes.1 takes.2
-    same
-
-pub returns-in_err-write_out-clause-contents : goal.returns-in_err-write_out-clause-contents
-returns-in_err-write_out-clause-contents g c = λ bytes same.
-    let first : BytesWritten = g.W.Sink.written c.args.sink.now in
-    let takes = takes_on first (g.W.Sink.written c.gather_each.new.sink) (g.W.Sink.written c.write_out.new.sink) _ _ _
-    c.in_ok-audit.ensures.contents c.in_err-write_out.ensures.contents in
-    grew first (g.W.Sink.written c.write_out.new.sink) _ _ takes.0 bytes takes.1 takes.2 same
-
-pub returns-clause-contents : goal.returns-clause-contents
-returns-clause-contents g c = λ bytes same.
-    let first : BytesWritten = g.W.Sink.written c.args.sink.now in
-    let takes = takes_on first (g.W.Sink.written c.gather_each.new.sink) (g.W.Sink.written c.write_out.new.sink) _ _ _
-    c.in_ok-audit.ensures.contents c.in_ok-write_out.ensures.contents in
-    grew first (g.W.Sink.written c.write_out.new.sink) _ _ takes.0 bytes takes.1 takes.2 same
+pub returns-clause-writes : goal.returns-clause-writes
+returns-clause-writes g c =
+    writes_on _ _ _ _ _ _ _ _ _ c.in_ok-audit.ensures.writes c.in_ok-write_out.ensures.writes

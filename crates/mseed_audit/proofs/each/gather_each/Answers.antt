@@ -6,8 +6,8 @@ use Rattle.mseed_audit.specs.declared.each.EachFault.{EachFault}
 use Rattle.mseed_audit.specs.Each.{AreGathered}
 use Rattle.mseed_audit.specs.Reported.{Reported, none}
 use Rattle.mseed_audit.proofs.Gathers.{cut_short, gathered_all, gathered_reported, gathered_written, memory_short}
-use Rattle.mseed_audit.proofs.Gathers.{takes_none, takes_on, telling_err}
-use Rattle.mseed_audit.proofs.Reported.{tells_on}
+use Rattle.mseed_audit.proofs.Gathers.{telling_err}
+use Rattle.mseed_stream.proofs.Calls.{reads_on, writes_none, writes_on}
 use Rattle.mseed_audit.proofs.each.gather_each.Goals as goal
 
 pub records-init : goal.records-init
@@ -22,9 +22,8 @@ records-init g c =
       fine = refl;
       added = ([], (search rules, c.new-audit.ensures.of_none, ([], (none [], empty))));
       more = ([], sym (append-nil read.bytes), Consumes-nil _);
-      takes = takes_none first _;
-      source_beside = refl;
-      sink_beside = refl;
+      beside = refl;
+      writes = writes_none first _ _;
     }
 
 pub returns-in-Err-clause-reported : goal.returns-in-Err-clause-reported
@@ -49,6 +48,9 @@ records-preserved g c =
     let old : BytesWritten = g.W.Sink.written c.records.sink in
     let lines = gathered_reported first old c.records.text.items c.add_next.new.text.items reported further before.2.1.1
     next.reported.text_is in
+    let reads = reads_on (g.R.Source.read c.args.source.now) (g.R.Source.read c.records.source)
+    (g.R.Source.read c.add_next.new.source) _ _ _ _ _ _ c.records.invariant.more c.records.invariant.beside
+    (c.in-Ok-Added.ensures.reads before.0.goes_on) in
     record {
       along = next.handed.along;
       few = next.few;
@@ -57,11 +59,9 @@ records-preserved g c =
         views ++ next.view ∷ [],
         (next.handed, next.audit, (reported ++ further, (next.reported.reported reported before.2.1.0, lines))),
       );
-      more = tells_on (g.R.Source.read c.args.source.now) (g.R.Source.read c.records.source)
-          (g.R.Source.read c.add_next.new.source) _ _ _ c.records.invariant.more c.in-Ok-Added.ensures.more;
-      takes = c.records.invariant.takes;
-      source_beside = c.in-Ok-Added.ensures.beside ∙ c.records.invariant.source_beside;
-      sink_beside = c.records.invariant.sink_beside;
+      more = reads.more;
+      beside = reads.beside;
+      writes = c.records.invariant.writes;
     }
 
 pub records-preserved-in-Continue-1 : goal.records-preserved-in-Continue-1
@@ -79,6 +79,9 @@ records-preserved-in-Continue-1 g c =
     next.reported.text_is in
     let written = gathered_written first old new c.add_next.new.text.items c.write_out.new.text.items _ lines write.ok
     write.text in
+    let reads = reads_on (g.R.Source.read c.args.source.now) (g.R.Source.read c.records.source)
+    (g.R.Source.read c.add_next.new.source) _ _ _ _ _ _ c.records.invariant.more c.records.invariant.beside
+    (c.in-Ok-Added.ensures.reads before.0.goes_on) in
     record {
       along = next.handed.along;
       few = next.few;
@@ -87,11 +90,9 @@ records-preserved-in-Continue-1 g c =
         views ++ next.view ∷ [],
         (next.handed, next.audit, (reported ++ further, (next.reported.reported reported before.2.1.0, written))),
       );
-      more = tells_on (g.R.Source.read c.args.source.now) (g.R.Source.read c.records.source)
-          (g.R.Source.read c.add_next.new.source) _ _ _ c.records.invariant.more c.in-Ok-Added.ensures.more;
-      takes = takes_on first old new _ _ _ c.records.invariant.takes write.contents;
-      source_beside = c.in-Ok-Added.ensures.beside ∙ c.records.invariant.source_beside;
-      sink_beside = write.beside ∙ c.records.invariant.sink_beside;
+      more = reads.more;
+      beside = reads.beside;
+      writes = writes_on first old new _ _ _ _ _ _ c.records.invariant.writes write.writes;
     }
 
 pub returns-in_err-write_out-clause-reported : goal.returns-in_err-write_out-clause-reported
@@ -112,7 +113,21 @@ returns-in_err-write_out-clause-reported g c =
     telling_err c.from_residual.result _ fault read first new c.write_out.new.text.items c.from_residual.ensures.1
     (λ e q. q) short
 
-pub returns-in_err-write_out-clause-contents : goal.returns-in_err-write_out-clause-contents
-returns-in_err-write_out-clause-contents g c =
-    takes_on (g.W.Sink.written c.args.sink.now) (g.W.Sink.written c.records.sink)
-    (g.W.Sink.written c.write_out.new.sink) _ _ _ c.records.invariant.takes c.in_err-write_out.ensures.contents
+pub returns-in_err-write_out-clause-writes : goal.returns-in_err-write_out-clause-writes
+returns-in_err-write_out-clause-writes g c =
+    writes_on _ _ _ _ _ _ _ _ _ c.records.invariant.writes c.in_err-write_out.ensures.writes
+
+pub returns-in-Err-clause-reads : goal.returns-in-Err-clause-reads
+returns-in-Err-clause-reads g c =
+    reads_on _ _ _ _ _ _ _ _ _ c.records.invariant.more c.records.invariant.beside
+    (c.in-Err.ensures.reads c.records.invariant.added.1.0.goes_on)
+
+pub returns-in_err-write_out-clause-reads : goal.returns-in_err-write_out-clause-reads
+returns-in_err-write_out-clause-reads g c =
+    reads_on _ _ _ _ _ _ _ _ _ c.records.invariant.more c.records.invariant.beside
+    (c.in-Ok-Added.ensures.reads c.records.invariant.added.1.0.goes_on)
+
+pub returns-in-Ok-Ended-clause-reads : goal.returns-in-Ok-Ended-clause-reads
+returns-in-Ok-Ended-clause-reads g c =
+    reads_on _ _ _ _ _ _ _ _ _ c.records.invariant.more c.records.invariant.beside
+    (c.in-Ok-Ended.ensures.reads c.records.invariant.added.1.0.goes_on)

@@ -1,10 +1,11 @@
 use Rattle.std.proofs.Common.{◌≡◌, ◌+◌, ◌-◌, ◌^◌, ◌≤◌, List}
 use Rattle.mseed_record.specs.View.{View}
+use Rattle.mseed_stream.specs.Calls.{WritesOn}
 use Rattle.mseed_stream.specs.Cutting.{IsAlong, TellsMore}
 use Rattle.mseed_stream.specs.Walk.{HasHandedOut}
 use Rattle.mseed_audit.specs.Audit.{IsAuditOf}
 use Rattle.mseed_audit.specs.Channels.{added_from}
-use Rattle.mseed_audit.specs.Each.{AreGathered, TakesMore}
+use Rattle.mseed_audit.specs.Each.{AreGathered}
 use Rattle.mseed_audit.specs.Text.{reported_lines}
 use Rattle.mseed_audit.specs.Reported.{Reported, AreReportedOf}
 use Rattle.mseed_audit.proofs.each.gather_each.Given as goal
@@ -20,10 +21,9 @@ invariant-records g l = record {
       × AreGathered (g.W.Sink.written l.fn.sink) (g.W.Sink.written l.sink) l.text.items (reported_lines reported))));
   more : TellsMore (g.R.Source.read l.fn.source) (g.R.Source.read l.source) (g.R.Source.remaining l.fn.source)
       (g.R.Source.remaining l.source);
-  takes : TakesMore (g.W.Sink.written l.fn.sink) (g.W.Sink.written l.sink) (g.W.Sink.contents l.fn.sink)
-      (g.W.Sink.contents l.sink);
-  source_beside : g.R.Source.beside l.source ≡ g.R.Source.beside l.fn.source;
-  sink_beside : g.W.Sink.beside l.sink ≡ g.W.Sink.beside l.fn.sink;
+  beside : g.R.Source.beside l.source ≡ g.R.Source.beside l.fn.source;
+  writes : WritesOn (g.W.Sink.written l.fn.sink) (g.W.Sink.written l.sink) (g.W.Sink.contents l.fn.sink)
+      (g.W.Sink.contents l.sink) (g.W.Sink.beside l.fn.sink) (g.W.Sink.beside l.sink);
 }
 
 abbrev pub decreases-records : goal.decreases-records

@@ -1,6 +1,7 @@
 use Rattle.std.proofs.Common.{◌≡◌, ◌∙◌, ◌++◌, List, [], ℕ, ap, refl}
 use Rattle.mseed_audit.specs.Summary.{text_of}
 use Rattle.mseed_c.specs.Audited.{SaysAudit}
+use Rattle.mseed_stream.proofs.Calls.{grown}
 use Rattle.mseed_c.proofs.Texts.{shown}
 use Rattle.mseed_c.proofs.auditing.mseed_audit.Goals as goal
 
@@ -9,12 +10,12 @@ returns-in-Ok-clause-shown c = λ some.
     let a = c.in-Ok.ensures.outcome.0 in
     let w = c.in-Ok.ensures.outcome.1 in
     let whole : List ℕ = text_of a in
-    let reported = c.audit.ensures.contents whole w.text in
+    let reported = grown _ _ _ _ _ _ whole c.audit.ensures.writes w.text in
     let none : c.new-sink.result.inner.items ≡ [] = ap (λ v. v.items) c.new-sink.ensures.inner ∙ c.new.ensures.items in
     let held : c.audit.new.sink.inner.items ≡ whole = reported ∙ ap (λ (xs : List ℕ). xs ++ whole) none in
     let lent : c.deref.result.now ≡ whole = c.deref.ensures.value ∙ ap (λ v. v.items) c.get_ref.ensures ∙ held in
     shown SaysAudit c.args.bytes.now c.args.room.now c.show.new.room c.new-source.result c.audit.new.source
     c.in-Ok.summary whole c.deref.result.now c.show.new.totals c.show.result
-    c.new-source.ensures.read c.new-source.ensures.left c.audit.ensures.more c.audit.ensures.known
+    c.new-source.ensures.read c.new-source.ensures.left c.audit.ensures.reads.more c.audit.ensures.reads.known
     (a, (w.summary, refl)) lent
     c.show.ensures.room c.show.ensures.totals c.show.ensures.status

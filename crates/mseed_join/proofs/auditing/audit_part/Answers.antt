@@ -1,6 +1,6 @@
 use Rattle.std.proofs.Common.{take}
 use Rattle.mseed_stream.specs.Device.{BytesRead}
-use Rattle.mseed_audit.proofs.Reported.{grew, grew_none}
+use Rattle.mseed_stream.proofs.Calls.{writes_none}
 use Rattle.mseed_join.proofs.Parting.{part_cut_off, part_written}
 use Rattle.mseed_join.proofs.auditing.audit_part.Goals as goal
 
@@ -24,23 +24,18 @@ returns-clause-outcome g c =
     (g.W.Sink.written c.write_all_of.new.sink) (c.in-Ok-push_audited.ensures read found.0 found.1)
     c.new-text.ensures.items c.deref.ensures.value write.err write.within write.failed
 
-pub returns-in-Err-clause-contents : goal.returns-in-Err-clause-contents
-returns-in-Err-clause-contents g c = grew_none (g.W.Sink.written c.args.sink.now) (g.W.Sink.contents c.args.sink.now)
+pub returns-in-Err-clause-writes : goal.returns-in-Err-clause-writes
+returns-in-Err-clause-writes g c = writes_none _ _ _
 
-pub returns-in-Err-push_audited-clause-contents : goal.returns-in-Err-push_audited-clause-contents
-returns-in-Err-push_audited-clause-contents g c =
-    grew_none (g.W.Sink.written c.args.sink.now) (g.W.Sink.contents c.args.sink.now)
+pub returns-in-Err-push_audited-clause-writes : goal.returns-in-Err-push_audited-clause-writes
+returns-in-Err-push_audited-clause-writes g c = writes_none _ _ _
 
-pub returns-in-Ok-write_all_of-clause-contents : goal.returns-in-Ok-write_all_of-clause-contents
-returns-in-Ok-write_all_of-clause-contents g c = λ bytes.
+pub returns-in-Ok-write_all_of-clause-writes : goal.returns-in-Ok-write_all_of-clause-writes
+returns-in-Ok-write_all_of-clause-writes g c =
     let write = c.in-Ok-write_all_of.ensures in
-    grew (g.W.Sink.written c.args.sink.now) (g.W.Sink.written c.write_all_of.new.sink)
-    (g.W.Sink.contents c.args.sink.now) (g.W.Sink.contents c.write_all_of.new.sink) c.deref.result.now bytes
-    write.ok write.known
+    record { contents = (c.deref.result.now, write.ok, write.known); beside = write.beside }
 
-pub returns-clause-contents : goal.returns-clause-contents
-returns-clause-contents g c = λ bytes.
+pub returns-clause-writes : goal.returns-clause-writes
+returns-clause-writes g c =
     let write = c.in-Err-write_all_of.ensures in
-    grew (g.W.Sink.written c.args.sink.now) (g.W.Sink.written c.write_all_of.new.sink)
-    (g.W.Sink.contents c.args.sink.now) (g.W.Sink.contents c.write_all_of.new.sink)
-    (take c.in-Err-write_all_of.taken c.deref.result.now) bytes write.err write.known
+    record { contents = (take c.in-Err-write_all_of.taken c.deref.result.now, write.err, write.known); beside = write.beside }

@@ -1,7 +1,7 @@
 use Rattle.std.proofs.Common.{take}
 use Rattle.mseed_stream.specs.Device.{BytesRead, BytesWritten}
-use Rattle.mseed_audit.proofs.Gathers.{memory_short, takes_on}
-use Rattle.mseed_audit.proofs.Reported.{grew}
+use Rattle.mseed_audit.proofs.Gathers.{memory_short}
+use Rattle.mseed_stream.proofs.Calls.{writes_on}
 use Rattle.mseed_join.proofs.Parting.{reported_cut_off, reported_written}
 use Rattle.mseed_join.proofs.auditing.audit_part_each.Goals as goal
 
@@ -37,31 +37,14 @@ returns-clause-outcome g c =
     (c.in-Ok.ensures read found.0 lines.all) lines.are_reported lines.lines c.deref.ensures.value write.err write.within
     lines.fine write.failed
 
-pub returns-in_err-audit-clause-contents : goal.returns-in_err-audit-clause-contents
-returns-in_err-audit-clause-contents g c = λ bytes same.
-    let takes = c.in_err-audit.ensures.contents in
-    grew (g.W.Sink.written c.args.sink.now) (g.W.Sink.written c.gather_each.new.sink) _ _ takes.0 bytes takes.1 takes.2
-    same
-
-pub returns-in-Err-clause-contents : goal.returns-in-Err-clause-contents
-returns-in-Err-clause-contents g c = λ bytes same.
-    let takes = c.in_ok-audit.ensures.contents in
-    grew (g.W.Sink.written c.args.sink.now) (g.W.Sink.written c.gather_each.new.sink) _ _ takes.0 bytes takes.1 takes.2
-    same
-
-pub returns-in-Ok-write_all_of-clause-contents : goal.returns-in-Ok-write_all_of-clause-contents
-returns-in-Ok-write_all_of-clause-contents g c = λ bytes same.
-    let first : BytesWritten = g.W.Sink.written c.args.sink.now in
+pub returns-in-Ok-write_all_of-clause-writes : goal.returns-in-Ok-write_all_of-clause-writes
+returns-in-Ok-write_all_of-clause-writes g c =
     let write = c.in-Ok-write_all_of.ensures in
-    let takes = takes_on first (g.W.Sink.written c.gather_each.new.sink) (g.W.Sink.written c.write_all_of.new.sink)
-    _ _ _ c.in_ok-audit.ensures.contents (c.deref.result.now, write.ok, write.known) in
-    grew first (g.W.Sink.written c.write_all_of.new.sink) _ _ takes.0 bytes takes.1 takes.2 same
+    writes_on _ _ _ _ _ _ _ _ _ c.in_ok-audit.ensures.writes
+    (record { contents = (c.deref.result.now, write.ok, write.known); beside = write.beside })
 
-pub returns-clause-contents : goal.returns-clause-contents
-returns-clause-contents g c = λ bytes same.
-    let first : BytesWritten = g.W.Sink.written c.args.sink.now in
+pub returns-clause-writes : goal.returns-clause-writes
+returns-clause-writes g c =
     let write = c.in-Err-write_all_of.ensures in
-    let takes = takes_on first (g.W.Sink.written c.gather_each.new.sink) (g.W.Sink.written c.write_all_of.new.sink)
-    _ _ _ c.in_ok-audit.ensures.contents
-    (take c.in-Err-write_all_of.field-0 c.deref.result.now, write.err, write.known) in
-    grew first (g.W.Sink.written c.write_all_of.new.sink) _ _ takes.0 bytes takes.1 takes.2 same
+    writes_on _ _ _ _ _ _ _ _ _ c.in_ok-audit.ensures.writes
+    (record { contents = (take c.in-Err-write_all_of.field-0 c.deref.result.now, write.err, write.known); beside = write.beside })

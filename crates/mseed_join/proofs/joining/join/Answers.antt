@@ -1,6 +1,6 @@
 use Rattle.std.proofs.Common.{Err, sym, subst, take}
 use Rattle.mseed_stream.specs.Device.{BytesRead, BytesWritten}
-use Rattle.mseed_audit.proofs.Reported.{grew, grew_none}
+use Rattle.mseed_stream.proofs.Calls.{writes_none}
 use Rattle.mseed_join.specs.Joins.{IsJoinOutcome}
 use Rattle.mseed_join.specs.declared.joining.JoinsFault.{JoinsFault}
 use Rattle.mseed_join.proofs.Refusing.{refused_so}
@@ -17,23 +17,18 @@ returns-in-Err-clause-outcome g c =
     (refused_so g.row.A.Denot c.args.form c.args.past_faults c.in-Err.fault (g.R.Source.read c.args.source.now) h old
     reported now c.requires c.in-Err.ensures.outcome)
 
-pub returns-in-Err-clause-contents : goal.returns-in-Err-clause-contents
-returns-in-Err-clause-contents g c = grew_none (g.W.Sink.written c.args.sink.now) (g.W.Sink.contents c.args.sink.now)
+pub returns-in-Err-clause-writes : goal.returns-in-Err-clause-writes
+returns-in-Err-clause-writes g c = writes_none _ _ _
 
-pub returns-in-Err-push_joined-clause-contents : goal.returns-in-Err-push_joined-clause-contents
-returns-in-Err-push_joined-clause-contents g c =
-    grew_none (g.W.Sink.written c.args.sink.now) (g.W.Sink.contents c.args.sink.now)
+pub returns-in-Err-push_joined-clause-writes : goal.returns-in-Err-push_joined-clause-writes
+returns-in-Err-push_joined-clause-writes g c = writes_none _ _ _
 
-pub returns-in-Ok-write_all_of-clause-contents : goal.returns-in-Ok-write_all_of-clause-contents
-returns-in-Ok-write_all_of-clause-contents g c = λ bytes.
+pub returns-in-Ok-write_all_of-clause-writes : goal.returns-in-Ok-write_all_of-clause-writes
+returns-in-Ok-write_all_of-clause-writes g c =
     let write = c.in-Ok-write_all_of.ensures in
-    grew (g.W.Sink.written c.args.sink.now) (g.W.Sink.written c.write_all_of.new.sink)
-    (g.W.Sink.contents c.args.sink.now) (g.W.Sink.contents c.write_all_of.new.sink) c.deref.result.now bytes
-    write.ok write.known
+    record { contents = (c.deref.result.now, write.ok, write.known); beside = write.beside }
 
-pub returns-clause-contents : goal.returns-clause-contents
-returns-clause-contents g c = λ bytes.
+pub returns-clause-writes : goal.returns-clause-writes
+returns-clause-writes g c =
     let write = c.in-Err-write_all_of.ensures in
-    grew (g.W.Sink.written c.args.sink.now) (g.W.Sink.written c.write_all_of.new.sink)
-    (g.W.Sink.contents c.args.sink.now) (g.W.Sink.contents c.write_all_of.new.sink)
-    (take c.in-Err-write_all_of.field-0 c.deref.result.now) bytes write.err write.known
+    record { contents = (take c.in-Err-write_all_of.field-0 c.deref.result.now, write.err, write.known); beside = write.beside }

@@ -1,27 +1,14 @@
 use Rattle.std.proofs.Common.{take}
 use Rattle.mseed_stream.specs.Device.{BytesWritten}
-use Rattle.mseed_audit.proofs.Gathers.{takes_on}
-use Rattle.mseed_audit.proofs.Reported.{grew}
+use Rattle.mseed_stream.proofs.Calls.{writes_on}
 use Rattle.mseed_join.proofs.Each.{each_cut_off, each_no_memory, each_written}
 use Rattle.mseed_join.proofs.joining_each.join_each.Goals as goal
-
-pub returns-in_err-part-clause-contents : goal.returns-in_err-part-clause-contents
-returns-in_err-part-clause-contents g c = λ bytes same.
-    let takes = c.in_err-part.ensures.contents in
-    grew (g.W.Sink.written c.args.sink.now) (g.W.Sink.written c.read_each.new.sink) _ _ takes.0 bytes takes.1 takes.2
-    same
 
 pub returns-in-Err-clause-outcome : goal.returns-in-Err-clause-outcome
 returns-in-Err-clause-outcome g c =
     each_no_memory c.args.past_faults _ (g.R.Source.read c.read_each.new.source) (g.W.Sink.written c.args.sink.now)
     (g.W.Sink.written c.read_each.new.sink) (g.E.Sink.written c.args.errors.now)
     (g.E.Sink.written c.read_each.new.errors) c.read_each.new.text.items c.in_ok-part.ensures.reported
-
-pub returns-in-Err-clause-contents : goal.returns-in-Err-clause-contents
-returns-in-Err-clause-contents g c = λ bytes same.
-    let takes = c.in_ok-part.ensures.contents in
-    grew (g.W.Sink.written c.args.sink.now) (g.W.Sink.written c.read_each.new.sink) _ _ takes.0 bytes takes.1 takes.2
-    same
 
 pub returns-in-Ok-write_all_of-clause-outcome : goal.returns-in-Ok-write_all_of-clause-outcome
 returns-in-Ok-write_all_of-clause-outcome g c =
@@ -42,19 +29,14 @@ returns-clause-outcome g c =
     c.push_joined.new.text.items c.deref.result.now c.in-Err-write_all_of.field-0 c.in_ok-part.ensures.reported
     c.in-Ok.ensures.text c.deref.ensures.value write.err write.within write.failed
 
-pub returns-in-Ok-write_all_of-clause-contents : goal.returns-in-Ok-write_all_of-clause-contents
-returns-in-Ok-write_all_of-clause-contents g c = λ bytes same.
-    let first : BytesWritten = g.W.Sink.written c.args.sink.now in
+pub returns-in-Ok-write_all_of-clause-writes : goal.returns-in-Ok-write_all_of-clause-writes
+returns-in-Ok-write_all_of-clause-writes g c =
     let write = c.in-Ok-write_all_of.ensures in
-    let takes = takes_on first (g.W.Sink.written c.read_each.new.sink) (g.W.Sink.written c.write_all_of.new.sink)
-    _ _ _ c.in_ok-part.ensures.contents (c.deref.result.now, write.ok, write.known) in
-    grew first (g.W.Sink.written c.write_all_of.new.sink) _ _ takes.0 bytes takes.1 takes.2 same
+    writes_on _ _ _ _ _ _ _ _ _ c.in_ok-part.ensures.writes
+    (record { contents = (c.deref.result.now, write.ok, write.known); beside = write.beside })
 
-pub returns-clause-contents : goal.returns-clause-contents
-returns-clause-contents g c = λ bytes same.
-    let first : BytesWritten = g.W.Sink.written c.args.sink.now in
+pub returns-clause-writes : goal.returns-clause-writes
+returns-clause-writes g c =
     let write = c.in-Err-write_all_of.ensures in
-    let takes = takes_on first (g.W.Sink.written c.read_each.new.sink) (g.W.Sink.written c.write_all_of.new.sink)
-    _ _ _ c.in_ok-part.ensures.contents
-    (take c.in-Err-write_all_of.field-0 c.deref.result.now, write.err, write.known) in
-    grew first (g.W.Sink.written c.write_all_of.new.sink) _ _ takes.0 bytes takes.1 takes.2 same
+    writes_on _ _ _ _ _ _ _ _ _ c.in_ok-part.ensures.writes
+    (record { contents = (take c.in-Err-write_all_of.field-0 c.deref.result.now, write.err, write.known); beside = write.beside })

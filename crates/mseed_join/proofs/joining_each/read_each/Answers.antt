@@ -2,8 +2,8 @@ use Rattle.std.proofs.Common.{◌++◌, ◌∙◌, ℕ, List, [], ap, sym, subst
 use Rattle.mseed_stream.specs.Device.{BytesRead, BytesWritten}
 use Rattle.std.proofs.KnownBytes.{Consumes-nil}
 use Rattle.mseed_audit.specs.Each.{AreGathered}
-use Rattle.mseed_audit.proofs.Gathers.{gathered_all, takes_none, takes_on}
-use Rattle.mseed_audit.proofs.Reported.{tells_on}
+use Rattle.mseed_stream.proofs.Calls.{reads_on, tells_on, writes_none, writes_on}
+use Rattle.mseed_audit.proofs.Gathers.{gathered_all}
 use Rattle.mseed_join.specs.Borders.{AreBorders, Border}
 use Rattle.mseed_join.specs.Reached.{AreReported, start}
 use Rattle.mseed_join.specs.private.Bordered.{IsEachReading, IsFlushed}
@@ -41,9 +41,8 @@ lines-init g c =
         sym (append-nil (g.R.Source.read c.args.source.now).bytes),
         Consumes-nil (g.R.Source.remaining c.args.source.now),
       );
-      takes = takes_none first _;
       beside = refl;
-      sink_beside = refl;
+      writes = writes_none first _ _;
     }
 
 pub lines-preserved : goal.lines-preserved
@@ -77,10 +76,9 @@ lines-preserved g c =
       goes_on = step.1.2;
       more = tells_on h (g.R.Source.read c.lines.source) (g.R.Source.read c.next.new.source) _ _ _
           c.lines.invariant.more c.next.ensures.more;
-      takes = takes_on first (g.W.Sink.written c.lines.sink) (g.W.Sink.written c.add_border.new.sink) _ _ _
-          c.lines.invariant.takes add.contents;
       beside = c.next.ensures.beside ∙ c.lines.invariant.beside;
-      sink_beside = add.beside ∙ c.lines.invariant.sink_beside;
+      writes = writes_on first (g.W.Sink.written c.lines.sink) (g.W.Sink.written c.add_border.new.sink) _ _ _ _ _ _
+          c.lines.invariant.writes add.writes;
     }
 
 pub returns-in_err-add_border-in-Ok-Some-clause-reported : goal.returns-in_err-add_border-in-Ok-Some-clause-reported
@@ -105,16 +103,18 @@ returns-in_err-add_border-in-Ok-Some-clause-reported g c =
     (step.1.1.borders found along.1.2.1.0) reported along.1.2.1.1 c.lines.invariant.fine
     c.in_err-add_border-in-Ok-Some.ensures.err)
 
-pub returns-in_err-add_border-in-Ok-Some-clause-more : goal.returns-in_err-add_border-in-Ok-Some-clause-more
-returns-in_err-add_border-in-Ok-Some-clause-more g c =
-    tells_on (g.R.Source.read c.args.source.now) (g.R.Source.read c.lines.source) (g.R.Source.read c.next.new.source)
-    _ _ _ c.lines.invariant.more c.next.ensures.more
+pub returns-in_err-add_border-in-Ok-Some-clause-reads : goal.returns-in_err-add_border-in-Ok-Some-clause-reads
+returns-in_err-add_border-in-Ok-Some-clause-reads g c =
+    reads_on _ (g.R.Source.read c.lines.source) _ _ _ _ _ _ _ c.lines.invariant.more c.lines.invariant.beside
+    (record {
+      more = c.next.ensures.more;
+      known = c.next.ensures.known c.lines.invariant.goes_on;
+      beside = c.next.ensures.beside;
+    })
 
-pub returns-in_err-add_border-in-Ok-Some-clause-contents : goal.returns-in_err-add_border-in-Ok-Some-clause-contents
-returns-in_err-add_border-in-Ok-Some-clause-contents g c =
-    takes_on (g.W.Sink.written c.args.sink.now) (g.W.Sink.written c.lines.sink)
-    (g.W.Sink.written c.add_border.new.sink) _ _ _ c.lines.invariant.takes
-    c.in_err-add_border-in-Ok-Some.ensures.contents
+pub returns-in_err-add_border-in-Ok-Some-clause-writes : goal.returns-in_err-add_border-in-Ok-Some-clause-writes
+returns-in_err-add_border-in-Ok-Some-clause-writes g c =
+    writes_on _ _ _ _ _ _ _ _ _ c.lines.invariant.writes c.in_err-add_border-in-Ok-Some.ensures.writes
 
 pub returns-in-Ok-None-clause-reported : goal.returns-in-Ok-None-clause-reported
 returns-in-Ok-None-clause-reported g c =
@@ -144,7 +144,24 @@ returns-in-Err-next-clause-reported g c =
     (subst (λ (t : List ℕ). IsFlushed (refusal c.in-Err-next.fault) (g.W.Sink.written c.lines.sink)
     (g.W.Sink.written c.stop.new.sink) t c.stop.result) c.deref.ensures.value c.stop.ensures.flushed)
 
-pub returns-in-Err-next-clause-contents : goal.returns-in-Err-next-clause-contents
-returns-in-Err-next-clause-contents g c =
-    takes_on (g.W.Sink.written c.args.sink.now) (g.W.Sink.written c.lines.sink) (g.W.Sink.written c.stop.new.sink)
-    _ _ _ c.lines.invariant.takes c.stop.ensures.contents
+pub returns-in-Err-next-clause-writes : goal.returns-in-Err-next-clause-writes
+returns-in-Err-next-clause-writes g c =
+    writes_on _ _ _ _ _ _ _ _ _ c.lines.invariant.writes c.stop.ensures.writes
+
+pub returns-in-Err-next-clause-reads : goal.returns-in-Err-next-clause-reads
+returns-in-Err-next-clause-reads g c =
+    reads_on _ (g.R.Source.read c.lines.source) _ _ _ _ _ _ _ c.lines.invariant.more c.lines.invariant.beside
+    (record {
+      more = c.next.ensures.more;
+      known = c.next.ensures.known c.lines.invariant.goes_on;
+      beside = c.next.ensures.beside;
+    })
+
+pub returns-in-Ok-None-clause-reads : goal.returns-in-Ok-None-clause-reads
+returns-in-Ok-None-clause-reads g c =
+    reads_on _ (g.R.Source.read c.lines.source) _ _ _ _ _ _ _ c.lines.invariant.more c.lines.invariant.beside
+    (record {
+      more = c.next.ensures.more;
+      known = c.next.ensures.known c.lines.invariant.goes_on;
+      beside = c.next.ensures.beside;
+    })

@@ -1,6 +1,7 @@
 use Rattle.std.proofs.Common.{◌≡◌, ◌+◌, ◌-◌, ◌^◌, false, List}
+use Rattle.mseed_stream.specs.Calls.{WritesOn}
 use Rattle.mseed_stream.specs.Cutting.{TellsMore}
-use Rattle.mseed_audit.specs.Each.{AreGathered, TakesMore}
+use Rattle.mseed_audit.specs.Each.{AreGathered}
 use Rattle.mseed_join.specs.Borders.{AreBordersOf, Border, border_lines}
 use Rattle.mseed_join.specs.Reached.{AreReported, Stage, parts_at, passed_lines}
 use Rattle.mseed_join.specs.private.Along.{IsAlong}
@@ -16,10 +17,9 @@ invariant-lines g l = record {
   goes_on : (g.R.Source.read l.source).is_at_end ≡ false;
   more : TellsMore (g.R.Source.read l.fn.source) (g.R.Source.read l.source) (g.R.Source.remaining l.fn.source)
       (g.R.Source.remaining l.source);
-  takes : TakesMore (g.W.Sink.written l.fn.sink) (g.W.Sink.written l.sink) (g.W.Sink.contents l.fn.sink)
-      (g.W.Sink.contents l.sink);
   beside : g.R.Source.beside l.source ≡ g.R.Source.beside l.fn.source;
-  sink_beside : g.W.Sink.beside l.sink ≡ g.W.Sink.beside l.fn.sink;
+  writes : WritesOn (g.W.Sink.written l.fn.sink) (g.W.Sink.written l.sink) (g.W.Sink.contents l.fn.sink)
+      (g.W.Sink.contents l.sink) (g.W.Sink.beside l.fn.sink) (g.W.Sink.beside l.sink);
 }
 
 abbrev pub decreases-lines : goal.decreases-lines

@@ -1,7 +1,7 @@
 use Rattle.std.proofs.Common.{rules, ◌≡◌, ◌∙◌, ℕ, List, [], append-nil, arith, ap, sym, subst, refl, Ok, Err}
 use Rattle.mseed_stream.specs.Device.{BytesRead, BytesWritten}
 use Rattle.std.proofs.KnownBytes.{Consumes-nil}
-use Rattle.mseed_audit.proofs.Reported.{tells_on}
+use Rattle.mseed_stream.proofs.Calls.{reads_on, tells_on}
 use Rattle.mseed_join.specs.declared.reader.PartsFault.{PartsFault}
 use Rattle.mseed_join.specs.Reached.{AreReported, start}
 use Rattle.mseed_join.specs.ReadParts.{IsReadOutcome}
@@ -46,9 +46,14 @@ returns-in_err-reported-clause-outcome g c =
     subst (λ r. IsReadOutcome r c.args.past h now reported at) (sym same)
     (failed c.args.past h now along.0 c.next.new.self fault reported at step along.1.1)
 
-pub returns-in_err-reported-clause-more : goal.returns-in_err-reported-clause-more
-returns-in_err-reported-clause-more g c = tells_on (g.R.Source.read c.args.source.now) (g.R.Source.read c.lines.source)
-    (g.R.Source.read c.next.new.source) _ _ _ c.lines.invariant.more c.next.ensures.more
+pub returns-in_err-reported-clause-reads : goal.returns-in_err-reported-clause-reads
+returns-in_err-reported-clause-reads g c =
+    reads_on _ (g.R.Source.read c.lines.source) _ _ _ _ _ _ _ c.lines.invariant.more c.lines.invariant.beside
+    (record {
+      more = c.next.ensures.more;
+      known = c.next.ensures.known c.lines.invariant.goes_on;
+      beside = c.next.ensures.beside;
+    })
 
 pub lines-smaller : goal.lines-smaller
 lines-smaller g c =
@@ -87,6 +92,11 @@ returns-in-None-clause-outcome g c =
     (g.E.Sink.written c.lines.errors)) (sym c.into_joint.ensures)
     (all_read c.args.past h now along.0 c.next.new.self _ _ step along.1.1)
 
-pub returns-in-None-clause-more : goal.returns-in-None-clause-more
-returns-in-None-clause-more g c = tells_on (g.R.Source.read c.args.source.now) (g.R.Source.read c.lines.source)
-    (g.R.Source.read c.next.new.source) _ _ _ c.lines.invariant.more c.next.ensures.more
+pub returns-in-None-clause-reads : goal.returns-in-None-clause-reads
+returns-in-None-clause-reads g c =
+    reads_on _ (g.R.Source.read c.lines.source) _ _ _ _ _ _ _ c.lines.invariant.more c.lines.invariant.beside
+    (record {
+      more = c.next.ensures.more;
+      known = c.next.ensures.known c.lines.invariant.goes_on;
+      beside = c.next.ensures.beside;
+    })

@@ -1,4 +1,4 @@
-use Rattle.std.proofs.Common.{◌≡◌, ◌≤◌, List, [], ℕ, length, Result, Some, None, Option, IfOk, IfErr, IfSome, subst}
+use Rattle.std.proofs.Common.{◌≡◌, ◌≤◌, List, [], ℕ, length, Result, Ok, Some, None, Option, IfOk, IfErr, IfSome, subst}
 use Rattle.std.proofs.Common.{sym, ap, ◌∙◌, arith, rules}
 use Rattle.std.proofs.lemmas.List.{append-nil}
 use Rattle.mseed_record.specs.Record.{IsRecord}
@@ -6,7 +6,7 @@ use Rattle.mseed_stream.specs.declared.fault.StreamFault.{StreamFault}
 use Rattle.mseed_stream.specs.Device.{BytesRead}
 use Rattle.mseed_stream.specs.Standing.{Standing}
 use Rattle.mseed_stream.specs.Archive.{IsEndOf, clean}
-use Rattle.mseed_stream.specs.Cutting.{IsAlong, IsCutFault, read_from}
+use Rattle.mseed_stream.specs.Cutting.{IsAlong, IsCleanEnd, IsCutFault, read_from}
 use Rattle.mseed_stream.specs.private.Steps.{lent_of}
 use Rattle.mseed_stream.proofs.Handed.{records_after, archive_at}
 use Rattle.mseed_stream.proofs.Settled.{along_settled, clean_end, nothing_found, reported_is, record_found, fault_found}
@@ -23,34 +23,36 @@ returns-clause-along g c =
     (along_settled c.cut-found.result c.forget.new.self after (g.R.Source.read c.args.source.now) new cut.read
     cut.stays.1 open_still cut.stays.0 cut.found cut.ended cut.stop cut.fault)
 
-pub returns-clause-end : goal.returns-clause-end
-returns-clause-end g c e =
-    let cut = c.cut-found.ensures.cut in
-    let after : Standing = c.cut-found.new.self in
-    let new : BytesRead = g.R.Source.read c.cut-found.new.source in
-    let nothing = cut.ended (nothing_found c.cut-found.result (length after.prefix) (sym c.settle.ensures.answer
-    ∙ e)) in
-    let offset : after.offset ≡ c.args.self.now.offset =
-    cut.stays.0 ∙ ap (λ (s : Standing). s.offset) c.forget.ensures in (
-      subst (λ (n : ℕ). IsEndOf (read_from n new) clean) offset (clean_end new after cut.read cut.stays.1 nothing.0),
-      nothing.1,
-    )
-
-pub returns-in-Some-clause-archive : goal.returns-in-Some-clause-archive
-returns-in-Some-clause-archive g c records has =
+-- the answer that was kept is given again
+pub returns-in-Some-clause-answer : goal.returns-in-Some-clause-answer
+returns-in-Some-clause-answer g c =
     let offset : ℕ = c.args.self.now.offset in
     let reported : BytesRead = g.R.Source.read c.args.source.now in
     let within : offset ≤ length reported.bytes = omega (arith, c.requires.read.reported) in
     let same : c.args.self.now.answer ≡ Some c.in-Some.ending = sym (ap (λ (s : Standing). s.answer) c.self.view_is)
     ∙ c.in-Some.is in
-    archive_at c.answer.result reported reported [] offset records within (sym (append-nil reported.bytes)) has
-    (end_again c.answer.result c.args.self.now.answer c.in-Some.ending offset reported same c.answer.ensures
-    c.requires.ended)
-    (fault_again c.answer.result c.args.self.now.answer c.in-Some.ending offset reported same c.answer.ensures
-    c.requires.ended)
+    let end = end_again c.answer.result c.args.self.now.answer c.in-Some.ending offset reported same c.answer.ensures
+    c.requires.ended in
+    let fault = fault_again c.answer.result c.args.self.now.answer c.in-Some.ending offset reported same
+    c.answer.ensures c.requires.ended in
+    record {
+      more = search rules;
+      known = search rules;
+      end = end;
+      fault = fault;
+      records = search rules;
+      archive = λ records has. archive_at c.answer.result reported reported [] offset records within
+          (sym (append-nil reported.bytes)) has end fault;
+      memory = search rules;
+      read_to = search rules;
+      failed = search rules;
+      repeats = search rules;
+      most = search rules;
+    }
 
-pub returns-clause-records : goal.returns-clause-records
-returns-clause-records g c records has =
+-- what was found is settled
+pub returns-clause-answer : goal.returns-clause-answer
+returns-clause-answer g c =
     let cut = c.cut-found.ensures.cut in
     let after : Standing = c.cut-found.new.self in
     let offset : ℕ = c.args.self.now.offset in
@@ -58,6 +60,11 @@ returns-clause-records g c records has =
     let new : BytesRead = g.R.Source.read c.cut-found.new.source in
     let within : offset ≤ length old.bytes = omega (arith, c.requires.read.reported) in
     let same_offset : after.offset ≡ offset = cut.stays.0 ∙ ap (λ (s : Standing). s.offset) c.forget.ensures in
+    let end : c.settle.result ≡ Ok None → IsCleanEnd offset new = λ e.
+    let nothing = cut.ended (nothing_found c.cut-found.result (length after.prefix) (sym c.settle.ensures.answer ∙ e)) in (
+      subst (λ (n : ℕ). IsEndOf (read_from n new) clean) same_offset (clean_end new after cut.read cut.stays.1 nothing.0),
+      nothing.1,
+    ) in
     let reported : after.prefix ≡ read_from offset new = sym (reported_is new after cut.read cut.stays.1)
     ∙ ap (λ (n : ℕ). read_from n new) same_offset in
     let found = record_found c.cut-found.result (length after.prefix) after.prefix new.is_at_end cut.found in
@@ -65,32 +72,24 @@ returns-clause-records g c records has =
     (λ o. IfSome o (λ m. IsRecord xs))) reported found in
     let handed = subst (λ (r : Result (Option ℕ) StreamFault). IfOk r
     (λ o. IfSome o (λ m. IsRecord (read_from offset new)))) (sym c.settle.ensures.answer) is in
-    records_after c.settle.result old new c.cut-found.ensures.more.0 offset records within c.cut-found.ensures.more.1
-    handed has
-
-pub returns-clause-fault : goal.returns-clause-fault
-returns-clause-fault g c =
-    let cut = c.cut-found.ensures.cut in
-    let after : Standing = c.cut-found.new.self in
-    let old : BytesRead = g.R.Source.read c.args.source.now in
-    let new : BytesRead = g.R.Source.read c.cut-found.new.source in
-    let same_offset : after.offset ≡ c.args.self.now.offset =
-    cut.stays.0 ∙ ap (λ (s : Standing). s.offset) c.forget.ensures in
-    let fault = fault_found c.cut-found.result (length after.prefix) c.forget.new.self after old new cut.read
+    let cutting = fault_found c.cut-found.result (length after.prefix) c.forget.new.self after old new cut.read
     cut.stays.1 cut.stays.0 cut.fault in
     let fault_here = subst (λ (n : ℕ). IfErr (lent_of (length after.prefix) c.cut-found.result)
-    (λ e. IsCutFault e n new)) same_offset fault in
-    subst (λ (r : Result (Option ℕ) StreamFault). IfErr r (λ e. IsCutFault e c.args.self.now.offset new))
-    (sym c.settle.ensures.answer) fault_here
-
-pub returns-clause-archive : goal.returns-clause-archive
-returns-clause-archive g c records has =
-    let cut = c.cut-found.ensures.cut in
-    let after : Standing = c.cut-found.new.self in
-    let offset : ℕ = c.args.self.now.offset in
-    let old : BytesRead = g.R.Source.read c.args.source.now in
-    let new : BytesRead = g.R.Source.read c.cut-found.new.source in
-    let within : offset ≤ length old.bytes = omega (arith, c.requires.read.reported) in
-    let same_offset : after.offset ≡ offset = cut.stays.0 ∙ ap (λ (s : Standing). s.offset) c.forget.ensures in
-    archive_at c.settle.result old new c.cut-found.ensures.more.0 offset records within c.cut-found.ensures.more.1 has
-    (returns-clause-end g c) (returns-clause-fault g c)
+    (λ e. IsCutFault e n new)) same_offset cutting in
+    let fault = subst (λ (r : Result (Option ℕ) StreamFault). IfErr r (λ e. IsCutFault e offset new))
+    (sym c.settle.ensures.answer) fault_here in
+    record {
+      more = c.cut-found.ensures.more;
+      known = λ _. c.cut-found.ensures.known;
+      end = end;
+      fault = fault;
+      records = λ records has. records_after c.settle.result old new c.cut-found.ensures.more.0 offset records within
+          c.cut-found.ensures.more.1 handed has;
+      archive = λ records has. archive_at c.settle.result old new c.cut-found.ensures.more.0 offset records within
+          c.cut-found.ensures.more.1 has end fault;
+      memory = search rules;
+      read_to = search rules;
+      failed = search rules;
+      repeats = search rules;
+      most = search rules;
+    }

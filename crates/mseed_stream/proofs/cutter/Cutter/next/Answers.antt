@@ -49,7 +49,8 @@ returns-in-Some g c =
     let handed = λ (views : List View) (h : HasHandedOut old before views). subst
     (λ (x : Standing). HasHandedOut new x (views ++ view ∷ [])) (sym c.self.view_is)
     (handed_record old new before after views view h c.of_record.ensures.view bytes
-    (it.records (bytes_in views) h.records.records) it.along moved it.kept (omega (arith, it.failed h.goes_on))
+    (it.answer.records (bytes_in views) h.records.records) it.along moved it.kept
+    (omega (arith, it.answer.failed h.goes_on))
     it.called) in (
       (
         refl,
@@ -63,20 +64,22 @@ returns-in-Some g c =
         ),
       ),
       record {
-        more = it.more;
+        answer = record {
+          more = it.answer.more;
+          known = it.answer.known;
+          end = λ e. cc;
+          fault = tt;
+          records = it.answer.records;
+          archive = it.answer.archive;
+          memory = λ e. cc;
+          read_to = it.answer.read_to;
+          failed = it.answer.failed;
+          repeats = no_record before.answer c.in-Some.length c.of_record.result (new ≡ old) it.answer.repeats;
+          most = it.answer.most;
+        };
         «record» = (c.of_record.ensures.view, bytes);
-        end = λ e. cc;
-        fault = tt;
-        records = it.records;
-        archive = it.archive;
         all = λ views h. tt;
-        memory = λ e. cc;
-        read_to = it.read_to;
         called = omega (arith, it.called, few_asks (held_of before));
-        failed = it.failed;
-        repeats = no_record before.answer c.in-Some.length c.of_record.result (new ≡ old) it.repeats;
-        most = it.most;
-        known = it.known;
         beside = it.beside;
         after = tt;
       },
