@@ -1,13 +1,15 @@
 -- Digits to the base sixteen.
 use Rattle.std.proofs.Common.{◌≡◌, ℕ, ◌+◌, ◌-◌, ◌*◌, ◌/◌, ◌%◌, ◌^◌, ◌<◌, ◌≤◌, zero, suc, refl, sym, ap, ◌∙◌, arith, ◌⊎◌}
 use Rattle.std.proofs.Common.{inl, inr, cond, List, [], ◌∷◌, ◌++◌, length, get_or, take, map, nat_lt, if◌then◌else◌}
-use Rattle.std.proofs.Common.{length-append, add-one}
+use Rattle.std.proofs.Common.{length-append, add-one, true, not, ◌==◌, ◌&&◌}
 use Rattle.std.specs.Char.{to_ascii_uppercase}
-use Rattle.std.proofs.lemmas.Bool.Decides.{leb_tells}
+use Rattle.std.proofs.lemmas.Bool.Decides.{eqb_tells, leb_tells}
+use Rattle.std.proofs.lemmas.List.Folds.{list_all-append}
 use Rattle.std.proofs.lemmas.List.{map_push, same_from_push, take_more, take_all, get_or_push, get_or_append_left}
 use Rattle.std.proofs.lemmas.List.{get_or-map}
 use Rattle.std.proofs.Math.Nat.{pow-suc, pow-le-pow_right}
 use Rattle.slink_wire.specs.Hexadecimal.{SaysNumber, digit_byte, hexadecimal}
+use Rattle.slink_wire.proofs.Cuts.{Lacks}
 
 same_digits : (a b c d e a' b' c' d' e' f : ℕ) → a ≡ a' → b ≡ b' → c ≡ c' → d ≡ d' → e ≡ e'
     → digit_byte a ∷ digit_byte b ∷ digit_byte c ∷ digit_byte d ∷ digit_byte e ∷ digit_byte f ∷ [] ≡ digit_byte a'
@@ -52,6 +54,20 @@ digit_rows d = elim (leb_tells (suc d) 10) [
 
 pub digit_above : (d : ℕ) → 48 ≤ digit_byte d
 digit_above d = elim (digit_rows d) [ inl p ↦ omega (arith, p) | inr p ↦ omega (arith, p) ]
+
+-- a byte below the digits is none of them
+pub digits_lack : (byte : ℕ) → byte < 48 → (k n : ℕ) → Lacks byte (hexadecimal k n)
+unfolding hexadecimal
+digits_lack byte below zero n = refl
+digits_lack byte below (suc k) n =
+    let other : not (digit_byte (n % 16) == byte) ≡ true =
+    elim (eqb_tells (digit_byte (n % 16)) byte) [
+      | inl same ↦ absurd (omega (arith, same.1, digit_above (n % 16), below))
+      | inr other ↦ ap not other.0
+    ] in
+    list_all-append (λ b. not (b == byte)) (hexadecimal k (n / 16)) (digit_byte (n % 16) ∷ [])
+    ∙ (ap (λ t. t && (not (digit_byte (n % 16) == byte) && true)) (digits_lack byte below k (n / 16))
+    ∙ ap (λ t. t && true) other)
 
 one_digit : (d e : ℕ) → d < 16 → e < 16 → digit_byte d ≡ digit_byte e → d ≡ e
 one_digit d e hd he same = elim (digit_rows d) [

@@ -1,39 +1,26 @@
 -- The line of a request stands in a stream as it is.
-use Rattle.std.proofs.Common.{◌≡◌, ℕ, ◌+◌, ◌/◌, ◌%◌, ◌≤◌, inl, inr, zero, suc, refl, ap, ◌∙◌, arith, true, not, ◌==◌}
+use Rattle.std.proofs.Common.{◌≡◌, ℕ, ◌+◌, ◌≤◌, refl, ap, ◌∙◌, arith, not, ◌==◌}
 use Rattle.std.proofs.Common.{◌&&◌, List, [], ◌∷◌, ◌++◌, length, length-append, codes, Option, Some, None}
 use Rattle.std.specs.List.{list_all}
-use Rattle.std.proofs.lemmas.Bool.Decides.{eqb_tells}
 use Rattle.std.proofs.lemmas.List.Folds.{list_all-append}
 use Rattle.slink_wire.specs.declared.request.Request.{Request}
 use Rattle.slink_wire.specs.declared.request.Request.TheVariants.{Station, Data, Fetch, End}
 use Rattle.slink_wire.specs.Command.{IsCommand}
-use Rattle.slink_wire.specs.Hexadecimal.{digit_byte, hexadecimal}
 use Rattle.slink_wire.specs.Place.{Fields, IsField, code_in}
 use Rattle.slink_wire.specs.Request.{HasPlace, IsSpelled, number_bytes, request_line, requested}
 use Rattle.slink_wire.specs.Written.{IsLine}
 use Rattle.slink_wire.proofs.Codes.{without}
 use Rattle.slink_wire.proofs.Cuts.{Lacks}
-use Rattle.slink_wire.proofs.Digits.{digit_above, length-hexadecimal}
+use Rattle.slink_wire.proofs.Digits.{digits_lack, length-hexadecimal}
 use Rattle.slink_wire.proofs.Requests.{data_written, end_written, fetch_written, station_written}
 
 lacks_both : (xs ys : List ℕ) → Lacks 13 xs → Lacks 13 ys → Lacks 13 (xs ++ ys)
 lacks_both xs ys p q = list_all-append (λ b. not (b == 13)) xs ys
     ∙ (ap (λ t. t && list_all (λ b. not (b == 13)) ys) p ∙ q)
 
-digits_lack : (k n : ℕ) → Lacks 13 (hexadecimal k n)
-unfolding hexadecimal
-digits_lack zero n = refl
-digits_lack (suc k) n =
-    let other : not (digit_byte (n % 16) == 13) ≡ true =
-    elim (eqb_tells (digit_byte (n % 16)) 13) [
-      | inl same ↦ absurd (omega (arith, same.1, digit_above (n % 16)))
-      | inr other ↦ ap not other.0
-    ] in
-    lacks_both (hexadecimal k (n / 16)) (digit_byte (n % 16) ∷ []) (digits_lack k (n / 16)) (ap (λ t. t && true) other)
-
 number_lacks : (number : Option ℕ) → Lacks 13 (number_bytes number)
 number_lacks None = refl
-number_lacks (Some n) = digits_lack 6 n
+number_lacks (Some n) = digits_lack 13 (omega arith) 6 n
 
 number_long : (number : Option ℕ) → length (number_bytes number) ≤ 7
 number_long None = omega arith

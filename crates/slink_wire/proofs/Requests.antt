@@ -1,31 +1,17 @@
 -- The line of a request is its command.
-use Rattle.std.proofs.Common.{◌≡◌, ℕ, ◌≤◌, ◌<◌, ◌/◌, ◌%◌, ◌^◌, zero, suc, inl, inr, refl, sym, subst, ap, ◌∙◌, arith}
-use Rattle.std.proofs.Common.{not, true, ◌==◌, ◌&&◌, Option, Some, None, List, [], ◌∷◌, ◌++◌, length, append_assoc}
+use Rattle.std.proofs.Common.{◌≡◌, ℕ, ◌≤◌, ◌<◌, ◌^◌, inl, refl, sym, subst, ap, ◌∙◌, arith}
+use Rattle.std.proofs.Common.{Option, Some, None, List, [], ◌∷◌, ◌++◌, length, append_assoc}
 use Rattle.std.proofs.Common.{codes}
-use Rattle.std.proofs.lemmas.Bool.Decides.{eqb_tells}
-use Rattle.std.proofs.lemmas.List.Folds.{list_all-append}
 use Rattle.slink_wire.specs.declared.command.Command.TheVariants.{Station, Data, Fetch, End}
-use Rattle.slink_wire.specs.Hexadecimal.{digit_byte, hexadecimal}
+use Rattle.slink_wire.specs.Hexadecimal.{hexadecimal}
 use Rattle.slink_wire.specs.Command.{IsCommand, IsRow, IsNumber, folded, words}
 use Rattle.slink_wire.specs.Place.{IsField, code_in}
 use Rattle.slink_wire.specs.Request.{IsShort, number_bytes}
 use Rattle.slink_wire.proofs.Codes.{without}
 use Rattle.slink_wire.proofs.Cuts.{Lacks}
-use Rattle.slink_wire.proofs.Digits.{digit_above, length-hexadecimal}
+use Rattle.slink_wire.proofs.Digits.{digits_lack, length-hexadecimal}
 use Rattle.slink_wire.proofs.Packets.{says_itself}
 use Rattle.slink_wire.proofs.Worded.{words_last, words_then}
-
-digits_lack : (k n : ℕ) → Lacks 32 (hexadecimal k n)
-unfolding hexadecimal
-digits_lack zero n = refl
-digits_lack (suc k) n =
-    let other : not (digit_byte (n % 16) == 32) ≡ true =
-    elim (eqb_tells (digit_byte (n % 16)) 32) [
-      | inl same ↦ absurd (omega (arith, same.1, digit_above (n % 16)))
-      | inr other ↦ ap not other.0
-    ] in
-    list_all-append (λ b. not (b == 32)) (hexadecimal k (n / 16)) (digit_byte (n % 16) ∷ [])
-    ∙ (ap (λ t. t && (not (digit_byte (n % 16) == 32) && true)) (digits_lack k (n / 16)) ∙ ap (λ t. t && true) other)
 
 is_number : (n : ℕ) → n < 2 ^ 24 → IsNumber (hexadecimal 6 n) n
 is_number n h = (omega (arith, length-hexadecimal 6 n), omega (arith, length-hexadecimal 6 n), says_itself n h)
@@ -33,7 +19,7 @@ is_number n h = (omega (arith, length-hexadecimal 6 n), omega (arith, length-hex
 two_words : (keyword : List ℕ) (n : ℕ) → 1 ≤ length keyword → Lacks 32 keyword
     → words (keyword ++ 32 ∷ hexadecimal 6 n) ≡ keyword ∷ hexadecimal 6 n ∷ []
 two_words keyword n h lacks = words_then keyword (hexadecimal 6 n) h lacks
-    ∙ ap (λ ws. keyword ∷ ws) (words_last (hexadecimal 6 n) (omega (arith, length-hexadecimal 6 n)) (digits_lack 6 n))
+    ∙ ap (λ ws. keyword ∷ ws) (words_last (hexadecimal 6 n) (omega (arith, length-hexadecimal 6 n)) (digits_lack 32 (omega arith) 6 n))
 
 pub data_written : (number : Option ℕ) → IsShort number → IsCommand (codes "DATA" ++ number_bytes number) (Data number)
 data_written None h = subst (λ ws. IsRow (Data None) (folded ws)) (sym (words_last (codes "DATA") (omega arith) refl))
