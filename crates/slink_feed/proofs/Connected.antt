@@ -32,7 +32,7 @@ use Rattle.slink_feed.specs.Session.{IsBefore, State, all_done, answered_in, at_
 use Rattle.slink_feed.specs.Session.{reply_at_next, sent, sent_bytes, sent_in, sent_of}
 use Rattle.slink_feed.specs.Window.{Shows, Window, record_at}
 use Rattle.slink_feed.proofs.Closing.{Open, open_or}
-use Rattle.slink_feed.proofs.Sendings.{IsOn, answer_read, read_on, none_either, set_other, stretch_sent}
+use Rattle.slink_feed.proofs.Sendings.{IsOn, answer_read, read_grants, read_on, none_either, set_other, stretch_sent}
 
 -- A session streams on, or is closed, once it was called.
 on_packet : (t : State) (place : ℕ) (h : Grant) (o : Option (List ℕ)) → t.phase ≡ Streaming
@@ -55,7 +55,7 @@ on_of feed t place None r on = inl on
 on_of feed t place (Some h) None on = inl on
 on_of feed t place (Some h) (Some w) on = on_from feed t place h w (h.position == w.next) on
 
-on_sent : (feed : List Window) (t : State) (place : ℕ) → IsOn t.phase → IsOn (sent feed t place).0.phase
+pub on_sent : (feed : List Window) (t : State) (place : ℕ) → IsOn t.phase → IsOn (sent feed t place).0.phase
 on_sent feed t place (inl on) =
     subst (λ (p : Phase). IsOn (sent_in p feed t place).0.phase) (sym on)
     (on_of feed t place (grant_at t.grants place) (slice_get feed place) on)
@@ -118,17 +118,13 @@ bare_sent k place feed t at_k (inr shut) =
     subst (λ (p : Phase). Bare k place (sent_in p feed t place)) (sym shut)
     (record { none = none_either (place == k); stays = at_k })
 
-grants_read : (s t : State) → IsReadFrom s t → t.grants ≡ s.grants
-grants_read s t (inl same) = ap (λ (u : State). u.grants) same
-grants_read s t (inr shut) = ap (λ (u : State). u.grants) shut
-
 none_sent : (k : ℕ) (called : List Called) (s : State) → IsOn s.phase → grant_at s.grants k ≡ None → AreCalled s called
     → packets_of k called ≡ []
 none_sent k [] s on at_k are = refl
 none_sent k (a ∷ more) s on at_k are =
     let t : State = are.0 in
     let bare : Bare k a.place (sent a.feed t a.place) =
-    bare_sent k a.place a.feed t (ap (λ gs. grant_at gs k) (grants_read s t are.1) ∙ at_k)
+    bare_sent k a.place a.feed t (ap (λ gs. grant_at gs k) (read_grants s t are.1) ∙ at_k)
     (read_on s t are.1 on) in
     let one : (if a.place == k then packet_in a.answer else []) ≡ [] =
     ap (λ x. if a.place == k then packet_in x else []) (sym are.2) ∙ bare.none in
@@ -136,7 +132,7 @@ none_sent k (a ∷ more) s on at_k are =
     ∙ none_sent k more (sent a.feed t a.place).0 (on_sent a.feed t a.place (read_on s t are.1 on)) bare.stays are.3
 
 -- lines, one after another
-read_further : (s t u : State) → IsReadFrom s t → IsReadFrom t u → IsReadFrom s u
+pub read_further : (s t u : State) → IsReadFrom s t → IsReadFrom t u → IsReadFrom s u
 read_further s t u (inl same) more = subst (λ (x : State). IsReadFrom x u) same more
 read_further s t u (inr shut) (inl same) = inr (same ∙ shut)
 read_further s t u (inr shut) (inr again) =
@@ -203,7 +199,7 @@ quiet_line s (Fetch number) = refl
 quiet_line s End = refl
 quiet_line s Other = refl
 
-reply_none : (feed : List Window) (s new : State) (what : What) (reply : Reply) → s.phase ≡ Streaming
+pub reply_none : (feed : List Window) (s new : State) (what : What) (reply : Reply) → s.phase ≡ Streaming
     → IsAnswer feed s what new reply → reply ≡ written.Nothing
 reply_none feed s new More reply on is = is.1
 reply_none feed s new (Line line) reply on is =

@@ -122,6 +122,17 @@ piece_of now new bytes offset used event linked comes = record {
   bound = omega (arith, comes.bound, length-drop offset bytes, ap length (from_offset bytes offset));
 }
 
+-- what `take` says of bytes of a client that stayed as it was
+pub comes_to : (old mid new : Listening) (bytes : List ℕ) (used : ℕ) (event : Event) → mid ≡ old
+    → IsLinked old.talk.stage → 0 < length bytes
+    → (IsLinked mid.talk.stage → Brings mid.talk (mid.kept ++ take used bytes) new event)
+    → (IsLinked mid.talk.stage → 0 < length bytes → 0 < used) → used ≤ length bytes → ComesTo event used bytes old new
+comes_to old mid new bytes used event same linked some brings takes bound =
+    let still : IsLinked mid.talk.stage = subst (λ (l : Listening). IsLinked l.talk.stage) (sym same) linked in
+    let comes : ComesTo event used bytes mid new =
+    record { brings = brings still; some = takes still some; bound = bound } in
+    subst (λ (l : Listening). ComesTo event used bytes l new) same comes
+
 pub take_prefix : (bytes : List ℕ) (n m : ℕ) → take (n + m) bytes ≡ take n bytes ++ take m (drop n bytes)
 take_prefix bytes zero m = let none : zero + m ≡ m = omega arith in ap (λ k. take k bytes) none
 take_prefix [] (suc n) zero = let one : suc n + zero ≡ suc (n + zero) = omega arith in ap (λ k. take k []) one
@@ -206,27 +217,46 @@ module _ (old now new : Fetching) (bytes : List ℕ) (offset used : ℕ) (event 
         one further;
   }
 
+  -- a device that fails within what the event gives it
+  record CutsOff (given : Event → List ℕ) (from to : BytesWritten) (count : ℕ) : Type 0 where
+    some : 0 < length (given event)
+    one : telling event ≡ event ∷ []
+    prefix : EmittedPrefix from to (joined_by given (so_far.reported ++ event ∷ [])) count
+    behind : length (joined_by given so_far.reported) ≤ count
+
+  cuts_off : (given : Event → List ℕ) (from mid to : BytesWritten) (count_before more count : ℕ)
+      → given events.None ≡ [] → count_before ≡ length (joined_by given so_far.reported) → count ≡ count_before + more
+      → Emitted from mid (joined_by given so_far.reported) → EmittedPrefix mid to (given event) more
+      → CutsOff given from to count
+  cuts_off given from mid to count_before more count none before_is count_is emitted cut =
+      let some : 0 < length (given event) = omega (arith, cut.part) in
+      let one : telling event ≡ event ∷ [] = telling_some given event none some in
+      let joined : joined_by given (so_far.reported ++ event ∷ []) ≡ joined_by given so_far.reported ++ given event =
+      ap (λ es. joined_by given (so_far.reported ++ es)) (sym one) ∙ joined_once given so_far.reported event none in
+      let counted : count ≡ length (joined_by given so_far.reported) + more = count_is ∙ ap (λ n. n + more) before_is in
+      record {
+        some = some;
+        one = one;
+        prefix = prefix_further from mid to (joined_by given so_far.reported) (given event)
+            (joined_by given (so_far.reported ++ event ∷ [])) count more joined counted emitted cut;
+        behind = omega (arith, counted);
+      }
+
   fails_at_say : (count : ℕ) → IsUnwritten event before.written count now.written new.written now.output new.output
       → FailsAt (faults.Write count) old new bytes
   fails_at_say count cut =
-      let some : 0 < length (line_written event) = omega (arith, cut.written.part) in
-      let one : telling event ≡ event ∷ [] = telling_some line_written event refl some in
-      let lines : lines_written (so_far.reported ++ event ∷ []) ≡ lines_written so_far.reported ++ line_written event =
-      ap (λ es. lines_written (so_far.reported ++ es)) (sym one)
-      ∙ joined_once line_written so_far.reported event refl in
-      let counted : count ≡ length (lines_written so_far.reported) + cut.more =
-      cut.count_is ∙ ap (λ n. n + cut.more) so_far.written_counted in
+      let off : CutsOff line_written old.written new.written count =
+      cuts_off line_written old.written now.written new.written before.written cut.more count refl
+      so_far.written_counted cut.count_is so_far.written cut.written in
       record {
         reported = so_far.reported;
         last = event;
-        takes = takes_last one;
+        takes = takes_last off.one;
         linked = says_on now.client.talk
             (now.client.kept ++ take used (take (length bytes - offset) (drop offset bytes))) new.client event
-            piece.brings some;
-        written = prefix_further old.written now.written new.written (lines_written so_far.reported)
-            (line_written event)
-            (lines_written (so_far.reported ++ event ∷ [])) count cut.more lines counted so_far.written cut.written;
-        behind = omega (arith, counted);
+            piece.brings off.some;
+        written = off.prefix;
+        behind = off.behind;
         output = subst (λ (o : BytesWritten). Emitted old.output o (bytes_reported so_far.reported)) (sym cut.output)
             so_far.output;
       }
@@ -234,27 +264,20 @@ module _ (old now new : Fetching) (bytes : List ℕ) (offset used : ℕ) (event 
   fails_at_write : (count : ℕ) → FailsToOutput event before.output count now.written new.written now.output new.output
       → FailsAt (faults.Output count) old new bytes
   fails_at_write count cut =
-      let some : 0 < length (record_reported event) = omega (arith, cut.output.part) in
-      let one : telling event ≡ event ∷ [] = telling_some record_reported event refl some in
-      let records : bytes_reported (so_far.reported ++ event ∷ []) ≡ bytes_reported so_far.reported ++ record_reported
-      event =
-      ap (λ es. bytes_reported (so_far.reported ++ es)) (sym one)
-      ∙ joined_once record_reported so_far.reported event refl in
-      let counted : count ≡ length (bytes_reported so_far.reported) + cut.more =
-      cut.count_is ∙ ap (λ n. n + cut.more) so_far.output_counted in
+      let off : CutsOff record_reported old.output new.output count =
+      cuts_off record_reported old.output now.output new.output before.output cut.more count refl
+      so_far.output_counted cut.count_is so_far.output cut.output in
       record {
         reported = so_far.reported;
         last = event;
-        takes = takes_last one;
+        takes = takes_last off.one;
         linked = tells_on now.client.talk
             (now.client.kept ++ take used (take (length bytes - offset) (drop offset bytes))) new.client event
-            piece.brings some;
+            piece.brings off.some;
         written = subst (λ (o : BytesWritten). Emitted old.written o (lines_written so_far.reported)) (sym cut.written)
             so_far.written;
-        output = prefix_further old.output now.output new.output (bytes_reported so_far.reported)
-            (record_reported event)
-            (bytes_reported (so_far.reported ++ event ∷ [])) count cut.more records counted so_far.output cut.output;
-        behind = omega (arith, counted);
+        output = off.prefix;
+        behind = off.behind;
       }
 
   pub fails_here : (fault : LinkFault) → IsUndelivered fault event before now.written new.written now.output new.output

@@ -1,9 +1,9 @@
 -- The elements of a list, by their indices, and what a window shows.
 use Rattle.std.proofs.Common.{◌≡◌, ◌≢◌, ℕ, ◌+◌, ◌-◌, ◌<◌, ◌≤◌, ◌⊎◌, inl, inr, zero, suc, refl, sym, ap, ◌∙◌, arith}
-use Rattle.std.proofs.Common.{Bool, true, false, List, [], ◌∷◌, ◌++◌, length, length-append, length-drop, drop, set}
-use Rattle.std.proofs.Common.{get_or, Option, Some, None, slice_get, if◌then◌else◌, nat_lt, unwrap_or}
+use Rattle.std.proofs.Common.{Bool, true, false, List, [], ◌∷◌, ◌++◌, length, length-append, length-drop, drop, map, set}
+use Rattle.std.proofs.Common.{get_or, Option, Some, None, option_map, slice_get, if◌then◌else◌, nat_lt, unwrap_or}
 use Rattle.std.proofs.lemmas.Bool.Decides.{eqb_tells, nat_tests}
-use Rattle.std.proofs.lemmas.Option.{unwrap_or-slice_get}
+use Rattle.std.proofs.lemmas.Option.{slice_get-map, unwrap_or-slice_get}
 use Rattle.std.proofs.lemmas.List.{get_or-set_other, get_or-set_same}
 use Rattle.slink_feed.specs.Window.{Shows, Window, oldest_of, record_at, window, with_record}
 
@@ -47,6 +47,18 @@ module _ {X : Type 0} where
 
   pub one_value : (o : Option X) (x y : X) → o ≡ Some x → o ≡ Some y → x ≡ y
   one_value o x y p q = let both : Some x ≡ Some y = sym p ∙ q in cc both
+
+module _ {X Y : Type 0} where
+  -- what stands in a list that was mapped
+  pub get_mapped : (f : X → Y) (xs : List X) (k : ℕ) (y : Y) → slice_get (map f xs) k ≡ Some y
+      → (x : X) × (slice_get xs k ≡ Some x) × (f x ≡ y)
+  get_mapped f [] k y is = absurd (let bad : None ≡ Some y = is in cc bad)
+  get_mapped f (x ∷ xs) zero y is = (x, refl, cc is)
+  get_mapped f (x ∷ xs) (suc k) y is = get_mapped f xs k y is
+
+  pub map_got : (f : X → Y) (xs : List X) (k : ℕ) (x : X) → slice_get xs k ≡ Some x
+      → slice_get (map f xs) k ≡ Some (f x)
+  map_got f xs k x is = slice_get-map f xs k ∙ ap (option_map f) is
 
 -- two indices are one, or not
 pub same_or_not : (j k : ℕ) → (j ≡ k) ⊎ (j ≢ k)

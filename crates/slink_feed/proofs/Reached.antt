@@ -1,5 +1,5 @@
 -- Grants that the rings of a feed reach.
-use Rattle.std.proofs.Common.{◌≡◌, ℕ, ◌+◌, ◌<◌, ◌≤◌, ◌⊎◌, inl, inr, zero, suc, refl, sym, ap, subst, ◌∙◌, arith, List}
+use Rattle.std.proofs.Common.{◌≡◌, ◌≢◌, ℕ, ◌+◌, ◌<◌, ◌≤◌, ◌⊎◌, inl, inr, zero, suc, refl, sym, ap, subst, ◌∙◌, arith, List}
 use Rattle.std.proofs.Common.{[], ◌∷◌, set, Option, Some, None, slice_get, if◌then◌else◌}
 use Rattle.std.proofs.lemmas.Bool.Decides.{eqb_tells}
 use Rattle.slink_feed.specs.declared.grant.Grant.{Grant}
@@ -61,13 +61,23 @@ sent_is feed s k g w o x phase read is here e =
     ∙ (ap (λ (h : Option Grant). sent_of feed s k h (slice_get feed k)) (sym read ∙ is)
     ∙ (ap (λ (r : Option Window). sent_of feed s k (Some g) r) here ∙ e))
 
--- what is sent, where the ring has the grant's record
-pub record_sent : (feed : List Window) (s : State) (k : ℕ) (g : Grant) (w : Window) (bytes : List ℕ)
-    → s.phase ≡ Streaming → grant_at s.grants k ≡ Some g → slice_get feed k ≡ Some w
-    → Some bytes ≡ record_at w g.position → g.position < w.next → sent feed s k ≡ packet_at s k g (Some bytes)
-record_sent feed s k g w bytes is granted here read lt = elim (eqb_tells g.position w.next) [
-  | inl same ↦ absurd (omega (arith, same.1, lt))
-  | inr other ↦ sent_is feed s k g w (Some g) (packet_at s k g (Some bytes)) is (sym granted) refl here
+-- what is sent at the ring's next record
+pub sent_at_next : (feed : List Window) (s : State) (k : ℕ) (g : Grant) (w : Window) (n : ℕ) → s.phase ≡ Streaming
+    → grant_at s.grants k ≡ Some g → slice_get feed k ≡ Some w → n ≡ w.next → g.position ≡ n
+    → sent feed s k ≡ at_next (all_done feed s.grants) s
+sent_at_next feed s k g w n is granted here next at = elim (eqb_tells g.position w.next) [
+  | inl same ↦ sent_is feed s k g w (Some g) (at_next (all_done feed s.grants) s) is (sym granted) refl here
+      (ap (λ b. if b then at_next (all_done feed s.grants) s else packet_at s k g (record_at w g.position)) same.0)
+  | inr other ↦ absurd (other.1 (at ∙ next))
+]
+
+-- what is sent elsewhere, by the record at the grant's position
+pub sent_by_record : (feed : List Window) (s : State) (k : ℕ) (g : Grant) (w : Window) (o : Option (List ℕ))
+    → s.phase ≡ Streaming → grant_at s.grants k ≡ Some g → slice_get feed k ≡ Some w → o ≡ record_at w g.position
+    → g.position ≢ w.next → sent feed s k ≡ packet_at s k g o
+sent_by_record feed s k g w o is granted here read off = elim (eqb_tells g.position w.next) [
+  | inl same ↦ absurd (off same.1)
+  | inr other ↦ sent_is feed s k g w (Some g) (packet_at s k g o) is (sym granted) refl here
       (ap (λ b. if b then at_next (all_done feed s.grants) s else packet_at s k g (record_at w g.position)) other.0
       ∙ ap (packet_at s k g) (sym read))
 ]

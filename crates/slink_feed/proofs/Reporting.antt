@@ -1,5 +1,5 @@
 -- What is reported of records and taken by the output, one after another.
-use Rattle.std.proofs.Common.{◌≡◌, ℕ, ◌+◌, ◌≤◌, ◌<◌, refl, sym, ap, subst, ◌∙◌, arith, List, [], ◌∷◌, ◌++◌}
+use Rattle.std.proofs.Common.{◌≡◌, ℕ, ◌+◌, ◌<◌, refl, sym, ap, subst, ◌∙◌, arith, List, [], ◌∷◌, ◌++◌}
 use Rattle.std.proofs.Common.{append_assoc}
 use Rattle.std.proofs.Common.{Bool, append-nil, length, length-append, take}
 use Rattle.std.proofs.Math.Seq.{take-append-add}

@@ -165,7 +165,7 @@ pub read_on : (s t : State) → IsReadFrom s t → IsOn s.phase → IsOn t.phase
 read_on s t (inl same) on = subst (λ (u : State). IsOn u.phase) (sym same) on
 read_on s t (inr closed) on = inr (ap (λ (u : State). u.phase) closed)
 
-read_grants : (s t : State) → IsReadFrom s t → t.grants ≡ s.grants
+pub read_grants : (s t : State) → IsReadFrom s t → t.grants ≡ s.grants
 read_grants s t (inl same) = ap (λ (u : State). u.grants) same
 read_grants s t (inr closed) = ap (λ (u : State). u.grants) closed
 

@@ -1,7 +1,7 @@
 -- The lines of a record, and those of what is wanted next.
-use Rattle.std.proofs.Common.{◌≡◌, ◌≢◌, ℕ, ◌+◌, inl, inr, zero, suc, refl, sym, ap, subst, ◌∙◌, arith, Bool, true}
+use Rattle.std.proofs.Common.{◌≡◌, ◌≢◌, ℕ, ◌+◌, inl, inr, zero, suc, sym, ap, subst, ◌∙◌, arith, Bool, true}
 use Rattle.std.proofs.Common.{false}
-use Rattle.std.proofs.Common.{◌⊎◌, ◌==◌, if◌then◌else◌, List, [], ◌∷◌, ◌++◌, append_assoc, append-nil, Option, Some}
+use Rattle.std.proofs.Common.{◌⊎◌, if◌then◌else◌, List, [], ◌∷◌, ◌++◌, append_assoc, append-nil, Option, Some}
 use Rattle.std.proofs.Common.{None}
 use Rattle.std.proofs.Common.{◌-◌, ◌<◌, drop, get_or, length, length-drop, take, take_all, slice_get, unwrap_or}
 use Rattle.std.proofs.lemmas.Bool.Decides.{eqb_tells}

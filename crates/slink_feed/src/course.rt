@@ -10,7 +10,7 @@ ghost use Rattle.slink_feed.specs.declared.session.Sent.{Sent};
 ghost use Rattle.slink_feed.specs.Serving.{IsAnswer};
 ghost use Rattle.slink_feed.specs.Session.{AreReached, Fits, all_done, answered, called, at, at_next, chosen, ended};
 ghost use Rattle.slink_feed.specs.Session.{grant_at, in_chosen, in_fresh, in_granted, in_streaming, is_done, sent};
-ghost use Rattle.slink_feed.specs.Session.{sent_from};
+ghost use Rattle.slink_feed.specs.Window.{record_at};
 
 use crate::feed::Feed;
 use crate::grant::{Grant, Mode, first_granted};
@@ -91,25 +91,18 @@ impl Course {
     fn packet_from<A: Allocator>(&mut self, feed: &Feed<A>, k: usize, grant: Grant) -> Sent
         requires in_range { k < length feed.now }
         requires phase { self.old.phase ≡ Phase.Streaming }
+        requires granted { grant_at self.old.grants k ≡ Some grant }
         requires fits { AreReached feed.now self.old.grants }
-        ensures sent { ForSome (slice_get feed.now k)
-            (λ w. sent_from feed.now self.old k grant w ≡ (self.new, result)) }
+        ensures sent { sent feed.now self.old k ≡ (self.new, result) }
         ensures fits { Fits feed.now self.new }
         ensures few { (bytes : List ℕ) → result ≡ Sent.Packet bytes
             → ForSome (slice_get feed.now k) (λ w. length w.records ≤ 1000000) }
     {
-        let ring = feed.ring(k);
-        if grant.position == ring.next() {
+        if grant.position == feed.ring(k).next() {
             return self.at_next(feed);
         }
-        match ring.get(grant.position) {
-            Some(bytes) => {
-                self.grants[k] = Some(Grant {
-                    mode: grant.mode,
-                    position: grant.position + 1,
-                });
-                Sent::Packet(Packet::write((grant.position % SPAN) as u32, bytes))
-            }
+        match self.record_from(feed, k, grant) {
+            Some((number, bytes)) => Sent::Packet(Packet::write(number, bytes)),
             None => {
                 self.phase = Phase::Closed;
                 Sent::Overrun
@@ -157,6 +150,7 @@ impl Course {
             ≡ (self.new, Sent.Packet (packet_bytes r.0 r.1.now))) }
         ensures number { IfSome result (λ r. r.0 < 2 ^ 24) }
         ensures none { IfNone result (self.new ≡ self.old) }
+        ensures gone { IfNone result (ForSome (slice_get feed.now k) (λ w. record_at w grant.position ≡ None)) }
         ensures fits { Fits feed.now self.new }
         ensures few { IfSome result (λ _. ForSome (slice_get feed.now k) (λ w. length w.records ≤ 1000000)) }
     {
@@ -276,23 +270,18 @@ impl Course {
         }
     }
 
-    /// Answers a command where a place is chosen that has a grant.
+    /// Answers a command where a place is chosen that has a grant: END begins the records, and any other is answered as
+    /// where it has none.
     fn in_granted<A: Allocator>(&mut self, feed: &Feed<A>, k: usize, command: Command) -> Reply
         requires { k < length feed.now }
         ensures answered { in_granted feed.now k self.old command ≡ (self.new, result) }
     {
         match command {
-            Command::Hello => Reply::Hello,
-            Command::Station { sta, net } => self.choose(feed.find(&sta, net)),
-            Command::SelectAll => Reply::Ok,
-            Command::Data(number) => self.ask(feed, k, Mode::Data, number),
-            Command::Fetch(number) => self.ask(feed, k, Mode::Fetch, number),
             Command::End => {
                 self.phase = Phase::Streaming;
                 Reply::Nothing
             }
-            Command::Bye => self.close(),
-            Command::Other => Reply::Error,
+            _ => self.in_chosen(feed, k, command),
         }
     }
 

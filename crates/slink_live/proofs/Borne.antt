@@ -1,43 +1,18 @@
 -- Which ring takes a record.
 use Rattle.std.proofs.Common.{◌≡◌, ℕ, zero, suc, ◌+◌, ◌<◌, ◌≤◌, ◌∙◌, ap, subst, refl, sym, arith, Bool, true, false}
-use Rattle.std.proofs.Common.{◌&&◌, ◌⊎◌, List}
-use Rattle.std.proofs.Common.{[], ◌∷◌, ◌++◌, length, set, Some, None, option_map, slice_get, slice_range}
-use Rattle.std.proofs.Common.{bytes_eq, if◌then◌else◌, inl, inr, IsTrue}
+use Rattle.std.proofs.Common.{◌⊎◌, List}
+use Rattle.std.proofs.Common.{[], ◌∷◌, ◌++◌, length, set, Some, None, option_map, slice_get}
+use Rattle.std.proofs.Common.{if◌then◌else◌, inl, inr, IsTrue}
 use Rattle.std.proofs.lemmas.Option.{slice_get-map}
-use Rattle.std.proofs.lemmas.Slice.Eq.{bytes_eq-Decides}
 use Rattle.slink_wire.specs.Place.{Bears, Fields}
+use Rattle.slink_wire.proofs.Bearing.{bears_fails, bears_passes}
 use Rattle.slink_feed.specs.Session.{Fits, State}
 use Rattle.slink_feed.specs.Window.{Window, with_record}
 use Rattle.slink_feed.proofs.Fitting.{fits_pushed}
-use Rattle.slink_feed.proofs.Items.{one_value, same_or_not}
+use Rattle.slink_feed.proofs.Items.{one_value, same_or_not, within_is}
 use Rattle.slink_live.specs.Input.{fed, is_of, places_of, pushed}
 use Rattle.slink_live.specs.Served.{IsBelow}
 use Rattle.slink_live.specs.private.Cutting.{IsBearer, IsOfNone, IsPushed}
-
-both_true : (a b : Bool) → (a && b) ≡ true → (a ≡ true) × (b ≡ true)
-both_true true b h = (refl, h)
-both_true false b h = absurd (let bad : false ≡ true = h in cc bad)
-
-bears_is : (p : Fields) (r : List ℕ) → Bears r p → is_of p r ≡ true
-bears_is p r h =
-    ap (λ (t : Bool). t && bytes_eq (slice_range r 18 20) p.network)
-    ((bytes_eq-Decides (slice_range r 8 13) p.station).1 h.0)
-    ∙ (bytes_eq-Decides (slice_range r 18 20) p.network).1 h.1
-
-is_bears : (p : Fields) (r : List ℕ) → is_of p r ≡ true → Bears r p
-is_bears p r h =
-    let each : (bytes_eq (slice_range r 8 13) p.station ≡ true) × (bytes_eq (slice_range r 18 20) p.network ≡ true) =
-    both_true (bytes_eq (slice_range r 8 13) p.station) (bytes_eq (slice_range r 18 20) p.network) h in (
-      (bytes_eq-Decides (slice_range r 8 13) p.station).0 each.0,
-      (bytes_eq-Decides (slice_range r 18 20) p.network).0 each.1,
-    )
-
-not_is : (p : Fields) (r : List ℕ) → ¬ (Bears r p) → is_of p r ≡ false
-not_is p r other = by_test (is_of p r) refl
-  where
-    by_test : (t : Bool) → is_of p r ≡ t → is_of p r ≡ false
-    by_test true h = absurd (other (is_bears p r h))
-    by_test false h = h
 
 same_some : (v w : Window) → Some v ≡ Some w → v ≡ w
 same_some v w e = cc e
@@ -65,11 +40,6 @@ pub bears_not : (v : Window) (r : List ℕ) (place : Fields) (t : Bool) → plac
 bears_not v r place t same tells is bears = let bad : false ≡ true =
     sym is ∙ tells (subst (λ (p : Fields). Bears r p) (sym same) bears) in cc bad
 
-pub window_at : (feed : List Window) (k : ℕ) → k < length feed → (w : Window) × (slice_get feed k ≡ Some w)
-window_at [] k lt = absurd (omega (arith, lt))
-window_at (w ∷ ws) zero lt = (w, refl)
-window_at (w ∷ ws) (suc k) lt = window_at ws k (omega (arith, lt))
-
 -- The first ring of its place takes it.
 pub pushed_at : (feed : List Window) (r : List ℕ) (k : ℕ) (w : Window) → slice_get feed k ≡ Some w → Bears r w.place
     → ((j : ℕ) (v : Window) → j < k → slice_get feed j ≡ Some v → ¬ (Bears r v.place))
@@ -78,11 +48,11 @@ pushed_at [] r k w here bears first = absurd (let bad : None ≡ Some w = here i
 pushed_at (v ∷ ws) r zero w here bears first =
     let same : v ≡ w = same_some v w here in
     ap (λ (t : Bool). if t then with_record v r ∷ ws else v ∷ pushed ws r)
-    (bears_is v.place r (subst (λ (x : Window). Bears r x.place) (sym same) bears))
+    (bears_passes v.place r (subst (λ (x : Window). Bears r x.place) (sym same) bears))
     ∙ ap (λ (x : Window). with_record x r ∷ ws) same
 pushed_at (v ∷ ws) r (suc k) w here bears first =
     ap (λ (t : Bool). if t then with_record v r ∷ ws else v ∷ pushed ws r)
-    (not_is v.place r (first 0 v (omega arith) refl))
+    (bears_fails v.place r (first 0 v (omega arith) refl))
     ∙ ap (λ xs. v ∷ xs) (pushed_at ws r k w here bears (λ j x lt there. first (suc j) x (omega (arith, lt)) there))
 
 -- the places stay
@@ -122,7 +92,7 @@ of_none feed r none k p here bears =
 pub is_pushed : (feed new : List Window) (r : List ℕ) (k : ℕ) → IsBearer feed r k
     → ((w : Window) → slice_get feed k ≡ Some w → new ≡ set feed k (with_record w r)) → IsPushed feed new r
 is_pushed feed new r k b done =
-    let at : (w : Window) × (slice_get feed k ≡ Some w) = window_at feed k b.within in
+    let at : (w : Window) × (slice_get feed k ≡ Some w) = within_is feed k b.within in
     record {
       k = k;
       place = at.0.place;

@@ -1,20 +1,14 @@
 -- What a link is sent, by slink_feed's laws.
-use Rattle.std.proofs.Common.{◌≡◌, ◌≢◌, ℕ, ◌∙◌, ap, subst, refl, sym, inl, inr, ◌⊎◌, Bool, true, false, ◌==◌, List}
+use Rattle.std.proofs.Common.{◌≡◌, ◌≢◌, ℕ, ◌∙◌, ap, subst, refl, sym, inl, inr, List}
 use Rattle.std.proofs.Common.{[], ◌∷◌}
 use Rattle.std.proofs.Common.{◌++◌, length, append_assoc, append-nil, take, Option, Some, None, slice_get}
-use Rattle.std.proofs.Common.{if◌then◌else◌}
 use Rattle.std.proofs.Math.Seq.{take-append_seam}
 use Rattle.std.proofs.lemmas.List.Elements.{filter-append}
-use Rattle.slink_wire.specs.declared.command.Command.{Command}
-use Rattle.slink_wire.specs.declared.command.Command.TheVariants.{Hello, Station, SelectAll, Data, Fetch, End, Bye}
-use Rattle.slink_wire.specs.declared.command.Command.TheVariants.{Other}
 use Rattle.slink_wire.specs.declared.lines.What.{What}
-use Rattle.slink_wire.specs.declared.lines.What.TheVariants.{More, Line, TooLong}
 use Rattle.slink_wire.specs.declared.reply.Reply.{Reply}
 use Rattle.slink_wire.specs.declared.reply.Reply.TheVariants as Replies
 use Rattle.slink_wire.specs.Lines.{Held, IsHeld}
 use Rattle.slink_wire.specs.Reply.{reply_bytes}
-use Rattle.slink_feed.specs.declared.grant.Grant.{Grant}
 use Rattle.slink_feed.specs.declared.session.Phase.{Phase}
 use Rattle.slink_feed.specs.declared.session.Phase.TheVariants.{Fresh, Chosen, Granted, Streaming, Closed}
 use Rattle.slink_feed.specs.declared.session.Sent.{Sent}
@@ -23,10 +17,11 @@ use Rattle.slink_feed.specs.Connection.{bytes_sent}
 use Rattle.slink_feed.specs.Running.{HasStream}
 use Rattle.slink_feed.specs.Sending.{AreCalled, AreShown, Called, IsReadFrom}
 use Rattle.slink_feed.specs.Serving.{IsAnswer, Serves, Standing, Takes, none_served, piece_served}
-use Rattle.slink_feed.specs.Session.{State, all_done, answered_in, at, at_next, grant_at, in_streaming, packet_at}
-use Rattle.slink_feed.specs.Session.{reply_at_next, sent, sent_bytes, sent_in, sent_of}
-use Rattle.slink_feed.specs.Window.{Shows, Window, record_at}
-use Rattle.slink_feed.proofs.Sendings.{answer_read, stretch_sent}
+use Rattle.slink_feed.specs.Session.{State}
+use Rattle.slink_feed.specs.Session.{sent, sent_bytes, sent_in}
+use Rattle.slink_feed.specs.Window.{Shows, Window}
+use Rattle.slink_feed.proofs.Connected.{on_sent, read_further, reply_none}
+use Rattle.slink_feed.proofs.Sendings.{IsOn, answer_read, read_on, stretch_sent}
 use Rattle.slink_live.specs.Happening.{Happening, Received, Emitted, input_of}
 use Rattle.slink_live.specs.Input.{IsFed, IsInput, fed, places_of}
 use Rattle.slink_live.specs.Story.{Asks, IsServed, Story, story, none_called, one_called, no_event, elsewhere}
@@ -58,12 +53,6 @@ called_last s u t v [] a h read e = (
 called_last s u t v (x ∷ xs) a h read e =
     (h.0, h.1, h.2, called_last (sent x.feed h.0 x.place).0 u t v xs a h.3 read e)
 
--- lines one after another
-read_on : (s t u : State) → IsReadFrom s t → IsReadFrom t u → IsReadFrom s u
-read_on s t u (inl same) b = subst (λ (x : State). IsReadFrom x u) same b
-read_on s t u (inr shut) (inl same) = inr (same ∙ shut)
-read_on s t u (inr shut) (inr again) = inr (again ∙ ap (λ (x : State). at Closed x.grants) shut)
-
 bytes_last : (xs : List Called) (a : Called) → bytes_sent (xs ++ a ∷ []) ≡ bytes_sent xs ++ sent_bytes a.answer
 bytes_last [] a = append-nil (sent_bytes a.answer)
 bytes_last (x ∷ xs) a = ap (λ b. sent_bytes x.answer ++ b) (bytes_last xs a)
@@ -90,59 +79,6 @@ stage_of Closed = is_closed refl
 
 not_streaming : (p : Phase) → p ≡ Closed → p ≢ Streaming
 not_streaming p e on = let bad : Closed ≡ Streaming = sym e ∙ on in cc bad
-
--- While it streams, nothing is replied.
-quiet_streaming : (s : State) (c : Command) → (in_streaming s c).1 ≡ Replies.Nothing
-quiet_streaming s Bye = refl
-quiet_streaming s Hello = refl
-quiet_streaming s (Station sta net) = refl
-quiet_streaming s SelectAll = refl
-quiet_streaming s (Data number) = refl
-quiet_streaming s (Fetch number) = refl
-quiet_streaming s End = refl
-quiet_streaming s Other = refl
-
-quiet_answer : (feed : List Window) (s new : State) (what : What) (reply : Reply) → s.phase ≡ Streaming
-    → IsAnswer feed s what new reply → reply ≡ Replies.Nothing
-quiet_answer feed s new More reply on is = is.1
-quiet_answer feed s new (Line line) reply on is =
-    sym (ap (λ (x : State × Reply). x.1) is.2)
-    ∙ (ap (λ (p : Phase). (answered_in p feed s is.0).1) on ∙ quiet_streaming s is.0)
-quiet_answer feed s new TooLong reply on is =
-    sym (ap (λ (x : State × Reply). x.1) is) ∙ ap reply_at_next on
-
-abbrev IsOn : Phase → Type 0
-IsOn p = (p ≡ Streaming) ⊎ (p ≡ Closed)
-
--- What is sent leaves it streaming, or closes it.
-on_next : (s : State) (b : Bool) → s.phase ≡ Streaming → IsOn (at_next b s).0.phase
-on_next s true on = inr refl
-on_next s false on = inl on
-
-on_packet : (s : State) (k : ℕ) (g : Grant) (o : Option (List ℕ)) → s.phase ≡ Streaming
-    → IsOn (packet_at s k g o).0.phase
-on_packet s k g None on = inr refl
-on_packet s k g (Some bytes) on = inl on
-
-on_from : (s : State) (k : ℕ) (g : Grant) (o : Option (List ℕ)) (b done : Bool) → s.phase ≡ Streaming
-    → IsOn (if b then at_next done s else packet_at s k g o).0.phase
-on_from s k g o true done on = on_next s done on
-on_from s k g o false done on = on_packet s k g o on
-
-on_of : (feed : List Window) (s : State) (k : ℕ) (o : Option Grant) (r : Option Window) → s.phase ≡ Streaming
-    → IsOn (sent_of feed s k o r).0.phase
-on_of feed s k None r on = inl on
-on_of feed s k (Some g) None on = inl on
-on_of feed s k (Some g) (Some w) on =
-    on_from s k g (record_at w g.position) (g.position == w.next) (all_done feed s.grants) on
-
-on_sent : (feed : List Window) (s : State) (k : ℕ) → s.phase ≡ Streaming → IsOn (sent feed s k).0.phase
-on_sent feed s k on = subst (λ (p : Phase). IsOn (sent_in p feed s k).0.phase) (sym on)
-    (on_of feed s k (grant_at s.grants k) (slice_get feed k) on)
-
-on_read : (s t : State) → IsReadFrom s t → IsOn s.phase → IsOn t.phase
-on_read s t (inl same) on = subst (λ (x : State). IsOn x.phase) (sym same) on
-on_read s t (inr shut) on = inr (ap (λ (x : State). x.phase) shut)
 
 off_on : (p : Phase) → p ≢ Streaming → p ≢ Closed → IsOn p → ⊥
 off_on p off alive (inl on) = off on
@@ -206,9 +142,9 @@ module _ (start : List Window) where
       → Produced start log new (produced ++ reply_bytes r)
   streaming_produced log feed old new what r produced on is (only_replies rs off eq) = absurd (off on)
   streaming_produced log feed old new what r produced on is (has_streamed rs s u xs begun to read o from eq) =
-      let quiet : r ≡ Replies.Nothing = quiet_answer feed old new what r on is in
+      let quiet : r ≡ Replies.Nothing = reply_none feed old new what r on is in
       let moved : IsReadFrom old new = answer_read feed old new what r on is in
-      has_streamed rs s u xs begun to (read_on u old new read moved) (on_read old new moved o) from
+      has_streamed rs s u xs begun to (read_further u old new read moved) (read_on old new moved o) from
       (ap (λ x. produced ++ reply_bytes x) quiet ∙ (append-nil produced ∙ eq))
 
   abbrev ProducedOf : List Happening → Standing → List ℕ → Type 0
@@ -265,7 +201,7 @@ module _ (start : List Window) where
       (has_streamed rs s u xs begun to read o from eq) =
       let a : Called = record { feed = feed; place = k; answer = answer } in
       has_streamed rs s new (xs ++ a ∷ []) begun (called_last s u old new xs a to read e) (inl refl)
-      (subst IsOn (ap (λ (x : State × Sent). x.0.phase) e) (on_sent feed old k on)) (from_last log xs a fed from)
+      (subst IsOn (ap (λ (x : State × Sent). x.0.phase) e) (on_sent feed old k (inl on))) (from_last log xs a fed from)
       (ap (λ b. b ++ sent_bytes answer) eq ∙ (append_assoc (all_replies rs) (bytes_sent xs) (sent_bytes answer)
       ∙ ap (λ b. all_replies rs ++ b) (sym (bytes_last xs a))))
 

@@ -1,9 +1,9 @@
-use Rattle.std.proofs.Common.{rules, ◌≡◌, arith, sym, subst}
+use Rattle.std.proofs.Common.{rules, arith}
 use Rattle.slink_feed.specs.declared.dialogue.Event.TheVariants as events
 use Rattle.slink_feed.specs.Fetching.{Fetching, fetching}
-use Rattle.slink_feed.specs.private.Delivery.{ComesTo, FailsToHear}
-use Rattle.slink_feed.specs.Listening.{IsLinked, Listening}
+use Rattle.slink_feed.specs.private.Delivery.{FailsToHear}
 use Rattle.slink_feed.specs.Reports.{Kept, kept}
+use Rattle.slink_feed.proofs.Deliveries.{comes_to}
 use Rattle.slink_feed.proofs.fetching.hear.Goals as goal
 
 pub returns-in_ok-counts-in-Some-clause-ok : goal.returns-in_ok-counts-in-Some-clause-ok
@@ -34,22 +34,14 @@ returns-in_err-counts-in-Some-clause-fault g c =
     search (rules, fails)
 
 pub returns-in_ok-after-in-None-clause-ok : goal.returns-in_ok-after-in-None-clause-ok
-returns-in_ok-after-in-None-clause-ok g c =
-    let linked : IsLinked c.take_record.new.self.talk.stage =
-    subst (λ (l : Listening). IsLinked l.talk.stage) (sym c.in-None.ensures.none) c.requires.linked in
-    let comes : ComesTo c.take-used.result.1 c.take-used.result.0 c.args.bytes.now c.take_record.new.self
-    c.take-used.new.self = record {
-      brings = c.take-used.ensures.brings linked;
-      some = c.take-used.ensures.some linked c.requires.some;
-      bound = c.take-used.ensures.bound;
-    } in
-    record {
-      event = c.take-used.result.1;
-      comes = subst (λ (l : Listening). ComesTo c.take-used.result.1 c.take-used.result.0 c.args.bytes.now l
-          c.take-used.new.self) c.in-None.ensures.none comes;
-      reported = record { telling = c.deliver.ensures.telling; lines = c.deliver.ensures.lines };
-      done = c.in_ok-after-in-None.ensures.ok;
-    }
+returns-in_ok-after-in-None-clause-ok g c = record {
+  event = c.take-used.result.1;
+  comes = comes_to c.args.client.now c.take_record.new.self c.take-used.new.self c.args.bytes.now
+      c.take-used.result.0 c.take-used.result.1 c.in-None.ensures.none c.requires.linked c.requires.some
+      c.take-used.ensures.brings c.take-used.ensures.some c.take-used.ensures.bound;
+  reported = record { telling = c.deliver.ensures.telling; lines = c.deliver.ensures.lines };
+  done = c.in_ok-after-in-None.ensures.ok;
+}
 
 pub returns-in_err-after-in-None-clause-fault : goal.returns-in_err-after-in-None-clause-fault
 returns-in_err-after-in-None-clause-fault g c =
@@ -61,19 +53,12 @@ returns-in_err-after-in-None-clause-fault g c =
     c.args.teller.now.telling in
     let is : Kept = kept (g.W.Sink.written c.deliver.new.output) (g.E.Sink.written c.deliver.new.errors)
     c.deliver.new.teller.telling in
-    let linked : IsLinked c.take_record.new.self.talk.stage =
-    subst (λ (l : Listening). IsLinked l.talk.stage) (sym c.in-None.ensures.none) c.requires.linked in
-    let comes : ComesTo c.take-used.result.1 c.take-used.result.0 c.args.bytes.now c.take_record.new.self
-    c.take-used.new.self = record {
-      brings = c.take-used.ensures.brings linked;
-      some = c.take-used.ensures.some linked c.requires.some;
-      bound = c.take-used.ensures.bound;
-    } in
     let fails : FailsToHear c.in_err-after-in-None.field-0.0 c.args.bytes.now c.args.counts old new was is = record {
       event = c.take-used.result.1;
       used = c.take-used.result.0;
-      comes = subst (λ (l : Listening). ComesTo c.take-used.result.1 c.take-used.result.0 c.args.bytes.now l
-          c.take-used.new.self) c.in-None.ensures.none comes;
+      comes = comes_to c.args.client.now c.take_record.new.self c.take-used.new.self c.args.bytes.now
+          c.take-used.result.0 c.take-used.result.1 c.in-None.ensures.none c.requires.linked c.requires.some
+          c.take-used.ensures.brings c.take-used.ensures.some c.take-used.ensures.bound;
       reported = record { telling = c.deliver.ensures.telling; lines = c.deliver.ensures.lines };
       cut = c.in_err-after-in-None.ensures.fault;
     } in

@@ -1,37 +1,18 @@
-use Rattle.std.proofs.lemmas.Grind.{common_steps}
-use Rattle.std.proofs.Common.{◌≡◌, ◌+◌, ap, subst, sym, ◌∙◌, arith}
-use Rattle.slink_feed.specs.declared.session.Phase.TheVariants.{Streaming}
-use Rattle.slink_feed.specs.Session.{AreReached, IsChosenOf, State}
-use Rattle.slink_feed.proofs.Reached.{reached_next, reached_with}
+use Rattle.std.proofs.Common.{◌∙◌, None, ap, sym}
+use Rattle.slink_feed.specs.Session.{State, packet_at}
+use Rattle.slink_feed.proofs.Reached.{sent_at_next, sent_by_record}
 use Rattle.slink_feed.proofs.course.Course.packet_from.Goals as goal
 
-pub returns-in-Some-clause-fits : goal.returns-in-Some-clause-fits
-returns-in-Some-clause-fits g c =
-    let streams : c.self.inside.phase ≡ Streaming = ap (λ (s : State). s.phase) c.self.view_is
-    ∙ c.requires.phase in (
-      subst (IsChosenOf c.args.feed.now) (sym streams) tt,
-      reached_with c.args.feed.now c.self.inside.grants c.args.k
-          (record { mode = c.args.grant.mode; position = c.args.grant.position + 1 })
-          (reached_next c.args.feed.now c.args.k c.ring-ring.result.now c.args.grant.position c.ring-ring.ensures.ring
-          c.in-Some.ensures.within)
-          (subst (AreReached c.args.feed.now) (sym (ap (λ (s : State). s.grants) c.self.view_is))
-          c.requires.fits),
-    )
-
 pub returns-then-grant-next-clause-sent : goal.returns-then-grant-next-clause-sent
-returns-then-grant-next-clause-sent g c = grind (arith, common_steps)
-
-pub returns-then-grant-next-clause-fits : goal.returns-then-grant-next-clause-fits
-returns-then-grant-next-clause-fits g c = grind (arith, common_steps)
-
-pub returns-then-grant-next-clause-few : goal.returns-then-grant-next-clause-few
-returns-then-grant-next-clause-few g c = grind (arith, common_steps)
-
-pub returns-in-Some-clause-sent : goal.returns-in-Some-clause-sent
-returns-in-Some-clause-sent g c = grind (arith, common_steps)
+returns-then-grant-next-clause-sent g c =
+    sent_at_next c.args.feed.now c.args.self.now c.args.k c.args.grant c.ring.result.now c.next.result
+    c.requires.phase c.requires.granted c.ring.ensures.ring c.next.ensures.value c.if-grant-next.true
+    ∙ c.at_next.ensures.sent
 
 pub returns-in-None-clause-sent : goal.returns-in-None-clause-sent
-returns-in-None-clause-sent g c = grind (arith, common_steps)
-
-pub returns-in-None-clause-fits : goal.returns-in-None-clause-fits
-returns-in-None-clause-fits g c = grind (arith, common_steps)
+returns-in-None-clause-sent g c =
+    sent_by_record c.args.feed.now c.args.self.now c.args.k c.args.grant c.ring.result.now None c.requires.phase
+    c.requires.granted c.ring.ensures.ring
+    (sym (c.in-None.ensures.gone c.ring.result.now c.ring.ensures.ring))
+    (λ same. c.if-grant-next.false (same ∙ sym c.next.ensures.value))
+    ∙ ap (λ (s : State). packet_at s c.args.k c.args.grant None) (sym (c.self.view_is ∙ c.in-None.ensures.none))

@@ -1,7 +1,7 @@
-use Rattle.std.proofs.Common.{◌≡◌, ◌+◌, ap, subst, sym, ◌∙◌, Some}
+use Rattle.std.proofs.Common.{◌≡◌, ◌+◌, ap, subst, sym, ◌∙◌, arith, Some}
 use Rattle.slink_feed.specs.declared.session.Phase.TheVariants.{Streaming}
 use Rattle.slink_feed.specs.Session.{AreReached, IsChosenOf, State, at, grant_at, packet_at, sent}
-use Rattle.slink_feed.proofs.Reached.{reached_next, reached_with, record_sent}
+use Rattle.slink_feed.proofs.Reached.{reached_next, reached_with, sent_by_record}
 use Rattle.slink_feed.proofs.course.Course.record_from.Goals as goal
 
 pub returns-in-Some-clause-sent : goal.returns-in-Some-clause-sent
@@ -12,8 +12,8 @@ returns-in-Some-clause-sent g c =
     ap (λ (s : State). grant_at s.grants c.args.k) c.self.view_is ∙ c.requires.granted in
     subst (λ (s : State). sent c.args.feed.now s c.args.k
     ≡ packet_at view c.args.k c.args.grant (Some c.in-Some.bytes.now)) c.self.view_is
-    (record_sent c.args.feed.now view c.args.k c.args.grant c.ring-ring.result.now c.in-Some.bytes.now streams granted
-    c.ring-ring.ensures.ring c.in-Some.ensures.value c.in-Some.ensures.within)
+    (sent_by_record c.args.feed.now view c.args.k c.args.grant c.ring-ring.result.now (Some c.in-Some.bytes.now) streams
+    granted c.ring-ring.ensures.ring c.in-Some.ensures.value (λ same. omega (arith, same, c.in-Some.ensures.within)))
 
 pub returns-in-Some-clause-fits : goal.returns-in-Some-clause-fits
 returns-in-Some-clause-fits g c =
