@@ -103,14 +103,8 @@ module _ (feed : List Window) (s : State) where
   leaves_chosen j Other = stay
 
   leaves_granted : (j : ℕ) (c : Command) → Grants_stay (in_granted feed j s c).0
-  leaves_granted j Hello = stay
-  leaves_granted j (Station sta net) = choose (station_at feed sta net)
-  leaves_granted j SelectAll = stay
-  leaves_granted j (Data number) = ask modes.Data j number
-  leaves_granted j (Fetch number) = ask modes.Fetch j number
   leaves_granted j End = stay
-  leaves_granted j Bye = stay
-  leaves_granted j Other = stay
+  leaves_granted j c = leaves_chosen j c
 
   still : s.phase ≡ Streaming → ¬ (IsBefore s.phase)
   still e before = subst IsBefore e before

@@ -1,7 +1,7 @@
 -- What a client holds of a link are the records of the whole packets that came to it.
 use Rattle.std.proofs.Common.{◌≡◌, All, ℕ, ◌+◌, ◌-◌, ◌*◌, ◌/◌, ◌%◌, ◌^◌, ◌<◌, ◌≤◌, inl, inr, min, zero, suc, refl, sym}
 use Rattle.std.proofs.Common.{ap, subst, ◌∙◌, arith, Bool, true, false, not, ◌&&◌, if◌then◌else◌, List, [], ◌∷◌, ◌++◌}
-use Rattle.std.proofs.Common.{append-nil, append_assoc, length, length-append, length-set, map, replicate, take, get_or}
+use Rattle.std.proofs.Common.{append-nil, append_assoc, length, length-append, length-set, replicate, take, get_or}
 use Rattle.std.proofs.Common.{Option, Some, None, option_map, slice_get}
 use Rattle.std.proofs.lemmas.Bool.Decides.{leb_tells}
 use Rattle.std.proofs.lemmas.List.{length-map}
@@ -10,10 +10,10 @@ use Rattle.slink_feed.specs.declared.dialogue.Ending.TheVariants as endings
 use Rattle.slink_feed.specs.declared.dialogue.Event.{Event}
 use Rattle.slink_feed.specs.declared.dialogue.Event.TheVariants as events
 use Rattle.slink_feed.specs.declared.dialogue.Stage.{Stage}
-use Rattle.slink_feed.specs.declared.dialogue.Stage.TheVariants.{Station, Number, Packets, Ended}
+use Rattle.slink_feed.specs.declared.dialogue.Stage.TheVariants.{Packets}
 use Rattle.slink_feed.specs.declared.dialogue.Wanted.{Wanted}
 use Rattle.slink_feed.specs.declared.session.Phase.{Phase}
-use Rattle.slink_feed.specs.Dialogue.{Talk, ended, says_place, to_place, reported, want_at}
+use Rattle.slink_feed.specs.Dialogue.{Talk, ended, to_place, reported, want_at}
 use Rattle.slink_feed.specs.Listening.{IsLinked}
 use Rattle.slink_feed.specs.Session.{sent}
 use Rattle.slink_feed.specs.Window.{Window}
@@ -21,7 +21,7 @@ use Rattle.slink_model.specs.declared.world.Setup.{Setup}
 use Rattle.slink_model.specs.declared.world.Step.{Step}
 use Rattle.slink_model.specs.declared.world.Step.TheVariants.{Append, Connect, ToServer, ToClient, Send, Cut}
 use Rattle.slink_model.specs.Counted.{AreItems, AreStreamed, Counted, CountedLink, Gained, IsStreamed, answer_at}
-use Rattle.slink_model.specs.Counted.{behind, counted_after, counted_opening, counted_step, delivered_by, events_upon}
+use Rattle.slink_model.specs.Counted.{behind, counted_after, counted_opening, counted_step, events_upon}
 use Rattle.slink_model.specs.Counted.{gained_by, read_by, if_come, items_sent, news, on_item, part, sent_by, served_by}
 use Rattle.slink_model.specs.Counted.{taken_by, talk_upon, waits, wholes, windows_of, with_event, with_events}
 use Rattle.slink_model.specs.Spared.{AreAskable}

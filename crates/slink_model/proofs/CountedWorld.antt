@@ -1,14 +1,12 @@
 -- The world that the steps of a schedule lead to is the counted one.
-use Rattle.std.proofs.Common.{take, ◌≡◌, ℕ, ◌+◌, ◌-◌, ◌<◌, inl, zero, suc, refl, sym, ap, subst, ◌∙◌, arith, List, []}
+use Rattle.std.proofs.Common.{take, ◌≡◌, ℕ, ◌+◌, ◌-◌, ◌<◌, zero, suc, refl, sym, ap, subst, ◌∙◌, arith, List, []}
 use Rattle.std.proofs.Common.{◌∷◌, ◌++◌, length, length-append, map, replicate, set, Option, Some, None, option_map}
 use Rattle.std.proofs.Common.{slice_get}
 use Rattle.slink_wire.specs.declared.request.Request.TheVariants as requests
 use Rattle.slink_wire.specs.Place.{Fields, IsField}
-use Rattle.slink_wire.specs.Request.{request_bytes, request_line}
+use Rattle.slink_wire.specs.Request.{request_bytes}
 use Rattle.slink_feed.specs.declared.dialogue.Event.{Event}
 use Rattle.slink_feed.specs.declared.dialogue.Stage.TheVariants.{Station}
-use Rattle.slink_feed.specs.declared.dialogue.Wanted.{Wanted}
-use Rattle.slink_feed.specs.declared.grant.Grant.{Grant}
 use Rattle.slink_feed.specs.declared.session.Phase.TheVariants.{Fresh, Closed}
 use Rattle.slink_model.specs.declared.world.Setup.{Setup}
 use Rattle.slink_model.specs.declared.world.Step.{Step}
@@ -16,9 +14,9 @@ use Rattle.slink_model.specs.declared.world.Step.TheVariants.{Append, Connect, T
 use Rattle.slink_model.specs.Counted.{AreCountedLinks, AreStreamed, behind, Counted, CountedLink, IsCounted}
 use Rattle.slink_model.specs.Counted.{IsCountedLink, counted_after, counted_opening, counted_step, read_by, new_link}
 use Rattle.slink_model.specs.Counted.{news, sent_by, served_by, talk_upon, shown_all, shown_of}
-use Rattle.slink_feed.specs.Dialogue.{Talk, next_at, says_place, to_place, want_at}
+use Rattle.slink_feed.specs.Dialogue.{Talk, to_place}
 use Rattle.slink_feed.specs.Listening.{Listening}
-use Rattle.slink_feed.specs.Session.{State, at, grant_at}
+use Rattle.slink_feed.specs.Session.{State, at}
 use Rattle.slink_model.specs.Spared.{AreAskable}
 use Rattle.slink_model.specs.Stretch.{IsSchedule}
 use Rattle.slink_model.specs.Ties.{Places}
@@ -31,14 +29,12 @@ use Rattle.slink_model.proofs.CountedSent.{sent_counts}
 use Rattle.slink_model.proofs.CountedShape.{AreFacts, AreShaped, step_shaped, streamed_of}
 use Rattle.slink_model.proofs.Counting.{kept_part}
 use Rattle.slink_model.proofs.Counts.{Counts, served_counts, Pinned}
-use Rattle.slink_feed.proofs.Items.{drop_none, keep_more, one_value, within_is}
-use Rattle.slink_model.proofs.Lined.{begins_asking}
+use Rattle.slink_feed.proofs.Items.{drop_none, keep_more, one_value}
 use Rattle.slink_model.proofs.OneWorld.{Keeps, step_keeps}
-use Rattle.slink_wire.proofs.RequestLines.{station_line}
 use Rattle.slink_model.proofs.Requested.{also_at}
-use Rattle.slink_model.proofs.Shaking.{IsSuited, asks_place, AreCalled}
-use Rattle.slink_model.proofs.Sparing.{WorldTalks, opening_talks, step_talks}
-use Rattle.slink_model.proofs.Worlds.{AreOf, each_of, none_granted}
+use Rattle.slink_model.proofs.Shaking.{AreCalled}
+use Rattle.slink_model.proofs.Sparing.{Opens, WorldTalks, linked_anew, opening_talks, opens_with, step_talks}
+use Rattle.slink_model.proofs.Worlds.{AreOf, each_of}
 
 -- what is shown once a record more was pushed
 shown_more : (setup : Setup) (p : Fields × Option ℕ) (pushed : List (List ℕ)) (b : List ℕ)
@@ -79,10 +75,7 @@ beside_as : (w : WorldState) (q : Option CountedLink) (talk : Talk) (held : List
     → w.client.talk ≡ talk → w.held ≡ held → w.start ≡ start
     → record { pushed = w.pushed; talk = talk; held = held; start = start; link = q } ≡ beside w q
 beside_as w q talk held start a b c =
-    ap (λ (x : Talk). record { pushed = w.pushed; talk = x; held = held; start = start; link = q }) (sym a)
-    ∙ (ap (λ (x : Lists). record { pushed = w.pushed; talk = w.client.talk; held = x; start = start; link = q }) (sym b)
-    ∙ ap (λ (x : Numbers). record { pushed = w.pushed; talk = w.client.talk; held = w.held; start = x; link = q })
-    (sym c))
+    λ i. record { pushed = w.pushed; talk = sym a i; held = sym b i; start = sym c i; link = q }
 
 module _ (setup : Setup) (differ : Differ setup.places.items) (codes : (k : ℕ) (p : Fields × Option ℕ)
     → slice_get setup.places.items k ≡ Some p → IsField 5 p.0.station × IsField 2 p.0.network) where
@@ -128,24 +121,18 @@ module _ (setup : Setup) (differ : Differ setup.places.items) (codes : (k : ℕ)
       → w.windows ≡ shown_all setup places w.pushed → IsWorld (counted_step setup (beside w q) Connect) v
   connect_world w v q some c t windows =
       let talk : Talk = w.client.talk in
-      let p : (p : Fields × Option ℕ) × (slice_get places 0 ≡ Some p) = within_is places 0 some in
-      let first : (x : Wanted) × (want_at talk.wants 0 ≡ Some x) × (p.0.0 ≡ x.place) =
-      also_at (λ (x : Fields × Option ℕ). x.0) (λ (x : Wanted). x.place) (slice_get places 0)
-      (want_at talk.wants 0) p.0 (sym (t.called.alike 0)) p.1 in
-      let fields : IsField 5 first.0.place.station × IsField 2 first.0.place.network =
-      subst (λ (f : Fields). IsField 5 f.station × IsField 2 f.network) first.2 (codes 0 p.0 p.1) in
-      let says : says_place 0 talk ≡ to_place (Some first.0) 0 talk =
-      ap (λ (o : Option Wanted). to_place o 0 talk) first.1 in
-      let client : Listening = record { talk = record talk { stage = Station 0 }; kept = [] } in
+      let opens : Opens places talk c.session = opens_with places differ codes talk c.session some t.called
+      c.is_new.state in
       let state : c.session.state ≡ at Fresh (replicate 16 None) = c.is_new.state in
-      let bytes : List ℕ = request_bytes (requests.Station first.0.place) in
+      let bytes : List ℕ = request_bytes (requests.Station opens.want.place) in
       let link : LinkState = record {
         session = c.session;
         first_sent = replicate 16 None;
         to_server = bytes;
         to_client = [];
       } in
-      let counts : Counts places client (new_link bytes) link = record {
+      let counts : Counts places (record { talk = record talk { stage = Station 0 }; kept = [] }) (new_link bytes) link =
+      record {
         session = state;
         first_sent = refl;
         to_server = refl;
@@ -153,44 +140,18 @@ module _ (setup : Setup) (differ : Differ setup.places.items) (codes : (k : ℕ)
         taken_few = omega arith;
         delivered_few = omega arith;
         held = λ _. c.is_new.held;
-        linked = λ _. record {
-          flows = record {
-            flow = refl;
-            borne = tt;
-            suited = λ k. subst (λ (o : Option Grant). IsSuited (next_at talk.wants k) o [])
-                (sym (ap (λ (s : State). grant_at s.grants k) state ∙ none_granted places 0 16 k)) refl;
-          };
-          shakes = asks_place 0 first.0 refl first.1 (inl (refl, ap (λ (s : State). s.phase) state))
-              (begins_asking (request_line (requests.Station first.0.place))
-              (station_line first.0.place fields.0 fields.1)) refl;
-          ends = tt;
-        };
+        linked = λ _. record { flows = opens.flows; shakes = opens.shakes; ends = tt };
         quiet = λ over. absurd (over tt);
         over = λ shut. absurd (let bad : Fresh ≡ Closed = sym (ap (λ (s : State). s.phase) state) ∙ shut in cc bad);
       } in
       let done : IsWorld (record (beside w q) {
-        talk = (to_place (Some first.0) 0 talk).0;
-        link = Some (new_link (written (to_place (Some first.0) 0 talk).1));
-      }) (record w {
-        client = record { talk = (to_place (Some first.0) 0 talk).0; kept = [] };
-        link = Some (record {
-          session = c.session;
-          first_sent = replicate 16 None;
-          to_server = written (to_place (Some first.0) 0 talk).1;
-          to_client = [];
-        });
-      }) = record { link = Some (new_link bytes); is = refl; windows = windows; counts = counts } in
+        talk = (to_place (Some opens.want) 0 talk).0;
+        link = Some (new_link (written (to_place (Some opens.want) 0 talk).1));
+      }) (linked_anew w c.session (to_place (Some opens.want) 0 talk)) =
+      record { link = Some (new_link bytes); is = refl; windows = windows; counts = counts } in
       subst (IsWorld (counted_step setup (beside w q) Connect)) (sym c.becomes)
       (subst (λ (x : Talk × Event). IsWorld (record (beside w q) { talk = x.0; link = Some (new_link (written x.1)) })
-      (record w {
-        client = record { talk = x.0; kept = [] };
-        link = Some (record {
-          session = c.session;
-          first_sent = replicate 16 None;
-          to_server = written x.1;
-          to_client = [];
-        });
-      })) (sym says) done)
+      (linked_anew w c.session x)) (sym opens.says) done)
 
   -- ToServer
   served_links : (w : WorldState) (n : ℕ) (q : Option CountedLink) (o p : Option LinkState) → Talks w

@@ -1,10 +1,11 @@
 -- The first packet of a place on its way is that of the record behind the last one held.
-use Rattle.std.proofs.Common.{◌≡◌, ℕ, ◌+◌, ◌-◌, ◌%◌, ◌^◌, ◌<◌, inl, inr, refl, sym, ap, subst, ◌∙◌, arith, List, []}
+use Rattle.std.proofs.Common.{◌≡◌, ℕ, ◌+◌, ◌-◌, ◌*◌, ◌%◌, ◌^◌, ◌<◌, inl, inr, refl, sym, ap, subst, ◌∙◌, arith, List, []}
 use Rattle.std.proofs.Common.{◌∷◌, ◌++◌, length, length-append, append_assoc, get_or, drop, Option, Some, None}
 use Rattle.std.proofs.Common.{slice_get}
 use Rattle.std.proofs.lemmas.Bool.{cases_lt}
 use Rattle.slink_wire.specs.Packet.{IsPacket, packet_bytes}
 use Rattle.slink_wire.specs.Place.{Bears, Fields, IsField}
+use Rattle.slink_wire.proofs.Bearing.{one_place}
 use Rattle.slink_wire.proofs.Packets.{one_packet, read_back}
 use Rattle.slink_feed.specs.declared.grant.Grant.{Grant}
 use Rattle.slink_model.specs.declared.world.Setup.{Setup}
@@ -22,10 +23,9 @@ use Rattle.slink_model.proofs.Following.{get_within, near_alike}
 use Rattle.slink_model.proofs.Items.{carried_here, carried_there}
 use Rattle.slink_feed.proofs.Items.{same_or_not, within_is}
 use Rattle.slink_model.proofs.Linked.{any}
-use Rattle.slink_model.proofs.Outcomes.{no_byte, one_byte, packet_length, same_cut}
+use Rattle.slink_model.proofs.Outcomes.{packet_length, same_cut}
 use Rattle.slink_model.proofs.Shaking.{AreBorne, IsBorne, IsSuited, LinkTalks}
 use Rattle.slink_model.proofs.Sparing.{IsTalking, WorldTalks, talks_after}
-use Rattle.slink_model.proofs.Taken.{one_place}
 use Rattle.slink_model.proofs.Worlds.{last_lacks, ties_after}
 
 module _ (places : Places) (differ : Differ places) where
@@ -61,100 +61,54 @@ module _ (places : Places) (differ : Differ places) where
       ∙ (ap (λ n. length (carried_of j (Carried kb nb rb)) + n) (more cut.1)
       ∙ sym (length-append (carried_of j (Carried kb nb rb)) (of_place j ys))))
 
+  -- what the bytes of an item begin with tells it from the others
+  abbrev mark : Item → ℕ
+  mark Accepted = 20299
+  mark Refused = 17746
+  mark Greeted = 21349
+  mark (Carried k n r) = 21324
+  mark Finished = 17742
+
+  abbrev mark_in : List ℕ → ℕ
+  mark_in bytes = 256 * get_or bytes 0 0 + get_or bytes 1 0
+
+  marked : (i : Item) (is : List Item) → mark_in (way_bytes (i ∷ is)) ≡ mark i
+  marked Accepted is = refl
+  marked Refused is = refl
+  marked Greeted is = refl
+  marked (Carried k n r) is = refl
+  marked Finished is = refl
+
+  some_mark : (i : Item) → 0 < mark i
+  some_mark Accepted = omega arith
+  some_mark Refused = omega arith
+  some_mark Greeted = omega arith
+  some_mark (Carried k n r) = omega arith
+  some_mark Finished = omega arith
+
+  first_many : (x y : Item) (xs ys : List Item) → IsBorne places x → IsBorne places y → mark x ≡ mark y
+      → way_bytes (x ∷ xs) ≡ way_bytes (y ∷ ys) → (j : ℕ)
+      → (way_bytes xs ≡ way_bytes ys → length (of_place j xs) ≡ length (of_place j ys))
+      → length (of_place j (x ∷ xs)) ≡ length (of_place j (y ∷ ys))
+  first_many Accepted Accepted xs ys p q same e j more = more (ap (drop 4) e)
+  first_many Refused Refused xs ys p q same e j more = more (ap (drop 7) e)
+  first_many Greeted Greeted xs ys p q same e j more = more (ap (drop 35) e)
+  first_many (Carried ka na ra) (Carried kb nb rb) xs ys p q same e j more =
+      carried_many xs ys ka na ra kb nb rb p q e j more
+  first_many Finished Finished xs ys p q same e j more = more (ap (drop 3) e)
+  first_many x y xs ys p q same e j more = absurd (omega (arith, same))
+
   -- the same bytes carry as many records of each place
   same_many : (xs ys : List Item) → AreBorne places xs → AreBorne places ys → way_bytes xs ≡ way_bytes ys → (j : ℕ)
       → length (of_place j xs) ≡ length (of_place j ys)
   same_many [] [] p q e j = refl
-  same_many [] (Accepted ∷ ys) p q e j = absurd (no_byte (way_bytes (Accepted ∷ ys)) [] 0 79 (sym e) refl refl)
-  same_many [] (Refused ∷ ys) p q e j = absurd (no_byte (way_bytes (Refused ∷ ys)) [] 0 69 (sym e) refl refl)
-  same_many [] (Greeted ∷ ys) p q e j = absurd (no_byte (way_bytes (Greeted ∷ ys)) [] 0 83 (sym e) refl refl)
-  same_many [] (Carried ka na ra ∷ ys) p q e j =
-      absurd (no_byte (way_bytes (Carried ka na ra ∷ ys)) [] 0 83 (sym e) refl refl)
-  same_many [] (Finished ∷ ys) p q e j = absurd (no_byte (way_bytes (Finished ∷ ys)) [] 0 69 (sym e) refl refl)
-  same_many (Accepted ∷ xs) [] p q e j = absurd (no_byte (way_bytes (Accepted ∷ xs)) [] 0 79 e refl refl)
-  same_many (Accepted ∷ xs) (Accepted ∷ ys) p q e j = same_many xs ys p.1 q.1 (ap (drop 4) e) j
-  same_many (Accepted ∷ xs) (Refused ∷ ys) p q e j =
-      absurd (omega (arith, one_byte (way_bytes (Accepted ∷ xs)) (way_bytes (Refused ∷ ys)) 0 79 69 e refl refl))
-  same_many (Accepted ∷ xs) (Greeted ∷ ys) p q e j =
-      absurd (omega (arith, one_byte (way_bytes (Accepted ∷ xs)) (way_bytes (Greeted ∷ ys)) 0 79 83 e refl refl))
-  same_many (Accepted ∷ xs) (Carried kb nb rb ∷ ys) p q e j =
-      absurd (omega (
-        arith,
-        one_byte (way_bytes (Accepted ∷ xs)) (way_bytes (Carried kb nb rb ∷ ys)) 0 79 83 e refl
-            refl,
-      ))
-  same_many (Accepted ∷ xs) (Finished ∷ ys) p q e j =
-      absurd (omega (arith, one_byte (way_bytes (Accepted ∷ xs)) (way_bytes (Finished ∷ ys)) 0 79 69 e refl refl))
-  same_many (Refused ∷ xs) [] p q e j = absurd (no_byte (way_bytes (Refused ∷ xs)) [] 0 69 e refl refl)
-  same_many (Refused ∷ xs) (Accepted ∷ ys) p q e j =
-      absurd (omega (arith, one_byte (way_bytes (Refused ∷ xs)) (way_bytes (Accepted ∷ ys)) 0 69 79 e refl refl))
-  same_many (Refused ∷ xs) (Refused ∷ ys) p q e j = same_many xs ys p.1 q.1 (ap (drop 7) e) j
-  same_many (Refused ∷ xs) (Greeted ∷ ys) p q e j =
-      absurd (omega (arith, one_byte (way_bytes (Refused ∷ xs)) (way_bytes (Greeted ∷ ys)) 0 69 83 e refl refl))
-  same_many (Refused ∷ xs) (Carried kb nb rb ∷ ys) p q e j =
-      absurd (omega (
-        arith,
-        one_byte (way_bytes (Refused ∷ xs)) (way_bytes (Carried kb nb rb ∷ ys)) 0 69 83 e refl
-            refl,
-      ))
-  same_many (Refused ∷ xs) (Finished ∷ ys) p q e j =
-      absurd (omega (arith, one_byte (way_bytes (Refused ∷ xs)) (way_bytes (Finished ∷ ys)) 1 82 78 e refl refl))
-  same_many (Greeted ∷ xs) [] p q e j = absurd (no_byte (way_bytes (Greeted ∷ xs)) [] 0 83 e refl refl)
-  same_many (Greeted ∷ xs) (Accepted ∷ ys) p q e j =
-      absurd (omega (arith, one_byte (way_bytes (Greeted ∷ xs)) (way_bytes (Accepted ∷ ys)) 0 83 79 e refl refl))
-  same_many (Greeted ∷ xs) (Refused ∷ ys) p q e j =
-      absurd (omega (arith, one_byte (way_bytes (Greeted ∷ xs)) (way_bytes (Refused ∷ ys)) 0 83 69 e refl refl))
-  same_many (Greeted ∷ xs) (Greeted ∷ ys) p q e j = same_many xs ys p.1 q.1 (ap (drop 35) e) j
-  same_many (Greeted ∷ xs) (Carried kb nb rb ∷ ys) p q e j =
-      absurd (omega (
-        arith,
-        one_byte (way_bytes (Greeted ∷ xs)) (way_bytes (Carried kb nb rb ∷ ys)) 1 101 76 e refl
-            refl,
-      ))
-  same_many (Greeted ∷ xs) (Finished ∷ ys) p q e j =
-      absurd (omega (arith, one_byte (way_bytes (Greeted ∷ xs)) (way_bytes (Finished ∷ ys)) 0 83 69 e refl refl))
-  same_many (Carried ka na ra ∷ xs) [] p q e j =
-      absurd (no_byte (way_bytes (Carried ka na ra ∷ xs)) [] 0 83 e refl refl)
-  same_many (Carried ka na ra ∷ xs) (Accepted ∷ ys) p q e j =
-      absurd (omega (
-        arith,
-        one_byte (way_bytes (Carried ka na ra ∷ xs)) (way_bytes (Accepted ∷ ys)) 0 83 79 e refl
-            refl,
-      ))
-  same_many (Carried ka na ra ∷ xs) (Refused ∷ ys) p q e j =
-      absurd (omega (
-        arith,
-        one_byte (way_bytes (Carried ka na ra ∷ xs)) (way_bytes (Refused ∷ ys)) 0 83 69 e refl
-            refl,
-      ))
-  same_many (Carried ka na ra ∷ xs) (Greeted ∷ ys) p q e j =
-      absurd (omega (
-        arith,
-        one_byte (way_bytes (Carried ka na ra ∷ xs)) (way_bytes (Greeted ∷ ys)) 1 76 101 e refl
-            refl,
-      ))
-  same_many (Carried ka na ra ∷ xs) (Carried kb nb rb ∷ ys) p q e j =
-      carried_many xs ys ka na ra kb nb rb p.0 q.0 e j (λ f. same_many xs ys p.1 q.1 f j)
-  same_many (Carried ka na ra ∷ xs) (Finished ∷ ys) p q e j =
-      absurd (omega (
-        arith,
-        one_byte (way_bytes (Carried ka na ra ∷ xs)) (way_bytes (Finished ∷ ys)) 0 83 69 e refl
-            refl,
-      ))
-  same_many (Finished ∷ xs) [] p q e j = absurd (no_byte (way_bytes (Finished ∷ xs)) [] 0 69 e refl refl)
-  same_many (Finished ∷ xs) (Accepted ∷ ys) p q e j =
-      absurd (omega (arith, one_byte (way_bytes (Finished ∷ xs)) (way_bytes (Accepted ∷ ys)) 0 69 79 e refl refl))
-  same_many (Finished ∷ xs) (Refused ∷ ys) p q e j =
-      absurd (omega (arith, one_byte (way_bytes (Finished ∷ xs)) (way_bytes (Refused ∷ ys)) 1 78 82 e refl refl))
-  same_many (Finished ∷ xs) (Greeted ∷ ys) p q e j =
-      absurd (omega (arith, one_byte (way_bytes (Finished ∷ xs)) (way_bytes (Greeted ∷ ys)) 0 69 83 e refl refl))
-  same_many (Finished ∷ xs) (Carried kb nb rb ∷ ys) p q e j =
-      absurd (omega (
-        arith,
-        one_byte (way_bytes (Finished ∷ xs)) (way_bytes (Carried kb nb rb ∷ ys)) 0 69 83 e refl
-            refl,
-      ))
-  same_many (Finished ∷ xs) (Finished ∷ ys) p q e j = same_many xs ys p.1 q.1 (ap (drop 3) e) j
+  same_many [] (y ∷ ys) p q e j =
+      let none : 0 ≡ mark y = ap mark_in e ∙ marked y ys in absurd (omega (arith, none, some_mark y))
+  same_many (x ∷ xs) [] p q e j =
+      let none : mark x ≡ 0 = sym (marked x xs) ∙ ap mark_in e in absurd (omega (arith, none, some_mark x))
+  same_many (x ∷ xs) (y ∷ ys) p q e j =
+      first_many x y xs ys p.0 q.0 (sym (marked x xs) ∙ (ap mark_in e ∙ marked y ys)) e j
+      (λ f. same_many xs ys p.1 q.1 f j)
 
   -- what is carried was pushed, and so bears its place
   each_borne : (items : List Item) → AreWhole items → ((k n : ℕ) (r : List ℕ) (prefix back : List (ℕ × List ℕ))

@@ -1,6 +1,6 @@
 -- The steps of a schedule lead to one world.
 use Rattle.std.proofs.Common.{◌≡◌, ℕ, ◌<◌, ◌⊎◌, inl, inr, refl, sym, ap, subst, ◌∙◌, List, [], ◌∷◌, ◌++◌, append-nil}
-use Rattle.std.proofs.Common.{append_assoc, length, replicate, take, drop, take-append-drop, Option, Some, None}
+use Rattle.std.proofs.Common.{append_assoc, length, take, drop, take-append-drop, Option, Some, None}
 use Rattle.std.proofs.Common.{slice_get}
 use Rattle.slink_wire.specs.declared.reply.Reply.{Reply}
 use Rattle.slink_wire.specs.Lines.{IsHeld}
@@ -28,7 +28,7 @@ use Rattle.slink_model.specs.Ties.{Places}
 use Rattle.slink_feed.specs.Window.{Window}
 use Rattle.slink_model.specs.World.{AllHappen, Both, Connects, Delivers, Differ, Happens, Reads, IsRead, IsServed}
 use Rattle.slink_model.specs.World.{LinkState, Numbers, Taking, WorldState, none_read, noted, opening, piece_read}
-use Rattle.slink_model.specs.World.{piece_lost, pushed_to, written, taking}
+use Rattle.slink_model.specs.World.{piece_lost, pushed_to, taking}
 use Rattle.slink_model.proofs.Answering.{Comes, IsOn, IsPending, called_on, it_came, not_both, not_yet, quiet_on}
 use Rattle.slink_feed.proofs.Closing.{Open, open_or, shut_on, held_same, standings_same}
 use Rattle.slink_model.proofs.Calling.{pending_or}
@@ -36,7 +36,7 @@ use Rattle.slink_feed.proofs.Received.{begun_after, begun_none}
 use Rattle.slink_model.proofs.Lined.{IsAnswered}
 use Rattle.slink_feed.proofs.OneReading.{IsRest, one_brought, seen_same}
 use Rattle.slink_model.proofs.Shaking.{IsQuiet, LinkTalks}
-use Rattle.slink_model.proofs.Sparing.{IsTalking, WorldTalks, opening_talks, step_talks}
+use Rattle.slink_model.proofs.Sparing.{IsTalking, WorldTalks, linked_anew, opening_talks, step_talks}
 use Rattle.slink_model.proofs.Taken.{same_client}
 use Rattle.slink_model.proofs.Worlds.{AreOf, each_of}
 
@@ -290,31 +290,7 @@ linked_or (Ended ending) = inr (λ l. l)
 
 links_same : (a b : LinkState) → a.session ≡ b.session → a.first_sent ≡ b.first_sent → a.to_server ≡ b.to_server
     → a.to_client ≡ b.to_client → a ≡ b
-links_same a b p q r s =
-    ap (λ (x : Standing). record {
-      session = x;
-      first_sent = a.first_sent;
-      to_server = a.to_server;
-      to_client = a.to_client;
-    }) p
-    ∙ (ap (λ (x : Numbers). record {
-      session = b.session;
-      first_sent = x;
-      to_server = a.to_server;
-      to_client = a.to_client;
-    }) q
-    ∙ (ap (λ (x : List ℕ). record {
-      session = b.session;
-      first_sent = b.first_sent;
-      to_server = x;
-      to_client = a.to_client;
-    }) r
-    ∙ ap (λ (x : List ℕ). record {
-      session = b.session;
-      first_sent = b.first_sent;
-      to_server = b.to_server;
-      to_client = x;
-    }) s))
+links_same a b p q r s = λ i. record { session = p i; first_sent = q i; to_server = r i; to_client = s i }
 
 -- what a client keeps is begun
 abbrev pub Keeps : WorldState → Type 0
@@ -362,54 +338,7 @@ module _ (places : Places) (differ : Differ places) (codes : (k : ℕ) (p : Fiel
   worlds_same : (a b : WorldState) → a.windows ≡ b.windows → a.pushed ≡ b.pushed → a.client ≡ b.client
       → a.held ≡ b.held → a.start ≡ b.start → a.link ≡ b.link → a ≡ b
   worlds_same a b p q r s u v =
-      ap (λ x. record {
-        windows = x;
-        pushed = a.pushed;
-        client = a.client;
-        held = a.held;
-        start = a.start;
-        link = a.link;
-      }) p
-      ∙ (ap (λ x. record {
-        windows = b.windows;
-        pushed = x;
-        client = a.client;
-        held = a.held;
-        start = a.start;
-        link = a.link;
-      }) q
-      ∙ (ap (λ x. record {
-        windows = b.windows;
-        pushed = b.pushed;
-        client = x;
-        held = a.held;
-        start = a.start;
-        link = a.link;
-      }) r
-      ∙ (ap (λ x. record {
-        windows = b.windows;
-        pushed = b.pushed;
-        client = b.client;
-        held = x;
-        start = a.start;
-        link = a.link;
-      }) s
-      ∙ (ap (λ x. record {
-        windows = b.windows;
-        pushed = b.pushed;
-        client = b.client;
-        held = b.held;
-        start = x;
-        link = a.link;
-      }) u
-      ∙ ap (λ x. record {
-        windows = b.windows;
-        pushed = b.pushed;
-        client = b.client;
-        held = b.held;
-        start = b.start;
-        link = x;
-      }) v))))
+      λ i. record { windows = p i; pushed = q i; client = r i; held = s i; start = u i; link = v i }
 
   read_once : (n : ℕ) (a b : WorldState) (l x y : LinkState) → Delivers n w a → Delivers n w b → a.link ≡ Some x
       → b.link ≡ Some y → IsRead n w a l x → IsRead n w b l y → a ≡ b
@@ -435,15 +364,7 @@ module _ (places : Places) (differ : Differ places) (codes : (k : ℕ) (p : Fiel
       let session : p.session ≡ q.session =
       standings_same p.session q.session (p.is_new.state ∙ sym q.is_new.state)
       (held_same p.session.held q.session.held [] p.is_new.held q.is_new.held) in
-      p.becomes ∙ (ap (λ (x : Standing). record w {
-        client = record { talk = (says_place 0 w.client.talk).0; kept = [] };
-        link = Some (record {
-          session = x;
-          first_sent = replicate 16 None;
-          to_server = written (says_place 0 w.client.talk).1;
-          to_client = [];
-        });
-      }) session ∙ sym q.becomes)
+      p.becomes ∙ (ap (λ (x : Standing). linked_anew w x (says_place 0 w.client.talk)) session ∙ sym q.becomes)
 
   pub step_once : (step : Step) (a b : WorldState) → Happens w step a → Happens w step b → a ≡ b
   step_once (Append k bytes) a b p q = p ∙ sym q

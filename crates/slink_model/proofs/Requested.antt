@@ -1,17 +1,15 @@
 -- The lines of requests, and what they command.
-use Rattle.std.proofs.Common.{◌≡◌, ℕ, ◌+◌, ◌/◌, ◌%◌, ◌<◌, ◌≤◌, inl, inr, zero, suc, refl, sym, ap, subst, ◌∙◌, arith}
-use Rattle.std.proofs.Common.{Bool, true, false, not, ◌==◌, ◌&&◌, List, [], ◌∷◌, ◌++◌, length, length-append, bytes_eq}
-use Rattle.std.proofs.Common.{codes, Option, Some, None, option_map, slice_get, if◌then◌else◌}
-use Rattle.std.specs.List.{list_all, position_from}
-use Rattle.std.proofs.lemmas.Bool.Decides.{eqb_tells}
-use Rattle.std.proofs.lemmas.List.Folds.{list_all-append}
+use Rattle.std.proofs.Common.{◌≡◌, ℕ, ◌+◌, ◌<◌, zero, suc, refl, sym, ap, subst, ◌∙◌, arith}
+use Rattle.std.proofs.Common.{Bool, true, false, ◌&&◌, List, [], ◌∷◌, bytes_eq}
+use Rattle.std.proofs.Common.{Option, Some, None, option_map, slice_get, if◌then◌else◌}
+use Rattle.std.specs.List.{position_from}
 use Rattle.std.proofs.lemmas.Slice.Eq.{bytes_eq-Decides}
 use Rattle.slink_wire.specs.declared.lines.What.TheVariants.{Line}
 use Rattle.slink_wire.specs.declared.reply.Reply.{Reply}
 use Rattle.slink_wire.specs.declared.request.Request.{Request}
 use Rattle.slink_wire.specs.declared.request.Request.TheVariants.{Station, End}
 use Rattle.slink_wire.specs.Command.{IsCommand, folded, words}
-use Rattle.slink_wire.specs.Place.{Fields, IsField, code_in, matches}
+use Rattle.slink_wire.specs.Place.{Fields, IsField, matches}
 use Rattle.slink_wire.specs.Request.{IsShort, request_line, requested}
 use Rattle.slink_wire.specs.Written.{IsLine}
 use Rattle.slink_wire.proofs.Cuts.{both}

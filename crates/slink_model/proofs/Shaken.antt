@@ -1,20 +1,18 @@
 -- A link after the bytes that its client takes.
 use Rattle.std.proofs.Common.{◌≡◌, ◌≢◌, ℕ, ◌+◌, ◌%◌, ◌^◌, ◌<◌, inl, inr, zero, suc, refl, sym, ap, subst, ◌∙◌, arith}
-use Rattle.std.proofs.Common.{true, false, not, ◌==◌, List, [], ◌∷◌, ◌++◌, append_assoc, length, codes, bytes_eq, set}
+use Rattle.std.proofs.Common.{true, false, not, ◌==◌, List, [], ◌∷◌, ◌++◌, append_assoc, length, codes, set}
 use Rattle.std.proofs.Common.{Option, Some, None, IfSome, option_map, slice_get, unwrap_or}
-use Rattle.std.specs.List.{list_all, position_from, slice_range}
+use Rattle.std.specs.List.{list_all, position_from}
 use Rattle.std.specs.Option.{option_and_then}
 use Rattle.std.proofs.lemmas.Bool.Decides.{eqb_tells}
 use Rattle.std.proofs.lemmas.Iterator.Adapters.{position_from-zero}
-use Rattle.std.proofs.lemmas.Slice.Eq.{bytes_eq-Decides}
 use Rattle.std.proofs.lemmas.List.{append_cancel_left}
 use Rattle.slink_wire.specs.declared.request.Request.{Request}
 use Rattle.slink_wire.specs.declared.request.Request.TheVariants as requests
 use Rattle.slink_wire.specs.Lines.{IsHeld}
-use Rattle.slink_wire.specs.Packet.{packet_bytes}
 use Rattle.slink_wire.specs.Place.{Bears, Fields, IsField}
-use Rattle.slink_wire.specs.Reply.{line_end}
 use Rattle.slink_wire.specs.Request.{request_bytes, request_line}
+use Rattle.slink_wire.proofs.Bearing.{bears_passes, one_place}
 use Rattle.slink_wire.proofs.Cuts.{Lacks, both}
 use Rattle.slink_wire.proofs.Packets.{read_back}
 use Rattle.slink_feed.specs.declared.dialogue.Ending.{Ending}
@@ -26,7 +24,7 @@ use Rattle.slink_feed.specs.declared.dialogue.Stage.TheVariants.{Station, Number
 use Rattle.slink_feed.specs.declared.dialogue.Wanted.{Wanted}
 use Rattle.slink_feed.specs.declared.grant.Grant.{Grant}
 use Rattle.slink_feed.specs.declared.session.Phase.TheVariants.{Chosen, Granted, Closed}
-use Rattle.slink_feed.specs.Cutting.{IsWhole, LacksEnd}
+use Rattle.slink_feed.specs.Cutting.{IsReply, IsWhole, LacksEnd}
 use Rattle.slink_feed.specs.Dialogue.{Talk, Wants, Whole, Reply, Packet, End, at_packet, bearer, ended, event_of, read}
 use Rattle.slink_feed.specs.Dialogue.{read_at, is_borne, next_at, next_set, numbered, says_number, says_place}
 use Rattle.slink_feed.specs.Dialogue.{to_place, reported, want_at, with_next}
@@ -34,7 +32,8 @@ use Rattle.slink_feed.specs.Listening.{Brings, IsLinked, Listening, begun, whole
 use Rattle.slink_feed.specs.Serving.{Standing}
 use Rattle.slink_feed.specs.Session.{IsBefore, grant_at}
 use Rattle.slink_model.specs.Spared.{IsFair, IsSpared}
-use Rattle.slink_model.specs.Ties.{Item, Accepted, Refused, Greeted, Carried, Finished, Places, of_place, way_bytes}
+use Rattle.slink_model.specs.Ties.{Item, Accepted, Refused, Greeted, Carried, Finished, Places, item_bytes, of_place}
+use Rattle.slink_model.specs.Ties.{way_bytes}
 use Rattle.slink_model.specs.World.{Differ, Reads, Numbers, Taking, none_read, noted, piece_read, piece_lost}
 use Rattle.slink_feed.proofs.Prefixed.{wanted_reported}
 use Rattle.slink_feed.proofs.Received.{begun_none}
@@ -45,10 +44,10 @@ use Rattle.slink_model.proofs.Lined.{IsAnswered, asks_more}
 use Rattle.slink_feed.proofs.OneReading.{one_prefix, seen_same}
 use Rattle.slink_model.proofs.Outcomes.{packet_length}
 use Rattle.slink_wire.proofs.RequestLines.{end_line, station_line}
-use Rattle.slink_model.proofs.Requested.{also_at, both_pass, by_cases, first_found, number_line}
+use Rattle.slink_model.proofs.Requested.{also_at, by_cases, first_found, number_line}
 use Rattle.slink_model.proofs.Shaking.{AreCalled, AreBorne, AreSent, Flows, IsQuiet, IsSuited, LinkTalks, Shakes}
 use Rattle.slink_model.proofs.Shaking.{asks_end, asks_number, asks_place, has_none, has_number, has_place, streams}
-use Rattle.slink_model.proofs.Taken.{borne_is, one_place, same_client}
+use Rattle.slink_model.proofs.Taken.{borne_is, same_client}
 use Rattle.slink_feed.proofs.Wholes.{begun_no_whole, one_whole}
 
 lacks_byte : (bytes : List ℕ) (j : ℕ) → Lacks 10 bytes → slice_get bytes j ≡ Some 10 → ⊥
@@ -76,6 +75,26 @@ the_whole stage b a left rest w v p q e =
       one_whole stage a w v (subst (λ (x : List ℕ). IsWhole stage x w) same p) q,
       append_cancel_left a left rest (ap (λ x. x ++ left) (sym same) ∙ e),
     )
+
+-- what stands first on the way is what a client reads
+first_read : (stage : Stage) (client : Listening) (bytes left : List ℕ) (w v : Whole) (i : Item) (is : List Item)
+    (x : Talk × Event) → client.talk.stage ≡ stage → client.kept ++ (bytes ++ left) ≡ way_bytes (i ∷ is)
+    → IsWhole stage (item_bytes i) v → IsWhole client.talk.stage (client.kept ++ bytes) w → read client.talk w ≡ x
+    → (read_at stage client.talk v ≡ x) × (left ≡ way_bytes is)
+first_read stage client bytes left w v i is x at flow stands here h =
+    let the : (w ≡ v) × (left ≡ way_bytes is) =
+    the_whole stage (client.kept ++ bytes) (item_bytes i) left (way_bytes is) w v
+    (subst (λ (s : Stage). IsWhole s (client.kept ++ bytes) w) at here) stands
+    (append_assoc client.kept bytes left ∙ flow) in (
+      sym (ap (λ (s : Stage). read_at s client.talk v) at) ∙ (ap (read client.talk) (sym the.0) ∙ h),
+      the.1,
+    )
+
+accepted_whole : IsReply (item_bytes Accepted) (codes "OK")
+accepted_whole = (refl, lacks_end (codes "OK" ++ 13 ∷ []) refl, omega arith)
+
+refused_whole : IsReply (item_bytes Refused) (codes "ERROR")
+refused_whole = (refl, lacks_end (codes "ERROR" ++ 13 ∷ []) refl, omega arith)
 
 no_whole : (stage : Stage) (b left : List ℕ) (w : Whole) → b ++ left ≡ [] → IsWhole stage b w → ⊥
 no_whole stage b left w e is =
@@ -118,11 +137,7 @@ module _ (places : Places) (differ : Differ places) (codes_are : (k : ℕ) (p : 
       also_at (λ (q : Fields × Option ℕ). q.0) (λ (w : Wanted). w.place) (slice_get places k) (want_at wants k) p
       (sym (called.alike k)) here in
       let borne : Bears r at_k.0.place = subst (Bears r) at_k.2 bears in
-      let passes : is_borne r (Some at_k.0) ≡ true =
-      both_pass (bytes_eq (slice_range r 8 13) at_k.0.place.station)
-      (bytes_eq (slice_range r 18 20) at_k.0.place.network)
-      ((bytes_eq-Decides (slice_range r 8 13) at_k.0.place.station).1 borne.0)
-      ((bytes_eq-Decides (slice_range r 18 20) at_k.0.place.network).1 borne.1) in
+      let passes : is_borne r (Some at_k.0) ≡ true = bears_passes at_k.0.place r borne in
       let first : position_from (is_borne r) 0 wants ≡ Some (0 + k) =
       first_found (is_borne r) 0 k wants (Some at_k.0) (want_slot (slice_get wants k) at_k.0 at_k.1) passes
       (λ j y lt at_j. by_cases (is_borne r y) (λ is.
@@ -252,20 +267,11 @@ module _ (places : Places) (differ : Differ places) (codes_are : (k : ℕ) (p : 
         → IsWhole t.client.talk.stage (t.client.kept ++ bytes) w → read t.client.talk w ≡ (new.talk, e)
         → new.kept ≡ [] → ClientTalks new (Way t new e) left
     place_talks t new bytes left e w k l called stage phase reported one is h none =
-        let flow : (t.client.kept ++ bytes) ++ left ≡ (codes "OK" ++ line_end) ++ [] =
-        append_assoc t.client.kept bytes left ∙ (l.flows.flow ∙ ap way_bytes one) in
-        let the : (w ≡ Reply (codes "OK")) × (left ≡ []) =
-        the_whole (Station k) (t.client.kept ++ bytes) (codes "OK" ++ line_end) left [] w (Reply (codes "OK"))
-        (subst (λ (s : Stage). IsWhole s (t.client.kept ++ bytes) w) stage is) (
-          refl,
-          lacks_end (codes "OK" ++ 13 ∷ []) refl,
-          omega arith,
-        ) flow in
-        let written : says_number k t.client.talk ≡ (new.talk, e) =
-        sym (ap (λ (s : Stage). read_at s t.client.talk (Reply (codes "OK"))) stage)
-        ∙ (ap (read t.client.talk) (sym the.0) ∙ h) in
+        let first : (says_number k t.client.talk ≡ (new.talk, e)) × (left ≡ []) =
+        first_read (Station k) t.client bytes left w (Reply (codes "OK")) Accepted [] (new.talk, e) stage
+        (l.flows.flow ∙ ap way_bytes one) accepted_whole is h in
         let request : Request = numbered t.client.talk.mode (next_at t.client.talk.wants k) in
-        written_talks t new (Number k) request e left l.taken written none the.1 tt tt called
+        written_talks t new (Number k) request e left l.taken first.0 none first.1 tt tt called
         (reply_suited t.client (bytes ++ left) l.items Accepted one (λ i. refl) l.flows) l.held
         (asks_number k refl phase
         (asks_more (request_line request) l.taken t.to_server
@@ -300,20 +306,11 @@ module _ (places : Places) (differ : Differ places) (codes_are : (k : ℕ) (p : 
         → IsWhole t.client.talk.stage (t.client.kept ++ bytes) w → read t.client.talk w ≡ (new.talk, e)
         → new.kept ≡ [] → ClientTalks new (Way t new e) left
     number_talks t new bytes left e w k l called stage phase reported one is h none =
-        let flow : (t.client.kept ++ bytes) ++ left ≡ (codes "OK" ++ line_end) ++ [] =
-        append_assoc t.client.kept bytes left ∙ (l.flows.flow ∙ ap way_bytes one) in
-        let the : (w ≡ Reply (codes "OK")) × (left ≡ []) =
-        the_whole (Number k) (t.client.kept ++ bytes) (codes "OK" ++ line_end) left [] w (Reply (codes "OK"))
-        (subst (λ (s : Stage). IsWhole s (t.client.kept ++ bytes) w) stage is) (
-          refl,
-          lacks_end (codes "OK" ++ 13 ∷ []) refl,
-          omega arith,
-        ) flow in
-        let written : says_place (k + 1) t.client.talk ≡ (new.talk, e) =
-        sym (ap (λ (s : Stage). read_at s t.client.talk (Reply (codes "OK"))) stage)
-        ∙ (ap (read t.client.talk) (sym the.0) ∙ h) in
-        next_talks t new left l.taken e k (want_at t.client.talk.wants (k + 1)) called phase reported refl written
-        none the.1
+        let first : (says_place (k + 1) t.client.talk ≡ (new.talk, e)) × (left ≡ []) =
+        first_read (Number k) t.client bytes left w (Reply (codes "OK")) Accepted [] (new.talk, e) stage
+        (l.flows.flow ∙ ap way_bytes one) accepted_whole is h in
+        next_talks t new left l.taken e k (want_at t.client.talk.wants (k + 1)) called phase reported refl first.0
+        none first.1
         (reply_suited t.client (bytes ++ left) l.items Accepted one (λ i. refl) l.flows) l.held
 
     -- and where by `ERROR`
@@ -324,21 +321,12 @@ module _ (places : Places) (differ : Differ places) (codes_are : (k : ℕ) (p : 
         → IsWhole t.client.talk.stage (t.client.kept ++ bytes) w → read t.client.talk w ≡ (new.talk, e)
         → ClientTalks new (Way t new e) left
     refused_talks t new bytes left e w k l called stage reported one is h =
-        let flow : (t.client.kept ++ bytes) ++ left ≡ (codes "ERROR" ++ line_end) ++ [] =
-        append_assoc t.client.kept bytes left ∙ (l.flows.flow ∙ ap way_bytes one) in
-        let the : (w ≡ Reply (codes "ERROR")) × (left ≡ []) =
-        the_whole (Number k) (t.client.kept ++ bytes) (codes "ERROR" ++ line_end) left [] w (Reply (codes "ERROR"))
-        (subst (λ (s : Stage). IsWhole s (t.client.kept ++ bytes) w) stage is) (
-          refl,
-          lacks_end (codes "ERROR" ++ 13 ∷ []) refl,
-          omega arith,
-        ) flow in
-        let written : ended (endings.Refused k) t.client.talk ≡ (new.talk, e) =
-        sym (ap (λ (s : Stage). read_at s t.client.talk (Reply (codes "ERROR"))) stage)
-        ∙ (ap (read t.client.talk) (sym the.0) ∙ h) in
+        let first : (ended (endings.Refused k) t.client.talk ≡ (new.talk, e)) × (left ≡ []) =
+        first_read (Number k) t.client bytes left w (Reply (codes "ERROR")) Refused [] (new.talk, e) stage
+        (l.flows.flow ∙ ap way_bytes one) refused_whole is h in
         ended_talks t.client.talk new (endings.Refused k) (Way t new e) left
-        (sym (ap (λ (p : Talk × Event). p.0) written)) tt called
-        (ended_quiet t new (endings.Refused k) e written (l.taken, λ awake. (l.held awake, reported)))
+        (sym (ap (λ (p : Talk × Event). p.0) first.0)) tt called
+        (ended_quiet t new (endings.Refused k) e first.0 (l.taken, λ awake. (l.held awake, reported)))
 
     -- a packet comes
     packet_talks : (t : Taking) (new : Listening) (bytes left : List ℕ) (e : Event) (w : Whole) (k n : ℕ) (r : List ℕ)
@@ -353,14 +341,10 @@ module _ (places : Places) (differ : Differ places) (codes_are : (k : ℕ) (p : 
         let x : ℕ = (m + 1) % 2 ^ 24 in
         let borne : ((p : Fields × Option ℕ) × (slice_get places k ≡ Some p) × (length r ≡ 512) × Bears r p.0)
         × AreBorne places rest = subst (AreBorne places) one l.flows.borne in
-        let flow : (t.client.kept ++ bytes) ++ left ≡ packet_bytes m r ++ way_bytes rest =
-        append_assoc t.client.kept bytes left ∙ (l.flows.flow ∙ ap way_bytes one) in
-        let the : (w ≡ Packet m r) × (left ≡ way_bytes rest) =
-        the_whole Packets (t.client.kept ++ bytes) (packet_bytes m r) left (way_bytes rest) w (Packet m r)
-        (subst (λ (s : Stage). IsWhole s (t.client.kept ++ bytes) w) stage is) (
-          read_back m r (omega arith),
-          packet_length m r borne.0.2,
-        ) flow in
+        let first : (at_packet (bearer t.client.talk.wants r) m r t.client.talk ≡ (new.talk, e))
+        × (left ≡ way_bytes rest) =
+        first_read Packets t.client bytes left w (Packet m r) (Carried k n r) rest (new.talk, e) stage
+        (l.flows.flow ∙ ap way_bytes one) (read_back m r (omega arith), packet_length m r borne.0.2) is h in
         let found : (bearer t.client.talk.wants r ≡ Some k) × (v : Wanted) × (want_at t.client.talk.wants k ≡ Some v) =
         bearer_found t.client.talk.wants k borne.0.0 r called borne.0.1 borne.0.3 in
         let of_k : of_place k l.items ≡ (n, r) ∷ of_place k rest = ap (of_place k) one
@@ -374,9 +358,7 @@ module _ (places : Places) (differ : Differ places) (codes_are : (k : ℕ) (p : 
         (some_if (next_at t.client.talk.wants k) m
         (suited_wanted (next_at t.client.talk.wants k) (grant_at session.state.grants k) n r (of_place k rest)
         suited_k)))
-        ∙ (sym (ap (λ (o : Option ℕ). at_packet o m r t.client.talk) found.0)
-        ∙ (sym (ap (λ (s : Stage). read_at s t.client.talk (Packet m r)) stage)
-        ∙ (ap (read t.client.talk) (sym the.0) ∙ h))) in
+        ∙ (sym (ap (λ (o : Option ℕ). at_packet o m r t.client.talk) found.0) ∙ first.0) in
         let talk : Talk = record t.client.talk { wants = with_next t.client.talk.wants k x } in
         let now : new ≡ record { talk = talk; kept = [] } =
         seen_as talk new (sym (ap (λ (p : Talk × Event). p.0) written)) none in
@@ -423,7 +405,7 @@ module _ (places : Places) (differ : Differ places) (codes_are : (k : ℕ) (p : 
         } in
         subst (λ b. ClientTalks new b left) (sym (ap (λ (y : Event). Way t new y) event))
         (subst (λ (c : Listening). ClientTalks c t.to_server left) (sym now)
-        (subst (ClientTalks (record { talk = talk; kept = [] }) t.to_server) (sym the.1) done))
+        (subst (ClientTalks (record { talk = talk; kept = [] }) t.to_server) (sym first.1) done))
 
     -- the end comes
     end_talks : (t : Taking) (new : Listening) (bytes left : List ℕ) (e : Event) (w : Whole) (rest : List Item)
@@ -433,15 +415,11 @@ module _ (places : Places) (differ : Differ places) (codes_are : (k : ℕ) (p : 
         → IsWhole t.client.talk.stage (t.client.kept ++ bytes) w → read t.client.talk w ≡ (new.talk, e)
         → ClientTalks new (Way t new e) left
     end_talks t new bytes left e w rest l called stage answered one is h =
-        let flow : (t.client.kept ++ bytes) ++ left ≡ codes "END" ++ way_bytes rest =
-        append_assoc t.client.kept bytes left ∙ (l.flows.flow ∙ ap way_bytes one) in
-        let the : (w ≡ End) × (left ≡ way_bytes rest) =
-        the_whole Packets (t.client.kept ++ bytes) (codes "END") left (way_bytes rest) w End
-        (subst (λ (s : Stage). IsWhole s (t.client.kept ++ bytes) w) stage is) refl flow in
-        let written : ended endings.End t.client.talk ≡ (new.talk, e) =
-        sym (ap (λ (s : Stage). read_at s t.client.talk End) stage) ∙ (ap (read t.client.talk) (sym the.0) ∙ h) in
-        ended_talks t.client.talk new endings.End (Way t new e) left (sym (ap (λ (p : Talk × Event). p.0) written)) tt
-        called (ended_quiet t new endings.End e written (l.taken, λ awake. (l.held awake, answered awake)))
+        let first : (ended endings.End t.client.talk ≡ (new.talk, e)) × (left ≡ way_bytes rest) =
+        first_read Packets t.client bytes left w End Finished rest (new.talk, e) stage
+        (l.flows.flow ∙ ap way_bytes one) refl is h in
+        ended_talks t.client.talk new endings.End (Way t new e) left (sym (ap (λ (p : Talk × Event). p.0) first.0)) tt
+        called (ended_quiet t new endings.End e first.0 (l.taken, λ awake. (l.held awake, answered awake)))
 
     nothing_talks : (t : Taking) (new : Listening) (bytes left way : List ℕ) (w : Whole)
         (l : LinkTalks places t.client session t.to_server (bytes ++ left)) → l.items ≡ []

@@ -1,5 +1,5 @@
 -- Each step keeps client and session in step, so that a client is reported no gap, and nothing that it can't read.
-use Rattle.std.proofs.Common.{◌≡◌, ◌≢◌, All, ℕ, ◌+◌, ◌-◌, ◌%◌, ◌^◌, ◌<◌, ◌≤◌, inl, inr, zero, suc, refl, sym, ap, subst}
+use Rattle.std.proofs.Common.{◌≡◌, ℕ, ◌+◌, ◌-◌, ◌%◌, ◌^◌, ◌<◌, inl, inr, zero, suc, refl, sym, ap, subst}
 use Rattle.std.proofs.Common.{◌∙◌, arith, Bool, true, false, ◌==◌, if◌then◌else◌, List, [], ◌∷◌, ◌++◌, append-nil}
 use Rattle.std.proofs.Common.{length, length-append, map, replicate, set, take, drop, take-append-drop, Option, Some}
 use Rattle.std.proofs.Common.{None, option_map, slice_get, codes}
@@ -37,7 +37,8 @@ use Rattle.slink_model.proofs.Lined.{IsAnswered, begins_asking}
 use Rattle.slink_wire.proofs.RequestLines.{station_line}
 use Rattle.slink_model.proofs.Requested.{also_at}
 use Rattle.slink_model.proofs.Shaken.{ClientTalks, reads_talks}
-use Rattle.slink_model.proofs.Shaking.{AreCalled, AreBorne, AreFrom, AreRinged, AreSent, IsSuited, IsQuiet, LinkTalks}
+use Rattle.slink_model.proofs.Shaking.{AreCalled, AreBorne, AreFrom, AreRinged, AreSent, Flows, IsSuited, IsQuiet}
+use Rattle.slink_model.proofs.Shaking.{LinkTalks}
 use Rattle.slink_model.proofs.Shaking.{Shakes, asks_end, asks_number, asks_place, has_none, has_number, has_place}
 use Rattle.slink_model.proofs.Shaking.{serves_talks, streams}
 use Rattle.slink_feed.proofs.Wanting.{short_all}
@@ -108,6 +109,21 @@ window_sound w n r sound is =
     got : (t : Bool) (o : Option (List ℕ)) → (if t then None else o) ≡ Some r → o ≡ Some r
     got true o h = absurd (let bad : None ≡ Some r = h in cc bad)
     got false o h = h
+
+-- a world whose client, over a new link, has said what it says first
+abbrev pub linked_anew : WorldState → Standing → Talk × Event → WorldState
+linked_anew w session x = record w {
+  client = record { talk = x.0; kept = [] };
+  link = Some (record { session = session; first_sent = replicate 16 None; to_server = written x.1; to_client = [] });
+}
+
+-- the place that a client requests first over a new link, and what the link carries then
+pub record Opens (places : Places) (talk : Talk) (session : Standing) : Type 0 where
+  pub want : Wanted
+  pub says : says_place 0 talk ≡ to_place (Some want) 0 talk
+  pub flows : Flows places (record { talk = record talk { stage = Station 0 }; kept = [] }) session.state.grants [] []
+  pub shakes : Shakes (record talk { stage = Station 0 }) session.state.phase []
+      (request_bytes (requests.Station want.place)) []
 
 module _ (places : Places) (differ : Differ places) (codes_are : (k : ℕ) (p : Fields × Option ℕ)
     → slice_get places k ≡ Some p → IsField 5 p.0.station × IsField 2 p.0.network) where
@@ -277,24 +293,18 @@ module _ (places : Places) (differ : Differ places) (codes_are : (k : ℕ) (p : 
       }
 
   -- Connect
-  connect_talks : (w v : WorldState) → 0 < length places → Connects w v → WorldTalks w → WorldTalks v
-  connect_talks w v some c t =
-      let talk : Talk = w.client.talk in
+  pub opens_with : (talk : Talk) (session : Standing) → 0 < length places → AreCalled places talk.wants
+      → session.state ≡ at Fresh (replicate 16 None) → Opens places talk session
+  opens_with talk session some called state =
       let p : (p : Fields × Option ℕ) × (slice_get places 0 ≡ Some p) = within_is places 0 some in
       let first : (x : Wanted) × (want_at talk.wants 0 ≡ Some x) × (p.0.0 ≡ x.place) =
       also_at (λ (x : Fields × Option ℕ). x.0) (λ (x : Wanted). x.place) (slice_get places 0)
-      (want_at talk.wants 0) p.0 (sym (t.called.alike 0)) p.1 in
+      (want_at talk.wants 0) p.0 (sym (called.alike 0)) p.1 in
       let fields : IsField 5 first.0.place.station × IsField 2 first.0.place.network =
       subst (λ (f : Fields). IsField 5 f.station × IsField 2 f.network) first.2 (codes_are 0 p.0 p.1) in
-      let says : says_place 0 talk ≡ to_place (Some first.0) 0 talk =
-      ap (λ (o : Option Wanted). to_place o 0 talk) first.1 in
-      let line : List ℕ = request_line (requests.Station first.0.place) in
-      let client : Listening = record { talk = record talk { stage = Station 0 }; kept = [] } in
-      let state : c.session.state ≡ at Fresh (replicate 16 None) = c.is_new.state in
-      let link : LinkTalks places client c.session (request_bytes (requests.Station first.0.place)) [] = record {
-        taken = [];
-        held = λ _. c.is_new.held;
-        items = [];
+      record {
+        want = first.0;
+        says = ap (λ (o : Option Wanted). to_place o 0 talk) first.1;
         flows = record {
           flow = refl;
           borne = tt;
@@ -302,32 +312,31 @@ module _ (places : Places) (differ : Differ places) (codes_are : (k : ℕ) (p : 
               (sym (ap (λ (s : State). grant_at s.grants k) state ∙ none_granted places 0 16 k)) refl;
         };
         shakes = asks_place 0 first.0 refl first.1 (inl (refl, ap (λ (s : State). s.phase) state))
-            (begins_asking line (station_line first.0.place fields.0 fields.1)) refl;
+            (begins_asking (request_line (requests.Station first.0.place))
+            (station_line first.0.place fields.0 fields.1)) refl;
+      }
+
+  connect_talks : (w v : WorldState) → 0 < length places → Connects w v → WorldTalks w → WorldTalks v
+  connect_talks w v some c t =
+      let talk : Talk = w.client.talk in
+      let opens : Opens places talk c.session = opens_with talk c.session some t.called c.is_new.state in
+      let link : LinkTalks places (record { talk = record talk { stage = Station 0 }; kept = [] }) c.session
+      (request_bytes (requests.Station opens.want.place)) [] = record {
+        taken = [];
+        held = λ _. c.is_new.held;
+        items = [];
+        flows = opens.flows;
+        shakes = opens.shakes;
       } in
-      let done : WorldTalks (record w {
-        client = record { talk = (to_place (Some first.0) 0 talk).0; kept = [] };
-        link = Some (record {
-          session = c.session;
-          first_sent = replicate 16 None;
-          to_server = written (to_place (Some first.0) 0 talk).1;
-          to_client = [];
-        });
-      }) = record { ringed = t.ringed; spared = tt; called = t.called; link = (λ _. link, λ over. absurd (over tt)) } in
-      subst WorldTalks (sym c.becomes) (subst (λ (x : Talk × Event). WorldTalks (record w {
-        client = record { talk = x.0; kept = [] };
-        link = Some (record {
-          session = c.session;
-          first_sent = replicate 16 None;
-          to_server = written x.1;
-          to_client = [];
-        });
-      })) (sym says) done)
+      let done : WorldTalks (linked_anew w c.session (to_place (Some opens.want) 0 talk)) =
+      record { ringed = t.ringed; spared = tt; called = t.called; link = (λ _. link, λ over. absurd (over tt)) } in
+      subst WorldTalks (sym c.becomes)
+      (subst (λ (x : Talk × Event). WorldTalks (linked_anew w c.session x)) (sym opens.says) done)
 
   -- a link that changes alone
   relinked : (w : WorldState) (o : Option LinkState) → WorldTalks w → IsTalking w.client o
       → WorldTalks (record w { link = o })
-  relinked w None t l = record { ringed = t.ringed; spared = t.spared; called = t.called; link = tt }
-  relinked w (Some m) t l = record { ringed = t.ringed; spared = t.spared; called = t.called; link = l }
+  relinked w o t l = record { ringed = t.ringed; spared = t.spared; called = t.called; link = l }
 
   -- ToServer
   served_talks : (w : WorldState) (n : ℕ) (o p : Option LinkState) → WorldTalks w → IsTalking w.client o

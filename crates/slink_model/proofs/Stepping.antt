@@ -1,6 +1,7 @@
 -- The rings of a world while steps happen.
 use Rattle.std.proofs.Common.{◌≡◌, ℕ, ◌+◌, ◌^◌, ◌<◌, ◌≤◌, inl, inr, zero, suc, refl, sym, ap, subst, ◌∙◌, arith, List}
 use Rattle.std.proofs.Common.{[], ◌∷◌, length, map, set, get_or, take, drop, Option, Some, None, IfSome, slice_get}
+use Rattle.std.proofs.lemmas.List.{length-map}
 use Rattle.slink_wire.specs.Place.{Fields, Bears}
 use Rattle.slink_model.specs.declared.world.Setup.{Setup}
 use Rattle.slink_model.specs.declared.world.Step.{Step}
@@ -9,24 +10,10 @@ use Rattle.slink_feed.specs.Rings.{HasPlace}
 use Rattle.slink_feed.specs.Session.{Fits, State}
 use Rattle.slink_model.specs.Running.{AreRings, IsPossible, IsServing}
 use Rattle.slink_feed.specs.Window.{Window, with_record}
+use Rattle.slink_feed.proofs.Items.{get_mapped, map_got}
 use Rattle.slink_model.specs.World.{AllHappen, Differ, Happens, IsOf, LinkState, WorldState, empty_window, pushed_to}
 
 module _ {X Y : Type 0} where
-  get_mapped : (f : X → Y) (xs : List X) (k : ℕ) (y : Y) → slice_get (map f xs) k ≡ Some y
-      → (x : X) × (slice_get xs k ≡ Some x) × (f x ≡ y)
-  get_mapped f [] k y is = absurd (let bad : None ≡ Some y = is in cc bad)
-  get_mapped f (x ∷ xs) zero y is = (x, refl, cc is)
-  get_mapped f (x ∷ xs) (suc k) y is = get_mapped f xs k y is
-
-  map_got : (f : X → Y) (xs : List X) (k : ℕ) (x : X) → slice_get xs k ≡ Some x → slice_get (map f xs) k ≡ Some (f x)
-  map_got f [] k x is = absurd (let bad : None ≡ Some x = is in cc bad)
-  map_got f (z ∷ xs) zero x is = let same : z ≡ x = cc is in ap (λ w. Some (f w)) same
-  map_got f (z ∷ xs) (suc k) x is = map_got f xs k x is
-
-  length_mapped : (f : X → Y) (xs : List X) → length (map f xs) ≡ length xs
-  length_mapped f [] = refl
-  length_mapped f (x ∷ xs) = ap suc (length_mapped f xs)
-
   -- what is written maps as what stood there
   set_alike : (f : X → Y) (xs : List X) (k : ℕ) (x z : X) → slice_get xs k ≡ Some x → f z ≡ f x
       → map f (set xs k z) ≡ map f xs
@@ -98,8 +85,8 @@ possible places bound feed (Append k bytes) rings small of =
     let near : at.0.next ≤ bound = rings.numbers k at.0 at.1 in
     (at.0, at.1, subst (Bears bytes) (sym at.2) of.2, omega (arith, near, small))
 possible places bound feed (Send k) rings small of =
-    let same : length feed ≡ length places = sym (length_mapped (λ (v : Window). v.place) feed)
-    ∙ (ap length rings.places_are ∙ length_mapped (λ (p : Fields × Option ℕ). p.0) places) in
+    let same : length feed ≡ length places = sym (length-map feed (λ (v : Window). v.place))
+    ∙ (ap length rings.places_are ∙ length-map places (λ (p : Fields × Option ℕ). p.0)) in
     omega (arith, of, same)
 possible places bound feed Connect rings small of = tt
 possible places bound feed (ToServer n) rings small of = tt

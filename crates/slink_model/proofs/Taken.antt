@@ -1,13 +1,13 @@
 -- A link after each piece that the client takes.
 use Rattle.std.proofs.Common.{◌≡◌, ◌≢◌, ℕ, ◌+◌, ◌-◌, ◌%◌, ◌^◌, ◌<◌, ◌≤◌, inl, inr, suc, refl, sym, ap, subst, ◌∙◌}
-use Rattle.std.proofs.Common.{arith, Bool, true, false, ◌&&◌, List, [], ◌∷◌, ◌++◌, append_assoc, length, length-set}
-use Rattle.std.proofs.Common.{set, get_or, Option, Some, None, slice_get, if◌then◌else◌, position, bytes_eq, unwrap_or}
+use Rattle.std.proofs.Common.{arith, Bool, true, false, List, [], ◌∷◌, ◌++◌, append_assoc, length, length-set}
+use Rattle.std.proofs.Common.{set, get_or, Option, Some, None, slice_get, if◌then◌else◌, position, unwrap_or}
 use Rattle.std.specs.Option.{option_and_then}
-use Rattle.std.specs.List.{position_from, slice_range}
+use Rattle.std.specs.List.{position_from}
 use Rattle.std.proofs.lemmas.Bool.{cases_lt}
 use Rattle.std.proofs.lemmas.Iterator.Adapters.{position_from-zero}
-use Rattle.std.proofs.lemmas.Slice.Eq.{bytes_eq-Decides}
 use Rattle.slink_wire.specs.Place.{Bears, Fields}
+use Rattle.slink_wire.proofs.Bearing.{one_place, passes_bears}
 use Rattle.slink_feed.specs.declared.dialogue.Event.{Event}
 use Rattle.slink_feed.specs.declared.dialogue.Event.TheVariants as events
 use Rattle.slink_feed.specs.declared.dialogue.Wanted.{Wanted}
@@ -58,29 +58,9 @@ module _ {X : Type 0} (p : X → Bool) where
       let e : j - 0 ≡ j = omega arith in
       (all.1, ap (slice_get xs) (sym e) ∙ all.2, all.3)
 
-both_true : (p q : Bool) → (p && q) ≡ true → (p ≡ true) × (q ≡ true)
-both_true true q h = (refl, h)
-both_true false q h = absurd (let bad : false ≡ true = h in cc bad)
-
 pub borne_is : (r : List ℕ) (o : Option Wanted) → is_borne r o ≡ true → (w : Wanted) × (o ≡ Some w) × Bears r w.place
 borne_is r None h = absurd (let bad : false ≡ true = h in cc bad)
-borne_is r (Some w) h =
-    let parts : (bytes_eq (slice_range r 8 13) w.place.station ≡ true)
-    × (bytes_eq (slice_range r 18 20) w.place.network ≡ true) =
-    both_true (bytes_eq (slice_range r 8 13) w.place.station) (bytes_eq (slice_range r 18 20) w.place.network) h in (
-      w,
-      refl,
-      (
-        (bytes_eq-Decides (slice_range r 8 13) w.place.station).0 parts.0,
-        (bytes_eq-Decides (slice_range r 18 20) w.place.network).0 parts.1,
-      ),
-    )
-
--- a record bears one place
-pub one_place : (r : List ℕ) (p q : Fields) → Bears r p → Bears r q → p ≡ q
-one_place r p q a b =
-    ap (λ s. record { station = s; network = p.network }) (sym a.0 ∙ b.0)
-    ∙ ap (λ n. record { station = q.station; network = n }) (sym a.1 ∙ b.1)
+borne_is r (Some w) h = (w, refl, passes_bears w.place r h)
 
 -- the place that bears a record
 bearer_is : (wants : Wants) (r : List ℕ) (j : ℕ) → bearer wants r ≡ Some j

@@ -152,33 +152,10 @@ module _ (places : Places) (first : ℕ) where
         link = pushed_link w k b windows w.link room t.link;
       })
 
-  -- Cut
-  cut_ties : (w : WorldState) → WorldTies places first w → WorldTies places first (record w { link = None })
-  cut_ties w t = record {
-    shown = t.shown;
-    sound = t.sound;
-    wanted = t.wanted;
-    plain = t.plain;
-    holds = t.holds;
-    want_first = t.want_first;
-    long = t.long;
-    link = tt;
-  }
-
   -- a link that changes alone
-  linked_ties : (w : WorldState) (o : Option LinkState) → WorldTies places first w → IsLinkTied places first w o
-      → WorldTies places first (record w { link = o })
-  linked_ties w None t l = record {
-    shown = t.shown;
-    sound = t.sound;
-    wanted = t.wanted;
-    plain = t.plain;
-    holds = t.holds;
-    want_first = t.want_first;
-    long = t.long;
-    link = tt;
-  }
-  linked_ties w (Some m) t l = record {
+  with_link : (w : WorldState) (o : Option LinkState) → WorldTies places first w
+      → IsLinkTied places first (record w { link = o }) o → WorldTies places first (record w { link = o })
+  with_link w o t l = record {
     shown = t.shown;
     sound = t.sound;
     wanted = t.wanted;
@@ -188,6 +165,11 @@ module _ (places : Places) (first : ℕ) where
     long = t.long;
     link = l;
   }
+
+  linked_ties : (w : WorldState) (o : Option LinkState) → WorldTies places first w → IsLinkTied places first w o
+      → WorldTies places first (record w { link = o })
+  linked_ties w None t l = with_link w None t tt
+  linked_ties w (Some m) t l = with_link w (Some m) t l
 
   -- Connect
   pub none_granted : (n k : ℕ) → grant_at (replicate n None) k ≡ None
@@ -364,7 +346,7 @@ module _ (places : Places) (first : ℕ) where
   step_ties w v (Send k) most differ of sound lacks h t =
       subst (WorldTies places first) (sym h) (linked_ties w (option_map (sent_on w.windows k) w.link) t
       (sent_tied w k w.link most of t t.link))
-  step_ties w v Cut most differ of sound lacks h t = subst (WorldTies places first) (sym h) (cut_ties w t)
+  step_ties w v Cut most differ of sound lacks h t = subst (WorldTies places first) (sym h) (with_link w None t tt)
 
   pub all_ties : (steps : List Step) (w v : WorldState) (run : AllHappen w steps v) → length places ≤ 16
       → Differ places → AreOf places steps → LackFew first w steps v run → WorldTies places first w

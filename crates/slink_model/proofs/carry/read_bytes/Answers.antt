@@ -1,5 +1,5 @@
 use Rattle.std.proofs.Common.{◌≡◌, ◌∙◌, ap, sym, subst, arith, ◌+◌, ◌++◌, drop, take}
-use Rattle.slink_model.specs.World.{Reads, Taking, lists_of}
+use Rattle.slink_model.specs.World.{Reads, Taking, lists_of, with_client}
 use Rattle.slink_model.proofs.Pieces.{at_offset, reads_all, rest_lost}
 use Rattle.slink_feed.proofs.Prefixes.{from_offset}
 use Rattle.slink_model.proofs.carry.read_bytes.Goals as goal
@@ -10,12 +10,8 @@ loop-offset-preserved c = record {
   keeps = c.read_piece-used.ensures.keeps;
   rest = λ last more. c.loop-offset.invariant.rest last
       (subst (λ bytes. Reads c.args.first_sent.now
-      (record {
-        client = c.loop-offset.client;
-        held = lists_of c.loop-offset.held;
-        start = c.loop-offset.start.items;
-        to_server = c.loop-offset.to_server.items;
-      }) bytes last)
+      (with_client c.loop-offset.client (lists_of c.loop-offset.held) c.loop-offset.start.items
+      c.loop-offset.to_server.items) bytes last)
       (ap (λ piece. take c.read_piece-used.result.0 piece ++ drop (c.loop-offset.offset + c.read_piece-used.result.0)
       c.args.bytes.now) (from_offset c.args.bytes.now c.loop-offset.offset)
       ∙ sym (at_offset c.args.bytes.now c.loop-offset.offset c.read_piece-used.result.0))
@@ -28,42 +24,21 @@ loop-offset-preserved c = record {
 
 pub returns-after-loop-offset-clause-reads : goal.returns-after-loop-offset-clause-reads
 returns-after-loop-offset-clause-reads c =
-    let t : Taking = record {
-      client = c.loop-offset.client;
-      held = lists_of c.loop-offset.held;
-      start = c.loop-offset.start.items;
-      to_server = c.loop-offset.to_server.items;
-    } in
+    let t : Taking = with_client c.loop-offset.client (lists_of c.loop-offset.held) c.loop-offset.start.items
+    c.loop-offset.to_server.items in
     c.loop-offset.invariant.rest t (reads_all c.args.first_sent.now t c.args.bytes.now c.loop-offset.offset
     c.loop-offset-test.false)
 
 pub returns-then-used-eq0-clause-reads : goal.returns-then-used-eq0-clause-reads
 returns-then-used-eq0-clause-reads c =
-    let t : Taking = record {
-      client = c.loop-offset.client;
-      held = lists_of c.loop-offset.held;
-      start = c.loop-offset.start.items;
-      to_server = c.loop-offset.to_server.items;
-    } in
-    let u : Taking = record {
-      client = c.read_piece-used.new.client;
-      held = lists_of c.loop-offset.held;
-      start = c.loop-offset.start.items;
-      to_server = c.loop-offset.to_server.items;
-    } in
-    let same : u ≡ t = ap (λ client. record {
-      client = client;
-      held = lists_of c.loop-offset.held;
-      start = c.loop-offset.start.items;
-      to_server = c.loop-offset.to_server.items;
-    })
+    let t : Taking = with_client c.loop-offset.client (lists_of c.loop-offset.held) c.loop-offset.start.items
+    c.loop-offset.to_server.items in
+    let u : Taking = with_client c.read_piece-used.new.client (lists_of c.loop-offset.held) c.loop-offset.start.items
+    c.loop-offset.to_server.items in
+    let same : u ≡ t = ap (λ client. with_client client (lists_of c.loop-offset.held) c.loop-offset.start.items
+    c.loop-offset.to_server.items)
     (c.read_piece-used.ensures.none c.if-used-eq0.true).1 in
     subst (λ (x : Taking). Reads c.args.first_sent.now
-    (record {
-      client = c.args.client.now;
-      held = lists_of c.args.held.now;
-      start = c.args.start.now.items;
-      to_server = c.args.to_server.now.items;
-    }) c.args.bytes.now x) (sym same)
+    (with_client c.args.client.now (lists_of c.args.held.now) c.args.start.now.items c.args.to_server.now.items) c.args.bytes.now x) (sym same)
     (c.loop-offset.invariant.rest t (rest_lost c.args.first_sent.now t (drop c.loop-offset.offset c.args.bytes.now)
     (c.read_piece-used.ensures.none c.if-used-eq0.true).0))

@@ -1,11 +1,12 @@
-use Rattle.std.proofs.Common.{inl, inr, refl, ◌≡◌, ℕ, ◌+◌, ◌^◌, ◌≤◌, List, arith, ap, sym, subst, drop, get_or, length}
+use Rattle.std.proofs.Common.{inl, inr, refl, ◌≡◌, ℕ, ◌+◌, ◌^◌, ◌<◌, ◌≤◌, List, arith, ap, sym, subst, drop, get_or, length}
 use Rattle.std.proofs.Common.{[]}
 use Rattle.std.proofs.lemmas.List.{drop_all}
 use Rattle.slink_model.specs.declared.world.Step.{Step}
 use Rattle.slink_model.specs.declared.world.Step.TheVariants.{Append}
 use Rattle.slink_model.specs.Running.{AreRings}
 use Rattle.slink_model.specs.World.{AllHappen, WorldState, opening, seen}
-use Rattle.slink_model.specs.Stretch.{IsSound}
+use Rattle.slink_model.specs.Spared.{AreAskable}
+use Rattle.slink_model.specs.Stretch.{IsSchedule, IsSound}
 use Rattle.slink_model.proofs.Briefly.{brief_held}
 use Rattle.slink_model.proofs.Calling.{answered_after}
 use Rattle.slink_model.proofs.CountedWorld.{the_counted_world}
@@ -53,27 +54,6 @@ loop-step-preserved c =
           (Append 0 []) (omega (arith, c.loop-step-test.true)) c.in_ok-step.ensures.happens rest);
     }
 
-pub returns-clause-slices : goal.returns-clause-slices
-returns-clause-slices c = λ run lacks. stretch_held c.args.setup.now c.args.steps.now (seen c.loop-step.world) run
-    (schedule_is c.args.setup.now c.args.steps.now c.requires.count c.requires.capacity.1 c.requires.differ
-    c.requires.steps (λ k lt. c.loop-step.invariant.sound k (omega (arith, lt)))) lacks
-
-pub returns-clause-resumes : goal.returns-clause-resumes
-returns-clause-resumes c = λ run lacks. resume_granted c.args.setup.now c.args.steps.now (seen c.loop-step.world) run
-    (schedule_is c.args.setup.now c.args.steps.now c.requires.count c.requires.capacity.1 c.requires.differ
-    c.requires.steps (λ k lt. c.loop-step.invariant.sound k (omega (arith, lt)))) lacks
-
-pub returns-clause-carried : goal.returns-clause-carried
-returns-clause-carried c = λ run lacks l is. stretch_carried c.args.setup.now c.args.steps.now (seen c.loop-step.world)
-    run
-    (schedule_is c.args.setup.now c.args.steps.now c.requires.count c.requires.capacity.1 c.requires.differ
-    c.requires.steps (λ k lt. c.loop-step.invariant.sound k (omega (arith, lt)))) lacks l is
-
-pub returns-clause-brief : goal.returns-clause-brief
-returns-clause-brief c = λ run brief. brief_held c.args.setup.now c.args.steps.now (seen c.loop-step.world) run
-    (schedule_is c.args.setup.now c.args.steps.now c.requires.count c.requires.capacity.1 c.requires.differ
-    c.requires.steps (λ k lt. c.loop-step.invariant.sound k (omega (arith, lt)))) brief
-
 -- the steps led to the world
 happened : (steps : List Step) (n : ℕ) (opening now : WorldState) → length steps ≤ n
     → ((last : WorldState) → AllHappen now (drop n steps) last → AllHappen opening steps last)
@@ -81,42 +61,29 @@ happened : (steps : List Step) (n : ℕ) (opening now : WorldState) → length s
 happened steps n opening now past rest =
     rest now (subst (λ more. AllHappen now more now) (sym (drop_all n steps past)) refl)
 
-pub returns-clause-spared : goal.returns-clause-spared
-returns-clause-spared c = λ some. client_spared c.args.setup.now c.args.steps.now (seen c.loop-step.world)
-    (happened c.args.steps.now c.loop-step.step-index (opening c.args.setup.now) (seen c.loop-step.world)
-    (omega (arith, c.loop-step-test.false)) c.loop-step.invariant.rest)
-    (schedule_is c.args.setup.now c.args.steps.now c.requires.count c.requires.capacity.1 c.requires.differ
-    c.requires.steps (λ k lt. c.loop-step.invariant.sound k (omega (arith, lt))))
-    (record { some = some; codes = c.have_codes.ensures; numbers = c.requires.numbers })
-
-pub returns-clause-only : goal.returns-clause-only
-returns-clause-only c = λ some other run. one_world c.args.setup.now c.args.steps.now other (seen c.loop-step.world) run
-    (happened c.args.steps.now c.loop-step.step-index (opening c.args.setup.now) (seen c.loop-step.world)
-    (omega (arith, c.loop-step-test.false)) c.loop-step.invariant.rest)
-    (schedule_is c.args.setup.now c.args.steps.now c.requires.count c.requires.capacity.1 c.requires.differ
-    c.requires.steps (λ k lt. c.loop-step.invariant.sound k (omega (arith, lt))))
-    (record { some = some; codes = c.have_codes.ensures; numbers = c.requires.numbers })
-
-pub returns-clause-answers : goal.returns-clause-answers
-returns-clause-answers c =
-    λ run lacks some n next l m happens was becomes. answered_after c.args.setup.now c.args.steps.now
-    (seen c.loop-step.world) run
-    (schedule_is c.args.setup.now c.args.steps.now c.requires.count c.requires.capacity.1 c.requires.differ
-    c.requires.steps (λ k lt. c.loop-step.invariant.sound k (omega (arith, lt))))
-    (record { some = some; codes = c.have_codes.ensures; numbers = c.requires.numbers }) lacks n next l m happens was
-    becomes
-
-pub returns-clause-goes_on : goal.returns-clause-goes_on
-returns-clause-goes_on c = λ run lacks some l at linked. goes_on_after c.args.setup.now c.args.steps.now
-    (seen c.loop-step.world) run
-    (schedule_is c.args.setup.now c.args.steps.now c.requires.count c.requires.capacity.1 c.requires.differ
-    c.requires.steps (λ k lt. c.loop-step.invariant.sound k (omega (arith, lt))))
-    (record { some = some; codes = c.have_codes.ensures; numbers = c.requires.numbers }) lacks l at linked
-
-pub returns-clause-counted : goal.returns-clause-counted
-returns-clause-counted c = λ some. the_counted_world c.args.setup.now c.args.steps.now (seen c.loop-step.world)
-    (happened c.args.steps.now c.loop-step.step-index (opening c.args.setup.now) (seen c.loop-step.world)
-    (omega (arith, c.loop-step-test.false)) c.loop-step.invariant.rest)
-    (schedule_is c.args.setup.now c.args.steps.now c.requires.count c.requires.capacity.1 c.requires.differ
-    c.requires.steps (λ k lt. c.loop-step.invariant.sound k (omega (arith, lt))))
-    (record { some = some; codes = c.have_codes.ensures; numbers = c.requires.numbers })
+pub returns : goal.returns
+returns c =
+    let now : WorldState = seen c.loop-step.world in
+    let happens : AllHappen (opening c.args.setup.now) c.args.steps.now now =
+    happened c.args.steps.now c.loop-step.step-index (opening c.args.setup.now) now
+    (omega (arith, c.loop-step-test.false)) c.loop-step.invariant.rest in
+    let schedule : IsSchedule c.args.setup.now c.args.steps.now =
+    schedule_is c.args.setup.now c.args.steps.now c.requires.count c.requires.capacity.1 c.requires.differ
+    c.requires.steps (λ k lt. c.loop-step.invariant.sound k (omega (arith, lt))) in
+    let askable : 0 < length c.args.setup.now.places.items → AreAskable c.args.setup.now.places.items =
+    λ some. record { some = some; codes = c.have_codes.ensures; numbers = c.requires.numbers } in
+    record {
+      happen = happens;
+      counted = λ some. the_counted_world c.args.setup.now c.args.steps.now now happens schedule (askable some);
+      slices = λ run lacks. stretch_held c.args.setup.now c.args.steps.now now run schedule lacks;
+      brief = λ run brief. brief_held c.args.setup.now c.args.steps.now now run schedule brief;
+      resumes = λ run lacks. resume_granted c.args.setup.now c.args.steps.now now run schedule lacks;
+      carried = λ run lacks l is. stretch_carried c.args.setup.now c.args.steps.now now run schedule lacks l is;
+      answers = λ run lacks some n next l m. answered_after c.args.setup.now c.args.steps.now now run schedule
+          (askable some) lacks n next l m;
+      goes_on = λ run lacks some l at linked. goes_on_after c.args.setup.now c.args.steps.now now run schedule
+          (askable some) lacks l at linked;
+      spared = λ some. client_spared c.args.setup.now c.args.steps.now now happens schedule (askable some);
+      only = λ some other run. one_world c.args.setup.now c.args.steps.now other now run happens schedule
+          (askable some);
+    }
