@@ -238,16 +238,9 @@ impl<'a, N: Net + Clock> Accept for Listening<'a, N> {
     ghost given_back = { λ l. l.given_back.all };
 
     fn accept(&mut self) -> Option<Counted<Gathering<Patient<'a, N, N::Stream>>>> {
-        match self.next_link() {
-            Ok(link) => {
-                self.tally.record(&[], false);
-                Some(link)
-            }
-            Err(_) => {
-                self.tally.record(&[], true);
-                None
-            }
-        }
+        let link = self.next_link().ok();
+        self.tally.record(&[], link.is_none());
+        link
     }
 
     fn hang_up(&mut self, link: Counted<Gathering<Patient<'a, N, N::Stream>>>, failed: bool) {
@@ -314,16 +307,9 @@ impl<'a, N: Net + Clock> Dial for Dialler<'a, N> {
     ghost given_back = { λ d. d.given_back.all };
 
     fn dial(&mut self) -> Option<Counted<Ahead<Patient<'a, N, N::Stream>>>> {
-        match self.next_link() {
-            Ok(link) => {
-                self.tally.record(&[], false);
-                Some(link)
-            }
-            Err(_) => {
-                self.tally.record(&[], true);
-                None
-            }
-        }
+        let link = self.next_link().ok();
+        self.tally.record(&[], link.is_none());
+        link
     }
 
     fn hang_up(&mut self, link: Counted<Ahead<Patient<'a, N, N::Stream>>>) {

@@ -1,5 +1,7 @@
 //! Worked rows of serving and fetching, over links in memory. Those over TCP stand beside it.
-ghost use Rattle.std.specs.Prelude.{◌≡◌, IfOk};
+ghost use Rattle.std.specs.Prelude.{◌≡◌, ◌+◌, IfOk, IfSome, is_none, if◌then◌else◌};
+ghost use Rattle.mseed_stream.specs.Counted.{read_by, written_by};
+ghost use Rattle.mseed_stream.specs.Device.{nothing_read, nothing_written};
 ghost use Rattle.slink_links.specs.Out.{AreOut};
 
 mod buffers;
@@ -50,11 +52,7 @@ impl<'a> Pipe<'a> {
 
 impl Read for Pipe<'_> {
     fn read(&mut self, buf: &mut [u8]) -> io::Result<usize> {
-        let n = self.reported.len().min(buf.len());
-        let (reported, rest) = self.reported.split_at(n);
-        buf[..n].copy_from_slice(reported);
-        self.reported = rest;
-        Ok(n)
+        self.reported.read(buf)
     }
 }
 
@@ -139,12 +137,24 @@ impl<'a> Links<'a> {
     }
 
     /// The next link, or none where the call fails.
-    fn next(&mut self) -> Option<Pipe<'a>>
-        ensures tally { self.new.tally ≡ self.old.tally }
+    fn next(&mut self) -> Option<Counted<Pipe<'a>>>
+        ensures calls { self.new.tally.calls ≡ self.old.tally.calls + 1 }
+        ensures failures { self.new.tally.failures
+            ≡ self.old.tally.failures + (if is_none result then 1 else 0) }
         ensures lost { self.new.lost ≡ self.old.lost }
         ensures given_back { self.new.given_back ≡ self.old.given_back }
+        ensures unused { IfSome result (λ link. (read_by link ≡ nothing_read) × (written_by link ≡ nothing_written)) }
     {
-        self.coming.pop().flatten()
+        match self.coming.pop().flatten() {
+            Some(pipe) => {
+                self.tally.record(&[], false);
+                Some(Counted::new(pipe))
+            }
+            None => {
+                self.tally.record(&[], true);
+                None
+            }
+        }
     }
 }
 
@@ -160,16 +170,7 @@ impl<'a> Accept for Links<'a> {
     ghost given_back = { λ l. l.given_back.all };
 
     fn accept(&mut self) -> Option<Counted<Pipe<'a>>> {
-        match self.next() {
-            Some(pipe) => {
-                self.tally.record(&[], false);
-                Some(Counted::new(pipe))
-            }
-            None => {
-                self.tally.record(&[], true);
-                None
-            }
-        }
+        self.next()
     }
 
     fn hang_up(&mut self, link: Counted<Pipe<'a>>, failed: bool) {
@@ -189,16 +190,7 @@ impl<'a> Dial for Links<'a> {
     ghost given_back = { λ l. l.given_back.all };
 
     fn dial(&mut self) -> Option<Counted<Pipe<'a>>> {
-        match self.next() {
-            Some(pipe) => {
-                self.tally.record(&[], false);
-                Some(Counted::new(pipe))
-            }
-            None => {
-                self.tally.record(&[], true);
-                None
-            }
-        }
+        self.next()
     }
 
     fn hang_up(&mut self, link: Counted<Pipe<'a>>) {
