@@ -1,12 +1,15 @@
 -- What a turn of a session comes to, by its parts.
 use Rattle.std.proofs.Common.{◌≡◌, ◌≢◌, ℕ, ◌+◌, ◌≤◌, ◌<◌, ◌==◌, ◌&&◌, ◌||◌, ◌∙◌, zero, suc, refl, arith, ap, sym, subst}
 use Rattle.std.proofs.Common.{inl, inr, Bool, true, false, not, List, [], ◌∷◌, ◌++◌, append-nil, length, take, Ok, Err}
+use Rattle.std.proofs.Common.{Result}
+use Rattle.std.specs.Prelude.{IfErr, IfOk}
 use Rattle.std.proofs.lemmas.Bool.Decides.{eqb_tells}
 use Rattle.mseed_stream.specs.Device.{BytesRead, BytesWritten, read_also}
 use Rattle.mseed_stream.specs.declared.device.Failed.{Failed}
 use Rattle.slink_feed.specs.declared.session.Phase.TheVariants.{Closed}
 use Rattle.slink_feed.specs.declared.turn.LinkFault.{LinkFault}
 use Rattle.slink_feed.specs.declared.turn.LinkFault.TheVariants as faults
+use Rattle.slink_feed.specs.declared.turn.Turn.{Turn}
 use Rattle.slink_feed.specs.declared.turn.Turn.TheVariants as turns
 use Rattle.slink_feed.specs.Attending.{Attends, GoesOn, IsServeFault, RepliesToAll, at_read, at_reply, at_send}
 use Rattle.slink_feed.specs.Attending.{attending, is_at_end, is_closed, replies}
@@ -56,6 +59,23 @@ reported_is h n buf some bound = elim (eqb_tells n 0) [
             || is_empty (take n buf);
       }) none
 ]
+
+-- what a call left beside it stayed as it was
+pub stays : {A : Type 0} {a b x y : A} → a ≡ x → a ≡ b → b ≡ y → x ≡ y
+stays p same q = sym p ∙ (same ∙ q)
+
+-- a turn, where what was read before it is the same
+pub attends_as : (feed : List Window) (old new : Attending) (before now after : BytesRead) (r : Result Turn LinkFault)
+    → now ≡ before → IfOk r (λ turn. Attends feed old new now after turn)
+    → IfOk r (λ turn. Attends feed old new before after turn)
+attends_as feed old new before now after r same ok =
+    subst (λ (h : BytesRead). IfOk r (λ turn. Attends feed old new h after turn)) same ok
+
+pub fails_as : (feed : List Window) (old new : Attending) (before now after : BytesRead) (r : Result Turn LinkFault)
+    → now ≡ before → IfErr r (λ fault. IsServeFault feed old new now after fault)
+    → IfErr r (λ fault. IsServeFault feed old new before after fault)
+fails_as feed old new before now after r same err =
+    subst (λ (h : BytesRead). IfErr r (λ fault. IsServeFault feed old new h after fault)) same err
 
 module _ (feed : List Window) (old : Attending) (before : BytesRead) where
   pub sending_failed : (new : Attending) (after : BytesRead) (fault : LinkFault) → IsSendFault fault feed old new

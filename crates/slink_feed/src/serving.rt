@@ -1,10 +1,11 @@
 //! One turn of a session with its link.
-ghost use Rattle.std.specs.Prelude.{◌≡◌, ◌≤◌, ◌<◌, IfErr, IfOk, OnOk, length};
+ghost use Rattle.std.specs.Prelude.{◌≡◌, ◌≢◌, ◌≤◌, ◌<◌, IfErr, IfOk, OnOk, length};
+ghost use Rattle.slink_feed.specs.declared.session.Phase.{Phase};
 ghost use Rattle.slink_feed.specs.Attending.{Attends, IsServeFault, RepliesToAll, attending};
 ghost use Rattle.slink_feed.specs.private.Replying.{FailsToGive, HasGiven, HasSent, IsReplyFault, IsSayFault};
 ghost use Rattle.slink_feed.specs.private.Replying.{IsSendFault, IsWritten};
 ghost use Rattle.slink_feed.specs.private.Replying.{waits_after};
-ghost use Rattle.slink_feed.specs.Rounds.{place_behind};
+ghost use Rattle.slink_feed.specs.Rounds.{Attending, place_behind};
 ghost use Rattle.slink_feed.specs.Running.{Stands};
 ghost use Rattle.slink_feed.specs.Session.{Fits};
 
@@ -50,6 +51,30 @@ pub fn serve_turn<A: Allocator, S: Duplex>(
     if session.is_closed() {
         return Ok(Turn::Closed);
     }
+    answer_once(session, feed, link, written)
+}
+
+/// Reads once, at most 512 bytes, and writes the reply to each line, behind so many bytes of what was due.
+fn answer_once<A: Allocator, S: Duplex>(
+    session: &mut Session,
+    feed: &Feed<A>,
+    link: &mut S,
+    written: usize,
+) -> Result<Turn, LinkFault>
+    requires fits { Fits feed.now session.old.state }
+    requires stands { Stands session.old }
+    requires awake { session.old.state.phase ≢ Phase.Closed }
+    requires few { written ≤ 1099511627776 }
+    // From whatever the turn began with.
+    ensures ok { (start : Attending) → HasSent feed.now start (attending session.old (S.written link.old)) written
+        → IfOk result (λ turn. Attends feed.now start (attending session.new (S.written link.new)) (S.read link.old)
+        (S.read link.new) turn) }
+    ensures fault { (start : Attending) → HasSent feed.now start (attending session.old (S.written link.old)) written
+        → IfErr result (λ fault. IsServeFault feed.now start (attending session.new (S.written link.new))
+        (S.read link.old) (S.read link.new) fault) }
+    ensures fits { Fits feed.now session.new.state }
+    ensures stands { Stands session.new }
+{
     let mut room = [0; ROOM];
     let count = match link.pull(&mut room) {
         Ok(count) => count,
