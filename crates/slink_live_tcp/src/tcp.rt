@@ -96,6 +96,19 @@ fn places(alloc: Global, clients: usize) -> io::Result<(Vec<Slot>, Departures, R
     Ok((slots, departures, first_round(alloc, end)?))
 }
 
+/// What waits, and the listener that is waited for. No socket takes the descriptor of a standard stream that is closed.
+fn waiting<N: Net>(
+    host: &N,
+    alloc: Global,
+    address: SocketAddr,
+) -> io::Result<(Guards, Poll, Events, Door)> {
+    let guards = Guards::new(host, alloc)?;
+    let poll = Poll::new(host)?;
+    let events = Events::with_capacity(alloc, EVENTS)?;
+    let door = door_at(host, address, &poll)?;
+    Ok((guards, poll, events, door))
+}
+
 impl<'a, C: Net + Clock, I: Read + AsRawFd + Drop> Tcp<'a, C, I> {
     /// Listens at an address. No socket takes the descriptor of a standard stream that is closed.
     ///
@@ -105,10 +118,7 @@ impl<'a, C: Net + Clock, I: Read + AsRawFd + Drop> Tcp<'a, C, I> {
     pub fn bind(host: &'a C, alloc: Global, plan: Plan, input: I) -> io::Result<Tcp<'a, C, I>>
         ensures { IfOk result (λ t. happened t ≡ []) }
     {
-        let guards = Guards::new(host, alloc)?;
-        let poll = Poll::new(host)?;
-        let door = door_at(host, plan.address, &poll)?;
-        let events = Events::with_capacity(alloc, EVENTS)?;
+        let (guards, poll, events, door) = waiting(host, alloc, plan.address)?;
         let (slots, departures, round) = places(alloc, plan.clients)?;
         let input = Input::new(input, &guards, poll.registry());
         Ok(Tcp {
