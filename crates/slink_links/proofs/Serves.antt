@@ -1,7 +1,7 @@
 -- Turns of a session with its link, one after another.
 use Rattle.std.specs.Prelude.{⊤}
 use Rattle.std.proofs.Common.{◌≡◌, ◌⊎◌, inl, inr, ℕ, ◌+◌, ◌<◌, ◌^◌, Bool, true, false, nat_lt, not, if◌then◌else◌, List}
-use Rattle.std.proofs.Common.{◌++◌, append_assoc, Result, Ok, Err, refl, sym, ap, subst, ◌∙◌, arith}
+use Rattle.std.proofs.Common.{[], ◌++◌, append-nil, append_assoc, Result, Ok, Err, refl, sym, ap, subst, ◌∙◌, arith}
 use Rattle.std.proofs.lemmas.List.Elements.{All-append}
 use Rattle.std.specs.Result.{IsErrAnd, is_ok}
 use Rattle.mseed_stream.specs.Device.{BytesRead, BytesWritten, nothing_read, nothing_written}
@@ -167,6 +167,10 @@ served_by_err feed (Err e) Q fault h h' s s' is q p =
 pub lost_by : (fine : Bool) → ◌≡◌ {A = ℕ} (if not fine then 1 else 0) (if fine then 0 else 1)
 lost_by true = refl
 lost_by false = refl
+
+-- no link yet
+pub each_none : (feed : List Window) (a : List Exchange) → HasServedEach feed a a
+each_none feed a = record { links = []; given_back = sym (append-nil a); served = λ k d lt. absurd (omega (arith, lt)) }
 
 -- some and then others
 pub each_both : (feed : List Window) (a b c : List Exchange) → HasServedEach feed a b → HasServedEach feed b c

@@ -1,4 +1,5 @@
 //! A session over TCP: its transcript, and a client that takes turns with it.
+ghost use Rattle.std.specs.Prelude.{IfOk};
 ghost use Rattle.slink_feed.specs.Session.{Fits};
 ghost use Rattle.slink_links.specs.Out.{AreOut};
 
@@ -13,8 +14,9 @@ use mseed_stream::{Counted, Duplex, Sink, write_all_of};
 use slink_feed::{Client, Feed, Mode, Session, Turn, fetch_turn, serve_turn};
 use std::alloc::{Allocator, Global};
 use std::io::{Read, Write};
-use std::net::{OpenListener, OpenStream, Shutdown, TcpStream};
+use std::net::{Net, OpenListener, OpenStream, Shutdown, TcpStream};
 use std::test::Fail;
+use std::time::Clock;
 
 /// What a client says, sent whole.
 const LINES: &[u8] =
@@ -58,14 +60,29 @@ fn read_whole<R: Read>(alloc: Global, stream: &mut R) -> Result<Vec<u8>, Fail> {
     Ok(read)
 }
 
+/// A port of this host, and a stream that dialled it.
+fn dialled<N: Net + Clock>(host: &N) -> Result<(Listening<'_, N>, N::Stream), Fail>
+    ensures { IfOk result (λ p. AreOut 0 p.0.tally.calls p.0.tally.failures p.0.given_back.all) }
+{
+    let listening = Listening::bind(host, Address::local(), 0, Timeout { seconds: 0 })?;
+    let port = listening.listener.local_addr()?.port();
+    let stream = TcpStream::connect(host, socket_of(Address::local(), port))?;
+    Ok((listening, stream))
+}
+
+/// All that a client is sent that says all lines to a port, once it is served.
+fn transcript<N: Net + Clock>(host: &N, alloc: Global) -> Result<Vec<u8>, Fail> {
+    let (mut listening, mut stream) = dialled(host)?;
+    say_lines(&mut stream)?;
+    if !serves_one(alloc, &mut listening)? {
+        Err("not served")?;
+    }
+    read_whole(alloc, &mut stream)
+}
+
 #[test]
 fn serves_a_transcript(rt: HostRuntime) -> Result<(), Fail> {
-    let mut listening = Listening::bind(&rt, Address::local(), 0, Timeout { seconds: 0 })?;
-    let port = listening.listener.local_addr()?.port();
-    let mut stream = TcpStream::connect(&rt, socket_of(Address::local(), port))?;
-    say_lines(&mut stream)?;
-    assert!(rt; serves_one(rt.alloc(), &mut listening)?);
-    let read = read_whole(rt.alloc(), &mut stream)?;
+    let read = transcript(&rt, rt.alloc())?;
     assert!(rt; read.as_slice() == all_sent(rt.alloc())?.as_slice());
     Ok(())
 }
@@ -132,13 +149,11 @@ fn records_of_turns<S: Duplex, C: Duplex>(
 
 #[test]
 fn takes_turns(rt: HostRuntime) -> Result<(), Fail> {
-    let mut listening = Listening::bind(&rt, Address::local(), 0, Timeout { seconds: 0 })?;
-    let port = listening.listener.local_addr()?.port();
+    let (mut listening, stream) = dialled(&rt)?;
     let limits = Limits {
         all: None,
         reads: None,
     };
-    let stream = TcpStream::connect(&rt, socket_of(Address::local(), port))?;
     let mut client_link = Counted::new(Ahead::new(link_over(&rt, stream, limits)?));
     let mut server_link = listening.accept().ok_or("no link")?;
     let held = records_of_turns(rt.alloc(), &mut server_link, &mut client_link)?;

@@ -3,6 +3,7 @@
 use crate::ahead::Ahead;
 use crate::gathering::Gathering;
 use crate::tests::{ALL, Pipe};
+use std::alloc::Global;
 use std::io::{Read, Write};
 use std::test::Fail;
 
@@ -29,26 +30,37 @@ fn reads_ahead(rt: HostRuntime) -> Result<(), Fail> {
     Ok(())
 }
 
-#[test]
-fn gathers_packets(rt: HostRuntime) -> Result<(), Fail> {
-    let mut stream = Gathering::new(Pipe::new(rt.alloc(), b"BYE", ALL));
-    let mut wanted = Vec::new(rt.alloc());
-    for byte in 0..70 {
-        assert_eq!(rt; stream.write(&packet(byte))?, 520);
+/// Writes so many packets, and answers their bytes.
+fn write_packets(alloc: Global, stream: &mut Gathering<Pipe>, count: u8) -> Result<Vec<u8>, Fail> {
+    let mut wanted = Vec::new(alloc);
+    for byte in 0..count {
+        stream.write_all(&packet(byte))?;
         wanted.extend_from_slice(&packet(byte))?;
     }
+    Ok(wanted)
+}
+
+#[test]
+fn gathers_packets(rt: HostRuntime) -> Result<(), Fail> {
+    let mut stream = Gathering::new(Pipe::new(rt.alloc(), b"", ALL));
+    let mut wanted = write_packets(rt.alloc(), &mut stream, 70)?;
     assert_eq!(rt; stream.stream().taken.len(), 64 * 520);
     // What is shorter goes out behind them, at once.
-    assert_eq!(rt; stream.write(b"END")?, 3);
+    stream.write_all(b"END")?;
     wanted.extend_from_slice(b"END")?;
     assert!(rt; stream.stream().taken.as_slice() == wanted.as_slice());
-    // So do those that are there when the stream is read, or is given back.
-    let mut room = [0; 8];
-    assert_eq!(rt; stream.write(&packet(7))?, 520);
-    assert_eq!(rt; stream.read(&mut room)?, 3);
-    assert_eq!(rt; stream.stream().taken.len(), wanted.len() + 520);
-    assert_eq!(rt; stream.write(&packet(8))?, 520);
-    assert_eq!(rt; stream.into_stream().taken.len(), wanted.len() + 1040);
+    Ok(())
+}
+
+#[test]
+fn writes_them_where_it_is_read_or_given_back(rt: HostRuntime) -> Result<(), Fail> {
+    let mut stream = Gathering::new(Pipe::new(rt.alloc(), b"BYE", ALL));
+    stream.write_all(&packet(7))?;
+    assert_eq!(rt; stream.stream().taken.len(), 0);
+    assert_eq!(rt; stream.read(&mut [0; 8])?, 3);
+    assert_eq!(rt; stream.stream().taken.len(), 520);
+    stream.write_all(&packet(8))?;
+    assert_eq!(rt; stream.into_stream().taken.len(), 1040);
     Ok(())
 }
 

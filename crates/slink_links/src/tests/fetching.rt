@@ -26,7 +26,40 @@ struct Fetched {
     line: Vec<u8>,
     records: Vec<u8>,
     written: Vec<Vec<u8>>,
+    coming: usize,
     pauses: Vec<u8>,
+}
+
+/// A fetch over links, to an output with so much room.
+fn fetch_from(
+    alloc: Global,
+    tries: u64,
+    links: &[Option<(&[u8], usize)>],
+    room: usize,
+    tell_next: bool,
+) -> Result<Fetched, Fail> {
+    let mut client = client()?;
+    let mut links = Links::new(alloc, links)?;
+    let mut records = output(alloc, room);
+    let mut errors = output(alloc, ALL);
+    let mut waits = Clockless::new(alloc);
+    let status = fetch_all(
+        &mut client,
+        tries,
+        &mut links,
+        &mut waits,
+        &mut records,
+        &mut errors,
+        tell_next,
+    );
+    Ok(Fetched {
+        status,
+        line: taken_by(errors),
+        records: taken_by(records),
+        coming: links.coming.len(),
+        written: links.taken,
+        pauses: waits.tenths,
+    })
 }
 
 /// A fetch over links that tell so many of these bytes.
@@ -36,30 +69,11 @@ fn fetch_over(
     all: &[u8],
     counts: &[Option<usize>],
 ) -> Result<Fetched, Fail> {
-    let mut reported = Vec::new(alloc);
+    let mut links = Vec::new(alloc);
     for count in counts {
-        reported.push(count.map(|n| (all.get(..n).unwrap_or(all), ALL)))?;
+        links.push(count.map(|n| (all.get(..n).unwrap_or(all), ALL)))?;
     }
-    let mut links = Links::new(alloc, reported.as_slice())?;
-    let mut records = output(alloc, ALL);
-    let mut errors = output(alloc, ALL);
-    let mut waits = Clockless::new(alloc);
-    let status = fetch_all(
-        &mut client()?,
-        tries,
-        &mut links,
-        &mut waits,
-        &mut records,
-        &mut errors,
-        false,
-    );
-    Ok(Fetched {
-        status,
-        line: taken_by(errors),
-        records: taken_by(records),
-        written: links.taken,
-        pauses: waits.tenths,
-    })
+    fetch_from(alloc, tries, links.as_slice(), ALL, false)
 }
 
 /// Whether so many links accepted the lines of a client that lacks record 1.
@@ -142,35 +156,30 @@ fn goes_on_behind_the_last_record(rt: HostRuntime) -> Result<(), Fail> {
     Ok(())
 }
 
+/// What the first of two links tells, or both packets; the room of the output, and the line.
+static ENDS: [(Option<&[u8]>, usize, &[u8]); 4] = [
+    (Some(b"ERROR\r\n"), ALL, b"mseed: refused\n"),
+    (Some(b"OK\r\nERROR\r\n"), ALL, b"mseed: refused\n"),
+    (Some(b"OKAY\r\n"), ALL, b"mseed: bad feed\n"),
+    (None, 511, b"mseed: write failed\n"),
+];
+
+/// Whether a fetch ended with this line over the first of two links, and didn't wait.
+fn ended_at_once(fetched: &Fetched, line: &[u8]) -> bool {
+    fetched.status == 2
+        && fetched.line.as_slice() == line
+        && fetched.coming == 1
+        && fetched.pauses.is_empty()
+}
+
 #[test]
 fn ends_at_once_where_no_try_helps(rt: HostRuntime) -> Result<(), Fail> {
     let all = two_packets(rt.alloc())?;
-    // What the first of two links tells, the room of the output, and the line.
-    let rows: [(&[u8], usize, &[u8]); 4] = [
-        (b"ERROR\r\n", ALL, b"mseed: refused\n"),
-        (b"OK\r\nERROR\r\n", ALL, b"mseed: refused\n"),
-        (b"OKAY\r\n", ALL, b"mseed: bad feed\n"),
-        (all.as_slice(), 511, b"mseed: write failed\n"),
-    ];
-    for (reported, room, line) in &rows {
-        let reported = [Some((*reported, ALL)), Some((all.as_slice(), ALL))];
-        let mut links = Links::new(rt.alloc(), &reported)?;
-        let mut records = output(rt.alloc(), *room);
-        let mut errors = output(rt.alloc(), ALL);
-        let mut waits = Clockless::new(rt.alloc());
-        let ended = fetch_all(
-            &mut client()?,
-            2,
-            &mut links,
-            &mut waits,
-            &mut records,
-            &mut errors,
-            false,
-        );
-        assert_eq!(rt; ended, 2);
-        assert_eq!(rt; taken_by(errors).as_slice(), *line);
-        assert_eq!(rt; links.coming.len(), 1);
-        assert!(rt; waits.tenths.is_empty());
+    let packets = all.as_slice();
+    for (first, room, line) in &ENDS {
+        let links = [Some((first.unwrap_or(packets), ALL)), Some((packets, ALL))];
+        let fetched = fetch_from(rt.alloc(), 2, &links, *room, false)?;
+        assert!(rt; ended_at_once(&fetched, line), "{line:?}");
     }
     Ok(())
 }
@@ -197,43 +206,34 @@ fn waits_between_tries(rt: HostRuntime) -> Result<(), Fail> {
     Ok(())
 }
 
+/// What the first of two links tells, or both packets; the room of the output, and the lines.
+static TOLD: [(Option<&[u8]>, usize, &[u8]); 3] = [
+    (
+        None,
+        ALL,
+        b"mseed: first XX_STA:000001\nmseed: next --network XX --station STA --from 000003\n",
+    ),
+    (
+        None,
+        1023,
+        b"mseed: first XX_STA:000001\nmseed: write failed\n\
+          mseed: next --network XX --station STA --from 000002\n",
+    ),
+    (
+        Some(b"ERROR\r\n"),
+        ALL,
+        b"mseed: refused\nmseed: next --network XX --station STA --from 000001\n",
+    ),
+];
+
 #[test]
 fn tells_where_to_go_on(rt: HostRuntime) -> Result<(), Fail> {
     let all = two_packets(rt.alloc())?;
-    // What the first of two links tells, the room of the output, and the lines.
-    let rows: [(&[u8], usize, &[u8]); 3] = [
-        (
-            all.as_slice(),
-            ALL,
-            b"mseed: first XX_STA:000001\nmseed: next --network XX --station STA --from 000003\n",
-        ),
-        (
-            all.as_slice(),
-            1023,
-            b"mseed: first XX_STA:000001\nmseed: write failed\n\
-              mseed: next --network XX --station STA --from 000002\n",
-        ),
-        (
-            b"ERROR\r\n",
-            ALL,
-            b"mseed: refused\nmseed: next --network XX --station STA --from 000001\n",
-        ),
-    ];
-    for (reported, room, lines) in &rows {
-        let mut links = Links::new(rt.alloc(), &[Some((*reported, ALL))])?;
-        let mut records = output(rt.alloc(), *room);
-        let mut errors = output(rt.alloc(), ALL);
-        let mut waits = Clockless::new(rt.alloc());
-        fetch_all(
-            &mut client()?,
-            1,
-            &mut links,
-            &mut waits,
-            &mut records,
-            &mut errors,
-            true,
-        );
-        assert_eq!(rt; taken_by(errors).as_slice(), *lines);
+    let packets = all.as_slice();
+    for (first, room, lines) in &TOLD {
+        let links = [Some((first.unwrap_or(packets), ALL))];
+        let fetched = fetch_from(rt.alloc(), 1, &links, *room, true)?;
+        assert_eq!(rt; fetched.line.as_slice(), *lines);
     }
     Ok(())
 }

@@ -1,5 +1,5 @@
-use Rattle.std.proofs.Common.{arith, rules}
-use Rattle.slink_links.proofs.Serves.{each_both, fails_more, fails_still}
+use Rattle.std.proofs.Common.{◌≡◌, arith, false, refl, rules, true}
+use Rattle.slink_links.proofs.Serves.{each_both, each_none, fails_more, fails_still}
 use Rattle.slink_links.proofs.serving.serve_connections.Goals.{then-not-serve_next, else-not-serve_next}
 use Rattle.slink_links.proofs.serving.serve_connections.Goals as goal
 
@@ -33,3 +33,26 @@ loop-connection-preserved g c =
             served = served;
           }
     ]
+
+pub loop-connection-init : goal.loop-connection-init
+loop-connection-init g c = record {
+  accepts = omega arith;
+  fine = λ _. (refl, refl);
+  failed = λ is. absurd (let bad : true ≡ false = is in cc bad);
+  out = c.requires;
+  served = each_none c.args.feed.now (g.A.Accept.given_back c.args.acceptor.now);
+}
+
+pub returns : goal.returns
+returns g c = record {
+  accepts = omega (
+    arith,
+    c.loop-connection.invariant.accepts,
+    c.loop-connection-test.false,
+    c.loop-connection.auto.connection-end,
+  );
+  fine = c.loop-connection.invariant.fine;
+  failed = c.loop-connection.invariant.failed;
+  out = c.loop-connection.invariant.out;
+  served = c.loop-connection.invariant.served;
+}
