@@ -1,40 +1,34 @@
 -- Fields within slices.
 use Rattle.std.proofs.Common.{◌≡◌, ℕ, zero, suc, [], ◌∷◌, ◌+◌, ◌<◌, ◌≤◌, List, take, drop, get_or, length, arith, lit<}
-use Rattle.std.proofs.Common.{◌∙◌, refl}
+use Rattle.std.proofs.Common.{◌∙◌, ap, refl, sym}
 use Rattle.std.proofs.lemmas.List.{get_or-take, get_or-drop, drop_more}
 use Rattle.mseed_record.specs.Header.{key_at}
 use Rattle.mseed_time.specs.declared.order.Order.{Order}
 use Rattle.mseed_time.specs.declared.order.Order.TheVariants.{Big, Little}
 use Rattle.mseed_time.specs.Btime.{parts_at}
+use Rattle.mseed_time.specs.Fields.{number_at}
 
 byte_at : (b : List ℕ) (i : ℕ) → i < 10 → get_or (take 10 (drop 20 b)) i 0 ≡ get_or b (20 + i) 0
 byte_at b i h = get_or-take 10 (drop 20 b) i 0 h ∙ get_or-drop 20 b i 0
 
+-- two bytes that are the same spell the same
+number_by : (order : Order) (a b : List ℕ) (i j : ℕ) → get_or a i 0 ≡ get_or b j 0
+    → get_or a (suc i) 0 ≡ get_or b (suc j) 0 → number_at order 2 i a ≡ number_at order 2 j b
+number_by Big a b i j one two = cc (one, two)
+number_by Little a b i j one two = cc (one, two)
+
 -- a time that is read from its own ten bytes
 pub parts_at-slice : (order : Order) (b : List ℕ) → parts_at order 0 (take 10 (drop 20 b)) ≡ parts_at order 20 b
-parts_at-slice Big b =
+parts_at-slice order b =
+    let ten : List ℕ = take 10 (drop 20 b) in
+    let at = λ (i : ℕ) (h : i < 10). byte_at b i h in
     cc (
-      byte_at b 0 (lit< tt),
-      byte_at b 1 (lit< tt),
-      byte_at b 2 (lit< tt),
-      byte_at b 3 (lit< tt),
-      byte_at b 4 (lit< tt),
-      byte_at b 5 (lit< tt),
-      byte_at b 6 (lit< tt),
-      byte_at b 8 (lit< tt),
-      byte_at b 9 (lit< tt),
-    )
-parts_at-slice Little b =
-    cc (
-      byte_at b 0 (lit< tt),
-      byte_at b 1 (lit< tt),
-      byte_at b 2 (lit< tt),
-      byte_at b 3 (lit< tt),
-      byte_at b 4 (lit< tt),
-      byte_at b 5 (lit< tt),
-      byte_at b 6 (lit< tt),
-      byte_at b 8 (lit< tt),
-      byte_at b 9 (lit< tt),
+      number_by order ten b 0 20 (at 0 (lit< tt)) (at 1 (lit< tt)),
+      number_by order ten b 2 22 (at 2 (lit< tt)) (at 3 (lit< tt)),
+      at 4 (lit< tt),
+      at 5 (lit< tt),
+      at 6 (lit< tt),
+      number_by order ten b 8 28 (at 8 (lit< tt)) (at 9 (lit< tt)),
     )
 
 -- n bytes from a place on, one by one
@@ -59,3 +53,6 @@ key_at-bytes b h =
     let location = take-drop-bytes b 13 2 (omega arith) in
     let channel = take-drop-bytes b 15 3 (omega arith) in
     rw (network, station, location, channel) refl
+
+pub key_long : (b : List ℕ) → 20 ≤ length b → length (key_at b) ≡ 12
+key_long b h = ap (λ (xs : List ℕ). length xs) (sym (key_at-bytes b h))

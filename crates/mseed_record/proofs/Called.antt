@@ -13,6 +13,7 @@ use Rattle.mseed_record.specs.Chain.{type_at, next_at, Passes}
 use Rattle.mseed_record.specs.Record.{exponent_at, IsRecordBy, IsRecord}
 use Rattle.mseed_record.specs.Scan.{at_offset, DecidesFrom, Decides, short, by_chain, Needs, header, blockette}
 use Rattle.mseed_record.specs.Scan.{exponent, record_end}
+use Rattle.mseed_record.proofs.Chains.{along}
 use Rattle.mseed_record.proofs.Passing.{none_within}
 use Rattle.mseed_record.proofs.Framed.{passes_above, other_at, record_room}
 use Rattle.mseed_record.proofs.Prefixes.{Alike, alike_cut, byte_alike, number_alike, order_alike}
@@ -119,18 +120,9 @@ called_by prefix b n order os last alike r (short _ s) =
     omega (arith, room)
 called_by prefix b n order os last alike r (by_chain found passed answer _ long _ dated called) =
     let room = record_room order os last b r in
-    let one : Some found ≡ Some order =
-    sym dated ∙ (sym (order_alike b prefix alike (omega (arith, room)) long) ∙ r.order_is) in
-    let same : found ≡ order = grind arith in
-    let start : blockette_at order b ≡ blockette_at order prefix =
-    number_alike order 2 46 b prefix alike (omega (arith, room)) (omega (arith, long)) in
-    let there : Passes order b (blockette_at order prefix) os last =
-    subst (λ (k : ℕ). Passes order b k os last) start r.chain.others in
-    let steps : DecidesFrom order prefix 48 (blockette_at order prefix) passed (Need n) =
-    subst (λ (chosen : Order). DecidesFrom chosen prefix 48 (blockette_at chosen prefix) passed (Need n)) same
-    called in
+    let on = along prefix b found order passed os last (Need n) alike r long dated called in
     asks_along order b prefix 48 (blockette_at order prefix) passed os last n alike
-    (record { room = room.1; type = r.chain.found; size = r.size }) steps there
+    (record { room = room.1; type = r.chain.found; size = r.size }) on.steps on.there
 
 -- a record has all the bytes that are requested at its beginning
 pub called : (prefix more : List ℕ) (n k : ℕ) → Decides prefix (Need n) → IsRecord (take k (prefix ++ more))

@@ -1,7 +1,8 @@
 -- At most one prefix of some bytes is a record.
-use Rattle.std.proofs.Common.{◌≡◌, ℕ, ◌+◌, ◌^◌, ◌≤◌, List, [], ◌∷◌, length, take, Some, sym, ap, subst, ◌∙◌, arith}
-use Rattle.std.proofs.lemmas.List.{length-take-le, take-take}
-use Rattle.std.proofs.Math.Seq.{take-length}
+use Rattle.std.proofs.Common.{◌≡◌, ℕ, ◌+◌, ◌^◌, ◌≤◌, List, [], ◌∷◌, ◌++◌, length, length-append, take, Some, sym, ap}
+use Rattle.std.proofs.Common.{subst, ◌∙◌, arith}
+use Rattle.std.proofs.lemmas.List.{append_cancel_left, length-take-le, take-take}
+use Rattle.std.proofs.Math.Seq.{take-append_seam, take-length}
 use Rattle.mseed_time.specs.declared.order.Order.{Order}
 use Rattle.mseed_record.specs.Header.{blockette_at}
 use Rattle.mseed_record.specs.Chain.{type_at, next_at, Passes}
@@ -69,3 +70,20 @@ pub whole_record : (b : List ℕ) (k : ℕ) → k ≤ length b → IsRecord (tak
 whole_record b k h r s =
     let all : length b ≤ length b = omega arith in
     one_record b k (length b) h all r (subst (λ (xs : List ℕ). IsRecord xs) (sym (take-length b)) s)
+
+-- what bytes begin with
+pub prefix_is : (r rest bytes : List ℕ) → bytes ≡ r ++ rest → take (length r) bytes ≡ r
+prefix_is r rest bytes e = ap (take (length r)) e ∙ take-append_seam r rest
+
+-- a first record, and what is left behind it, are the only ones
+pub one_first : (bytes r s tail rest : List ℕ) → IsRecord r → IsRecord s → bytes ≡ r ++ tail → bytes ≡ s ++ rest
+    → (r ≡ s) × (tail ≡ rest)
+one_first bytes r s tail rest is it d e =
+    let fits : length r ≤ length bytes = omega (arith, ap (λ (xs : List ℕ). length xs) d, length-append r tail) in
+    let within : length s ≤ length bytes = omega (arith, ap (λ (xs : List ℕ). length xs) e, length-append s rest) in
+    let one : take (length r) bytes ≡ r = prefix_is r tail bytes d in
+    let two : take (length s) bytes ≡ s = prefix_is s rest bytes e in
+    let size : length r ≡ length s = one_record bytes (length r) (length s) fits within (subst IsRecord (sym one) is)
+    (subst IsRecord (sym two) it) in
+    let same : r ≡ s = sym one ∙ (ap (λ (n : ℕ). take n bytes) size ∙ two) in
+    (same, append_cancel_left s tail rest (ap (λ (x : List ℕ). x ++ tail) (sym same) ∙ (sym d ∙ e)))

@@ -11,6 +11,7 @@ use Rattle.mseed_record.specs.Chain.{type_at, next_at, Passes}
 use Rattle.mseed_record.specs.Record.{IsRecordBy, exponent_at}
 use Rattle.mseed_record.specs.Scan.{is_version3, at_1000, at_offset, DecidesFrom, Decides, version3, no_data, no_order}
 use Rattle.mseed_record.specs.Scan.{by_chain, HasNoRecord}
+use Rattle.mseed_record.proofs.Chains.{along}
 use Rattle.mseed_record.proofs.Prefixes.{Alike, alike_cut, byte_alike, number_alike, fixed_alike, order_alike}
 use Rattle.mseed_record.proofs.Framed.{passes_above, other_at, record_room}
 use Rattle.mseed_record.proofs.Passing.{none_within}
@@ -88,19 +89,10 @@ refused_by prefix b f order os last alike r (no_order _ long _ none) =
     grind arith
 refused_by prefix b f order os last alike r (by_chain found passed answer _ long _ dated refused) =
     let room = record_room order os last b r in
-    let one : Some found ≡ Some order =
-    sym dated ∙ (sym (order_alike b prefix alike (omega (arith, room)) long) ∙ r.order_is) in
-    let same : found ≡ order = grind arith in
-    let start : blockette_at order b ≡ blockette_at order prefix =
-    number_alike order 2 46 b prefix alike (omega (arith, room)) (omega (arith, long)) in
-    let there : Passes order b (blockette_at order prefix) os last =
-    subst (λ (n : ℕ). Passes order b n os last) start r.chain.others in
-    let low : 48 ≤ blockette_at order prefix = subst (λ (n : ℕ). 48 ≤ n) start r.chain.low in
-    let steps : DecidesFrom order prefix 48 (blockette_at order prefix) passed (Not f) =
-    subst (λ (chosen : Order). DecidesFrom chosen prefix 48 (blockette_at chosen prefix) passed (Not f)) same
-    refused in
+    let on = along prefix b found order passed os last (Not f) alike r long dated refused in
+    let low : 48 ≤ blockette_at order prefix = subst (λ (n : ℕ). 48 ≤ n) on.start r.chain.low in
     chain_goes_on order b prefix 48 (blockette_at order prefix) passed os last f alike (omega arith) low room.1
-    r.chain.found r.exponent_low r.exponent_high r.inside steps there
+    r.chain.found r.exponent_low r.exponent_high r.inside on.steps on.there
 
 -- refused for good: no bytes that follow make a record of such a prefix
 pub refused : (prefix : List ℕ) (f : FrameFault) → Decides prefix (Not f) → HasNoRecord prefix

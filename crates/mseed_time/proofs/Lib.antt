@@ -1,4 +1,5 @@
 pub mod Days
+pub mod Ranges
 pub mod Naming
 pub mod Civil
 pub mod Joining
