@@ -12,13 +12,15 @@ use Rattle.mseed_steim.specs.declared.scheme.Scheme.TheVariants.{Two}
 use Rattle.mseed_steim.specs.Spelling.{IsWithin}
 use Rattle.mseed_steim.specs.Frames.{DataWord, data_word, data_words, words_from, word_count, code_at}
 use Rattle.mseed_steim.specs.Packing.{IsEmptyWord, PacksRun}
+use Rattle.mseed_steim.proofs.Packs.{rest_shorter}
+use Rattle.mseed_pack.specs.declared.payload.Left.{Left}
 use Rattle.mseed_pack.specs.declared.window.Window.{Window}
-use Rattle.mseed_pack.specs.private.Filling.{AreSet, HoldsDifferences, width_of}
+use Rattle.mseed_pack.specs.private.Filling.{AreFrames, AreLeft, AreSet, HoldsDifferences, width_of}
 use Rattle.mseed_pack.specs.Packing.{HoldsFrames}
 use Rattle.mseed_pack.specs.Stretches.{differences}
 use Rattle.mseed_pack.proofs.Constants.{words_step}
 use Rattle.mseed_pack.proofs.Differences.{length-differences}
-use Rattle.mseed_pack.proofs.Room.{packs_on, used_is, some_used, words_fit}
+use Rattle.mseed_pack.proofs.Room.{packs_on, used_is, words_fit}
 
 -- a part of a list
 pub length_part : {X : Type 0} (xs : List X) (i j : ℕ) → i ≤ j → j ≤ length xs → length (slice_range xs i j) ≡ j - i
@@ -89,34 +91,15 @@ part_long s xs first end n used words p f =
     (omega (arith, fits, inside, length-differences xs)) in
     (fits, size ∙ (let e : first + n - first ≡ n = omega arith in e))
 
-run_left : (s : Scheme) (xs : List ℤ) (first end n used words : ℕ) (p : List ℕ) → Fills s xs first end n used words p
-    → PacksRun s (take words (data_words p)) (slice_range (differences xs) first end)
-    (drop used (slice_range (differences xs) first end))
-run_left s xs first end n used words p f =
-    let left = slice_range (differences xs) first end in
-    let part = slice_range (differences xs) first (first + n) in
-    let ws = take words (data_words p) in
-    ⊎_elim
-    (λ (e : first + n ≡ end). subst (λ (j : ℕ). PacksRun s ws (slice_range (differences xs) first j)
-    (drop used (slice_range (differences xs) first j))) e f.packed)
-    (λ (b : (7 * (length p / 4) ≤ n) × (first + n ≤ end)).
-    let prefix : part ≡ take n left = part_prefix (differences xs) first n end b.1 in
-    let count : length ws ≡ words = length-take-le words (data_words p) f.words_fit in
-    let most = words_fit p in
-    let fits = f.words_fit in
-    let long = f.long in
-    let on = packs_on s ws left (drop used part) n (omega (arith, count, fits, most, b.0))
-    (subst (λ (ds : List ℤ). PacksRun s ws ds (drop used part)) prefix f.packed) in
-    let inside : on.used ≤ length part = subst (λ (ds : List ℤ). on.used ≤ length ds) (sym prefix) on.inside in
-    let same : used ≡ on.used =
-    used_is part used on.used f.used_fits inside (on.rest_is
-    ∙ ap (λ (ds : List ℤ). drop on.used ds) (sym prefix)) in
-    subst (λ (u : ℕ). PacksRun s ws left (drop u left)) (sym same) on.run)
-    f.enough
+-- Where seven for each word are packed, those are packed of all that are left.
+record OfAll (s : Scheme) (xs : List ℤ) (first end used words : ℕ) (p : List ℕ) : Type 0 where
+  run : PacksRun s (take words (data_words p)) (slice_range (differences xs) first end)
+      (drop used (slice_range (differences xs) first end))
+  few : used ≤ 7 * words
 
-used_few : (s : Scheme) (xs : List ℤ) (first end n used words : ℕ) (p : List ℕ) → Fills s xs first end n used words p
-    → (7 * (length p / 4) ≤ n) × (first + n ≤ end) → used ≤ 7 * words
-used_few s xs first end n used words p f b =
+of_all : (s : Scheme) (xs : List ℤ) (first end n used words : ℕ) (p : List ℕ) → Fills s xs first end n used words p
+    → (7 * (length p / 4) ≤ n) × (first + n ≤ end) → OfAll s xs first end used words p
+of_all s xs first end n used words p f b =
     let left = slice_range (differences xs) first end in
     let part = slice_range (differences xs) first (first + n) in
     let ws = take words (data_words p) in
@@ -131,7 +114,20 @@ used_few s xs first end n used words p f b =
     used_is part used on.used f.used_fits inside (on.rest_is
     ∙ ap (λ (ds : List ℤ). drop on.used ds) (sym prefix)) in
     let few = on.few in
-    omega (arith, same, few, count)
+    record {
+      run = subst (λ (u : ℕ). PacksRun s ws left (drop u left)) (sym same) on.run;
+      few = omega (arith, same, few, count);
+    }
+
+run_left : (s : Scheme) (xs : List ℤ) (first end n used words : ℕ) (p : List ℕ) → Fills s xs first end n used words p
+    → PacksRun s (take words (data_words p)) (slice_range (differences xs) first end)
+    (drop used (slice_range (differences xs) first end))
+run_left s xs first end n used words p f =
+    ⊎_elim
+    (λ (e : first + n ≡ end). subst (λ (j : ℕ). PacksRun s (take words (data_words p))
+    (slice_range (differences xs) first j) (drop used (slice_range (differences xs) first j))) e f.packed)
+    (λ (b : (7 * (length p / 4) ≤ n) × (first + n ≤ end)). (of_all s xs first end n used words p f b).run)
+    f.enough
 
 pub some_used_of : (s : Scheme) (xs : List ℤ) (first end n used words : ℕ) (p : List ℕ)
     → Fills s xs first end n used words p → (0 < used) × (first + used ≤ end)
@@ -139,7 +135,7 @@ some_used_of s xs first end n used words p f =
     let part = slice_range (differences xs) first (first + n) in
     let sized = part_long s xs first end n used words p f in
     let count : length (take words (data_words p)) ≡ words = length-take-le words (data_words p) f.words_fit in
-    let each = some_used s (take words (data_words p)) part (drop used part) f.packed in
+    let each = rest_shorter s (take words (data_words p)) part (drop used part) f.packed in
     let word = some_word p f.long in
     let fits = f.used_fits in
     let order = f.order in
@@ -180,7 +176,7 @@ holds s xs first end n used words p q f size set =
     (λ (e : used ≡ length (slice_range (differences xs) first (first + n))). ⊎_elim
     (λ (j : first + n ≡ end). inl (omega (arith, count, e, sized.1, all, j)))
     (λ (b : (7 * (length p / 4) ≤ n) × (first + n ≤ end)).
-    let few = used_few s xs first end n used words p f b in
+    let few = (of_all s xs first end n used words p f b).few in
     let fits = f.words_fit in
     let most = words_fit p in
     let long = f.long in
@@ -214,7 +210,7 @@ holds s xs first end n used words p q f size set =
     }
 
 -- by what packing answered
-pub fills_by : (s : Scheme) (xs : List ℤ) (first end n used words size : ℕ) (p : List ℕ) (ds : List ℤ)
+fills_by : (s : Scheme) (xs : List ℤ) (first end n used words size : ℕ) (p : List ℕ) (ds : List ℤ)
     → ds ≡ slice_range (differences xs) first (first + n) → first < end → end ≤ length xs
     → n ≡ min (end - first) (7 * (size / 4)) → length p ≡ size → 64 ≤ size → size % 64 ≡ 0
     → PacksRun s (take words (data_words p)) ds (drop used ds) → (used ≤ length ds) × (words ≤ length (data_words p))
@@ -241,6 +237,25 @@ fills_by s xs first end n used words size p ds e order inside count long some wh
       behind = behind;
       codes = codes;
     }
+
+-- the same, of what a window holds of the samples that are left
+pub fills_from : (s : Scheme) (l : Left) (w : Window) (n used words : ℕ) (old p : List ℕ) → AreLeft l → AreFrames old
+    → HoldsDifferences l.samples.now w → w.first ≤ l.first → l.first + n ≤ w.end → length w.differences ≡ 7056
+    → n ≡ min (l.end - l.first) (7 * (length old / 4)) → length p ≡ length old
+    → PacksRun s (take words (data_words p)) (slice_range w.differences (l.first - w.first) (l.first - w.first + n))
+    (drop used (slice_range w.differences (l.first - w.first) (l.first - w.first + n)))
+    → (used ≤ length (slice_range w.differences (l.first - w.first) (l.first - w.first + n)))
+    × (words ≤ length (data_words p))
+    → (used ≡ length (slice_range w.differences (l.first - w.first) (l.first - w.first + n)))
+    ⊎ (words ≡ length (data_words p))
+    → AllByRecursion IsEmptyWord (drop words (data_words p))
+    → ((k : ℕ) → k < word_count p → (k < 3) ⊎ (k % 16 ≡ 0) → code_at p k ≡ 0)
+    → Fills s l.samples.now l.first l.end n used words p
+fills_from s l w n used words old p left frames held low high room count size packed fits whole behind codes =
+    fills_by s l.samples.now l.first l.end n used words (length old) p
+    (slice_range w.differences (l.first - w.first) (l.first - w.first + n))
+    (held_part l.samples.now w l.first n held low high room) left.some left.inside count size frames.long frames.whole
+    packed fits whole behind codes
 
 -- no difference of a part is too large, where none of all is
 pub none_large : (s : Scheme) (xs : List ℤ) (first n i : ℕ) (ds : List ℤ)

@@ -122,16 +122,6 @@ used_is ds m n a b e =
     let size : length (drop m ds) ≡ length (drop n ds) = ap (λ (xs : List ℤ). length xs) e in
     omega (arith, a, b, size, length-drop m ds, length-drop n ds)
 
--- each word takes one difference at least
-pub some_used : (s : Scheme) (ws : List DataWord) (ds rest : List ℤ) → PacksRun s ws ds rest
-    → length rest + length ws ≤ length ds
-some_used s [] ds rest run = let same = ap (λ (xs : List ℤ). length xs) run in omega (arith, same)
-some_used s (w ∷ ws) ds rest run =
-    let later = some_used s ws (drop run.0 ds) rest run.1.1 in
-    let some = run.1.0.some in
-    let inside = run.1.0.inside in
-    omega (arith, later, some, inside, length-drop run.0 ds)
-
 length-filter : (p : ℕ → Bool) (xs : List ℕ) → length (filter p xs) ≤ length xs
 length-filter p [] = omega arith
 length-filter p (x ∷ xs) = by (p x) (length-filter p xs)

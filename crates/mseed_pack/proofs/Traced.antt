@@ -19,8 +19,10 @@ use Rattle.mseed_time.specs.Fields.{number_at}
 use Rattle.mseed_time.specs.Naming.{Names}
 use Rattle.mseed_time.specs.Rate.{Ratio, rate_of}
 use Rattle.mseed_time.specs.Ratios.{ratio_of}
-use Rattle.mseed_record.specs.Header.{key_at, factor_at, multiplier_at}
+use Rattle.mseed_time.proofs.Ranges.{day_within, year_days}
+use Rattle.mseed_record.specs.Header.{factor_at, multiplier_at}
 use Rattle.mseed_record.specs.View.{View, IsView, leap_of}
+use Rattle.mseed_record.proofs.Bytes.{key_long}
 use Rattle.mseed_record.proofs.Called.{record_long}
 use Rattle.mseed_steim.specs.Reading.{count_of}
 use Rattle.mseed_stream.proofs.Records.{view_record}
@@ -37,20 +39,6 @@ use Rattle.mseed_pack.specs.Packing.{IsPacked, IsPacking, Piece, ArePlaced}
 use Rattle.mseed_pack.specs.declared.options.Options.{Options}
 use Rattle.mseed_pack.proofs.Filled.{length_part}
 use Rattle.mseed_pack.proofs.Leaps.{all_left}
-
--- a key has twelve bytes
-key_long : (b : List ℕ) → 48 ≤ length b → length (key_at b) ≡ 12
-key_long b h =
-    let network = length_part b 18 20 (omega arith) (omega (arith, h)) in
-    let station = length_part b 8 13 (omega arith) (omega (arith, h)) in
-    let location = length_part b 13 15 (omega arith) (omega (arith, h)) in
-    let channel = length_part b 15 18 (omega arith) (omega (arith, h)) in
-    let first = length-append (slice_range b 18 20) (slice_range b 8 13) in
-    let second = length-append (slice_range b 18 20 ++ slice_range b 8 13) (slice_range b 13 15) in
-    let all : length (key_at b) ≡ length ((slice_range b 18 20 ++ slice_range b 8 13) ++ slice_range b 13 15) + length
-    (slice_range b 15 18) =
-    length-append ((slice_range b 18 20 ++ slice_range b 8 13) ++ slice_range b 13 15) (slice_range b 15 18) in
-    omega (arith, network, station, location, channel, first, second, all)
 
 -- a number of two bytes
 number_small : (order : Order) (b : List ℕ) (o : ℕ) → ((i : ℕ) → get_or b i 0 < 256) → number_at order 2 o b < 2 ^ 16
@@ -101,18 +89,6 @@ steps_in place (v ∷ vs) _ (one _ _ first rest is later) =
     (omega (arith, size)) behind
 
 -- the instants that have a name
-year_days : (year : ℕ) → days_in_year year ≤ 366
-year_days year = by (is_leap year)
-  where
-    by : (b : Bool) → cond b 366 365 ≤ 366
-    by true = omega arith
-    by false = omega arith
-
-day_within : (year day : ℕ) → 1900 ≤ year → year ≤ 2100 → 1 ≤ day → day ≤ 366 → (neg_ℤ (pos 30_000) ≤ℤ day_of year day)
-    × (day_of year day ≤ℤ pos 50_000)
-day_within year day low high first last =
-    (omega (arith, ints, low, high, first, last), omega (arith, ints, low, high, first, last))
-
 within : (day : ℤ) (hour minute second fraction : ℕ) (us instant : ℤ) → neg_ℤ (pos 30_000) ≤ℤ day → day ≤ℤ pos 50_000
     → hour ≤ 23 → minute ≤ 59 → second ≤ 60 → fraction ≤ 9999
     → neg_ℤ (pos 50) ≤ℤ us → us ≤ℤ pos 49
@@ -179,7 +155,7 @@ is_trace s o vs records each continuous series fits packing =
     (subst (λ (n : ℕ). AreStepsFrom 0 n (steps_from 0 vs)) size (steps_in 0 vs s.samples series.samples)) in
     record {
       key = ap (λ (k : List ℕ). length k) series.codes
-          ∙ key_long first.bytes (record_long first.bytes (view_record first view));
+          ∙ key_long first.bytes (omega (arith, record_long first.bytes (view_record first view)));
       start = start_within s o packing.pieces s.samples steps fits.some packing.joined packing.placed packing.each;
       factor = subst (λ (z : ℤ). FitsSigned w16 z) (sym series.factor)
           (fits_16 (number_at first.order 2 32 first.bytes) (number_small first.order first.bytes 32 octets));

@@ -1,11 +1,7 @@
 //! Records that are gathered, to be written at once.
-ghost use Rattle.std.specs.Prelude.{◌≡◌, ◌^◌, ◌%◌, ◌<◌, ◌≤◌, length, take, drop};
+ghost use Rattle.std.specs.Prelude.{◌≡◌, ◌^◌, ◌<◌, ◌≤◌, length, take, drop};
 ghost use Rattle.mseed_audit.specs.Series.{AreSteps};
-ghost use Rattle.mseed_pack.specs.private.Filling.{HoldsDifferences};
-ghost use Rattle.mseed_pack.specs.Fitting.{Fits};
-ghost use Rattle.mseed_pack.specs.Outcome.{PacksOn};
-ghost use Rattle.mseed_pack.specs.private.Standing.{StandsAt, IsStretch};
-ghost use Rattle.mseed_pack.specs.Traces.{trace_of};
+ghost use Rattle.mseed_pack.specs.private.Standing.{CanGoOn, ComesTo, StandsAt, IsStretch};
 
 use crate::options::Options;
 use crate::record::{length_of, write_record};
@@ -19,6 +15,13 @@ pub(crate) struct Place {
     pub(crate) stretch: Stretch,
     pub(crate) number: u64,
     pub(crate) first: usize,
+}
+
+/// A series, and how it is packed.
+#[derive(Clone, Copy)]
+pub(crate) struct Job<'a> {
+    pub(crate) series: &'a SeriesView<'a>,
+    pub(crate) options: &'a Options,
 }
 
 /// What was gathered: so many bytes of records, and the place behind them.
@@ -43,72 +46,34 @@ pub(crate) fn first_place(series: &SeriesView) -> Place
 }
 
 /// Gathers records from a place on, one behind another, until no sample is left or no room for a record.
-pub(crate) fn gather(
-    series: &SeriesView,
-    options: &Options,
-    place: Place,
-    window: &mut Window,
-    out: &mut [u8],
-) -> Batch
-    requires fits { Fits (trace_of series.now) options.now }
-    requires standing { StandsAt series.now.steps.now (length series.now.samples.now) place }
-    requires more { place.first < length series.now.samples.now }
+pub(crate) fn gather(job: &Job, place: Place, window: &mut Window, out: &mut [u8]) -> Batch
+    requires on { CanGoOn job.now place window.old }
     requires long { 4096 ≤ length out.old }
-    requires held { HoldsDifferences series.now.samples.now window.old }
-    ensures held { HoldsDifferences series.now.samples.now window.new }
-    ensures standing { StandsAt series.now.steps.now (length series.now.samples.now) result.next }
-    ensures on { PacksOn (trace_of series.now) options.now place result.next (take result.bytes out.new) }
-    ensures some { place.first < result.next.first }
+    ensures to { ComesTo job.now place result.next window.new (take result.bytes out.new) }
     ensures within { result.bytes ≤ length out.new }
     ensures behind { drop result.bytes out.new ≡ drop result.bytes out.old }
 {
-    let length = length_of(options);
+    let length = length_of(job.options);
     let mut next = place;
     let mut bytes = 0;
     while length <= out.len() - bytes {
-        if next.first == series.samples.len() {
+        if next.first == job.series.samples.len() {
             return Batch { bytes, next };
         }
-        next = put_record(
-            series,
-            options,
-            next,
-            window,
-            &mut out[bytes..bytes + length],
-        );
+        next = put_record(job, next, window, &mut out[bytes..bytes + length]);
         bytes += length;
     }
     Batch { bytes, next }
 }
 
 /// Puts the record at a place, and answers the place behind it.
-fn put_record(
-    series: &SeriesView,
-    options: &Options,
-    place: Place,
-    window: &mut Window,
-    out: &mut [u8],
-) -> Place
-    requires fits { Fits (trace_of series.now) options.now }
-    requires standing { StandsAt series.now.steps.now (length series.now.samples.now) place }
-    requires more { place.first < length series.now.samples.now }
-    requires size { length out.old ≡ 2 ^ options.now.exponent }
-    requires held { HoldsDifferences series.now.samples.now window.old }
-    ensures held { HoldsDifferences series.now.samples.now window.new }
-    ensures standing { StandsAt series.now.steps.now (length series.now.samples.now) result }
-    ensures on { PacksOn (trace_of series.now) options.now place result out.new }
-    ensures some { place.first < result.first }
+fn put_record(job: &Job, place: Place, window: &mut Window, out: &mut [u8]) -> Place
+    requires on { CanGoOn job.now place window.old }
+    requires size { length out.old ≡ 2 ^ job.now.options.now.exponent }
+    ensures { ComesTo job.now place result window.new out.new }
 {
-    let stretch = stretch_at(series, place.stretch, place.first);
-    let count = write_record(
-        series,
-        options,
-        stretch,
-        place.number,
-        place.first,
-        window,
-        out,
-    );
+    let stretch = stretch_at(job.series, place.stretch, place.first);
+    let count = write_record(job, stretch, place.number, place.first, window, out);
     Place {
         stretch,
         number: place.number + 1,

@@ -3,11 +3,11 @@ ghost use Rattle.std.specs.Prelude.{◌≡◌, ℕ, ◌+◌, ◌-◌, ◌*◌, �
 ghost use Rattle.std.specs.Prelude.{pos, slice_index_or, slice_range};
 ghost use Rattle.mseed_steim.specs.Frames.{word_at};
 ghost use Rattle.mseed_steim.specs.Spelling.{IsWithin};
-ghost use Rattle.mseed_pack.specs.private.Filling.{AreSet, HoldsDifferences, width_of};
+ghost use Rattle.mseed_pack.specs.private.Filling.{AreFrames, AreLeft, AreSet, AreTaken, HoldsDifferences, width_of};
 ghost use Rattle.mseed_pack.specs.Packing.{HoldsFrames};
 ghost use Rattle.mseed_pack.specs.Stretches.{differences};
 
-use crate::payload::Filled;
+use crate::payload::{Filled, Left};
 use crate::window::Window;
 use byteorder::{BigEndian, ByteOrder};
 use mseed_steim::{Packed, Scheme, pack_words};
@@ -22,31 +22,24 @@ const MOST: usize = 7;
 /// the window.
 pub(crate) fn fill_frames(
     scheme: Scheme,
-    samples: &[i32],
-    first: usize,
-    end: usize,
+    left: &Left,
     window: &mut Window,
     payload: &mut [u8],
 ) -> Filled
-    requires some { first < end }
-    requires inside { end ≤ length samples.now }
-    requires long { 64 ≤ length payload.old }
-    requires short { length payload.old ≤ 4032 }
-    requires whole { length payload.old % 64 ≡ 0 }
-    requires fits { All (IsWithin (width_of scheme)) (differences samples.now) }
-    requires held { HoldsDifferences samples.now window.old }
-    ensures held { HoldsDifferences samples.now window.new }
-    ensures holds { HoldsFrames scheme (slice_range (differences samples.now) first end)
-        (slice_range samples.now first (first + result.samples)) result.frames payload.new }
-    ensures some { 0 < result.samples }
-    ensures within { first + result.samples ≤ end }
-    ensures few { result.samples < 2 ^ 16 }
+    requires left { AreLeft left.now }
+    requires frames { AreFrames payload.old }
+    requires fits { All (IsWithin (width_of scheme)) (differences left.now.samples.now) }
+    requires held { HoldsDifferences left.now.samples.now window.old }
+    ensures held { HoldsDifferences left.now.samples.now window.new }
+    ensures holds { HoldsFrames scheme (slice_range (differences left.now.samples.now) left.now.first left.now.end)
+        (slice_range left.now.samples.now left.now.first (left.now.first + result.samples)) result.frames payload.new }
+    ensures taken { AreTaken left.now result }
 {
-    let count = (end - first).min(MOST * (payload.len() / WORD));
-    window.hold(samples, first, count);
-    let at = first - window.first;
+    let count = (left.end - left.first).min(MOST * (payload.len() / WORD));
+    window.hold(left.samples, left.first, count);
+    let at = left.first - window.first;
     match pack_words(scheme, &window.differences[at..at + count], payload) {
-        Ok(packed) => finish(samples, first, packed, payload),
+        Ok(packed) => finish(left.samples, left.first, packed, payload),
         // Each difference fits the scheme.
         Err(_) => Filled {
             samples: 0,

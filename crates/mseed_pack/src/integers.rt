@@ -2,10 +2,10 @@
 ghost use Rattle.std.specs.Prelude.{◌≡◌, ◌+◌, ◌-◌, ◌*◌, ◌^◌, ◌<◌, ◌≤◌, ◌++◌, length, All, pos, slice_index_or};
 ghost use Rattle.std.specs.Prelude.{slice_range, drop};
 ghost use Rattle.mseed_steim.specs.Spelling.{IsWithin};
-ghost use Rattle.mseed_pack.specs.private.Filling.{bytes_in, integer_bytes};
+ghost use Rattle.mseed_pack.specs.private.Filling.{AreFrames, AreLeft, AreTaken, bytes_in, integer_bytes};
 ghost use Rattle.mseed_pack.specs.Packing.{HoldsIntegers};
 
-use crate::payload::Filled;
+use crate::payload::{Filled, Left};
 use byteorder::{BigEndian, ByteOrder};
 
 /// How wide an integer is, in bytes.
@@ -26,28 +26,23 @@ fn bytes_in(width: Width) -> usize
 }
 
 /// Writes the samples from one on, as many as there is room for, as big-endian integers, and zeros behind them.
-pub(crate) fn fill_integers(
-    width: Width,
-    samples: &[i32],
-    first: usize,
-    end: usize,
-    payload: &mut [u8],
-) -> Filled
-    requires some { first < end }
-    requires inside { end ≤ length samples.now }
-    requires long { 64 ≤ length payload.old }
-    requires short { length payload.old ≤ 4032 }
-    requires fits { All (IsWithin (8 * bytes_in width)) samples.now }
-    ensures holds { HoldsIntegers (bytes_in width) (end - first)
-        (slice_range samples.now first (first + result.samples)) result.frames payload.new }
-    ensures some { 0 < result.samples }
-    ensures within { first + result.samples ≤ end }
-    ensures few { result.samples < 2 ^ 16 }
+pub(crate) fn fill_integers(width: Width, left: &Left, payload: &mut [u8]) -> Filled
+    requires left { AreLeft left.now }
+    requires frames { AreFrames payload.old }
+    requires fits { All (IsWithin (8 * bytes_in width)) left.now.samples.now }
+    ensures holds { HoldsIntegers (bytes_in width) (left.now.end - left.now.first)
+        (slice_range left.now.samples.now left.now.first (left.now.first + result.samples)) result.frames payload.new }
+    ensures taken { AreTaken left.now result }
 {
     let bytes = bytes_in(width);
-    let count = (end - first).min(payload.len() / bytes);
+    let count = (left.end - left.first).min(payload.len() / bytes);
     for index in 0..count {
-        put_sample(width, samples, first + index, &mut payload[bytes * index..]);
+        put_sample(
+            width,
+            left.samples,
+            left.first + index,
+            &mut payload[bytes * index..],
+        );
     }
     payload[bytes * count..].fill(0);
     Filled {

@@ -22,7 +22,7 @@ ghost use Rattle.mseed_pack.specs.ReadBack.{AreApart, AreViewsOf, HaveSamples, I
 ghost use Rattle.mseed_pack.specs.ReadBack.{Packed, ReadsAs, StandsIn, records_of_all};
 ghost use Rattle.mseed_pack.specs.Traces.{trace_of};
 
-use crate::batch::{first_place, gather};
+use crate::batch::{Job, first_place, gather};
 use crate::options::Options;
 use crate::series_view::SeriesView;
 use crate::window::Window;
@@ -58,9 +58,10 @@ pub fn a_packing_exists(series: &SeriesView, options: &Options)
 {
     let mut records = [0; LONGEST];
     let mut window = Window::new();
+    let job = Job { series, options };
     let mut place = first_place(series);
     while place.first < series.samples.len() {
-        place = gather(series, options, place, &mut window, &mut records).next;
+        place = gather(&job, place, &mut window, &mut records).next;
     }
 }
 

@@ -1,13 +1,12 @@
 //! Packing into a room that the caller lends.
 ghost use Rattle.std.specs.Prelude.{◌≡◌, ◌≤◌, ◌<◌, ◌++◌, List, ℕ, length, take, drop};
 ghost use Rattle.mseed_audit.specs.Series.{AreSteps};
-ghost use Rattle.mseed_pack.specs.private.Filling.{HoldsDifferences};
 ghost use Rattle.mseed_pack.specs.Fitting.{Fits};
-ghost use Rattle.mseed_pack.specs.Outcome.{FillsRoom, PacksOn};
-ghost use Rattle.mseed_pack.specs.private.Standing.{StandsAt};
+ghost use Rattle.mseed_pack.specs.Outcome.{FillsRoom};
+ghost use Rattle.mseed_pack.specs.private.Standing.{CanGoOn, ComesTo};
 ghost use Rattle.mseed_pack.specs.Traces.{trace_of};
 
-use crate::batch::{Batch, Place, first_place, gather};
+use crate::batch::{Batch, Job, Place, first_place, gather};
 use crate::options::Options;
 use crate::series_view::SeriesView;
 use crate::window::Window;
@@ -25,11 +24,12 @@ pub fn pack_into(series: &SeriesView, options: &Options, room: &mut [u8]) -> u64
 {
     let mut records = [0; LONGEST];
     let mut window = Window::new();
+    let job = Job { series, options };
     let mut place = first_place(series);
     let mut filled = 0;
     while place.first < series.samples.len() {
         let left = &mut room[filled..];
-        let batch = fill_on(series, options, place, &mut window, &mut records, left);
+        let batch = fill_on(&job, place, &mut window, &mut records, left);
         filled += batch.bytes.min(room.len() - filled);
         place = batch.next;
     }
@@ -38,29 +38,22 @@ pub fn pack_into(series: &SeriesView, options: &Options, room: &mut [u8]) -> u64
 
 /// Packs from a place on into what is left of the room; or through these bytes, where a record could be longer.
 fn fill_on(
-    series: &SeriesView,
-    options: &Options,
+    job: &Job,
     place: Place,
     window: &mut Window,
     records: &mut [u8],
     room: &mut [u8],
 ) -> Batch
-    requires fits { Fits (trace_of series.now) options.now }
-    requires standing { StandsAt series.now.steps.now (length series.now.samples.now) place }
-    requires more { place.first < length series.now.samples.now }
+    requires on { CanGoOn job.now place window.old }
     requires long { 4096 ≤ length records.old }
-    requires held { HoldsDifferences series.now.samples.now window.old }
-    ensures held { HoldsDifferences series.now.samples.now window.new }
-    ensures standing { StandsAt series.now.steps.now (length series.now.samples.now) result.next }
-    ensures some { place.first < result.next.first }
-    ensures on { (bytes : List ℕ) × (PacksOn (trace_of series.now) options.now place result.next bytes
+    ensures { (bytes : List ℕ) × (ComesTo job.now place result.next window.new bytes
         × (room.new ≡ take (length room.old) bytes ++ drop (length bytes) room.old)
         × (result.bytes ≡ length bytes)) }
 {
     if LONGEST <= room.len() {
-        return gather(series, options, place, window, room);
+        return gather(job, place, window, room);
     }
-    let batch = gather(series, options, place, window, records);
+    let batch = gather(job, place, window, records);
     overwrite(&records[..batch.bytes], room);
     batch
 }

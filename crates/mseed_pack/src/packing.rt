@@ -12,7 +12,7 @@ ghost use Rattle.mseed_pack.specs.ReadBack.{ReadsAs};
 ghost use Rattle.mseed_pack.specs.declared.options.Encoding.TheVariants.{Steim2};
 ghost use Rattle.mseed_pack.specs.Traces.{trace_of};
 
-use crate::batch::{first_place, gather};
+use crate::batch::{Job, first_place, gather};
 use crate::fault::PackFault;
 use crate::fitting::fit_view;
 use crate::law::{fewest_words, reads_back};
@@ -199,9 +199,10 @@ fn pack_through<W: Sink>(
     ensures beside { W.beside sink.new ≡ W.beside sink.old }
 {
     let length = length_of(options);
+    let job = Job { series, options };
     let mut place = first_place(series);
     while place.first < series.samples.len() {
-        let batch = gather(series, options, place, window, records);
+        let batch = gather(&job, place, window, records);
         if let Err(taken) = write_all_of(sink, &records[..batch.bytes]) {
             return Err(u128::from(place.number) * length as u128 + taken as u128);
         }

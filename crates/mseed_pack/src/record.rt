@@ -2,18 +2,19 @@
 ghost use Rattle.std.specs.Prelude.{◌≡◌, ◌+◌, ◌-◌, ◌^◌, ◌%◌, ◌<◌, ◌≤◌, length, slice_range, All, List, ℕ, ℤ, IsSome};
 ghost use Rattle.std.specs.Prelude.{IfSome};
 ghost use Rattle.mseed_record.specs.Fields.{header_of};
-ghost use Rattle.mseed_pack.specs.private.Filling.{HoldsDifferences};
+ghost use Rattle.mseed_pack.specs.private.Filling.{AreFrames, AreLeft, AreTaken, HoldsDifferences};
 ghost use Rattle.mseed_pack.specs.Fitting.{Fits, HasTimeOutside, IsDifferenceOf, IsSampleOf};
 ghost use Rattle.mseed_pack.specs.Packing.{HoldsSamples, IsHeaderOf, IsPacked};
 ghost use Rattle.mseed_pack.specs.Traces.{trace_of};
 ghost use Rattle.mseed_pack.specs.private.Standing.{IsStretch};
 ghost use Rattle.mseed_pack.specs.Stretches.{differences, flags_of, step_behind};
 
+use crate::batch::Job;
 use crate::clock::time_at;
 use crate::frames::fill_frames;
 use crate::integers::{Width, fill_integers};
 use crate::options::{Encoding, Options};
-use crate::payload::Filled;
+use crate::payload::{Filled, Left};
 use crate::series_view::SeriesView;
 use crate::stretch::Stretch;
 use crate::window::Window;
@@ -35,34 +36,22 @@ pub(crate) fn length_of(options: &Options) -> usize
 }
 
 /// Writes the samples from one on, as many as there is room for, as the encoding has them.
-fn fill(
-    encoding: Encoding,
-    samples: &[i32],
-    first: usize,
-    end: usize,
-    window: &mut Window,
-    payload: &mut [u8],
-) -> Filled
-    requires some { first < end }
-    requires inside { end ≤ length samples.now }
-    requires long { 64 ≤ length payload.old }
-    requires short { length payload.old ≤ 4032 }
-    requires whole { length payload.old % 64 ≡ 0 }
-    requires samples_fit { All (IsSampleOf encoding) samples.now }
-    requires differences_fit { All (IsDifferenceOf encoding) (differences samples.now) }
-    requires held { HoldsDifferences samples.now window.old }
-    ensures held { HoldsDifferences samples.now window.new }
-    ensures holds { HoldsSamples encoding (slice_range (differences samples.now) first end)
-        (slice_range samples.now first (first + result.samples)) result.frames payload.new }
-    ensures some { 0 < result.samples }
-    ensures within { first + result.samples ≤ end }
-    ensures few { result.samples < 2 ^ 16 }
+fn fill(encoding: Encoding, left: &Left, window: &mut Window, payload: &mut [u8]) -> Filled
+    requires left { AreLeft left.now }
+    requires frames { AreFrames payload.old }
+    requires samples_fit { All (IsSampleOf encoding) left.now.samples.now }
+    requires differences_fit { All (IsDifferenceOf encoding) (differences left.now.samples.now) }
+    requires held { HoldsDifferences left.now.samples.now window.old }
+    ensures held { HoldsDifferences left.now.samples.now window.new }
+    ensures holds { HoldsSamples encoding (slice_range (differences left.now.samples.now) left.now.first left.now.end)
+        (slice_range left.now.samples.now left.now.first (left.now.first + result.samples)) result.frames payload.new }
+    ensures taken { AreTaken left.now result }
 {
     match encoding {
-        Encoding::Int16 => fill_integers(Width::Two, samples, first, end, payload),
-        Encoding::Int32 => fill_integers(Width::Four, samples, first, end, payload),
-        Encoding::Steim1 => fill_frames(Scheme::One, samples, first, end, window, payload),
-        Encoding::Steim2 => fill_frames(Scheme::Two, samples, first, end, window, payload),
+        Encoding::Int16 => fill_integers(Width::Two, left, payload),
+        Encoding::Int32 => fill_integers(Width::Four, left, payload),
+        Encoding::Steim1 => fill_frames(Scheme::One, left, window, payload),
+        Encoding::Steim2 => fill_frames(Scheme::Two, left, window, payload),
     }
 }
 
@@ -128,45 +117,41 @@ fn fields_at(
 
 /// Writes a record of a stretch, from one sample on, and answers how many it holds.
 pub(crate) fn write_record(
-    series: &SeriesView,
-    options: &Options,
+    job: &Job,
     stretch: Stretch,
     number: u64,
     first: usize,
     window: &mut Window,
     out: &mut [u8],
 ) -> usize
-    requires fits { Fits (trace_of series.now) options.now }
-    requires standing { IsStretch series.now.steps.now (length series.now.samples.now) stretch }
+    requires fits { Fits (trace_of job.now.series.now) job.now.options.now }
+    requires standing { IsStretch job.now.series.now.steps.now (length job.now.series.now.samples.now) stretch }
     requires begin { stretch.begin ≤ first }
     requires end { first < stretch.end }
-    requires inside { stretch.end ≤ length series.now.samples.now }
-    requires size { length out.old ≡ 2 ^ options.now.exponent }
+    requires inside { stretch.end ≤ length job.now.series.now.samples.now }
+    requires size { length out.old ≡ 2 ^ job.now.options.now.exponent }
     requires long { 128 ≤ length out.old }
     requires short { length out.old ≤ 4096 }
     requires whole { length out.old % 64 ≡ 0 }
     requires numbered { number < 2 ^ 63 }
-    requires held { HoldsDifferences series.now.samples.now window.old }
-    ensures held { HoldsDifferences series.now.samples.now window.new }
-    ensures packed { IsPacked (trace_of series.now) options.now (record {
+    requires held { HoldsDifferences job.now.series.now.samples.now window.old }
+    ensures held { HoldsDifferences job.now.series.now.samples.now window.new }
+    ensures packed { IsPacked (trace_of job.now.series.now) job.now.options.now (record {
       number = number;
       first = first;
-      samples = slice_range series.now.samples.now first (first + result);
+      samples = slice_range job.now.series.now.samples.now first (first + result);
       bytes = out.new;
     }) }
     ensures some { 0 < result }
     ensures within { first + result ≤ stretch.end }
 {
-    let encoding = options.encoding;
-    let filled = fill(
-        encoding,
-        series.samples,
+    let left = Left {
+        samples: job.series.samples,
         first,
-        stretch.end,
-        window,
-        &mut out[HEADER..],
-    );
-    let fields = match fields_at(series, options, stretch, number, first, filled) {
+        end: stretch.end,
+    };
+    let filled = fill(job.options.encoding, &left, window, &mut out[HEADER..]);
+    let fields = match fields_at(job.series, job.options, stretch, number, first, filled) {
         Some(fields) => fields,
         // Each instant can be written.
         None => return 0,

@@ -16,7 +16,7 @@ use Rattle.mseed_record.specs.Scan.{exponent, record_end}
 use Rattle.mseed_record.proofs.Chains.{along}
 use Rattle.mseed_record.proofs.Passing.{none_within}
 use Rattle.mseed_record.proofs.Framed.{passes_above, other_at, record_room}
-use Rattle.mseed_record.proofs.Prefixes.{Alike, alike_cut, byte_alike, number_alike, order_alike}
+use Rattle.mseed_record.proofs.Prefixes.{Alike, alike_cut, byte_alike, number_alike}
 
 -- bytes are requested behind those that are there
 pub needs_more : (b : List ℕ) (n : ℕ) → Needs b n → length b < n

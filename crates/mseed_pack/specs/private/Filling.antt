@@ -1,9 +1,11 @@
 -- Steps of filling a payload.
-use Rattle.std.specs.Prelude.{◌≡◌, ℕ, ◌+◌, ◌-◌, ◌*◌, ◌^◌, ◌<◌, ◌≤◌, List, length, slice_index_or, ℤ, pos, neg_ℤ, ◌≤ℤ◌}
-use Rattle.std.specs.Prelude.{◌<ℤ◌}
+use Rattle.std.specs.Prelude.{◌≡◌, ℕ, ◌+◌, ◌-◌, ◌*◌, ◌%◌, ◌^◌, ◌<◌, ◌≤◌, List, length, slice_index_or, ℤ, pos}
+use Rattle.std.specs.Prelude.{neg_ℤ, ◌≤ℤ◌, ◌<ℤ◌}
 use Rattle.byteorder.specs.Endian.{big_bytes}
 use Rattle.mseed_steim.specs.Spelling.{residue}
 use Rattle.mseed_pack.specs.declared.integers.Width.{Width}
+use Rattle.mseed_pack.specs.declared.payload.Filled.{Filled}
+use Rattle.mseed_pack.specs.declared.payload.Left.{Left}
 use Rattle.mseed_pack.specs.declared.window.Window.{Window}
 use Rattle.mseed_pack.specs.Stretches.{differences}
 use Rattle.mseed_pack.specs.declared.integers.Width.TheVariants.{Two as Short, Four as Long}
@@ -43,3 +45,20 @@ pub record HoldsDifferences (samples : List ℤ) (window : Window) : Type 0 wher
 -- a number less than a limit, and no less than its negative
 abbrev pub IsUnder : ℤ → ℤ → Type 0
 IsUnder limit z = (neg_ℤ limit ≤ℤ z) × (z <ℤ limit)
+
+-- some are left
+pub record AreLeft (left : Left) : Type 0 where
+  pub some : left.first < left.end
+  pub inside : left.end ≤ length left.samples.now
+
+-- frames, as a record's payload has them
+pub record AreFrames (payload : List ℕ) : Type 0 where
+  pub long : 64 ≤ length payload
+  pub short : length payload ≤ 4032
+  pub whole : length payload % 64 ≡ 0
+
+-- some of them were put there
+pub record AreTaken (left : Left) (filled : Filled) : Type 0 where
+  pub some : 0 < filled.samples
+  pub within : left.first + filled.samples ≤ left.end
+  pub few : filled.samples < 2 ^ 16

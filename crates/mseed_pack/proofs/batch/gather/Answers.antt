@@ -10,9 +10,9 @@ use Rattle.mseed_pack.proofs.batch.gather.Goals as goal
 
 pub loop-out-init : goal.loop-out-init
 loop-out-init c = record {
-  held = c.requires.held;
-  standing = c.requires.standing;
-  on = on_none (trace_of c.args.series.now) c.args.options.now c.args.place;
+  held = c.requires.on.held;
+  standing = c.requires.on.standing;
+  on = on_none (trace_of c.args.job.now.series.now) c.args.job.now.options.now c.args.place;
   within = omega arith;
   order = omega arith;
   some = omega arith;
@@ -21,8 +21,8 @@ loop-out-init c = record {
 
 pub loop-out-preserved : goal.loop-out-preserved
 loop-out-preserved c =
-    let s = trace_of c.args.series.now in
-    let o = c.args.options.now in
+    let s = trace_of c.args.job.now.series.now in
+    let o = c.args.job.now.options.now in
     let l = c.loop-out in
     let size = c.length_of-length.result in
     let buf = c.put_record-next.new.out in
@@ -58,14 +58,33 @@ loop-out-preserved c =
       behind = stays;
     }
 
-pub put_record-next-requires-clause-more : goal.put_record-next-requires-clause-more
-put_record-next-requires-clause-more c =
+pub put_record-next-requires-clause-on : goal.put_record-next-requires-clause-on
+put_record-next-requires-clause-on c =
     let inside = c.loop-out.invariant.standing.inside in
-    omega (arith, inside, c.if-next-series.false)
+    record {
+      fits = c.requires.on.fits;
+      standing = c.loop-out.invariant.standing;
+      more = omega (arith, inside, c.if-next-job.false);
+      few = c.requires.on.few;
+      held = c.loop-out.invariant.held;
+    }
 
-pub returns-clause-some : goal.returns-clause-some
-returns-clause-some c =
+pub returns-then-next-job-clause-to : goal.returns-then-next-job-clause-to
+returns-then-next-job-clause-to c = record {
+  held = c.loop-out.invariant.held;
+  standing = c.loop-out.invariant.standing;
+  on = c.loop-out.invariant.on;
+  some = omega (arith, c.requires.on.more, c.if-next-job.true);
+}
+
+pub returns-clause-to : goal.returns-clause-to
+returns-clause-to c =
     let some = c.loop-out.invariant.some in
     let short = c.length_of-length.ensures.short in
     let kept = c.loop-out.auto.out in
-    omega (arith, some, short, kept, c.requires.long, c.loop-out-test.false)
+    record {
+      held = c.loop-out.invariant.held;
+      standing = c.loop-out.invariant.standing;
+      on = c.loop-out.invariant.on;
+      some = omega (arith, some, short, kept, c.requires.long, c.loop-out-test.false);
+    }

@@ -7,9 +7,9 @@ use Rattle.mseed_pack.proofs.batch.gather.Given as goal
 
 abbrev pub invariant-loop-out : goal.invariant-loop-out
 invariant-loop-out l = record {
-  held : HoldsDifferences l.series.samples.now l.window;
-  standing : StandsAt l.series.steps.now (length l.series.samples.now) l.next;
-  on : PacksOn (trace_of l.series) l.options l.fn.place l.next (take l.bytes l.out);
+  held : HoldsDifferences l.job.series.now.samples.now l.window;
+  standing : StandsAt l.job.series.now.steps.now (length l.job.series.now.samples.now) l.next;
+  on : PacksOn (trace_of l.job.series.now) l.job.options.now l.fn.place l.next (take l.bytes l.out);
   within : l.bytes ≤ length l.out;
   order : l.fn.place.first ≤ l.next.first;
   some : l.bytes ≤ 4096 * (l.next.first - l.fn.place.first);

@@ -14,10 +14,10 @@ pub loop-index-preserved : goal.loop-index-preserved
 loop-index-preserved c =
     let w : ℕ = bytes_in c.args.width in
     let r : ℕ = c.bytes_in-bytes.result in
-    let xs = c.args.samples.now in
+    let xs = c.args.left.now.samples.now in
     let p = c.loop-index.payload in
     let index = c.loop-index.index in
-    let first = c.args.first in
+    let first = c.args.left.now.first in
     let old = c.args.payload.now in
     let size = length old in
     let same : r ≡ w = c.loop-index.invariant.bytes_are in
@@ -28,7 +28,7 @@ loop-index-preserved c =
     let more : index + 1 ≤ size / r = omega (arith, count, test) in
     let most : r * (size / r) ≤ size = mul-div-le size r in
     let each : r * (index + 1) ≤ r * (size / r) = mul-le-mul_left r more in
-    let inside : first + index < length xs = omega (arith, count, test, c.requires.inside, c.requires.some) in
+    let inside : first + index < length xs = omega (arith, count, test, c.requires.left.inside, c.requires.left.some) in
     let part : length (slice_range xs first (first + index)) ≡ first + index - first =
     length_part xs first (first + index) (omega arith) (omega (arith, inside)) in
     let index_is : first + index - first ≡ index = omega arith in

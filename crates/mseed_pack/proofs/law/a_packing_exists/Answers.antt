@@ -4,10 +4,10 @@ use Rattle.mseed_pack.proofs.law.a_packing_exists.Goals as goal
 pub loop-place-preserved : goal.loop-place-preserved
 loop-place-preserved c =
     let before = c.loop-place.invariant.packed in
-    let on = c.gather.ensures.on in
+    let on = c.gather.ensures.to.on in
     record {
-      held = c.gather.ensures.held;
-      standing = c.gather.ensures.standing;
+      held = c.gather.ensures.to.held;
+      standing = c.gather.ensures.to.standing;
       packed = (
         before.0 ++ on.records,
         (

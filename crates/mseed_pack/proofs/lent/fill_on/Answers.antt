@@ -2,8 +2,8 @@ use Rattle.std.proofs.Common.{◌≡◌, ◌++◌, ◌∙◌, sym, ap, arith, ru
 use Rattle.std.proofs.lemmas.List.{take-append-drop, take_all, length-take-le}
 use Rattle.mseed_pack.proofs.lent.fill_on.Goals as goal
 
-pub returns-then-room-ge-LONGEST-clause-on : goal.returns-then-room-ge-LONGEST-clause-on
-returns-then-room-ge-LONGEST-clause-on c =
+pub returns-then-room-ge-LONGEST : goal.returns-then-room-ge-LONGEST
+returns-then-room-ge-LONGEST c =
     let n = c.gather.result.bytes in
     let new = c.gather.new.out in
     let old = c.args.room.now in
@@ -15,12 +15,12 @@ returns-then-room-ge-LONGEST-clause-on c =
     let rest : drop (length (take n new)) old ≡ drop n new = ap (λ (m : ℕ). drop m old) size
     ∙ sym c.gather.ensures.behind in (
       take n new,
-      (c.gather.ensures.on, sym (take-append-drop n new) ∙ (λ i. sym bytes i ++ sym rest i), sym size),
+      (c.gather.ensures.to, sym (take-append-drop n new) ∙ (λ i. sym bytes i ++ sym rest i), sym size),
     )
 
-pub returns-clause-on : goal.returns-clause-on
-returns-clause-on c =
+pub returns : goal.returns
+returns c =
     let n = c.gather-batch.result.bytes in
     let size : length (take n c.gather-batch.new.out) ≡ n =
     length-take-le n c.gather-batch.new.out c.gather-batch.ensures.within in
-    (take n c.gather-batch.new.out, (c.gather-batch.ensures.on, c.overwrite.ensures, sym size))
+    (take n c.gather-batch.new.out, (c.gather-batch.ensures.to, c.overwrite.ensures, sym size))

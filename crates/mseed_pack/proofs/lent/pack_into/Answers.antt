@@ -30,8 +30,8 @@ loop-place-init c =
 pub loop-place-preserved : goal.loop-place-preserved
 loop-place-preserved c =
     let before = c.loop-place.invariant.written in
-    let on = c.fill_on-batch.ensures.on in
-    let packs = on.1.0 in
+    let on = c.fill_on-batch.ensures in
+    let packs = on.1.0.on in
     let p = c.loop-place.room in
     let n = c.loop-place.filled in
     let records : List (List ℕ) = before.0 ++ packs.records in
@@ -40,8 +40,8 @@ loop-place-preserved c =
     let size : length (concat records) ≡ length (concat before.0) + length on.0 = ap (λ (l : List ℕ). length l) all
     ∙ length-append (concat before.0) on.0 in
     record {
-      held = c.fill_on-batch.ensures.held;
-      standing = c.fill_on-batch.ensures.standing;
+      held = on.1.0.held;
+      standing = on.1.0.standing;
       written = (
         records,
         (
@@ -54,6 +54,11 @@ loop-place-preserved c =
         ),
       );
     }
+
+pub loop-place-smaller : goal.loop-place-smaller
+loop-place-smaller c =
+    let some = c.fill_on-batch.ensures.1.0.some in
+    omega (arith, some, c.loop-place-test.true)
 
 pub returns : goal.returns
 returns c =

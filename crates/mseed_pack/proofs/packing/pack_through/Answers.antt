@@ -15,7 +15,7 @@ returns-in-Err-clause-err g c =
     let prefix = emitted_prefix s o l.place c.gather-batch.result.next c.in-Err.taken b
     (g.W.Sink.written c.args.sink.now)
     (g.W.Sink.written l.sink) (g.W.Sink.written c.write_all_of.new.sink) l.invariant.emitted
-    c.gather-batch.ensures.on c.in-Err.ensures.within c.in-Err.ensures.err c.in-Err.ensures.failed in
+    c.gather-batch.ensures.to.on c.in-Err.ensures.within c.in-Err.ensures.err c.in-Err.ensures.failed in
     let number : l.place.number * 2 ^ o.exponent ≡ c.from.result * c.length_of-length.result =
     ap (λ (m : ℕ). m * 2 ^ o.exponent) (sym c.from.ensures)
     ∙ ap (λ (m : ℕ). c.from.result * m) (sym c.length_of-length.ensures.value) in
@@ -49,11 +49,11 @@ loop-place-preserved g c =
     let l = c.loop-place in
     let b = take c.gather-batch.result.bytes c.gather-batch.new.out in
     record {
-      held = c.gather-batch.ensures.held;
-      standing = c.gather-batch.ensures.standing;
+      held = c.gather-batch.ensures.to.held;
+      standing = c.gather-batch.ensures.to.standing;
       emitted = emitted_more s o l.place c.gather-batch.result.next b (g.W.Sink.written c.args.sink.now)
           (g.W.Sink.written l.sink) (g.W.Sink.written c.write_all_of.new.sink) l.invariant.emitted
-          c.gather-batch.ensures.on c.in_default.ensures.ok c.in_default.ensures.fine;
+          c.gather-batch.ensures.to.on c.in_default.ensures.ok c.in_default.ensures.fine;
       contents = takes_on (g.W.Sink.written c.args.sink.now) (g.W.Sink.written l.sink)
           (g.W.Sink.written c.write_all_of.new.sink) (g.W.Sink.contents c.args.sink.now) (g.W.Sink.contents l.sink)
           (g.W.Sink.contents c.write_all_of.new.sink) l.invariant.contents (

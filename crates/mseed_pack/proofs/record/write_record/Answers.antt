@@ -13,7 +13,8 @@ use Rattle.mseed_pack.proofs.record.write_record.Goals as goal
 
 pub returns-in-Ok-clause-packed : goal.returns-in-Ok-clause-packed
 returns-in-Ok-clause-packed c =
-    let p = c.args.series.now in
+    let p = c.args.job.now.series.now in
+    let o = c.args.job.now.options.now in
     let xs = p.samples.now in
     let first = c.args.first in
     let filled = c.fill-filled.result in
@@ -21,7 +22,7 @@ returns-in-Ok-clause-packed c =
     let few : first + filled.samples - first ≡ filled.samples = omega arith in
     let count : length mine ≡ filled.samples =
     length_part xs first (first + filled.samples) (omega arith)
-    (omega (arith, c.fill-filled.ensures.within, c.requires.inside)) ∙ few in
+    (omega (arith, c.fill-filled.ensures.taken.within, c.requires.inside)) ∙ few in
     let end = end_at (trace_of p) c.args.stretch first c.requires.standing c.requires.begin c.requires.end in
     let left_is : left_of (trace_of p) first ≡ slice_range (differences xs) first c.args.stretch.end =
     ap (λ (n : ℕ). slice_range (differences xs) first n) end in
@@ -36,21 +37,21 @@ returns-in-Ok-clause-packed c =
     c.write_header.new.out (omega (arith, c.requires.long)) rest size c.in-Ok.ensures.bytes in
     let fields = c.in-Some.ensures.fields mine c.write_header.new.out count in
     record {
-      some = omega (arith, count, c.fill-filled.ensures.some);
-      within = omega (arith, count, left_size, c.fill-filled.ensures.within);
+      some = omega (arith, count, c.fill-filled.ensures.taken.some);
+      within = omega (arith, count, left_size, c.fill-filled.ensures.taken.within);
       frames = filled.frames;
       header = header_of c.in-Some.fields;
       fields = fields;
       headed = record {
         octets = λ i. (c.type_inv.out i).fits;
         begins = parts.0;
-        exponent_low = omega (arith, fields.exponent, c.args.options.now.long);
-        exponent_high = omega (arith, fields.exponent, c.args.options.now.short);
+        exponent_low = omega (arith, fields.exponent, o.long);
+        exponent_high = omega (arith, fields.exponent, o.short);
         size = size ∙ c.requires.size ∙ ap (λ (n : ℕ). 2 ^ n) (sym fields.exponent);
       };
-      payload = subst (λ (l : List ℕ). HoldsSamples c.args.options.now.encoding (left_of (trace_of p) first) mine
+      payload = subst (λ (l : List ℕ). HoldsSamples o.encoding (left_of (trace_of p) first) mine
           filled.frames l) (sym parts.1)
-          (subst (λ (l : List ℤ). HoldsSamples c.args.options.now.encoding l mine filled.frames
+          (subst (λ (l : List ℤ). HoldsSamples o.encoding l mine filled.frames
           c.fill-filled.new.payload) (sym left_is) c.fill-filled.ensures.holds);
     }
 
