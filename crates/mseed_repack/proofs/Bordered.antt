@@ -31,6 +31,7 @@ use Rattle.mseed_stretches.specs.Stretches.{AreStretches, AreStretchesUpTo, samp
 use Rattle.mseed_stretches.proofs.Drifts.{close_alike, early_alike, late_alike, same_rates}
 use Rattle.mseed_stretches.proofs.Joining.{both_some, continuous}
 use Rattle.mseed_stretches.proofs.Runs.{samples_append}
+use Rattle.mseed_pack.proofs.ReadBack.{stand}
 use Rattle.mseed_pack.specs.declared.options.Options.{Options}
 use Rattle.mseed_pack.specs.Fitting.{Fits}
 use Rattle.mseed_pack.specs.Outcome.{IsTrace}
@@ -165,22 +166,6 @@ each_of_key key vs (s ∷ ss) ws (left, (first, cut)) keys (own, (rest, (parts, 
     (both_each (λ (v : View). IsTrue (is_of key v)) own rest
     (of_key_at key here.trace 0 own here.trace.samples code here.at)
     (each_of_key key left ss rest cut (each_at_back P s left all) more))
-
-each_record : (vs : List View) → AllByRecursion IsView vs → AllByRecursion IsRecord (bytes_in vs)
-each_record [] h = tt
-each_record (v ∷ vs) h = ((v.order, (h.0.0, (h.0.1.0, h.0.1.1.1.record_is))), each_record vs h.1)
-
-in_bytes : (vs : List View) (records : List (List ℕ)) → AreViewsOf records vs
-    → AreViews (concat records) (length (concat records)) vs
-in_bytes vs records h =
-    subst (λ (bs : List (List ℕ)). AreViews (concat bs) (length (concat bs)) vs) h.bytes (record {
-      each = h.each;
-      records = record {
-        joined = take_all (length (concat (bytes_in vs))) (concat (bytes_in vs)) (omega arith);
-        each = each_record vs h.each;
-      };
-      offset_is = refl;
-    })
 
 -- Two neighbours that were read, in one stretch or in two.
 
@@ -611,8 +596,8 @@ read_as laws o vs records P views fits packed is_so =
     record {
       views = all.0;
       are = are;
-      only = λ others h. laws.once (concat records) (length (concat records)) others all.0 (in_bytes others records h)
-          (in_bytes all.0 records are);
+      only = λ others h. laws.once (concat records) (length (concat records)) others all.0 (stand others records h)
+          (stand all.0 records are);
       is_so = is_so packed.stretches all.0 packed.are all.1.0;
     }
 

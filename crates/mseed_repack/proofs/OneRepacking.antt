@@ -12,7 +12,7 @@ use Rattle.std.specs.List.{AllByRecursion, concat}
 use Rattle.mseed_record.specs.Record.{IsRecord}
 use Rattle.mseed_record.specs.View.{View}
 use Rattle.mseed_record.proofs.Called.{record_long}
-use Rattle.mseed_record.proofs.OneRecord.{one_record}
+use Rattle.mseed_record.proofs.OneRecord.{one_first}
 use Rattle.mseed_stream.specs.Archive.{End, HasNoFurther, IsArchive, IsEndOf, clean, frame, truncated, is_clean}
 use Rattle.mseed_stream.specs.Device.{BytesRead, BytesWritten, IsPrefixOf, nothing_read}
 use Rattle.mseed_stream.specs.Fault.{IsStreamFault}
@@ -39,22 +39,6 @@ use Rattle.mseed_repack.specs.Repack.{IsPackedInto, IsPartPacked, IsRepacking, I
 use Rattle.mseed_repack.specs.Repack.{records_in}
 use Rattle.mseed_repack.specs.declared.fault.RepackFault.{RepackFault}
 use Rattle.mseed_repack.specs.declared.fault.RepackFault.TheVariants.{Stream, Broken, Misfit, Write, Memory}
-
-prefix_is : (r rest bytes : List ℕ) → bytes ≡ r ++ rest → take (length r) bytes ≡ r
-prefix_is r rest bytes e = ap (take (length r)) e ∙ take-append_seam r rest
-
--- a first record, and what is left behind it, are the only ones
-one_first : (bytes r s tail rest : List ℕ) → IsRecord r → IsRecord s → bytes ≡ r ++ tail → bytes ≡ s ++ rest
-    → (r ≡ s) × (tail ≡ rest)
-one_first bytes r s tail rest is it d e =
-    let fits : length r ≤ length bytes = omega (arith, ap (λ (xs : List ℕ). length xs) d, length-append r tail) in
-    let within : length s ≤ length bytes = omega (arith, ap (λ (xs : List ℕ). length xs) e, length-append s rest) in
-    let one : take (length r) bytes ≡ r = prefix_is r tail bytes d in
-    let two : take (length s) bytes ≡ s = prefix_is s rest bytes e in
-    let size : length r ≡ length s = one_record bytes (length r) (length s) fits within (subst IsRecord (sym one) is)
-    (subst IsRecord (sym two) it) in
-    let same : r ≡ s = sym one ∙ (ap (λ (n : ℕ). take n bytes) size ∙ two) in
-    (same, append_cancel_left s tail rest (ap (λ (x : List ℕ). x ++ tail) (sym same) ∙ (sym d ∙ e)))
 
 -- What a law of a lower room says.
 abbrev OneInput : Type 0
@@ -502,6 +486,20 @@ record Part (o : Options) (views : List View) (key : List ℕ) : Type 0 where
   taken : ℕ
   bytes_are : bytes ≡ take taken (concat records)
 
+-- a part of a channel's records is one of the channel of the same key
+abbrev of_key : (o : Options) (views : List View) (key other : List ℕ) → key ≡ other → Part o views key
+    → Part o views other
+of_key o views key other same p = record {
+  trace = p.trace;
+  series = subst (λ (k : List ℕ). IsSeriesOf p.trace (records_in views k)) same p.series;
+  records = p.records;
+  left = p.left;
+  packing = p.packing;
+  bytes = p.bytes;
+  taken = p.taken;
+  bytes_are = p.bytes_are;
+}
+
 same_parts : Laws → (o : Options) (views : List View) (key : List ℕ) (p q : Part o views key) → Either p.bytes q.bytes
 same_parts laws o views key p q =
     let same : q.trace ≡ p.trace = laws.series q.trace p.trace (records_in views key) q.series p.series in
@@ -536,46 +534,19 @@ two_parts : Laws → (o : Options) (views : List View) (fs gs : List Channel) (x
 two_parts laws o views [] [] x y xs ys t u p q a b e =
     let head : x ≡ y = cc (e) in
     let key : y.0 ≡ x.0 = ap (λ (c : Channel). c.0) (sym head) in
-    let other : Part o views x.0 = record {
-      trace = q.trace;
-      series = subst (λ (k : List ℕ). IsSeriesOf q.trace (records_in views k)) key q.series;
-      records = q.records;
-      left = q.left;
-      packing = q.packing;
-      bytes = q.bytes;
-      taken = q.taken;
-      bytes_are = q.bytes_are;
-    } in
+    let other : Part o views x.0 = of_key o views y.0 x.0 key q in
     subst (λ (xs : List ℕ). Either (xs ++ p.bytes) (u ++ q.bytes)) (sym a)
     (subst (λ (xs : List ℕ). Either p.bytes (xs ++ q.bytes)) (sym b) (same_parts laws o views x.0 p other))
 two_parts laws o views [] (d ∷ gs) x y xs ys t u p q a b e =
     let head : x ≡ d = cc (e) in
     let key : x.0 ≡ d.0 = ap (λ (c : Channel). c.0) head in
-    let mine : Part o views d.0 = record {
-      trace = p.trace;
-      series = subst (λ (k : List ℕ). IsSeriesOf p.trace (records_in views k)) key p.series;
-      records = p.records;
-      left = p.left;
-      packing = p.packing;
-      bytes = p.bytes;
-      taken = p.taken;
-      bytes_are = p.bytes_are;
-    } in
+    let mine : Part o views d.0 = of_key o views x.0 d.0 key p in
     subst (λ (xs : List ℕ). Either (xs ++ p.bytes) (u ++ q.bytes)) (sym a)
     (inl (first_part laws o views d gs u q.bytes mine b))
 two_parts laws o views (c ∷ fs) [] x y xs ys t u p q a b e =
     let head : y ≡ c = cc (e) in
     let key : y.0 ≡ c.0 = ap (λ (d : Channel). d.0) head in
-    let other : Part o views c.0 = record {
-      trace = q.trace;
-      series = subst (λ (k : List ℕ). IsSeriesOf q.trace (records_in views k)) key q.series;
-      records = q.records;
-      left = q.left;
-      packing = q.packing;
-      bytes = q.bytes;
-      taken = q.taken;
-      bytes_are = q.bytes_are;
-    } in
+    let other : Part o views c.0 = of_key o views y.0 c.0 key q in
     subst (λ (xs : List ℕ). Either (t ++ p.bytes) (xs ++ q.bytes)) (sym b)
     (inr (first_part laws o views c fs t p.bytes other a))
 two_parts laws o views (c ∷ fs) (d ∷ gs) x y xs ys t u p q (rs, (rest, a)) (qs, (left, b)) e =

@@ -1,7 +1,7 @@
 -- What was written when an archive was packed anew reads back.
 use Rattle.std.specs.Prelude.{⊤}
-use Rattle.std.proofs.Common.{◌≡◌, ◌↔◌, ℕ, ◌≤◌, List, [], ◌∷◌, ◌++◌, length, take, length-take, Option, IsTrue, Result}
-use Rattle.std.proofs.Common.{Ok, refl, sym, ap, subst, ◌∙◌, ⊎_elim, append_assoc, append-nil, arith}
+use Rattle.std.proofs.Common.{◌≡◌, ◌≢◌, ◌↔◌, ℕ, ◌≤◌, List, [], ◌∷◌, ◌++◌, length, take, length-take, Option, IsTrue, Result}
+use Rattle.std.proofs.Common.{Ok, map, refl, sym, ap, subst, ◌∙◌, ⊎_elim, append_assoc, append-nil, arith}
 use Rattle.std.specs.List.{AllByRecursion, concat}
 use Rattle.std.specs.Map.{keys_of}
 use Rattle.std.specs.Ordering.{nat_cmp, is_eq}
@@ -141,18 +141,19 @@ all_read : (o : Options) (views : List View) (packed : List Packed) → AllByRec
 all_read o views [] each = tt
 all_read o views (p ∷ ps) each = (each.0.reads, all_read o views ps each.1)
 
-others_apart : (key : List ℕ) (packed : List Packed)
-    → AllByRecursion (λ k. slice_cmp nat_cmp key k ≡ Less) (codes_of packed) → Others key packed
-others_apart key [] h = tt
-others_apart key (p ∷ ps) h = (
+-- what has a key above one has another
+pub others_by : {X : Type 0} (f : X → List ℕ) (key : List ℕ) (xs : List X)
+    → AllByRecursion (λ k. slice_cmp nat_cmp key k ≡ Less) (map f xs) → AllByRecursion (λ (x : X). f x ≢ key) xs
+others_by f key [] h = tt
+others_by f key (x ∷ xs) h = (
   λ same. false≢true (sym (ap is_eq h.0) ∙ ap (λ (k : List ℕ). same_key key k) same ∙ same_itself key),
-  others_apart key ps h.1,
+  others_by f key xs h.1,
 )
 
 apart : (packed : List Packed) → IsStrictlySortedBy (slice_cmp nat_cmp) (codes_of packed) → AreApart packed
 unfolding IsStrictlySortedBy
 apart [] sorted = tt
-apart (p ∷ ps) sorted = (others_apart p.series.codes ps sorted.0, apart ps sorted.1)
+apart (p ∷ ps) sorted = (others_by (λ (q : Packed). q.series.codes) p.series.codes ps sorted.0, apart ps sorted.1)
 
 own_views : (written : List View) (p : Packed) → ReadsAs p.series p.records → StandsIn written p → IsWritten written p
 own_views written p reads stands =

@@ -412,6 +412,10 @@ judged_more o views cs k ss room new ls c s ns vs lt at is le stands within cut 
           ∙ sym (length-append (take k cs) (c ∷ [])) ∙ ap (λ (ds : List Channel). length ds) next;
     }
 
+-- where all were looked at, what holds of those holds of all
+pub all_to_end : {X : Type 0} (P : X → Type 0) (xs : List X) (n : ℕ) → length xs ≤ n → All P (take n xs) → All P xs
+all_to_end {X} P xs n past all = subst (λ (ys : List X). All P ys) (take_all n xs past) all
+
 -- a standing that isn't of a kind
 
 pub unbroken : (s : Standing) → (s ≡ Broken → ⊥) → IsUnbroken s

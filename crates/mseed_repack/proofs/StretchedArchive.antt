@@ -32,7 +32,7 @@ use Rattle.mseed_repack.specs.declared.standing.Standing.{Standing}
 use Rattle.mseed_repack.specs.declared.standing.Standing.TheVariants.{Fit, Broken, Misfit}
 use Rattle.mseed_repack.proofs.Bordered.{Layers, own_of}
 use Rattle.mseed_repack.proofs.ChannelReadBack.{each_at_back, each_in_leading, kept_fit}
-use Rattle.mseed_repack.proofs.ReadBack.{all_records, none_further}
+use Rattle.mseed_repack.proofs.ReadBack.{all_records, none_further, others_by}
 
 -- The views of what was written of each channel, one channel's behind another's.
 
@@ -121,18 +121,10 @@ abbrev AreDistinct : List Channel → Type 0
 AreDistinct [] = ⊤
 AreDistinct (c ∷ cs) = AreOthers c.0 cs × AreDistinct cs
 
-behind_others : (key : List ℕ) (cs : List Channel)
-    → AllByRecursion (λ k. slice_cmp nat_cmp key k ≡ Less) (keys_of cs) → AreOthers key cs
-behind_others key [] h = tt
-behind_others key (c ∷ cs) h = (
-  λ same. false≢true (sym (ap is_eq h.0) ∙ ap (λ (k : List ℕ). same_key key k) same ∙ same_itself key),
-  behind_others key cs h.1,
-)
-
 distinct : (cs : List Channel) → IsStrictlySortedBy (slice_cmp nat_cmp) (keys_of cs) → AreDistinct cs
 unfolding IsStrictlySortedBy
 distinct [] sorted = tt
-distinct (c ∷ cs) sorted = (behind_others c.0 cs sorted.0, distinct cs sorted.1)
+distinct (c ∷ cs) sorted = (others_by (λ (d : Channel). d.0) c.0 cs sorted.0, distinct cs sorted.1)
 
 others_kept : (key : List ℕ) (cs : List Channel) (ss : List Standing) → AreOthers key cs
     → AreOthers key (kept_of cs ss)

@@ -1,6 +1,6 @@
 -- A whole archive, and how packing it anew ends.
-use Rattle.std.proofs.Common.{◌≡◌, ℕ, ◌<◌, ◌^◌, List, [], ◌∷◌, length, map, refl, sym, ap, subst, arith, IsTrue, Result}
-use Rattle.std.proofs.Common.{Ok, Err, OnOk, IfErr}
+use Rattle.std.proofs.Common.{◌≡◌, ℕ, ◌<◌, ◌^◌, List, [], ◌∷◌, ◌++◌, ◌∙◌, length, map, refl, sym, ap, subst, arith}
+use Rattle.std.proofs.Common.{IsTrue, Result, Ok, Err, OnOk, IfErr}
 use Rattle.std.specs.List.{AllByRecursion}
 use Rattle.std.specs.Result.{IsErrAnd}
 use Rattle.std.proofs.lemmas.List.{length-map}
@@ -8,7 +8,7 @@ use Rattle.mseed_record.specs.View.{View, IsView}
 use Rattle.mseed_record.specs.Viewing.{view_of}
 use Rattle.mseed_record.specs.declared.view.RecordView.{RecordView}
 use Rattle.mseed_stream.specs.Archive.{IsArchive}
-use Rattle.mseed_stream.specs.Device.{BytesRead, BytesWritten}
+use Rattle.mseed_stream.specs.Device.{BytesRead, BytesWritten, nothing_read}
 use Rattle.mseed_stream.specs.Split.{bytes_of_each}
 use Rattle.mseed_stream.specs.Walk.{bytes_in}
 use Rattle.mseed_audit.specs.Channels.{added_from}
@@ -29,7 +29,7 @@ views_each [] h = tt
 views_each (r ∷ rs) h = (h.0, views_each rs h.1)
 
 -- what was read and split is an archive
-pub archive_is : (h : BytesRead) (bytes : List ℕ) (rs : List RecordView) (cs : List Channel) → h.bytes ≡ bytes
+archive_is : (h : BytesRead) (bytes : List ℕ) (rs : List RecordView) (cs : List Channel) → h.bytes ≡ bytes
     → IsArchive bytes (bytes_of_each rs) []
     → AllByRecursion (λ (r : RecordView). IsView (view_of r)) rs → length rs < 2 ^ 40 → IsTrue h.is_at_end
     → h.failures ≡ 0 → AreVerdicts (added_from 0 (map view_of rs)) cs → IsArchiveOf h (map view_of rs) cs
@@ -44,6 +44,15 @@ archive_is h bytes rs cs same archive each few ended fine verdicts = record {
   };
   verdicts = verdicts;
 }
+
+-- of an input of which nothing had been read
+pub archive_read : (first h : BytesRead) (bytes : List ℕ) (rs : List RecordView) (cs : List Channel)
+    → first ≡ nothing_read → h.bytes ≡ first.bytes ++ bytes → h.failures ≡ first.failures → IsTrue h.is_at_end
+    → IsArchive bytes (bytes_of_each rs) [] → AllByRecursion (λ (r : RecordView). IsView (view_of r)) rs
+    → length rs < 2 ^ 40 → AreVerdicts (added_from 0 (map view_of rs)) cs → IsArchiveOf h (map view_of rs) cs
+archive_read first h bytes rs cs unread joined fine ended archive each few verdicts =
+    let same : h.bytes ≡ bytes = joined ∙ ap (λ (x : BytesRead). x.bytes ++ bytes) unread in
+    archive_is h bytes rs cs same archive each few ended (fine ∙ ap (λ (x : BytesRead). x.failures) unread) verdicts
 
 -- an error that is passed on
 ends_by : {U : Type 0} (r : Result U RepackFault) (Q : RepackFault → Type 0) (fault : RepackFault) (o : Options)

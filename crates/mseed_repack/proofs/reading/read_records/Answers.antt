@@ -12,28 +12,22 @@ loop-view-init g c = (
       (λ key. read_none key c.args.samples.now c.args.steps.now),
 )
 
-pub read_record-read-requires-clause-sound : goal.read_record-read-requires-clause-sound
-read_record-read-requires-clause-sound g c =
+pub read_record-read-requires : goal.read_record-read-requires
+read_record-read-requires g c =
     let l = c.loop-view in
-    next_of IsSound (AreReadSo l.read.samples l.read.steps l.samples l.steps) (g.R.Walk.left c.args.records)
-    (g.R.Walk.left l.rest) (g.R.Walk.left c.next.new.self) (view_of c.in-Some.view) c.in-Some.ensures.next
-    l.invariant.1 c.requires.walks.sound
-
-pub read_record-read-requires-clause-samples_fit : goal.read_record-read-requires-clause-samples_fit
-read_record-read-requires-clause-samples_fit g c =
-    let l = c.loop-view in
-    let far = samples_so_far (AreReadSo l.read.samples l.read.steps l.samples l.steps) (g.R.Walk.left c.args.records)
-    (g.R.Walk.left l.rest) (g.R.Walk.left c.next.new.self) (view_of c.in-Some.view) c.in-Some.ensures.next
-    l.invariant.1 in
-    omega (arith, far, (l.invariant.1.holds []).samples_count, c.requires.samples_fit, l.auto.samples)
-
-pub read_record-read-requires-clause-steps_fit : goal.read_record-read-requires-clause-steps_fit
-read_record-read-requires-clause-steps_fit g c =
-    let l = c.loop-view in
-    let far = steps_so_far (AreReadSo l.read.samples l.read.steps l.samples l.steps) (g.R.Walk.left c.args.records)
-    (g.R.Walk.left l.rest) (g.R.Walk.left c.next.new.self) (view_of c.in-Some.view) c.in-Some.ensures.next
-    l.invariant.1 in
-    omega (arith, far, (l.invariant.1.holds []).steps_count, c.requires.steps_fit, l.auto.steps)
+    let all = g.R.Walk.left c.args.records in
+    let left = g.R.Walk.left l.rest in
+    let rest = g.R.Walk.left c.next.new.self in
+    let v = view_of c.in-Some.view in
+    let Reads = AreReadSo l.read.samples l.read.steps l.samples l.steps in
+    let samples = samples_so_far Reads all left rest v c.in-Some.ensures.next l.invariant.1 in
+    let steps = steps_so_far Reads all left rest v c.in-Some.ensures.next l.invariant.1 in
+    let held = l.invariant.1.holds [] in
+    record {
+      sound = next_of IsSound Reads all left rest v c.in-Some.ensures.next l.invariant.1 c.requires.walks.sound;
+      samples_fit = omega (arith, samples, held.samples_count, c.requires.samples_fit, l.auto.samples);
+      steps_fit = omega (arith, steps, held.steps_count, c.requires.steps_fit, l.auto.steps);
+    }
 
 pub loop-view-preserved : goal.loop-view-preserved
 loop-view-preserved g c =
