@@ -26,6 +26,5 @@ pub mod Rosters
 pub mod Shorts
 pub mod Steps
 pub mod Telling
-pub mod Reported
 pub mod Trims
 pub mod Views

@@ -10,6 +10,7 @@ use Rattle.std.proofs.lemmas.Int.{ints, unsigned_abs-mul}
 use Rattle.std.proofs.lemmas.Nat.{mul-le}
 use Rattle.mseed_time.specs.Btime.{Parts, IsInstant, IsTime, day_of, days_in_year, first_fault, is_leap, instant_of}
 use Rattle.mseed_time.specs.Btime.{shift_of}
+use Rattle.mseed_time.proofs.Ranges.{day_within, year_days}
 use Rattle.mseed_time.specs.Fields.{number_at}
 use Rattle.mseed_time.specs.Join.{join_of, miss_of, missed_by, step_of}
 use Rattle.mseed_time.specs.Rate.{Ratio, IsRatio, rate_of}
@@ -106,18 +107,6 @@ rate_within v r is e =
 -- ---- the start
 is_time : (t : Parts) → first_fault t ≡ None → IsTime t
 is_time t e = grind (arith, nat_tests, e)
-
-year_days : (year : ℕ) → days_in_year year ≤ 366
-year_days year = by (is_leap year)
-  where
-    by : (b : Bool) → cond b 366 365 ≤ 366
-    by true = omega arith
-    by false = omega arith
-
-day_within : (year day : ℕ) → 1900 ≤ year → year ≤ 2100 → 1 ≤ day → day ≤ 366 → (neg_ℤ (pos 30_000) ≤ℤ day_of year day)
-    × (day_of year day ≤ℤ pos 50_000)
-day_within year day low high first last =
-    (omega (arith, ints, low, high, first, last), omega (arith, ints, low, high, first, last))
 
 within : (day shift us : ℤ) (hour minute second fraction : ℕ) → neg_ℤ (pos 30_000) ≤ℤ day → day ≤ℤ pos 50_000
     → hour ≤ 23 → minute ≤ 59 → second ≤ 60 → fraction ≤ 9999 → neg_ℤ (pos 300_000_000_000) ≤ℤ shift

@@ -1,7 +1,7 @@
 //! Packing a series.
-ghost use Rattle.std.specs.Prelude.{◌≡◌, ◌≤◌, ◌++◌, IfErr, IfOk, List, length, ℕ};
-ghost use Rattle.std.specs.Io.KnownBytes.{Appends};
+ghost use Rattle.std.specs.Prelude.{◌≡◌, ◌≤◌, IfErr, IfOk, List, length, ℕ};
 ghost use Rattle.std.specs.List.{AllByRecursion};
+ghost use Rattle.mseed_stream.specs.Calls.{WritesOn};
 ghost use Rattle.mseed_audit.specs.Series.{AreSteps};
 ghost use Rattle.mseed_pack.specs.private.Filling.{HoldsDifferences};
 ghost use Rattle.mseed_pack.specs.Fitting.{Fits};
@@ -39,11 +39,10 @@ pub fn pack<A: Allocator + Copy, W: Sink>(
     sink: &mut W,
 ) -> Result<u64, PackFault>
     ensures outcome { IsOutcome result series.now options.now (W.written sink.old) (W.written sink.new) }
-    ensures beside { W.beside sink.new ≡ W.beside sink.old }
 
     // What the sink is known to hold grew by what it accepted.
-    ensures contents { (bytes : List ℕ) → (W.written sink.new).bytes ≡ (W.written sink.old).bytes ++ bytes
-        → Appends (W.contents sink.old) (W.contents sink.new) bytes }
+    ensures writes { WritesOn (W.written sink.old) (W.written sink.new) (W.contents sink.old) (W.contents sink.new)
+        (W.beside sink.old) (W.beside sink.new) }
 
     // What a series that fits is packed into reads back as the series: a continuous channel.
     ensures reads_back { (records : List (List ℕ)) → Fits series.now options.now
@@ -70,11 +69,10 @@ pub fn pack_view<W: Sink>(
 ) -> Result<u64, PackFault>
     requires steps { AreSteps (length series.now.samples.now) series.now.steps.now }
     ensures outcome { IsOutcome result (trace_of series.now) options.now (W.written sink.old) (W.written sink.new) }
-    ensures beside { W.beside sink.new ≡ W.beside sink.old }
 
     // What the sink is known to hold grew by what it accepted.
-    ensures contents { (bytes : List ℕ) → (W.written sink.new).bytes ≡ (W.written sink.old).bytes ++ bytes
-        → Appends (W.contents sink.old) (W.contents sink.new) bytes }
+    ensures writes { WritesOn (W.written sink.old) (W.written sink.new) (W.contents sink.old) (W.contents sink.new)
+        (W.beside sink.old) (W.beside sink.new) }
 
     // What a series that fits is packed into reads back as the series: a continuous channel.
     ensures reads_back { (records : List (List ℕ)) → Fits (trace_of series.now) options.now
@@ -97,9 +95,8 @@ fn pack_if_fit<W: Sink>(
 ) -> Result<u64, PackFault>
     requires steps { AreSteps (length series.now.samples.now) series.now.steps.now }
     ensures outcome { IsOutcome result (trace_of series.now) options.now (W.written sink.old) (W.written sink.new) }
-    ensures contents { (bytes : List ℕ) → (W.written sink.new).bytes ≡ (W.written sink.old).bytes ++ bytes
-        → Appends (W.contents sink.old) (W.contents sink.new) bytes }
-    ensures beside { W.beside sink.new ≡ W.beside sink.old }
+    ensures writes { WritesOn (W.written sink.old) (W.written sink.new) (W.contents sink.old) (W.contents sink.new)
+        (W.beside sink.old) (W.beside sink.new) }
     ensures trace { IsTrace (trace_of series.now) }
 {
     if let Err(fault) = fit_view(series, options) {
@@ -128,9 +125,8 @@ pub fn pack_fitting<W: Sink>(
         EmittedAll (trace_of series.now) options.now count (W.written sink.old) (W.written sink.new)) }
     ensures err { IfErr result (λ taken.
         EmittedPrefix (trace_of series.now) options.now taken (W.written sink.old) (W.written sink.new)) }
-    ensures contents { (bytes : List ℕ) → (W.written sink.new).bytes ≡ (W.written sink.old).bytes ++ bytes
-        → Appends (W.contents sink.old) (W.contents sink.new) bytes }
-    ensures beside { W.beside sink.new ≡ W.beside sink.old }
+    ensures writes { WritesOn (W.written sink.old) (W.written sink.new) (W.contents sink.old) (W.contents sink.new)
+        (W.beside sink.old) (W.beside sink.new) }
 {
     let mut packer = Packer::new();
     packer.pack_fitting(series, options, sink)
@@ -169,9 +165,8 @@ impl Packer {
             EmittedAll (trace_of series.now) options.now count (W.written sink.old) (W.written sink.new)) }
         ensures err { IfErr result (λ taken.
             EmittedPrefix (trace_of series.now) options.now taken (W.written sink.old) (W.written sink.new)) }
-        ensures contents { (bytes : List ℕ) → (W.written sink.new).bytes ≡ (W.written sink.old).bytes ++ bytes
-            → Appends (W.contents sink.old) (W.contents sink.new) bytes }
-        ensures beside { W.beside sink.new ≡ W.beside sink.old }
+        ensures writes { WritesOn (W.written sink.old) (W.written sink.new) (W.contents sink.old) (W.contents sink.new)
+            (W.beside sink.old) (W.beside sink.new) }
     {
         self.window.forget();
         pack_through(series, options, sink, &mut self.records, &mut self.window)
@@ -194,9 +189,8 @@ fn pack_through<W: Sink>(
         EmittedAll (trace_of series.now) options.now count (W.written sink.old) (W.written sink.new)) }
     ensures err { IfErr result (λ taken.
         EmittedPrefix (trace_of series.now) options.now taken (W.written sink.old) (W.written sink.new)) }
-    ensures contents { (bytes : List ℕ) → (W.written sink.new).bytes ≡ (W.written sink.old).bytes ++ bytes
-        → Appends (W.contents sink.old) (W.contents sink.new) bytes }
-    ensures beside { W.beside sink.new ≡ W.beside sink.old }
+    ensures writes { WritesOn (W.written sink.old) (W.written sink.new) (W.contents sink.old) (W.contents sink.new)
+        (W.beside sink.old) (W.beside sink.new) }
 {
     let length = length_of(options);
     let job = Job { series, options };

@@ -1,5 +1,5 @@
-use Rattle.mseed_audit.proofs.Reported.{grew_none}
+use Rattle.mseed_stream.proofs.Calls.{writes_none}
 use Rattle.mseed_pack.proofs.packing.pack_if_fit.Goals as goal
 
-pub returns-in-Err-clause-contents : goal.returns-in-Err-clause-contents
-returns-in-Err-clause-contents g c = grew_none (g.W.Sink.written c.args.sink.now) (g.W.Sink.contents c.args.sink.now)
+pub returns-in-Err-clause-writes : goal.returns-in-Err-clause-writes
+returns-in-Err-clause-writes g c = writes_none _ _ _

@@ -1,9 +1,8 @@
-use Rattle.std.proofs.Common.{◌≡◌, ◌+◌, ◌*◌, ◌^◌, ℕ, sym, ap, subst, ◌∙◌, take}
+use Rattle.std.proofs.Common.{◌≡◌, ◌+◌, ◌*◌, ◌^◌, ℕ, sym, ap, subst, ◌∙◌, take, rules}
 use Rattle.mseed_pack.specs.Outcome.{EmittedPrefix}
 use Rattle.mseed_pack.specs.Traces.{trace_of}
 use Rattle.mseed_pack.proofs.Growing.{emitted_more, emitted_prefix}
-use Rattle.mseed_audit.proofs.Reported.{grew}
-use Rattle.mseed_pack.proofs.Taken.{takes_on}
+use Rattle.mseed_stream.proofs.Calls.{writes_none, writes_on}
 use Rattle.mseed_pack.proofs.packing.pack_through.Goals as goal
 
 pub returns-in-Err-clause-err : goal.returns-in-Err-clause-err
@@ -22,25 +21,21 @@ returns-in-Err-clause-err g c =
     subst (λ (m : ℕ). EmittedPrefix s o (m + c.in-Err.taken) (g.W.Sink.written c.args.sink.now)
     (g.W.Sink.written c.write_all_of.new.sink)) number prefix
 
-pub returns-in-Err-clause-contents : goal.returns-in-Err-clause-contents
-returns-in-Err-clause-contents g c = λ bytes.
-    let l = c.loop-place in
+pub returns-in-Err-clause-writes : goal.returns-in-Err-clause-writes
+returns-in-Err-clause-writes g c =
     let b = take c.in-Err.taken (take c.gather-batch.result.bytes c.gather-batch.new.out) in
-    let more = takes_on (g.W.Sink.written c.args.sink.now) (g.W.Sink.written l.sink)
-    (g.W.Sink.written c.write_all_of.new.sink) (g.W.Sink.contents c.args.sink.now) (g.W.Sink.contents l.sink)
-    (g.W.Sink.contents c.write_all_of.new.sink) l.invariant.contents (
-      b,
-      c.in-Err.ensures.err,
-      c.in-Err.ensures.known,
-    ) in
-    grew (g.W.Sink.written c.args.sink.now) (g.W.Sink.written c.write_all_of.new.sink)
-    (g.W.Sink.contents c.args.sink.now) (g.W.Sink.contents c.write_all_of.new.sink) more.0 bytes more.1 more.2
+    writes_on _ (g.W.Sink.written c.loop-place.sink) _ _ _ _ _ _ _ c.loop-place.invariant.writes (record {
+      contents = (b, c.in-Err.ensures.err, c.in-Err.ensures.known);
+      beside = c.write_all_of.ensures.beside;
+    })
 
-pub returns-clause-contents : goal.returns-clause-contents
-returns-clause-contents g c = λ bytes.
-    let more = c.loop-place.invariant.contents in
-    grew (g.W.Sink.written c.args.sink.now) (g.W.Sink.written c.loop-place.sink) (g.W.Sink.contents c.args.sink.now)
-    (g.W.Sink.contents c.loop-place.sink) more.0 bytes more.1 more.2
+pub loop-place-init : goal.loop-place-init
+loop-place-init g c = record {
+  held = search rules;
+  standing = search rules;
+  emitted = search rules;
+  writes = writes_none _ _ _;
+}
 
 pub loop-place-preserved : goal.loop-place-preserved
 loop-place-preserved g c =
@@ -54,12 +49,9 @@ loop-place-preserved g c =
       emitted = emitted_more s o l.place c.gather-batch.result.next b (g.W.Sink.written c.args.sink.now)
           (g.W.Sink.written l.sink) (g.W.Sink.written c.write_all_of.new.sink) l.invariant.emitted
           c.gather-batch.ensures.to.on c.in_default.ensures.ok c.in_default.ensures.fine;
-      contents = takes_on (g.W.Sink.written c.args.sink.now) (g.W.Sink.written l.sink)
-          (g.W.Sink.written c.write_all_of.new.sink) (g.W.Sink.contents c.args.sink.now) (g.W.Sink.contents l.sink)
-          (g.W.Sink.contents c.write_all_of.new.sink) l.invariant.contents (
-            b,
-            c.in_default.ensures.ok,
-            c.in_default.ensures.known,
-          );
-      beside = c.write_all_of.ensures.beside ∙ l.invariant.beside;
+      writes = writes_on (g.W.Sink.written c.args.sink.now) (g.W.Sink.written l.sink)
+          (g.W.Sink.written c.write_all_of.new.sink) _ _ _ _ _ _ l.invariant.writes (record {
+            contents = (b, c.in_default.ensures.ok, c.in_default.ensures.known);
+            beside = c.write_all_of.ensures.beside;
+          });
     }

@@ -1,9 +1,9 @@
-use Rattle.std.proofs.Common.{◌≡◌, ◌-◌, length}
+use Rattle.std.proofs.Common.{◌-◌, length}
+use Rattle.mseed_stream.specs.Calls.{WritesOn}
 use Rattle.mseed_pack.specs.private.Filling.{HoldsDifferences}
 use Rattle.mseed_pack.specs.Outcome.{EmittedSo}
 use Rattle.mseed_pack.specs.private.Standing.{StandsAt}
 use Rattle.mseed_pack.specs.Traces.{trace_of}
-use Rattle.mseed_pack.proofs.Taken.{TakesMore}
 use Rattle.mseed_pack.proofs.packing.pack_through.Given as goal
 
 abbrev pub invariant-loop-place : goal.invariant-loop-place
@@ -12,9 +12,8 @@ invariant-loop-place g l = record {
   standing : StandsAt l.series.steps.now (length l.series.samples.now) l.place;
   emitted : EmittedSo (trace_of l.series) l.options l.place.number l.place.first (g.W.Sink.written l.fn.sink)
       (g.W.Sink.written l.sink);
-  contents : TakesMore (g.W.Sink.written l.fn.sink) (g.W.Sink.written l.sink) (g.W.Sink.contents l.fn.sink)
-      (g.W.Sink.contents l.sink);
-  beside : g.W.Sink.beside l.sink ≡ g.W.Sink.beside l.fn.sink;
+  writes : WritesOn (g.W.Sink.written l.fn.sink) (g.W.Sink.written l.sink) (g.W.Sink.contents l.fn.sink)
+      (g.W.Sink.contents l.sink) (g.W.Sink.beside l.fn.sink) (g.W.Sink.beside l.sink);
 }
 
 abbrev pub decreases-loop-place : goal.decreases-loop-place
