@@ -2,7 +2,7 @@
 use Rattle.std.proofs.Common.{◌≡◌, ◌≢◌, ℕ, zero, suc, ℤ, pos, negsuc, ◌+◌, ◌*◌, ◌/◌, ◌^◌, ◌<◌, ◌≤◌, ◌+ℤ◌, ◌-ℤ◌}
 use Rattle.std.proofs.Common.{List, [], ◌∷◌, ◌++◌, length, get_or, Bool, true, false, cond, Option, Some, None, IsSome}
 use Rattle.std.proofs.Common.{FitsSigned, sym, ap, subst, ◌∙◌, arith, length-append}
-use Rattle.std.specs.Prelude.{slice_range, flat_map, neg_ℤ, ◌≤ℤ◌, ◌*ℤ◌}
+use Rattle.std.specs.Prelude.{flat_map, neg_ℤ, ◌≤ℤ◌, ◌*ℤ◌}
 use Rattle.std.specs.Int.{w16}
 use Rattle.std.specs.List.{filter, AllByRecursion}
 use Rattle.std.proofs.Math.Nat.{zero-div}
@@ -14,7 +14,7 @@ use Rattle.mseed_time.specs.declared.fault.TimeFault.{TimeFault}
 use Rattle.mseed_time.specs.declared.order.Order.{Order}
 use Rattle.mseed_time.specs.declared.order.Order.TheVariants.{Big, Little}
 use Rattle.mseed_time.specs.declared.outcome.LeapStep.{LeapStep}
-use Rattle.mseed_time.specs.Btime.{Parts, IsInstant, day_of, days_in_year, is_leap}
+use Rattle.mseed_time.specs.Btime.{Parts, IsInstant, day_of}
 use Rattle.mseed_time.specs.Fields.{number_at}
 use Rattle.mseed_time.specs.Naming.{Names}
 use Rattle.mseed_time.specs.Rate.{Ratio, rate_of}
@@ -37,7 +37,6 @@ use Rattle.mseed_pack.specs.Fitting.{Fits}
 use Rattle.mseed_pack.specs.Outcome.{IsTrace}
 use Rattle.mseed_pack.specs.Packing.{IsPacked, IsPacking, Piece, ArePlaced}
 use Rattle.mseed_pack.specs.declared.options.Options.{Options}
-use Rattle.mseed_pack.proofs.Filled.{length_part}
 use Rattle.mseed_pack.proofs.Leaps.{all_left}
 
 -- a number of two bytes

@@ -8,7 +8,7 @@ use Rattle.std.proofs.Common.{Option, Some, append-nil, append_assoc, ⊎_elim}
 use Rattle.std.specs.List.{AllByRecursion, concat}
 use Rattle.std.proofs.lemmas.Bool.Decides.{nat_tests}
 use Rattle.std.proofs.lemmas.Int.{ints}
-use Rattle.std.proofs.lemmas.List.{map-append, take_all}
+use Rattle.std.proofs.lemmas.List.{map-append}
 use Rattle.mseed_time.specs.declared.outcome.Join.{Join}
 use Rattle.mseed_time.specs.declared.outcome.Join.TheVariants.{Late, Early}
 use Rattle.mseed_time.specs.Join.{Joins, join_by, miss_of, step_of}
@@ -16,10 +16,8 @@ use Rattle.mseed_time.specs.Rate.{Ratio, SameRate}
 use Rattle.mseed_record.specs.declared.frame.Leap.{Leap}
 use Rattle.mseed_record.specs.declared.frame.Leap.TheVariants.{None as NoLeap, Positive, Negative, Both}
 use Rattle.mseed_record.specs.Header.{key_at}
-use Rattle.mseed_record.specs.Record.{IsRecord}
 use Rattle.mseed_record.specs.View.{View, IsView, leap_of, start_of}
 use Rattle.mseed_steim.specs.Reading.{HasOneReading, count_of}
-use Rattle.mseed_stream.specs.Walk.{AreViews}
 use Rattle.mseed_audit.specs.Channels.{is_of, same_key}
 use Rattle.mseed_audit.specs.declared.finding.Why.{Why}
 use Rattle.mseed_audit.specs.declared.finding.Why.TheVariants.{Gap, Overlap}

@@ -1,4 +1,4 @@
-use Rattle.std.proofs.Common.{◌++◌, ◌∷◌, [], ◌∙◌, List}
+use Rattle.std.proofs.Common.{◌++◌, ◌∷◌, [], List}
 use Rattle.mseed_record.specs.View.{View}
 use Rattle.mseed_stream.proofs.Calls.{reads_on}
 use Rattle.mseed_audit.proofs.archive.gather.Goals as goal

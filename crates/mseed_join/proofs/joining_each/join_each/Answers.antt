@@ -1,5 +1,4 @@
 use Rattle.std.proofs.Common.{take}
-use Rattle.mseed_stream.specs.Device.{BytesWritten}
 use Rattle.mseed_stream.proofs.Calls.{writes_on}
 use Rattle.mseed_join.proofs.Each.{each_cut_off, each_no_memory, each_written}
 use Rattle.mseed_join.proofs.joining_each.join_each.Goals as goal

@@ -1,7 +1,7 @@
 use Rattle.std.proofs.Common.{◌≡◌, ◌+◌, ◌*◌, ◌^◌, ℕ, sym, ap, subst, ◌∙◌, take, rules}
 use Rattle.mseed_pack.specs.Outcome.{EmittedPrefix}
 use Rattle.mseed_pack.specs.Traces.{trace_of}
-use Rattle.mseed_pack.proofs.Growing.{emitted_more, emitted_prefix}
+use Rattle.mseed_pack.proofs.Growing.{emitted_more, emitted_none, emitted_prefix}
 use Rattle.mseed_stream.proofs.Calls.{writes_none, writes_on}
 use Rattle.mseed_pack.proofs.packing.pack_through.Goals as goal
 
@@ -33,7 +33,8 @@ pub loop-place-init : goal.loop-place-init
 loop-place-init g c = record {
   held = search rules;
   standing = search rules;
-  emitted = search rules;
+  emitted = rw (c.first_place-place.ensures.number, c.first_place-place.ensures.first)
+      (emitted_none (trace_of c.args.series.now) c.args.options.now (g.W.Sink.written c.args.sink.now));
   writes = writes_none _ _ _;
 }
 
