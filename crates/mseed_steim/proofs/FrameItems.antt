@@ -1,7 +1,7 @@
 -- A frame's words in lanes are the payload's data words, and a row of lanes is the group of the word.
 use Rattle.std.proofs.Common.{◌≡◌, ◌≢◌, ℕ, zero, suc, ◌+◌, ◌-◌, ◌*◌, ◌/◌, ◌%◌, ◌^◌, ◌<◌, ◌≤◌, List, [], ◌∷◌, ◌++◌}
 use Rattle.std.proofs.Common.{length, map, take, drop, get_or, ℤ, ◌+ℤ◌, refl, sym, ap, ◌∙◌, append_assoc, length-append}
-use Rattle.std.proofs.Common.{arith, inl, inr, below_none, below_more, Some, Ok, Result}
+use Rattle.std.proofs.Common.{arith, inl, inr, Some, Ok, Result}
 use Rattle.std.specs.List.{range_with_len}
 use Rattle.std.proofs.lemmas.Int.{ints}
 use Rattle.std.proofs.lemmas.Bool.{le-ltb, lt-ltb}
@@ -18,12 +18,9 @@ use Rattle.mseed_steim.specs.private.Items.{items_of}
 use Rattle.mseed_steim.specs.private.Lanes.{total, span, sum_z, words, word_at as lanes_word_at, row_at, Begins}
 use Rattle.mseed_steim.specs.private.Lanes.{counts_two, widths_two, moved_two, spanned_two, counts_one, widths_one}
 use Rattle.mseed_steim.specs.private.Lanes.{moved_one, spanned_one}
+use Rattle.mseed_steim.proofs.Below.{four}
 use Rattle.mseed_steim.proofs.Spelled.{length-digits}
 use Rattle.mseed_steim.proofs.Walking.{words_none, words_step, items_group}
-
--- for each of four
-each_of_4 : (P : ℕ → Type 0) → P 0 → P 1 → P 2 → P 3 → (n : ℕ) → n < 4 → P n
-each_of_4 P a b c d = below_more P 3 (below_more P 2 (below_more P 1 (below_more P 0 (below_none P) a) b) c) d
 
 -- the row's width and count are those of the word's group
 abbrev Rows : Scheme → List ℕ → List ℕ → Type 0
@@ -48,29 +45,29 @@ bytes_two word t c w e few = rw (c, w) refl
 
 row_two_0 : (word t : ℕ) → t < 4 → Row Two counts_two widths_two 0 word t
 unfolding counts_two
-row_two_0 word = each_of_4 (Row Two counts_two widths_two 0 word)
+row_two_0 word = four (Row Two counts_two widths_two 0 word)
     (none_row Two counts_two widths_two word 0 refl) (none_row Two counts_two widths_two word 1 refl)
     (none_row Two counts_two widths_two word 2 refl) (none_row Two counts_two widths_two word 3 refl)
 
 row_two_1 : (word t : ℕ) → t < 4 → Row Two counts_two widths_two 1 word t
 unfolding counts_two widths_two
-row_two_1 word = each_of_4 (Row Two counts_two widths_two 1 word) (bytes_two word 0 refl refl)
+row_two_1 word = four (Row Two counts_two widths_two 1 word) (bytes_two word 0 refl refl)
     (bytes_two word 1 refl refl) (bytes_two word 2 refl refl) (bytes_two word 3 refl refl)
 
 row_two_2 : (word t : ℕ) → t < 4 → Row Two counts_two widths_two 2 word t
 unfolding counts_two widths_two differences_of
-row_two_2 word = each_of_4 (Row Two counts_two widths_two 2 word)
+row_two_2 word = four (Row Two counts_two widths_two 2 word)
     (λ e few. absurd (omega (arith, few))) (λ e few. absurd (omega (arith, few))) (λ e few. rw e refl)
     (λ e few. rw e refl)
 
 row_two_3 : (word t : ℕ) → t < 4 → Row Two counts_two widths_two 3 word t
 unfolding counts_two widths_two differences_of
-row_two_3 word = each_of_4 (Row Two counts_two widths_two 3 word)
+row_two_3 word = four (Row Two counts_two widths_two 3 word)
     (λ e few. rw e refl) (λ e few. rw e refl) (λ e few. rw e refl) (λ e few. absurd (omega (arith, few)))
 
 pub rows_two : Rows Two counts_two widths_two
 rows_two c word h small few =
-    each_of_4 (λ n. (t : ℕ) → t < 4 → Row Two counts_two widths_two n word t) (row_two_0 word) (row_two_1 word)
+    four (λ n. (t : ℕ) → t < 4 → Row Two counts_two widths_two n word t) (row_two_0 word) (row_two_1 word)
     (row_two_2 word) (row_two_3 word) c h (word / 2 ^ 30) (omega arith) refl few
 
 bytes_one : (word t : ℕ) → get_or counts_one (4 * 1 + t) 0 ≡ 4 → get_or widths_one (4 * 1 + t) 0 ≡ 8
@@ -85,29 +82,29 @@ pairs_one word t c w e few = rw (c, w) refl
 
 row_one_0 : (word t : ℕ) → t < 4 → Row One counts_one widths_one 0 word t
 unfolding counts_one
-row_one_0 word = each_of_4 (Row One counts_one widths_one 0 word)
+row_one_0 word = four (Row One counts_one widths_one 0 word)
     (none_row One counts_one widths_one word 0 refl) (none_row One counts_one widths_one word 1 refl)
     (none_row One counts_one widths_one word 2 refl) (none_row One counts_one widths_one word 3 refl)
 
 row_one_1 : (word t : ℕ) → t < 4 → Row One counts_one widths_one 1 word t
 unfolding counts_one widths_one
-row_one_1 word = each_of_4 (Row One counts_one widths_one 1 word) (bytes_one word 0 refl refl)
+row_one_1 word = four (Row One counts_one widths_one 1 word) (bytes_one word 0 refl refl)
     (bytes_one word 1 refl refl) (bytes_one word 2 refl refl) (bytes_one word 3 refl refl)
 
 row_one_2 : (word t : ℕ) → t < 4 → Row One counts_one widths_one 2 word t
 unfolding counts_one widths_one
-row_one_2 word = each_of_4 (Row One counts_one widths_one 2 word) (pairs_one word 0 refl refl)
+row_one_2 word = four (Row One counts_one widths_one 2 word) (pairs_one word 0 refl refl)
     (pairs_one word 1 refl refl) (pairs_one word 2 refl refl) (pairs_one word 3 refl refl)
 
 row_one_3 : (word t : ℕ) → t < 4 → Row One counts_one widths_one 3 word t
 unfolding counts_one
-row_one_3 word = each_of_4 (Row One counts_one widths_one 3 word)
+row_one_3 word = four (Row One counts_one widths_one 3 word)
     (λ e few. absurd (omega (arith, few))) (λ e few. absurd (omega (arith, few)))
     (λ e few. absurd (omega (arith, few))) (λ e few. absurd (omega (arith, few)))
 
 pub rows_one : Rows One counts_one widths_one
 rows_one c word h small few =
-    each_of_4 (λ n. (t : ℕ) → t < 4 → Row One counts_one widths_one n word t) (row_one_0 word) (row_one_1 word)
+    four (λ n. (t : ℕ) → t < 4 → Row One counts_one widths_one n word t) (row_one_0 word) (row_one_1 word)
     (row_one_2 word) (row_one_3 word) c h (word / 2 ^ 30) (omega arith) refl few
 
 -- ---- the bytes of a frame of a payload
@@ -288,11 +285,11 @@ reads_by s counts widths p f k from rows zeros e h = record {
 
 pub zeros_two : (r : ℕ) → r < 4 → get_or counts_two r 0 ≡ 0
 unfolding counts_two
-zeros_two = each_of_4 (λ r. get_or counts_two r 0 ≡ 0) refl refl refl refl
+zeros_two = four (λ r. get_or counts_two r 0 ≡ 0) refl refl refl refl
 
 pub zeros_one : (r : ℕ) → r < 4 → get_or counts_one r 0 ≡ 0
 unfolding counts_one
-zeros_one = each_of_4 (λ r. get_or counts_one r 0 ≡ 0) refl refl refl refl
+zeros_one = four (λ r. get_or counts_one r 0 ≡ 0) refl refl refl refl
 
 pub moves_two : (p f begin : List ℕ) (k from : ℕ) (m : Moved) → Begins begin from → f ≡ take 64 (drop (64 * k) p)
     → ((i : ℕ) → get_or f i 0 < 256)

@@ -1,194 +1,74 @@
 -- How far a frame's differences go.
 use Rattle.std.proofs.Common.{◌≡◌, ℕ, zero, suc, ◌+◌, ◌-◌, ◌*◌, ◌/◌, ◌%◌, ◌^◌, ◌<◌, ◌≤◌, List, [], ◌∷◌, length, map}
-use Rattle.std.proofs.Common.{get_or, refl, subst, ◌∙◌, arith, ⊎_elim, pos, negsuc, nat_abs, below_none, below_more}
+use Rattle.std.proofs.Common.{get_or, subst, arith, ⊎_elim, pos, negsuc, nat_abs}
 use Rattle.std.proofs.Common.{if◌then◌else◌, nat_lt}
 use Rattle.std.proofs.lemmas.Bool.{cases_lt, lt-ltb, le-ltb}
 use Rattle.std.proofs.Math.Nat.{mul-suc}
+use Rattle.std.proofs.lemmas.Nat.{mod_below, pow_pos}
 use lib.Lanes.{sum_l}
 use Rattle.mseed_steim.specs.private.Digits.{signed, digits}
 use Rattle.mseed_steim.specs.private.Lanes.{span}
 use Rattle.mseed_steim.specs.private.Lanes.{words, word_at, row_at, counts_two, widths_two, spanned_two, counts_one}
 use Rattle.mseed_steim.specs.private.Lanes.{widths_one, spanned_one}
+use Rattle.mseed_steim.proofs.Below.{sixteen}
 use Rattle.mseed_steim.proofs.LaneSums.{long_words}
+use Rattle.mseed_steim.proofs.Words.{twice_half}
 use Rattle.mseed_steim.proofs.FrameSums.{row_small}
 
-pub near : (p q x : ℕ) → q ≡ 2 * p → x < q → nat_abs (if nat_lt x p then pos x else negsuc (q - 1 - x)) ≤ p
+near : (p q x : ℕ) → q ≤ 2 * p → x < q → nat_abs (if nat_lt x p then pos x else negsuc (q - 1 - x)) ≤ p
 near p q x e lt = ⊎_elim
     (λ (low : x < p). rw (lt-ltb x p low) (omega (arith, low)))
     (λ (high : p ≤ x). rw (le-ltb x p high) (omega (arith, e, lt, high)))
     (cases_lt x p)
 
-spans : (width p word : ℕ) → 2 ^ (width - 1) ≡ p → 2 ^ width ≡ 2 * p → ((x : ℕ) → x % (2 * p) < 2 * p) → (count : ℕ)
-    → span (digits width word count) ≤ p * count
+twice : (width : ℕ) → 2 ^ width ≤ 2 * 2 ^ (width - 1)
+twice zero = omega arith
+twice (suc n) = let same = twice_half (suc n) (omega arith) in omega (arith, same)
+
+-- a number of so many bits is no further from 0 than half of what they tell apart
+pub signed_near : (width x : ℕ) → x < 2 ^ width → nat_abs (signed width x) ≤ 2 ^ (width - 1)
+signed_near width x small = near (2 ^ (width - 1)) (2 ^ width) x (twice width) small
+
+spans : (width word count : ℕ) → span (digits width word count) ≤ 2 ^ (width - 1) * count
 unfolding digits
-spans width p word e f m zero = omega arith
-spans width p word e f m (suc count) =
-    let ih = spans width p word e f m count in
+spans width word zero = omega arith
+spans width word (suc count) =
+    let later = spans width word count in
     let x : ℕ = word / 2 ^ (width * count) % 2 ^ width in
-    let small : x < 2 ^ width = rw f (m (word / 2 ^ (width * count))) in
-    let one : nat_abs (signed width x) ≤ p = rw e (near p (2 ^ width) x f small) in
-    let mul : p * suc count ≡ p + p * count = mul-suc p count ∙ omega arith in
-    omega (arith, ih, one, mul)
+    let small : x < 2 ^ width = mod_below (word / 2 ^ (width * count)) (2 ^ width) (pow_pos width) in
+    let one = signed_near width x small in
+    let more : 2 ^ (width - 1) * suc count ≡ 2 ^ (width - 1) * count + 2 ^ (width - 1) =
+    mul-suc (2 ^ (width - 1)) count in
+    omega (arith, later, one, more)
 
 abbrev Near : List ℕ → List ℕ → ℕ → ℕ → Type 0
 Near widths counts word row = get_or counts row 0 < 128
     → span (digits (get_or widths row 0) word (get_or counts row 0)) ≤ 65536
 
-near_two_0 : (word : ℕ) → Near widths_two counts_two word 0
-unfolding widths_two counts_two digits
-near_two_0 word few = omega arith
-
-near_two_1 : (word : ℕ) → Near widths_two counts_two word 1
-unfolding widths_two counts_two digits
-near_two_1 word few = omega arith
-
-near_two_2 : (word : ℕ) → Near widths_two counts_two word 2
-unfolding widths_two counts_two digits
-near_two_2 word few = omega arith
-
-near_two_3 : (word : ℕ) → Near widths_two counts_two word 3
-unfolding widths_two counts_two digits
-near_two_3 word few = omega arith
-
-near_two_4 : (word : ℕ) → Near widths_two counts_two word 4
-unfolding widths_two counts_two digits
-near_two_4 word few = let h = spans 8 128 word refl refl (λ x. omega arith) 4 in omega (arith, h)
-
-near_two_5 : (word : ℕ) → Near widths_two counts_two word 5
-unfolding widths_two counts_two digits
-near_two_5 word few = let h = spans 8 128 word refl refl (λ x. omega arith) 4 in omega (arith, h)
-
-near_two_6 : (word : ℕ) → Near widths_two counts_two word 6
-unfolding widths_two counts_two digits
-near_two_6 word few = let h = spans 8 128 word refl refl (λ x. omega arith) 4 in omega (arith, h)
-
-near_two_7 : (word : ℕ) → Near widths_two counts_two word 7
-unfolding widths_two counts_two digits
-near_two_7 word few = let h = spans 8 128 word refl refl (λ x. omega arith) 4 in omega (arith, h)
-
-near_two_8 : (word : ℕ) → Near widths_two counts_two word 8
-unfolding widths_two counts_two digits
-near_two_8 word few = absurd (omega (arith, few))
-
-near_two_9 : (word : ℕ) → Near widths_two counts_two word 9
-unfolding widths_two counts_two digits
-near_two_9 word few = absurd (omega (arith, few))
-
-near_two_10 : (word : ℕ) → Near widths_two counts_two word 10
-unfolding widths_two counts_two digits
-near_two_10 word few = let h = spans 15 16384 word refl refl (λ x. omega arith) 2 in omega (arith, h)
-
-near_two_11 : (word : ℕ) → Near widths_two counts_two word 11
-unfolding widths_two counts_two digits
-near_two_11 word few = let h = spans 10 512 word refl refl (λ x. omega arith) 3 in omega (arith, h)
-
-near_two_12 : (word : ℕ) → Near widths_two counts_two word 12
-unfolding widths_two counts_two digits
-near_two_12 word few = let h = spans 6 32 word refl refl (λ x. omega arith) 5 in omega (arith, h)
-
-near_two_13 : (word : ℕ) → Near widths_two counts_two word 13
-unfolding widths_two counts_two digits
-near_two_13 word few = let h = spans 5 16 word refl refl (λ x. omega arith) 6 in omega (arith, h)
-
-near_two_14 : (word : ℕ) → Near widths_two counts_two word 14
-unfolding widths_two counts_two digits
-near_two_14 word few = let h = spans 4 8 word refl refl (λ x. omega arith) 7 in omega (arith, h)
-
-near_two_15 : (word : ℕ) → Near widths_two counts_two word 15
-unfolding widths_two counts_two digits
-near_two_15 word few = absurd (omega (arith, few))
+-- a row's differences, by their width and how many they are
+holds : (width count word : ℕ) → 2 ^ (width - 1) * count ≤ 65536 → count < 128
+    → span (digits width word count) ≤ 65536
+holds width count word few _ = let far = spans width word count in omega (arith, far, few)
 
 near_two : (word row : ℕ) → row < 16 → Near widths_two counts_two word row
+unfolding widths_two counts_two
 near_two word =
-    let P : ℕ → Type 0 = λ row. Near widths_two counts_two word row in
-    below_more P 15 (below_more P 14
-    (below_more P 13 (below_more P 12
-    (below_more P 11 (below_more P 10
-    (below_more P 9 (below_more P 8
-    (below_more P 7 (below_more P 6
-    (below_more P 5 (below_more P 4
-    (below_more P 3 (below_more P 2 (below_more P 1 (below_more P 0 (below_none P) (near_two_0 word))
-    (near_two_1 word)) (near_two_2 word)) (near_two_3 word)) (near_two_4 word)) (near_two_5 word))
-    (near_two_6 word)) (near_two_7 word)) (near_two_8 word)) (near_two_9 word)) (near_two_10 word))
-    (near_two_11 word)) (near_two_12 word)) (near_two_13 word)) (near_two_14 word)) (near_two_15 word)
-
-near_one_0 : (word : ℕ) → Near widths_one counts_one word 0
-unfolding widths_one counts_one digits
-near_one_0 word few = omega arith
-
-near_one_1 : (word : ℕ) → Near widths_one counts_one word 1
-unfolding widths_one counts_one digits
-near_one_1 word few = omega arith
-
-near_one_2 : (word : ℕ) → Near widths_one counts_one word 2
-unfolding widths_one counts_one digits
-near_one_2 word few = omega arith
-
-near_one_3 : (word : ℕ) → Near widths_one counts_one word 3
-unfolding widths_one counts_one digits
-near_one_3 word few = omega arith
-
-near_one_4 : (word : ℕ) → Near widths_one counts_one word 4
-unfolding widths_one counts_one digits
-near_one_4 word few = let h = spans 8 128 word refl refl (λ x. omega arith) 4 in omega (arith, h)
-
-near_one_5 : (word : ℕ) → Near widths_one counts_one word 5
-unfolding widths_one counts_one digits
-near_one_5 word few = let h = spans 8 128 word refl refl (λ x. omega arith) 4 in omega (arith, h)
-
-near_one_6 : (word : ℕ) → Near widths_one counts_one word 6
-unfolding widths_one counts_one digits
-near_one_6 word few = let h = spans 8 128 word refl refl (λ x. omega arith) 4 in omega (arith, h)
-
-near_one_7 : (word : ℕ) → Near widths_one counts_one word 7
-unfolding widths_one counts_one digits
-near_one_7 word few = let h = spans 8 128 word refl refl (λ x. omega arith) 4 in omega (arith, h)
-
-near_one_8 : (word : ℕ) → Near widths_one counts_one word 8
-unfolding widths_one counts_one digits
-near_one_8 word few = let h = spans 16 32768 word refl refl (λ x. omega arith) 2 in omega (arith, h)
-
-near_one_9 : (word : ℕ) → Near widths_one counts_one word 9
-unfolding widths_one counts_one digits
-near_one_9 word few = let h = spans 16 32768 word refl refl (λ x. omega arith) 2 in omega (arith, h)
-
-near_one_10 : (word : ℕ) → Near widths_one counts_one word 10
-unfolding widths_one counts_one digits
-near_one_10 word few = let h = spans 16 32768 word refl refl (λ x. omega arith) 2 in omega (arith, h)
-
-near_one_11 : (word : ℕ) → Near widths_one counts_one word 11
-unfolding widths_one counts_one digits
-near_one_11 word few = let h = spans 16 32768 word refl refl (λ x. omega arith) 2 in omega (arith, h)
-
-near_one_12 : (word : ℕ) → Near widths_one counts_one word 12
-unfolding widths_one counts_one digits
-near_one_12 word few = absurd (omega (arith, few))
-
-near_one_13 : (word : ℕ) → Near widths_one counts_one word 13
-unfolding widths_one counts_one digits
-near_one_13 word few = absurd (omega (arith, few))
-
-near_one_14 : (word : ℕ) → Near widths_one counts_one word 14
-unfolding widths_one counts_one digits
-near_one_14 word few = absurd (omega (arith, few))
-
-near_one_15 : (word : ℕ) → Near widths_one counts_one word 15
-unfolding widths_one counts_one digits
-near_one_15 word few = absurd (omega (arith, few))
+    let none = holds 0 0 word (omega arith) in
+    let bytes = holds 8 4 word (omega arith) in
+    sixteen (Near widths_two counts_two word) none none none none bytes bytes bytes bytes
+    (λ few. absurd (omega (arith, few))) (λ few. absurd (omega (arith, few))) (holds 15 2 word (omega arith))
+    (holds 10 3 word (omega arith)) (holds 6 5 word (omega arith)) (holds 5 6 word (omega arith))
+    (holds 4 7 word (omega arith)) (λ few. absurd (omega (arith, few)))
 
 near_one : (word row : ℕ) → row < 16 → Near widths_one counts_one word row
+unfolding widths_one counts_one
 near_one word =
-    let P : ℕ → Type 0 = λ row. Near widths_one counts_one word row in
-    below_more P 15 (below_more P 14
-    (below_more P 13 (below_more P 12
-    (below_more P 11 (below_more P 10
-    (below_more P 9 (below_more P 8
-    (below_more P 7 (below_more P 6
-    (below_more P 5 (below_more P 4
-    (below_more P 3 (below_more P 2 (below_more P 1 (below_more P 0 (below_none P) (near_one_0 word))
-    (near_one_1 word)) (near_one_2 word)) (near_one_3 word)) (near_one_4 word)) (near_one_5 word))
-    (near_one_6 word)) (near_one_7 word)) (near_one_8 word)) (near_one_9 word)) (near_one_10 word))
-    (near_one_11 word)) (near_one_12 word)) (near_one_13 word)) (near_one_14 word)) (near_one_15 word)
+    let none = holds 0 0 word (omega arith) in
+    let bytes = holds 8 4 word (omega arith) in
+    let pair = holds 16 2 word (omega arith) in
+    sixteen (Near widths_one counts_one word) none none none none bytes bytes bytes bytes pair pair pair pair
+    (λ few. absurd (omega (arith, few))) (λ few. absurd (omega (arith, few))) (λ few. absurd (omega (arith, few)))
+    (λ few. absurd (omega (arith, few)))
 
 all_near : (count far : ℕ → ℕ) → ((w : ℕ) → count w < 128 → far w ≤ 65536) → (ws : List ℕ) → sum_l (map count ws) < 128
     → sum_l (map far ws) ≤ 65536 * length ws

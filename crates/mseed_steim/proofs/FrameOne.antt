@@ -1,13 +1,13 @@
 -- Steim-1: what a word's parts add up to, by its row, and a frame's words.
 use Rattle.std.proofs.Common.{to_z, w32, negsuc, ◌≡◌, ℕ, suc, ◌+◌, ◌-◌, ◌*◌, ◌/◌, ◌%◌, ◌<◌, ◌≤◌, List, [], ◌∷◌, length}
-use Rattle.std.proofs.Common.{map, get_or, bit_and, bit_xor, refl, sym, ap, subst, ◌∙◌, arith, ℤ, pos, ◌+ℤ◌, below_none}
-use Rattle.std.proofs.Common.{below_more}
+use Rattle.std.proofs.Common.{map, get_or, bit_and, bit_xor, refl, sym, ap, subst, ◌∙◌, arith, ℤ, pos, ◌+ℤ◌}
 use Rattle.std.proofs.lemmas.Int.{ints, to_z_pos}
 use lib.Lanes.{sum_l}
 use Rattle.mseed_steim.specs.private.Digits.{signed, digits}
 use Rattle.mseed_steim.specs.private.Lanes.{total, word_of}
 use Rattle.mseed_steim.specs.private.Lanes.{words, sum_z, byte_at, row_at, low_one, high_one, flipped, flipped_low}
 use Rattle.mseed_steim.specs.private.Lanes.{least_one, counts_one, widths_one, moved_one}
+use Rattle.mseed_steim.proofs.Below.{sixteen}
 use Rattle.mseed_steim.proofs.FrameBytes.{same, four_is, four_p0}
 use Rattle.mseed_steim.proofs.LaneSums.{long_words}
 use Rattle.mseed_steim.proofs.FrameWords.{gone}
@@ -194,19 +194,23 @@ unfolding counts_one
 one_15 a b c d A B C D = λ few. absurd (omega (arith, few))
 
 pub tells_one : (a b c d : ℕ) → a < 256 → b < 256 → c < 256 → d < 256 → (row : ℕ) → row < 16 → Tells_one row a b c d
-tells_one a b c d A B C D =
-    let P : ℕ → Type 0 = λ row. Tells_one row a b c d in
-    below_more P 15 (below_more P 14
-    (below_more P 13 (below_more P 12
-    (below_more P 11 (below_more P 10
-    (below_more P 9 (below_more P 8
-    (below_more P 7 (below_more P 6
-    (below_more P 5 (below_more P 4
-    (below_more P 3 (below_more P 2 (below_more P 1 (below_more P 0 (below_none P) (one_0 a b c d A B C D))
-    (one_1 a b c d A B C D)) (one_2 a b c d A B C D)) (one_3 a b c d A B C D)) (one_4 a b c d A B C D))
-    (one_5 a b c d A B C D)) (one_6 a b c d A B C D)) (one_7 a b c d A B C D)) (one_8 a b c d A B C D))
-    (one_9 a b c d A B C D)) (one_10 a b c d A B C D)) (one_11 a b c d A B C D)) (one_12 a b c d A B C D))
-    (one_13 a b c d A B C D)) (one_14 a b c d A B C D)) (one_15 a b c d A B C D)
+tells_one a b c d A B C D = sixteen (λ row. Tells_one row a b c d)
+    (one_0 a b c d A B C D)
+    (one_1 a b c d A B C D)
+    (one_2 a b c d A B C D)
+    (one_3 a b c d A B C D)
+    (one_4 a b c d A B C D)
+    (one_5 a b c d A B C D)
+    (one_6 a b c d A B C D)
+    (one_7 a b c d A B C D)
+    (one_8 a b c d A B C D)
+    (one_9 a b c d A B C D)
+    (one_10 a b c d A B C D)
+    (one_11 a b c d A B C D)
+    (one_12 a b c d A B C D)
+    (one_13 a b c d A B C D)
+    (one_14 a b c d A B C D)
+    (one_15 a b c d A B C D)
 
 abbrev pub Reported_one : (ℕ → ℕ) → (ℕ → ℕ) → (ℕ → ℕ) → (ℕ → ℤ) → ℕ → Type 0
 Reported_one count whole least moved w = count w < 128 → (pos (whole w) ≡ moved w +ℤ pos (least w)) × (whole w ≤ 131072)

@@ -2,7 +2,7 @@
 use Rattle.std.proofs.Common.{◌≡◌, ℕ, ◌+◌, ◌*◌, ◌/◌, ◌%◌, ◌<◌, List, [], ◌∷◌, map, get_or, bit_and, bit_or, refl, sym}
 use Rattle.std.proofs.Common.{ap, ◌∙◌, arith}
 use Rattle.mseed_steim.proofs.FrameBytes.{same}
-use Rattle.mseed_steim.specs.private.Lanes.{words, word_at, row_at}
+use Rattle.mseed_steim.specs.private.Lanes.{byte_at, words, word_at, row_at}
 
 abbrev pub codes : List ℕ
 codes = 0 ∷ 4 ∷ 8 ∷ 12 ∷ 4 ∷ 0 ∷ 0 ∷ 0 ∷ 8 ∷ 0 ∷ 0 ∷ 0 ∷ 12 ∷ 0 ∷ 0 ∷ 0 ∷ []
@@ -49,123 +49,79 @@ lane_is mask x a c e C A code word k t =
 cons : {x y : ℕ} {xs ys : List ℕ} → x ≡ y → xs ≡ ys → x ∷ xs ≡ y ∷ ys
 cons {x} {y} {xs} {ys} e f = ap (λ z. z ∷ xs) e ∙ ap (λ zs. y ∷ zs) f
 
+-- the first byte of a word has its top bits
+top : (f : List ℕ) → ((k : ℕ) → get_or f k 0 < 256) → (w : ℕ) → word_at f w / 1073741824 ≡ byte_at f 0 w / 64
+top f h w = omega (arith, h (4 * w + 0), h (4 * w + 1), h (4 * w + 2), h (4 * w + 3))
+
+-- a word whose code doesn't count
+no_code : (f : List ℕ) → ((k : ℕ) → get_or f k 0 < 256) → (w : ℕ)
+    → lane 0 (get_or f 0 0) (byte_at f 0 w) ≡ 4 * 0 + word_at f w / 1073741824
+no_code f h w =
+    lane_is 0 (get_or f 0 0) (byte_at f 0 w) 0 (code_none (get_or f 0 0) (h 0)) (omega arith) (h (4 * w + 0)) 0
+    (word_at f w) refl (top f h w)
+
+-- the four words whose codes stand in one byte
+abbrev pub four_lanes : List ℕ → ℕ → List ℕ → List ℕ
+four_lanes f q lanes =
+    lane 192 (get_or f q 0) (byte_at f 0 (4 * q)) ∷ lane 48 (get_or f q 0) (byte_at f 0 (4 * q + 1))
+    ∷ lane 12 (get_or f q 0) (byte_at f 0 (4 * q + 2)) ∷ lane 3 (get_or f q 0) (byte_at f 0 (4 * q + 3)) ∷ lanes
+
+four_is : (f : List ℕ) → ((k : ℕ) → get_or f k 0 < 256) → (q : ℕ) (lanes rows : List ℕ) (ka kb kc kd : ℕ)
+    → ka ≡ get_or f q 0 / 64 % 4 → kb ≡ get_or f q 0 / 16 % 4 → kc ≡ get_or f q 0 / 4 % 4 → kd ≡ get_or f q 0 % 4
+    → lanes ≡ rows
+    → four_lanes f q lanes
+    ≡ (4 * ka + word_at f (4 * q) / 1073741824) ∷ (4 * kb + word_at f (4 * q + 1) / 1073741824)
+    ∷ (4 * kc + word_at f (4 * q + 2) / 1073741824) ∷ (4 * kd + word_at f (4 * q + 3) / 1073741824) ∷ rows
+four_is f h q lanes rows ka kb kc kd a b c d e =
+    let x = get_or f q 0 in
+    cons (lane_is 192 x (byte_at f 0 (4 * q)) (x / 64 % 4) (code_0 x (h q)) (omega arith) (h (4 * (4 * q) + 0)) ka
+    (word_at f (4 * q)) a (top f h (4 * q)))
+    (cons (lane_is 48 x (byte_at f 0 (4 * q + 1)) (x / 16 % 4) (code_1 x (h q)) (omega arith)
+    (h (4 * (4 * q + 1) + 0)) kb (word_at f (4 * q + 1)) b (top f h (4 * q + 1)))
+    (cons (lane_is 12 x (byte_at f 0 (4 * q + 2)) (x / 4 % 4) (code_2 x (h q)) (omega arith)
+    (h (4 * (4 * q + 2) + 0)) kc (word_at f (4 * q + 2)) c (top f h (4 * q + 2)))
+    (cons (lane_is 3 x (byte_at f 0 (4 * q + 3)) (x % 4) (code_3 x (h q)) (omega arith)
+    (h (4 * (4 * q + 3) + 0)) kd (word_at f (4 * q + 3)) d (top f h (4 * q + 3))) e)))
+
+-- the words from word 4 on
+behind : (f : List ℕ) → ((k : ℕ) → get_or f k 0 < 256)
+    → four_lanes f 1 (four_lanes f 2 (four_lanes f 3 []))
+    ≡ map (row_at f 1) (4 ∷ 5 ∷ 6 ∷ 7 ∷ 8 ∷ 9 ∷ 10 ∷ 11 ∷ 12 ∷ 13 ∷ 14 ∷ 15 ∷ [])
+behind f h =
+    let w = word_at f 0 in
+    let first = h 0 in
+    let second = h 1 in
+    let third = h 2 in
+    let fourth = h 3 in
+    four_is f h 1 _ _ (w / 4194304 % 4) (w / 1048576 % 4) (w / 262144 % 4) (w / 65536 % 4) (omega arith) (omega arith)
+    (omega arith) (omega arith)
+    (four_is f h 2 _ _ (w / 16384 % 4) (w / 4096 % 4) (w / 1024 % 4) (w / 256 % 4) (omega arith) (omega arith)
+    (omega arith) (omega arith)
+    (four_is f h 3 _ _ (w / 64 % 4) (w / 16 % 4) (w / 4 % 4) (w / 1 % 4) (omega arith) (omega arith) (omega arith)
+    (omega arith) refl))
+
 pub rows_later : (f : List ℕ) → ((k : ℕ) → get_or f k 0 < 256)
     → (lane 0 (get_or f 0 0) (get_or f 0 0) ∷ lane 48 (get_or f 0 0) (get_or f 4 0) ∷ lane 12 (get_or f 0 0)
-    (get_or f 8 0) ∷ lane 3 (get_or f 0 0) (get_or f 12 0) ∷ lane 192 (get_or f 1 0) (get_or f 16 0) ∷ lane 48
-    (get_or f 1 0) (get_or f 20 0) ∷ lane 12 (get_or f 1 0) (get_or f 24 0) ∷ lane 3 (get_or f 1 0) (get_or f 28 0)
-    ∷ lane 192 (get_or f 2 0) (get_or f 32 0) ∷ lane 48 (get_or f 2 0) (get_or f 36 0) ∷ lane 12 (get_or f 2 0)
-    (get_or f 40 0) ∷ lane 3 (get_or f 2 0) (get_or f 44 0) ∷ lane 192 (get_or f 3 0) (get_or f 48 0) ∷ lane 48
-    (get_or f 3 0) (get_or f 52 0) ∷ lane 12 (get_or f 3 0) (get_or f 56 0) ∷ lane 3 (get_or f 3 0) (get_or f 60 0)
-    ∷ []) ≡ map (row_at f 1) words
+    (get_or f 8 0) ∷ lane 3 (get_or f 0 0) (get_or f 12 0) ∷ four_lanes f 1 (four_lanes f 2 (four_lanes f 3 [])))
+    ≡ map (row_at f 1) words
 unfolding words
 rows_later f h =
-    let e0 = lane_is 0 (get_or f 0 0) (get_or f 0 0) 0 (code_none (get_or f 0 0) (h 0)) (omega arith) (h 0) 0
-    (word_at f 0) refl (omega (arith, h 0, h 1, h 2, h 3)) in
-    let e1 = lane_is 48 (get_or f 0 0) (get_or f 4 0) (get_or f 0 0 / 16 % 4) (code_1 (get_or f 0 0) (h 0))
-    (omega arith) (h 4) (word_at f 0 / 268435456 % 4) (word_at f 1) (omega (arith, h 0, h 1, h 2, h 3))
-    (omega (arith, h 4, h 5, h 6, h 7)) in
-    let e2 = lane_is 12 (get_or f 0 0) (get_or f 8 0) (get_or f 0 0 / 4 % 4) (code_2 (get_or f 0 0) (h 0))
-    (omega arith) (h 8) (word_at f 0 / 67108864 % 4) (word_at f 2) (omega (arith, h 0, h 1, h 2, h 3))
-    (omega (arith, h 8, h 9, h 10, h 11)) in
-    let e3 = lane_is 3 (get_or f 0 0) (get_or f 12 0) (get_or f 0 0 % 4) (code_3 (get_or f 0 0) (h 0)) (omega arith)
-    (h 12) (word_at f 0 / 16777216 % 4) (word_at f 3) (omega (arith, h 0, h 1, h 2, h 3))
-    (omega (arith, h 12, h 13, h 14, h 15)) in
-    let e4 = lane_is 192 (get_or f 1 0) (get_or f 16 0) (get_or f 1 0 / 64 % 4) (code_0 (get_or f 1 0) (h 1))
-    (omega arith) (h 16) (word_at f 0 / 4194304 % 4) (word_at f 4) (omega (arith, h 0, h 1, h 2, h 3))
-    (omega (arith, h 16, h 17, h 18, h 19)) in
-    let e5 = lane_is 48 (get_or f 1 0) (get_or f 20 0) (get_or f 1 0 / 16 % 4) (code_1 (get_or f 1 0) (h 1))
-    (omega arith) (h 20) (word_at f 0 / 1048576 % 4) (word_at f 5) (omega (arith, h 0, h 1, h 2, h 3))
-    (omega (arith, h 20, h 21, h 22, h 23)) in
-    let e6 = lane_is 12 (get_or f 1 0) (get_or f 24 0) (get_or f 1 0 / 4 % 4) (code_2 (get_or f 1 0) (h 1))
-    (omega arith) (h 24) (word_at f 0 / 262144 % 4) (word_at f 6) (omega (arith, h 0, h 1, h 2, h 3))
-    (omega (arith, h 24, h 25, h 26, h 27)) in
-    let e7 = lane_is 3 (get_or f 1 0) (get_or f 28 0) (get_or f 1 0 % 4) (code_3 (get_or f 1 0) (h 1)) (omega arith)
-    (h 28) (word_at f 0 / 65536 % 4) (word_at f 7) (omega (arith, h 0, h 1, h 2, h 3))
-    (omega (arith, h 28, h 29, h 30, h 31)) in
-    let e8 = lane_is 192 (get_or f 2 0) (get_or f 32 0) (get_or f 2 0 / 64 % 4) (code_0 (get_or f 2 0) (h 2))
-    (omega arith) (h 32) (word_at f 0 / 16384 % 4) (word_at f 8) (omega (arith, h 0, h 1, h 2, h 3))
-    (omega (arith, h 32, h 33, h 34, h 35)) in
-    let e9 = lane_is 48 (get_or f 2 0) (get_or f 36 0) (get_or f 2 0 / 16 % 4) (code_1 (get_or f 2 0) (h 2))
-    (omega arith) (h 36) (word_at f 0 / 4096 % 4) (word_at f 9) (omega (arith, h 0, h 1, h 2, h 3))
-    (omega (arith, h 36, h 37, h 38, h 39)) in
-    let e10 = lane_is 12 (get_or f 2 0) (get_or f 40 0) (get_or f 2 0 / 4 % 4) (code_2 (get_or f 2 0) (h 2))
-    (omega arith) (h 40) (word_at f 0 / 1024 % 4) (word_at f 10) (omega (arith, h 0, h 1, h 2, h 3))
-    (omega (arith, h 40, h 41, h 42, h 43)) in
-    let e11 = lane_is 3 (get_or f 2 0) (get_or f 44 0) (get_or f 2 0 % 4) (code_3 (get_or f 2 0) (h 2)) (omega arith)
-    (h 44) (word_at f 0 / 256 % 4) (word_at f 11) (omega (arith, h 0, h 1, h 2, h 3))
-    (omega (arith, h 44, h 45, h 46, h 47)) in
-    let e12 = lane_is 192 (get_or f 3 0) (get_or f 48 0) (get_or f 3 0 / 64 % 4) (code_0 (get_or f 3 0) (h 3))
-    (omega arith) (h 48) (word_at f 0 / 64 % 4) (word_at f 12) (omega (arith, h 0, h 1, h 2, h 3))
-    (omega (arith, h 48, h 49, h 50, h 51)) in
-    let e13 = lane_is 48 (get_or f 3 0) (get_or f 52 0) (get_or f 3 0 / 16 % 4) (code_1 (get_or f 3 0) (h 3))
-    (omega arith) (h 52) (word_at f 0 / 16 % 4) (word_at f 13) (omega (arith, h 0, h 1, h 2, h 3))
-    (omega (arith, h 52, h 53, h 54, h 55)) in
-    let e14 = lane_is 12 (get_or f 3 0) (get_or f 56 0) (get_or f 3 0 / 4 % 4) (code_2 (get_or f 3 0) (h 3))
-    (omega arith) (h 56) (word_at f 0 / 4 % 4) (word_at f 14) (omega (arith, h 0, h 1, h 2, h 3))
-    (omega (arith, h 56, h 57, h 58, h 59)) in
-    let e15 = lane_is 3 (get_or f 3 0) (get_or f 60 0) (get_or f 3 0 % 4) (code_3 (get_or f 3 0) (h 3)) (omega arith)
-    (h 60) (word_at f 0 / 1 % 4) (word_at f 15) (omega (arith, h 0, h 1, h 2, h 3))
-    (omega (arith, h 60, h 61, h 62, h 63)) in
-    cons e0 (cons e1 (cons e2
-    (cons e3 (cons e4 (cons e5
-    (cons e6 (cons e7 (cons e8
-    (cons e9 (cons e10 (cons e11 (cons e12 (cons e13 (cons e14 (cons e15 (refl))))))))))))))))
+    let x = get_or f 0 0 in
+    let first = h 0 in
+    let second = h 1 in
+    let third = h 2 in
+    let fourth = h 3 in
+    cons (no_code f h 0)
+    (cons (lane_is 48 x (get_or f 4 0) (x / 16 % 4) (code_1 x (h 0)) (omega arith) (h 4) (word_at f 0 / 268435456 % 4)
+    (word_at f 1) (omega arith) (top f h 1))
+    (cons (lane_is 12 x (get_or f 8 0) (x / 4 % 4) (code_2 x (h 0)) (omega arith) (h 8) (word_at f 0 / 67108864 % 4)
+    (word_at f 2) (omega arith) (top f h 2))
+    (cons (lane_is 3 x (get_or f 12 0) (x % 4) (code_3 x (h 0)) (omega arith) (h 12) (word_at f 0 / 16777216 % 4)
+    (word_at f 3) (omega arith) (top f h 3)) (behind f h))))
 
 pub rows_first : (f : List ℕ) → ((k : ℕ) → get_or f k 0 < 256)
     → (lane 0 (get_or f 0 0) (get_or f 0 0) ∷ lane 0 (get_or f 0 0) (get_or f 4 0) ∷ lane 0 (get_or f 0 0)
-    (get_or f 8 0) ∷ lane 0 (get_or f 0 0) (get_or f 12 0) ∷ lane 192 (get_or f 1 0) (get_or f 16 0) ∷ lane 48
-    (get_or f 1 0) (get_or f 20 0) ∷ lane 12 (get_or f 1 0) (get_or f 24 0) ∷ lane 3 (get_or f 1 0) (get_or f 28 0)
-    ∷ lane 192 (get_or f 2 0) (get_or f 32 0) ∷ lane 48 (get_or f 2 0) (get_or f 36 0) ∷ lane 12 (get_or f 2 0)
-    (get_or f 40 0) ∷ lane 3 (get_or f 2 0) (get_or f 44 0) ∷ lane 192 (get_or f 3 0) (get_or f 48 0) ∷ lane 48
-    (get_or f 3 0) (get_or f 52 0) ∷ lane 12 (get_or f 3 0) (get_or f 56 0) ∷ lane 3 (get_or f 3 0) (get_or f 60 0)
-    ∷ []) ≡ map (row_at f 4) words
+    (get_or f 8 0) ∷ lane 0 (get_or f 0 0) (get_or f 12 0) ∷ four_lanes f 1 (four_lanes f 2 (four_lanes f 3 [])))
+    ≡ map (row_at f 4) words
 unfolding words
-rows_first f h =
-    let e0 = lane_is 0 (get_or f 0 0) (get_or f 0 0) 0 (code_none (get_or f 0 0) (h 0)) (omega arith) (h 0) 0
-    (word_at f 0) refl (omega (arith, h 0, h 1, h 2, h 3)) in
-    let e1 = lane_is 0 (get_or f 0 0) (get_or f 4 0) 0 (code_none (get_or f 0 0) (h 0)) (omega arith) (h 4) 0
-    (word_at f 1) refl (omega (arith, h 4, h 5, h 6, h 7)) in
-    let e2 = lane_is 0 (get_or f 0 0) (get_or f 8 0) 0 (code_none (get_or f 0 0) (h 0)) (omega arith) (h 8) 0
-    (word_at f 2) refl (omega (arith, h 8, h 9, h 10, h 11)) in
-    let e3 = lane_is 0 (get_or f 0 0) (get_or f 12 0) 0 (code_none (get_or f 0 0) (h 0)) (omega arith) (h 12) 0
-    (word_at f 3) refl (omega (arith, h 12, h 13, h 14, h 15)) in
-    let e4 = lane_is 192 (get_or f 1 0) (get_or f 16 0) (get_or f 1 0 / 64 % 4) (code_0 (get_or f 1 0) (h 1))
-    (omega arith) (h 16) (word_at f 0 / 4194304 % 4) (word_at f 4) (omega (arith, h 0, h 1, h 2, h 3))
-    (omega (arith, h 16, h 17, h 18, h 19)) in
-    let e5 = lane_is 48 (get_or f 1 0) (get_or f 20 0) (get_or f 1 0 / 16 % 4) (code_1 (get_or f 1 0) (h 1))
-    (omega arith) (h 20) (word_at f 0 / 1048576 % 4) (word_at f 5) (omega (arith, h 0, h 1, h 2, h 3))
-    (omega (arith, h 20, h 21, h 22, h 23)) in
-    let e6 = lane_is 12 (get_or f 1 0) (get_or f 24 0) (get_or f 1 0 / 4 % 4) (code_2 (get_or f 1 0) (h 1))
-    (omega arith) (h 24) (word_at f 0 / 262144 % 4) (word_at f 6) (omega (arith, h 0, h 1, h 2, h 3))
-    (omega (arith, h 24, h 25, h 26, h 27)) in
-    let e7 = lane_is 3 (get_or f 1 0) (get_or f 28 0) (get_or f 1 0 % 4) (code_3 (get_or f 1 0) (h 1)) (omega arith)
-    (h 28) (word_at f 0 / 65536 % 4) (word_at f 7) (omega (arith, h 0, h 1, h 2, h 3))
-    (omega (arith, h 28, h 29, h 30, h 31)) in
-    let e8 = lane_is 192 (get_or f 2 0) (get_or f 32 0) (get_or f 2 0 / 64 % 4) (code_0 (get_or f 2 0) (h 2))
-    (omega arith) (h 32) (word_at f 0 / 16384 % 4) (word_at f 8) (omega (arith, h 0, h 1, h 2, h 3))
-    (omega (arith, h 32, h 33, h 34, h 35)) in
-    let e9 = lane_is 48 (get_or f 2 0) (get_or f 36 0) (get_or f 2 0 / 16 % 4) (code_1 (get_or f 2 0) (h 2))
-    (omega arith) (h 36) (word_at f 0 / 4096 % 4) (word_at f 9) (omega (arith, h 0, h 1, h 2, h 3))
-    (omega (arith, h 36, h 37, h 38, h 39)) in
-    let e10 = lane_is 12 (get_or f 2 0) (get_or f 40 0) (get_or f 2 0 / 4 % 4) (code_2 (get_or f 2 0) (h 2))
-    (omega arith) (h 40) (word_at f 0 / 1024 % 4) (word_at f 10) (omega (arith, h 0, h 1, h 2, h 3))
-    (omega (arith, h 40, h 41, h 42, h 43)) in
-    let e11 = lane_is 3 (get_or f 2 0) (get_or f 44 0) (get_or f 2 0 % 4) (code_3 (get_or f 2 0) (h 2)) (omega arith)
-    (h 44) (word_at f 0 / 256 % 4) (word_at f 11) (omega (arith, h 0, h 1, h 2, h 3))
-    (omega (arith, h 44, h 45, h 46, h 47)) in
-    let e12 = lane_is 192 (get_or f 3 0) (get_or f 48 0) (get_or f 3 0 / 64 % 4) (code_0 (get_or f 3 0) (h 3))
-    (omega arith) (h 48) (word_at f 0 / 64 % 4) (word_at f 12) (omega (arith, h 0, h 1, h 2, h 3))
-    (omega (arith, h 48, h 49, h 50, h 51)) in
-    let e13 = lane_is 48 (get_or f 3 0) (get_or f 52 0) (get_or f 3 0 / 16 % 4) (code_1 (get_or f 3 0) (h 3))
-    (omega arith) (h 52) (word_at f 0 / 16 % 4) (word_at f 13) (omega (arith, h 0, h 1, h 2, h 3))
-    (omega (arith, h 52, h 53, h 54, h 55)) in
-    let e14 = lane_is 12 (get_or f 3 0) (get_or f 56 0) (get_or f 3 0 / 4 % 4) (code_2 (get_or f 3 0) (h 3))
-    (omega arith) (h 56) (word_at f 0 / 4 % 4) (word_at f 14) (omega (arith, h 0, h 1, h 2, h 3))
-    (omega (arith, h 56, h 57, h 58, h 59)) in
-    let e15 = lane_is 3 (get_or f 3 0) (get_or f 60 0) (get_or f 3 0 % 4) (code_3 (get_or f 3 0) (h 3)) (omega arith)
-    (h 60) (word_at f 0 / 1 % 4) (word_at f 15) (omega (arith, h 0, h 1, h 2, h 3))
-    (omega (arith, h 60, h 61, h 62, h 63)) in
-    cons e0 (cons e1 (cons e2
-    (cons e3 (cons e4 (cons e5
-    (cons e6 (cons e7 (cons e8
-    (cons e9 (cons e10 (cons e11 (cons e12 (cons e13 (cons e14 (cons e15 (refl))))))))))))))))
+rows_first f h = cons (no_code f h 0) (cons (no_code f h 1) (cons (no_code f h 2) (cons (no_code f h 3) (behind f h))))

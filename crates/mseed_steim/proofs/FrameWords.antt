@@ -1,11 +1,12 @@
 -- What a word's parts add up to, by its row.
 use Rattle.std.proofs.Common.{◌≡◌, ℕ, ◌+◌, ◌*◌, ◌/◌, ◌%◌, ◌<◌, ◌≤◌, get_or, bit_and, bit_xor, refl, ap, ◌∙◌, arith, pos}
-use Rattle.std.proofs.Common.{◌+ℤ◌, below_none, below_more}
+use Rattle.std.proofs.Common.{◌+ℤ◌}
 use Rattle.std.specs.Int.Bits.{and_zero_r}
 use Rattle.mseed_steim.specs.private.Digits.{digits}
 use Rattle.mseed_steim.specs.private.Lanes.{total, word_of}
 use Rattle.mseed_steim.specs.private.Lanes.{fine_two, ones_two, coarse_two, turned_a, turned_b, turned_c, turned_d}
 use Rattle.mseed_steim.specs.private.Lanes.{least_two, least_coarse_two, counts_two, widths_two}
+use Rattle.mseed_steim.proofs.Below.{sixteen}
 use Rattle.mseed_steim.proofs.FrameBytes.{four_is, two_is, three_is, five_is, six_is, seven_is, four_p0, four_p1}
 use Rattle.mseed_steim.proofs.FrameBytes.{four_p2, four_p3, two_p0, two_p1, two_p2, two_p3, two_p4, three_p0, three_p1}
 use Rattle.mseed_steim.proofs.FrameBytes.{three_p2, three_p3, three_p4, three_p5, five_p0, five_p1, five_p2, five_p3}
@@ -295,16 +296,20 @@ unfolding counts_two
 tells_15 a b c d A B C D = λ few. absurd (omega (arith, few))
 
 pub tells : (a b c d : ℕ) → a < 256 → b < 256 → c < 256 → d < 256 → (row : ℕ) → row < 16 → Tells row a b c d
-tells a b c d A B C D =
-    let P : ℕ → Type 0 = λ row. Tells row a b c d in
-    below_more P 15 (below_more P 14
-    (below_more P 13 (below_more P 12
-    (below_more P 11 (below_more P 10
-    (below_more P 9 (below_more P 8
-    (below_more P 7 (below_more P 6
-    (below_more P 5 (below_more P 4
-    (below_more P 3 (below_more P 2 (below_more P 1 (below_more P 0 (below_none P) (tells_0 a b c d A B C D))
-    (tells_1 a b c d A B C D)) (tells_2 a b c d A B C D)) (tells_3 a b c d A B C D)) (tells_4 a b c d A B C D))
-    (tells_5 a b c d A B C D)) (tells_6 a b c d A B C D)) (tells_7 a b c d A B C D)) (tells_8 a b c d A B C D))
-    (tells_9 a b c d A B C D)) (tells_10 a b c d A B C D)) (tells_11 a b c d A B C D)) (tells_12 a b c d A B C D))
-    (tells_13 a b c d A B C D)) (tells_14 a b c d A B C D)) (tells_15 a b c d A B C D)
+tells a b c d A B C D = sixteen (λ row. Tells row a b c d)
+    (tells_0 a b c d A B C D)
+    (tells_1 a b c d A B C D)
+    (tells_2 a b c d A B C D)
+    (tells_3 a b c d A B C D)
+    (tells_4 a b c d A B C D)
+    (tells_5 a b c d A B C D)
+    (tells_6 a b c d A B C D)
+    (tells_7 a b c d A B C D)
+    (tells_8 a b c d A B C D)
+    (tells_9 a b c d A B C D)
+    (tells_10 a b c d A B C D)
+    (tells_11 a b c d A B C D)
+    (tells_12 a b c d A B C D)
+    (tells_13 a b c d A B C D)
+    (tells_14 a b c d A B C D)
+    (tells_15 a b c d A B C D)

@@ -1,6 +1,6 @@
 -- How many differences of a size a word holds, and so how many of the next differences.
-use Rattle.std.proofs.Common.{◌≡◌, ◌↔◌, ℕ, ◌+◌, ◌-◌, ◌/◌, ◌^◌, ◌<◌, ◌≤◌, List, length, take, drop, get_or, ℤ, pos}
-use Rattle.std.proofs.Common.{arith, refl, ap, sym, ◌∙◌, subst, ⊎_elim, All, Some, below_none, below_more, replicate}
+use Rattle.std.proofs.Common.{◌≡◌, ◌↔◌, ℕ, ◌+◌, ◌-◌, ◌*◌, ◌/◌, ◌^◌, ◌<◌, ◌≤◌, List, [], ◌∷◌, length, take}
+use Rattle.std.proofs.Common.{drop, get_or, ℤ, pos, arith, refl, ap, sym, ◌∙◌, subst, ⊎_elim, All, Some, replicate}
 use Rattle.std.proofs.Common.{zero, suc}
 use Rattle.std.proofs.lemmas.Bool.{cases_lt, lt-ltb, le-ltb}
 use Rattle.std.proofs.lemmas.List.{get_or-take, get_or-drop, length-take-le, length-drop, drop-drop}
@@ -11,206 +11,69 @@ use Rattle.mseed_steim.specs.declared.row.Row.{Row}
 use Rattle.mseed_steim.specs.Spelling.{IsWithin}
 use Rattle.mseed_steim.specs.Packing.{CanSpell, IsFullest}
 use Rattle.mseed_steim.specs.private.Rows.{row_with, row_for}
-use Rattle.mseed_steim.specs.private.Ahead.{size_of, near, near_size, most_one, most_two, most_with, IsMost, IsAhead}
-use Rattle.mseed_steim.specs.private.Ahead.{Tells, taken}
+use Rattle.mseed_steim.specs.private.Ahead.{size_of, near, near_size, raised, most_one, most_two, most_with, IsMost}
+use Rattle.mseed_steim.specs.private.Ahead.{IsAhead, Tells, taken}
 use Rattle.mseed_steim.specs.declared.ahead.Ahead.{Ahead}
+use Rattle.mseed_steim.proofs.Below.{eight}
 use Rattle.mseed_steim.proofs.Rows.{row_is, spelled_fits}
 use Rattle.mseed_steim.proofs.Sizes.{one_3, two_6}
 use Rattle.mseed_steim.proofs.Widths.{within_by}
 use Rattle.mseed_steim.proofs.Fullest.{prefix_fits}
 
--- whether a size is below a limit, by the number that says so
-yes : (x limit k m : ℕ) → x < limit → k ≤ m → (x < limit) ↔ (k ≤ m)
-yes x limit k m a b = (λ _. b, λ _. a)
+-- The limits of a count that begins at one and is one more for each limit that a number is below, by the count.
+abbrev limits_two : ℕ → ℕ
+limits_two k = get_or (0 ∷ 0 ∷ 16384 ∷ 512 ∷ 128 ∷ 32 ∷ 16 ∷ 8 ∷ []) k 0
 
-no : (x limit k m : ℕ) → limit ≤ x → m < k → (x < limit) ↔ (k ≤ m)
-no x limit k m a b = (λ h. absurd (omega (arith, h, a)), λ h. absurd (omega (arith, h, b)))
+abbrev limits_one : ℕ → ℕ
+limits_one k = get_or (0 ∷ 0 ∷ 16384 ∷ 64 ∷ 64 ∷ []) k 0
 
-record Two_reported (x m : ℕ) : Type 0 where
-  pub at_2 : (x < 16384) ↔ (2 ≤ m)
-  pub at_3 : (x < 512) ↔ (3 ≤ m)
-  pub at_4 : (x < 128) ↔ (4 ≤ m)
-  pub at_5 : (x < 32) ↔ (5 ≤ m)
-  pub at_6 : (x < 16) ↔ (6 ≤ m)
-  pub at_7 : (x < 8) ↔ (7 ≤ m)
+-- a count of n at the most, by which is known of each limit whether a number is below it
+record Counts (limit : ℕ → ℕ) (f : ℕ → ℕ) (n lowest : ℕ) : Type 0 where
+  pub most : (x : ℕ) → f x ≤ n
+  pub all : (x : ℕ) → x < lowest → n ≤ f x
+  pub each : (x k : ℕ) → 2 ≤ k → k ≤ n → (x < limit k) ↔ (k ≤ f x)
 
-level_two_7 : (x : ℕ) → x < 8 → Two_reported x (most_two x)
-level_two_7 x high =
-    let value : most_two x ≡ 7 = rw (
-      lt-ltb x 16384 (omega (arith, high)),
-      lt-ltb x 512 (omega (arith, high)),
-      lt-ltb x 128 (omega (arith, high)),
-      lt-ltb x 32 (omega (arith, high)),
-      lt-ltb x 16 (omega (arith, high)),
-      lt-ltb x 8 (omega (arith, high)),
-    ) refl in
-    subst (λ (m : ℕ). Two_reported x m) (sym value) (record {
-      at_2 = yes x 16384 2 7 (omega (arith, high)) (omega arith);
-      at_3 = yes x 512 3 7 (omega (arith, high)) (omega arith);
-      at_4 = yes x 128 4 7 (omega (arith, high)) (omega arith);
-      at_5 = yes x 32 5 7 (omega (arith, high)) (omega arith);
-      at_6 = yes x 16 6 7 (omega (arith, high)) (omega arith);
-      at_7 = yes x 8 7 7 (omega (arith, high)) (omega arith);
-    })
+no_limit : (limit : ℕ → ℕ) (lowest : ℕ) → Counts limit (λ _. 1) 1 lowest
+no_limit limit lowest = record {
+  most = λ x. omega arith;
+  all = λ x h. omega arith;
+  each = λ x k some few. absurd (omega (arith, some, few));
+}
 
-level_two_6 : (x : ℕ) → 8 ≤ x → x < 16 → Two_reported x (most_two x)
-level_two_6 x low high =
-    let value : most_two x ≡ 6 = rw (
-      lt-ltb x 16384 (omega (arith, high)),
-      lt-ltb x 512 (omega (arith, high)),
-      lt-ltb x 128 (omega (arith, high)),
-      lt-ltb x 32 (omega (arith, high)),
-      lt-ltb x 16 (omega (arith, high)),
-      le-ltb x 8 (omega (arith, low)),
-    ) refl in
-    subst (λ (m : ℕ). Two_reported x m) (sym value) (record {
-      at_2 = yes x 16384 2 6 (omega (arith, high)) (omega arith);
-      at_3 = yes x 512 3 6 (omega (arith, high)) (omega arith);
-      at_4 = yes x 128 4 6 (omega (arith, high)) (omega arith);
-      at_5 = yes x 32 5 6 (omega (arith, high)) (omega arith);
-      at_6 = yes x 16 6 6 (omega (arith, high)) (omega arith);
-      at_7 = no x 8 7 6 (omega (arith, low)) (omega arith);
-    })
+-- one limit more, which is no higher than the others
+one_more : (limit : ℕ → ℕ) (f : ℕ → ℕ) (n lowest next : ℕ) → Counts limit f n lowest → next ≤ lowest
+    → limit (n + 1) ≡ next → Counts limit (raised f next) (n + 1) next
+one_more limit f n lowest next c low found = record {
+  most = λ x. let most = c.most x in ⊎_elim
+      (λ (a : x < next). rw (lt-ltb x next a) (omega (arith, most)))
+      (λ (b : next ≤ x). rw (le-ltb x next b) (omega (arith, most)))
+      (cases_lt x next);
+  all = λ x a. let all = c.all x (omega (arith, a, low)) in rw (lt-ltb x next a) (omega (arith, all));
+  each = λ x k some few. ⊎_elim
+      (λ (less : k < n + 1). let each = c.each x k some (omega (arith, less)) in ⊎_elim
+      (λ (a : x < next). let all = c.all x (omega (arith, a, low)) in
+      rw (lt-ltb x next a) (λ y. omega (arith, each.0 y), λ y. each.1 (omega (arith, all, less))))
+      (λ (b : next ≤ x). rw (le-ltb x next b) (λ y. omega (arith, each.0 y), λ y. each.1 (omega (arith, y))))
+      (cases_lt x next))
+      (λ (more : n + 1 ≤ k). let last : k ≡ n + 1 = omega (arith, few, more) in ⊎_elim
+      (λ (a : x < next). let all = c.all x (omega (arith, a, low)) in
+      rw (last, found, lt-ltb x next a) (λ _. omega (arith, all), λ _. a))
+      (λ (b : next ≤ x). let most = c.most x in
+      rw (last, found, le-ltb x next b) (λ y. absurd (omega (arith, y, b)), λ y. absurd (omega (arith, y, most))))
+      (cases_lt x next))
+      (cases_lt k (n + 1));
+}
 
-level_two_5 : (x : ℕ) → 16 ≤ x → x < 32 → Two_reported x (most_two x)
-level_two_5 x low high =
-    let value : most_two x ≡ 5 = rw (
-      lt-ltb x 16384 (omega (arith, high)),
-      lt-ltb x 512 (omega (arith, high)),
-      lt-ltb x 128 (omega (arith, high)),
-      lt-ltb x 32 (omega (arith, high)),
-      le-ltb x 16 (omega (arith, low)),
-      le-ltb x 8 (omega (arith, low)),
-    ) refl in
-    subst (λ (m : ℕ). Two_reported x m) (sym value) (record {
-      at_2 = yes x 16384 2 5 (omega (arith, high)) (omega arith);
-      at_3 = yes x 512 3 5 (omega (arith, high)) (omega arith);
-      at_4 = yes x 128 4 5 (omega (arith, high)) (omega arith);
-      at_5 = yes x 32 5 5 (omega (arith, high)) (omega arith);
-      at_6 = no x 16 6 5 (omega (arith, low)) (omega arith);
-      at_7 = no x 8 7 5 (omega (arith, low)) (omega arith);
-    })
+counts_two : Counts limits_two most_two 7 8
+counts_two =
+    one_more _ _ 6 16 8 (one_more _ _ 5 32 16 (one_more _ _ 4 128 32 (one_more _ _ 3 512 128
+    (one_more _ _ 2 16384 512 (one_more _ _ 1 16384 16384 (no_limit _ 16384) (omega arith) refl) (omega arith) refl)
+    (omega arith) refl) (omega arith) refl) (omega arith) refl) (omega arith) refl
 
-level_two_4 : (x : ℕ) → 32 ≤ x → x < 128 → Two_reported x (most_two x)
-level_two_4 x low high =
-    let value : most_two x ≡ 4 = rw (
-      lt-ltb x 16384 (omega (arith, high)),
-      lt-ltb x 512 (omega (arith, high)),
-      lt-ltb x 128 (omega (arith, high)),
-      le-ltb x 32 (omega (arith, low)),
-      le-ltb x 16 (omega (arith, low)),
-      le-ltb x 8 (omega (arith, low)),
-    ) refl in
-    subst (λ (m : ℕ). Two_reported x m) (sym value) (record {
-      at_2 = yes x 16384 2 4 (omega (arith, high)) (omega arith);
-      at_3 = yes x 512 3 4 (omega (arith, high)) (omega arith);
-      at_4 = yes x 128 4 4 (omega (arith, high)) (omega arith);
-      at_5 = no x 32 5 4 (omega (arith, low)) (omega arith);
-      at_6 = no x 16 6 4 (omega (arith, low)) (omega arith);
-      at_7 = no x 8 7 4 (omega (arith, low)) (omega arith);
-    })
-
-level_two_3 : (x : ℕ) → 128 ≤ x → x < 512 → Two_reported x (most_two x)
-level_two_3 x low high =
-    let value : most_two x ≡ 3 = rw (
-      lt-ltb x 16384 (omega (arith, high)),
-      lt-ltb x 512 (omega (arith, high)),
-      le-ltb x 128 (omega (arith, low)),
-      le-ltb x 32 (omega (arith, low)),
-      le-ltb x 16 (omega (arith, low)),
-      le-ltb x 8 (omega (arith, low)),
-    ) refl in
-    subst (λ (m : ℕ). Two_reported x m) (sym value) (record {
-      at_2 = yes x 16384 2 3 (omega (arith, high)) (omega arith);
-      at_3 = yes x 512 3 3 (omega (arith, high)) (omega arith);
-      at_4 = no x 128 4 3 (omega (arith, low)) (omega arith);
-      at_5 = no x 32 5 3 (omega (arith, low)) (omega arith);
-      at_6 = no x 16 6 3 (omega (arith, low)) (omega arith);
-      at_7 = no x 8 7 3 (omega (arith, low)) (omega arith);
-    })
-
-level_two_2 : (x : ℕ) → 512 ≤ x → x < 16384 → Two_reported x (most_two x)
-level_two_2 x low high =
-    let value : most_two x ≡ 2 = rw (
-      lt-ltb x 16384 (omega (arith, high)),
-      le-ltb x 512 (omega (arith, low)),
-      le-ltb x 128 (omega (arith, low)),
-      le-ltb x 32 (omega (arith, low)),
-      le-ltb x 16 (omega (arith, low)),
-      le-ltb x 8 (omega (arith, low)),
-    ) refl in
-    subst (λ (m : ℕ). Two_reported x m) (sym value) (record {
-      at_2 = yes x 16384 2 2 (omega (arith, high)) (omega arith);
-      at_3 = no x 512 3 2 (omega (arith, low)) (omega arith);
-      at_4 = no x 128 4 2 (omega (arith, low)) (omega arith);
-      at_5 = no x 32 5 2 (omega (arith, low)) (omega arith);
-      at_6 = no x 16 6 2 (omega (arith, low)) (omega arith);
-      at_7 = no x 8 7 2 (omega (arith, low)) (omega arith);
-    })
-
-level_two_1 : (x : ℕ) → 16384 ≤ x → Two_reported x (most_two x)
-level_two_1 x low =
-    let value : most_two x ≡ 1 = rw (
-      le-ltb x 16384 (omega (arith, low)),
-      le-ltb x 512 (omega (arith, low)),
-      le-ltb x 128 (omega (arith, low)),
-      le-ltb x 32 (omega (arith, low)),
-      le-ltb x 16 (omega (arith, low)),
-      le-ltb x 8 (omega (arith, low)),
-    ) refl in
-    subst (λ (m : ℕ). Two_reported x m) (sym value) (record {
-      at_2 = no x 16384 2 1 (omega (arith, low)) (omega arith);
-      at_3 = no x 512 3 1 (omega (arith, low)) (omega arith);
-      at_4 = no x 128 4 1 (omega (arith, low)) (omega arith);
-      at_5 = no x 32 5 1 (omega (arith, low)) (omega arith);
-      at_6 = no x 16 6 1 (omega (arith, low)) (omega arith);
-      at_7 = no x 8 7 1 (omega (arith, low)) (omega arith);
-    })
-
-two_reported : (x : ℕ) → Two_reported x (most_two x)
-two_reported x =
-    ⊎_elim (λ (a8 : x < 8). level_two_7 x a8) (λ (b8 : 8 ≤ x).
-    ⊎_elim (λ (a16 : x < 16). level_two_6 x b8 a16) (λ (b16 : 16 ≤ x).
-    ⊎_elim (λ (a32 : x < 32). level_two_5 x b16 a32) (λ (b32 : 32 ≤ x).
-    ⊎_elim (λ (a128 : x < 128). level_two_4 x b32 a128) (λ (b128 : 128 ≤ x).
-    ⊎_elim (λ (a512 : x < 512). level_two_3 x b128 a512) (λ (b512 : 512 ≤ x).
-    ⊎_elim (λ (a16384 : x < 16384). level_two_2 x b512 a16384) (λ (b16384 : 16384 ≤ x).
-    level_two_1 x b16384) (cases_lt x 16384)) (cases_lt x 512)) (cases_lt x 128)) (cases_lt x 32)) (cases_lt x 16))
-    (cases_lt x 8)
-
-record One_reported (x m : ℕ) : Type 0 where
-  pub at_2 : (x < 16384) ↔ (2 ≤ m)
-  pub at_4 : (x < 64) ↔ (4 ≤ m)
-
-level_one_4 : (x : ℕ) → x < 64 → One_reported x (most_one x)
-level_one_4 x high =
-    let value : most_one x ≡ 4 = rw (lt-ltb x 16384 (omega (arith, high)), lt-ltb x 64 (omega (arith, high))) refl in
-    subst (λ (m : ℕ). One_reported x m) (sym value) (record {
-      at_2 = yes x 16384 2 4 (omega (arith, high)) (omega arith);
-      at_4 = yes x 64 4 4 (omega (arith, high)) (omega arith);
-    })
-
-level_one_2 : (x : ℕ) → 64 ≤ x → x < 16384 → One_reported x (most_one x)
-level_one_2 x low high =
-    let value : most_one x ≡ 2 = rw (lt-ltb x 16384 (omega (arith, high)), le-ltb x 64 (omega (arith, low))) refl in
-    subst (λ (m : ℕ). One_reported x m) (sym value) (record {
-      at_2 = yes x 16384 2 2 (omega (arith, high)) (omega arith);
-      at_4 = no x 64 4 2 (omega (arith, low)) (omega arith);
-    })
-
-level_one_1 : (x : ℕ) → 16384 ≤ x → One_reported x (most_one x)
-level_one_1 x low =
-    let value : most_one x ≡ 1 = rw (le-ltb x 16384 (omega (arith, low)), le-ltb x 64 (omega (arith, low))) refl in
-    subst (λ (m : ℕ). One_reported x m) (sym value) (record {
-      at_2 = no x 16384 2 1 (omega (arith, low)) (omega arith);
-      at_4 = no x 64 4 1 (omega (arith, low)) (omega arith);
-    })
-
-one_reported : (x : ℕ) → One_reported x (most_one x)
-one_reported x =
-    ⊎_elim (λ (a : x < 64). level_one_4 x a) (λ (b : 64 ≤ x).
-    ⊎_elim (λ (a : x < 16384). level_one_2 x b a) (λ (d : 16384 ≤ x). level_one_1 x d) (cases_lt x 16384))
-    (cases_lt x 64)
+counts_one : Counts limits_one most_one 4 64
+counts_one =
+    one_more _ _ 3 64 64 (one_more _ _ 2 16384 64 (one_more _ _ 1 16384 16384 (no_limit _ 16384) (omega arith) refl)
+    (omega arith) refl) (omega arith) refl
 
 -- a limit tells the same of a size that was cut off beyond it
 near_below : (n limit : ℕ) → limit ≤ 32767 → (n < limit) ↔ (near n < limit)
@@ -243,70 +106,41 @@ by_row s z k row found h r e =
     let one : row ≡ r = cc in
     subst (λ (x : Row). IsWithin x.width z ↔ (k ≤ most_with s (near_size s z))) one h
 
-two_fits_2 : (z : ℤ) → Fits_row Two z 2
-two_fits_2 z = by_row Two z 2 _ refl (both _ _ _ (back _ _ (within_by z (size_of z) refl 15))
-    (both _ _ _ (near_below (size_of z) 16384 (omega arith)) (two_reported (near (size_of z))).at_2))
+two_fits : (z : ℤ) (k : ℕ) (row : Row) → 2 ≤ k → k ≤ 7 → row_for Two k ≡ Some row → 2 ^ (row.width - 1) ≡ limits_two k
+    → limits_two k ≤ 32767 → Fits_row Two z k
+two_fits z k row some few found same far =
+    by_row Two z k row found (both _ _ _ (back _ _ (within_by z (size_of z) refl row.width))
+    (rw same (both _ _ _ (near_below (size_of z) (limits_two k) far) (counts_two.each (near (size_of z)) k some few))))
 
-two_fits_3 : (z : ℤ) → Fits_row Two z 3
-two_fits_3 z = by_row Two z 3 _ refl (both _ _ _ (back _ _ (within_by z (size_of z) refl 10))
-    (both _ _ _ (near_below (size_of z) 512 (omega arith)) (two_reported (near (size_of z))).at_3))
+halved : (n limit : ℕ) → (n < 2 * limit) ↔ (n / 2 < limit)
+halved n limit = (λ h. omega (arith, h), λ h. omega (arith, h))
 
-two_fits_4 : (z : ℤ) → Fits_row Two z 4
-two_fits_4 z = by_row Two z 4 _ refl
-    (both _ _ _ (back _ _ (within_by z (size_of z) refl 8))
-    (both _ _ _ (near_below (size_of z) 128 (omega arith)) (two_reported (near (size_of z))).at_4))
-
-two_fits_5 : (z : ℤ) → Fits_row Two z 5
-two_fits_5 z = by_row Two z 5 _ refl
-    (both _ _ _ (back _ _ (within_by z (size_of z) refl 6))
-    (both _ _ _ (near_below (size_of z) 32 (omega arith)) (two_reported (near (size_of z))).at_5))
-
-two_fits_6 : (z : ℤ) → Fits_row Two z 6
-two_fits_6 z = by_row Two z 6 _ refl
-    (both _ _ _ (back _ _ (within_by z (size_of z) refl 5))
-    (both _ _ _ (near_below (size_of z) 16 (omega arith)) (two_reported (near (size_of z))).at_6))
-
-two_fits_7 : (z : ℤ) → Fits_row Two z 7
-two_fits_7 z = by_row Two z 7 _ refl
-    (both _ _ _ (back _ _ (within_by z (size_of z) refl 4))
-    (both _ _ _ (near_below (size_of z) 8 (omega arith)) (two_reported (near (size_of z))).at_7))
-
-halved_2 : (n : ℕ) → (n < 2 ^ 15) ↔ (n / 2 < 16384)
-halved_2 n = (λ h. omega (arith, h), λ h. omega (arith, h))
-
-one_fits_2 : (z : ℤ) → Fits_row One z 2
-one_fits_2 z = by_row One z 2 _ refl (both _ _ _ (back _ _ (within_by z (size_of z) refl 16))
-    (both _ _ _ (halved_2 (size_of z)) (both _ _ _ (near_below (size_of z / 2) 16384 (omega arith))
-    (one_reported (near (size_of z / 2))).at_2)))
-
-halved_4 : (n : ℕ) → (n < 2 ^ 7) ↔ (n / 2 < 64)
-halved_4 n = (λ h. omega (arith, h), λ h. omega (arith, h))
-
-one_fits_4 : (z : ℤ) → Fits_row One z 4
-one_fits_4 z = by_row One z 4 _ refl
-    (both _ _ _ (back _ _ (within_by z (size_of z) refl 8))
-    (both _ _ _ (halved_4 (size_of z)) (both _ _ _ (near_below (size_of z / 2) 64 (omega arith))
-    (one_reported (near (size_of z / 2))).at_4)))
-
-eight : (P : ℕ → Type 0) → P 0 → P 1 → P 2 → P 3 → P 4 → P 5 → P 6 → P 7 → (i : ℕ) → i < 8 → P i
-eight P a b c d e f g h =
-    below_more P 7 (below_more P 6
-    (below_more P 5 (below_more P 4
-    (below_more P 3 (below_more P 2 (below_more P 1 (below_more P 0 (below_none P) a) b) c) d) e) f) g) h
+one_fits : (z : ℤ) (k : ℕ) (row : Row) → 2 ≤ k → k ≤ 4 → row_for One k ≡ Some row
+    → 2 ^ (row.width - 1) ≡ 2 * limits_one k → limits_one k ≤ 32767 → Fits_row One z k
+one_fits z k row some few found same far =
+    by_row One z k row found (both _ _ _ (back _ _ (within_by z (size_of z) refl row.width))
+    (rw same (both _ _ _ (halved (size_of z) (limits_one k))
+    (both _ _ _ (near_below (size_of z / 2) (limits_one k) far)
+    (counts_one.each (near (size_of z / 2)) k some few)))))
 
 fits_row : (s : Scheme) (z : ℤ) (k : ℕ) → 2 ≤ k → Fits_row s z k
 fits_row One z k some r e =
     let few = (row_is One k r e).0.most in
     let same = (row_is One k r e).1 in
     eight (λ k. 2 ≤ k → Fits_row One z k) (λ h. absurd (omega (arith, h))) (λ h. absurd (omega (arith, h)))
-    (λ _. one_fits_2 z) (λ _ r e. cc) (λ _. one_fits_4 z) (λ _ r e. cc) (λ _ r e. cc) (λ _ r e. cc) k
+    (λ h. one_fits z 2 _ h (omega arith) refl refl (omega arith)) (λ _ r e. cc)
+    (λ h. one_fits z 4 _ h (omega arith) refl refl (omega arith)) (λ _ r e. cc) (λ _ r e. cc) (λ _ r e. cc) k
     (omega (arith, few, same)) some r e
 fits_row Two z k some r e =
     let few = (row_is Two k r e).0.most in
     let same = (row_is Two k r e).1 in
     eight (λ k. 2 ≤ k → Fits_row Two z k) (λ h. absurd (omega (arith, h))) (λ h. absurd (omega (arith, h)))
-    (λ _. two_fits_2 z) (λ _. two_fits_3 z) (λ _. two_fits_4 z) (λ _. two_fits_5 z) (λ _. two_fits_6 z)
-    (λ _. two_fits_7 z) k (omega (arith, few, same)) some r e
+    (λ h. two_fits z 2 _ h (omega arith) refl refl (omega arith))
+    (λ h. two_fits z 3 _ h (omega arith) refl refl (omega arith))
+    (λ h. two_fits z 4 _ h (omega arith) refl refl (omega arith))
+    (λ h. two_fits z 5 _ h (omega arith) refl refl (omega arith))
+    (λ h. two_fits z 6 _ h (omega arith) refl refl (omega arith))
+    (λ h. two_fits z 7 _ h (omega arith) refl refl (omega arith)) k (omega (arith, few, same)) some r e
 
 -- how many are taken: a row of the table has as many, and none of more of them that are held
 pub record Takes (s : Scheme) (most : ℕ) : Type 0 where
@@ -316,38 +150,30 @@ pub record Takes (s : Scheme) (most : ℕ) : Type 0 where
   pub less : taken s most ≤ most
   pub all : (k : ℕ) (r : Row) → k ≤ most → row_for s k ≡ Some r → k ≤ taken s most
 
+plain : (s : Scheme) (m : ℕ) (r : Row) → taken s m ≡ m → row_for s m ≡ Some r → 2 ≤ m → Takes s m
+plain s m r same e h = record {
+  row = r;
+  found = rw same e;
+  some = omega (arith, same, h);
+  less = omega (arith, same);
+  all = λ k r h e. omega (arith, same, h);
+}
+
 takes : (s : Scheme) (most : ℕ) → 2 ≤ most → most ≤ most_with s 0 → Takes s most
-takes One most some few = eight (λ m. 2 ≤ m → m ≤ 4 → Takes One m) (λ h _. absurd (omega (arith, h)))
-    (λ h _. absurd (omega (arith, h)))
-    (λ _ _. record {
-      row = row_with 2 0 2 16;
-      found = refl;
-      some = omega arith;
-      less = omega arith;
-      all = λ k r h e. h;
-    })
-    (λ _ _. record {
-      row = row_with 2 0 2 16;
-      found = refl;
-      some = omega arith;
-      less = omega arith;
-      all = λ k r h e. three k r h e;
-    })
-    (λ _ _. record { row = row_with 1 0 4 8; found = refl; some = omega arith; less = omega arith; all = λ k r h e. h })
-    (λ _ h. absurd (omega (arith, h))) (λ _ h. absurd (omega (arith, h))) (λ _ h. absurd (omega (arith, h))) most
-    (omega (arith, few)) some few
+takes One most some few =
+    eight (λ m. 2 ≤ m → m ≤ 4 → Takes One m) (λ h _. absurd (omega (arith, h)))
+    (λ h _. absurd (omega (arith, h))) (λ h _. plain One 2 _ refl refl h)
+    (λ _ _. record { row = row_with 2 0 2 16; found = refl; some = omega arith; less = omega arith; all = three })
+    (λ h _. plain One 4 _ refl refl h) (λ _ h. absurd (omega (arith, h))) (λ _ h. absurd (omega (arith, h)))
+    (λ _ h. absurd (omega (arith, h))) most (omega (arith, few)) some few
   where
     three : (k : ℕ) (r : Row) → k ≤ 3 → row_for One k ≡ Some r → k ≤ 2
     three k r h e = ⊎_elim (λ (l : k < 3). omega (arith, l)) (λ (m : 3 ≤ k). let same : k ≡ 3 = omega (arith, h, m) in
         let none : row_for One 3 ≡ Some r = subst (λ (n : ℕ). row_for One n ≡ Some r) same e in cc) (cases_lt k 3)
 takes Two most some few =
     eight (λ m. 2 ≤ m → Takes Two m) (λ h. absurd (omega (arith, h))) (λ h. absurd (omega (arith, h)))
-    (λ _. plain 2 _ refl (omega arith)) (λ _. plain 3 _ refl (omega arith)) (λ _. plain 4 _ refl (omega arith))
-    (λ _. plain 5 _ refl (omega arith)) (λ _. plain 6 _ refl (omega arith)) (λ _. plain 7 _ refl (omega arith))
-    most (omega (arith, few)) some
-  where
-    plain : (m : ℕ) (r : Row) → row_for Two m ≡ Some r → 2 ≤ m → Takes Two m
-    plain m r e h = record { row = r; found = e; some = h; less = omega arith; all = λ k r h e. h }
+    (plain Two 2 _ refl refl) (plain Two 3 _ refl refl) (plain Two 4 _ refl refl) (plain Two 5 _ refl refl)
+    (plain Two 6 _ refl refl) (plain Two 7 _ refl refl) most (omega (arith, few)) some
 
 -- What is held tells the best row.
 pub is_ahead : (s : Scheme) (ds : List ℤ) (held : List ℕ) (i most : ℕ) → 64 ≤ length ds → i < 57

@@ -8,7 +8,7 @@ use Rattle.std.proofs.lemmas.Bool.{cases_lt}
 use Rattle.std.proofs.lemmas.List.{take-set-le}
 use Rattle.mseed_steim.specs.private.Digits.{digit_at, digits}
 use Rattle.mseed_steim.specs.private.Lanes.{words}
-use Rattle.mseed_steim.proofs.Lifts.{sixteen}
+use Rattle.mseed_steim.proofs.Below.{sixteen}
 use Rattle.mseed_steim.proofs.Spelled.{digits_step, digits_over}
 use Rattle.mseed_steim.proofs.Folded.{take_put}
 

@@ -1,5 +1,5 @@
 -- The layouts by the tables.
-use Rattle.std.proofs.Common.{◌≡◌, ℕ, ◌<◌, List, get_or, refl, Some, below_none, below_more, ◌∙◌}
+use Rattle.std.proofs.Common.{◌≡◌, ℕ, ◌<◌, List, get_or, refl, Some, ◌∙◌}
 use Rattle.mseed_steim.specs.declared.scheme.Scheme.{Scheme}
 use Rattle.mseed_steim.specs.declared.scheme.Scheme.TheVariants.{One, Two}
 use Rattle.mseed_steim.specs.declared.row.Row.{Row}
@@ -7,12 +7,7 @@ use Rattle.mseed_steim.specs.declared.layout.Layout.{Layout}
 use Rattle.mseed_steim.specs.declared.layout.TheConstants.{LAYOUTS_ONE, LAYOUTS_TWO}
 use Rattle.mseed_steim.specs.private.Rows.{row_for}
 use Rattle.mseed_steim.specs.private.Ahead.{IsLayout, taken}
-
-eight : (P : ℕ → Type 0) → P 0 → P 1 → P 2 → P 3 → P 4 → P 5 → P 6 → P 7 → (i : ℕ) → i < 8 → P i
-eight P a b c d e f g h =
-    below_more P 7 (below_more P 6
-    (below_more P 5 (below_more P 4
-    (below_more P 3 (below_more P 2 (below_more P 1 (below_more P 0 (below_none P) a) b) c) d) e) f) g) h
+use Rattle.mseed_steim.proofs.Below.{eight}
 
 abbrev InTable : Scheme → List Layout → Layout → ℕ → Type 0
 InTable s table none k = (r : Row) → row_for s (taken s k) ≡ Some r → ((get_or table k none).row ≡ r)

@@ -48,3 +48,4 @@ pub mod LaneDigits
 pub mod LaneWords
 pub mod FrameUnpacked
 pub mod Turns
+pub mod Below

@@ -1,18 +1,10 @@
 -- How the words of a row are unpacked: the tables hold the powers.
-use Rattle.std.proofs.Common.{◌≡◌, ℕ, ◌-◌, ◌*◌, ◌^◌, ◌<◌, ◌≤◌, get_or, refl, arith, below_none, below_more}
+use Rattle.std.proofs.Common.{◌≡◌, ℕ, ◌-◌, ◌*◌, ◌^◌, ◌<◌, ◌≤◌, get_or, refl, arith}
 use Rattle.mseed_steim.specs.declared.unpack.Unpacking.{Unpacking}
 use Rattle.mseed_steim.specs.declared.unpack.TheConstants.{ROWS_ONE, ROWS_TWO}
 use Rattle.mseed_steim.specs.private.Lanes.{counts_one, counts_two, widths_one, widths_two}
 use Rattle.mseed_steim.specs.private.Unpacked.{Unpacks}
-
-pub sixteen : (P : ℕ → Type 0) → P 0 → P 1 → P 2 → P 3 → P 4 → P 5 → P 6 → P 7 → P 8 → P 9 → P 10 → P 11 → P 12 → P 13
-    → P 14 → P 15 → (i : ℕ) → i < 16 → P i
-sixteen P a b c d e f g h i j k l m n o p =
-    below_more P 15 (below_more P 14
-    (below_more P 13 (below_more P 12 (below_more P 11 (below_more P 10 (below_more P 9 (below_more P 8
-    (below_more P 7 (below_more P 6
-    (below_more P 5 (below_more P 4 (below_more P 3 (below_more P 2 (below_more P 1 (below_more P 0 (below_none P)
-    a) b) c) d) e) f) g) h) i) j) k) l) m) n) o) p
+use Rattle.mseed_steim.proofs.Below.{two, three, four, five, six, seven, sixteen}
 
 abbrev Lift : ℕ → ℕ → Unpacking → ℕ → Type 0
 Lift count width by i = get_or by.lifts i 0 ≡ 2 ^ (32 - width * (count - i))
@@ -30,24 +22,6 @@ of_row : (count width : ℕ) (by : Unpacking) → by.count ≡ count → width *
     → ((i : ℕ) → i < count → Lift count width by i) → Unpacks count width by
 of_row count width by e fits fall positive lifts =
     record { as_many = e; fits = fits; fall = λ some. fall; positive = λ some. positive; lifts = lifts }
-
-two : (P : ℕ → Type 0) → P 0 → P 1 → (i : ℕ) → i < 2 → P i
-two P a b = below_more P 1 (below_more P 0 (below_none P) a) b
-
-three : (P : ℕ → Type 0) → P 0 → P 1 → P 2 → (i : ℕ) → i < 3 → P i
-three P a b c = below_more P 2 (two P a b) c
-
-four : (P : ℕ → Type 0) → P 0 → P 1 → P 2 → P 3 → (i : ℕ) → i < 4 → P i
-four P a b c d = below_more P 3 (three P a b c) d
-
-five : (P : ℕ → Type 0) → P 0 → P 1 → P 2 → P 3 → P 4 → (i : ℕ) → i < 5 → P i
-five P a b c d e = below_more P 4 (four P a b c d) e
-
-six : (P : ℕ → Type 0) → P 0 → P 1 → P 2 → P 3 → P 4 → P 5 → (i : ℕ) → i < 6 → P i
-six P a b c d e f = below_more P 5 (five P a b c d e) f
-
-seven : (P : ℕ → Type 0) → P 0 → P 1 → P 2 → P 3 → P 4 → P 5 → P 6 → (i : ℕ) → i < 7 → P i
-seven P a b c d e f g = below_more P 6 (six P a b c d e f) g
 
 of_two : (w : ℕ) (by : Unpacking) → by.count ≡ 2 → w * 2 ≤ 32 → by.fall ≡ 32 - w → 0 < w → Lift 2 w by 0
     → Lift 2 w by 1 → Unpacks 2 w by

@@ -1,7 +1,7 @@
 -- Samples that are near one another, by the words or integers that say them.
 use Rattle.std.proofs.Common.{◌≡◌, ◌≢◌, ℕ, zero, suc, ◌+◌, ◌-◌, ◌*◌, ◌/◌, ◌%◌, ◌^◌, ◌<◌, ◌≤◌, List, [], ◌∷◌, ◌++◌}
 use Rattle.std.proofs.Common.{length, map, not, eqb, get_or, refl, sym, ap, ◌∙◌, subst, arith, ℤ, ◌-ℤ◌, Option, Some}
-use Rattle.std.proofs.Common.{None, All, cond, to_z, w32, Bool, ⊎_elim, false, bit_and, below_none, below_more}
+use Rattle.std.proofs.Common.{None, All, cond, to_z, w32, Bool, ⊎_elim, false, bit_and}
 use Rattle.std.specs.Int.{bit_at}
 use Rattle.std.specs.List.{AllByRecursion, filter, range_with_len}
 use Rattle.std.specs.Prelude.{IsTrue, ◌↔◌}
@@ -28,6 +28,7 @@ use Rattle.mseed_steim.specs.Reading.{HoldsIn, IsWhole, count_of}
 use Rattle.mseed_steim.specs.Runs.{SpellsRun}
 use Rattle.mseed_steim.specs.Samples.{Adds, AreSums, BeginsWith, IsPayloadReading, StartsAndAdds}
 use Rattle.mseed_steim.specs.Spelling.{IsGroup, IsWithin, Spells, empty, residue}
+use Rattle.mseed_steim.proofs.Below.{sixteen}
 use Rattle.mseed_steim.proofs.Given.{word_small}
 use Rattle.mseed_steim.proofs.Integers.{number_lt, signed_is}
 use Rattle.mseed_steim.proofs.Laws.{same_payload}
@@ -200,17 +201,9 @@ shown_near (Frames Steim2) order p n ss octets shows h = sums_near Steim2 p n ss
 -- a code is 3 where both of its bits are set
 mask_bit : (j : ℕ) → j < 16 → 0 < j → bit_at 357913941 (30 - 2 * j) ≡ 1
 mask_bit =
-    let P : ℕ → Type 0 = λ j. 0 < j → bit_at 357913941 (30 - 2 * j) ≡ 1 in
-    below_more P 15 (below_more P 14
-    (below_more P 13 (below_more P 12
-    (below_more P 11 (below_more P 10
-    (below_more P 9 (below_more P 8
-    (below_more P 7 (below_more P 6
-    (below_more P 5 (below_more P 4
-    (below_more P 3 (below_more P 2
-    (below_more P 1 (below_more P 0 (below_none P) (λ some. absurd (omega (arith, some)))) (λ _. refl))
-    (λ _. refl)) (λ _. refl)) (λ _. refl)) (λ _. refl)) (λ _. refl)) (λ _. refl)) (λ _. refl)) (λ _. refl))
-    (λ _. refl)) (λ _. refl)) (λ _. refl)) (λ _. refl)) (λ _. refl)) (λ _. refl)
+    sixteen (λ j. 0 < j → bit_at 357913941 (30 - 2 * j) ≡ 1) (λ some. absurd (omega (arith, some))) (λ _. refl)
+    (λ _. refl) (λ _. refl) (λ _. refl) (λ _. refl) (λ _. refl) (λ _. refl) (λ _. refl) (λ _. refl) (λ _. refl)
+    (λ _. refl) (λ _. refl) (λ _. refl) (λ _. refl) (λ _. refl)
 
 pub no_code_3 : (codes j : ℕ) → bit_and (bit_and codes (codes / 2)) 357913941 ≡ 0 → 0 < j → j < 16
     → codes / 2 ^ (30 - 2 * j) % 4 ≢ 3

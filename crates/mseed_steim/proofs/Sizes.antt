@@ -1,7 +1,7 @@
 -- Sizes in lanes, and how many differences of such sizes a word holds.
 use Rattle.std.proofs.Common.{◌≡◌, ◌↔◌, ℕ, zero, suc, ◌+◌, ◌-◌, ◌%◌, ◌<◌, ◌≤◌, List, [], ◌∷◌, ◌++◌, length, take, drop}
 use Rattle.std.proofs.Common.{get_or, map, arith, refl, ap, sym, ◌∙◌, subst, ⊎_elim, cond, ltb, to_z, w16, Bool, true}
-use Rattle.std.proofs.Common.{false, ◌⊎◌, inl, inr, below_none, below_more, length-append}
+use Rattle.std.proofs.Common.{false, ◌⊎◌, inl, inr, length-append}
 use Rattle.std.proofs.lemmas.List.{length-map, take_rest, drop_all, append-nil, get_or_append_left, get_or-append_right}
 use Rattle.std.proofs.lemmas.List.{get_or-take, get_or-drop, length-take-le, length-drop}
 use lib.Signed.{lt_z}
@@ -13,6 +13,7 @@ use Rattle.std.proofs.lemmas.Bool.{cases_lt, lt-ltb, le-ltb}
 use Rattle.std.proofs.lemmas.Simd.{length-put_chunk, Each1-from_get_or, get_or-put_chunk_at, get_or-put_chunk_above}
 use Rattle.std.proofs.lemmas.Simd.{get_or-replicate, get_or-chunk, length-chunk}
 use Rattle.mseed_steim.specs.private.Ahead.{raised, most_one, most_two, IsMost}
+use Rattle.mseed_steim.proofs.Below.{seven}
 
 -- of numbers below 2^15 the signed comparison is the plain one
 lt_small : (a b : ℕ) → a < 32768 → b < 32768 → lt_z (to_z w16 a) (to_z w16 b) ≡ ltb a b
@@ -213,15 +214,9 @@ pub most_is : (items : ℕ → ℕ) (m k : ℕ)
     → (k ≤ m) ↔ ((j : ℕ) → j < k → j < 7 → k ≤ items j)
 most_is items m k h = (
   λ q j less few. let t = h.0 q in
-      below_more (λ j. j < k → k ≤ items j) 6
-      (below_more (λ j. j < k → k ≤ items j) 5
-      (below_more (λ j. j < k → k ≤ items j) 4 (below_more (λ j. j < k → k ≤ items j) 3
-      (below_more (λ j. j < k → k ≤ items j) 2
-      (below_more (λ j. j < k → k ≤ items j) 1
-      (below_more (λ j. j < k → k ≤ items j) 0 (below_none (λ j. j < k → k ≤ items j))
-      (λ l. t.0.0.0.0.0.0)) (λ l. test_is items k 1 l t.0.0.0.0.0.1)) (λ l. test_is items k 2 l t.0.0.0.0.1))
-      (λ l. test_is items k 3 l t.0.0.0.1)) (λ l. test_is items k 4 l t.0.0.1)) (λ l. test_is items k 5 l t.0.1))
-      (λ l. test_is items k 6 l t.1) j few less,
+      seven (λ j. j < k → k ≤ items j) (λ l. t.0.0.0.0.0.0) (λ l. test_is items k 1 l t.0.0.0.0.0.1)
+      (λ l. test_is items k 2 l t.0.0.0.0.1) (λ l. test_is items k 3 l t.0.0.0.1) (λ l. test_is items k 4 l t.0.0.1)
+      (λ l. test_is items k 5 l t.0.1) (λ l. test_is items k 6 l t.1) j few less,
   λ all. h.1 (
     (
       (

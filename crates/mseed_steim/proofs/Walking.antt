@@ -1,13 +1,13 @@
 -- One word after another: what the words from a place on give.
 use Rattle.std.specs.Simd.{first_chunks}
 use Rattle.std.proofs.Common.{◌≡◌, ◌≢◌, ◌⊎◌, ⊎_elim, take, drop, get_or, ◌*◌, ◌∙◌, inl, inr, ℕ, zero, suc, ◌+◌, ◌%◌}
-use Rattle.std.proofs.Common.{◌/◌, ◌<◌, ◌≤◌, List, [], ◌∷◌, ◌++◌, map, length, ℤ, arith, refl, ap, Option, Some, None}
-use Rattle.std.proofs.Common.{Ok, Err}
+use Rattle.std.proofs.Common.{◌-◌, ◌/◌, ◌<◌, ◌≤◌, List, [], ◌∷◌, ◌++◌, map, length, ℤ, arith, refl, ap}
+use Rattle.std.proofs.Common.{sym, Option, Some, None, Ok, Err}
 use Rattle.std.proofs.lemmas.Bool.{ne_eqb, cases_lt}
 use Rattle.std.proofs.lemmas.List.{drop-drop}
 use Rattle.mseed_steim.specs.declared.scheme.Scheme.{Scheme}
 use Rattle.mseed_steim.specs.private.Digits.{differences_of}
-use Rattle.mseed_steim.specs.Frames.{DataWord, data_word, words_from}
+use Rattle.mseed_steim.specs.Frames.{DataWord, data_word, data_words, words_from, word_count}
 use Rattle.mseed_steim.specs.Runs.{place_of}
 use Rattle.mseed_steim.specs.private.Items.{with_items, items_of}
 
@@ -79,3 +79,27 @@ frame_at (suc n) p (suc i) h =
     let later = frame_at n (drop 64 p) i (omega arith) in
     let place : 64 + 64 * i ≡ 64 * suc i = omega arith in
     later ∙ (rw (drop-drop, place) refl)
+
+-- the data words of the first frame, and those behind it
+pub first_cut : (p : List ℕ) → 64 ≤ length p → data_words p ≡ words_from p 3 13 ++ words_from p 16 (word_count p - 16)
+first_cut p framed =
+    let count : 13 + (word_count p - 16) ≡ word_count p - 3 = omega (arith, framed) in
+    rw (← count) (words_cut p 3 13 (word_count p - 16))
+
+-- the words of a later frame, and those behind it
+pub frame_cut : (p : List ℕ) (k : ℕ) → k < length p / 64
+    → words_from p (16 * k) (word_count p - 16 * k)
+    ≡ words_from p (16 * k) 16 ++ words_from p (16 * (k + 1)) (word_count p - 16 * (k + 1))
+frame_cut p k inside =
+    let count : 16 + (word_count p - 16 * (k + 1)) ≡ word_count p - 16 * k = omega (arith, inside) in
+    let place : 16 * k + 16 ≡ 16 * (k + 1) = omega arith in
+    rw (count, place) at (words_cut p (16 * k) 16 (word_count p - 16 * (k + 1)))
+
+-- the data words of the first frame behind the first of them
+pub behind_first : (p : List ℕ) (w : DataWord) (ws : List DataWord) → words_from p 3 13 ≡ w ∷ ws
+    → ws ≡ words_from p 4 12
+behind_first p w ws e =
+    let some : 3 % 16 ≢ 0 = λ e. omega arith in
+    let step = words_step p 3 12 some in
+    let same : w ∷ ws ≡ data_word p 3 ∷ words_from p 4 12 = sym e ∙ step in
+    cc

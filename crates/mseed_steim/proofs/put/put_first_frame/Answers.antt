@@ -1,10 +1,10 @@
-use Rattle.std.proofs.Common.{◌≡◌, ◌≢◌, ◌%◌, ◌∷◌, ◌++◌, ◌∙◌, List, take, ap, sym, refl, inr, arith, w32, FitsSigned}
+use Rattle.std.proofs.Common.{◌≡◌, ◌∷◌, ◌++◌, ◌∙◌, List, take, ap, sym, refl, inr, w32, FitsSigned}
 use Rattle.std.proofs.lemmas.Int.{to_z-of_z}
-use Rattle.mseed_steim.specs.Frames.{DataWord, data_word, words_from}
+use Rattle.mseed_steim.specs.Frames.{DataWord, words_from}
 use Rattle.mseed_steim.specs.private.Items.{items_of}
 use Rattle.mseed_steim.specs.private.Reads.{as_data}
 use Rattle.mseed_steim.specs.private.Sums.{fold, met_in}
-use Rattle.mseed_steim.proofs.Walking.{words_step}
+use Rattle.mseed_steim.proofs.Walking.{behind_first}
 use Rattle.mseed_steim.proofs.Folds.{goes_from, keeps_from}
 use Rattle.mseed_steim.proofs.put.put_first_frame.Goals.{In-Ok}
 use Rattle.mseed_steim.proofs.put.put_first_frame.Goals as goal
@@ -14,12 +14,7 @@ whole : (c : In-Ok) → words_from c.args.payload.now 3 13 ≡ as_data c.in-Some
 whole c = sym c.between-words.ensures ∙ c.in-Some.ensures.steps
 
 behind : (c : In-Ok) → c.next.new.self ≡ words_from c.args.payload.now 4 12
-behind c =
-    let some : 3 % 16 ≢ 0 = λ e. omega arith in
-    let step = words_step c.args.payload.now 3 12 some in
-    let same : as_data c.in-Some.word ∷ c.next.new.self ≡ data_word c.args.payload.now 3
-    ∷ words_from c.args.payload.now 4 12 = sym (whole c) ∙ step in
-    cc
+behind c = behind_first c.args.payload.now (as_data c.in-Some.word) c.next.new.self (whole c)
 
 -- word 3
 first : (c : In-Ok) (rest : List DataWord)

@@ -2,7 +2,7 @@ use Rattle.std.proofs.Common.{◌≡◌, ◌+◌, ◌-◌, ◌*◌, ◌/◌, ◌
 use Rattle.mseed_steim.specs.Frames.{DataWord, words_from, word_count}
 use Rattle.mseed_steim.specs.private.Items.{items_of}
 use Rattle.mseed_steim.specs.private.Sums.{fold, met_in}
-use Rattle.mseed_steim.proofs.Walking.{words_cut, words_none, words_skip, no_items, frame_at}
+use Rattle.mseed_steim.proofs.Walking.{frame_cut, words_none, words_skip, no_items, frame_at}
 use Rattle.mseed_steim.proofs.Folds.{fold_enough, fold_short}
 use Rattle.mseed_steim.proofs.Folded.{all_kept}
 use Rattle.mseed_steim.proofs.put.put_later_frames.Goals.{Else-sum-samples}
@@ -20,26 +20,14 @@ returns-then-sum-samples-clause-kept c =
 pub put_at_once-requires-clause-begins : goal.put_at_once-requires-clause-begins
 put_at_once-requires-clause-begins c = (1, inl (refl, refl))
 
--- the words of a later frame, and those behind it
-cut : (c : Else-sum-samples)
-    → words_from c.args.payload.now (16 * c.loop-index.index) (word_count c.args.payload.now - 16 * c.loop-index.index)
-    ≡ words_from c.args.payload.now (16 * c.loop-index.index) 16 ++ words_from c.args.payload.now
-    (16 * (c.loop-index.index + 1)) (word_count c.args.payload.now - 16 * (c.loop-index.index + 1))
-cut c =
-    let inside : c.loop-index.index < length c.args.payload.now / 64 = omega arith in
-    let count : 16 + (word_count c.args.payload.now - 16 * (c.loop-index.index + 1)) ≡ word_count c.args.payload.now
-    - 16 * c.loop-index.index = omega arith in
-    let place : 16 * c.loop-index.index + 16 ≡ 16 * (c.loop-index.index + 1) = omega arith in
-    rw (count, place) at (words_cut c.args.payload.now (16 * c.loop-index.index) 16
-    (word_count c.args.payload.now - 16 * (c.loop-index.index + 1)))
-
 -- the first word of a frame, its codes, is no data word
 skip : (c : Else-sum-samples)
     → words_from c.args.payload.now (16 * c.loop-index.index) (word_count c.args.payload.now - 16 * c.loop-index.index)
     ≡ words_from c.args.payload.now (16 * c.loop-index.index + 1) 15 ++ words_from c.args.payload.now
     (16 * (c.loop-index.index + 1)) (word_count c.args.payload.now - 16 * (c.loop-index.index + 1))
 skip c =
-    cut c ∙ ap (λ (ws : List DataWord). ws ++ words_from c.args.payload.now
+    frame_cut c.args.payload.now c.loop-index.index (omega arith)
+    ∙ ap (λ (ws : List DataWord). ws ++ words_from c.args.payload.now
     (16 * (c.loop-index.index + 1)) (word_count c.args.payload.now - 16 * (c.loop-index.index + 1)))
     (words_skip c.args.payload.now (16 * c.loop-index.index) 15 (omega arith))
 
@@ -47,7 +35,7 @@ pub returns-in-Err-clause-folded : goal.returns-in-Err-clause-folded
 returns-in-Err-clause-folded c =
     sym (c.loop-index.invariant.same
     ∙ ap (λ (ws : List DataWord). fold c.args.samples c.loop-index.sum (items_of c.args.scheme ws))
-    (cut (goal.at.returns-in-Err-clause-folded c).Else-sum-samples)
+    (frame_cut c.args.payload.now c.loop-index.index (omega arith))
     ∙ c.in-Err.ensures.goes_on _)
 
 pub loop-index-preserved-in-Some : goal.loop-index-preserved-in-Some
@@ -74,7 +62,7 @@ loop-index-preserved-in-Some c =
 
 pub loop-index-preserved : goal.loop-index-preserved
 loop-index-preserved c =
-    let parts = cut (goal.at.loop-index-preserved c).Else-sum-samples in
+    let parts = frame_cut c.args.payload.now c.loop-index.index (omega arith) in
     let rest = words_from c.args.payload.now (16 * (c.loop-index.index + 1))
     (word_count c.args.payload.now - 16 * (c.loop-index.index + 1)) in
     let kept = rw c.in_default.ensures.none at (c.in-Ok.ensures.kept rest) in

@@ -1,20 +1,11 @@
-use Rattle.std.proofs.Common.{◌≡◌, ◌+◌, ◌-◌, ◌++◌, ◌∙◌, List, ap, sym, arith, w32}
+use Rattle.std.proofs.Common.{◌-◌, ◌∙◌, List, ap, sym, w32}
 use Rattle.std.proofs.Common.{FitsSigned}
 use Rattle.std.proofs.lemmas.Int.{to_z-of_z}
-use Rattle.mseed_steim.specs.Frames.{DataWord, data_words, words_from, word_count}
+use Rattle.mseed_steim.specs.Frames.{DataWord, words_from, word_count}
 use Rattle.mseed_steim.specs.private.Items.{items_of}
 use Rattle.mseed_steim.specs.private.Sums.{fold}
-use Rattle.mseed_steim.proofs.Walking.{words_cut}
-use Rattle.mseed_steim.proofs.put.put_words.Goals.{Start}
+use Rattle.mseed_steim.proofs.Walking.{first_cut}
 use Rattle.mseed_steim.proofs.put.put_words.Goals as goal
-
--- the words of the first frame, and those behind it
-first : (c : Start) → data_words c.args.payload.now ≡ words_from c.args.payload.now 3 13
-    ++ words_from c.args.payload.now 16 (word_count c.args.payload.now - 16)
-first c =
-    let framed = c.requires.framed in
-    let count : 13 + (word_count c.args.payload.now - 16) ≡ word_count c.args.payload.now - 3 = omega (arith, framed) in
-    rw (← count) (words_cut c.args.payload.now 3 13 (word_count c.args.payload.now - 16))
 
 pub returns-in-Err-clause-folded : goal.returns-in-Err-clause-folded
 returns-in-Err-clause-folded c =
@@ -22,7 +13,7 @@ returns-in-Err-clause-folded c =
     let step = rw to_z-of_z at
     (c.in-Err.ensures.goes_on (words_from c.args.payload.now 16 (word_count c.args.payload.now - 16))) in
     sym (ap (λ (ws : List DataWord). fold c.args.samples (record { met = 0; last = c.args.first })
-    (items_of c.args.scheme ws)) (first (goal.at.returns-in-Err-clause-folded c).Start) ∙ step)
+    (items_of c.args.scheme ws)) (first_cut c.args.payload.now c.requires.framed) ∙ step)
 
 pub returns-in-Ok-clause-folded : goal.returns-in-Ok-clause-folded
 returns-in-Ok-clause-folded c =
@@ -31,12 +22,12 @@ returns-in-Ok-clause-folded c =
     (c.in-Ok.ensures.goes_on (words_from c.args.payload.now 16 (word_count c.args.payload.now - 16))) in
     c.put_later_frames.ensures.folded
     ∙ sym (ap (λ (ws : List DataWord). fold c.args.samples (record { met = 0; last = c.args.first })
-    (items_of c.args.scheme ws)) (first (goal.at.returns-in-Ok-clause-folded c).Start) ∙ step)
+    (items_of c.args.scheme ws)) (first_cut c.args.payload.now c.requires.framed) ∙ step)
 
 pub returns-in-Ok-clause-kept : goal.returns-in-Ok-clause-kept
 returns-in-Ok-clause-kept c =
     let fits : FitsSigned w32 c.args.first = c.ranges.first in
     let kept = rw to_z-of_z at
     (c.in-Ok.ensures.kept (words_from c.args.payload.now 16 (word_count c.args.payload.now - 16))) in
-    let cut = first (goal.at.returns-in-Ok-clause-kept c).Start in
+    let cut = first_cut c.args.payload.now c.requires.framed in
     rw (kept, ← cut) at c.put_later_frames.ensures.kept

@@ -1,19 +1,11 @@
-use Rattle.std.proofs.Common.{◌≡◌, ◌+◌, ◌-◌, ◌*◌, ◌/◌, ◌<◌, ◌++◌, ◌∙◌, List, length, ap, sym, arith, w32, FitsSigned}
+use Rattle.std.proofs.Common.{◌≡◌, ◌-◌, ◌*◌, ◌/◌, ◌<◌, ◌∙◌, List, length, ap, sym, arith, w32, FitsSigned}
 use Rattle.std.proofs.lemmas.Int.{to_z-of_z}
-use Rattle.mseed_steim.specs.Frames.{DataWord, data_words, words_from, word_count}
+use Rattle.mseed_steim.specs.Frames.{DataWord, words_from, word_count}
 use Rattle.mseed_steim.specs.private.Items.{items_of}
 use Rattle.mseed_steim.specs.private.Sums.{fold}
-use Rattle.mseed_steim.proofs.Walking.{words_cut, words_none, no_items, frame_at}
+use Rattle.mseed_steim.proofs.Walking.{first_cut, frame_cut, words_none, no_items, frame_at}
 use Rattle.mseed_steim.proofs.Folds.{fold_enough, fold_short}
-use Rattle.mseed_steim.proofs.walk.add_frames.Goals.{Start, Else-sum-samples}
 use Rattle.mseed_steim.proofs.walk.add_frames.Goals as goal
-
--- the words of the first frame, and those behind it
-first : (c : Start) → data_words c.args.payload.now ≡ words_from c.args.payload.now 3 13
-    ++ words_from c.args.payload.now 16 (word_count c.args.payload.now - 16)
-first c =
-    let count : 13 + (word_count c.args.payload.now - 16) ≡ word_count c.args.payload.now - 3 = omega arith in
-    rw (← count) (words_cut c.args.payload.now 3 13 (word_count c.args.payload.now - 16))
 
 pub returns-in-Err : goal.returns-in-Err
 returns-in-Err c =
@@ -21,7 +13,7 @@ returns-in-Err c =
     let step = rw to_z-of_z at
     (c.in-Err.ensures.goes_on (words_from c.args.payload.now 16 (word_count c.args.payload.now - 16))) in
     sym (ap (λ (ws : List DataWord). fold c.args.samples (record { met = 0; last = c.args.first })
-    (items_of c.args.scheme ws)) (first (goal.at.returns-in-Err c).Start) ∙ step)
+    (items_of c.args.scheme ws)) (first_cut c.args.payload.now c.requires) ∙ step)
 
 pub loop-index-init : goal.loop-index-init
 loop-index-init c =
@@ -31,7 +23,7 @@ loop-index-init c =
     record {
       met = c.in-Ok.ensures.met;
       same = rw to_z-of_z (ap (λ (ws : List DataWord). fold c.args.samples (record { met = 0; last = c.args.first })
-          (items_of c.args.scheme ws)) (first (goal.at.loop-index-init c).Start) ∙ step);
+          (items_of c.args.scheme ws)) (first_cut c.args.payload.now c.requires) ∙ step);
     }
 
 pub returns-then-sum-samples : goal.returns-then-sum-samples
@@ -46,25 +38,12 @@ add_frame-requires-clause-at c =
     rw c.as_chunks.ensures.front (frame_at (length c.args.payload.now / 64) c.args.payload.now c.loop-index.index
     inside)
 
--- the words of a later frame, and those behind it
-cut : (c : Else-sum-samples)
-    → words_from c.args.payload.now (16 * c.loop-index.index) (word_count c.args.payload.now - 16 * c.loop-index.index)
-    ≡ words_from c.args.payload.now (16 * c.loop-index.index) 16 ++ words_from c.args.payload.now
-    (16 * (c.loop-index.index + 1)) (word_count c.args.payload.now - 16 * (c.loop-index.index + 1))
-cut c =
-    let inside : c.loop-index.index < length c.args.payload.now / 64 = omega arith in
-    let count : 16 + (word_count c.args.payload.now - 16 * (c.loop-index.index + 1)) ≡ word_count c.args.payload.now
-    - 16 * c.loop-index.index = omega arith in
-    let place : 16 * c.loop-index.index + 16 ≡ 16 * (c.loop-index.index + 1) = omega arith in
-    rw (count, place) at (words_cut c.args.payload.now (16 * c.loop-index.index) 16
-    (word_count c.args.payload.now - 16 * (c.loop-index.index + 1)))
-
 pub returns-in-Err-add_frame : goal.returns-in-Err-add_frame
 returns-in-Err-add_frame c =
     let fits : FitsSigned w32 c.args.first = c.ranges.first in
     let same = rw to_z-of_z at c.loop-index.invariant.same in
     sym (same ∙ ap (λ (ws : List DataWord). fold c.args.samples c.loop-index.sum (items_of c.args.scheme ws))
-    (cut (goal.at.returns-in-Err-add_frame c).Else-sum-samples)
+    (frame_cut c.args.payload.now c.loop-index.index (omega arith))
     ∙ c.in-Err-add_frame.ensures.goes_on _)
 
 pub loop-index-preserved : goal.loop-index-preserved
@@ -72,7 +51,7 @@ loop-index-preserved c = record {
   met = c.in-Ok-add_frame.ensures.met;
   same = c.loop-index.invariant.same
       ∙ ap (λ (ws : List DataWord). fold c.args.samples c.loop-index.sum (items_of c.args.scheme ws))
-      (cut (goal.at.loop-index-preserved c).Else-sum-samples)
+      (frame_cut c.args.payload.now c.loop-index.index (omega arith))
       ∙ c.in-Ok-add_frame.ensures.goes_on _;
 }
 
