@@ -18,11 +18,7 @@ struct Pipe<'a> {
 
 impl Read for Pipe<'_> {
     fn read(&mut self, buf: &mut [u8]) -> io::Result<usize> {
-        let n = self.reported.len().min(buf.len());
-        let (reported, rest) = self.reported.split_at(n);
-        buf[..n].copy_from_slice(reported);
-        self.reported = rest;
-        Ok(n)
+        self.reported.read(buf)
     }
 }
 
