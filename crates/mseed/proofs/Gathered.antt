@@ -9,8 +9,9 @@ use Rattle.mseed_stream.specs.Device.{BytesRead, BytesWritten}
 use Rattle.mseed_stream.specs.declared.fault.StreamFault.{StreamFault}
 use Rattle.mseed.specs.Listing.{record_line, record_lines, count_line}
 use Rattle.mseed_stream.specs.Walk.{AreViews}
+pub use Rattle.mseed_audit.proofs.Gathers.{gathered_all, gathered_first}
 use Rattle.mseed_audit.specs.Text.{end_line}
-use Rattle.mseed.specs.Show.{IsListed, IsShown, EmittedFirst, EmittedPart, show_text}
+use Rattle.mseed.specs.Show.{EndsShort, IsListed, IsShown, EmittedFirst, EmittedPart, show_text}
 use Rattle.std.specs.Result.{IsErrAnd}
 use Rattle.mseed_stream.specs.Standing.{Standing}
 use Rattle.mseed.specs.declared.show.Step.{Step}
@@ -18,18 +19,6 @@ use Rattle.mseed.specs.declared.show.Step.TheVariants.{Listed, Ended}
 use Rattle.mseed.specs.private.Gathering.{AreGathered, IsPrefixWritten, IsGatheredAlso, IsListing, IsNext, HasLines}
 use Rattle.mseed.specs.declared.ending.ShowFault.{ShowFault}
 use Rattle.mseed.specs.declared.ending.ShowFault.TheVariants.{Write, Memory}
-
--- nothing was taken
-pub gathered_all : (s : BytesWritten) (text : List ℕ) → AreGathered s s text text
-gathered_all s text = record { taken = []; bytes = sym (append-nil s.bytes); joined = refl }
-
--- what was taken is a prefix
-pub gathered_first : (first old : BytesWritten) (text lines : List ℕ) → AreGathered first old text lines
-    → EmittedFirst first old lines
-gathered_first first old text lines g =
-    let prefix : g.taken ≡ take (length g.taken) lines = sym (take-append_seam g.taken text)
-    ∙ ap (λ (xs : List ℕ). take (length g.taken) xs) g.joined in
-    (length g.taken, g.bytes ∙ ap (λ (xs : List ℕ). first.bytes ++ xs) prefix)
 
 -- some more was added to what is gathered, and perhaps written
 pub gathered_more : (first old new : BytesWritten) (text next lines line whole : List ℕ)
@@ -163,6 +152,11 @@ pub none_left : (text : List ℕ) → length text ≤ 0 → text ≡ []
 none_left [] few = refl
 none_left (c ∷ cs) few = absurd (omega (arith, few))
 
+-- the lines of these records, so far as they were written
+lines_short : (Emitted : List ℕ → Type 0) (h : BytesRead) (offset : ℕ) (views : List View)
+    → AreViews h.bytes offset views → Emitted (record_lines 0 views) → EndsShort Emitted h
+lines_short Emitted h offset views shown w = (offset, (views, record { shown = shown; prefix = inl w }))
+
 -- a fault before which a prefix of the lines was written
 pub cut_short : (fault : ShowFault) (h : BytesRead) (first old new : BytesWritten) (text : List ℕ) (offset : ℕ)
     (views : List View)
@@ -171,39 +165,17 @@ pub cut_short : (fault : ShowFault) (h : BytesRead) (first old new : BytesWritte
     → IsShown (Err fault) h first new
 cut_short Write h first old new text offset views shown same before written =
     let lines : List ℕ = record_lines 0 views in
-    let emitted : EmittedPart old new (text ++ []) =
-    subst (λ (xs : List ℕ). EmittedPart old new xs) (sym (append-nil text))
-    written.1 in (
+    let emitted = subst (λ (xs : List ℕ). EmittedPart old new xs) (sym (append-nil text)) written.1 in (
       omega (arith, same, written.0),
-      (
-        offset,
-        (
-          views,
-          record {
-            shown = shown;
-            prefix = inl (part_behind first old new text lines [] lines before
-                (sym (append-nil lines)) emitted);
-          },
-        ),
-      ),
+      lines_short (EmittedPart first new) h offset views shown (part_behind first old new text lines [] lines before
+          (sym (append-nil lines)) emitted),
     )
 cut_short Memory h first old new text offset views shown same before written =
     let lines : List ℕ = record_lines 0 views in
-    let emitted : EmittedFirst old new (text ++ []) =
-    subst (λ (xs : List ℕ). EmittedFirst old new xs) (sym (append-nil text))
-    written.1 in (
+    let emitted = subst (λ (xs : List ℕ). EmittedFirst old new xs) (sym (append-nil text)) written.1 in (
       written.0 ∙ same,
-      (
-        offset,
-        (
-          views,
-          record {
-            shown = shown;
-            prefix = inl (first_behind first old new text lines [] lines before
-                (sym (append-nil lines)) emitted);
-          },
-        ),
-      ),
+      lines_short (EmittedFirst first new) h offset views shown (first_behind first old new text lines [] lines before
+          (sym (append-nil lines)) emitted),
     )
 
 pub gathered_err : (r : Result (ℕ × Option StreamFault) ShowFault) (Q : ShowFault → Type 0) (fault : ShowFault)
@@ -249,16 +221,8 @@ pub memory_short : (records : ℕ) (end : Option StreamFault) (h : BytesRead) (f
     → IsShown (Err Memory) h first new
 memory_short records end h first new text views gathered = (
   gathered.fine,
-  (
-    gathered.all.offset,
-    (
-      views,
-      record {
-        shown = gathered.all.records;
-        prefix = inl (gathered_first first new text (record_lines 0 views) gathered.lines);
-      },
-    ),
-  ),
+  lines_short (EmittedFirst first new) h gathered.all.offset views gathered.all.records
+      (gathered_first first new text (record_lines 0 views) gathered.lines),
 )
 
 -- a fault before which a prefix of the whole text was written
@@ -274,46 +238,20 @@ end_short fault records end h first old new text whole views gathered e written 
     tail : List ℕ
     tail = count_line (length views) ++ end_line end
 
+    short : (Emitted : List ℕ → Type 0) → Emitted (show_text views end) → EndsShort Emitted h
+    short Emitted w =
+        (gathered.all.offset, (views, record { shown = gathered.all.records; prefix = inr (end, (gathered.all, w)) }))
+
     go : (f : ShowFault) → IsPrefixWritten f old new (text ++ tail) → IsShown (Err f) h first new
     go Write w = (
       omega (arith, gathered.fine, w.0),
-      (
-        gathered.all.offset,
-        (
-          views,
-          record {
-            shown = gathered.all.records;
-            prefix = inr (
-              end,
-              (
-                gathered.all,
-                part_behind first old new text (record_lines 0 views) tail
-                    (show_text views end) gathered.lines (shown_is views end) w.1,
-              ),
-            );
-          },
-        ),
-      ),
+      short (EmittedPart first new) (part_behind first old new text (record_lines 0 views) tail (show_text views end)
+          gathered.lines (shown_is views end) w.1),
     )
     go Memory w = (
       w.0 ∙ gathered.fine,
-      (
-        gathered.all.offset,
-        (
-          views,
-          record {
-            shown = gathered.all.records;
-            prefix = inr (
-              end,
-              (
-                gathered.all,
-                first_behind first old new text (record_lines 0 views) tail
-                    (show_text views end) gathered.lines (shown_is views end) w.1,
-              ),
-            );
-          },
-        ),
-      ),
+      short (EmittedFirst first new) (first_behind first old new text (record_lines 0 views) tail (show_text views end)
+          gathered.lines (shown_is views end) w.1),
     )
 
 pub shown_err : (r : Result (Option StreamFault) ShowFault) (Q : ShowFault → Type 0) (fault : ShowFault)

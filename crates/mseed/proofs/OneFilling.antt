@@ -7,7 +7,7 @@ use Rattle.std.proofs.Math.Seq.{take-append_seam}
 use Rattle.std.specs.List.{AllByRecursion, concat}
 use Rattle.mseed_record.specs.Record.{IsRecord}
 use Rattle.mseed_record.specs.View.{View}
-use Rattle.mseed_record.proofs.OneRecord.{one_record}
+use Rattle.mseed_record.proofs.OneRecord.{one_first, prefix_is}
 use Rattle.mseed_stream.specs.Archive.{HasNoFurther, IsArchive, clean, frame, truncated}
 use Rattle.mseed_stream.specs.Cutting.{read_from}
 use Rattle.mseed_stream.specs.Device.{BytesRead}
@@ -23,22 +23,6 @@ use Rattle.mseed.specs.Filling.{AreOfFeed, IsFilling, IsForeign, IsOfFeed, IsOne
 use Rattle.mseed.specs.declared.fill_fault.FillFault.{FillFault}
 use Rattle.mseed.specs.declared.fill_fault.FillFault.TheVariants.{Stream, Foreign, Memory}
 use Rattle.mseed.specs.declared.request.Serving.{Serving}
-
-prefix_is : (r rest bytes : List ℕ) → bytes ≡ r ++ rest → take (length r) bytes ≡ r
-prefix_is r rest bytes e = ap (take (length r)) e ∙ take-append_seam r rest
-
--- a first record, and what is left behind it, are the only ones
-one_first : (bytes r s tail rest : List ℕ) → IsRecord r → IsRecord s → bytes ≡ r ++ tail → bytes ≡ s ++ rest
-    → (r ≡ s) × (tail ≡ rest)
-one_first bytes r s tail rest is it d e =
-    let fits : length r ≤ length bytes = omega (arith, ap (λ (xs : List ℕ). length xs) d, length-append r tail) in
-    let within : length s ≤ length bytes = omega (arith, ap (λ (xs : List ℕ). length xs) e, length-append s rest) in
-    let one : take (length r) bytes ≡ r = prefix_is r tail bytes d in
-    let two : take (length s) bytes ≡ s = prefix_is s rest bytes e in
-    let size : length r ≡ length s = one_record bytes (length r) (length s) fits within (subst IsRecord (sym one) is)
-    (subst IsRecord (sym two) it) in
-    let same : r ≡ s = sym one ∙ (ap (λ (n : ℕ). take n bytes) size ∙ two) in
-    (same, append_cancel_left s tail rest (ap (λ (x : List ℕ). x ++ tail) (sym same) ∙ (sym d ∙ e)))
 
 -- These bytes begin with records of the feed, and then one that isn't.
 record Stops (places : List Fields) (bytes : List ℕ) (before : List (List ℕ)) : Type 0 where

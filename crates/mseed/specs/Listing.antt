@@ -4,22 +4,16 @@ use Rattle.std.specs.Prelude.{decimal}
 use Rattle.mseed_time.specs.declared.order.Order.{Order}
 use Rattle.mseed_time.specs.declared.order.Order.TheVariants.{Big, Little}
 use Rattle.mseed_time.specs.declared.fault.TimeFault.{TimeFault}
-use Rattle.mseed_time.specs.declared.fault.TimeFault.TheVariants.{Year, Day, Hour, Minute, Second, Fraction}
 use Rattle.mseed_time.specs.Btime.{first_fault}
 use Rattle.mseed_time.specs.Rate.{Ratio, rate_of}
-use Rattle.mseed_time.specs.Text.{time_text}
+use Rattle.mseed_time.specs.Text.{fault_word, time_text}
 use Rattle.mseed_record.specs.Header.{key_at, quality_at, time_at, samples_at, factor_at, multiplier_at}
 use Rattle.mseed_record.specs.View.{View, start_of}
 use Rattle.mseed_audit.specs.Text.{name_text}
 
 -- a start that is refused: the first field that is out of its range
 abbrev pub time_fault_words : TimeFault → List ℕ
-time_fault_words Year = codes "fault year"
-time_fault_words Day = codes "fault day"
-time_fault_words Hour = codes "fault hour"
-time_fault_words Minute = codes "fault minute"
-time_fault_words Second = codes "fault second"
-time_fault_words Fraction = codes "fault fraction"
+time_fault_words fault = codes "fault " ++ fault_word fault
 
 abbrev pub start_by : Option TimeFault → ℤ → List ℕ
 start_by None start = time_text start

@@ -1,9 +1,10 @@
 -- What is written when an input is listed.
-use Rattle.std.specs.Prelude.{◌≡◌, ◌⊎◌, ℕ, ◌+◌, ◌<◌, List, ◌++◌, length, take, Option, Result, Ok, Err}
+use Rattle.std.specs.Prelude.{◌≡◌, ◌⊎◌, ℕ, ◌+◌, List, ◌++◌, length, Option, Result, Ok, Err}
 use Rattle.mseed_record.specs.View.{View}
 use Rattle.mseed_stream.specs.Device.{BytesRead, BytesWritten}
 use Rattle.mseed_stream.specs.declared.fault.StreamFault.{StreamFault}
 use Rattle.mseed_stream.specs.Walk.{AreViews, AreAllViews}
+pub use Rattle.mseed_audit.specs.Each.{EmittedFirst, EmittedPart}
 use Rattle.mseed_audit.specs.Text.{end_line}
 use Rattle.mseed.specs.Listing.{record_lines, count_line}
 use Rattle.mseed.specs.declared.ending.ShowFault.{ShowFault}
@@ -19,14 +20,6 @@ pub record IsListed (end : Option StreamFault) (h : BytesRead) (old new : BytesW
   pub all : AreAllViews h views end
   pub text : new.bytes ≡ old.bytes ++ show_text views end
   pub fine : new.failures ≡ old.failures
-
--- the output accepted the first bytes of a text
-abbrev pub EmittedFirst : BytesWritten → BytesWritten → List ℕ → Type 0
-EmittedFirst old new text = (count : ℕ) × (new.bytes ≡ old.bytes ++ take count text)
-
--- and not all of it
-abbrev pub EmittedPart : BytesWritten → BytesWritten → List ℕ → Type 0
-EmittedPart old new text = (count : ℕ) × ((count < length text) × (new.bytes ≡ old.bytes ++ take count text))
 
 -- what was written is so of a text: the lines of some records, or the whole
 pub record IsCutShort (Emitted : List ℕ → Type 0) (h : BytesRead) (offset : ℕ) (views : List View) : Type 0 where

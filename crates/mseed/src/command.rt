@@ -1,41 +1,33 @@
 //! The command line.
-ghost use Rattle.std.specs.Prelude.{◌≡◌, ◌⊎◌, Option, Result, map, codes};
+ghost use Rattle.std.specs.Prelude.{◌≡◌, ◌⊎◌, map, codes, nat_lt, if◌then◌else◌};
 ghost use Rattle.mseed_stream.specs.Device.{nothing_read};
-ghost use Rattle.mseed_audit.specs.declared.archive.AuditFault.{AuditFault};
-ghost use Rattle.mseed_audit.specs.declared.archive.Summary.{Summary};
-ghost use Rattle.mseed_audit.specs.declared.each.EachFault.{EachFault};
 ghost use Rattle.mseed_stream.specs.Telling.{Tells};
-ghost use Rattle.mseed.specs.Joined.{IsJoinEachRun, IsJoinRun, join_status};
-ghost use Rattle.mseed_join.specs.declared.joining.Joined.{Joined};
-ghost use Rattle.mseed_join.specs.declared.joining.JoinsFault.{JoinsFault};
-ghost use Rattle.mseed.specs.Outcome.{IsAuditRun, IsEachRun, IsPartRun, IsPartEachRun, summary_status};
+ghost use Rattle.mseed.specs.Done.{TellsOfShow, show_status};
+ghost use Rattle.mseed.specs.Joined.{TellsOfJoin, join_status};
+ghost use Rattle.mseed.specs.Outcome.{TellsOfAudit, TellsOfEach, each_status, status_of};
 ghost use Rattle.mseed.specs.Live.{CanBeServed};
 ghost use Rattle.mseed.specs.Run.{HasCarriedOut, HasRefusedRequest, HasRefusedWords, UnlessMemoryLacks, streams};
 ghost use Rattle.mseed.specs.Words.{AsksFor, AsksForNothing, AreRefused, CanBeCalled};
-ghost use Rattle.mseed.specs.Done.{IsShowRun};
-ghost use Rattle.mseed.specs.Repacked.{IsRepackRun};
-ghost use Rattle.mseed.specs.Restretched.{IsStretchesRun, left_status};
+ghost use Rattle.mseed.specs.Repacked.{TellsOfRepack};
+ghost use Rattle.mseed.specs.Restretched.{TellsOfStretches};
 ghost use Rattle.clap.specs.Values.{kind_of};
-ghost use Rattle.mseed_stream.specs.declared.fault.StreamFault.{StreamFault};
-ghost use Rattle.mseed.specs.declared.ending.ShowFault.{ShowFault};
 ghost use Rattle.mseed.specs.declared.request.Request.{Request};
 ghost use Rattle.clap.specs.declared.error.kind.ErrorKind.{ErrorKind};
-ghost use Rattle.mseed_pack.specs.Options.{code_of};
 
 use crate::ending::ShowFault;
 use crate::outcome::{BAD_COMMAND, BROKEN, DONE, FAULT, Run};
 use crate::planning::{plan_fetch, plan_serve};
 use crate::refusal::{refuse_to_join, refuse_to_repack, refuse_to_stretch};
-use crate::request::{Joining, Packing, Request};
+use crate::request::{Packing, Request};
 use crate::show::show;
 use crate::words;
 use clap::Error;
 use clap::error::ErrorKind;
 use mseed_audit::{AuditFault, EachFault, Summary, audit, audit_each};
-use mseed_join::{Joined, audit_part, audit_part_each, join, join_each};
+use mseed_join::{Joined, JoinsFault, audit_part, audit_part_each, join, join_each};
 use mseed_pack::Options;
-use mseed_repack::{Left, repack, repack_stretches};
-use mseed_stream::{Sink, Source, tell};
+use mseed_repack::{Left, RepackFault, StretchesFault, repack, repack_stretches};
+use mseed_stream::{Sink, Source, StreamFault, tell};
 use std::alloc::{Allocator, Global};
 
 /// Carries out what the words of the command line ask for, those after the program's name.
@@ -97,18 +89,36 @@ pub fn carry_out<A: Allocator + Copy, R: Source, W: Sink, E: Sink>(
     ensures served { CanBeServed result }
 {
     match request {
-        Request::Audit => Run::Status(run_audit(alloc, input, output, errors)),
-        Request::AuditEach => Run::Status(run_audit_each(alloc, input, output, errors)),
-        Request::AuditPart => Run::Status(run_audit_part(alloc, input, output, errors)),
-        Request::AuditPartEach => { Run::Status(run_audit_part_each(alloc, input, output, errors)) }
-        Request::Join(joining) => Run::Status(run_join(alloc, joining, input, output, errors)),
-        Request::JoinEach { past_faults } => {
-            Run::Status(run_join_each(alloc, past_faults, input, output, errors))
+        Request::Audit => Run::Status(audited(audit(alloc, input, output), errors)),
+        Request::AuditEach => Run::Status(audited_each(audit_each(alloc, input, output), errors)),
+        Request::AuditPart => Run::Status(audited(audit_part(alloc, input, output), errors)),
+        Request::AuditPartEach => {
+            Run::Status(audited_each(audit_part_each(alloc, input, output), errors))
         }
-        Request::Show => Run::Status(run_show(alloc, input, output, errors)),
-        Request::Repack(packing) => Run::Status(run_repack(alloc, packing, input, output, errors)),
+        Request::Join(joining) => {
+            let outcome = join(
+                alloc,
+                joining.form,
+                joining.past_faults,
+                input,
+                output,
+                errors,
+            );
+            Run::Status(joined(outcome, errors))
+        }
+        Request::JoinEach { past_faults } => {
+            let outcome = join_each(alloc, past_faults, input, output, errors);
+            Run::Status(joined(outcome, errors))
+        }
+        Request::Show => Run::Status(shown(show(alloc, input, output), errors)),
+        Request::Repack(packing) => {
+            let outcome = repack(alloc, &options_of(packing), input, output);
+            Run::Status(repacked(outcome, errors))
+        }
         Request::RepackStretches { packing, leave } => {
-            Run::Status(run_stretches(alloc, packing, leave, input, output, errors))
+            let options = options_of(packing);
+            let outcome = repack_stretches(alloc, &options, leave, input, output, errors);
+            Run::Status(restretched(outcome, errors))
         }
         Request::Serve(serving) => plan_serve(alloc, &serving, input, errors),
         Request::Live(living) => Run::Live(living),
@@ -116,161 +126,60 @@ pub fn carry_out<A: Allocator + Copy, R: Source, W: Sink, E: Sink>(
     }
 }
 
-/// Audits, and says on `errors` why not all was written. A fault of the input is in the text.
-fn run_audit<A: Allocator + Copy, R: Source, W: Sink, E: Sink>(
-    alloc: A,
-    input: &mut R,
-    output: &mut W,
-    errors: &mut E,
-) -> u8
-    requires { R.read input.old ≡ nothing_read }
-    ensures { (outcome : Result Summary AuditFault) × IsAuditRun outcome result (R.read input.new)
-        (W.written output.old) (W.written output.new) (E.written errors.old) (E.written errors.new) }
+/// Says why not all of an audit was written, and answers the exit status. A fault of the input is in the text.
+fn audited<E: Sink>(outcome: Result<Summary, AuditFault>, errors: &mut E) -> u8
+    ensures status { result ≡ status_of outcome }
+    ensures reported { TellsOfAudit outcome (E.written errors.old) (E.written errors.new) }
 {
-    match audit(alloc, input, output) {
-        Ok(summary) => summary_status(summary),
+    match outcome {
+        Ok(summary) => verdict_status(summary.fault, summary.broken),
         Err(AuditFault::Write(_)) => write_failed(errors),
         Err(AuditFault::Memory) => refuse_memory(errors),
     }
 }
 
-/// Audits, tells each finding, and says on `errors` why not all was written. A fault of the input is in the text.
-fn run_audit_each<A: Allocator + Copy, R: Source, W: Sink, E: Sink>(
-    alloc: A,
-    input: &mut R,
-    output: &mut W,
-    errors: &mut E,
-) -> u8
-    requires { R.read input.old ≡ nothing_read }
-    ensures { (outcome : Result Summary EachFault) × IsEachRun outcome result (R.read input.new)
-        (W.written output.old) (W.written output.new) (E.written errors.old) (E.written errors.new) }
+/// The same of an audit that tells each finding.
+fn audited_each<E: Sink>(outcome: Result<Summary, EachFault>, errors: &mut E) -> u8
+    ensures status { result ≡ each_status outcome }
+    ensures reported { TellsOfEach outcome (E.written errors.old) (E.written errors.new) }
 {
-    match audit_each(alloc, input, output) {
-        Ok(summary) => summary_status(summary),
+    match outcome {
+        Ok(summary) => verdict_status(summary.fault, summary.broken),
         Err(EachFault::Write) => write_failed(errors),
         Err(EachFault::Memory) => refuse_memory(errors),
     }
 }
 
-/// Audits, writes the part instead of the text, and says on `errors` why not all was written.
-fn run_audit_part<A: Allocator + Copy, R: Source, W: Sink, E: Sink>(
-    alloc: A,
-    input: &mut R,
-    output: &mut W,
-    errors: &mut E,
-) -> u8
-    requires { R.read input.old ≡ nothing_read }
-    ensures { (outcome : Result Summary AuditFault) × IsPartRun outcome result (R.read input.new)
-        (W.written output.old) (W.written output.new) (E.written errors.old) (E.written errors.new) }
+/// Says why parts weren't joined, and answers the exit status.
+fn joined<E: Sink>(outcome: Result<Joined, JoinsFault>, errors: &mut E) -> u8
+    ensures status { result ≡ join_status outcome }
+    ensures reported { TellsOfJoin outcome (E.written errors.old) (E.written errors.new) }
 {
-    match audit_part(alloc, input, output) {
-        Ok(summary) => summary_status(summary),
-        Err(AuditFault::Write(_)) => write_failed(errors),
-        Err(AuditFault::Memory) => refuse_memory(errors),
-    }
-}
-
-/// The same, with a line for each record with a finding before it.
-fn run_audit_part_each<A: Allocator + Copy, R: Source, W: Sink, E: Sink>(
-    alloc: A,
-    input: &mut R,
-    output: &mut W,
-    errors: &mut E,
-) -> u8
-    requires { R.read input.old ≡ nothing_read }
-    ensures { (outcome : Result Summary EachFault) × IsPartEachRun outcome result (R.read input.new)
-        (W.written output.old) (W.written output.new) (E.written errors.old) (E.written errors.new) }
-{
-    match audit_part_each(alloc, input, output) {
-        Ok(summary) => summary_status(summary),
-        Err(EachFault::Write) => write_failed(errors),
-        Err(EachFault::Memory) => refuse_memory(errors),
-    }
-}
-
-/// Joins parts, and says on `errors` which faults were passed, and why not all was written.
-fn run_join<A: Allocator + Copy, R: Source, W: Sink, E: Sink>(
-    alloc: A,
-    joining: Joining,
-    input: &mut R,
-    output: &mut W,
-    errors: &mut E,
-) -> u8
-    requires { R.read input.old ≡ nothing_read }
-    ensures { (outcome : Result Joined JoinsFault) × IsJoinRun joining outcome result (R.read input.new)
-        (W.written output.old) (W.written output.new) (E.written errors.old) (E.written errors.new) }
-{
-    match join(
-        alloc,
-        joining.form,
-        joining.past_faults,
-        input,
-        output,
-        errors,
-    ) {
-        Ok(joined) => joined_status(joined),
+    match outcome {
+        Ok(joined) => verdict_status(joined.fault, joined.broken),
         Err(fault) => refuse_to_join(errors, &fault),
     }
 }
 
-/// Joins parts, tells each border with a finding, and says on `errors` which faults were passed, and why not all was
-/// written.
-fn run_join_each<A: Allocator + Copy, R: Source, W: Sink, E: Sink>(
-    alloc: A,
-    past_faults: bool,
-    input: &mut R,
-    output: &mut W,
-    errors: &mut E,
-) -> u8
-    requires { R.read input.old ≡ nothing_read }
-    ensures { (outcome : Result Joined JoinsFault) × IsJoinEachRun past_faults outcome result (R.read input.new)
-        (W.written output.old) (W.written output.new) (E.written errors.old) (E.written errors.new) }
+/// The exit status of an audit that was written: a fault of the input comes before a broken channel.
+fn verdict_status(fault: bool, broken: u64) -> u8
+    ensures { result ≡ (if fault then 2 else if nat_lt 0 broken then 1 else 0) }
 {
-    match join_each(alloc, past_faults, input, output, errors) {
-        Ok(joined) => joined_status(joined),
-        Err(fault) => refuse_to_join(errors, &fault),
-    }
-}
-
-/// The exit status of an audit that was joined.
-fn joined_status(joined: Joined) -> u8
-    ensures { result ≡ join_status (Result.Ok joined) }
-{
-    if joined.fault {
+    if fault {
         FAULT
-    } else if joined.broken > 0 {
+    } else if broken > 0 {
         BROKEN
     } else {
         DONE
     }
 }
 
-/// The exit status of an audit whose text was written: a fault of the input comes before a broken channel.
-fn summary_status(summary: Summary) -> u8
-    ensures { result ≡ summary_status summary }
+/// Says why not all of a listing was written, and answers the exit status. A fault of the input is in the listing.
+fn shown<E: Sink>(outcome: Result<Option<StreamFault>, ShowFault>, errors: &mut E) -> u8
+    ensures status { result ≡ show_status outcome }
+    ensures reported { TellsOfShow outcome (E.written errors.old) (E.written errors.new) }
 {
-    if summary.fault {
-        FAULT
-    } else if summary.broken > 0 {
-        BROKEN
-    } else {
-        DONE
-    }
-}
-
-/// Lists, and says on `errors` why not all was written. A fault of the input is in the listing.
-fn run_show<A: Allocator + Copy, R: Source, W: Sink, E: Sink>(
-    alloc: A,
-    input: &mut R,
-    output: &mut W,
-    errors: &mut E,
-) -> u8
-    requires { R.read input.old ≡ nothing_read }
-    ensures { (outcome : Result (Option StreamFault) ShowFault)
-        × IsShowRun outcome result (R.read input.new)
-        (W.written output.old) (W.written output.new) (E.written errors.old) (E.written errors.new) }
-{
-    match show(alloc, input, output) {
+    match outcome {
         Ok(None) => DONE,
         Ok(Some(_)) => FAULT,
         Err(ShowFault::Write) => write_failed(errors),
@@ -278,61 +187,38 @@ fn run_show<A: Allocator + Copy, R: Source, W: Sink, E: Sink>(
     }
 }
 
-/// Packs anew, and says on `errors` why it didn't.
-fn run_repack<A: Allocator + Copy, R: Source, W: Sink, E: Sink>(
-    alloc: A,
-    packing: Packing,
-    input: &mut R,
-    output: &mut W,
-    errors: &mut E,
-) -> u8
-    requires unread { R.read input.old ≡ nothing_read }
-    requires called { CanBeCalled (Request.Repack packing) }
-    ensures { IsRepackRun packing result (R.read input.new)
-        (W.written output.old) (W.written output.new) (E.written errors.old) (E.written errors.new) }
+/// The options of packing anew: sequence numbers begin at 1.
+fn options_of(packing: Packing) -> Options
+    requires { CanBeCalled (Request.Repack packing) }
+    ensures exponent { result.exponent ≡ packing.exponent }
+    ensures encoding { result.encoding ≡ packing.encoding }
+    ensures sequence { result.first_sequence ≡ 1 }
 {
-    let options = match Options::new(packing.exponent, packing.encoding.code(), 1) {
+    match Options::new(packing.exponent, packing.encoding.code(), 1) {
         Ok(options) => options,
         Err(_) => unreachable!(),
-    };
-    match repack(alloc, &options, input, output) {
+    }
+}
+
+/// Says why an archive wasn't packed anew, and answers the exit status.
+fn repacked<E: Sink>(outcome: Result<(), RepackFault>, errors: &mut E) -> u8
+    ensures { TellsOfRepack outcome result (E.written errors.old) (E.written errors.new) }
+{
+    match outcome {
         Ok(()) => DONE,
         Err(fault) => refuse_to_repack(errors, &fault),
     }
 }
 
-/// Packs anew by stretches, and says on `errors` why it didn't, or what was left out.
-fn run_stretches<A: Allocator + Copy, R: Source, W: Sink, E: Sink>(
-    alloc: A,
-    packing: Packing,
-    leave: bool,
-    input: &mut R,
-    output: &mut W,
-    errors: &mut E,
-) -> u8
-    requires unread { R.read input.old ≡ nothing_read }
-    requires called { CanBeCalled (Request.RepackStretches packing leave) }
-    ensures { IsStretchesRun packing leave result (R.read input.new)
-        (W.written output.old) (W.written output.new) (E.written errors.old) (E.written errors.new) }
+/// Says why an archive wasn't packed anew by stretches, and answers the exit status: what was left out counts.
+fn restretched<E: Sink>(outcome: Result<Left, StretchesFault>, errors: &mut E) -> u8
+    ensures { TellsOfStretches outcome result (E.written errors.old) (E.written errors.new) }
 {
-    let options = match Options::new(packing.exponent, packing.encoding.code(), 1) {
-        Ok(options) => options,
-        Err(_) => unreachable!(),
-    };
-    match repack_stretches(alloc, &options, leave, input, output, errors) {
-        Ok(left) => left_status(left),
+    match outcome {
+        Ok(Left::Nothing) => DONE,
+        Ok(Left::Broken) => BROKEN,
+        Ok(Left::Misfit) => FAULT,
         Err(fault) => refuse_to_stretch(errors, &fault),
-    }
-}
-
-/// The exit status where all was written but what was left out.
-fn left_status(left: Left) -> u8
-    ensures { result ≡ left_status left }
-{
-    match left {
-        Left::Nothing => DONE,
-        Left::Broken => BROKEN,
-        Left::Misfit => FAULT,
     }
 }
 

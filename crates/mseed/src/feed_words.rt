@@ -29,26 +29,21 @@ pub(crate) enum Naming {
     Numbered,
 }
 
+// The names that both commands of a feed take, and these.
+macro_rules! feed_names {
+    ($($further:literal),*) => {
+        &[
+            "command", "place", "address", "port", "timeout", "station", "network", $($further),*
+        ]
+    };
+}
+
 /// What is requested of serving, by its options and places.
 pub(crate) fn serving_of(matches: &ArgMatches<'_>) -> Option<Serving>
     ensures value { result ≡ serving_of (rows_of (found_of matches.now)) }
     ensures range { IfSome result CanServe }
 {
-    if !has_only(
-        matches,
-        &[
-            "command",
-            "place",
-            "address",
-            "port",
-            "timeout",
-            "station",
-            "network",
-            "capacity",
-            "first",
-            "connections",
-        ],
-    ) {
+    if !has_only(matches, feed_names!("capacity", "first", "connections")) {
         return None;
     }
     serving_in(matches)
@@ -77,13 +72,7 @@ pub(crate) fn living_of(matches: &ArgMatches<'_>) -> Option<Living>
     ensures value { result ≡ living_of (rows_of (found_of matches.now)) }
     ensures range { IfSome result CanLive }
 {
-    if !has_only(
-        matches,
-        &[
-            "command", "place", "address", "port", "timeout", "station", "network", "capacity",
-            "first", "live", "clients",
-        ],
-    ) {
+    if !has_only(matches, feed_names!("capacity", "first", "live", "clients")) {
         return None;
     }
     living_with(serving_in(matches), clients_in(text_of(matches, "clients")))
@@ -186,22 +175,7 @@ pub(crate) fn fetching_of(matches: &ArgMatches<'_>) -> Option<Fetching>
     ensures value { result ≡ fetching_of (rows_of (found_of matches.now)) }
     ensures range { IfSome result CanFetch }
 {
-    if !has_only(
-        matches,
-        &[
-            "command",
-            "place",
-            "address",
-            "port",
-            "timeout",
-            "station",
-            "network",
-            "from",
-            "tries",
-            "tell-next",
-            "holes",
-        ],
-    ) {
+    if !has_only(matches, feed_names!("from", "tries", "tell-next", "holes")) {
         return None;
     }
     fetching_with(

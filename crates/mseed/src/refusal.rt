@@ -1,10 +1,8 @@
 //! The lines that say why parts weren't joined, an archive not packed anew, or a feed not filled. They are built
 //! without the heap: a line is reported whatever memory there is.
-ghost use Rattle.std.specs.Prelude.{◌≡◌, ◌≤◌, ◌++◌, length, codes};
+ghost use Rattle.std.specs.Prelude.{◌≡◌, ◌≤◌, ◌++◌, length, codes, decimal};
 ghost use Rattle.mseed_audit.specs.Text.{fault_line, name_text};
 ghost use Rattle.mseed_stream.specs.Telling.{Tells};
-ghost use Rattle.mseed.specs.declared.fill_fault.FillFault.{FillFault};
-ghost use Rattle.mseed_join.specs.declared.joining.JoinsFault.{JoinsFault};
 ghost use Rattle.mseed.specs.Joined.{join_fault_text};
 ghost use Rattle.mseed.specs.Plans.{fill_text};
 ghost use Rattle.mseed.specs.Repacked.{refusal_status, refusal_text, reason_text};
@@ -63,7 +61,14 @@ pub fn refuse_to_serve<E: Sink>(errors: &mut E, fault: &FillFault) -> u8
 {
     match fault {
         FillFault::Stream(fault) => tell_fault(errors, fault),
-        FillFault::Foreign(number) => tell_foreign(errors, *number),
+        FillFault::Foreign(number) => {
+            tell_number(
+                errors,
+                b"mseed: record ",
+                *number,
+                b" is not of this feed\n",
+            )
+        }
         FillFault::Memory => refuse_memory(errors),
     }
 }
@@ -74,7 +79,9 @@ pub fn refuse_to_join<E: Sink>(errors: &mut E, fault: &JoinsFault) -> u8
     ensures reported { Tells (join_fault_text fault.now) (E.written errors.old) (E.written errors.new) }
 {
     match fault {
-        JoinsFault::Line(number) => tell_bad_line(errors, *number),
+        JoinsFault::Line(number) => {
+            tell_number(errors, b"mseed: bad part at line ", *number, b"\n")
+        }
         JoinsFault::Stream(fault) => tell_fault(errors, fault),
         JoinsFault::Write => write_failed(errors),
         JoinsFault::Memory => refuse_memory(errors),
@@ -125,30 +132,15 @@ fn reason(fault: &PackFault) -> &'static [u8]
     }
 }
 
-/// Says which line of parts is bad.
-fn tell_bad_line<E: Sink>(errors: &mut E, number: u64) -> u8
+/// Says something of what has this number, in the words before the number and behind it.
+fn tell_number<'a, E: Sink>(errors: &mut E, before: &'a [u8], number: u64, behind: &'a [u8]) -> u8
+    requires before { length before.now ≤ 32 }
+    requires behind { length behind.now ≤ 32 }
     ensures status { result ≡ 2 }
-    ensures reported { Tells (join_fault_text (JoinsFault.Line number)) (E.written errors.old) (E.written errors.new) }
+    ensures reported { Tells (before.entry.now ++ decimal number ++ behind.entry.now) (E.written errors.old)
+        (E.written errors.new) }
 {
-    let line = line_of(&[
-        Words(b"mseed: bad part at line "),
-        Count(number),
-        Words(b"\n"),
-    ]);
-    tell(errors, &line);
-    FAULT
-}
-
-/// Says which record isn't the feed's.
-fn tell_foreign<E: Sink>(errors: &mut E, number: u64) -> u8
-    ensures status { result ≡ 2 }
-    ensures reported { Tells (fill_text (FillFault.Foreign number)) (E.written errors.old) (E.written errors.new) }
-{
-    let line = line_of(&[
-        Words(b"mseed: record "),
-        Count(number),
-        Words(b" is not of this feed\n"),
-    ]);
+    let line = line_of(&[Words(before), Count(number), Words(behind)]);
     tell(errors, &line);
     FAULT
 }

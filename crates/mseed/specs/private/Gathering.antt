@@ -3,6 +3,7 @@ use Rattle.std.specs.Prelude.{◌≡◌, ℕ, ◌+◌, ◌<◌, List, [], ◌∷
 use Rattle.mseed_record.specs.View.{View}
 use Rattle.mseed_stream.specs.Device.{BytesRead, BytesWritten}
 use Rattle.mseed_stream.specs.declared.fault.StreamFault.{StreamFault}
+pub use Rattle.mseed_audit.specs.Each.{AreGathered}
 use Rattle.mseed.specs.Listing.{record_line, record_lines}
 use Rattle.mseed_stream.specs.Standing.{Standing}
 use Rattle.mseed_stream.specs.Walk.{AreAllViews, AreViews, HasHandedOut}
@@ -16,12 +17,6 @@ use Rattle.mseed.specs.declared.ending.ShowFault.TheVariants.{Write, Memory}
 abbrev pub IsPrefixWritten : ShowFault → BytesWritten → BytesWritten → List ℕ → Type 0
 IsPrefixWritten Write old new text = (new.failures ≡ old.failures + 1) × EmittedPart old new text
 IsPrefixWritten Memory old new text = (new.failures ≡ old.failures) × EmittedFirst old new text
-
--- the output accepted some bytes, and with those that are gathered they are a text
-pub record AreGathered (old new : BytesWritten) (gathered text : List ℕ) : Type 0 where
-  pub taken : List ℕ
-  pub bytes : new.bytes ≡ old.bytes ++ taken
-  pub joined : taken ++ gathered ≡ text
 
 -- a line was added to what was gathered, of which nothing or all was written meanwhile
 pub record IsGatheredAlso (old new : BytesWritten) (text added line : List ℕ) : Type 0 where

@@ -1,0 +1,7 @@
+use Rattle.std.proofs.Common.{◌∙◌}
+use Rattle.mseed.proofs.Encodings.{one_encoding}
+use Rattle.mseed.proofs.command.options_of.Goals as goal
+
+pub returns-clause-encoding : goal.returns-clause-encoding
+returns-clause-encoding c =
+    one_encoding c.in-Ok.options.encoding c.args.packing.encoding (c.in-Ok.ensures.encoding ∙ c.code.ensures)
