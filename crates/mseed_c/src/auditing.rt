@@ -90,12 +90,26 @@ fn show(text: &[u8], summary: &Summary, room: &mut [u8], totals: &mut Totals) ->
     ensures status { result ≡ status_of summary.now }
 {
     overwrite(text, room);
-    *totals = Totals {
+    *totals = totals_of(summary, text.len());
+    status_of(summary)
+}
+
+/// The numbers of a summary, and the length of the whole text.
+fn totals_of(summary: &Summary, length: usize) -> Totals
+    ensures { result ≡ totals_of summary.now length }
+{
+    Totals {
         records: summary.records,
         channels: summary.channels,
         broken: summary.broken,
-        length: text.len(),
-    };
+        length,
+    }
+}
+
+/// The status of an audit.
+fn status_of(summary: &Summary) -> u32
+    ensures { result ≡ status_of summary.now }
+{
     if summary.fault {
         2
     } else if summary.broken > 0 {
