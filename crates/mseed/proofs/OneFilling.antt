@@ -1,22 +1,17 @@
 -- What was read of an input is one filling of a feed.
-use Rattle.std.proofs.Common.{◌≡◌, ℕ, suc, ◌≤◌, ◌⊎◌, inl, inr, List, [], ◌∷◌, ◌++◌, length, length-append, take, drop}
+use Rattle.std.proofs.Common.{◌≡◌, ℕ, suc, ◌⊎◌, inl, inr, List, [], ◌∷◌, ◌++◌, length, length-append, take, drop}
 use Rattle.std.proofs.Common.{Option, Some, None, Result, Ok, Err, refl, sym, ap, subst, ◌∙◌, arith, append_assoc}
 use Rattle.std.proofs.Common.{append-nil}
-use Rattle.std.proofs.lemmas.List.{append_cancel_left, length-map, map-append, take-append-drop}
-use Rattle.std.proofs.Math.Seq.{take-append_seam}
+use Rattle.std.proofs.lemmas.List.{length-map, map-append, take-append-drop}
 use Rattle.std.specs.List.{AllByRecursion, concat}
 use Rattle.mseed_record.specs.Record.{IsRecord}
 use Rattle.mseed_record.specs.View.{View}
 use Rattle.mseed_record.proofs.OneRecord.{one_first, prefix_is}
-use Rattle.mseed_stream.specs.Archive.{HasNoFurther, IsArchive, clean, frame, truncated}
-use Rattle.mseed_stream.specs.Cutting.{read_from}
+use Rattle.mseed_stream.specs.Archive.{IsArchive}
 use Rattle.mseed_stream.specs.Device.{BytesRead}
-use Rattle.mseed_stream.specs.Walk.{AreAllViews, AreViews, IsEnd, bytes_in}
+use Rattle.mseed_stream.specs.Walk.{AreAllViews, bytes_in}
 use Rattle.mseed_stream.specs.declared.fault.StreamFault.{StreamFault}
-use Rattle.mseed_stream.specs.declared.fault.StreamFault.TheVariants.{Frame, Truncated, Read, Turns, Memory as NoMemory}
-use Rattle.mseed_stream.proofs.Handed.{no_further}
-use Rattle.mseed_stream.proofs.OneInput.{one_input}
-use Rattle.mseed_stream.proofs.Stops.{none_short}
+use Rattle.mseed_stream.proofs.OneInput.{archive_is, one_input}
 use Rattle.slink_wire.specs.Place.{Fields}
 use Rattle.slink_feed.specs.Window.{Window}
 use Rattle.mseed.specs.Filling.{AreOfFeed, IsFilling, IsForeign, IsOfFeed, IsOneFilling, feed_of, served}
@@ -119,24 +114,6 @@ stops_at s n h f =
       of = f.each;
       other = f.other;
     }
-
--- no record begins behind the last
-none_behind : (end : Option StreamFault) (offset : ℕ) (h : BytesRead) → IsEnd end offset h
-    → HasNoFurther (read_from offset h)
-none_behind None offset h is = no_further (read_from offset h) clean is.0.0
-none_behind (Some (Frame n f)) offset h is = no_further (read_from offset h) (frame f) is.0.1
-none_behind (Some (Truncated n have)) offset h is = no_further (read_from offset h) (truncated have) is.0.1
-none_behind (Some (Read n)) offset h is = none_short (read_from offset h) is.0.3
-none_behind (Some (Turns n)) offset h is = none_short (read_from offset h) is.0.3
-none_behind (Some NoMemory) offset h is = absurd (is.1 refl)
-
-archive_is : (offset : ℕ) (views : List View) (end : Option StreamFault) (h : BytesRead)
-    → AreViews h.bytes offset views → IsEnd end offset h → IsArchive h.bytes (bytes_in views) (drop offset h.bytes)
-archive_is offset views end h are is = record {
-  joined = sym (take-append-drop offset h.bytes) ∙ ap (λ (xs : List ℕ). xs ++ drop offset h.bytes) are.records.joined;
-  each = are.records.each;
-  no_further = none_behind end offset h is;
-}
 
 never_stops : (s : Serving) (n : ℕ) (h : BytesRead) (views : List View) (end : Option StreamFault) → IsForeign s n h
     → AreAllViews h views end → AreOfFeed (served s) (bytes_in views) → ⊥
