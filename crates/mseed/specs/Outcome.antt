@@ -2,9 +2,9 @@
 use Rattle.std.specs.Prelude.{◌≡◌, ℕ, nat_lt, if◌then◌else◌, Result, Ok, Err, codes}
 use Rattle.mseed_stream.specs.Device.{BytesRead, BytesWritten}
 use Rattle.mseed_stream.specs.Telling.{Tells}
-use Rattle.mseed_audit.specs.declared.archive.Summary.{Summary}
-use Rattle.mseed_audit.specs.declared.archive.AuditFault.{AuditFault}
-use Rattle.mseed_audit.specs.declared.archive.AuditFault.TheVariants.{Write, Memory}
+use Rattle.mseed_audit.specs.declared.summary.Summary.{Summary}
+use Rattle.mseed_audit.specs.declared.summary.AuditFault.{AuditFault}
+use Rattle.mseed_audit.specs.declared.summary.AuditFault.TheVariants.{Write, Memory}
 use Rattle.mseed_audit.specs.declared.each.EachFault.{EachFault}
 use Rattle.mseed_audit.specs.declared.each.EachFault.TheVariants as each
 use Rattle.mseed_audit.specs.Each.{IsEachOutcome}

@@ -1,7 +1,7 @@
 -- What `run` comes to, by what is requested.
 use Rattle.std.specs.Prelude.{◌≡◌, ◌⊎◌, ℕ, Option, Result}
-use Rattle.mseed_audit.specs.declared.archive.AuditFault.{AuditFault}
-use Rattle.mseed_audit.specs.declared.archive.Summary.{Summary}
+use Rattle.mseed_audit.specs.declared.summary.AuditFault.{AuditFault}
+use Rattle.mseed_audit.specs.declared.summary.Summary.{Summary}
 use Rattle.mseed_audit.specs.declared.each.EachFault.{EachFault}
 use Rattle.mseed_stream.specs.Device.{BytesRead, BytesWritten}
 use Rattle.mseed_stream.specs.declared.fault.StreamFault.{StreamFault}

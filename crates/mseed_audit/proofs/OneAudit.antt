@@ -5,7 +5,7 @@ use Rattle.mseed_stream.specs.Device.{BytesRead}
 use Rattle.mseed_stream.specs.Walk.{AreAllViews}
 use Rattle.mseed_stream.specs.declared.fault.StreamFault.{StreamFault}
 use Rattle.mseed_audit.specs.declared.verdict.Verdict.{Verdict}
-use Rattle.mseed_audit.specs.declared.archive.Summary.{Summary}
+use Rattle.mseed_audit.specs.declared.summary.Summary.{Summary}
 use Rattle.mseed_audit.specs.Channels.{added_from}
 use Rattle.mseed_audit.specs.Text.{audit_text}
 use Rattle.mseed_audit.specs.Verdict.{AreVerdicts}

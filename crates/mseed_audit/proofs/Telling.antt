@@ -2,8 +2,8 @@
 use Rattle.std.proofs.Common.{◌≡◌, ℕ, ◌+◌, ◌++◌, List, [], ◌∷◌, length, Option, refl, sym, ap, ◌∙◌, subst, append_assoc}
 use Rattle.std.proofs.Common.{append-nil, arith, Result, Ok, Err, OnOk, None}
 use Rattle.mseed_audit.specs.declared.finding.Why.{Why}
-use Rattle.mseed_audit.specs.declared.archive.Lines.{Lines}
-use Rattle.mseed_audit.specs.declared.archive.Lines.TheVariants.{OfVerdicts, OfRecords}
+use Rattle.mseed_audit.specs.declared.summary.Lines.{Lines}
+use Rattle.mseed_audit.specs.declared.summary.Lines.TheVariants.{OfVerdicts, OfRecords}
 use Rattle.mseed_audit.specs.Channels.{Added, Placed, numbered}
 use Rattle.mseed_audit.specs.private.Gathered.{IsReportedMore, lines_by}
 use Rattle.mseed_audit.specs.Text.{reported_line, reported_lines}

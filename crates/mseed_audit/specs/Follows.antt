@@ -3,7 +3,7 @@ use Rattle.std.specs.Prelude.{⊤, ◌≡◌, ◌≢◌, List, [], ◌∷◌, �
 use Rattle.std.specs.List.{AllByRecursion}
 use Rattle.mseed_time.specs.Join.{Joins}
 use Rattle.mseed_time.specs.Rate.{Ratio, SameRate}
-use Rattle.mseed_record.specs.declared.frame.Leap.TheVariants.{Both}
+use Rattle.mseed_record.specs.declared.leap.Leap.TheVariants.{Both}
 use Rattle.mseed_record.specs.View.{View, start_of, leap_of}
 use Rattle.mseed_steim.specs.Reading.{count_of, IsReading, IsWhole}
 use Rattle.mseed_audit.specs.Judging.{known_rate, step_in}

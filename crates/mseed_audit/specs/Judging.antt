@@ -6,8 +6,8 @@ use Rattle.mseed_time.specs.declared.outcome.Join.TheVariants.{Meets, Late, Earl
 use Rattle.mseed_time.specs.Btime.{first_fault}
 use Rattle.mseed_time.specs.Join.{join_of}
 use Rattle.mseed_time.specs.Rate.{Ratio, rate_of}
-use Rattle.mseed_record.specs.declared.frame.Leap.{Leap}
-use Rattle.mseed_record.specs.declared.frame.Leap.TheVariants.{None as NoLeap, Positive, Negative, Both}
+use Rattle.mseed_record.specs.declared.leap.Leap.{Leap}
+use Rattle.mseed_record.specs.declared.leap.Leap.TheVariants.{None as NoLeap, Positive, Negative, Both}
 use Rattle.mseed_record.specs.Header.{time_at, factor_at, multiplier_at}
 use Rattle.mseed_record.specs.View.{View, start_of, leap_of}
 pub use Rattle.mseed_record.specs.View.{step_in}

@@ -6,9 +6,9 @@ use Rattle.mseed_stream.specs.Device.{BytesRead, BytesWritten}
 use Rattle.mseed_stream.specs.declared.fault.StreamFault.{StreamFault}
 use Rattle.mseed_audit.specs.declared.verdict.Verdict.{Verdict}
 use Rattle.mseed_audit.specs.declared.verdict.Verdict.TheVariants.{Continuous, Broken}
-use Rattle.mseed_audit.specs.declared.archive.Summary.{Summary}
-use Rattle.mseed_audit.specs.declared.archive.AuditFault.{AuditFault}
-use Rattle.mseed_audit.specs.declared.archive.AuditFault.TheVariants.{Write, Memory}
+use Rattle.mseed_audit.specs.declared.summary.Summary.{Summary}
+use Rattle.mseed_audit.specs.declared.summary.AuditFault.{AuditFault}
+use Rattle.mseed_audit.specs.declared.summary.AuditFault.TheVariants.{Write, Memory}
 use Rattle.mseed_stream.specs.Walk.{AreAllViews, bytes_in}
 use Rattle.mseed_audit.specs.Channels.{added_from}
 use Rattle.mseed_audit.specs.Verdict.{AreVerdicts}

@@ -9,9 +9,9 @@ use Rattle.mseed_time.specs.Rate.{Ratio}
 use Rattle.mseed_time.specs.Text.{fault_word, time_text}
 use Rattle.mseed_record.specs.Header.{is_blank, key_at, time_at}
 use Rattle.mseed_record.specs.View.{View, start_of}
-use Rattle.mseed_record.specs.declared.frame.FrameFault.{FrameFault}
-use Rattle.mseed_record.specs.declared.frame.FrameFault.TheVariants.{NotData, Order as NoOrder, Chain, No1000, Length}
-use Rattle.mseed_record.specs.declared.frame.FrameFault.TheVariants.{Outside, Version3}
+use Rattle.mseed_record.specs.declared.fault.FrameFault.{FrameFault}
+use Rattle.mseed_record.specs.declared.fault.FrameFault.TheVariants.{NotData, Order as NoOrder, Chain, No1000, Length}
+use Rattle.mseed_record.specs.declared.fault.FrameFault.TheVariants.{Outside, Version3}
 use Rattle.mseed_steim.specs.declared.fault.ReadFault.{ReadFault}
 use Rattle.mseed_steim.specs.declared.fault.ReadFault.TheVariants.{Blockette100, Encoding, LittleSteim, DataOffset}
 use Rattle.mseed_steim.specs.declared.fault.ReadFault.TheVariants.{Short, BadWord, Overflow, LastDiffers}

@@ -16,7 +16,7 @@ ghost use Rattle.mseed_audit.specs.Follows.{IsContinuous};
 ghost use Rattle.mseed_audit.specs.Judging.{IsFound};
 ghost use Rattle.mseed_audit.specs.Series.{Trace, AreJoined, IsBadStep, IsSeriesOf};
 ghost use Rattle.mseed_stream.specs.Device.{BytesRead, IsPrefixOf};
-ghost use Rattle.mseed_audit.specs.declared.archive.Summary.{Summary};
+ghost use Rattle.mseed_audit.specs.declared.summary.Summary.{Summary};
 ghost use Rattle.mseed_audit.specs.Summary.{Audited, IsSummary, text_of};
 ghost use Rattle.mseed_audit.specs.Verdict.{AreFindings, AreVerdicts, IsVerdict, says_continuous};
 

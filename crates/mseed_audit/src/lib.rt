@@ -1,7 +1,6 @@
 //! The audit of an archive: which channels are continuous, and where the others break.
 #![tactic(auto)]
 
-mod archive;
 mod assembly;
 mod audits;
 mod channel;
@@ -13,11 +12,11 @@ mod line;
 mod name;
 mod pieces;
 mod roster;
+mod summary;
 mod tail;
 mod text;
 mod verdict;
 
-pub use archive::{AuditFault, Summary, audit, gather};
 pub use assembly::{NotContinuous, is_of, series};
 pub use audits::{Audit, Channels, Memory, Verdicts};
 pub use channel::{Channel, Findings, Head};
@@ -31,6 +30,7 @@ pub use law::{
 pub use line::{Line, Name, fault_line_of, line_of, name_of};
 pub use name::push_name;
 pub use pieces::{Piece, push_count, push_pieces};
+pub use summary::{AuditFault, Summary, audit, gather};
 pub use tail::Tail;
 pub use text::{push_fault_line, push_start, push_total_line, push_verdict_line, push_why};
 pub use verdict::Verdict;

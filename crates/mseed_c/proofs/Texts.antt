@@ -3,7 +3,7 @@ use Rattle.std.proofs.Common.{◌≡◌, ◌∙◌, ◌++◌, ℕ, List, Option,
 use Rattle.std.specs.Io.KnownBytes.{IsAtEnd}
 use Rattle.mseed_stream.specs.Device.{BytesRead, nothing_read}
 use Rattle.mseed_stream.specs.Cutting.{TellsMore}
-use Rattle.mseed_audit.specs.declared.archive.Summary.{Summary}
+use Rattle.mseed_audit.specs.declared.summary.Summary.{Summary}
 use Rattle.mseed_c.specs.Audited.{IsReadOf, IsShown, status_of, totals_of}
 use Rattle.mseed_c.specs.Lent.{read_by, lent_by, left_of}
 use Rattle.mseed_c.specs.Room.{overwritten}

@@ -3,7 +3,7 @@ use Rattle.std.specs.Prelude.{◌≡◌, ℕ, true, nat_lt, if◌then◌else◌,
 use Rattle.mseed_stream.specs.Device.{BytesRead}
 use Rattle.mseed_audit.specs.Summary.{Audited, IsSummary, text_of}
 use Rattle.mseed_audit.specs.Each.{AuditedEach, each_text}
-use Rattle.mseed_audit.specs.declared.archive.Summary.{Summary}
+use Rattle.mseed_audit.specs.declared.summary.Summary.{Summary}
 use Rattle.mseed_join.specs.AuditPart.{AuditedPart}
 use Rattle.mseed_join.specs.Written.{part_text}
 use Rattle.mseed_c.specs.Room.{overwritten}

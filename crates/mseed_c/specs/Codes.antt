@@ -1,9 +1,9 @@
 -- The codes of answers, and the numbers that belong to them. 0 is done, 1 and 2 are the statuses of an audit, 3 is
 -- refused memory.
 use Rattle.std.specs.Prelude.{ℕ, pos, Result, Ok, Err}
-use Rattle.mseed_record.specs.declared.frame.FrameFault.{FrameFault}
-use Rattle.mseed_record.specs.declared.frame.FrameFault.TheVariants.{NotData, Order, Chain, No1000, Length, Outside}
-use Rattle.mseed_record.specs.declared.frame.FrameFault.TheVariants.{Version3}
+use Rattle.mseed_record.specs.declared.fault.FrameFault.{FrameFault}
+use Rattle.mseed_record.specs.declared.fault.FrameFault.TheVariants.{NotData, Order, Chain, No1000, Length, Outside}
+use Rattle.mseed_record.specs.declared.fault.FrameFault.TheVariants.{Version3}
 use Rattle.mseed_steim.specs.declared.fault.ReadFault.{ReadFault}
 use Rattle.mseed_steim.specs.declared.fault.ReadFault.TheVariants.{Blockette100, Encoding, LittleSteim, DataOffset}
 use Rattle.mseed_steim.specs.declared.fault.ReadFault.TheVariants.{Short}

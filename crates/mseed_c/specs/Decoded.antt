@@ -2,7 +2,7 @@
 use Rattle.std.specs.Prelude.{◌≡◌, ◌≤◌, ◌<◌, ℕ, ℤ, List, length, take, drop, Result, Ok, Err}
 use Rattle.mseed_record.specs.View.{View, IsView}
 use Rattle.mseed_record.specs.Scan.{Decides, HasNoRecord, Needs}
-use Rattle.mseed_record.specs.declared.frame.Scan.TheVariants.{Need, Not as Refused}
+use Rattle.mseed_record.specs.declared.framer.Scan.TheVariants.{Need, Not as Refused}
 use Rattle.mseed_steim.specs.Reading.{count_of, IsFault, IsWhole}
 use Rattle.mseed_c.specs.declared.codes.Stop.{Stop}
 use Rattle.mseed_c.specs.declared.codes.Stop.TheVariants.{Rows, Room, Short, Not}

@@ -5,8 +5,8 @@ use Rattle.mseed_time.specs.Btime.{first_fault}
 use Rattle.mseed_time.specs.Rate.{Ratio, rate_of}
 use Rattle.mseed_time.specs.declared.fault.TimeFault.{TimeFault}
 use Rattle.mseed_time.specs.declared.fault.TimeFault.TheVariants.{Year, Day, Hour, Minute, Second, Fraction}
-use Rattle.mseed_record.specs.declared.frame.Leap.{Leap}
-use Rattle.mseed_record.specs.declared.frame.Leap.TheVariants.{None as NoLeap, Positive, Negative, Both}
+use Rattle.mseed_record.specs.declared.leap.Leap.{Leap}
+use Rattle.mseed_record.specs.declared.leap.Leap.TheVariants.{None as NoLeap, Positive, Negative, Both}
 use Rattle.mseed_record.specs.Header.{key_at, quality_at, factor_at, multiplier_at, time_at}
 use Rattle.mseed_record.specs.View.{View, start_of, leap_of}
 use Rattle.mseed_steim.specs.declared.fault.ReadFault.{ReadFault}

@@ -5,8 +5,8 @@ use Rattle.std.proofs.lemmas.Bool.{false≢true}
 use Rattle.std.proofs.lemmas.List.{take-append-drop}
 use Rattle.std.specs.List.{concat, AllByRecursion}
 use Rattle.std.specs.Option.{option_map}
-use Rattle.mseed_record.specs.declared.frame.FrameFault.{FrameFault}
-use Rattle.mseed_record.specs.declared.frame.Scan.TheVariants.{Not}
+use Rattle.mseed_record.specs.declared.fault.FrameFault.{FrameFault}
+use Rattle.mseed_record.specs.declared.framer.Scan.TheVariants.{Not}
 use Rattle.mseed_record.specs.Record.{IsRecord}
 use Rattle.mseed_record.specs.Scan.{Decides}
 use Rattle.mseed_record.specs.View.{View, IsView}

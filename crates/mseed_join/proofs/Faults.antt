@@ -13,8 +13,8 @@ use Rattle.mseed_time.specs.declared.outcome.Join.{Join}
 use Rattle.mseed_time.specs.declared.outcome.Join.TheVariants.{Meets, Late, Early}
 use Rattle.mseed_record.specs.Header.{data_at}
 use Rattle.mseed_record.specs.View.{View, IsView, leap_of, payload_of, start_of}
-use Rattle.mseed_record.specs.declared.frame.Leap.{Leap}
-use Rattle.mseed_record.specs.declared.frame.Leap.TheVariants.{None as NoLeap, Positive, Negative, Both}
+use Rattle.mseed_record.specs.declared.leap.Leap.{Leap}
+use Rattle.mseed_record.specs.declared.leap.Leap.TheVariants.{None as NoLeap, Positive, Negative, Both}
 use Rattle.mseed_steim.specs.Frames.{DataWord, data_word, data_words, is_data, word_count, words_from}
 use Rattle.mseed_steim.specs.Reading.{IsFault, blockette_100, encoding, little_steim, data_offset, in_payload, count_of}
 use Rattle.mseed_steim.specs.Samples.{IsSample, IsFrameFault, IsPayloadFault, short, bad_word, overflow, last_differs}

@@ -11,10 +11,10 @@ use Rattle.mseed_record.specs.Order.{order_of}
 use Rattle.mseed_record.specs.Record.{exponent_at}
 use Rattle.mseed_record.specs.Scan.{Decides, DecidesFrom, at_1000, at_offset, by_chain, is_version3, no_data, no_order}
 use Rattle.mseed_record.specs.Scan.{version3}
-use Rattle.mseed_record.specs.declared.frame.FrameFault.{FrameFault}
-use Rattle.mseed_record.specs.declared.frame.FrameFault.TheVariants.{Chain, Length, No1000, Outside}
-use Rattle.mseed_record.specs.declared.frame.Scan.{Scan}
-use Rattle.mseed_record.specs.declared.frame.Scan.TheVariants.{Need, Record, Not}
+use Rattle.mseed_record.specs.declared.fault.FrameFault.{FrameFault}
+use Rattle.mseed_record.specs.declared.fault.FrameFault.TheVariants.{Chain, Length, No1000, Outside}
+use Rattle.mseed_record.specs.declared.framer.Scan.{Scan}
+use Rattle.mseed_record.specs.declared.framer.Scan.TheVariants.{Need, Record, Not}
 use Rattle.mseed_record.proofs.Answered.{none_at}
 use Rattle.mseed_record.proofs.Framed.{fixed_prefix, order_prefix, other_at}
 use Rattle.mseed_record.proofs.Needed.{number_more}

@@ -20,10 +20,10 @@ use Rattle.mseed_record.specs.Header.{blockette_at, key_at}
 use Rattle.mseed_record.specs.Record.{exponent_at}
 use Rattle.mseed_record.specs.Scan.{Decides, DecidesFrom, at_1000, at_offset, by_chain, no_data, no_order, version3}
 use Rattle.mseed_record.specs.View.{View, IsView}
-use Rattle.mseed_record.specs.declared.frame.FrameFault.{FrameFault}
-use Rattle.mseed_record.specs.declared.frame.FrameFault.TheVariants.{Chain, Length, No1000, Outside}
-use Rattle.mseed_record.specs.declared.frame.Scan.{Scan}
-use Rattle.mseed_record.specs.declared.frame.Scan.TheVariants.{Need, Record, Not}
+use Rattle.mseed_record.specs.declared.fault.FrameFault.{FrameFault}
+use Rattle.mseed_record.specs.declared.fault.FrameFault.TheVariants.{Chain, Length, No1000, Outside}
+use Rattle.mseed_record.specs.declared.framer.Scan.{Scan}
+use Rattle.mseed_record.specs.declared.framer.Scan.TheVariants.{Need, Record, Not}
 use Rattle.mseed_record.proofs.Called.{record_long}
 use Rattle.mseed_steim.specs.Reading.{count_of}
 use Rattle.mseed_stream.specs.Archive.{IsEndOf, is_truncated, truncated}

@@ -1,9 +1,9 @@
 -- What an audit writes that writes the part of what was read, and what it answers.
 use Rattle.std.specs.Prelude.{◌≡◌, ◌⊎◌, ◌<◌, ◌+◌, ℕ, List, ◌++◌, length, take, Result, Ok, Err}
 use Rattle.mseed_stream.specs.Device.{BytesRead, BytesWritten}
-use Rattle.mseed_audit.specs.declared.archive.Summary.{Summary}
-use Rattle.mseed_audit.specs.declared.archive.AuditFault.{AuditFault}
-use Rattle.mseed_audit.specs.declared.archive.AuditFault.TheVariants.{Write, Memory}
+use Rattle.mseed_audit.specs.declared.summary.Summary.{Summary}
+use Rattle.mseed_audit.specs.declared.summary.AuditFault.{AuditFault}
+use Rattle.mseed_audit.specs.declared.summary.AuditFault.TheVariants.{Write, Memory}
 use Rattle.mseed_audit.specs.declared.each.EachFault.{EachFault}
 use Rattle.mseed_audit.specs.declared.each.EachFault.TheVariants.{Write as NotWritten, Memory as NoMemory}
 use Rattle.mseed_audit.specs.Channels.{added_from}

@@ -16,8 +16,8 @@ use Rattle.mseed_time.specs.declared.fault.TimeFault.{TimeFault}
 use Rattle.mseed_time.specs.Btime.{Parts, IsTime, first_fault}
 use Rattle.mseed_time.specs.Rate.{Ratio, rate_of}
 use Rattle.mseed_time.specs.Ratios.{ratio_of}
-use Rattle.mseed_record.specs.declared.frame.Leap.{Leap}
-use Rattle.mseed_record.specs.declared.frame.Leap.TheVariants.{None as NoLeap, Positive, Negative, Both}
+use Rattle.mseed_record.specs.declared.leap.Leap.{Leap}
+use Rattle.mseed_record.specs.declared.leap.Leap.TheVariants.{None as NoLeap, Positive, Negative, Both}
 use Rattle.mseed_record.specs.Header.{key_at, time_at, factor_at, multiplier_at, activity_at}
 use Rattle.mseed_record.specs.View.{View, IsView, start_of, leap_of, payload_of}
 use Rattle.mseed_record.specs.Written.{Header, IsWritable, IsHeaded, ReadsBack, headed_view}

@@ -1,7 +1,7 @@
 -- The chain of a record, and that of the prefix that it begins with.
 use Rattle.std.proofs.Common.{◌≡◌, ℕ, ◌≤◌, List, length, Some, sym, subst, ◌∙◌, arith}
 use Rattle.mseed_time.specs.declared.order.Order.{Order}
-use Rattle.mseed_record.specs.declared.frame.Scan.{Scan}
+use Rattle.mseed_record.specs.declared.framer.Scan.{Scan}
 use Rattle.mseed_record.specs.Header.{blockette_at}
 use Rattle.mseed_record.specs.Order.{order_of}
 use Rattle.mseed_record.specs.Chain.{Passes}

@@ -8,7 +8,7 @@ use Rattle.std.proofs.Math.ListN.{get_or-eq_default}
 use Rattle.mseed_time.specs.declared.order.Order.{Order}
 use Rattle.mseed_time.specs.declared.order.Order.TheVariants.{Big, Little}
 use Rattle.mseed_time.specs.Fields.{number_at}
-use Rattle.mseed_record.specs.declared.frame.Scan.TheVariants.{Record}
+use Rattle.mseed_record.specs.declared.framer.Scan.TheVariants.{Record}
 use Rattle.mseed_record.specs.Header.{has_fixed_bytes, blockette_at}
 use Rattle.mseed_record.specs.Order.{is_dated, order_of}
 use Rattle.mseed_record.specs.Chain.{type_at, next_at, Passes, IsChain}

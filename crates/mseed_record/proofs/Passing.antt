@@ -2,7 +2,7 @@
 use Rattle.std.proofs.Common.{◌≡◌, ℕ, ◌+◌, ◌≤◌, ◌++◌, List, [], ◌∷◌, length, Some, None, sym, ap, arith}
 use Rattle.std.proofs.lemmas.Bool.Decides.{nat_tests}
 use Rattle.mseed_time.specs.declared.order.Order.{Order}
-use Rattle.mseed_record.specs.declared.frame.Scan.{Scan}
+use Rattle.mseed_record.specs.declared.framer.Scan.{Scan}
 use Rattle.mseed_record.specs.Chain.{next_at}
 use Rattle.mseed_record.specs.Scan.{at_offset, DecidesFrom}
 use Rattle.mseed_record.specs.Framer.{PassesTo}

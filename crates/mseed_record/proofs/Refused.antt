@@ -4,8 +4,8 @@ use Rattle.std.proofs.Common.{None, sym, ap, subst, ◌∙◌, arith}
 use Rattle.std.proofs.lemmas.Bool.{both_ways}
 use Rattle.std.proofs.lemmas.Bool.Decides.{nat_tests}
 use Rattle.mseed_time.specs.declared.order.Order.{Order}
-use Rattle.mseed_record.specs.declared.frame.Scan.TheVariants.{Not}
-use Rattle.mseed_record.specs.declared.frame.FrameFault.{FrameFault}
+use Rattle.mseed_record.specs.declared.framer.Scan.TheVariants.{Not}
+use Rattle.mseed_record.specs.declared.fault.FrameFault.{FrameFault}
 use Rattle.mseed_record.specs.Header.{has_fixed_bytes, blockette_at}
 use Rattle.mseed_record.specs.Chain.{type_at, next_at, Passes}
 use Rattle.mseed_record.specs.Record.{IsRecordBy, exponent_at}

@@ -1,8 +1,8 @@
 -- What the answer of the framing steps says of the records that there may be.
 use Rattle.std.proofs.Common.{◌≡◌, ℕ, ◌^◌, ◌≤◌, ◌<◌, List, length, take, get_or, subst, ◌↔◌}
-use Rattle.mseed_record.specs.declared.frame.Scan.{Scan}
-use Rattle.mseed_record.specs.declared.frame.Scan.TheVariants.{Need, Record, Not}
-use Rattle.mseed_record.specs.declared.frame.FrameFault.{FrameFault}
+use Rattle.mseed_record.specs.declared.framer.Scan.{Scan}
+use Rattle.mseed_record.specs.declared.framer.Scan.TheVariants.{Need, Record, Not}
+use Rattle.mseed_record.specs.declared.fault.FrameFault.{FrameFault}
 use Rattle.mseed_record.specs.Record.{IsRecord}
 use Rattle.mseed_record.specs.Scan.{Decides, HasNoRecord, HasNoShorter, Needs, version3, short, no_data, no_order}
 use Rattle.mseed_record.specs.Scan.{by_chain}

@@ -2,7 +2,7 @@
 use Rattle.std.specs.Prelude.{◌≡◌, ℕ, ◌+◌, ◌^◌, ◌≤◌, ◌<◌, true, false, List, [], ◌∷◌, length, Some, None, IfSome}
 use Rattle.std.specs.Prelude.{MatchOption}
 use Rattle.mseed_time.specs.declared.order.Order.{Order}
-use Rattle.mseed_record.specs.declared.frame.Scan.{Scan}
+use Rattle.mseed_record.specs.declared.framer.Scan.{Scan}
 use Rattle.mseed_record.specs.declared.framer.Framer.{Framer}
 use Rattle.mseed_record.specs.declared.framer.Reached.{Reached}
 use Rattle.mseed_record.specs.Header.{has_fixed_bytes, blockette_at}

@@ -8,8 +8,8 @@ use Rattle.mseed_time.specs.declared.order.Order.TheVariants.{Big, Little}
 use Rattle.mseed_time.specs.declared.outcome.LeapStep.{LeapStep}
 use Rattle.mseed_time.specs.declared.outcome.LeapStep.TheVariants.{Plus, Minus}
 use Rattle.mseed_time.specs.Btime.{instant_of}
-use Rattle.mseed_record.specs.declared.frame.Leap.{Leap}
-use Rattle.mseed_record.specs.declared.frame.Leap.TheVariants.{None as NoLeap, Positive, Negative, Both}
+use Rattle.mseed_record.specs.declared.leap.Leap.{Leap}
+use Rattle.mseed_record.specs.declared.leap.Leap.TheVariants.{None as NoLeap, Positive, Negative, Both}
 use Rattle.mseed_record.specs.Header.{time_at, correction_at, activity_at, data_at}
 use Rattle.mseed_record.specs.Chain.{IsWholeChain, first_of, has_type}
 use Rattle.mseed_record.specs.Record.{IsRecordBy}

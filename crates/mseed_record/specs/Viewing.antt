@@ -1,9 +1,9 @@
 -- What contracts read of a `RecordView`.
 use Rattle.std.specs.Prelude.{length, Result, Ok, Err}
-use Rattle.mseed_record.specs.declared.frame.Scan.{Scan}
-use Rattle.mseed_record.specs.declared.frame.Scan.TheVariants.{Need, Record, Not}
-use Rattle.mseed_record.specs.declared.frame.ViewFault.{ViewFault}
-use Rattle.mseed_record.specs.declared.frame.ViewFault.TheVariants.{Not as Refused, Short}
+use Rattle.mseed_record.specs.declared.framer.Scan.{Scan}
+use Rattle.mseed_record.specs.declared.framer.Scan.TheVariants.{Need, Record, Not}
+use Rattle.mseed_record.specs.declared.fault.ViewFault.{ViewFault}
+use Rattle.mseed_record.specs.declared.fault.ViewFault.TheVariants.{Not as Refused, Short}
 use Rattle.mseed_record.specs.declared.view.RecordView.{RecordView}
 use Rattle.mseed_record.specs.View.{View}
 

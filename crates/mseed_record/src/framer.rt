@@ -1,15 +1,26 @@
 //! Framing that goes on where it ended, while a record's bytes come.
 ghost use Rattle.std.specs.Prelude.{◌≡◌, ◌≢◌, ◌≤◌, ◌<◌, ◌+◌, ◌++◌, ◌^◌, ℕ, List, length, take, false, IfOk, IfErr};
 ghost use Rattle.std.specs.Prelude.{OnErr, Some};
-ghost use Rattle.mseed_record.specs.declared.frame.Scan.TheVariants.{Need, Record};
+ghost use Rattle.mseed_record.specs.declared.framer.Scan.TheVariants.{Need, Record};
 ghost use Rattle.mseed_record.specs.Record.{IsRecord, IsRecordBy};
 ghost use Rattle.mseed_record.specs.Header.{has_fixed_bytes};
 ghost use Rattle.mseed_record.specs.Scan.{Decides, at_offset, at_1000};
 ghost use Rattle.mseed_record.specs.Framer.{IsFramerOf, HasReached, HasNoChain, StandsAt};
 
-use crate::frame::{FrameFault, Scan};
+use crate::fault::FrameFault;
 use crate::header::{HEADER, has_fixed_bytes, order_of};
 use mseed_time::Order;
+
+/// What the prefix of an input is.
+#[derive(Clone, Copy, Debug, PartialEq, Eq)]
+pub enum Scan {
+    /// So many bytes are needed before that is known.
+    Need(usize),
+    /// The first so many bytes are a record.
+    Record(usize),
+    /// No bytes that may come make a record of it.
+    Not(FrameFault),
+}
 
 /// Frames one record while its bytes come: each look goes on along the chain of blockettes from where the
 /// last one ended. Of the bytes it keeps only how far that is.

@@ -1,13 +1,12 @@
 //! Framing: where a record ends, by its first bytes.
 ghost use Rattle.std.specs.Prelude.{◌≡◌, ◌↔◌, ◌≤◌, ◌<◌, ◌^◌, ℕ, length, take};
-ghost use Rattle.mseed_record.specs.declared.frame.FrameFault.{FrameFault};
-ghost use Rattle.mseed_record.specs.declared.frame.Scan.{Scan};
-ghost use Rattle.mseed_record.specs.declared.frame.Scan.TheVariants.{Need, Record, Not};
+ghost use Rattle.mseed_record.specs.declared.fault.FrameFault.{FrameFault};
+ghost use Rattle.mseed_record.specs.declared.framer.Scan.{Scan};
+ghost use Rattle.mseed_record.specs.declared.framer.Scan.TheVariants.{Need, Record, Not};
 ghost use Rattle.mseed_record.specs.Record.{IsRecord};
 ghost use Rattle.mseed_record.specs.Scan.{Decides, HasNoRecord, HasNoShorter, Needs};
 
-use crate::frame::Scan;
-use crate::framer::Framer;
+use crate::framer::{Framer, Scan};
 
 /// Says whether a record begins the bytes, and how many bytes it has, by the first framing step that
 /// applies (SEED manual, chapter 8, "Data record blockettes": the length is blockette 1000's).

@@ -4,23 +4,25 @@
 
 mod chain;
 mod codes;
+mod fault;
 mod fields;
-mod frame;
 mod framer;
 mod framing;
 mod header;
 mod law;
+mod leap;
 mod naming;
 mod view;
 mod write;
 
 pub use codes::Codes;
+pub use fault::{DataOffset, FrameFault, ViewFault};
 pub use fields::Fields;
-pub use frame::{DataOffset, FrameFault, Leap, Scan, ViewFault};
-pub use framer::Framer;
+pub use framer::{Framer, Scan};
 pub use framing::scan;
 pub use header::is_blank;
 pub use law::header_reads_back;
+pub use leap::Leap;
 pub use naming::{BadCode, CodeField};
 pub use view::RecordView;
 pub use write::{TooShort, write_header};

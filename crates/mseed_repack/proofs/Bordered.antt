@@ -13,8 +13,8 @@ use Rattle.mseed_time.specs.declared.outcome.Join.{Join}
 use Rattle.mseed_time.specs.declared.outcome.Join.TheVariants.{Late, Early}
 use Rattle.mseed_time.specs.Join.{Joins, join_by, miss_of, step_of}
 use Rattle.mseed_time.specs.Rate.{Ratio, SameRate}
-use Rattle.mseed_record.specs.declared.frame.Leap.{Leap}
-use Rattle.mseed_record.specs.declared.frame.Leap.TheVariants.{None as NoLeap, Positive, Negative, Both}
+use Rattle.mseed_record.specs.declared.leap.Leap.{Leap}
+use Rattle.mseed_record.specs.declared.leap.Leap.TheVariants.{None as NoLeap, Positive, Negative, Both}
 use Rattle.mseed_record.specs.Header.{key_at}
 use Rattle.mseed_record.specs.View.{View, IsView, leap_of, start_of}
 use Rattle.mseed_steim.specs.Reading.{HasOneReading, count_of}

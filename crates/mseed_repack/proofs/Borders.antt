@@ -9,7 +9,7 @@ use Rattle.mseed_time.specs.declared.outcome.LeapStep.{LeapStep}
 use Rattle.mseed_time.specs.Join.{miss_of, step_of}
 use Rattle.mseed_time.specs.Rate.{Ratio, SameRate}
 use Rattle.mseed_time.specs.Ratios.{ratio_of}
-use Rattle.mseed_record.specs.declared.frame.Leap.TheVariants.{Both}
+use Rattle.mseed_record.specs.declared.leap.Leap.TheVariants.{Both}
 use Rattle.mseed_record.specs.View.{View, leap_of, start_of}
 use Rattle.mseed_steim.specs.Reading.{count_of, IsWhole}
 use Rattle.mseed_audit.specs.Follows.{IsSound}

@@ -3,7 +3,7 @@ use Rattle.std.proofs.Common.{◌≡◌, ℕ, ◌<◌, ◌≤◌, Bool, true, fa
 use Rattle.std.proofs.Common.{refl, sym, ap, subst, ◌∙◌, ◌+◌, ◌++◌, arith, ⊎_elim, length-append}
 use Rattle.std.proofs.lemmas.List.{append-nil}
 use Rattle.std.proofs.lemmas.Bool.{cases_lt}
-use Rattle.mseed_record.specs.declared.frame.Scan.TheVariants.{Need}
+use Rattle.mseed_record.specs.declared.framer.Scan.TheVariants.{Need}
 use Rattle.mseed_record.specs.Record.{IsRecord}
 use Rattle.mseed_record.specs.Scan.{Decides, short}
 use Rattle.mseed_record.proofs.OneAnswer.{one_answer}

@@ -1,7 +1,7 @@
 -- An archive's end is the only one, since the framing steps have one answer.
 use Rattle.std.proofs.Common.{◌≡◌, ℕ, List, [], length, refl, sym, ap, subst, arith}
-use Rattle.mseed_record.specs.declared.frame.Scan.TheVariants.{Need, Not}
-use Rattle.mseed_record.specs.declared.frame.FrameFault.{FrameFault}
+use Rattle.mseed_record.specs.declared.framer.Scan.TheVariants.{Need, Not}
+use Rattle.mseed_record.specs.declared.fault.FrameFault.{FrameFault}
 use Rattle.mseed_record.specs.Scan.{Decides, short}
 use Rattle.mseed_record.proofs.OneAnswer.{one_answer}
 use Rattle.mseed_stream.specs.Archive.{End, frame, IsEndOf, is_clean, is_frame, is_truncated}

@@ -5,8 +5,8 @@ use Rattle.std.proofs.lemmas.Bool.{cases_lt, false≢true}
 use Rattle.std.proofs.lemmas.List.{take-append-drop}
 use Rattle.std.proofs.Math.Seq.{take-length}
 use Rattle.std.specs.List.{concat, AllByRecursion}
-use Rattle.mseed_record.specs.declared.frame.Scan.TheVariants.{Need, Not}
-use Rattle.mseed_record.specs.declared.frame.FrameFault.{FrameFault}
+use Rattle.mseed_record.specs.declared.framer.Scan.TheVariants.{Need, Not}
+use Rattle.mseed_record.specs.declared.fault.FrameFault.{FrameFault}
 use Rattle.mseed_record.specs.Scan.{Decides}
 use Rattle.mseed_record.specs.View.{View, IsView}
 use Rattle.mseed_record.proofs.Called.{record_long}

@@ -5,8 +5,8 @@ use Rattle.std.proofs.lemmas.List.{append-nil, take-append-drop, length-take-le,
 use Rattle.std.proofs.lemmas.List.Folds.{concat-append}
 use Rattle.std.proofs.Math.Seq.{take-add}
 use Rattle.std.specs.List.{concat, AllByRecursion}
-use Rattle.mseed_record.specs.declared.frame.ViewFault.{ViewFault}
-use Rattle.mseed_record.specs.declared.frame.ViewFault.TheVariants.{Not as Refused, Short}
+use Rattle.mseed_record.specs.declared.fault.ViewFault.{ViewFault}
+use Rattle.mseed_record.specs.declared.fault.ViewFault.TheVariants.{Not as Refused, Short}
 use Rattle.mseed_record.specs.declared.view.RecordView.{RecordView}
 use Rattle.mseed_record.specs.Record.{IsRecord}
 use Rattle.mseed_record.specs.View.{IsView}

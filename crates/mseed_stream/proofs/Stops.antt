@@ -3,7 +3,7 @@ use Rattle.std.proofs.Common.{◌≡◌, ℕ, ◌≤◌, ◌++◌, List, length,
 use Rattle.std.proofs.Common.{length-take}
 use Rattle.std.proofs.lemmas.List.{take-append-le, take-append-drop, length-take-le, take_all}
 use Rattle.std.proofs.Math.Seq.{take-length}
-use Rattle.mseed_record.specs.declared.frame.Scan.TheVariants.{Need}
+use Rattle.mseed_record.specs.declared.framer.Scan.TheVariants.{Need}
 use Rattle.mseed_record.specs.Record.{IsRecord}
 use Rattle.mseed_record.specs.Scan.{Decides}
 use Rattle.mseed_record.proofs.Called.{called, record_long}

@@ -1,8 +1,8 @@
 -- What it means to split some bytes into records.
 use Rattle.std.specs.Prelude.{◌≡◌, ℕ, ◌+◌, ◌-◌, ◌^◌, ◌<◌, ◌≤◌, List, map, length, take, drop}
 use Rattle.std.specs.List.{concat}
-use Rattle.mseed_record.specs.declared.frame.ViewFault.{ViewFault}
-use Rattle.mseed_record.specs.declared.frame.ViewFault.TheVariants.{Not as Refused, Short}
+use Rattle.mseed_record.specs.declared.fault.ViewFault.{ViewFault}
+use Rattle.mseed_record.specs.declared.fault.ViewFault.TheVariants.{Not as Refused, Short}
 use Rattle.mseed_record.specs.declared.view.RecordView.{RecordView}
 use Rattle.mseed_record.specs.Record.{IsRecord}
 use Rattle.mseed_record.specs.Viewing.{view_of}

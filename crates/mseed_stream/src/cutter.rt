@@ -7,7 +7,7 @@ ghost use Rattle.mseed_record.specs.Record.{IsRecord};
 ghost use Rattle.mseed_record.specs.Scan.{Decides};
 ghost use Rattle.mseed_record.specs.View.{View, IsView};
 ghost use Rattle.mseed_record.specs.Viewing.{view_of};
-ghost use Rattle.mseed_record.specs.declared.frame.Scan.TheVariants.{Need, Record};
+ghost use Rattle.mseed_record.specs.declared.framer.Scan.TheVariants.{Need, Record};
 ghost use Rattle.mseed_stream.specs.Device.{read_also, nothing_read};
 ghost use Rattle.mseed_stream.specs.Archive.{HasRecords};
 ghost use Rattle.mseed_stream.specs.Cutting.{IsRead, IsAlong, IsStop, TellsMore, IsNextAnswer, asks_of, count_of};

@@ -8,7 +8,7 @@ use Rattle.std.specs.List.{AllByRecursion}
 use Rattle.mseed_time.specs.declared.fault.TimeFault.{TimeFault}
 use Rattle.mseed_time.specs.Join.{Joins, step_of}
 use Rattle.mseed_time.specs.Rate.{Ratio, SameRate, rate_of}
-use Rattle.mseed_record.specs.declared.frame.Leap.TheVariants.{Both}
+use Rattle.mseed_record.specs.declared.leap.Leap.TheVariants.{Both}
 use Rattle.mseed_record.specs.Header.{factor_at, multiplier_at}
 use Rattle.mseed_record.specs.View.{View, leap_of, start_of, step_in}
 use Rattle.mseed_steim.specs.Reading.{count_of}

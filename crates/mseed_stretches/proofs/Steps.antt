@@ -8,7 +8,7 @@ use Rattle.mseed_time.specs.Join.{step_of}
 use Rattle.mseed_time.specs.Rate.{Ratio, SameRate}
 use Rattle.mseed_time.specs.declared.rate.Rate.{Rate}
 use Rattle.mseed_time.specs.Ratios.{ratio_of}
-use Rattle.mseed_record.specs.declared.frame.Leap.TheVariants.{Both}
+use Rattle.mseed_record.specs.declared.leap.Leap.TheVariants.{Both}
 use Rattle.mseed_record.specs.View.{View, leap_of, start_of, step_in}
 use Rattle.mseed_steim.specs.Reading.{count_of}
 use Rattle.mseed_audit.specs.Judging.{known_rate}

@@ -1,7 +1,7 @@
 -- What is kept of a stretch while its records come.
 use Rattle.std.specs.Prelude.{◌≡◌, ◌↔◌, IsTrue, List, [], ◌∷◌, length, Some}
 use Rattle.mseed_time.specs.Ratios.{ratio_of}
-use Rattle.mseed_record.specs.declared.frame.Leap.TheVariants.{Both}
+use Rattle.mseed_record.specs.declared.leap.Leap.TheVariants.{Both}
 use Rattle.mseed_record.specs.Header.{key_at, factor_at, multiplier_at}
 use Rattle.mseed_record.specs.View.{View, start_of, leap_of}
 use Rattle.mseed_audit.specs.Judging.{known_rate}

@@ -3,7 +3,7 @@ use Rattle.std.specs.Prelude.{⊤, ◌≡◌, ◌≢◌, ℕ, ◌+◌, ◌*◌, 
 use Rattle.std.specs.Prelude.{◌<◌, unsigned_abs}
 use Rattle.mseed_time.specs.Join.{step_of}
 use Rattle.mseed_time.specs.Rate.{Ratio, SameRate}
-use Rattle.mseed_record.specs.declared.frame.Leap.TheVariants.{Both}
+use Rattle.mseed_record.specs.declared.leap.Leap.TheVariants.{Both}
 use Rattle.mseed_record.specs.View.{View, start_of, leap_of, step_in}
 use Rattle.mseed_steim.specs.Reading.{count_of}
 use Rattle.mseed_audit.specs.Judging.{known_rate}

@@ -3,7 +3,7 @@ ghost use Rattle.std.specs.Prelude.{◌≡◌, ◌↔◌, ◌<◌, ◌≤◌, �
 ghost use Rattle.std.specs.Prelude.{IsTrue, IsSome, IfSome, IfNone, None, Some};
 ghost use Rattle.mseed_time.specs.Rate.{SameRate};
 ghost use Rattle.mseed_time.specs.Ratios.{ratio_of};
-ghost use Rattle.mseed_record.specs.declared.frame.Leap.TheVariants.{Both};
+ghost use Rattle.mseed_record.specs.declared.leap.Leap.TheVariants.{Both};
 ghost use Rattle.mseed_record.specs.Header.{factor_at, multiplier_at};
 ghost use Rattle.mseed_record.specs.View.{View, leap_of, start_of};
 ghost use Rattle.mseed_record.specs.Viewing.{view_of};

@@ -7,8 +7,8 @@ use Rattle.std.proofs.Common.{take_all, slice_get, Some}
 use Rattle.std.proofs.lemmas.List.{take-append-le}
 use Rattle.std.proofs.lemmas.List.Folds.{concat-append}
 use Rattle.std.specs.List.{AllByRecursion, concat}
-use Rattle.mseed_record.specs.declared.frame.FrameFault.{FrameFault}
-use Rattle.mseed_record.specs.declared.frame.Scan.TheVariants as scans
+use Rattle.mseed_record.specs.declared.fault.FrameFault.{FrameFault}
+use Rattle.mseed_record.specs.declared.framer.Scan.TheVariants as scans
 use Rattle.mseed_record.specs.Record.{IsRecord}
 use Rattle.mseed_record.specs.Scan.{Decides, HasNoRecord, HasNoShorter}
 use Rattle.mseed_record.proofs.OneRecord.{one_record}

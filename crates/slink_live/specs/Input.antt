@@ -2,7 +2,7 @@
 use Rattle.std.specs.Prelude.{◌≡◌, ℕ, Bool, ◌&&◌, ◌*◌, ◌+◌, ◌<◌, ◌⊎◌, List, [], ◌∷◌, ◌++◌, length, map, take, bytes_eq}
 use Rattle.std.specs.Prelude.{slice_get, slice_range, Some, if◌then◌else◌}
 use Rattle.std.specs.List.{AllByRecursion, concat}
-use Rattle.mseed_record.specs.declared.frame.Scan.TheVariants as scans
+use Rattle.mseed_record.specs.declared.framer.Scan.TheVariants as scans
 use Rattle.mseed_record.specs.Record.{IsRecord}
 use Rattle.mseed_record.specs.Scan.{Decides}
 use Rattle.mseed_stream.specs.declared.fault.StreamFault.TheVariants.{Frame, Truncated, Read, Turns, Memory}

@@ -2,7 +2,7 @@
 ghost use Rattle.std.specs.Prelude.{◌≡◌, ◌+◌, ◌*◌, ◌^◌, ◌<◌, ◌≤◌, ◌++◌, [], ℕ, List, None, Some, IfErr, IfSome, OnErr};
 ghost use Rattle.std.specs.Prelude.{OnOk, length, slice_get};
 ghost use Rattle.std.specs.Bool.{OnFalse, OnTrue};
-ghost use Rattle.mseed_record.specs.declared.frame.Scan.{Scan};
+ghost use Rattle.mseed_record.specs.declared.framer.Scan.{Scan};
 ghost use Rattle.mseed_record.specs.Record.{IsRecord};
 ghost use Rattle.mseed_record.specs.Scan.{Decides};
 ghost use Rattle.mseed_stream.specs.declared.fault.StreamFault.{StreamFault};

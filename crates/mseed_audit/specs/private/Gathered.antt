@@ -4,11 +4,11 @@ use Rattle.mseed_record.specs.View.{View}
 use Rattle.mseed_stream.specs.Device.{BytesRead, BytesWritten}
 use Rattle.mseed_stream.specs.Standing.{Standing}
 use Rattle.mseed_stream.specs.Walk.{AreViews, HasHandedOut}
-use Rattle.mseed_audit.specs.declared.archive.Step.{Step}
-use Rattle.mseed_audit.specs.declared.archive.Step.TheVariants.{Added as OneMore, Ended}
+use Rattle.mseed_audit.specs.declared.summary.Step.{Step}
+use Rattle.mseed_audit.specs.declared.summary.Step.TheVariants.{Added as OneMore, Ended}
 use Rattle.mseed_audit.specs.declared.audits.Memory.{Memory as NoRoom}
-use Rattle.mseed_audit.specs.declared.archive.Lines.{Lines}
-use Rattle.mseed_audit.specs.declared.archive.Lines.TheVariants.{OfVerdicts, OfRecords}
+use Rattle.mseed_audit.specs.declared.summary.Lines.{Lines}
+use Rattle.mseed_audit.specs.declared.summary.Lines.TheVariants.{OfVerdicts, OfRecords}
 use Rattle.mseed_audit.specs.declared.each.EachFault.{EachFault}
 use Rattle.mseed_audit.specs.declared.each.EachFault.TheVariants.{Write, Memory}
 use Rattle.mseed_audit.specs.Audit.{Held, IsAuditOf}

@@ -1,5 +1,5 @@
 use Rattle.std.proofs.Common.{Some, ap, ◌∙◌}
-use Rattle.mseed_record.specs.declared.frame.Scan.{Scan}
+use Rattle.mseed_record.specs.declared.framer.Scan.{Scan}
 use Rattle.mseed_record.proofs.Reached.{reached_record}
 use Rattle.mseed_record.proofs.framer.frame.Goals as goal
 

@@ -1,5 +1,5 @@
 use Rattle.std.proofs.Common.{◌≡◌}
-use Rattle.mseed_record.specs.declared.frame.Scan.TheVariants.{Record}
+use Rattle.mseed_record.specs.declared.framer.Scan.TheVariants.{Record}
 use Rattle.mseed_record.proofs.Scanned.{scanned}
 use Rattle.mseed_record.proofs.framing.scan.Goals as goal
 

@@ -3,8 +3,8 @@ use Rattle.std.proofs.Common.{sym, ap, subst, ◌∙◌, append_assoc, arith, ru
 use Rattle.std.proofs.lemmas.Bool.{cases_lt}
 use Rattle.mseed_record.proofs.Answered.{answered}
 use Rattle.std.proofs.KnownBytes.{Consumes-trans}
-use Rattle.mseed_record.specs.declared.frame.Scan.{Scan}
-use Rattle.mseed_record.specs.declared.frame.Scan.TheVariants.{Need}
+use Rattle.mseed_record.specs.declared.framer.Scan.{Scan}
+use Rattle.mseed_record.specs.declared.framer.Scan.TheVariants.{Need}
 use Rattle.mseed_record.specs.Scan.{Decides}
 use Rattle.mseed_stream.specs.Archive.{is_frame}
 use Rattle.mseed_stream.specs.Device.{BytesRead}

@@ -4,7 +4,7 @@ use Rattle.mseed_stream.specs.Cutting.{IsAlong, TellsMore}
 use Rattle.mseed_stream.specs.Walk.{HasHandedOut}
 use Rattle.mseed_audit.specs.Channels.{added_from}
 use Rattle.mseed_audit.specs.Audit.{IsAuditOf}
-use Rattle.mseed_audit.proofs.archive.gather.Given as goal
+use Rattle.mseed_audit.proofs.summary.gather.Given as goal
 
 abbrev pub invariant-records : goal.invariant-records
 invariant-records g l = record {

@@ -2,7 +2,7 @@ use Rattle.std.proofs.Common.{◌≡◌, ℕ, ◌+◌, length, ap, None, refl}
 use Rattle.mseed_record.specs.Viewing.{view_of}
 use Rattle.mseed_audit.specs.Channels.{Added}
 use Rattle.mseed_audit.proofs.Telling.{reported_nothing}
-use Rattle.mseed_audit.proofs.archive.add_reported.Goals as goal
+use Rattle.mseed_audit.proofs.summary.add_reported.Goals as goal
 
 pub returns-then-add_sound-clause-reported : goal.returns-then-add_sound-clause-reported
 returns-then-add_sound-clause-reported g c = λ added is.

@@ -3,7 +3,7 @@ use Rattle.mseed_stream.specs.Device.{BytesRead, BytesWritten}
 use Rattle.mseed_audit.specs.Summary.{broken_count}
 use Rattle.mseed_audit.proofs.Outcomes.{with_verdicts, audited, text_is, summary_is, written, cut_off}
 use Rattle.mseed_stream.proofs.Calls.{writes_none}
-use Rattle.mseed_audit.proofs.archive.audit.Goals as goal
+use Rattle.mseed_audit.proofs.summary.audit.Goals as goal
 
 pub returns-in-Ok-write_all_of-clause-outcome : goal.returns-in-Ok-write_all_of-clause-outcome
 returns-in-Ok-write_all_of-clause-outcome g c =

@@ -2,7 +2,7 @@ use Rattle.std.proofs.Common.{◌≡◌, ℕ, ◌+◌, length, ap, ◌∙◌}
 use Rattle.mseed_record.specs.Viewing.{view_of}
 use Rattle.mseed_audit.specs.Channels.{Added}
 use Rattle.mseed_audit.proofs.Telling.{reported_line_more, reported_no_line}
-use Rattle.mseed_audit.proofs.archive.add_judged.Goals as goal
+use Rattle.mseed_audit.proofs.summary.add_judged.Goals as goal
 
 pub returns-in-OfRecords-clause-reported : goal.returns-in-OfRecords-clause-reported
 returns-in-OfRecords-clause-reported g c = λ added is.

@@ -1,7 +1,7 @@
 use Rattle.std.proofs.Common.{◌++◌, ◌∷◌, [], List}
 use Rattle.mseed_record.specs.View.{View}
 use Rattle.mseed_stream.proofs.Calls.{reads_on}
-use Rattle.mseed_audit.proofs.archive.gather.Goals as goal
+use Rattle.mseed_audit.proofs.summary.gather.Goals as goal
 
 pub records-preserved : goal.records-preserved
 records-preserved g c =

@@ -9,7 +9,7 @@ use Rattle.mseed_audit.specs.Channels.{Added, added_from}
 use Rattle.mseed_audit.specs.Audit.{IsAuditOf}
 use Rattle.mseed_audit.specs.private.Gathered.{IsReportedMore}
 use Rattle.mseed_audit.proofs.Views.{added_more}
-use Rattle.mseed_audit.proofs.archive.add_next.Goals as goal
+use Rattle.mseed_audit.proofs.summary.add_next.Goals as goal
 
 pub returns-in-Some-clause-next : goal.returns-in-Some-clause-next
 returns-in-Some-clause-next g c = λ views before is.

@@ -1,7 +1,7 @@
 use Rattle.std.proofs.Common.{arith}
 use Rattle.mseed_audit.proofs.OneMore.{count_more}
-use Rattle.mseed_audit.proofs.archive.count_broken.Goals as goal
-use Rattle.mseed_audit.proofs.archive.count_broken.Goals.{then-not-is_continuous, else-not-is_continuous}
+use Rattle.mseed_audit.proofs.summary.count_broken.Goals as goal
+use Rattle.mseed_audit.proofs.summary.count_broken.Goals.{then-not-is_continuous, else-not-is_continuous}
 
 pub loop-verdict-preserved : goal.loop-verdict-preserved
 loop-verdict-preserved c =

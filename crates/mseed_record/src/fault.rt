@@ -1,7 +1,4 @@
-//! What framing answers, and the leap seconds of a record.
-ghost use Rattle.std.specs.Prelude.{◌≡◌};
-
-use mseed_time::LeapStep;
+//! Why bytes begin no record, and why a record has no payload.
 
 /// Why the bytes at the beginning of an input begin no record, by the first framing step that applies. No
 /// bytes that may come can make one of them.
@@ -23,17 +20,6 @@ pub enum FrameFault {
     Version3,
 }
 
-/// What the prefix of an input is.
-#[derive(Clone, Copy, Debug, PartialEq, Eq)]
-pub enum Scan {
-    /// So many bytes are needed before that is known.
-    Need(usize),
-    /// The first so many bytes are a record.
-    Record(usize),
-    /// No bytes that may come make a record of it.
-    Not(FrameFault),
-}
-
 /// Why no record begins the bytes, as framing says.
 #[derive(Clone, Copy, Debug, PartialEq, Eq)]
 pub enum ViewFault {
@@ -41,34 +27,6 @@ pub enum ViewFault {
     Not(FrameFault),
     /// So many bytes are needed before that is known.
     Short(usize),
-}
-
-/// The leap seconds that happened during a record, by its activity flags.
-#[derive(Clone, Copy, Debug, PartialEq, Eq)]
-pub enum Leap {
-    /// None.
-    None,
-    /// A positive one: a minute of 61 seconds.
-    Positive,
-    /// A negative one: a minute of 59 seconds.
-    Negative,
-    /// Both flags are set, which says nothing.
-    Both,
-}
-
-impl Leap {
-    ghost use Rattle.mseed_record.specs.View.{step_in};
-
-    /// The leap second at the record's end, if there is one; with both flags nobody can say.
-    pub fn step(self) -> Option<LeapStep>
-        ensures { result ≡ step_in self }
-    {
-        match self {
-            Leap::None | Leap::Both => None,
-            Leap::Positive => Some(LeapStep::Plus),
-            Leap::Negative => Some(LeapStep::Minus),
-        }
-    }
 }
 
 /// The beginning of data lies within the header, or behind the record's end.
