@@ -1,8 +1,9 @@
 -- A frame's words, unpacked one after another, spell what they say.
 use Rattle.std.proofs.Common.{◌≡◌, ◌≢◌, ℕ, zero, suc, ◌+◌, ◌-◌, ◌*◌, ◌%◌, ◌^◌, ◌<◌, ◌≤◌, List, ◌∷◌, ◌++◌, map}
 use Rattle.std.proofs.Common.{take, drop, get_or, ℤ, refl, sym, ap, subst, ◌∙◌, append_assoc, append-nil, arith, inl}
-use Rattle.std.proofs.Common.{inr, Some, Ok, Result}
+use Rattle.std.proofs.Common.{inr, Some, Ok, Result, ◌/◌, ⊎_elim}
 use Rattle.std.specs.List.{range_with_len}
+use Rattle.std.proofs.lemmas.Bool.{cases_lt, lt-ltb, le-ltb}
 use Rattle.std.proofs.lemmas.List.{map-append}
 use lib.Lanes.{sum_l}
 use Rattle.mseed_steim.specs.declared.scheme.Scheme.{Scheme}
@@ -12,14 +13,17 @@ use Rattle.mseed_steim.specs.declared.unpack.Unpacking.{Unpacking}
 use Rattle.mseed_steim.specs.private.Digits.{differences_of}
 use Rattle.mseed_steim.specs.Frames.{DataWord, data_word, word_at, code_at, words_from}
 use Rattle.mseed_steim.specs.private.Items.{items_of}
-use Rattle.mseed_steim.specs.private.Lanes.{span, words, row_at, Begins}
-use Rattle.mseed_steim.specs.private.Unpacked.{AreNarrow, Unpacks, counts_of, widths_of, lanes_of, differences_at}
-use Rattle.mseed_steim.specs.private.Unpacked.{unpacked}
+use Rattle.mseed_steim.specs.private.Lanes.{span, words, row_at, Begins, code_from, counts_one, counts_two}
+use Rattle.mseed_steim.specs.private.Lanes.{word_at as lanes_word_at}
+use Rattle.mseed_steim.specs.private.Unpacked.{AreNarrow, FitIn, Unpacks, counts_of, widths_of, lanes_of}
+use Rattle.mseed_steim.specs.private.Unpacked.{differences_at, unpacked}
+use Rattle.mseed_steim.proofs.Below.{sixteen}
 use Rattle.mseed_steim.proofs.Walking.{words_none, words_step, items_group}
 use Rattle.mseed_steim.proofs.FrameItems.{Reads, reads_by, rows_one, rows_two, zeros_one, zeros_two, none_at}
 use Rattle.mseed_steim.proofs.FrameItems.{span-append}
 use Rattle.mseed_steim.proofs.LaneDigits.{at_word, one_of_sum}
 use Rattle.mseed_steim.proofs.FrameNear.{frame_near_one, frame_near_two}
+use Rattle.mseed_steim.proofs.FrameSums.{row_small}
 
 -- one word more
 pub unpacked_more : (s : Scheme) (f : List ℕ) (from j n : ℕ)
@@ -111,6 +115,46 @@ lanes_few Two = omega arith
 -- a row's unpacking, by what it counts itself
 pub by_own_count : (count width : ℕ) (by : Unpacking) → Unpacks count width by → Unpacks by.count width by
 by_own_count count width by u = subst (λ (n : ℕ). Unpacks n width by) (sym u.as_many) u
+
+-- the lanes that are taken for a word are enough
+pub lanes_enough : (s : Scheme) (f : List ℕ) (from lanes word : ℕ) (by : Unpacking) → word < 16 → by.count ≤ lanes_of s
+    → by.count ≡ get_or (counts_of s) (row_at f from word) 0 → FitIn s f from lanes → by.count ≤ lanes
+lanes_enough s f from lanes word by inside few same (inl all) = omega (arith, few, all)
+lanes_enough s f from lanes word by inside few same (inr fit) = let h = fit word inside in omega (arith, same, h)
+
+-- words without the code 3 have four differences at the most
+few_by_row : (s : Scheme) (row : ℕ) → row < 16 → row < 12 → get_or (counts_of s) row 0 < 128
+    → get_or (counts_of s) row 0 ≤ 4
+unfolding counts_one counts_two
+few_by_row One = sixteen (λ row. row < 12 → get_or counts_one row 0 < 128 → get_or counts_one row 0 ≤ 4)
+    (λ _ _. omega arith) (λ _ _. omega arith) (λ _ _. omega arith) (λ _ _. omega arith) (λ _ _. omega arith)
+    (λ _ _. omega arith) (λ _ _. omega arith) (λ _ _. omega arith) (λ _ _. omega arith) (λ _ _. omega arith)
+    (λ _ _. omega arith) (λ _ _. omega arith) (λ h _. absurd (omega (arith, h))) (λ h _. absurd (omega (arith, h)))
+    (λ h _. absurd (omega (arith, h))) (λ h _. absurd (omega (arith, h)))
+few_by_row Two = sixteen (λ row. row < 12 → get_or counts_two row 0 < 128 → get_or counts_two row 0 ≤ 4)
+    (λ _ _. omega arith) (λ _ _. omega arith) (λ _ _. omega arith) (λ _ _. omega arith) (λ _ _. omega arith)
+    (λ _ _. omega arith) (λ _ _. omega arith) (λ _ _. omega arith) (λ _ h. absurd (omega (arith, h)))
+    (λ _ h. absurd (omega (arith, h))) (λ _ _. omega arith) (λ _ _. omega arith) (λ h _. absurd (omega (arith, h)))
+    (λ h _. absurd (omega (arith, h))) (λ h _. absurd (omega (arith, h))) (λ h _. absurd (omega (arith, h)))
+
+no_3 : (f : List ℕ) (from word : ℕ) → 0 < from
+    → ((j : ℕ) → 0 < j → j < 16 → lanes_word_at f 0 / 2 ^ (30 - 2 * j) % 4 ≢ 3) → word < 16 → code_from f from word < 3
+no_3 f from word some other less = ⊎_elim
+    (λ (before : word < from). rw (lt-ltb word from before) (omega arith))
+    (λ (behind : from ≤ word). let code = other word (omega (arith, some, behind)) less in
+    rw (le-ltb word from behind) (below_3 (lanes_word_at f 0 / 2 ^ (30 - 2 * word)) code))
+    (cases_lt word from)
+  where
+    below_3 : (n : ℕ) → n % 4 ≢ 3 → n % 4 < 3
+    below_3 n h = omega (arith, h)
+
+pub no_more_than_4 : (s : Scheme) (f : List ℕ) (from : ℕ) → ((i : ℕ) → get_or f i 0 < 256) → 0 < from
+    → ((j : ℕ) → 0 < j → j < 16 → lanes_word_at f 0 / 2 ^ (30 - 2 * j) % 4 ≢ 3) → AreNarrow s f from → FitIn s f from 4
+no_more_than_4 s f from octets some other narrow = inr (λ word less.
+    let code = no_3 f from word some other less in
+    let top : lanes_word_at f word / 2 ^ 30 < 4 =
+    omega (arith, octets (4 * word + 0), octets (4 * word + 1), octets (4 * word + 2), octets (4 * word + 3)) in
+    few_by_row s (row_at f from word) (row_small f from octets word) (omega (arith, code, top)) (narrow word less))
 
 -- where the words have few differences in all, none is bad or has a wide one
 pub all_narrow : (s : Scheme) (f : List ℕ) (from : ℕ)

@@ -47,5 +47,5 @@ pub mod Lifts
 pub mod LaneDigits
 pub mod LaneWords
 pub mod FrameUnpacked
-pub mod Turns
 pub mod Below
+pub mod Summed

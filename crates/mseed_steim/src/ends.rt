@@ -131,7 +131,7 @@ fn is_frame_narrow(payload: &[u8], frame: usize) -> bool
 }
 
 /// Whether no word of a frame has the code 3, both bits of which are set.
-fn has_no_code_3(codes: u32) -> bool
+pub(crate) fn has_no_code_3(codes: u32) -> bool
     ensures { OnTrue result ((j : ℕ) → 0 < j → j < 16 → codes / 2 ^ (30 - 2 * j) % 4 ≢ 3) }
 {
     codes & (codes >> 1) & LOWER_BITS == 0

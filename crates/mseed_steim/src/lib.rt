@@ -2,6 +2,7 @@
 //! Manual 2.4, appendix B).
 #![tactic(auto)]
 
+mod adding;
 mod ahead;
 mod check;
 mod data_words;

@@ -10,6 +10,7 @@ ghost use Rattle.mseed_steim.specs.private.Lanes.{Begins, span};
 ghost use Rattle.mseed_steim.specs.private.Reads.{as_data};
 ghost use Rattle.mseed_steim.specs.private.Sums.{GoesOn, Keeps, fold, met_in};
 
+use crate::adding::{TURN, put_whole};
 use crate::data_words::{FRAME, Word, Words};
 use crate::fault::ReadFault;
 use crate::frame::{FROM_1, FROM_4};
@@ -22,9 +23,6 @@ use crate::word::read_digit;
 
 /// No sum of a frame's differences is further from 0 than this, unless one of them has 30 or 32 bits.
 const REACH: u32 = 1 << 20;
-
-/// How many differences are added up in one turn.
-const TURN: usize = 8;
 
 /// The differences of a group, one by one: as far as they are needed, and no sum leaves 32 bits.
 #[cold]
@@ -128,7 +126,6 @@ fn put_some(differences: &[i32], samples: usize, sum: Sum, out: &mut [i32]) -> S
         → take result.met out.new ++ met_in samples result more
         ≡ take sum.met out.old ++ met_in samples sum (map Ok differences.now ++ more) }
     ensures met { result.met ≡ sum.met + length differences.now }
-    ensures near { nat_abs result.last ≤ nat_abs sum.last + span differences.now }
     ensures places { length out.new ≡ samples }
 {
     let mut sum = sum;
@@ -138,31 +135,6 @@ fn put_some(differences: &[i32], samples: usize, sum: Sum, out: &mut [i32]) -> S
         sum = next;
     }
     sum
-}
-
-/// The same, so many in one turn: their number is known, so that there's no test between them.
-#[inline(always)]
-fn put_near(differences: &[i32], samples: usize, sum: Sum, out: &mut [i32]) -> Sum
-    requires places { length out.old ≡ samples }
-    requires some { 0 < sum.met }
-    requires left { sum.met + length differences.now ≤ samples }
-    requires near { nat_abs sum.last + span differences.now < 2 ^ 31 }
-    ensures goes_on { (more : List (Result ℤ BadWordAt))
-        → fold samples sum (map Ok differences.now ++ more) ≡ fold samples result more }
-    ensures kept { (more : List (Result ℤ BadWordAt))
-        → take result.met out.new ++ met_in samples result more
-        ≡ take sum.met out.old ++ met_in samples sum (map Ok differences.now ++ more) }
-    ensures met { result.met ≡ sum.met + length differences.now }
-    ensures near { nat_abs result.last ≤ nat_abs sum.last + span differences.now }
-    ensures places { length out.new ≡ samples }
-{
-    let turns = differences.len() / TURN;
-    let mut sum = sum;
-    for turn in 0..turns {
-        let some = &differences[TURN * turn..TURN * turn + TURN];
-        sum = put_some(some, samples, sum, out);
-    }
-    put_some(&differences[TURN * turns..], samples, sum, out)
 }
 
 /// The differences of a frame at once. None where its words have to be looked at: where not all are needed, none was
@@ -200,7 +172,10 @@ fn put_at_once(
     if samples - sum.met < count {
         return None;
     }
-    Some(put_near(&differences[..count], samples, sum, out))
+    if samples - sum.met < count + TURN {
+        return Some(put_some(&differences[..count], samples, sum, out));
+    }
+    Some(put_whole(differences, count, samples, sum, out))
 }
 
 /// The differences of the first frame, as far as they are needed.

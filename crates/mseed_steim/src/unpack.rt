@@ -12,8 +12,10 @@ ghost use Rattle.mseed_steim.specs.private.Digits.{digit_at, digits};
 ghost use Rattle.mseed_steim.specs.Frames.{DataWord, words_from};
 ghost use Rattle.mseed_steim.specs.private.Items.{items_of};
 ghost use Rattle.mseed_steim.specs.private.Lanes.{Begins, row_at, span, word_at, word_of, words};
-ghost use Rattle.mseed_steim.specs.private.Unpacked.{AreNarrow, Unpacks, counts_of, lanes_of, unpacked, widths_of};
+ghost use Rattle.mseed_steim.specs.private.Unpacked.{AreNarrow, FitIn, Unpacks, counts_of, lanes_of, unpacked};
+ghost use Rattle.mseed_steim.specs.private.Unpacked.{widths_of};
 
+use crate::ends::has_no_code_3;
 use crate::frame::{COUNT_ONE, COUNT_TWO};
 use crate::lanes::{Rows, planes, rows_of, sum_of, tally};
 use crate::scheme::Scheme;
@@ -140,10 +142,9 @@ fn digit_by(word: u32, lift: u32, fall: u32) -> i32
 #[inline(always)]
 fn spread(word: u32, by: &Unpacking, lanes: usize, at: usize, differences: &mut [i32; ROOM])
     requires low { by.now.fall < 32 }
-    requires enough { by.now.count ≤ lanes }
     requires few { lanes ≤ 8 }
     requires room { at + 8 ≤ 128 }
-    ensures { (width : ℕ) → Unpacks by.now.count width by.now
+    ensures { (width : ℕ) → by.now.count ≤ lanes → Unpacks by.now.count width by.now
         → take (at + by.now.count) differences.new ≡ take at differences.old ++ digits width word by.now.count }
 {
     for lane in 0..lanes {
@@ -200,6 +201,7 @@ fn words_of(frame: &[u8; 64]) -> [u32; 16]
 #[inline(always)]
 fn unpack_five(
     scheme: Scheme,
+    lanes: usize,
     bits: &[u32; 16],
     rows: &[u8; 16],
     first: usize,
@@ -207,24 +209,48 @@ fn unpack_five(
     differences: &mut [i32; ROOM],
 ) -> usize
     requires small { (word : ℕ) → slice_index rows.now word < 16 }
+    requires lanes { lanes ≤ 8 }
     requires inside { first + 5 ≤ 16 }
     requires room { met ≤ 80 }
     ensures few { result ≤ met + 40 }
     ensures unpacked { (frame : List ℕ) (from : ℕ) → bits.now ≡ map (word_at frame) words
         → ((word : ℕ) → word < 16 → slice_index rows.now word ≡ row_at frame from word)
-        → AreNarrow scheme frame from
+        → AreNarrow scheme frame from → FitIn scheme frame from lanes
         → take result differences.new ≡ take met differences.old ++ unpacked scheme frame from first 5 }
 {
     let mut met = met;
     for index in 0..5 {
         let by = unpacking_of(scheme, usize::from(rows[first + index]));
-        spread(bits[first + index], by, lanes_of(scheme), met, differences);
+        spread(bits[first + index], by, lanes, met, differences);
         met += by.count;
     }
     met
 }
 
-/// The differences of a frame's words of these rows, in their order: how many there are.
+/// The differences of the words of these rows, in their order, with so many lanes for each: how many there are.
+#[inline(always)]
+fn unpack_all(
+    scheme: Scheme,
+    lanes: usize,
+    bits: &[u32; 16],
+    rows: &[u8; 16],
+    differences: &mut [i32; ROOM],
+) -> usize
+    requires small { (word : ℕ) → slice_index rows.now word < 16 }
+    requires lanes { lanes ≤ 8 }
+    ensures few { result ≤ 120 }
+    ensures unpacked { (frame : List ℕ) (from : ℕ) → bits.now ≡ map (word_at frame) words
+        → ((word : ℕ) → word < 16 → slice_index rows.now word ≡ row_at frame from word)
+        → AreNarrow scheme frame from → FitIn scheme frame from lanes
+        → take result differences.new ≡ unpacked scheme frame from 1 15 }
+{
+    let met = unpack_five(scheme, lanes, bits, rows, 1, 0, differences);
+    let met = unpack_five(scheme, lanes, bits, rows, 6, met, differences);
+    unpack_five(scheme, lanes, bits, rows, 11, met, differences)
+}
+
+/// The differences of a frame's words of these rows, in their order: how many there are. Words without the code 3 have
+/// no more of them in Steim-2 than in Steim-1.
 #[inline(always)]
 fn unpack_words(
     scheme: Scheme,
@@ -234,13 +260,15 @@ fn unpack_words(
 ) -> usize
     requires small { (word : ℕ) → slice_index rows.now word < 16 }
     ensures few { result ≤ 120 }
-    ensures unpacked { (from : ℕ) → ((word : ℕ) → word < 16 → slice_index rows.now word ≡ row_at frame.now from word)
+    ensures unpacked { (from : ℕ) → 0 < from
+        → ((word : ℕ) → word < 16 → slice_index rows.now word ≡ row_at frame.now from word)
         → AreNarrow scheme frame.now from → take result differences.new ≡ unpacked scheme frame.now from 1 15 }
 {
     let bits = words_of(frame);
-    let met = unpack_five(scheme, &bits, rows, 1, 0, differences);
-    let met = unpack_five(scheme, &bits, rows, 6, met, differences);
-    unpack_five(scheme, &bits, rows, 11, met, differences)
+    if has_no_code_3(bits[0]) {
+        return unpack_all(scheme, LANES_ONE, &bits, rows, differences);
+    }
+    unpack_all(scheme, lanes_of(scheme), &bits, rows, differences)
 }
 
 /// The differences of a frame's words from word 1 or word 4 on, in their order: how many there are. None where a word

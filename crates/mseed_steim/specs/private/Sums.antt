@@ -35,6 +35,11 @@ met_in n sum (Ok d ∷ more) =
     else if fits (sum.last +ℤ d) then (sum.last +ℤ d) ∷ met_in n (one_more sum (sum.last +ℤ d)) more
     else []
 
+-- the sums of some differences, each with those before it
+abbrev pub sums : ℤ → List ℤ → List ℤ
+sums last [] = []
+sums last (d ∷ ds) = (last +ℤ d) ∷ sums (last +ℤ d) ds
+
 -- what comes first in place of one of n differences, where any does
 unfoldable pub lack : ℕ → ℕ → List (Result ℤ BadWordAt) → Option ReadFault
 lack n met [] = if met == n then None else Some (Short met)

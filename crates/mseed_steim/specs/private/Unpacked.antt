@@ -1,5 +1,5 @@
 -- The differences of a frame's words, unpacked word by word.
-use Rattle.std.specs.Prelude.{◌≡◌, ℕ, zero, suc, ◌+◌, ◌-◌, ◌*◌, ◌^◌, ◌<◌, ◌≤◌, List, [], ◌++◌, ℤ, slice_index}
+use Rattle.std.specs.Prelude.{◌≡◌, ◌⊎◌, ℕ, zero, suc, ◌+◌, ◌-◌, ◌*◌, ◌^◌, ◌<◌, ◌≤◌, List, [], ◌++◌, ℤ, slice_index}
 use Rattle.std.specs.Prelude.{slice_index_or}
 use Rattle.mseed_steim.specs.declared.scheme.Scheme.{Scheme}
 use Rattle.mseed_steim.specs.declared.scheme.Scheme.TheVariants.{One, Two}
@@ -33,6 +33,12 @@ pub record Unpacks (count width : ℕ) (by : Unpacking) : Type 0 where
 -- no word is bad or has a difference of 30 or 32 bits
 abbrev pub AreNarrow : Scheme → List ℕ → ℕ → Type 0
 AreNarrow scheme frame from = (word : ℕ) → word < 16 → slice_index (counts_of scheme) (row_at frame from word) < 128
+
+-- no word has more differences than lanes are taken for it
+abbrev pub FitIn : Scheme → List ℕ → ℕ → ℕ → Type 0
+FitIn scheme frame from lanes =
+    (lanes_of scheme ≤ lanes)
+    ⊎ ((word : ℕ) → word < 16 → slice_index (counts_of scheme) (row_at frame from word) ≤ lanes)
 
 -- the differences of a word by its row
 abbrev pub differences_at : Scheme → List ℕ → ℕ → ℕ → List ℤ

@@ -27,8 +27,8 @@ loop-lane-preserved c =
     }
 
 pub returns : goal.returns
-returns c = λ width u.
-    let over : c.args.by.now.count ≤ c.loop-lane.lane = omega (arith, c.requires.enough, c.loop-lane-test.false) in
+returns c = λ width enough u.
+    let over : c.args.by.now.count ≤ c.loop-lane.lane = omega (arith, enough, c.loop-lane-test.false) in
     let all : min c.loop-lane.lane c.args.by.now.count ≡ c.args.by.now.count = min-eq_right over in
     let none = digits_over width c.args.word c.args.by.now.count c.loop-lane.lane over in
     rw (all, none, append-nil) at (c.loop-lane.invariant.so_far width u)

@@ -3,7 +3,7 @@ use Rattle.std.proofs.Common.{append_assoc}
 use Rattle.mseed_steim.specs.private.Digits.{digits}
 use Rattle.mseed_steim.specs.private.Lanes.{row_at, word_at}
 use Rattle.mseed_steim.specs.private.Unpacked.{lanes_of, differences_at, unpacked, widths_of}
-use Rattle.mseed_steim.proofs.FrameUnpacked.{by_own_count, lanes_few, unpacked_more}
+use Rattle.mseed_steim.proofs.FrameUnpacked.{by_own_count, lanes_enough, lanes_few, unpacked_more}
 use Rattle.mseed_steim.proofs.LaneDigits.{at_word}
 use Rattle.mseed_steim.proofs.unpack.unpack_five.Goals as goal
 
@@ -12,7 +12,7 @@ unfolding unpacked
 loop-index-init c = record {
   long = c.told-differences;
   few = omega arith;
-  so_far = λ frame from ws rows narrow. rw append-nil refl;
+  so_far = λ frame from ws rows narrow fit. rw append-nil refl;
 }
 
 pub loop-index-preserved : goal.loop-index-preserved
@@ -28,7 +28,7 @@ loop-index-preserved c =
     record {
       long = c.spread.array_long;
       few = omega (arith, most, enough, c.loop-index.invariant.few);
-      so_far = λ f from ws rows narrow.
+      so_far = λ f from ws rows narrow fit.
           let row : c.from.result ≡ row_at f from place = c.from.ensures ∙ rows place inside in
           let known = rw row at c.unpacking_of-by.ensures.row in
           let u = known (narrow place inside) in
@@ -38,9 +38,10 @@ loop-index-preserved c =
           ap (λ (ws : List ℕ). get_or ws place 0) ws ∙ at_word (word_at f) place inside in
           let same : digits width bits by.count ≡ differences_at s f from place =
           rw (word, u.as_many) refl in
-          c.spread.ensures width (by_own_count _ width by u)
+          c.spread.ensures width (lanes_enough s f from c.args.lanes place by inside enough u.as_many fit)
+          (by_own_count _ width by u)
           ∙ ap (λ (xs : List ℤ). xs ++ digits width bits by.count)
-          (c.loop-index.invariant.so_far f from ws rows narrow)
+          (c.loop-index.invariant.so_far f from ws rows narrow fit)
           ∙ append_assoc prefix (unpacked s f from c.args.first index) (digits width bits by.count)
           ∙ ap (λ (xs : List ℤ). prefix ++ (unpacked s f from c.args.first index ++ xs)) same
           ∙ ap (λ (xs : List ℤ). prefix ++ xs) (sym (unpacked_more s f from c.args.first index));

@@ -1,14 +1,17 @@
-use Rattle.std.proofs.Common.{◌++◌, ◌∙◌, List, ℤ, ap}
-use Rattle.mseed_steim.specs.private.Unpacked.{unpacked}
-use Rattle.mseed_steim.proofs.FrameUnpacked.{unpacked_fives}
+use Rattle.std.proofs.Common.{refl, inl, arith}
+use Rattle.mseed_steim.specs.private.Lanes.{words}
+use Rattle.std.proofs.lemmas.Bool.{OnTrue_at}
+use Rattle.mseed_steim.proofs.FrameUnpacked.{no_more_than_4}
 use Rattle.mseed_steim.proofs.unpack.unpack_words.Goals as goal
 
-pub returns-clause-unpacked : goal.returns-clause-unpacked
-returns-clause-unpacked c = λ from rows narrow.
-    let s = c.args.scheme in
-    let f = c.args.frame.now in
+pub returns-then-has_no_code_3-clause-unpacked : goal.returns-then-has_no_code_3-clause-unpacked
+unfolding words
+returns-then-has_no_code_3-clause-unpacked c = λ from some rows narrow.
     let bits = c.words_of-bits.ensures in
-    c.unpack_five.ensures.unpacked f from bits rows narrow
-    ∙ ap (λ (xs : List ℤ). xs ++ unpacked s f from 11 5) (c.unpack_five-met-2.ensures.unpacked f from bits rows narrow
-    ∙ ap (λ (xs : List ℤ). xs ++ unpacked s f from 6 5) (c.unpack_five-met.ensures.unpacked f from bits rows narrow))
-    ∙ unpacked_fives s f from
+    let other = rw bits at (OnTrue_at c.if-has_no_code_3.true c.has_no_code_3.ensures) in
+    c.unpack_all.ensures.unpacked c.args.frame.now from bits rows narrow
+    (no_more_than_4 c.args.scheme c.args.frame.now from c.fits-frame some other narrow)
+
+pub returns-clause-unpacked : goal.returns-clause-unpacked
+returns-clause-unpacked c = λ from some rows narrow.
+    c.unpack_all-2.ensures.unpacked c.args.frame.now from c.words_of-bits.ensures rows narrow (inl (omega arith))
