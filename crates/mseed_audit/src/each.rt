@@ -5,8 +5,8 @@ ghost use Rattle.mseed_stream.specs.Device.{nothing_read};
 ghost use Rattle.mseed_audit.specs.Each.{IsEachOutcome, IsTelling};
 ghost use Rattle.mseed_audit.specs.private.Gathered.{IsPrefixWritten};
 
-use crate::summary::{Lines, Step, Summary, add_next, count_broken};
 use crate::audits::{Audit, Memory};
+use crate::summary::{Lines, Step, Summary, add_next, count_broken};
 use crate::text::push_audit;
 use mseed_stream::{Cutter, Sink, Source, StreamFault, write_all_of};
 use std::alloc::Allocator;

@@ -16,10 +16,9 @@ ghost use Rattle.mseed_record.specs.Scan.{Decides, HasNoRecord, Needs};
 use crate::chain::{blockettes_of, first_1000_of};
 use crate::codes::{Codes, codes_at};
 use crate::fault::{DataOffset, ViewFault};
-use crate::framer::Scan;
-use crate::leap::Leap;
-use crate::framer::frame;
+use crate::framer::{Scan, frame};
 use crate::header::{HEADER, i8_at, i16_at, i32_at, order_of, read_time};
+use crate::leap::Leap;
 use mseed_time::{Micros, NoRate, Order, Rate, TimeFault};
 
 /// The activity flag that says that the time correction has been applied to the start.

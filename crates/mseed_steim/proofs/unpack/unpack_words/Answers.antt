@@ -1,4 +1,4 @@
-use Rattle.std.proofs.Common.{refl, inl, arith}
+use Rattle.std.proofs.Common.{inl, arith}
 use Rattle.mseed_steim.specs.private.Lanes.{words}
 use Rattle.std.proofs.lemmas.Bool.{OnTrue_at}
 use Rattle.mseed_steim.proofs.FrameUnpacked.{no_more_than_4}
