@@ -1,6 +1,7 @@
 -- What was written when an archive was packed anew reads back.
 use Rattle.std.specs.Prelude.{⊤}
-use Rattle.std.proofs.Common.{◌≡◌, ◌≢◌, ◌↔◌, ℕ, ◌≤◌, List, [], ◌∷◌, ◌++◌, length, take, length-take, Option, IsTrue, Result}
+use Rattle.std.proofs.Common.{◌≡◌, ◌≢◌, ◌↔◌, ℕ, ◌≤◌, List, [], ◌∷◌, ◌++◌, length, take, length-take, Option, IsTrue}
+use Rattle.std.proofs.Common.{Result}
 use Rattle.std.proofs.Common.{Ok, map, refl, sym, ap, subst, ◌∙◌, ⊎_elim, append_assoc, append-nil, arith}
 use Rattle.std.specs.List.{AllByRecursion, concat}
 use Rattle.std.specs.Map.{keys_of}

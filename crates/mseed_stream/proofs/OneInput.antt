@@ -125,8 +125,8 @@ none_behind (Some (Read n)) offset h is = none_short (read_from offset h) is.0.3
 none_behind (Some (Turns n)) offset h is = none_short (read_from offset h) is.0.3
 none_behind (Some Memory) offset h is = absurd (is.1 refl)
 
-pub archive_is : (offset : ℕ) (views : List View) (end : Option StreamFault) (h : BytesRead) → AreViews h.bytes offset views
-    → IsEnd end offset h → IsArchive h.bytes (bytes_in views) (drop offset h.bytes)
+pub archive_is : (offset : ℕ) (views : List View) (end : Option StreamFault) (h : BytesRead)
+    → AreViews h.bytes offset views → IsEnd end offset h → IsArchive h.bytes (bytes_in views) (drop offset h.bytes)
 archive_is offset views end h are is = record {
   joined = sym (take-append-drop offset h.bytes) ∙ ap (λ (xs : List ℕ). xs ++ drop offset h.bytes) are.records.joined;
   each = are.records.each;

@@ -131,7 +131,8 @@ module _ (setup : Setup) (differ : Differ setup.places.items) (codes : (k : ℕ)
         to_server = bytes;
         to_client = [];
       } in
-      let counts : Counts places (record { talk = record talk { stage = Station 0 }; kept = [] }) (new_link bytes) link =
+      let counts : Counts places (record { talk = record talk { stage = Station 0 }; kept = [] }) (new_link bytes)
+      link =
       record {
         session = state;
         first_sent = refl;

@@ -19,7 +19,8 @@ is_number n h = (omega (arith, length-hexadecimal 6 n), omega (arith, length-hex
 two_words : (keyword : List ℕ) (n : ℕ) → 1 ≤ length keyword → Lacks 32 keyword
     → words (keyword ++ 32 ∷ hexadecimal 6 n) ≡ keyword ∷ hexadecimal 6 n ∷ []
 two_words keyword n h lacks = words_then keyword (hexadecimal 6 n) h lacks
-    ∙ ap (λ ws. keyword ∷ ws) (words_last (hexadecimal 6 n) (omega (arith, length-hexadecimal 6 n)) (digits_lack 32 (omega arith) 6 n))
+    ∙ ap (λ ws. keyword ∷ ws) (words_last (hexadecimal 6 n) (omega (arith, length-hexadecimal 6 n))
+    (digits_lack 32 (omega arith) 6 n))
 
 pub data_written : (number : Option ℕ) → IsShort number → IsCommand (codes "DATA" ++ number_bytes number) (Data number)
 data_written None h = subst (λ ws. IsRow (Data None) (folded ws)) (sym (words_last (codes "DATA") (omega arith) refl))

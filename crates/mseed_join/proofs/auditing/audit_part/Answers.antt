@@ -38,4 +38,7 @@ returns-in-Ok-write_all_of-clause-writes g c =
 pub returns-clause-writes : goal.returns-clause-writes
 returns-clause-writes g c =
     let write = c.in-Err-write_all_of.ensures in
-    record { contents = (take c.in-Err-write_all_of.taken c.deref.result.now, write.err, write.known); beside = write.beside }
+    record {
+      contents = (take c.in-Err-write_all_of.taken c.deref.result.now, write.err, write.known);
+      beside = write.beside;
+    }

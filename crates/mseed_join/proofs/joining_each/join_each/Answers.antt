@@ -38,4 +38,7 @@ pub returns-clause-writes : goal.returns-clause-writes
 returns-clause-writes g c =
     let write = c.in-Err-write_all_of.ensures in
     writes_on _ _ _ _ _ _ _ _ _ c.in_ok-part.ensures.writes
-    (record { contents = (take c.in-Err-write_all_of.field-0 c.deref.result.now, write.err, write.known); beside = write.beside })
+    (record {
+      contents = (take c.in-Err-write_all_of.field-0 c.deref.result.now, write.err, write.known);
+      beside = write.beside;
+    })

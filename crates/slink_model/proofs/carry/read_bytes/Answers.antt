@@ -39,6 +39,7 @@ returns-then-used-eq0-clause-reads c =
     c.loop-offset.to_server.items)
     (c.read_piece-used.ensures.none c.if-used-eq0.true).1 in
     subst (λ (x : Taking). Reads c.args.first_sent.now
-    (with_client c.args.client.now (lists_of c.args.held.now) c.args.start.now.items c.args.to_server.now.items) c.args.bytes.now x) (sym same)
+    (with_client c.args.client.now (lists_of c.args.held.now) c.args.start.now.items c.args.to_server.now.items)
+    c.args.bytes.now x) (sym same)
     (c.loop-offset.invariant.rest t (rest_lost c.args.first_sent.now t (drop c.loop-offset.offset c.args.bytes.now)
     (c.read_piece-used.ensures.none c.if-used-eq0.true).0))

@@ -1,4 +1,5 @@
-use Rattle.std.proofs.Common.{inl, inr, refl, ◌≡◌, ℕ, ◌+◌, ◌^◌, ◌<◌, ◌≤◌, List, arith, ap, sym, subst, drop, get_or, length}
+use Rattle.std.proofs.Common.{inl, inr, refl, ◌≡◌, ℕ, ◌+◌, ◌^◌, ◌<◌, ◌≤◌, List, arith, ap, sym, subst, drop, get_or}
+use Rattle.std.proofs.Common.{length}
 use Rattle.std.proofs.Common.{[]}
 use Rattle.std.proofs.lemmas.List.{drop_all}
 use Rattle.slink_model.specs.declared.world.Step.{Step}

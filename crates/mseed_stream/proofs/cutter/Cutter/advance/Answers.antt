@@ -61,8 +61,10 @@ returns-clause-answer g c =
     let within : offset ≤ length old.bytes = omega (arith, c.requires.read.reported) in
     let same_offset : after.offset ≡ offset = cut.stays.0 ∙ ap (λ (s : Standing). s.offset) c.forget.ensures in
     let end : c.settle.result ≡ Ok None → IsCleanEnd offset new = λ e.
-    let nothing = cut.ended (nothing_found c.cut-found.result (length after.prefix) (sym c.settle.ensures.answer ∙ e)) in (
-      subst (λ (n : ℕ). IsEndOf (read_from n new) clean) same_offset (clean_end new after cut.read cut.stays.1 nothing.0),
+    let nothing = cut.ended (nothing_found c.cut-found.result (length after.prefix) (sym c.settle.ensures.answer
+    ∙ e)) in (
+      subst (λ (n : ℕ). IsEndOf (read_from n new) clean) same_offset
+          (clean_end new after cut.read cut.stays.1 nothing.0),
       nothing.1,
     ) in
     let reported : after.prefix ≡ read_from offset new = sym (reported_is new after cut.read cut.stays.1)
