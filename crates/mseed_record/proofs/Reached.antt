@@ -55,14 +55,14 @@ reached_next r prefix next h e is small =
     }
 
 -- what holds of a header holds of all bytes that begin with it
-version3_more : (prefix more : List ℕ) → 3 ≤ length prefix → is_version3 (prefix ++ more) ≡ is_version3 prefix
+pub version3_more : (prefix more : List ℕ) → 3 ≤ length prefix → is_version3 (prefix ++ more) ≡ is_version3 prefix
 version3_more [] more h = absurd (omega arith)
 version3_more (a ∷ []) more h = absurd (omega arith)
 version3_more (a ∷ b ∷ []) more h = absurd (omega arith)
 version3_more (a ∷ b ∷ c ∷ rest) more h = refl
 
 -- a blockette that is passed is passed in all bytes that begin so
-none_more : (order : Order) (prefix more : List ℕ) (low o : ℕ) → 0 < low → at_offset order prefix low o ≡ None
+pub none_more : (order : Order) (prefix more : List ℕ) (low o : ℕ) → 0 < low → at_offset order prefix low o ≡ None
     → at_offset order (prefix ++ more) low o ≡ None
 none_more order prefix more low o some e =
     let within = none_within order prefix low o e in

@@ -77,7 +77,7 @@ impl Framer {
 }
 
 /// A record that begins the bytes: its length, its byte order, and where its first blockette 1000 stands.
-#[derive(Clone, Copy, Debug)]
+#[derive(Clone, Copy)]
 pub(crate) struct Framed {
     pub order: Order,
     pub size: usize,

@@ -35,15 +35,23 @@ pub(crate) fn i8_at(bytes: &[u8], offset: usize) -> i8
     bytes[offset].cast_signed()
 }
 
+/// The unsigned 32-bit number at an offset.
+fn u32_at(bytes: &[u8], offset: usize, order: Order) -> u32
+    requires { offset + 4 ≤ length bytes.now }
+    ensures { result ≡ number_at order 4 offset bytes.now }
+{
+    match order {
+        Order::Big => BigEndian::read_u32(&bytes[offset..]),
+        Order::Little => LittleEndian::read_u32(&bytes[offset..]),
+    }
+}
+
 /// The signed 32-bit number at an offset.
 pub(crate) fn i32_at(bytes: &[u8], offset: usize, order: Order) -> i32
     requires { offset + 4 ≤ length bytes.now }
     ensures { result ≡ twos_complement 4 (number_at order 4 offset bytes.now) }
 {
-    match order {
-        Order::Big => BigEndian::read_i32(&bytes[offset..]),
-        Order::Little => LittleEndian::read_i32(&bytes[offset..]),
-    }
+    u32_at(bytes, offset, order).cast_signed()
 }
 
 /// The signed 16-bit number at an offset.
@@ -51,10 +59,7 @@ pub(crate) fn i16_at(bytes: &[u8], offset: usize, order: Order) -> i16
     requires { offset + 2 ≤ length bytes.now }
     ensures { result ≡ twos_complement 2 (number_at order 2 offset bytes.now) }
 {
-    match order {
-        Order::Big => BigEndian::read_i16(&bytes[offset..]),
-        Order::Little => LittleEndian::read_i16(&bytes[offset..]),
-    }
+    order.u16_at(bytes, offset).cast_signed()
 }
 
 /// Whether the bytes before the station are those of a header.
