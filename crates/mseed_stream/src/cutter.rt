@@ -29,7 +29,7 @@ const TURNS: u64 = 1 << 40;
 const HEADER: usize = 48;
 
 /// How a cutter ended, for ever.
-#[derive(Debug, Clone, Copy)]
+#[derive(Clone, Copy)]
 pub(crate) enum Ending {
     /// The input ended where a record ended.
     Clean,
