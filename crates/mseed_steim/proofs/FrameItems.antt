@@ -33,79 +33,28 @@ abbrev Row : Scheme → List ℕ → List ℕ → ℕ → ℕ → ℕ → Type 0
 Row s counts widths c word t = word / 2 ^ 30 ≡ t → get_or counts (4 * c + t) 0 < 128
     → differences_of s c word ≡ Some (digits (get_or widths (4 * c + t) 0) word (get_or counts (4 * c + t) 0))
 
-none_row : (s : Scheme) (counts widths : List ℕ) (word t : ℕ) → get_or counts (4 * 0 + t) 0 ≡ 0
-    → Row s counts widths 0 word t
-unfolding differences_of digits
-none_row s counts widths word t z e few = rw z refl
-
-bytes_two : (word t : ℕ) → get_or counts_two (4 * 1 + t) 0 ≡ 4 → get_or widths_two (4 * 1 + t) 0 ≡ 8
-    → Row Two counts_two widths_two 1 word t
-unfolding differences_of
-bytes_two word t c w e few = rw (c, w) refl
-
-row_two_0 : (word t : ℕ) → t < 4 → Row Two counts_two widths_two 0 word t
-unfolding counts_two
-row_two_0 word = four (Row Two counts_two widths_two 0 word)
-    (none_row Two counts_two widths_two word 0 refl) (none_row Two counts_two widths_two word 1 refl)
-    (none_row Two counts_two widths_two word 2 refl) (none_row Two counts_two widths_two word 3 refl)
-
-row_two_1 : (word t : ℕ) → t < 4 → Row Two counts_two widths_two 1 word t
-unfolding counts_two widths_two
-row_two_1 word = four (Row Two counts_two widths_two 1 word) (bytes_two word 0 refl refl)
-    (bytes_two word 1 refl refl) (bytes_two word 2 refl refl) (bytes_two word 3 refl refl)
-
-row_two_2 : (word t : ℕ) → t < 4 → Row Two counts_two widths_two 2 word t
-unfolding counts_two widths_two differences_of
-row_two_2 word = four (Row Two counts_two widths_two 2 word)
-    (λ e few. absurd (omega (arith, few))) (λ e few. absurd (omega (arith, few))) (λ e few. rw e refl)
-    (λ e few. rw e refl)
-
-row_two_3 : (word t : ℕ) → t < 4 → Row Two counts_two widths_two 3 word t
-unfolding counts_two widths_two differences_of
-row_two_3 word = four (Row Two counts_two widths_two 3 word)
-    (λ e few. rw e refl) (λ e few. rw e refl) (λ e few. rw e refl) (λ e few. absurd (omega (arith, few)))
-
 pub rows_two : Rows Two counts_two widths_two
-rows_two c word h small few =
-    four (λ n. (t : ℕ) → t < 4 → Row Two counts_two widths_two n word t) (row_two_0 word) (row_two_1 word)
-    (row_two_2 word) (row_two_3 word) c h (word / 2 ^ 30) (omega arith) refl few
-
-bytes_one : (word t : ℕ) → get_or counts_one (4 * 1 + t) 0 ≡ 4 → get_or widths_one (4 * 1 + t) 0 ≡ 8
-    → Row One counts_one widths_one 1 word t
-unfolding differences_of
-bytes_one word t c w e few = rw (c, w) refl
-
-pairs_one : (word t : ℕ) → get_or counts_one (4 * 2 + t) 0 ≡ 2 → get_or widths_one (4 * 2 + t) 0 ≡ 16
-    → Row One counts_one widths_one 2 word t
-unfolding differences_of
-pairs_one word t c w e few = rw (c, w) refl
-
-row_one_0 : (word t : ℕ) → t < 4 → Row One counts_one widths_one 0 word t
-unfolding counts_one
-row_one_0 word = four (Row One counts_one widths_one 0 word)
-    (none_row One counts_one widths_one word 0 refl) (none_row One counts_one widths_one word 1 refl)
-    (none_row One counts_one widths_one word 2 refl) (none_row One counts_one widths_one word 3 refl)
-
-row_one_1 : (word t : ℕ) → t < 4 → Row One counts_one widths_one 1 word t
-unfolding counts_one widths_one
-row_one_1 word = four (Row One counts_one widths_one 1 word) (bytes_one word 0 refl refl)
-    (bytes_one word 1 refl refl) (bytes_one word 2 refl refl) (bytes_one word 3 refl refl)
-
-row_one_2 : (word t : ℕ) → t < 4 → Row One counts_one widths_one 2 word t
-unfolding counts_one widths_one
-row_one_2 word = four (Row One counts_one widths_one 2 word) (pairs_one word 0 refl refl)
-    (pairs_one word 1 refl refl) (pairs_one word 2 refl refl) (pairs_one word 3 refl refl)
-
-row_one_3 : (word t : ℕ) → t < 4 → Row One counts_one widths_one 3 word t
-unfolding counts_one
-row_one_3 word = four (Row One counts_one widths_one 3 word)
-    (λ e few. absurd (omega (arith, few))) (λ e few. absurd (omega (arith, few)))
-    (λ e few. absurd (omega (arith, few))) (λ e few. absurd (omega (arith, few)))
+unfolding counts_two widths_two differences_of digits
+rows_two c word h small few = four (λ n. (t : ℕ) → t < 4 → Row Two counts_two widths_two n word t)
+    (four (Row Two counts_two widths_two 0 word) (λ _ _. refl) (λ _ _. refl) (λ _ _. refl) (λ _ _. refl))
+    (four (Row Two counts_two widths_two 1 word) (λ _ _. refl) (λ _ _. refl) (λ _ _. refl) (λ _ _. refl))
+    (four (Row Two counts_two widths_two 2 word)
+    (λ _ few. absurd (omega (arith, few))) (λ _ few. absurd (omega (arith, few)))
+    (λ e _. rw e refl) (λ e _. rw e refl))
+    (four (Row Two counts_two widths_two 3 word) (λ e _. rw e refl) (λ e _. rw e refl)
+    (λ e _. rw e refl) (λ _ few. absurd (omega (arith, few))))
+    c h (word / 2 ^ 30) (omega arith) refl few
 
 pub rows_one : Rows One counts_one widths_one
-rows_one c word h small few =
-    four (λ n. (t : ℕ) → t < 4 → Row One counts_one widths_one n word t) (row_one_0 word) (row_one_1 word)
-    (row_one_2 word) (row_one_3 word) c h (word / 2 ^ 30) (omega arith) refl few
+unfolding counts_one widths_one differences_of digits
+rows_one c word h small few = four (λ n. (t : ℕ) → t < 4 → Row One counts_one widths_one n word t)
+    (four (Row One counts_one widths_one 0 word) (λ _ _. refl) (λ _ _. refl) (λ _ _. refl) (λ _ _. refl))
+    (four (Row One counts_one widths_one 1 word) (λ _ _. refl) (λ _ _. refl) (λ _ _. refl) (λ _ _. refl))
+    (four (Row One counts_one widths_one 2 word) (λ _ _. refl) (λ _ _. refl) (λ _ _. refl) (λ _ _. refl))
+    (four (Row One counts_one widths_one 3 word)
+    (λ _ few. absurd (omega (arith, few))) (λ _ few. absurd (omega (arith, few)))
+    (λ _ few. absurd (omega (arith, few))) (λ _ few. absurd (omega (arith, few))))
+    c h (word / 2 ^ 30) (omega arith) refl few
 
 -- ---- the bytes of a frame of a payload
 byte_is : (p f : List ℕ) (k i n : ℕ) → f ≡ take 64 (drop (64 * k) p) → i < 64 → n ≡ 64 * k + i

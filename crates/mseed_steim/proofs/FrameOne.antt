@@ -3,18 +3,18 @@ use Rattle.std.proofs.Common.{to_z, w32, negsuc, ◌≡◌, ℕ, suc, ◌+◌, �
 use Rattle.std.proofs.Common.{map, get_or, bit_and, bit_xor, refl, sym, ap, subst, ◌∙◌, arith, ℤ, pos, ◌+ℤ◌}
 use Rattle.std.proofs.lemmas.Int.{ints, to_z_pos}
 use lib.Lanes.{sum_l}
-use Rattle.mseed_steim.specs.private.Digits.{signed, digits}
+use Rattle.mseed_steim.specs.private.Digits.{digits}
 use Rattle.mseed_steim.specs.private.Lanes.{total, word_of}
 use Rattle.mseed_steim.specs.private.Lanes.{words, sum_z, byte_at, row_at, low_one, high_one, flipped, flipped_low}
 use Rattle.mseed_steim.specs.private.Lanes.{least_one, counts_one, widths_one, moved_one}
 use Rattle.mseed_steim.proofs.Below.{sixteen}
-use Rattle.mseed_steim.proofs.FrameBytes.{same, four_is, four_p0}
 use Rattle.mseed_steim.proofs.LaneSums.{long_words}
 use Rattle.mseed_steim.proofs.FrameWords.{gone}
 use Rattle.mseed_steim.proofs.FrameSums.{row_small}
 use Rattle.std.proofs.Math.Facts.{to_z-neg}
-use Rattle.std.proofs.lemmas.Bool.{cases_lt, lt-ltb, le-ltb}
+use Rattle.std.proofs.lemmas.Bool.{cases_lt}
 use Rattle.std.proofs.Common.{⊎_elim}
+use Rattle.mseed_steim.proofs.FrameBytes.{four_is, part, raised_total, same}
 
 -- the parts of a word
 abbrev pub whole_one : ℕ → ℕ → ℕ → ℕ → ℕ → ℕ
@@ -35,40 +35,12 @@ plain = same (λ x. bit_and (bit_xor x 0) 255 * 1) (λ x. x) tt
 top_turned : (x : ℕ) → x < 256 → bit_and (bit_xor x 128) 255 * 1 ≡ (x + 128) % 256
 top_turned = same (λ x. bit_and (bit_xor x 128) 255 * 1) (λ x. (x + 128) % 256) tt
 
-raised16 : (x : ℕ) → x < 65536 → signed 16 x +ℤ pos 32768 ≡ pos ((x + 32768) % 65536)
-raised16 x lt = ⊎_elim
-    (λ (low : x < 32768). rw (lt-ltb x 32768 low) (omega (arith, ints)))
-    (λ (high : 32768 ≤ x). rw (le-ltb x 32768 high) (omega (arith, ints)))
-    (cases_lt x 32768)
-
-pair_1 : (a b c d : ℕ) → a < 256 → b < 256 → c < 256 → d < 256 → word_of a b c d / 65536 % 65536 ≡ a * 256 + b
-pair_1 a b c d A B C D = omega arith
-
-pair_0 : (a b c d : ℕ) → a < 256 → b < 256 → c < 256 → d < 256 → word_of a b c d / 1 % 65536 ≡ c * 256 + d
-pair_0 a b c d A B C D = omega arith
-
-both_raised : (x y : ℕ) → x < 65536 → y < 65536
-    → pos ((x + 32768) % 65536 + (y + 32768) % 65536) ≡ (signed 16 x +ℤ (signed 16 y +ℤ pos 0)) +ℤ pos 65536
-both_raised x y X Y = go (signed 16 x) (signed 16 y) (raised16 x X) (raised16 y Y)
-  where
-    go : (s t : ℤ) → s +ℤ pos 32768 ≡ pos ((x + 32768) % 65536) → t +ℤ pos 32768 ≡ pos ((y + 32768) % 65536)
-        → pos ((x + 32768) % 65536 + (y + 32768) % 65536) ≡ (s +ℤ (t +ℤ pos 0)) +ℤ pos 65536
-    go s t e f = omega (arith, ints, e, f)
-
-wide_parts : (a b c d : ℕ) → a < 256 → b < 256 → c < 256 → d < 256
-    → b + d + 256 * ((a + 128) % 256 + (c + 128) % 256) ≡ (a * 256 + b + 32768) % 65536 + (c * 256 + d + 32768) % 65536
-wide_parts a b c d A B C D =
-    let e : (a * 256 + b + 32768) % 65536 ≡ 256 * ((a + 128) % 256) + b = omega arith in
-    let f : (c * 256 + d + 32768) % 65536 ≡ 256 * ((c + 128) % 256) + d = omega arith in
-    omega (arith, e, f)
-
 wide_is : (a b c d : ℕ) → a < 256 → b < 256 → c < 256 → d < 256
     → pos (b + d + 256 * ((a + 128) % 256 + (c + 128) % 256)) ≡ total (digits 16 (word_of a b c d) 2) +ℤ pos 65536
-unfolding digits
 wide_is a b c d A B C D =
-    ap pos (wide_parts a b c d A B C D)
-    ∙ both_raised (a * 256 + b) (c * 256 + d) (omega arith) (omega arith)
-    ∙ sym (rw (pair_1 a b c d A B C D, pair_0 a b c d A B C D) refl)
+    let digit_1 : (word_of a b c d / 65536 % 65536 + 32768) % 65536 ≡ 256 * ((a + 128) % 256) + b = omega arith in
+    let digit_0 : (word_of a b c d / 1 % 65536 + 32768) % 65536 ≡ 256 * ((c + 128) % 256) + d = omega arith in
+    ap pos (omega (arith, digit_1, digit_0)) ∙ raised_total 16 (word_of a b c d) (omega arith) 2
 
 scaled_one : (row a b c d k : ℕ) → whole_one row a b c d ≡ k → k ≤ 131072
     → pos k ≡ total (digits (get_or widths_one row 0) (word_of a b c d) (get_or counts_one row 0)) +ℤ pos
@@ -95,10 +67,10 @@ four_one : (a b c d : ℕ) → a < 256 → b < 256 → c < 256 → d < 256
     ≡ 1 * ((a / 1 + 128) % 256) + 1 * ((b / 1 + 128) % 256) + 1 * ((c / 1 + 128) % 256) + 1 * ((d / 1 + 128) % 256)
 four_one a b c d A B C D = omega (
   arith,
-  four_p0 a A,
-  four_p0 b B,
-  four_p0 c C,
-  four_p0 d D,
+  part 128 255 1 1 1 128 256 tt a A,
+  part 128 255 1 1 1 128 256 tt b B,
+  part 128 255 1 1 1 128 256 tt c C,
+  part 128 255 1 1 1 128 256 tt d D,
   gone (bit_xor a 128) 1,
   gone (bit_xor c 128) 1,
 )
@@ -117,100 +89,21 @@ wide_one a b c d A B C D = omega (
   gone (bit_xor c 128) 1,
 )
 
-one_0 : (a b c d : ℕ) → a < 256 → b < 256 → c < 256 → d < 256 → Tells_one 0 a b c d
-unfolding low_one high_one flipped flipped_low least_one counts_one widths_one digits
-one_0 a b c d A B C D = λ few. scaled_one 0 a b c d 0 (none_one a b c d A B C D) (omega arith) refl (omega arith)
-
-one_1 : (a b c d : ℕ) → a < 256 → b < 256 → c < 256 → d < 256 → Tells_one 1 a b c d
-unfolding low_one high_one flipped flipped_low least_one counts_one widths_one digits
-one_1 a b c d A B C D = λ few. scaled_one 1 a b c d 0 (none_one a b c d A B C D) (omega arith) refl (omega arith)
-
-one_2 : (a b c d : ℕ) → a < 256 → b < 256 → c < 256 → d < 256 → Tells_one 2 a b c d
-unfolding low_one high_one flipped flipped_low least_one counts_one widths_one digits
-one_2 a b c d A B C D = λ few. scaled_one 2 a b c d 0 (none_one a b c d A B C D) (omega arith) refl (omega arith)
-
-one_3 : (a b c d : ℕ) → a < 256 → b < 256 → c < 256 → d < 256 → Tells_one 3 a b c d
-unfolding low_one high_one flipped flipped_low least_one counts_one widths_one digits
-one_3 a b c d A B C D = λ few. scaled_one 3 a b c d 0 (none_one a b c d A B C D) (omega arith) refl (omega arith)
-
-one_4 : (a b c d : ℕ) → a < 256 → b < 256 → c < 256 → d < 256 → Tells_one 4 a b c d
-unfolding low_one high_one flipped flipped_low least_one counts_one widths_one digits
-one_4 a b c d A B C D = λ few. scaled_one 4 a b c d
-    (1 * ((a / 1 + 128) % 256) + 1 * ((b / 1 + 128) % 256) + 1 * ((c / 1 + 128) % 256) + 1 * ((d / 1 + 128) % 256))
-    (four_one a b c d A B C D) (omega arith) (four_is a b c d A B C D) (omega arith)
-
-one_5 : (a b c d : ℕ) → a < 256 → b < 256 → c < 256 → d < 256 → Tells_one 5 a b c d
-unfolding low_one high_one flipped flipped_low least_one counts_one widths_one digits
-one_5 a b c d A B C D = λ few. scaled_one 5 a b c d
-    (1 * ((a / 1 + 128) % 256) + 1 * ((b / 1 + 128) % 256) + 1 * ((c / 1 + 128) % 256) + 1 * ((d / 1 + 128) % 256))
-    (four_one a b c d A B C D) (omega arith) (four_is a b c d A B C D) (omega arith)
-
-one_6 : (a b c d : ℕ) → a < 256 → b < 256 → c < 256 → d < 256 → Tells_one 6 a b c d
-unfolding low_one high_one flipped flipped_low least_one counts_one widths_one digits
-one_6 a b c d A B C D = λ few. scaled_one 6 a b c d
-    (1 * ((a / 1 + 128) % 256) + 1 * ((b / 1 + 128) % 256) + 1 * ((c / 1 + 128) % 256) + 1 * ((d / 1 + 128) % 256))
-    (four_one a b c d A B C D) (omega arith) (four_is a b c d A B C D) (omega arith)
-
-one_7 : (a b c d : ℕ) → a < 256 → b < 256 → c < 256 → d < 256 → Tells_one 7 a b c d
-unfolding low_one high_one flipped flipped_low least_one counts_one widths_one digits
-one_7 a b c d A B C D = λ few. scaled_one 7 a b c d
-    (1 * ((a / 1 + 128) % 256) + 1 * ((b / 1 + 128) % 256) + 1 * ((c / 1 + 128) % 256) + 1 * ((d / 1 + 128) % 256))
-    (four_one a b c d A B C D) (omega arith) (four_is a b c d A B C D) (omega arith)
-
-one_8 : (a b c d : ℕ) → a < 256 → b < 256 → c < 256 → d < 256 → Tells_one 8 a b c d
-unfolding low_one high_one flipped flipped_low least_one counts_one widths_one digits
-one_8 a b c d A B C D = λ few. scaled_one 8 a b c d (b + d + 256 * ((a + 128) % 256 + (c + 128) % 256))
-    (wide_one a b c d A B C D) (omega arith) (wide_is a b c d A B C D) (omega arith)
-
-one_9 : (a b c d : ℕ) → a < 256 → b < 256 → c < 256 → d < 256 → Tells_one 9 a b c d
-unfolding low_one high_one flipped flipped_low least_one counts_one widths_one digits
-one_9 a b c d A B C D = λ few. scaled_one 9 a b c d (b + d + 256 * ((a + 128) % 256 + (c + 128) % 256))
-    (wide_one a b c d A B C D) (omega arith) (wide_is a b c d A B C D) (omega arith)
-
-one_10 : (a b c d : ℕ) → a < 256 → b < 256 → c < 256 → d < 256 → Tells_one 10 a b c d
-unfolding low_one high_one flipped flipped_low least_one counts_one widths_one digits
-one_10 a b c d A B C D = λ few. scaled_one 10 a b c d (b + d + 256 * ((a + 128) % 256 + (c + 128) % 256))
-    (wide_one a b c d A B C D) (omega arith) (wide_is a b c d A B C D) (omega arith)
-
-one_11 : (a b c d : ℕ) → a < 256 → b < 256 → c < 256 → d < 256 → Tells_one 11 a b c d
-unfolding low_one high_one flipped flipped_low least_one counts_one widths_one digits
-one_11 a b c d A B C D = λ few. scaled_one 11 a b c d (b + d + 256 * ((a + 128) % 256 + (c + 128) % 256))
-    (wide_one a b c d A B C D) (omega arith) (wide_is a b c d A B C D) (omega arith)
-
-one_12 : (a b c d : ℕ) → a < 256 → b < 256 → c < 256 → d < 256 → Tells_one 12 a b c d
-unfolding counts_one
-one_12 a b c d A B C D = λ few. absurd (omega (arith, few))
-
-one_13 : (a b c d : ℕ) → a < 256 → b < 256 → c < 256 → d < 256 → Tells_one 13 a b c d
-unfolding counts_one
-one_13 a b c d A B C D = λ few. absurd (omega (arith, few))
-
-one_14 : (a b c d : ℕ) → a < 256 → b < 256 → c < 256 → d < 256 → Tells_one 14 a b c d
-unfolding counts_one
-one_14 a b c d A B C D = λ few. absurd (omega (arith, few))
-
-one_15 : (a b c d : ℕ) → a < 256 → b < 256 → c < 256 → d < 256 → Tells_one 15 a b c d
-unfolding counts_one
-one_15 a b c d A B C D = λ few. absurd (omega (arith, few))
-
 pub tells_one : (a b c d : ℕ) → a < 256 → b < 256 → c < 256 → d < 256 → (row : ℕ) → row < 16 → Tells_one row a b c d
-tells_one a b c d A B C D = sixteen (λ row. Tells_one row a b c d)
-    (one_0 a b c d A B C D)
-    (one_1 a b c d A B C D)
-    (one_2 a b c d A B C D)
-    (one_3 a b c d A B C D)
-    (one_4 a b c d A B C D)
-    (one_5 a b c d A B C D)
-    (one_6 a b c d A B C D)
-    (one_7 a b c d A B C D)
-    (one_8 a b c d A B C D)
-    (one_9 a b c d A B C D)
-    (one_10 a b c d A B C D)
-    (one_11 a b c d A B C D)
-    (one_12 a b c d A B C D)
-    (one_13 a b c d A B C D)
-    (one_14 a b c d A B C D)
-    (one_15 a b c d A B C D)
+unfolding low_one high_one flipped flipped_low least_one counts_one widths_one digits
+tells_one a b c d A B C D =
+    let none : Tells_one 0 a b c d =
+    λ few. scaled_one 0 a b c d 0 (none_one a b c d A B C D) (omega arith) refl (omega arith) in
+    let bytes : Tells_one 4 a b c d =
+    λ few. scaled_one 4 a b c d _ (four_one a b c d A B C D) (omega arith) (four_is a b c d A B C D) (omega arith) in
+    let pairs : Tells_one 8 a b c d =
+    λ few. scaled_one 8 a b c d _ (wide_one a b c d A B C D) (omega arith) (wide_is a b c d A B C D) (omega arith) in
+    sixteen (λ row. Tells_one row a b c d)
+    none none none none
+    bytes bytes bytes bytes
+    pairs pairs pairs pairs
+    (λ few. absurd (omega (arith, few))) (λ few. absurd (omega (arith, few)))
+    (λ few. absurd (omega (arith, few))) (λ few. absurd (omega (arith, few)))
 
 abbrev pub Reported_one : (ℕ → ℕ) → (ℕ → ℕ) → (ℕ → ℕ) → (ℕ → ℤ) → ℕ → Type 0
 Reported_one count whole least moved w = count w < 128 → (pos (whole w) ≡ moved w +ℤ pos (least w)) × (whole w ≤ 131072)

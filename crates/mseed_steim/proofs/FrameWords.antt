@@ -7,12 +7,7 @@ use Rattle.mseed_steim.specs.private.Lanes.{total, word_of}
 use Rattle.mseed_steim.specs.private.Lanes.{fine_two, ones_two, coarse_two, turned_a, turned_b, turned_c, turned_d}
 use Rattle.mseed_steim.specs.private.Lanes.{least_two, least_coarse_two, counts_two, widths_two}
 use Rattle.mseed_steim.proofs.Below.{sixteen}
-use Rattle.mseed_steim.proofs.FrameBytes.{four_is, two_is, three_is, five_is, six_is, seven_is, four_p0, four_p1}
-use Rattle.mseed_steim.proofs.FrameBytes.{four_p2, four_p3, two_p0, two_p1, two_p2, two_p3, two_p4, three_p0, three_p1}
-use Rattle.mseed_steim.proofs.FrameBytes.{three_p2, three_p3, three_p4, three_p5, five_p0, five_p1, five_p2, five_p3}
-use Rattle.mseed_steim.proofs.FrameBytes.{five_p4, five_p5, five_p6, six_p0, six_p1, six_p2, six_p3, six_p4, six_p5}
-use Rattle.mseed_steim.proofs.FrameBytes.{six_p6, six_p7, six_p8, seven_p0, seven_p1, seven_p2, seven_p3, seven_p4}
-use Rattle.mseed_steim.proofs.FrameBytes.{seven_p5, seven_p6}
+use Rattle.mseed_steim.proofs.FrameBytes.{four_is, two_is, three_is, five_is, six_is, seven_is, part}
 
 pub gone : (x w : ℕ) → bit_and x 0 * w ≡ 0
 gone x w = ap (λ n. n * w) (and_zero_r x) ∙ omega arith
@@ -64,26 +59,6 @@ none_whole a b c d A B C D = omega (
   gone (bit_xor a 0) 2,
 )
 
-tells_0 : (a b c d : ℕ) → a < 256 → b < 256 → c < 256 → d < 256 → Tells 0 a b c d
-unfolding fine_two ones_two coarse_two turned_a turned_b turned_c turned_d least_two least_coarse_two counts_two
-    widths_two digits
-tells_0 a b c d A B C D = λ few. scaled 0 a b c d 0 (none_whole a b c d A B C D) (omega arith) refl (omega arith)
-
-tells_1 : (a b c d : ℕ) → a < 256 → b < 256 → c < 256 → d < 256 → Tells 1 a b c d
-unfolding fine_two ones_two coarse_two turned_a turned_b turned_c turned_d least_two least_coarse_two counts_two
-    widths_two digits
-tells_1 a b c d A B C D = λ few. scaled 1 a b c d 0 (none_whole a b c d A B C D) (omega arith) refl (omega arith)
-
-tells_2 : (a b c d : ℕ) → a < 256 → b < 256 → c < 256 → d < 256 → Tells 2 a b c d
-unfolding fine_two ones_two coarse_two turned_a turned_b turned_c turned_d least_two least_coarse_two counts_two
-    widths_two digits
-tells_2 a b c d A B C D = λ few. scaled 2 a b c d 0 (none_whole a b c d A B C D) (omega arith) refl (omega arith)
-
-tells_3 : (a b c d : ℕ) → a < 256 → b < 256 → c < 256 → d < 256 → Tells 3 a b c d
-unfolding fine_two ones_two coarse_two turned_a turned_b turned_c turned_d least_two least_coarse_two counts_two
-    widths_two digits
-tells_3 a b c d A B C D = λ few. scaled 3 a b c d 0 (none_whole a b c d A B C D) (omega arith) refl (omega arith)
-
 four_whole : (a b c d : ℕ) → a < 256 → b < 256 → c < 256 → d < 256
     → 128 * (bit_and (bit_xor a 128) 255 * 1 + bit_and (bit_xor b 128) 255 * 1 + bit_and (bit_xor c 128) 255 * 1
     + bit_and (bit_xor d 128) 255 * 1) + (bit_and (bit_xor a 128) 0 * 64 + bit_and (bit_xor b 128) 0 * 0 + bit_and
@@ -93,10 +68,10 @@ four_whole : (a b c d : ℕ) → a < 256 → b < 256 → c < 256 → d < 256
     + 1 * ((d / 1 + 128) % 256))
 four_whole a b c d A B C D = omega (
   arith,
-  four_p0 a A,
-  four_p1 b B,
-  four_p2 c C,
-  four_p3 d D,
+  part 128 255 1 1 1 128 256 tt a A,
+  part 128 255 1 1 1 128 256 tt b B,
+  part 128 255 1 1 1 128 256 tt c C,
+  part 128 255 1 1 1 128 256 tt d D,
   gone (bit_xor a 128) 64,
   gone (bit_xor b 128) 0,
   gone (bit_xor c 128) 0,
@@ -104,34 +79,6 @@ four_whole a b c d A B C D = omega (
   gone (bit_xor d 128) 0,
   gone (bit_xor a 128) 2,
 )
-
-tells_4 : (a b c d : ℕ) → a < 256 → b < 256 → c < 256 → d < 256 → Tells 4 a b c d
-unfolding fine_two ones_two coarse_two turned_a turned_b turned_c turned_d least_two least_coarse_two counts_two
-    widths_two digits
-tells_4 a b c d A B C D =
-    λ few. scaled 4 a b c d (1 * ((a / 1 + 128) % 256) + 1 * ((b / 1 + 128) % 256) + 1 * ((c / 1 + 128) % 256)
-    + 1 * ((d / 1 + 128) % 256)) (four_whole a b c d A B C D) (omega arith) (four_is a b c d A B C D) (omega arith)
-
-tells_5 : (a b c d : ℕ) → a < 256 → b < 256 → c < 256 → d < 256 → Tells 5 a b c d
-unfolding fine_two ones_two coarse_two turned_a turned_b turned_c turned_d least_two least_coarse_two counts_two
-    widths_two digits
-tells_5 a b c d A B C D =
-    λ few. scaled 5 a b c d (1 * ((a / 1 + 128) % 256) + 1 * ((b / 1 + 128) % 256) + 1 * ((c / 1 + 128) % 256)
-    + 1 * ((d / 1 + 128) % 256)) (four_whole a b c d A B C D) (omega arith) (four_is a b c d A B C D) (omega arith)
-
-tells_6 : (a b c d : ℕ) → a < 256 → b < 256 → c < 256 → d < 256 → Tells 6 a b c d
-unfolding fine_two ones_two coarse_two turned_a turned_b turned_c turned_d least_two least_coarse_two counts_two
-    widths_two digits
-tells_6 a b c d A B C D =
-    λ few. scaled 6 a b c d (1 * ((a / 1 + 128) % 256) + 1 * ((b / 1 + 128) % 256) + 1 * ((c / 1 + 128) % 256)
-    + 1 * ((d / 1 + 128) % 256)) (four_whole a b c d A B C D) (omega arith) (four_is a b c d A B C D) (omega arith)
-
-tells_7 : (a b c d : ℕ) → a < 256 → b < 256 → c < 256 → d < 256 → Tells 7 a b c d
-unfolding fine_two ones_two coarse_two turned_a turned_b turned_c turned_d least_two least_coarse_two counts_two
-    widths_two digits
-tells_7 a b c d A B C D =
-    λ few. scaled 7 a b c d (1 * ((a / 1 + 128) % 256) + 1 * ((b / 1 + 128) % 256) + 1 * ((c / 1 + 128) % 256)
-    + 1 * ((d / 1 + 128) % 256)) (four_whole a b c d A B C D) (omega arith) (four_is a b c d A B C D) (omega arith)
 
 two_whole : (a b c d : ℕ) → a < 256 → b < 256 → c < 256 → d < 256
     → 128 * (bit_and (bit_xor a 32) 0 * 0 + bit_and (bit_xor b 0) 255 * 2 + bit_and (bit_xor c 64) 0 * 0 + bit_and
@@ -143,24 +90,16 @@ two_whole : (a b c d : ℕ) → a < 256 → b < 256 → c < 256 → d < 256
 two_whole a b c d A B C D = omega (
   arith,
   gone (bit_xor a 32) 0,
-  two_p1 b B,
+  part 0 255 2 2 1 0 256 tt b B,
   gone (bit_xor c 64) 0,
-  two_p2 d D,
+  part 0 255 1 1 1 0 256 tt d D,
   gone (bit_xor a 32) 64,
   gone (bit_xor b 0) 0,
-  two_p0 c C,
+  part 64 128 1 128 128 0 2 tt c C,
   gone (bit_xor d 0) 0,
-  two_p3 a A,
-  two_p4 c C,
+  part 32 63 2 2 1 32 64 tt a A,
+  part 64 127 1 1 1 64 128 tt c C,
 )
-
-tells_10 : (a b c d : ℕ) → a < 256 → b < 256 → c < 256 → d < 256 → Tells 10 a b c d
-unfolding fine_two ones_two coarse_two turned_a turned_b turned_c turned_d least_two least_coarse_two counts_two
-    widths_two digits
-tells_10 a b c d A B C D =
-    λ few. scaled 10 a b c d (2 * ((b / 1 + 0) % 256) + 1 * ((d / 1 + 0) % 256) + (128 * ((c / 128 + 0) % 2)) / 128
-    + 256 * (2 * ((a / 1 + 32) % 64) + 1 * ((c / 1 + 64) % 128))) (two_whole a b c d A B C D) (omega arith)
-    (two_is a b c d A B C D) (omega arith)
 
 three_whole : (a b c d : ℕ) → a < 256 → b < 256 → c < 256 → d < 256
     → 128 * (bit_and (bit_xor a 32) 63 * 16 + bit_and (bit_xor b 8) 15 * 64 + bit_and (bit_xor c 2) 0 * 0 + bit_and
@@ -171,26 +110,18 @@ three_whole : (a b c d : ℕ) → a < 256 → b < 256 → c < 256 → d < 256
     + (128 * ((b / 16 + 0) % 16) + 128 * ((c / 4 + 0) % 64)) / 128 + 256 * (1 * ((c / 1 + 2) % 4)))
 three_whole a b c d A B C D = omega (
   arith,
-  three_p2 a A,
-  three_p3 b B,
+  part 32 63 16 16 1 32 64 tt a A,
+  part 8 15 64 64 1 8 16 tt b B,
   gone (bit_xor c 2) 0,
-  three_p4 d D,
+  part 0 255 1 1 1 0 256 tt d D,
   gone (bit_xor a 32) 64,
-  three_p0 b B,
-  three_p1 c C,
+  part 8 240 8 128 16 0 16 tt b B,
+  part 2 252 32 128 4 0 64 tt c C,
   gone (bit_xor c 2) 1,
   gone (bit_xor d 0) 0,
   gone (bit_xor a 32) 2,
-  three_p5 c C,
+  part 2 3 1 1 1 2 4 tt c C,
 )
-
-tells_11 : (a b c d : ℕ) → a < 256 → b < 256 → c < 256 → d < 256 → Tells 11 a b c d
-unfolding fine_two ones_two coarse_two turned_a turned_b turned_c turned_d least_two least_coarse_two counts_two
-    widths_two digits
-tells_11 a b c d A B C D =
-    λ few. scaled 11 a b c d (16 * ((a / 1 + 32) % 64) + 64 * ((b / 1 + 8) % 16) + 1 * ((d / 1 + 0) % 256)
-    + (128 * ((b / 16 + 0) % 16) + 128 * ((c / 4 + 0) % 64)) / 128 + 256 * (1 * ((c / 1 + 2) % 4)))
-    (three_whole a b c d A B C D) (omega arith) (three_is a b c d A B C D) (omega arith)
 
 five_whole : (a b c d : ℕ) → a < 256 → b < 256 → c < 256 → d < 256
     → 128 * (bit_and (bit_xor a 32) 63 * 1 + bit_and (bit_xor b 130) 3 * 16 + bit_and (bit_xor c 8) 15 * 4 + bit_and
@@ -201,25 +132,17 @@ five_whole : (a b c d : ℕ) → a < 256 → b < 256 → c < 256 → d < 256
     + (128 * ((b / 4 + 32) % 64) + 128 * ((c / 16 + 0) % 16) + 128 * ((d / 64 + 0) % 4)) / 128)
 five_whole a b c d A B C D = omega (
   arith,
-  five_p3 a A,
-  five_p4 b B,
-  five_p5 c C,
-  five_p6 d D,
+  part 32 63 1 1 1 32 64 tt a A,
+  part 130 3 16 16 1 2 4 tt b B,
+  part 8 15 4 4 1 8 16 tt c C,
+  part 32 63 1 1 1 32 64 tt d D,
   gone (bit_xor a 32) 64,
-  five_p0 b B,
-  five_p1 c C,
+  part 130 252 32 128 4 32 64 tt b B,
+  part 8 240 8 128 16 0 16 tt c C,
   gone (bit_xor c 8) 1,
-  five_p2 d D,
+  part 32 192 2 128 64 0 4 tt d D,
   gone (bit_xor a 32) 2,
 )
-
-tells_12 : (a b c d : ℕ) → a < 256 → b < 256 → c < 256 → d < 256 → Tells 12 a b c d
-unfolding fine_two ones_two coarse_two turned_a turned_b turned_c turned_d least_two least_coarse_two counts_two
-    widths_two digits
-tells_12 a b c d A B C D =
-    λ few. scaled 12 a b c d (1 * ((a / 1 + 32) % 64) + 16 * ((b / 1 + 2) % 4) + 4 * ((c / 1 + 8) % 16)
-    + 1 * ((d / 1 + 32) % 64) + (128 * ((b / 4 + 32) % 64) + 128 * ((c / 16 + 0) % 16) + 128 * ((d / 64 + 0) % 4)) /
-    128) (five_whole a b c d A B C D) (omega arith) (five_is a b c d A B C D) (omega arith)
 
 six_whole : (a b c d : ℕ) → a < 256 → b < 256 → c < 256 → d < 256
     → 128 * (bit_and (bit_xor a 33) 1 * 16 + bit_and (bit_xor b 8) 15 * 2 + bit_and (bit_xor c 66) 3 * 8 + bit_and
@@ -231,27 +154,18 @@ six_whole : (a b c d : ℕ) → a < 256 → b < 256 → c < 256 → d < 256
     + 128 * ((d / 32 + 0) % 8)) / 128)
 six_whole a b c d A B C D = omega (
   arith,
-  six_p5 a A,
-  six_p6 b B,
-  six_p7 c C,
-  six_p8 d D,
-  six_p0 a A,
-  six_p1 b B,
-  six_p2 c C,
-  six_p3 c C,
-  six_p4 d D,
+  part 33 1 16 16 1 1 2 tt a A,
+  part 8 15 2 2 1 8 16 tt b B,
+  part 66 3 8 8 1 2 4 tt c C,
+  part 16 31 1 1 1 16 32 tt d D,
+  part 33 62 64 128 2 16 32 tt a A,
+  part 8 240 8 128 16 0 16 tt b B,
+  part 66 124 32 128 4 16 32 tt c C,
+  part 66 128 1 128 128 0 2 tt c C,
+  part 16 224 4 128 32 0 8 tt d D,
   gone (bit_xor a 33) 2,
   gone (bit_xor c 66) 1,
 )
-
-tells_13 : (a b c d : ℕ) → a < 256 → b < 256 → c < 256 → d < 256 → Tells 13 a b c d
-unfolding fine_two ones_two coarse_two turned_a turned_b turned_c turned_d least_two least_coarse_two counts_two
-    widths_two digits
-tells_13 a b c d A B C D =
-    λ few. scaled 13 a b c d (16 * ((a / 1 + 1) % 2) + 2 * ((b / 1 + 8) % 16) + 8 * ((c / 1 + 2) % 4)
-    + 1 * ((d / 1 + 16) % 32) + (128 * ((a / 2 + 16) % 32) + 128 * ((b / 16 + 0) % 16) + 128 * ((c / 4 + 16) % 32)
-    + 128 * ((c / 128 + 0) % 2) + 128 * ((d / 32 + 0) % 8)) / 128) (six_whole a b c d A B C D) (omega arith)
-    (six_is a b c d A B C D) (omega arith)
 
 seven_whole : (a b c d : ℕ) → a < 256 → b < 256 → c < 256 → d < 256
     → 128 * (bit_and (bit_xor a 8) 15 * 1 + bit_and (bit_xor b 136) 15 * 1 + bit_and (bit_xor c 136) 15 * 1 + bit_and
@@ -263,53 +177,33 @@ seven_whole : (a b c d : ℕ) → a < 256 → b < 256 → c < 256 → d < 256
 seven_whole a b c d A B C D =
     omega (
       arith,
-      seven_p3 a A,
-      seven_p4 b B,
-      seven_p5 c C,
-      seven_p6 d D,
+      part 8 15 1 1 1 8 16 tt a A,
+      part 136 15 1 1 1 8 16 tt b B,
+      part 136 15 1 1 1 8 16 tt c C,
+      part 136 15 1 1 1 8 16 tt d D,
       gone (bit_xor a 8) 64,
-      seven_p0 b B,
-      seven_p1 c C,
+      part 136 240 8 128 16 8 16 tt b B,
+      part 136 240 8 128 16 8 16 tt c C,
       gone (bit_xor c 136) 1,
-      seven_p2 d D,
+      part 136 240 8 128 16 8 16 tt d D,
       gone (bit_xor a 8) 2,
     )
 
-tells_14 : (a b c d : ℕ) → a < 256 → b < 256 → c < 256 → d < 256 → Tells 14 a b c d
+pub tells : (a b c d : ℕ) → a < 256 → b < 256 → c < 256 → d < 256 → (row : ℕ) → row < 16 → Tells row a b c d
 unfolding fine_two ones_two coarse_two turned_a turned_b turned_c turned_d least_two least_coarse_two counts_two
     widths_two digits
-tells_14 a b c d A B C D =
-    λ few. scaled 14 a b c d (1 * ((a / 1 + 8) % 16) + 1 * ((b / 1 + 8) % 16) + 1 * ((c / 1 + 8) % 16)
-    + 1 * ((d / 1 + 8) % 16) + (128 * ((b / 16 + 8) % 16) + 128 * ((c / 16 + 8) % 16) + 128 * ((d / 16 + 8) % 16)) /
-    128) (seven_whole a b c d A B C D) (omega arith) (seven_is a b c d A B C D) (omega arith)
-
-tells_8 : (a b c d : ℕ) → a < 256 → b < 256 → c < 256 → d < 256 → Tells 8 a b c d
-unfolding counts_two
-tells_8 a b c d A B C D = λ few. absurd (omega (arith, few))
-
-tells_9 : (a b c d : ℕ) → a < 256 → b < 256 → c < 256 → d < 256 → Tells 9 a b c d
-unfolding counts_two
-tells_9 a b c d A B C D = λ few. absurd (omega (arith, few))
-
-tells_15 : (a b c d : ℕ) → a < 256 → b < 256 → c < 256 → d < 256 → Tells 15 a b c d
-unfolding counts_two
-tells_15 a b c d A B C D = λ few. absurd (omega (arith, few))
-
-pub tells : (a b c d : ℕ) → a < 256 → b < 256 → c < 256 → d < 256 → (row : ℕ) → row < 16 → Tells row a b c d
-tells a b c d A B C D = sixteen (λ row. Tells row a b c d)
-    (tells_0 a b c d A B C D)
-    (tells_1 a b c d A B C D)
-    (tells_2 a b c d A B C D)
-    (tells_3 a b c d A B C D)
-    (tells_4 a b c d A B C D)
-    (tells_5 a b c d A B C D)
-    (tells_6 a b c d A B C D)
-    (tells_7 a b c d A B C D)
-    (tells_8 a b c d A B C D)
-    (tells_9 a b c d A B C D)
-    (tells_10 a b c d A B C D)
-    (tells_11 a b c d A B C D)
-    (tells_12 a b c d A B C D)
-    (tells_13 a b c d A B C D)
-    (tells_14 a b c d A B C D)
-    (tells_15 a b c d A B C D)
+tells a b c d A B C D =
+    let none : Tells 0 a b c d =
+    λ few. scaled 0 a b c d 0 (none_whole a b c d A B C D) (omega arith) refl (omega arith) in
+    let bytes : Tells 4 a b c d =
+    λ few. scaled 4 a b c d _ (four_whole a b c d A B C D) (omega arith) (four_is a b c d A B C D) (omega arith) in
+    sixteen (λ row. Tells row a b c d)
+    none none none none
+    bytes bytes bytes bytes
+    (λ few. absurd (omega (arith, few))) (λ few. absurd (omega (arith, few)))
+    (λ few. scaled 10 a b c d _ (two_whole a b c d A B C D) (omega arith) (two_is a b c d A B C D) (omega arith))
+    (λ few. scaled 11 a b c d _ (three_whole a b c d A B C D) (omega arith) (three_is a b c d A B C D) (omega arith))
+    (λ few. scaled 12 a b c d _ (five_whole a b c d A B C D) (omega arith) (five_is a b c d A B C D) (omega arith))
+    (λ few. scaled 13 a b c d _ (six_whole a b c d A B C D) (omega arith) (six_is a b c d A B C D) (omega arith))
+    (λ few. scaled 14 a b c d _ (seven_whole a b c d A B C D) (omega arith) (seven_is a b c d A B C D) (omega arith))
+    (λ few. absurd (omega (arith, few)))

@@ -1,7 +1,7 @@
 -- A word's differences, lane by lane.
 use Rattle.std.proofs.Common.{◌≡◌, ℕ, zero, suc, ◌+◌, ◌-◌, ◌<◌, ◌≤◌, [], ◌++◌, ◌∷◌, ◌∙◌, List, ℤ, take, set, map}
 use Rattle.std.proofs.Common.{get_or, length, refl, arith, ⊎_elim}
-use lib.Lanes.{Each1, sum_l}
+use lib.Lanes.{sum_l}
 use Rattle.std.specs.Prelude.{min}
 use Rattle.std.proofs.Math.Nat.{min-eq_left, min-eq_right}
 use Rattle.std.proofs.lemmas.Bool.{cases_lt}
@@ -45,9 +45,3 @@ pub one_of_sum : (xs : List ℕ) (i : ℕ) → get_or xs i 0 ≤ sum_l xs
 one_of_sum [] i = omega arith
 one_of_sum (x ∷ xs) zero = omega arith
 one_of_sum (x ∷ xs) (suc i) = let later = one_of_sum xs i in omega (arith, later)
-
--- a fact of each number of a list holds of each place, where it holds of 0
-pub each_small : (xs : List ℕ) → Each1 (λ r. r < 16) xs → (i : ℕ) → get_or xs i 0 < 16
-each_small [] h i = omega arith
-each_small (x ∷ xs) h zero = h.0
-each_small (x ∷ xs) h (suc i) = each_small xs h.1 i

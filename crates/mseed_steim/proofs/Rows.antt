@@ -1,7 +1,9 @@
 -- The rows of the table, by how many differences they have, and what words of them spell.
 use Rattle.std.proofs.Common.{◌≡◌, ℕ, zero, suc, ◌+◌, ◌-◌, ◌*◌, ◌^◌, ◌<◌, ◌≤◌, List, ◌++◌, length, ℤ, arith, refl, ap}
 use Rattle.std.proofs.Common.{sym, ◌∙◌, subst, All, ⊎_elim, ◌⊎◌, inl, inr, ◌/◌, ◌%◌, cond, eqb, Option, Some, None}
-use Rattle.std.proofs.Common.{length-append, lit<}
+use Rattle.std.proofs.Common.{length-append, lit<, Bool, T, ◌&&◌, ltb}
+use lib.Dec.{ltb→lt}
+use mir.ValLaws.{and_both}
 use Rattle.std.proofs.Math.Nat.{pow-le-pow_right}
 use Rattle.std.proofs.lemmas.Bool.{cond_both, eqb-true, cases_lt}
 use Rattle.std.proofs.lemmas.Int.{ints}
@@ -48,71 +50,57 @@ at_count s k n r more is same rest =
     subst (λ (x : Row). IsRow s x × (x.count ≡ k)) one (is, same ∙ sym found))
     (λ _. rest)
 
+-- a row's numbers are in their ranges
+abbrev sized : Row → Group → Bool
+sized r g =
+    ltb 0 g.spare && (ltb r.code 4 && (ltb r.dnib 4 && (ltb 0 r.count && (ltb r.count 8 && (ltb 0 r.width
+    && (ltb r.width 33 && ltb (r.width * r.count) 33))))))
+
 is_row : (s : Scheme) (r : Row) (g : Group) → group_of s r.code r.dnib ≡ Some g → g.count ≡ r.count → g.width ≡ r.width
-    → cond g.marked (r.dnib * 2 ^ 30) 0 ≡ r.dnib * 2 ^ 30 → 0 < g.spare → r.code < 4 → r.dnib < 4
-    → (0 < r.count) × (r.count ≤ 7)
-    → (0 < r.width) × (r.width ≤ 32) → r.width * r.count ≤ 32 → (0 < r.dnib → r.width * r.count ≤ 30) → IsRow s r
-is_row s r g t c w h p a b n x m k = record {
-  group = g;
-  in_table = t;
-  count = c;
-  width = w;
-  head = h;
-  spare = p;
-  code = a;
-  dnib = b;
-  some = n.0;
-  most = n.1;
-  wide = x.0;
-  narrow = x.1;
-  room = m;
-  apart = k;
-}
+    → cond g.marked (r.dnib * 2 ^ 30) 0 ≡ r.dnib * 2 ^ 30 → T (sized r g)
+    → (0 < r.dnib → r.width * r.count ≤ 30) → IsRow s r
+is_row s r g t c w h all apart =
+    let spare = and_both _ _ all in
+    let code = and_both _ _ spare.1 in
+    let dnib = and_both _ _ code.1 in
+    let some = and_both _ _ dnib.1 in
+    let most = and_both _ _ some.1 in
+    let wide = and_both _ _ most.1 in
+    let narrow = and_both _ _ wide.1 in
+    let count : r.count < 8 = ltb→lt _ _ most.0 in
+    let width : r.width < 33 = ltb→lt _ _ narrow.0 in
+    let room : r.width * r.count < 33 = ltb→lt _ _ narrow.1 in
+    record {
+      group = g;
+      in_table = t;
+      count = c;
+      width = w;
+      head = h;
+      spare = ltb→lt _ _ spare.0;
+      code = ltb→lt _ _ code.0;
+      dnib = ltb→lt _ _ dnib.0;
+      some = ltb→lt _ _ some.0;
+      most = omega (arith, count);
+      wide = ltb→lt _ _ wide.0;
+      narrow = omega (arith, width);
+      room = omega (arith, room);
+      apart = apart;
+    }
 
 -- what stands in the table by count is a row of the table
 pub row_is : (s : Scheme) (k : ℕ) → AllRows s k (row_for s k)
 row_is One k =
-    at_count One k 1 _ _ (is_row One _ _ refl refl refl refl (omega arith) (omega arith) (omega arith) (
-      omega arith,
-      omega arith,
-    ) (omega arith, omega arith) (omega arith) (λ h. omega arith)) refl
-    (at_count One k 2 _ _ (is_row One _ _ refl refl refl refl (omega arith) (omega arith) (omega arith) (
-      omega arith,
-      omega arith,
-    ) (omega arith, omega arith) (omega arith) (λ h. omega arith)) refl
-    (at_count One k 4 _ _ (is_row One _ _ refl refl refl refl (omega arith) (omega arith) (omega arith) (
-      omega arith,
-      omega arith,
-    ) (omega arith, omega arith) (omega arith) (λ h. omega arith)) refl (no_rows One k)))
+    at_count One k 1 _ _ (is_row One _ _ refl refl refl refl tt (λ h. omega arith)) refl
+    (at_count One k 2 _ _ (is_row One _ _ refl refl refl refl tt (λ h. omega arith)) refl
+    (at_count One k 4 _ _ (is_row One _ _ refl refl refl refl tt (λ h. omega arith)) refl (no_rows One k)))
 row_is Two k =
-    at_count Two k 1 _ _ (is_row Two _ _ refl refl refl refl (omega arith) (omega arith) (omega arith) (
-      omega arith,
-      omega arith,
-    ) (omega arith, omega arith) (omega arith) (λ h. omega arith)) refl
-    (at_count Two k 2 _ _ (is_row Two _ _ refl refl refl refl (omega arith) (omega arith) (omega arith) (
-      omega arith,
-      omega arith,
-    ) (omega arith, omega arith) (omega arith) (λ h. omega arith)) refl
-    (at_count Two k 3 _ _ (is_row Two _ _ refl refl refl refl (omega arith) (omega arith) (omega arith) (
-      omega arith,
-      omega arith,
-    ) (omega arith, omega arith) (omega arith) (λ h. omega arith)) refl
-    (at_count Two k 4 _ _ (is_row Two _ _ refl refl refl refl (omega arith) (omega arith) (omega arith) (
-      omega arith,
-      omega arith,
-    ) (omega arith, omega arith) (omega arith) (λ h. omega arith)) refl
-    (at_count Two k 5 _ _ (is_row Two _ _ refl refl refl refl (omega arith) (omega arith) (omega arith) (
-      omega arith,
-      omega arith,
-    ) (omega arith, omega arith) (omega arith) (λ h. omega arith)) refl
-    (at_count Two k 6 _ _ (is_row Two _ _ refl refl refl refl (omega arith) (omega arith) (omega arith) (
-      omega arith,
-      omega arith,
-    ) (omega arith, omega arith) (omega arith) (λ h. omega arith)) refl
-    (at_count Two k 7 _ _ (is_row Two _ _ refl refl refl refl (omega arith) (omega arith) (omega arith) (
-      omega arith,
-      omega arith,
-    ) (omega arith, omega arith) (omega arith) (λ h. omega arith)) refl (no_rows Two k)))))))
+    at_count Two k 1 _ _ (is_row Two _ _ refl refl refl refl tt (λ h. omega arith)) refl
+    (at_count Two k 2 _ _ (is_row Two _ _ refl refl refl refl tt (λ h. omega arith)) refl
+    (at_count Two k 3 _ _ (is_row Two _ _ refl refl refl refl tt (λ h. omega arith)) refl
+    (at_count Two k 4 _ _ (is_row Two _ _ refl refl refl refl tt (λ h. omega arith)) refl
+    (at_count Two k 5 _ _ (is_row Two _ _ refl refl refl refl tt (λ h. omega arith)) refl
+    (at_count Two k 6 _ _ (is_row Two _ _ refl refl refl refl tt (λ h. omega arith)) refl
+    (at_count Two k 7 _ _ (is_row Two _ _ refl refl refl refl tt (λ h. omega arith)) refl (no_rows Two k)))))))
 
 few_rows : (k n : ℕ) (r : Row) (more : Option Row) → n ≤ 4 → ((q : Row) → more ≡ Some q → k ≤ 4) → (q : Row)
     → cond (eqb k n) (Some r) more ≡ Some q → k ≤ 4

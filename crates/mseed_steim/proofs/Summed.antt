@@ -54,26 +54,26 @@ pub record Fours (l a b c d : ℤ) : Type 0 where
   pub fourth : FitsSigned w32 d
   pub one : FitsSigned w32 (a +ℤ pos 0)
   pub two : FitsSigned w32 (b +ℤ a)
-  pub three : FitsSigned w32 (c +ℤ b)
+  pub three : FitsSigned w32 (c +ℤ pos 0)
   pub four : FitsSigned w32 (d +ℤ c)
   pub to_one : FitsSigned w32 ((a +ℤ pos 0) +ℤ pos 0)
   pub to_two : FitsSigned w32 ((b +ℤ a) +ℤ pos 0)
-  pub to_three : FitsSigned w32 ((c +ℤ b) +ℤ (a +ℤ pos 0))
+  pub to_three : FitsSigned w32 ((c +ℤ pos 0) +ℤ (b +ℤ a))
   pub to_four : FitsSigned w32 ((d +ℤ c) +ℤ (b +ℤ a))
   pub sum_one : FitsSigned w32 (l +ℤ ((a +ℤ pos 0) +ℤ pos 0))
   pub sum_two : FitsSigned w32 (l +ℤ ((b +ℤ a) +ℤ pos 0))
-  pub sum_three : FitsSigned w32 (l +ℤ ((c +ℤ b) +ℤ (a +ℤ pos 0)))
+  pub sum_three : FitsSigned w32 (l +ℤ ((c +ℤ pos 0) +ℤ (b +ℤ a)))
   pub sum_four : FitsSigned w32 (l +ℤ ((d +ℤ c) +ℤ (b +ℤ a)))
 
 pub fours : (l a b c d : ℤ) → nat_abs l + span (a ∷ b ∷ c ∷ d ∷ []) < 2 ^ 31 → Fours l a b c d
 fours l a b c d near =
     let one = abs_sum a (pos 0) in
     let two = abs_sum b a in
-    let three = abs_sum c b in
+    let three = abs_sum c (pos 0) in
     let four = abs_sum d c in
     let to_one = abs_sum (a +ℤ pos 0) (pos 0) in
     let to_two = abs_sum (b +ℤ a) (pos 0) in
-    let to_three = abs_sum (c +ℤ b) (a +ℤ pos 0) in
+    let to_three = abs_sum (c +ℤ pos 0) (b +ℤ a) in
     let to_four = abs_sum (d +ℤ c) (b +ℤ a) in
     record {
       last = near_signed l (omega (arith, near));
@@ -83,18 +83,18 @@ fours l a b c d near =
       fourth = near_signed d (omega (arith, near));
       one = near_signed (a +ℤ pos 0) (omega (arith, near, one));
       two = near_signed (b +ℤ a) (omega (arith, near, two));
-      three = near_signed (c +ℤ b) (omega (arith, near, three));
+      three = near_signed (c +ℤ pos 0) (omega (arith, near, three));
       four = near_signed (d +ℤ c) (omega (arith, near, four));
       to_one = near_signed ((a +ℤ pos 0) +ℤ pos 0) (omega (arith, near, one, to_one));
       to_two = near_signed ((b +ℤ a) +ℤ pos 0) (omega (arith, near, two, to_two));
-      to_three = near_signed ((c +ℤ b) +ℤ (a +ℤ pos 0)) (omega (arith, near, one, three, to_three));
+      to_three = near_signed ((c +ℤ pos 0) +ℤ (b +ℤ a)) (omega (arith, near, two, three, to_three));
       to_four = near_signed ((d +ℤ c) +ℤ (b +ℤ a)) (omega (arith, near, two, four, to_four));
       sum_one = near_signed (l +ℤ ((a +ℤ pos 0) +ℤ pos 0))
           (omega (arith, near, one, to_one, abs_sum l ((a +ℤ pos 0) +ℤ pos 0)));
       sum_two = near_signed (l +ℤ ((b +ℤ a) +ℤ pos 0))
           (omega (arith, near, two, to_two, abs_sum l ((b +ℤ a) +ℤ pos 0)));
-      sum_three = near_signed (l +ℤ ((c +ℤ b) +ℤ (a +ℤ pos 0)))
-          (omega (arith, near, one, three, to_three, abs_sum l ((c +ℤ b) +ℤ (a +ℤ pos 0))));
+      sum_three = near_signed (l +ℤ ((c +ℤ pos 0) +ℤ (b +ℤ a)))
+          (omega (arith, near, two, three, to_three, abs_sum l ((c +ℤ pos 0) +ℤ (b +ℤ a))));
       sum_four = near_signed (l +ℤ ((d +ℤ c) +ℤ (b +ℤ a)))
           (omega (arith, near, two, four, to_four, abs_sum l ((d +ℤ c) +ℤ (b +ℤ a))));
     }
@@ -107,28 +107,28 @@ abbrev pub FitFour : ℤ → ℤ → ℤ → ℤ → Type 0
 FitFour a b c d = FitsSigned w32 a × (FitsSigned w32 b × (FitsSigned w32 c × (FitsSigned w32 d × ⊤)))
 
 pub pairs_fit : {l a b c d : ℤ} → Fours l a b c d
-    → FitFour (held a +ℤ pos 0) (held b +ℤ held a) (held c +ℤ held b) (held d +ℤ held c)
+    → FitFour (held a +ℤ pos 0) (held b +ℤ held a) (held c +ℤ pos 0) (held d +ℤ held c)
 pairs_fit {l} {a} {b} {c} {d} n =
     rw (to_z-of_z w32 a n.first, to_z-of_z w32 b n.second, to_z-of_z w32 c n.third, to_z-of_z w32 d n.fourth)
     (n.one, (n.two, (n.three, (n.four, tt))))
 
 pub fours_fit : {l a b c d : ℤ} → Fours l a b c d
     → FitFour (held (held a +ℤ pos 0) +ℤ pos 0) (held (held b +ℤ held a) +ℤ pos 0)
-    (held (held c +ℤ held b) +ℤ held (held a +ℤ pos 0)) (held (held d +ℤ held c) +ℤ held (held b +ℤ held a))
+    (held (held c +ℤ pos 0) +ℤ held (held b +ℤ held a)) (held (held d +ℤ held c) +ℤ held (held b +ℤ held a))
 fours_fit {l} {a} {b} {c} {d} n =
     rw (to_z-of_z w32 a n.first, to_z-of_z w32 b n.second, to_z-of_z w32 c n.third, to_z-of_z w32 d n.fourth)
     (rw (
       to_z-of_z w32 (a +ℤ pos 0) n.one,
       to_z-of_z w32 (b +ℤ a) n.two,
-      to_z-of_z w32 (c +ℤ b) n.three,
+      to_z-of_z w32 (c +ℤ pos 0) n.three,
       to_z-of_z w32 (d +ℤ c) n.four,
     ) (n.to_one, (n.to_two, (n.to_three, (n.to_four, tt)))))
 
 by_held : {l a b c d : ℤ} (P : ℤ → ℤ → ℤ → ℤ → Type 0) → Fours l a b c d
-    → P (l +ℤ ((a +ℤ pos 0) +ℤ pos 0)) (l +ℤ ((b +ℤ a) +ℤ pos 0)) (l +ℤ ((c +ℤ b) +ℤ (a +ℤ pos 0)))
+    → P (l +ℤ ((a +ℤ pos 0) +ℤ pos 0)) (l +ℤ ((b +ℤ a) +ℤ pos 0)) (l +ℤ ((c +ℤ pos 0) +ℤ (b +ℤ a)))
     (l +ℤ ((d +ℤ c) +ℤ (b +ℤ a)))
     → P (held l +ℤ held (held (held a +ℤ pos 0) +ℤ pos 0)) (held l +ℤ held (held (held b +ℤ held a) +ℤ pos 0))
-    (held l +ℤ held (held (held c +ℤ held b) +ℤ held (held a +ℤ pos 0)))
+    (held l +ℤ held (held (held c +ℤ pos 0) +ℤ held (held b +ℤ held a)))
     (held l +ℤ held (held (held d +ℤ held c) +ℤ held (held b +ℤ held a)))
 by_held {l} {a} {b} {c} {d} P n h =
     rw (
@@ -141,44 +141,44 @@ by_held {l} {a} {b} {c} {d} P n h =
     (rw (
       to_z-of_z w32 (a +ℤ pos 0) n.one,
       to_z-of_z w32 (b +ℤ a) n.two,
-      to_z-of_z w32 (c +ℤ b) n.three,
+      to_z-of_z w32 (c +ℤ pos 0) n.three,
       to_z-of_z w32 (d +ℤ c) n.four,
     )
     (rw (
       to_z-of_z w32 ((a +ℤ pos 0) +ℤ pos 0) n.to_one,
       to_z-of_z w32 ((b +ℤ a) +ℤ pos 0) n.to_two,
-      to_z-of_z w32 ((c +ℤ b) +ℤ (a +ℤ pos 0)) n.to_three,
+      to_z-of_z w32 ((c +ℤ pos 0) +ℤ (b +ℤ a)) n.to_three,
       to_z-of_z w32 ((d +ℤ c) +ℤ (b +ℤ a)) n.to_four,
     ) h))
 
 pub sums_fit : {l a b c d : ℤ} → Fours l a b c d
     → FitFour (held l +ℤ held (held (held a +ℤ pos 0) +ℤ pos 0)) (held l +ℤ held (held (held b +ℤ held a) +ℤ pos 0))
-    (held l +ℤ held (held (held c +ℤ held b) +ℤ held (held a +ℤ pos 0)))
+    (held l +ℤ held (held (held c +ℤ pos 0) +ℤ held (held b +ℤ held a)))
     (held l +ℤ held (held (held d +ℤ held c) +ℤ held (held b +ℤ held a)))
 sums_fit n = by_held FitFour n (n.sum_one, (n.sum_two, (n.sum_three, (n.sum_four, tt))))
 
 -- pair by pair, the sums are those one by one
 sums_by_pairs : (l a b c d : ℤ)
-    → (l +ℤ ((a +ℤ pos 0) +ℤ pos 0)) ∷ (l +ℤ ((b +ℤ a) +ℤ pos 0)) ∷ (l +ℤ ((c +ℤ b) +ℤ (a +ℤ pos 0)))
+    → (l +ℤ ((a +ℤ pos 0) +ℤ pos 0)) ∷ (l +ℤ ((b +ℤ a) +ℤ pos 0)) ∷ (l +ℤ ((c +ℤ pos 0) +ℤ (b +ℤ a)))
     ∷ (l +ℤ ((d +ℤ c) +ℤ (b +ℤ a))) ∷ [] ≡ sums l (a ∷ b ∷ c ∷ d ∷ [])
 sums_by_pairs l a b c d =
     let one : l +ℤ ((a +ℤ pos 0) +ℤ pos 0) ≡ l +ℤ a = omega (arith, ints) in
     let two : l +ℤ ((b +ℤ a) +ℤ pos 0) ≡ (l +ℤ a) +ℤ b = omega (arith, ints) in
-    let three : l +ℤ ((c +ℤ b) +ℤ (a +ℤ pos 0)) ≡ ((l +ℤ a) +ℤ b) +ℤ c = omega (arith, ints) in
+    let three : l +ℤ ((c +ℤ pos 0) +ℤ (b +ℤ a)) ≡ ((l +ℤ a) +ℤ b) +ℤ c = omega (arith, ints) in
     let four : l +ℤ ((d +ℤ c) +ℤ (b +ℤ a)) ≡ (((l +ℤ a) +ℤ b) +ℤ c) +ℤ d = omega (arith, ints) in
     rw (one, two, three, four) refl
 
 pub held_sums : {l a b c d : ℤ} → Fours l a b c d
     → held (held l +ℤ held (held (held a +ℤ pos 0) +ℤ pos 0))
     ∷ held (held l +ℤ held (held (held b +ℤ held a) +ℤ pos 0))
-    ∷ held (held l +ℤ held (held (held c +ℤ held b) +ℤ held (held a +ℤ pos 0)))
+    ∷ held (held l +ℤ held (held (held c +ℤ pos 0) +ℤ held (held b +ℤ held a)))
     ∷ held (held l +ℤ held (held (held d +ℤ held c) +ℤ held (held b +ℤ held a))) ∷ []
     ≡ sums l (a ∷ b ∷ c ∷ d ∷ [])
 held_sums {l} {a} {b} {c} {d} n =
     by_held (λ w x y z. held w ∷ held x ∷ held y ∷ held z ∷ [] ≡ sums l (a ∷ b ∷ c ∷ d ∷ [])) n (rw (
       to_z-of_z w32 (l +ℤ ((a +ℤ pos 0) +ℤ pos 0)) n.sum_one,
       to_z-of_z w32 (l +ℤ ((b +ℤ a) +ℤ pos 0)) n.sum_two,
-      to_z-of_z w32 (l +ℤ ((c +ℤ b) +ℤ (a +ℤ pos 0))) n.sum_three,
+      to_z-of_z w32 (l +ℤ ((c +ℤ pos 0) +ℤ (b +ℤ a))) n.sum_three,
       to_z-of_z w32 (l +ℤ ((d +ℤ c) +ℤ (b +ℤ a))) n.sum_four,
     )
     (sums_by_pairs l a b c d))

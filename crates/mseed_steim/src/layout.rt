@@ -20,148 +20,45 @@ struct Layout {
     places: [u32; LANES],
 }
 
+/// The layout of a row: its code, its dnib, how many differences it has and of how many bits, and the rest.
+macro_rules! layout {
+    ($code:literal, $dnib:literal, $count:literal of $width:literal, $mask:literal, $head:literal, $places:expr) => {
+        Layout {
+            row: Row {
+                code: $code,
+                dnib: $dnib,
+                count: $count,
+                width: $width,
+            },
+            mask: $mask,
+            head: $head,
+            places: $places,
+        }
+    };
+}
+
 /// Where no word holds so many.
-const NO_LAYOUT: Layout = Layout {
-    row: Row {
-        code: 0,
-        dnib: 0,
-        count: 0,
-        width: 0,
-    },
-    mask: 0,
-    head: 0,
-    places: [0, 0, 0, 0, 0, 0, 0, 0],
-};
+const NO_LAYOUT: Layout = layout!(0, 0, 0 of 0, 0, 0, [0, 0, 0, 0, 0, 0, 0, 0]);
 
 /// The layouts of Steim-2, by how many differences of the next are held by the words that hold each.
 static LAYOUTS_TWO: [Layout; LANES] = [
     NO_LAYOUT,
-    Layout {
-        row: Row {
-            code: 2,
-            dnib: 1,
-            count: 1,
-            width: 30,
-        },
-        mask: 0x3FFF_FFFF,
-        head: 0x4000_0000,
-        places: [1, 0, 0, 0, 0, 0, 0, 0],
-    },
-    Layout {
-        row: Row {
-            code: 2,
-            dnib: 2,
-            count: 2,
-            width: 15,
-        },
-        mask: 0x7FFF,
-        head: 0x8000_0000,
-        places: [0x8000, 1, 0, 0, 0, 0, 0, 0],
-    },
-    Layout {
-        row: Row {
-            code: 2,
-            dnib: 3,
-            count: 3,
-            width: 10,
-        },
-        mask: 0x3FF,
-        head: 0xC000_0000,
-        places: [0x10_0000, 0x400, 1, 0, 0, 0, 0, 0],
-    },
-    Layout {
-        row: Row {
-            code: 1,
-            dnib: 0,
-            count: 4,
-            width: 8,
-        },
-        mask: 0xFF,
-        head: 0,
-        places: [0x100_0000, 0x1_0000, 0x100, 1, 0, 0, 0, 0],
-    },
-    Layout {
-        row: Row {
-            code: 3,
-            dnib: 0,
-            count: 5,
-            width: 6,
-        },
-        mask: 0x3F,
-        head: 0,
-        places: [0x100_0000, 0x4_0000, 0x1000, 0x40, 1, 0, 0, 0],
-    },
-    Layout {
-        row: Row {
-            code: 3,
-            dnib: 1,
-            count: 6,
-            width: 5,
-        },
-        mask: 0x1F,
-        head: 0x4000_0000,
-        places: [0x200_0000, 0x10_0000, 0x8000, 0x400, 0x20, 1, 0, 0],
-    },
-    Layout {
-        row: Row {
-            code: 3,
-            dnib: 2,
-            count: 7,
-            width: 4,
-        },
-        mask: 0xF,
-        head: 0x8000_0000,
-        places: [0x100_0000, 0x10_0000, 0x1_0000, 0x1000, 0x100, 0x10, 1, 0],
-    },
+    layout!(2, 1, 1 of 30, 0x3FFF_FFFF, 0x4000_0000, [1, 0, 0, 0, 0, 0, 0, 0]),
+    layout!(2, 2, 2 of 15, 0x7FFF, 0x8000_0000, [0x8000, 1, 0, 0, 0, 0, 0, 0]),
+    layout!(2, 3, 3 of 10, 0x3FF, 0xC000_0000, [0x10_0000, 0x400, 1, 0, 0, 0, 0, 0]),
+    layout!(1, 0, 4 of 8, 0xFF, 0, [0x100_0000, 0x1_0000, 0x100, 1, 0, 0, 0, 0]),
+    layout!(3, 0, 5 of 6, 0x3F, 0, [0x100_0000, 0x4_0000, 0x1000, 0x40, 1, 0, 0, 0]),
+    layout!(3, 1, 6 of 5, 0x1F, 0x4000_0000, [0x200_0000, 0x10_0000, 0x8000, 0x400, 0x20, 1, 0, 0]),
+    layout!(3, 2, 7 of 4, 0xF, 0x8000_0000, [0x100_0000, 0x10_0000, 0x1_0000, 0x1000, 0x100, 0x10, 1, 0]),
 ];
 
 /// The same of Steim-1, which has words of 1, 2 and 4: of three it takes two.
 static LAYOUTS_ONE: [Layout; LANES] = [
     NO_LAYOUT,
-    Layout {
-        row: Row {
-            code: 3,
-            dnib: 0,
-            count: 1,
-            width: 32,
-        },
-        mask: 0xFFFF_FFFF,
-        head: 0,
-        places: [1, 0, 0, 0, 0, 0, 0, 0],
-    },
-    Layout {
-        row: Row {
-            code: 2,
-            dnib: 0,
-            count: 2,
-            width: 16,
-        },
-        mask: 0xFFFF,
-        head: 0,
-        places: [0x1_0000, 1, 0, 0, 0, 0, 0, 0],
-    },
-    Layout {
-        row: Row {
-            code: 2,
-            dnib: 0,
-            count: 2,
-            width: 16,
-        },
-        mask: 0xFFFF,
-        head: 0,
-        places: [0x1_0000, 1, 0, 0, 0, 0, 0, 0],
-    },
-    Layout {
-        row: Row {
-            code: 1,
-            dnib: 0,
-            count: 4,
-            width: 8,
-        },
-        mask: 0xFF,
-        head: 0,
-        places: [0x100_0000, 0x1_0000, 0x100, 1, 0, 0, 0, 0],
-    },
+    layout!(3, 0, 1 of 32, 0xFFFF_FFFF, 0, [1, 0, 0, 0, 0, 0, 0, 0]),
+    layout!(2, 0, 2 of 16, 0xFFFF, 0, [0x1_0000, 1, 0, 0, 0, 0, 0, 0]),
+    layout!(2, 0, 2 of 16, 0xFFFF, 0, [0x1_0000, 1, 0, 0, 0, 0, 0, 0]),
+    layout!(1, 0, 4 of 8, 0xFF, 0, [0x100_0000, 0x1_0000, 0x100, 1, 0, 0, 0, 0]),
     NO_LAYOUT,
     NO_LAYOUT,
     NO_LAYOUT,

@@ -17,9 +17,8 @@ use crate::frame::{FROM_1, FROM_4};
 use crate::group::{Group, group_of};
 use crate::lanes::Rows;
 use crate::scheme::Scheme;
-use crate::sum::{Sum, add_difference, add_near};
+use crate::sum::{Sum, add_digit, add_near};
 use crate::unpack::{ROOM, unpack_frame};
-use crate::word::read_digit;
 
 /// No sum of a frame's differences is further from 0 than this, unless one of them has 30 or 32 bits.
 const REACH: u32 = 1 << 20;
@@ -47,8 +46,7 @@ fn put_each(
         if sum.met == samples {
             return Ok(sum);
         }
-        let difference = read_digit(word, group.width, group.count - 1 - i);
-        match add_difference(difference, samples, sum) {
+        match add_digit(word, group, i, samples, sum) {
             Ok(next) => {
                 out[sum.met] = next.last;
                 sum = next;

@@ -1,6 +1,7 @@
 //! Differences that are added up, word by word.
 
-ghost use Rattle.std.specs.Prelude.{◌≡◌, ◌+◌, ◌^◌, ◌≤◌, ◌<◌, List, ◌∷◌, ◌++◌, map, ℤ, ◌+ℤ◌, nat_abs, Result, Ok, IfOk};
+ghost use Rattle.std.specs.Prelude.{◌≡◌, ◌+◌, ◌-◌, ◌^◌, ◌≤◌, ◌<◌, List, ◌∷◌, ◌++◌, map, ℤ, ◌+ℤ◌, nat_abs, Result};
+ghost use Rattle.std.specs.Prelude.{Ok, IfOk};
 ghost use Rattle.mseed_steim.specs.declared.differences.BadWordAt.{BadWordAt};
 ghost use Rattle.mseed_steim.specs.private.Digits.{digits};
 ghost use Rattle.mseed_steim.specs.private.Sums.{GoesOn, fold, met_in};
@@ -55,6 +56,30 @@ pub(crate) fn add_near(difference: i32, samples: usize, sum: Sum) -> Sum
     }
 }
 
+/// The next difference of a group in the low bits of a word.
+#[inline(always)]
+pub(crate) fn add_digit(
+    word: u32,
+    group: Group,
+    index: u32,
+    samples: usize,
+    sum: Sum,
+) -> Result<Sum, ReadFault>
+    requires inside { index < group.count }
+    requires left { sum.met < samples }
+    ensures goes_on { (more : List (Result ℤ BadWordAt))
+        → GoesOn samples sum (map Ok (digits group.width word (group.count - index)) ++ more)
+        (map Ok (digits group.width word (group.count - (index + 1))) ++ more) result }
+    ensures met { IfOk result (λ next. next.met ≡ sum.met + 1) }
+    ensures kept { IfOk result (λ next. (more : List (Result ℤ BadWordAt))
+        → met_in samples sum (map Ok (digits group.width word (group.count - index)) ++ more)
+        ≡ next.last ∷ met_in samples next
+        (map Ok (digits group.width word (group.count - (index + 1))) ++ more)) }
+{
+    let difference = read_digit(word, group.width, group.count - 1 - index);
+    add_difference(difference, samples, sum)
+}
+
 /// The differences of a group in the low bits of a word, as far as they are needed.
 pub(crate) fn add_group(word: u32, group: Group, samples: usize, sum: Sum) -> Result<Sum, ReadFault>
     requires { sum.met ≤ samples }
@@ -67,8 +92,7 @@ pub(crate) fn add_group(word: u32, group: Group, samples: usize, sum: Sum) -> Re
         if sum.met == samples {
             return Ok(sum);
         }
-        let difference = read_digit(word, group.width, group.count - 1 - i);
-        match add_difference(difference, samples, sum) {
+        match add_digit(word, group, i, samples, sum) {
             Ok(next) => sum = next,
             Err(fault) => return Err(fault),
         }

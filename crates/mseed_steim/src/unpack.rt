@@ -12,8 +12,8 @@ ghost use Rattle.mseed_steim.specs.private.Digits.{digit_at, digits};
 ghost use Rattle.mseed_steim.specs.Frames.{DataWord, words_from};
 ghost use Rattle.mseed_steim.specs.private.Items.{items_of};
 ghost use Rattle.mseed_steim.specs.private.Lanes.{Begins, row_at, span, word_at, word_of, words};
-ghost use Rattle.mseed_steim.specs.private.Unpacked.{AreNarrow, FitIn, Unpacks, counts_of, lanes_of, unpacked};
-ghost use Rattle.mseed_steim.specs.private.Unpacked.{widths_of};
+ghost use Rattle.mseed_steim.specs.private.Unpacked.{AreNarrow, FitIn, Unpacks, counts_of, lanes_of, row_of};
+ghost use Rattle.mseed_steim.specs.private.Unpacked.{unpacked, widths_of};
 
 use crate::ends::has_no_code_3;
 use crate::frame::{COUNT_ONE, COUNT_TWO};
@@ -39,6 +39,8 @@ struct Unpacking {
     fall: u32,
     /// How many differences there are.
     count: usize,
+    /// Makes it 64 bytes, so that a row is found by a shift.
+    spare: [u64; 2],
 }
 
 /// A row of so many differences.
@@ -48,6 +50,7 @@ macro_rules! row {
             lifts: $lifts,
             fall: 32 - $width,
             count: $count,
+            spare: [0, 0],
         }
     };
 }
@@ -152,13 +155,12 @@ fn spread(word: u32, by: &Unpacking, lanes: usize, at: usize, differences: &mut 
     }
 }
 
-/// The rows of a frame's words, and how many differences these have: 128 or more where a word is bad or has one of
-/// 30 or 32 bits.
+/// The rows of a frame's words, eight in each half, and how many differences these have: 128 or more where a word is
+/// bad or has one of 30 or 32 bits.
 #[inline(always)]
-fn rows_in(scheme: Scheme, frame: &[u8; 64], begin: Rows) -> ([u8; 16], u32)
-    ensures small { (word : ℕ) → slice_index result.0 word < 16 }
+fn rows_in(scheme: Scheme, frame: &[u8; 64], begin: Rows) -> ([u64; 2], u32)
     ensures rows { (from word : ℕ) → Begins begin from → word < 16
-        → slice_index result.0 word ≡ row_at frame.now from word }
+        → row_of result.0 word ≡ row_at frame.now from word }
     ensures count { (from : ℕ) → Begins begin from
         → result.1 ≡ sum_l (map (λ w. slice_index (counts_of scheme) (row_at frame.now from w)) words) }
 {
@@ -168,7 +170,16 @@ fn rows_in(scheme: Scheme, frame: &[u8; 64], begin: Rows) -> ([u8; 16], u32)
         Scheme::One => sum_of(tally(rows, COUNT_ONE)),
         Scheme::Two => sum_of(tally(rows, COUNT_TWO)),
     };
-    (rows.to_array(), count)
+    (u64x2::from_le_bytes(rows).to_array(), count)
+}
+
+/// The row of a word.
+#[inline(always)]
+fn row_in(rows: &[u64; 2], word: usize) -> usize
+    requires { word < 16 }
+    ensures { result ≡ row_of rows.now word }
+{
+    ((rows[word / 8] >> (8 * (word % 8))) & 15) as usize
 }
 
 /// Four words, the highest byte of each first.
@@ -203,24 +214,23 @@ fn unpack_five(
     scheme: Scheme,
     lanes: usize,
     bits: &[u32; 16],
-    rows: &[u8; 16],
+    rows: &[u64; 2],
     first: usize,
     met: usize,
     differences: &mut [i32; ROOM],
 ) -> usize
-    requires small { (word : ℕ) → slice_index rows.now word < 16 }
     requires lanes { lanes ≤ 8 }
     requires inside { first + 5 ≤ 16 }
     requires room { met ≤ 80 }
     ensures few { result ≤ met + 40 }
     ensures unpacked { (frame : List ℕ) (from : ℕ) → bits.now ≡ map (word_at frame) words
-        → ((word : ℕ) → word < 16 → slice_index rows.now word ≡ row_at frame from word)
+        → ((word : ℕ) → word < 16 → row_of rows.now word ≡ row_at frame from word)
         → AreNarrow scheme frame from → FitIn scheme frame from lanes
         → take result differences.new ≡ take met differences.old ++ unpacked scheme frame from first 5 }
 {
     let mut met = met;
     for index in 0..5 {
-        let by = unpacking_of(scheme, usize::from(rows[first + index]));
+        let by = unpacking_of(scheme, row_in(rows, first + index));
         spread(bits[first + index], by, lanes, met, differences);
         met += by.count;
     }
@@ -233,14 +243,13 @@ fn unpack_all(
     scheme: Scheme,
     lanes: usize,
     bits: &[u32; 16],
-    rows: &[u8; 16],
+    rows: &[u64; 2],
     differences: &mut [i32; ROOM],
 ) -> usize
-    requires small { (word : ℕ) → slice_index rows.now word < 16 }
     requires lanes { lanes ≤ 8 }
     ensures few { result ≤ 120 }
     ensures unpacked { (frame : List ℕ) (from : ℕ) → bits.now ≡ map (word_at frame) words
-        → ((word : ℕ) → word < 16 → slice_index rows.now word ≡ row_at frame from word)
+        → ((word : ℕ) → word < 16 → row_of rows.now word ≡ row_at frame from word)
         → AreNarrow scheme frame from → FitIn scheme frame from lanes
         → take result differences.new ≡ unpacked scheme frame from 1 15 }
 {
@@ -255,13 +264,12 @@ fn unpack_all(
 fn unpack_words(
     scheme: Scheme,
     frame: &[u8; 64],
-    rows: &[u8; 16],
+    rows: &[u64; 2],
     differences: &mut [i32; ROOM],
 ) -> usize
-    requires small { (word : ℕ) → slice_index rows.now word < 16 }
     ensures few { result ≤ 120 }
     ensures unpacked { (from : ℕ) → 0 < from
-        → ((word : ℕ) → word < 16 → slice_index rows.now word ≡ row_at frame.now from word)
+        → ((word : ℕ) → word < 16 → row_of rows.now word ≡ row_at frame.now from word)
         → AreNarrow scheme frame.now from → take result differences.new ≡ unpacked scheme frame.now from 1 15 }
 {
     let bits = words_of(frame);

@@ -1,6 +1,6 @@
 -- The differences of a frame's words, unpacked word by word.
-use Rattle.std.specs.Prelude.{◌≡◌, ◌⊎◌, ℕ, zero, suc, ◌+◌, ◌-◌, ◌*◌, ◌^◌, ◌<◌, ◌≤◌, List, [], ◌++◌, ℤ, slice_index}
-use Rattle.std.specs.Prelude.{slice_index_or}
+use Rattle.std.specs.Prelude.{◌≡◌, ◌⊎◌, ℕ, zero, suc, ◌+◌, ◌-◌, ◌*◌, ◌/◌, ◌%◌, ◌^◌, ◌<◌, ◌≤◌, List, [], ◌++◌, ℤ}
+use Rattle.std.specs.Prelude.{slice_index, slice_index_or}
 use Rattle.mseed_steim.specs.declared.scheme.Scheme.{Scheme}
 use Rattle.mseed_steim.specs.declared.scheme.Scheme.TheVariants.{One, Two}
 use Rattle.mseed_steim.specs.declared.unpack.Unpacking.{Unpacking}
@@ -20,6 +20,10 @@ widths_of Two = widths_two
 abbrev pub lanes_of : Scheme → ℕ
 lanes_of One = 4
 lanes_of Two = 8
+
+-- the row of a word, of two numbers that hold eight rows each, the first lowest
+abbrev pub row_of : List ℕ → ℕ → ℕ
+row_of rows word = slice_index rows (word / 8) / 2 ^ (8 * (word % 8)) % 16
 
 -- Each difference of a word of so many of this width is lifted to the top of 32 bits, and let down by what is above
 -- its width.

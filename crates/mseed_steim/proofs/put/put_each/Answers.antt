@@ -1,10 +1,9 @@
-use Rattle.std.proofs.Common.{◌≡◌, ◌<◌, ◌+◌, ◌-◌, ◌++◌, map, take, length, List, ℤ, Ok, arith, ◌∙◌, ap, sym, rules, w32}
+use Rattle.std.proofs.Common.{◌<◌, ◌+◌, ◌-◌, ◌++◌, map, take, length, List, ℤ, Ok, arith, ◌∙◌, ap, sym, rules, w32}
 use Rattle.std.proofs.Common.{FitsSigned}
 use Rattle.std.proofs.lemmas.Int.{to_z-of_z}
-use Rattle.mseed_steim.specs.private.Digits.{digits, digit_at}
+use Rattle.mseed_steim.specs.private.Digits.{digits}
 use Rattle.mseed_steim.specs.private.Sums.{met_in}
-use Rattle.mseed_steim.proofs.Shifts.{room_at}
-use Rattle.mseed_steim.proofs.Spelled.{digits_step, digits_over}
+use Rattle.mseed_steim.proofs.Spelled.{digits_over}
 use Rattle.mseed_steim.proofs.Folds.{fold_enough}
 use Rattle.mseed_steim.proofs.Folded.{met_enough, take_put}
 use Rattle.mseed_steim.proofs.put.put_each.Goals as goal
@@ -24,39 +23,22 @@ returns-then-sum-samples-clause-kept c = λ more.
     ∙ c.loop-i.invariant.kept more
 
 pub returns-in-Err-clause-goes_on : goal.returns-in-Err-clause-goes_on
-returns-in-Err-clause-goes_on c =
-    let digit : c.read_digit-difference.result ≡ digit_at c.args.group.width c.args.word
-    (c.args.group.count - 1 - c.loop-i.i) = c.read_digit-difference.ensures in
-    let fits : FitsSigned w32 c.read_digit-difference.result = search rules in
-    let step = digits_step c.args.group.width c.args.word c.args.group.count c.loop-i.i c.loop-i-test.true in
-    let same = rw (step, ← digit) at c.loop-i.invariant.same in
-    λ more. same more ∙ (rw to_z-of_z at
-    (c.in-Err.ensures.goes_on
-    (map Ok (digits c.args.group.width c.args.word (c.args.group.count - (c.loop-i.i + 1))) ++ more)))
+returns-in-Err-clause-goes_on c = λ more. c.loop-i.invariant.same more ∙ c.in-Err.ensures.goes_on more
 
 pub loop-i-preserved : goal.loop-i-preserved
 loop-i-preserved c =
-    let digit : c.read_digit-difference.result ≡ digit_at c.args.group.width c.args.word
-    (c.args.group.count - 1 - c.loop-i.i) = c.read_digit-difference.ensures in
-    let fits : FitsSigned w32 c.read_digit-difference.result = search rules in
     let last : FitsSigned w32 c.in-Ok.next.last = search rules in
-    let step = digits_step c.args.group.width c.args.word c.args.group.count c.loop-i.i c.loop-i-test.true in
-    let same = rw (step, ← digit) at c.loop-i.invariant.same in
-    let kept = rw (step, ← digit) at c.loop-i.invariant.kept in
     let inside : c.loop-i.sum.met < length c.loop-i.out = omega arith in
     record {
       places = search rules;
       met = let met = c.in-Ok.ensures.met in omega (arith, met);
-      same = λ more. same more
-          ∙ (rw to_z-of_z at (c.in-Ok.ensures.goes_on
-          (map Ok (digits c.args.group.width c.args.word (c.args.group.count - (c.loop-i.i + 1))) ++ more)));
+      same = λ more. c.loop-i.invariant.same more ∙ c.in-Ok.ensures.goes_on more;
       kept = λ more.
           let rest = map Ok (digits c.args.group.width c.args.word (c.args.group.count - (c.loop-i.i + 1))) ++ more in
-          let met = rw to_z-of_z at (c.in-Ok.ensures.kept rest) in
           rw to_z-of_z (take_put c.loop-i.out c.loop-i.sum.met c.in-Ok.next.met c.in-Ok.next.last
           (met_in c.args.samples c.in-Ok.next rest) inside c.in-Ok.ensures.met
-          ∙ ap (λ (xs : List ℤ). take c.loop-i.sum.met c.loop-i.out ++ xs) (sym met)
-          ∙ kept more);
+          ∙ ap (λ (xs : List ℤ). take c.loop-i.sum.met c.loop-i.out ++ xs) (sym (c.in-Ok.ensures.kept more))
+          ∙ c.loop-i.invariant.kept more);
     }
 
 pub returns-clause-goes_on : goal.returns-clause-goes_on
@@ -68,7 +50,3 @@ pub returns-clause-kept : goal.returns-clause-kept
 returns-clause-kept c = λ more.
     let none = digits_over c.args.group.width c.args.word c.args.group.count c.loop-i.i c.loop-i-test.false in
     (rw none at c.loop-i.invariant.kept) more
-
-pub read_digit-difference-requires-clause-room : goal.read_digit-difference-requires-clause-room
-read_digit-difference-requires-clause-room c =
-    room_at c.args.group.width c.args.group.count c.loop-i.i c.loop-i-test.true c.args.group.fits

@@ -1,17 +1,16 @@
 use Rattle.std.proofs.Common.{ℕ, ◌∙◌, ap, ◌%◌}
 use Rattle.mseed_steim.specs.private.Lanes.{counts_one, counts_two, row_at}
-use Rattle.mseed_steim.proofs.LaneDigits.{at_word, each_small}
+use Rattle.mseed_steim.proofs.LaneDigits.{at_word}
 use Rattle.mseed_steim.proofs.LaneSums.{counted, counted_one}
+use Rattle.mseed_steim.proofs.RowHalves.{halves}
 use Rattle.mseed_steim.proofs.unpack.rows_in.Goals.{in-One, in-Two}
 use Rattle.mseed_steim.proofs.unpack.rows_in.Goals as goal
-
-pub returns-clause-small : goal.returns-clause-small
-returns-clause-small c = each_small _ c.rows_of-rows.ensures.small
 
 pub returns-clause-rows : goal.returns-clause-rows
 returns-clause-rows c = λ from word begins less.
     let rows = c.rows_of-rows.ensures.value from begins in
-    rw rows (at_word (row_at c.args.frame.now from) word less)
+    halves c.rows_of-rows.result word c.rows_of-rows.ensures.small less
+    ∙ rw rows (at_word (row_at c.args.frame.now from) word less)
 
 pub returns-clause-count : goal.returns-clause-count
 unfolding counts_one counts_two
