@@ -1,6 +1,6 @@
 -- The series of a continuous channel.
-use Rattle.std.proofs.Common.{◌≡◌, ◌↔◌, ◌<◌, ℕ, zero, suc, ℤ, nat_lt, List, [], ◌∷◌, Bool, true, false, cond, length}
-use Rattle.std.proofs.Common.{map, take, get_or, Option, Some, None, Result, Ok, Err, IfOk, IfErr, IsTrue, refl, sym}
+use Rattle.std.proofs.Common.{◌≡◌, ◌<◌, ℕ, zero, suc, ℤ, nat_lt, List, [], ◌∷◌, Bool, true, false, cond, length}
+use Rattle.std.proofs.Common.{map, take, get_or, Option, Some, None, Result, Ok, Err, IfOk, IfErr, refl, sym}
 use Rattle.std.proofs.Common.{ap, subst, ◌∙◌, arith}
 use Rattle.std.specs.List.{All, AllByRecursion, filter}
 use Rattle.std.proofs.lemmas.Bool.{and_parts}
@@ -15,36 +15,37 @@ use Rattle.mseed_record.specs.Viewing.{view_of}
 use Rattle.mseed_steim.specs.Reading.{count_of}
 use Rattle.mseed_audit.specs.declared.assembly.NotContinuous.{NotContinuous}
 use Rattle.mseed_audit.specs.declared.assembly.NotContinuous.TheVariants.{Broken as NotBroken, Memory}
+use Rattle.mseed_audit.specs.declared.channel.Channel.{Channel}
 use Rattle.mseed_audit.specs.declared.finding.Finding.{Finding}
 use Rattle.mseed_audit.specs.declared.verdict.Verdict.{Verdict}
 use Rattle.mseed_audit.specs.declared.verdict.Verdict.TheVariants.{Continuous, Broken}
+use Rattle.mseed_audit.specs.Audit.{Stands, verdict_of}
 use Rattle.mseed_audit.specs.Channels.{Placed, added_from, is_of, same_key, records_of, views_in}
 use Rattle.mseed_audit.specs.Follows.{IsSound, IsContinuous}
 use Rattle.mseed_audit.specs.Judging.{rate_in, rate_unless, time_fault_of}
 use Rattle.mseed_audit.specs.private.Kept.{IsFirstRate}
 use Rattle.mseed_audit.specs.Series.{Trace, AreJoined, steps_from, HoldsAll, IsSeriesOf, IsSeries}
-use Rattle.mseed_audit.specs.Verdict.{IsVerdict, says_continuous}
+use Rattle.mseed_audit.specs.Verdict.{IsVerdict}
 use Rattle.mseed_audit.proofs.Behind.{views_are}
+use Rattle.mseed_audit.proofs.Finished.{AreExact}
+use Rattle.mseed_audit.proofs.Kept.{stands_verdict}
 use Rattle.mseed_audit.proofs.Maps.{same_is}
 
 -- a channel of which the verdict says so is continuous
-pub continuous_by : ((v : Verdict) (ps : List Placed) → IsVerdict v ps
-    → (IsTrue (says_continuous v) ↔ IsContinuous (views_in ps)))
-    → (v : Verdict) (start : ℤ) (rate : Ratio) (records samples : ℕ) (ps : List Placed)
-    → Continuous start rate records samples ≡ v → IsVerdict v ps
+pub continuous_by : AreExact → (c : Channel) (start : ℤ) (rate : Ratio) (records samples : ℕ) (ps : List Placed)
+    → Continuous start rate records samples ≡ verdict_of c → Stands c ps
     → IsVerdict (Continuous start rate records samples) ps × IsContinuous (views_in ps)
-continuous_by exact v start rate records samples ps e verdict =
+continuous_by exact c start rate records samples ps e stands =
     let is : IsVerdict (Continuous start rate records samples) ps =
-    subst (λ (w : Verdict). IsVerdict w ps) (sym e) verdict in
+    subst (λ (w : Verdict). IsVerdict w ps) (sym e) (stands_verdict c ps stands) in
     (is, (exact (Continuous start rate records samples) ps is).0 refl)
 
 -- and one of which it says so is broken
-pub broken_by : ((v : Verdict) (ps : List Placed) → IsVerdict v ps
-    → (IsTrue (says_continuous v) ↔ IsContinuous (views_in ps)))
-    → (v : Verdict) (first : Finding) (count : ℕ) (ps : List Placed) → Broken first count ≡ v → IsVerdict v ps
-    → IsSeries (Err (NotBroken first)) ps
-broken_by exact v first count ps e verdict =
-    let is : IsVerdict (Broken first count) ps = subst (λ (w : Verdict). IsVerdict w ps) (sym e) verdict in
+pub broken_by : AreExact → (c : Channel) (first : Finding) (count : ℕ) (ps : List Placed)
+    → Broken first count ≡ verdict_of c → Stands c ps → IsSeries (Err (NotBroken first)) ps
+broken_by exact c first count ps e stands =
+    let is : IsVerdict (Broken first count) ps =
+    subst (λ (w : Verdict). IsVerdict w ps) (sym e) (stands_verdict c ps stands) in
     ((λ continuous. let no : false ≡ true = (exact (Broken first count) ps is).1 continuous in cc), (is.0, is.1.0))
 
 -- each record of a continuous channel is sound

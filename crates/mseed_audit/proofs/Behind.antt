@@ -31,7 +31,8 @@ end_more : (offset : ℕ) (vs : List View) (v : View) → end_of offset (vs ++ v
 end_more offset [] v = refl
 end_more offset (w ∷ vs) v = end_more (offset + length w.bytes) vs v
 
-behind : (offset : ℕ) (vs : List View) (v : View)
+-- a record behind all others
+pub behind : (offset : ℕ) (vs : List View) (v : View)
     → added_from offset (vs ++ v ∷ []) ≡ added_from offset vs ++ record { view = v; offset = end_of offset vs } ∷ []
 behind offset [] v = refl
 behind offset (w ∷ vs) v =

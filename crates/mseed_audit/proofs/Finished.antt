@@ -23,7 +23,7 @@ abbrev pub AreExact : Type 0
 AreExact = (verdict : Verdict) (ps : List Placed) → IsVerdict verdict ps
     → (IsTrue (says_continuous verdict) ↔ IsContinuous (views_in ps))
 
-exact_at : AreExact → (o : Option Verdict) (ps : List Placed) → IsVerdictAt o ps → IsExactAt o ps
+pub exact_at : AreExact → (o : Option Verdict) (ps : List Placed) → IsVerdictAt o ps → IsExactAt o ps
 exact_at exact None ps is = tt
 exact_at exact (Some verdict) ps is = exact verdict ps is
 

@@ -1,26 +1,25 @@
 -- The lines of records with a finding, as they are gathered, written, and followed by the audit's text.
-use Rattle.std.proofs.Common.{◌≡◌, ℕ, ◌+◌, ◌++◌, List, [], length, take, refl, sym, ap, ◌∙◌, subst, append_assoc}
-use Rattle.std.proofs.Common.{append-nil, arith, inl, inr, Option, Result, Ok, Err}
+use Rattle.std.proofs.Common.{◌≡◌, ℕ, ◌+◌, ◌++◌, ◌∷◌, List, [], length, take, refl, sym, ap, ◌∙◌, subst, append_assoc}
+use Rattle.std.proofs.Common.{append-nil, arith, inl, inr, Option, Ok, Err}
 use Rattle.std.proofs.lemmas.List.{length-append}
 use Rattle.std.proofs.Math.Seq.{take-append-add, take-append_seam}
-use Rattle.std.specs.Result.{IsErrAnd}
 use Rattle.mseed_record.specs.View.{View}
 use Rattle.mseed_stream.specs.Device.{BytesRead, BytesWritten}
+use Rattle.mseed_stream.specs.Standing.{Standing}
 use Rattle.mseed_stream.specs.Walk.{AreViews}
 use Rattle.mseed_stream.specs.declared.fault.StreamFault.{StreamFault}
+use Rattle.mseed_audit.specs.declared.summary.Lines.TheVariants.{OfRecords}
 use Rattle.mseed_audit.specs.declared.summary.Summary.{Summary}
 use Rattle.mseed_audit.specs.declared.each.EachFault.{EachFault}
 use Rattle.mseed_audit.specs.declared.each.EachFault.TheVariants.{Write, Memory}
-use Rattle.mseed_audit.specs.declared.verdict.Verdict.{Verdict}
 use Rattle.mseed_audit.specs.Audit.{Held}
 use Rattle.mseed_audit.specs.Channels.{added_from}
-use Rattle.mseed_audit.specs.Each.{AreGathered, AuditedEach, IsEachOutcome, IsEachWritten, IsLinesFault, IsTelling}
-use Rattle.mseed_audit.specs.Each.{EmittedFirst, EmittedPart}
-use Rattle.mseed_audit.specs.private.Gathered.{IsPrefixWritten}
-use Rattle.mseed_audit.specs.Summary.{IsSummary, text_of}
-use Rattle.mseed_audit.specs.Text.{audit_text, reported_lines}
+use Rattle.mseed_audit.specs.Each.{AreGathered, AuditedEach, EmittedFirst, EmittedPart, EndsShort, HasLines}
+use Rattle.mseed_audit.specs.Each.{IsEachOutcome, IsLinesFault, each_text}
+use Rattle.mseed_audit.specs.private.Gathered.{AreTold, AreToldMore, IsFinished, IsOneMore, IsPrefixWritten}
+use Rattle.mseed_audit.specs.Summary.{IsGathered, text_of}
+use Rattle.mseed_audit.specs.Text.{reported_lines}
 use Rattle.mseed_audit.specs.Reported.{Reported, AreReportedOf}
-use Rattle.mseed_audit.proofs.Outcomes.{HasVerdicts, audited, text_is}
 use Rattle.mseed_audit.proofs.Telling.{lines_behind}
 
 -- nothing was taken
@@ -92,53 +91,30 @@ part_behind first old new text lines tail before emitted =
       (omega (arith, emitted.1.0, size), taken_behind first old new text lines tail emitted.0 before emitted.1.1),
     )
 
--- a fault, before which a prefix of the lines was written
-pub cut_short : (fault : EachFault) (h : BytesRead) (first old new : BytesWritten) (text next : List ℕ) (offset : ℕ)
-    (views : List View) (reported more : List Reported) → AreViews h.bytes offset views → old.failures ≡ first.failures
-    → AreGathered first old text (reported_lines reported) → AreReportedOf (added_from 0 views) (reported ++ more)
-    → next ≡ text ++ reported_lines more → IsPrefixWritten fault old new next → IsLinesFault fault h first new
-cut_short fault h first old new text next offset views reported more shown same before are e written =
-    go fault (subst (λ (xs : List ℕ). IsPrefixWritten fault old new xs) e written)
-  where
-    lines : reported_lines reported ++ reported_lines more ≡ reported_lines (reported ++ more)
-    lines = sym (lines_behind reported more)
-
-    go : (f : EachFault) → IsPrefixWritten f old new (text ++ reported_lines more) → IsLinesFault f h first new
-    go Write w = (
+-- a prefix of what is gathered was written: of the lines
+short_lines : (fault : EachFault) (h : BytesRead) (first old new : BytesWritten) (text : List ℕ) (offset : ℕ)
+    (views : List View) (reported : List Reported) → AreViews h.bytes offset views → old.failures ≡ first.failures
+    → AreGathered first old text (reported_lines reported) → AreReportedOf (added_from 0 views) reported
+    → IsPrefixWritten fault old new text → IsLinesFault fault h first new
+short_lines Write h first old new text offset views reported shown same before are w =
+    let lines : List ℕ = reported_lines reported in
+    let all : EmittedPart old new (text ++ []) =
+    subst (λ (xs : List ℕ). EmittedPart old new xs) (sym (append-nil text)) w.1 in
+    let part : EmittedPart first new lines =
+    subst (λ (xs : List ℕ). EmittedPart first new xs) (append-nil lines)
+    (part_behind first old new text lines [] before all) in (
       omega (arith, same, w.0),
-      (
-        offset,
-        (
-          views,
-          (
-            reported ++ more,
-            record {
-              shown = shown;
-              are_reported = are;
-              prefix = subst (λ (xs : List ℕ). EmittedPart first new xs) lines
-                  (part_behind first old new text (reported_lines reported) (reported_lines more) before w.1);
-            },
-          ),
-        ),
-      ),
+      (offset, (views, (reported, record { shown = shown; are_reported = are; prefix = part }))),
     )
-    go Memory w = (
+short_lines Memory h first old new text offset views reported shown same before are w =
+    let lines : List ℕ = reported_lines reported in
+    let all : EmittedFirst old new (text ++ []) =
+    subst (λ (xs : List ℕ). EmittedFirst old new xs) (sym (append-nil text)) w.1 in
+    let part : EmittedFirst first new lines =
+    subst (λ (xs : List ℕ). EmittedFirst first new xs) (append-nil lines)
+    (first_behind first old new text lines [] before all) in (
       w.0 ∙ same,
-      (
-        offset,
-        (
-          views,
-          (
-            reported ++ more,
-            record {
-              shown = shown;
-              are_reported = are;
-              prefix = subst (λ (xs : List ℕ). EmittedFirst first new xs) lines
-                  (first_behind first old new text (reported_lines reported) (reported_lines more) before w.1);
-            },
-          ),
-        ),
-      ),
+      (offset, (views, (reported, record { shown = shown; are_reported = are; prefix = part }))),
     )
 
 -- no memory for more than these lines
@@ -164,6 +140,79 @@ memory_short h first new text offset views reported shown same before are = (
   ),
 )
 
+-- ---- what comes next of an input
+-- one more record was added, with its line
+pub told_more : (old new : BytesRead) (before c : Standing) (held next : Held) (first now : BytesWritten)
+    (text later : List ℕ) → (t : AreTold old before held first now text)
+    → IsOneMore OfRecords t.views old new c next text later → AreToldMore old new c next first now later
+told_more old new before c held next first now text later t one = record {
+  told = record {
+    views = t.views ++ one.view ∷ [];
+    handed = one.handed;
+    audit = one.audit;
+    reported = t.reported ++ one.reported.more;
+    are_reported = one.reported.reported t.reported t.are_reported;
+    lines = gathered_reported first now text later t.reported one.reported.more t.lines one.reported.text_is;
+    fine = t.fine;
+  };
+  called = one.called;
+  few = one.few;
+}
+
+-- what is gathered was written then
+pub told_written : (old new : BytesRead) (c : Standing) (held : Held) (first now after : BytesWritten)
+    (text rest : List ℕ) → AreToldMore old new c held first now text → after.bytes ≡ now.bytes ++ text → rest ≡ []
+    → after.failures ≡ now.failures → AreToldMore old new c held first after rest
+told_written old new c held first now after text rest m written none fine =
+    let t = m.told in record {
+      told = record {
+        views = t.views;
+        handed = t.handed;
+        audit = t.audit;
+        reported = t.reported;
+        are_reported = t.are_reported;
+        lines = gathered_written first now after text rest (reported_lines t.reported) t.lines written none;
+        fine = fine ∙ t.fine;
+      };
+      called = m.called;
+      few = m.few;
+    }
+
+-- or a prefix of it
+pub told_short : (fault : EachFault) (old new : BytesRead) (c : Standing) (held : Held) (first now after : BytesWritten)
+    (text : List ℕ) → AreToldMore old new c held first now text → IsPrefixWritten fault now after text
+    → IsLinesFault fault new first after
+told_short fault old new c held first now after text m written =
+    let t = m.told in
+    short_lines fault new first now after text c.offset t.views t.reported t.handed.records t.fine t.lines
+    t.are_reported written
+
+-- there was no memory for one more
+pub told_none : (old new : BytesRead) (before : Standing) (held : Held) (first now : BytesWritten)
+    (text later : List ℕ) → (t : AreTold old before held first now text) → AreViews new.bytes before.offset t.views
+    → IsLinesFault Memory new first now
+told_none old new before held first now text later t shown =
+    memory_short new first now text before.offset t.views t.reported shown t.fine t.lines t.are_reported
+
+-- no record was left
+pub told_all : (old new : BytesRead) (before : Standing) (held next : Held) (end : Option StreamFault) (bytes : ℕ)
+    (first now : BytesWritten) (text later : List ℕ) → (t : AreTold old before held first now text)
+    → IsGathered next end bytes new t.views → later ≡ text
+    → (views : List View) × ((reported : List Reported) × HasLines next end bytes new first now later views reported)
+told_all old new before held next end bytes first now text later t all same = (
+  t.views,
+  (
+    t.reported,
+    record {
+      all = all;
+      are_reported = t.are_reported;
+      lines = subst (λ (xs : List ℕ). AreGathered first now xs (reported_lines t.reported)) (sym same) t.lines;
+      fine = t.fine;
+    },
+  ),
+)
+
+-- ---- before the audit's text
 -- the lines that were written are those before a text
 pub lines_outcome : (fault : EachFault) (h : BytesRead) (old new : BytesWritten) → IsLinesFault fault h old new
     → IsEachOutcome (Err fault) h old new
@@ -194,93 +243,69 @@ lines_outcome Memory h old new f = (
   ),
 )
 
--- what was audited, and reported
-abbrev pub audited_each : (held : Held) (end : Option StreamFault) (h : BytesRead) (verdicts : List (List ℕ × Verdict))
-    (reported : List Reported) (f : HasVerdicts held end h verdicts) → AreReportedOf (added_from 0 f.views) reported
+-- what was audited and reported, where the audit's text was added to what is gathered
+abbrev reported_also : {h : BytesRead} (s : Summary) (views : List View) (reported : List Reported)
+    (text whole : List ℕ) (f : IsFinished s h views text whole) → AreReportedOf (added_from 0 views) reported
     → AuditedEach h
-audited_each held end h verdicts reported f are =
-    record { audited = audited held end h verdicts f; reported = reported; are_reported = are }
-
--- what is added to the lines is the audit's text
-pub rest_is : (held : Held) (end : Option StreamFault) (h : BytesRead) (verdicts slice : List (List ℕ × Verdict))
-    (records : ℕ) (text whole : List ℕ) (f : HasVerdicts held end h verdicts)
-    → whole ≡ text ++ audit_text slice records end
-    → slice ≡ verdicts → records ≡ held.added → whole ≡ text ++ text_of (audited held end h verdicts f)
-rest_is held end h verdicts slice records text whole f e same number =
-    e ∙ ap (λ (xs : List ℕ). text ++ xs) (text_is held end h verdicts slice records [] (audit_text slice records end)
-    (audit_text slice records end) f refl refl same number refl)
+reported_also s views reported text whole f are = record {
+  audited = f.audited;
+  reported = reported;
+  are_reported = subst (λ (vs : List View). AreReportedOf (added_from 0 vs) reported) (sym f.views_are) are;
+}
 
 -- the whole text was written
-pub each_written : {h : BytesRead} (s : Summary) (a : AuditedEach h) (first old new : BytesWritten)
-    (text whole : List ℕ) → AreGathered first old text (reported_lines a.reported) → whole ≡ text ++ text_of a.audited
-    → IsSummary s a.audited
+pub each_written : {h : BytesRead} (s : Summary) (views : List View) (reported : List Reported)
+    (first old new : BytesWritten) (text whole : List ℕ) → IsFinished s h views text whole
+    → AreReportedOf (added_from 0 views) reported → AreGathered first old text (reported_lines reported)
     → new.bytes ≡ old.bytes ++ whole → old.failures ≡ first.failures → new.failures ≡ old.failures
-    → IsEachWritten s a first new
-each_written s a first old new text whole before e summary bytes same fine =
-    let tail : List ℕ = text_of a.audited in record {
-      summary = summary;
-      text = bytes ∙ ap (λ (xs : List ℕ). old.bytes ++ xs) e ∙ ap (λ (xs : List ℕ). xs ++ (text ++ tail)) before.bytes
-          ∙ append_assoc first.bytes before.taken (text ++ tail)
-          ∙ ap (λ (xs : List ℕ). first.bytes ++ xs) (behind first old text (reported_lines a.reported) tail before);
-      fine = fine ∙ same;
-    }
+    → IsEachOutcome (Ok s) h first new
+each_written s views reported first old new text whole f are before bytes same fine =
+    let tail : List ℕ = text_of f.audited in (
+      reported_also s views reported text whole f are,
+      record {
+        summary = f.summary;
+        text = bytes ∙ ap (λ (xs : List ℕ). old.bytes ++ xs) f.text_is
+            ∙ ap (λ (xs : List ℕ). xs ++ (text ++ tail)) before.bytes
+            ∙ append_assoc first.bytes before.taken (text ++ tail)
+            ∙ ap (λ (xs : List ℕ). first.bytes ++ xs) (behind first old text (reported_lines reported) tail before);
+        fine = fine ∙ same;
+      },
+    )
 
--- a fault, before which a prefix of the whole text was written
-pub end_short : {h : BytesRead} (fault : EachFault) (a : AuditedEach h) (first old new : BytesWritten)
-    (text whole : List ℕ) → AreGathered first old text (reported_lines a.reported) → whole ≡ text ++ text_of a.audited
+-- a prefix of it was written, of lines and then the audit's text
+short_text : {h : BytesRead} (Emitted : List ℕ → Type 0) (a : AuditedEach h) → Emitted (each_text a)
+    → EndsShort Emitted h
+short_text Emitted a part = (
+  a.audited.all.offset,
+  (
+    a.audited.views,
+    (
+      a.reported,
+      record { shown = a.audited.all.records; are_reported = a.are_reported; prefix = inr (a, part) },
+    ),
+  ),
+)
+
+-- before a fault
+pub each_short : {h : BytesRead} (fault : EachFault) (s : Summary) (views : List View) (reported : List Reported)
+    (first old new : BytesWritten) (text whole : List ℕ) → IsFinished s h views text whole
+    → AreReportedOf (added_from 0 views) reported → AreGathered first old text (reported_lines reported)
     → old.failures ≡ first.failures → IsPrefixWritten fault old new whole → IsEachOutcome (Err fault) h first new
-end_short {h} fault a first old new text whole before e same written =
-    go fault (subst (λ (xs : List ℕ). IsPrefixWritten fault old new xs) e written)
+each_short {h} fault s views reported first old new text whole f are before same written =
+    go fault (subst (λ (xs : List ℕ). IsPrefixWritten fault old new xs) f.text_is written)
   where
-    tail : List ℕ
-    tail = text_of a.audited
+    a : AuditedEach h
+    a = reported_also s views reported text whole f are
 
-    go : (f : EachFault) → IsPrefixWritten f old new (text ++ tail) → IsEachOutcome (Err f) h first new
+    tail : List ℕ
+    tail = text_of f.audited
+
+    go : (e : EachFault) → IsPrefixWritten e old new (text ++ tail) → IsEachOutcome (Err e) h first new
     go Write w = (
       omega (arith, same, w.0),
-      (
-        a.audited.all.offset,
-        (
-          a.audited.views,
-          (
-            a.reported,
-            record {
-              shown = a.audited.all.records;
-              are_reported = a.are_reported;
-              prefix = inr (a, part_behind first old new text (reported_lines a.reported) tail before w.1);
-            },
-          ),
-        ),
-      ),
+      short_text (EmittedPart first new) a (part_behind first old new text (reported_lines reported) tail before w.1),
     )
     go Memory w = (
       w.0 ∙ same,
-      (
-        a.audited.all.offset,
-        (
-          a.audited.views,
-          (
-            a.reported,
-            record {
-              shown = a.audited.all.records;
-              are_reported = a.are_reported;
-              prefix = inr (a, first_behind first old new text (reported_lines a.reported) tail before w.1);
-            },
-          ),
-        ),
-      ),
+      short_text (EmittedFirst first new) a (first_behind first old new text (reported_lines reported) tail before w.1),
     )
-
-pub telling_err : (r : Result (Held × Option StreamFault × ℕ) EachFault) (Q : EachFault → Type 0) (fault : EachFault)
-    (h : BytesRead) (old new : BytesWritten) (text : List ℕ) → IsErrAnd r Q → ((e : EachFault) → Q e → e ≡ fault)
-    → IsLinesFault fault h old new → IsTelling r h old new text
-telling_err (Ok x) Q fault h old new text is q short = absurd is
-telling_err (Err e) Q fault h old new text is q short =
-    subst (λ (x : EachFault). IsLinesFault x h old new) (sym (q e is)) short
-
-pub each_err : (r : Result Summary EachFault) (Q : EachFault → Type 0) (fault : EachFault) (h : BytesRead)
-    (old new : BytesWritten) → IsErrAnd r Q → ((e : EachFault) → Q e → e ≡ fault)
-    → IsEachOutcome (Err fault) h old new → IsEachOutcome r h old new
-each_err (Ok x) Q fault h old new is q short = absurd is
-each_err (Err e) Q fault h old new is q short =
-    subst (λ (x : EachFault). IsEachOutcome (Err x) h old new) (sym (q e is)) short

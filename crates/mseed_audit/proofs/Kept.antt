@@ -16,7 +16,9 @@ use Rattle.mseed_audit.specs.Judging.{IsFound}
 use Rattle.mseed_audit.specs.Audit.{AreCounted, IsHeadOf, IsTail, IsTailOf, Stands, head_in, tail_in, verdict_by}
 use Rattle.mseed_audit.specs.Audit.{verdict_of}
 use Rattle.mseed_audit.specs.private.Kept.{IsTailBefore, with_end, with_finding}
+use Rattle.mseed_audit.specs.Reported.{last_of}
 use Rattle.mseed_audit.specs.Verdict.{finding_at, AreFindings, none, one, IsVerdict}
+use Rattle.mseed_audit.proofs.Lasts.{found_last}
 
 -- of one record
 pub findings_one : (p : Placed) (why : Option Why) → IsFound None p.view why
@@ -121,7 +123,7 @@ one_stands c p why is records samples head tail counted = record {
 }
 
 -- a channel with a further record, of which so much is kept
-pub stands_next : (c next : Channel) (ps : List Placed) (p : Placed) (why : Option Why) → (s : Stands c ps)
+stands_next : (c next : Channel) (ps : List Placed) (p : Placed) (why : Option Why) → (s : Stands c ps)
     → IsFound (Some s.last.view) p.view why → next.records ≡ c.records + 1
     → next.samples ≡ c.samples + count_of p.view → head_in next.findings ≡ head_in c.findings
     → IsTailOf (tail_in next.findings) p.view → AreCounted next.findings (s.found ++ finding_at p why)
@@ -142,31 +144,58 @@ stands_next c next ps p why s is records samples head tail counted = record {
   counted = counted;
 }
 
-pub stands_end : (c : Channel) (ps : List Placed) (p : Placed) (end : Tail) (s : Stands c ps)
-    → IsFound (Some s.last.view) p.view None → IsTail end p.view → (records samples : ℕ) → records ≡ c.records + 1
-    → samples ≡ c.samples + count_of p.view
-    → Stands (record { records = records; samples = samples; findings = with_end c.findings end }) (ps ++ p ∷ [])
-stands_end c ps p end s is ends records samples r n =
-    stands_next c (record { records = records; samples = samples; findings = with_end c.findings end }) ps p None s is r
-    n (end_head c.findings end) (subst (λ (t : Option Tail). IsTailOf t p.view) (sym (end_tail c.findings end)) ends)
-    (subst (λ (fs : List Finding). AreCounted (with_end c.findings end) fs) (sym (append-nil s.found))
-    (end_counted c.findings end s.found s.counted))
+-- what was kept of the last record is what is kept of the one before the next
+tail_before : (t : Option Tail) (v : View) → IsTailOf t v → IsTailBefore t (Some v)
+tail_before None v h = h
+tail_before (Some t) v h = h
 
-pub stands_finding : (c : Channel) (ps : List Placed) (p : Placed) (why : Why) (end : Option Tail) (s : Stands c ps)
-    → IsFound (Some s.last.view) p.view (Some why) → IsTailOf end p.view → (records samples : ℕ)
-    → records ≡ c.records + 1 → samples ≡ c.samples + count_of p.view
-    → Stands (record {
-      records = records;
-      samples = samples;
-      findings = with_finding c.findings
-          (record { number = p.number; offset = p.offset; why = why }) end;
-    }) (ps ++ p ∷ [])
-stands_finding c ps p why end s is ends records samples r n =
+-- so the next one is judged by it
+judged_next : (c : Channel) (ps : List Placed) (s : Stands c ps) (v : View) (tail : Option Tail) (why : Option Why)
+    → tail ≡ tail_in c.findings → ((b : Option View) → IsTailBefore tail b → IsFound b v why)
+    → IsFound (Some s.last.view) v why
+judged_next c ps s v tail why e found =
+    found (Some s.last.view) (subst (λ (t : Option Tail). IsTailBefore t (Some s.last.view)) (sym e)
+    (tail_before (tail_in c.findings) s.last.view s.tail))
+
+-- behind all records of the channel
+pub found_next : (c : Channel) (ps : List Placed) (s : Stands c ps) (v : View) (tail : Option Tail) (why : Option Why)
+    → tail ≡ tail_in c.findings → ((b : Option View) → IsTailBefore tail b → IsFound b v why)
+    → IsFound (last_of None ps) v why
+found_next c ps s v tail why e found =
+    found_last ps s.prefix s.last v why s.ends (judged_next c ps s v tail why e found)
+
+-- a channel with a further record of which nothing is found
+pub stands_sound : (c : Channel) (ps : List Placed) (p : Placed) (tail : Option Tail) (end : Tail) (samples : ℕ)
+    (findings : Findings) → Stands c ps → tail ≡ tail_in c.findings
+    → ((b : Option View) → IsTailBefore tail b → IsFound b p.view None) → IsTail end p.view
+    → samples ≡ count_of p.view → findings ≡ with_end c.findings end
+    → Stands (record { records = c.records + 1; samples = c.samples + samples; findings = findings }) (ps ++ p ∷ [])
+stands_sound c ps p tail end samples findings s before found ends n is =
+    stands_next c (record { records = c.records + 1; samples = c.samples + samples; findings = findings }) ps p None s
+    (judged_next c ps s p.view tail None before found) refl (ap (λ (k : ℕ). c.samples + k) n)
+    (ap (λ (f : Findings). head_in f) is ∙ end_head c.findings end)
+    (subst (λ (t : Option Tail). IsTailOf t p.view)
+    (sym (ap (λ (f : Findings). tail_in f) is ∙ end_tail c.findings end)) ends)
+    (subst (λ (f : Findings). AreCounted f (s.found ++ [])) (sym is)
+    (subst (λ (fs : List Finding). AreCounted (with_end c.findings end) fs) (sym (append-nil s.found))
+    (end_counted c.findings end s.found s.counted)))
+
+-- and with one that has a finding
+pub stands_faulty : (c : Channel) (ps : List Placed) (p : Placed) (tail end : Option Tail) (why : Why) (samples : ℕ)
+    (findings : Findings) → Stands c ps → tail ≡ tail_in c.findings
+    → ((b : Option View) → IsTailBefore tail b → IsFound b p.view (Some why)) → IsTailOf end p.view
+    → samples ≡ count_of p.view
+    → findings ≡ with_finding c.findings (record { number = p.number; offset = p.offset; why = why }) end
+    → Stands (record { records = c.records + 1; samples = c.samples + samples; findings = findings }) (ps ++ p ∷ [])
+stands_faulty c ps p tail end why samples findings s before found ends n is =
     let finding : Finding = record { number = p.number; offset = p.offset; why = why } in
-    stands_next c (record { records = records; samples = samples; findings = with_finding c.findings finding end }) ps p
-    (Some why) s is r n (finding_head c.findings finding end)
-    (subst (λ (t : Option Tail). IsTailOf t p.view) (sym (finding_tail c.findings finding end)) ends)
-    (finding_counted c.findings finding end s.found s.counted)
+    stands_next c (record { records = c.records + 1; samples = c.samples + samples; findings = findings }) ps p
+    (Some why) s (judged_next c ps s p.view tail (Some why) before found) refl (ap (λ (k : ℕ). c.samples + k) n)
+    (ap (λ (f : Findings). head_in f) is ∙ finding_head c.findings finding end)
+    (subst (λ (t : Option Tail). IsTailOf t p.view)
+    (sym (ap (λ (f : Findings). tail_in f) is ∙ finding_tail c.findings finding end)) ends)
+    (subst (λ (f : Findings). AreCounted f (s.found ++ finding ∷ [])) (sym is)
+    (finding_counted c.findings finding end s.found s.counted))
 
 -- the verdict on a channel is that on its records
 verdict_by_findings : (findings : Findings) (records samples : ℕ) (ps : List Placed) (first : Placed)
@@ -202,16 +231,3 @@ verdict_by_findings (Counted count first_found head tail) records samples ps fir
 pub stands_verdict : (c : Channel) (ps : List Placed) → Stands c ps → IsVerdict (verdict_of c) ps
 stands_verdict c ps s = verdict_by_findings c.findings c.records c.samples ps s.first s.rest s.found s.begins s.head
     s.are_found s.counted s.records s.samples
-
--- what is kept of the last record is what is kept of the one before the next
-pub tail_before : (t : Option Tail) (v : View) → IsTailOf t v → IsTailBefore t (Some v)
-tail_before None v h = h
-tail_before (Some t) v h = h
-
--- what was kept of the last record
-pub kept_before : (findings : Findings) (tail : Option Tail) (c : Channel) (ps : List Placed) (s : Stands c ps)
-    → c.findings ≡ findings → tail ≡ tail_in findings → IsTailBefore tail (Some s.last.view)
-kept_before findings tail c ps s is e =
-    subst (λ (t : Option Tail). IsTailBefore t (Some s.last.view)) (sym e)
-    (subst (λ (f : Findings). IsTailBefore (tail_in f) (Some s.last.view)) is
-    (tail_before (tail_in c.findings) s.last.view s.tail))

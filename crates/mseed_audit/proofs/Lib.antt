@@ -6,6 +6,7 @@ pub mod Continuity
 pub mod Counts
 pub mod Kept
 pub mod Finished
+pub mod Found
 pub mod Gathers
 pub mod Joined
 pub mod Judged

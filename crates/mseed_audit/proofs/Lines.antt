@@ -46,12 +46,12 @@ no_longer : (b : Bool) (c : ℕ) (cs more : List ℕ) → length more ≤ length
 no_longer true c cs more h = omega arith
 no_longer false c cs more h = omega (arith, h)
 
-pub trimmed_fits : (code : List ℕ) → length (trimmed code) ≤ length code
+trimmed_fits : (code : List ℕ) → length (trimmed code) ≤ length code
 trimmed_fits [] = omega arith
 trimmed_fits (c ∷ cs) = no_longer (list_all is_blank (c ∷ cs)) c cs (trimmed cs) (trimmed_fits cs)
 
 -- a line to which the prefix of a code was added
-pub printed_fits : (old code line : List ℕ) (n : ℕ) → line ≡ old ++ map printed (take n code)
+printed_fits : (old code line : List ℕ) (n : ℕ) → line ≡ old ++ map printed (take n code)
     → length line ≤ length old + n
 printed_fits old code line n e =
     omega (
@@ -61,6 +61,12 @@ printed_fits old code line n e =
       length-map (take n code) printed,
       length-take n code,
     )
+
+-- which is cut at its end
+pub printed_within : (old code cut line : List ℕ) (n : ℕ) → line ≡ old ++ map printed (take n cut)
+    → cut ≡ trimmed code → (length line ≤ length old + n) × (length cut ≤ length code)
+printed_within old code cut line n e is =
+    (printed_fits old cut line n e, omega (arith, ap length is, trimmed_fits code))
 
 -- a piece of a key
 pub code_fits : (key piece : List ℕ) (a b : ℕ) → piece ≡ slice_range key a b → length piece ≤ b - a

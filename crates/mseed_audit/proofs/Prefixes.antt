@@ -30,13 +30,6 @@ pieces_more ps n d first old new h before one =
 pub prefix_trans : (a b c : List ℕ) → IsPrefixOf a b → IsPrefixOf b c → IsPrefixOf a c
 prefix_trans a b c prefix whole = prefix_behind a prefix.0 b c prefix.1 whole
 
--- the pieces of the line of a record with a finding, one behind another
-pub reported_joined : (text offset space name record-word number start-word start gap why end : List ℕ)
-    → ((((((text ++ (offset ++ (space ++ []))) ++ name) ++ (record-word ++ (number ++ (start-word ++ [])))) ++ start)
-    ++ (gap ++ [])) ++ why) ++ (end ++ [])
-    ≡ text ++ (offset ++ space ++ name ++ record-word ++ number ++ start-word ++ start ++ gap ++ why ++ end)
-reported_joined text offset space name record-word number start-word start gap why end = simp (append_assoc, append-nil)
-
 -- what was there stays, whether or not more was added
 pub prefix_where : (added : Bool) (old more new : List ℕ) → new ≡ (if added then old ++ more else old)
     → IsPrefixOf old new

@@ -1,9 +1,13 @@
 -- Where channels stand on a roster, and what is kept of them there.
 use Rattle.std.proofs.Common.{◌≡◌, ℕ, suc, ◌+◌, ◌<◌, List, [], ◌∷◌, ◌++◌, Bool, true, false, cond, length, get_or, set}
 use Rattle.std.proofs.Common.{is_some, Option, IsSome, Some, None, if◌then◌else◌, refl, sym, ap, subst, ◌∙◌, arith}
+use Rattle.std.proofs.Common.{append-nil, append_assoc}
 use Rattle.std.specs.List.{All, slice_get}
 use Rattle.std.specs.Map.{keys_of, lookup, set_value, values_of}
 use Rattle.std.specs.Option.{option_map, unwrap_or}
+use Rattle.std.specs.Ordering.{nat_cmp}
+use Rattle.std.specs.Cmp.Lexicographic.{slice_cmp}
+use Rattle.std.specs.List.Sorted.{IsStrictlySortedBy}
 use Rattle.std.proofs.lemmas.Bool.{false≢true}
 use Rattle.std.proofs.lemmas.Option.{slice_get_read, slice_get-get_or}
 use Rattle.std.proofs.lemmas.List.{map-append}
@@ -248,12 +252,31 @@ abbrev pub made_at : {X : Type 0} → (Channel → X) → List (List ℕ × Chan
 made_at f es [] = []
 made_at f es (p ∷ ps) = read_through f p.0 (slice_get es p.1) ++ made_at f es ps
 
-pub made_next : {X : Type 0} (f : Channel → X) (es : List (List ℕ × Channel)) (key : List ℕ) (i : ℕ)
+made_next : {X : Type 0} (f : Channel → X) (es : List (List ℕ × Channel)) (key : List ℕ) (i : ℕ)
     (ps : List (List ℕ × ℕ)) (e : List ℕ × Channel) → i < length es → e ≡ get_or es i e
     → made_at f es ((key, i) ∷ ps) ≡ (key, f e.1) ∷ made_at f es ps
 made_next f es key i ps e l is =
     let found : slice_get es i ≡ Some e = slice_get_read es (length es) i e refl l is in
     ap (λ (o : Option (List ℕ × Channel)). read_through f key o ++ made_at f es ps) found
+
+-- what is made of the next channel stands behind what was made, and then what is made of the rest
+pub made_also : {X : Type 0} (f : Channel → X) (es : List (List ℕ × Channel)) (key : List ℕ) (i : ℕ)
+    (ps : List (List ℕ × ℕ)) (e : List ℕ × Channel) (x : X) (made more all : List (List ℕ × X))
+    → made ++ made_at f es ((key, i) ∷ ps) ≡ all → i < length es → e ≡ get_or es i e → x ≡ f e.1
+    → more ≡ made ++ (key, x) ∷ [] → more ++ made_at f es ps ≡ all
+made_also {X = X} f es key i ps e x made more all before l at is pushed =
+    let rest : List (List ℕ × X) = made_at f es ps in
+    ap (λ (vs : List (List ℕ × X)). vs ++ rest) pushed ∙ append_assoc made ((key, x) ∷ []) rest
+    ∙ ap (λ (v : X). made ++ (key, v) ∷ rest) is
+    ∙ ap (λ (vs : List (List ℕ × X)). made ++ vs) (sym (made_next f es key i ps e l at)) ∙ before
+
+-- no place is left
+pub made_whole : {X : Type 0} (f : Channel → X) (es : List (List ℕ × Channel)) (places first rest : List (List ℕ × ℕ))
+    (made : List (List ℕ × X)) → made ++ made_at f es rest ≡ made_at f es first → rest ≡ [] → first ≡ places
+    → made ≡ made_at f es places
+made_whole {X = X} f es places first rest made all none is = sym (append-nil made)
+    ∙ ap (λ (ps : List (List ℕ × ℕ)). made ++ made_at f es ps) (sym none) ∙ all
+    ∙ ap (λ (ps : List (List ℕ × ℕ)). made_at f es ps) is
 
 keys_by : {X : Type 0} (f : Channel → X) (es : List (List ℕ × Channel)) (p : List ℕ × ℕ) (ps : List (List ℕ × ℕ))
     → p.1 < length es → keys_of (made_at f es ps) ≡ keys_of ps → keys_of (made_at f es (p ∷ ps)) ≡ keys_of (p ∷ ps)
@@ -267,7 +290,7 @@ keys_by f es p ps l same = go (slice_get es p.1) refl
         ∙ ap (λ (ks : List (List ℕ)). p.0 ∷ ks) same
 
 -- they have the same keys
-pub made_keys : {X : Type 0} (f : Channel → X) (es : List (List ℕ × Channel)) (ps : List (List ℕ × ℕ))
+made_keys : {X : Type 0} (f : Channel → X) (es : List (List ℕ × Channel)) (ps : List (List ℕ × ℕ))
     → All (λ i. i < length es) (values_of ps) → keys_of (made_at f es ps) ≡ keys_of ps
 made_keys f es [] all = refl
 made_keys f es (p ∷ ps) all =
@@ -305,12 +328,22 @@ there_place : {X : Type 0} (f : Channel → X) (test : List ℕ → Bool) (es : 
 there_place f test es None e = ap (λ (o : Option Channel). option_map f o) (sym (none_there test es e))
 there_place f test es (Some i) e = ap (λ (o : Option Channel). option_map f o) (sym (kept_at test es i e))
 
-pub made_each : {X : Type 0} (f : Channel → X) (es : List (List ℕ × Channel)) (ps : List (List ℕ × ℕ))
-    → ArePlaces ps es → (key : List ℕ)
-    → lookup (same_key key) (made_at f es ps) ≡ option_map f (lookup (same_key key) es)
-made_each {X = X} f es ps are key = made_found f es ps (same_key key) are.within
-    ∙ ap (λ (o : Option ℕ). there_at f es o) (are.each key)
+-- what was made of all channels ascends as their places do
+pub made_ascends : {X : Type 0} (f : Channel → X) (es : List (List ℕ × Channel)) (ps : List (List ℕ × ℕ))
+    (made : List (List ℕ × X)) → made ≡ made_at f es ps → ArePlaces ps es
+    → IsStrictlySortedBy (slice_cmp nat_cmp) (keys_of ps) → IsStrictlySortedBy (slice_cmp nat_cmp) (keys_of made)
+made_ascends {X = X} f es ps made is are ascending =
+    subst (λ (ks : List (List ℕ)). IsStrictlySortedBy (slice_cmp nat_cmp) ks)
+    (sym (ap (λ (vs : List (List ℕ × X)). keys_of vs) is ∙ made_keys f es ps are.within)) ascending
+
+-- and is at each key what is made of the channel there
+pub made_each : {X : Type 0} (f : Channel → X) (es old : List (List ℕ × Channel)) (ps : List (List ℕ × ℕ))
+    (made : List (List ℕ × X)) → made ≡ made_at f es ps → ArePlaces ps es → es ≡ old → (key : List ℕ)
+    → lookup (same_key key) made ≡ option_map f (lookup (same_key key) old)
+made_each {X = X} f es old ps made is are same key = ap (λ (vs : List (List ℕ × X)). lookup (same_key key) vs) is
+    ∙ made_found f es ps (same_key key) are.within ∙ ap (λ (o : Option ℕ). there_at f es o) (are.each key)
     ∙ there_place f (same_key key) es (place_of (same_key key) es) refl
+    ∙ ap (λ (fs : List (List ℕ × Channel)). option_map f (lookup (same_key key) fs)) same
 
 -- what is found at a place
 pub found_at : (test : List ℕ → Bool) (es : List (List ℕ × Channel)) (i : ℕ) (e : List ℕ × Channel)

@@ -5,7 +5,8 @@ use Rattle.mseed_audit.specs.declared.finding.Why.{Why}
 use Rattle.mseed_audit.specs.declared.summary.Lines.{Lines}
 use Rattle.mseed_audit.specs.declared.summary.Lines.TheVariants.{OfVerdicts, OfRecords}
 use Rattle.mseed_audit.specs.Channels.{Added, Placed, numbered}
-use Rattle.mseed_audit.specs.private.Gathered.{IsReportedMore, lines_by}
+use Rattle.mseed_audit.specs.Audit.{Held, IsAuditOf}
+use Rattle.mseed_audit.specs.private.Gathered.{IsAddedAlso, lines_by}
 use Rattle.mseed_audit.specs.Text.{reported_line, reported_lines}
 use Rattle.mseed_audit.specs.Reported.{Reported, AreReported, AreReportedOf, IsFoundBehind, none, one, reported_at}
 use Rattle.mseed_audit.proofs.More.{numbered_more, placed_at}
@@ -44,46 +45,57 @@ lines_behind [] us = refl
 lines_behind (t ∷ ts) us = ap (λ (xs : List ℕ). reported_line t ++ xs) (lines_behind ts us)
     ∙ sym (append_assoc (reported_line t) (reported_lines ts) (reported_lines us))
 
-one_line : (lines : Lines) (more : List Reported) (text next : List ℕ) → lines ≡ OfRecords
-    → next ≡ text ++ reported_lines more
-    → next ≡ text ++ lines_by lines more
-one_line lines more text next is e = e ∙ ap (λ (l : Lines). text ++ lines_by l more) (sym is)
+-- one more record was added, with what its line has, if it has one
+added_with : (lines : Lines) (old new : Held) (a : Added) (why : Option Why) (text next : List ℕ)
+    → new.added ≡ old.added + 1
+    → ((added : List Added) → IsAuditOf old added → IsAuditOf new (added ++ a ∷ []))
+    → ((added : List Added) → IsAuditOf old added → IsFoundBehind (numbered 1 added) a.view why)
+    → next ≡ text ++ lines_by lines (reported_at (placed_at a (old.added + 1)) why)
+    → IsAddedAlso lines old new a text next
+added_with lines old new a why text next number adds found line = record {
+  audit = adds;
+  reported = λ added is. record {
+    more = reported_at (placed_at a (old.added + 1)) why;
+    reported = λ earlier before. reported_more added a (old.added + 1) why earlier (ap (λ (n : ℕ). n + 1) is.number)
+        before (found added is);
+    text_is = line;
+  };
+  number = number;
+}
 
--- one more record was added, with its line
-pub reported_line_more : {E : Type 0} (r : Result (Unit {0}) E) (lines : Lines) (added : List Added) (a : Added)
-    (number : ℕ) (why : Option Why) (text next : List ℕ) → lines ≡ OfRecords → number ≡ length added + 1
-    → IsFoundBehind (numbered 1 added) a.view why
+-- where each has one
+pub added_lined : {E : Type 0} (r : Result (Unit {0}) E) (lines : Lines) (old new : Held) (a : Added) (number : ℕ)
+    (why : Option Why) (text next : List ℕ) → lines ≡ OfRecords → number ≡ old.added + 1
+    → new.added ≡ old.added + 1
+    → ((added : List Added) → IsAuditOf old added → IsAuditOf new (added ++ a ∷ []))
+    → ((added : List Added) → IsAuditOf old added → IsFoundBehind (numbered 1 added) a.view why)
     → OnOk r (next ≡ text ++ reported_lines (reported_at (placed_at a number) why))
-    → OnOk r (IsReportedMore lines added (added ++ a ∷ []) text next)
-reported_line_more (Ok u) lines added a number why text next is e found line = record {
-  more = reported_at (placed_at a number) why;
-  reported = λ earlier before. reported_more added a number why earlier e before found;
-  text_is = one_line lines (reported_at (placed_at a number) why) text next is line;
-}
-reported_line_more (Err e) lines added a number why text next is n found line = tt
+    → OnOk r (IsAddedAlso lines old new a text next)
+added_lined (Ok u) lines old new a number why text next is e more adds found line =
+    added_with lines old new a why text next more adds found
+    (line ∙ ap (λ (n : ℕ). text ++ reported_lines (reported_at (placed_at a n) why)) e
+    ∙ ap (λ (l : Lines). text ++ lines_by l (reported_at (placed_at a (old.added + 1)) why)) (sym is))
+added_lined (Err e) lines old new a number why text next is n more adds found line = tt
 
--- and without one
-pub reported_no_line : (lines : Lines) (added : List Added) (a : Added) (number : ℕ) (why : Option Why) (text : List ℕ)
-    → lines ≡ OfVerdicts → number ≡ length added + 1
-    → IsFoundBehind (numbered 1 added) a.view why → IsReportedMore lines added (added ++ a ∷ []) text text
-reported_no_line lines added a number why text is e found = record {
-  more = reported_at (placed_at a number) why;
-  reported = λ earlier before. reported_more added a number why earlier e before found;
-  text_is = sym (append-nil text) ∙ ap (λ (l : Lines). text ++ lines_by l (reported_at (placed_at a number) why))
-      (sym is);
-}
+-- where none has one
+pub added_unlined : (lines : Lines) (old new : Held) (a : Added) (why : Option Why) (text : List ℕ)
+    → lines ≡ OfVerdicts → new.added ≡ old.added + 1
+    → ((added : List Added) → IsAuditOf old added → IsAuditOf new (added ++ a ∷ []))
+    → ((added : List Added) → IsAuditOf old added → IsFoundBehind (numbered 1 added) a.view why)
+    → IsAddedAlso lines old new a text text
+added_unlined lines old new a why text is more adds found =
+    added_with lines old new a why text text more adds found (sym (append-nil text)
+    ∙ ap (λ (l : Lines). text ++ lines_by l (reported_at (placed_at a (old.added + 1)) why)) (sym is))
 
 no_lines : (lines : Lines) → lines_by lines [] ≡ []
 no_lines OfVerdicts = refl
 no_lines OfRecords = refl
 
--- nothing is found of it
-pub reported_nothing : (lines : Lines) (added : List Added) (a : Added) (number : ℕ) (why : Option Why) (text : List ℕ)
-    → why ≡ None → number ≡ length added + 1
-    → IsFoundBehind (numbered 1 added) a.view why → IsReportedMore lines added (added ++ a ∷ []) text text
-reported_nothing lines added a number why text is e found = record {
-  more = reported_at (placed_at a number) why;
-  reported = λ earlier before. reported_more added a number why earlier e before found;
-  text_is = sym (append-nil text) ∙ ap (λ (bytes : List ℕ). text ++ bytes)
-      (sym (ap (λ (w : Option Why). lines_by lines (reported_at (placed_at a number) w)) is ∙ no_lines lines));
-}
+-- where nothing is found of it
+pub added_sound : (lines : Lines) (old new : Held) (a : Added) (text : List ℕ) → new.added ≡ old.added + 1
+    → ((added : List Added) → IsAuditOf old added → IsAuditOf new (added ++ a ∷ []))
+    → ((added : List Added) → IsAuditOf old added → IsFoundBehind (numbered 1 added) a.view None)
+    → IsAddedAlso lines old new a text text
+added_sound lines old new a text more adds found =
+    added_with lines old new a None text text more adds found
+    (sym (append-nil text) ∙ ap (λ (bytes : List ℕ). text ++ bytes) (sym (no_lines lines)))

@@ -121,8 +121,10 @@ impl<A: Allocator + Copy> Audit<A> {
         if self.add_sound(view) {
             return Ok(());
         }
-        self.add_judged(view, offset)?;
-        Ok(())
+        match self.add_judged(view, offset) {
+            Ok(_) => Ok(()),
+            Err(Memory) => Err(Memory),
+        }
     }
 
     /// Adds a record as `add` does, if nothing is found of it and its channel isn't new. Answers whether it was added;

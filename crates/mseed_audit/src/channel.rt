@@ -64,7 +64,7 @@ pub struct Channel {
 }
 
 /// What is found of a record, and its end.
-#[derive(Clone, Copy, Debug)]
+#[derive(Clone, Copy)]
 enum Judged {
     /// Nothing.
     Sound(Tail),

@@ -1,13 +1,13 @@
 //! The audit of an archive that tells each record with a finding.
-ghost use Rattle.std.specs.Prelude.{◌≡◌, ◌++◌, List, ℕ, [], IfErr, OnOk};
+ghost use Rattle.std.specs.Prelude.{◌≡◌, ◌≤◌, ◌++◌, List, ℕ, [], None, IfErr, OnOk};
 ghost use Rattle.mseed_stream.specs.Calls.{ReadsOn, WritesOn};
-ghost use Rattle.mseed_stream.specs.Device.{nothing_read};
+ghost use Rattle.mseed_stream.specs.Cutting.{IsAlong};
+ghost use Rattle.mseed_stream.specs.Device.{BytesWritten, nothing_read};
 ghost use Rattle.mseed_audit.specs.Each.{IsEachOutcome, IsTelling};
-ghost use Rattle.mseed_audit.specs.private.Gathered.{IsPrefixWritten};
+ghost use Rattle.mseed_audit.specs.private.Gathered.{AreTold, IsPrefixWritten, IsToldNext};
 
 use crate::audits::{Audit, Memory};
-use crate::summary::{Lines, Step, Summary, add_next, count_broken};
-use crate::text::push_audit;
+use crate::summary::{Lines, Step, Summary, add_next, push_finished};
 use mseed_stream::{Cutter, Sink, Source, StreamFault, write_all_of};
 use std::alloc::Allocator;
 use thiserror::Error;
@@ -49,20 +49,18 @@ pub fn audit_each<A: Allocator + Copy, R: Source, W: Sink>(
         (W.beside sink.old) (W.beside sink.new) }
 {
     let mut text = Vec::new(alloc);
-    let (audit, end, _) = gather_each(alloc, source, sink, &mut text)?;
-    let records = audit.added();
-    let verdicts = audit.finish();
-    match push_audit(&mut text, verdicts.as_slice(), records, &end) {
-        Ok(()) => {}
-        Err(_) => return Err(EachFault::Memory),
+    let (audit, end, _) = match gather_each(alloc, source, sink, &mut text) {
+        Ok(gathered) => gathered,
+        Err(fault) => return Err(fault),
+    };
+    let summary = match push_finished(&mut text, audit, &end) {
+        Ok(summary) => summary,
+        Err(Memory) => return Err(EachFault::Memory),
+    };
+    match write_out(sink, &mut text) {
+        Ok(()) => Ok(summary),
+        Err(fault) => Err(fault),
     }
-    write_out(sink, &mut text)?;
-    Ok(Summary {
-        records,
-        channels: verdicts.as_slice().len() as u64,
-        broken: count_broken(verdicts.as_slice()),
-        fault: end.is_some(),
-    })
 }
 
 /// Audits the records that a source tells as `gather` does, and writes a line for each record with a finding, in the
@@ -94,14 +92,46 @@ pub fn gather_each<A: Allocator + Copy, R: Source, W: Sink>(
     let mut audit = Audit::new(alloc);
     'records: loop {
         let bytes = cutter.offset();
-        match add_next(&mut audit, &mut cutter, source, Lines::OfRecords, text) {
+        match tell_next(&mut audit, &mut cutter, source, sink, text) {
             Ok(Step::Added) => {}
             Ok(Step::Ended(end)) => return Ok((audit, end, bytes)),
-            Err(Memory) => return Err(EachFault::Memory),
+            Err(fault) => return Err(fault),
         }
-        if text.len() >= GATHERED {
-            write_out(sink, text)?;
-        }
+    }
+}
+
+/// Adds the next record, and its line, if it has one, and writes what is gathered once it is much; or answers how the
+/// input ends.
+#[inline(always)]
+fn tell_next<A: Allocator + Copy, R: Source, W: Sink>(
+    audit: &mut Audit<A>,
+    cutter: &mut Cutter<A>,
+    source: &mut R,
+    sink: &mut W,
+    text: &mut Vec<u8, A>,
+) -> Result<Step, EachFault>
+    requires along { IsAlong (R.read source.old) cutter.old }
+    requires few { audit.old.added ≤ (R.read source.old).calls }
+    ensures next { (first : BytesWritten)
+        → AreTold (R.read source.old) cutter.old audit.old first (W.written sink.old) text.old.items
+        → IsToldNext result cutter.old.offset (R.read source.old) (R.read source.new) cutter.new audit.new first
+        (W.written sink.new) text.new.items }
+    ensures reads { cutter.old.answer ≡ None → ReadsOn (R.read source.old) (R.read source.new) (R.remaining source.old)
+        (R.remaining source.new) (R.beside source.old) (R.beside source.new) }
+    ensures writes { WritesOn (W.written sink.old) (W.written sink.new) (W.contents sink.old) (W.contents sink.new)
+        (W.beside sink.old) (W.beside sink.new) }
+{
+    match add_next(audit, cutter, source, Lines::OfRecords, text) {
+        Ok(Step::Added) => {}
+        Ok(Step::Ended(end)) => return Ok(Step::Ended(end)),
+        Err(Memory) => return Err(EachFault::Memory),
+    }
+    if text.len() < GATHERED {
+        return Ok(Step::Added);
+    }
+    match write_out(sink, text) {
+        Ok(()) => Ok(Step::Added),
+        Err(fault) => Err(fault),
     }
 }
 

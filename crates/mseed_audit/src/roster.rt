@@ -27,7 +27,7 @@ use std::collections::BTreeMap;
 use std::marker::Model;
 
 /// Where a channel stands on a roster.
-#[derive(Clone, Copy, Debug)]
+#[derive(Clone, Copy)]
 pub(crate) struct Place {
     codes: Codes,
     index: usize,

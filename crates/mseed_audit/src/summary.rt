@@ -1,13 +1,10 @@
 //! The audit of an archive.
-ghost use Rattle.std.specs.Prelude.{◌≡◌, ◌<◌, ◌≤◌, ◌+◌, ◌^◌, ◌∷◌, ◌++◌, [], List, ℕ, IfOk, OnOk, None};
+ghost use Rattle.std.specs.Prelude.{◌≡◌, ◌<◌, ◌≤◌, ◌^◌, List, ℕ, IfOk, OnOk, None};
 ghost use Rattle.mseed_record.specs.View.{View};
 ghost use Rattle.mseed_record.specs.Viewing.{view_of};
 ghost use Rattle.mseed_stream.specs.Calls.{ReadsOn, WritesOn};
 ghost use Rattle.mseed_stream.specs.Cutting.{IsAlong};
-ghost use Rattle.mseed_stream.specs.Device.{nothing_read};
-ghost use Rattle.mseed_stream.specs.Walk.{HasHandedOut};
-ghost use Rattle.mseed_audit.specs.Audit.{IsAuditOf};
-ghost use Rattle.mseed_audit.specs.Channels.{Added, added_from};
+ghost use Rattle.mseed_stream.specs.Device.{BytesRead, nothing_read};
 
 use crate::audits::{Audit, Memory};
 use crate::text::{push_audit, push_reported};
@@ -42,7 +39,7 @@ pub enum AuditFault {
 }
 
 /// Of what lines are written before the text of an audit.
-#[derive(Clone, Copy, Debug)]
+#[derive(Clone, Copy)]
 pub(crate) enum Lines {
     /// None: the text has a line for each verdict, and that is all.
     OfVerdicts,
@@ -51,7 +48,7 @@ pub(crate) enum Lines {
 }
 
 /// What comes next of an input.
-#[derive(Clone, Copy, Debug)]
+#[derive(Clone, Copy)]
 pub(crate) enum Step {
     /// A record, which was added.
     Added,
@@ -59,7 +56,7 @@ pub(crate) enum Step {
     Ended(Option<StreamFault>),
 }
 
-ghost use Rattle.mseed_audit.specs.private.Gathered.{IsNext, IsReportedMore};
+ghost use Rattle.mseed_audit.specs.private.Gathered.{AddsNext, IsAddedAlso, IsFinished};
 ghost use Rattle.mseed_audit.specs.Summary.{IsOutcome, IsGathered, broken_count};
 
 /// Audits the records that a source tells, and writes the text of the audit. The source is one of which
@@ -88,21 +85,36 @@ pub fn audit<A: Allocator + Copy, R: Source, W: Sink>(
         Ok(gathered) => gathered,
         Err(Memory) => return Err(AuditFault::Memory),
     };
+    let mut text = Vec::new(alloc);
+    let summary = match push_finished(&mut text, audit, &end) {
+        Ok(summary) => summary,
+        Err(Memory) => return Err(AuditFault::Memory),
+    };
+    match write_all_of(sink, &text) {
+        Ok(()) => Ok(summary),
+        Err(taken) => Err(AuditFault::Write(taken)),
+    }
+}
+
+/// Adds the audit's text, and answers what it says in numbers.
+pub(crate) fn push_finished<A: Allocator + Copy>(
+    text: &mut Vec<u8, A>,
+    audit: Audit<A>,
+    end: &Option<StreamFault>,
+) -> Result<Summary, Memory>
+    ensures { (h : BytesRead) (views : List View) (bytes : ℕ) → IsGathered audit end.now bytes h views
+        → IfOk result (λ summary. IsFinished summary h views text.old.items text.new.items) }
+{
     let records = audit.added();
     let verdicts = audit.finish();
-    let mut text = Vec::new(alloc);
-    match push_audit(&mut text, verdicts.as_slice(), records, &end) {
-        Ok(()) => {}
-        Err(_) => return Err(AuditFault::Memory),
-    }
-    match write_all_of(sink, &text) {
+    match push_audit(text, verdicts.as_slice(), records, end) {
         Ok(()) => Ok(Summary {
             records,
             channels: verdicts.as_slice().len() as u64,
             broken: count_broken(verdicts.as_slice()),
             fault: end.is_some(),
         }),
-        Err(taken) => Err(AuditFault::Write(taken)),
+        Err(_) => Err(Memory),
     }
 }
 
@@ -154,25 +166,47 @@ pub(crate) fn add_next<A: Allocator + Copy, R: Source>(
 ) -> Result<Step, Memory>
     requires along { IsAlong (R.read source.old) cutter.old }
     requires few { audit.old.added ≤ (R.read source.old).calls }
-    ensures next { (views : List View) → HasHandedOut (R.read source.old) cutter.old views
-        → IsAuditOf audit.old (added_from 0 views)
-        → IsNext lines result views cutter.old.offset (R.read source.old) (R.read source.new) cutter.new audit.new
-        text.old.items text.new.items }
+    ensures next { AddsNext lines result (R.read source.old) (R.read source.new) cutter.old cutter.new audit.old
+        audit.new text.old.items text.new.items }
     ensures reads { cutter.old.answer ≡ None → ReadsOn (R.read source.old) (R.read source.new) (R.remaining source.old)
         (R.remaining source.new) (R.beside source.old) (R.beside source.new) }
 {
     let offset = cutter.offset();
-    if let Some(view) = cutter.peek(source) {
-        add_reported(audit, &view, offset, lines, text)?;
-        let size = view.bytes().len();
-        cutter.pass(source, size);
-        return Ok(Step::Added);
+    match cutter.peek(source) {
+        Some(view) => match add_reported(audit, &view, offset, lines, text) {
+            Ok(()) => {
+                let size = view.bytes().len();
+                cutter.pass(source, size);
+                Ok(Step::Added)
+            }
+            Err(Memory) => Err(Memory),
+        },
+        None => add_cut(audit, cutter, source, lines, text),
     }
+}
+
+/// The same, of a record that the source doesn't hold whole.
+#[inline(always)]
+fn add_cut<A: Allocator + Copy, R: Source>(
+    audit: &mut Audit<A>,
+    cutter: &mut Cutter<A>,
+    source: &mut R,
+    lines: Lines,
+    text: &mut Vec<u8, A>,
+) -> Result<Step, Memory>
+    requires along { IsAlong (R.read source.old) cutter.old }
+    requires few { audit.old.added ≤ (R.read source.old).calls }
+    ensures next { AddsNext lines result (R.read source.old) (R.read source.new) cutter.old cutter.new audit.old
+        audit.new text.old.items text.new.items }
+    ensures reads { cutter.old.answer ≡ None → ReadsOn (R.read source.old) (R.read source.new) (R.remaining source.old)
+        (R.remaining source.new) (R.beside source.old) (R.beside source.new) }
+{
+    let offset = cutter.offset();
     match cutter.next(source) {
-        Ok(Some(view)) => {
-            add_reported(audit, &view, offset, lines, text)?;
-            Ok(Step::Added)
-        }
+        Ok(Some(view)) => match add_reported(audit, &view, offset, lines, text) {
+            Ok(()) => Ok(Step::Added),
+            Err(Memory) => Err(Memory),
+        },
         Ok(None) => Ok(Step::Ended(None)),
         Err(StreamFault::Memory) => Err(Memory),
         Err(fault) => Ok(Step::Ended(Some(fault))),
@@ -189,17 +223,14 @@ fn add_reported<A: Allocator + Copy>(
     text: &mut Vec<u8, A>,
 ) -> Result<(), Memory>
     requires { audit.old.added < 2 ^ 40 }
-    ensures adds { (added : List Added) → IsAuditOf audit.old added
-        → OnOk result (IsAuditOf audit.new (added ++ record { view = view_of view.now; offset = offset } ∷ [])) }
-    ensures reported { (added : List Added) → IsAuditOf audit.old added
-        → OnOk result (IsReportedMore lines added (added ++ record { view = view_of view.now; offset = offset } ∷ [])
-        text.old.items text.new.items) }
-    ensures number { OnOk result (audit.new.added ≡ audit.old.added + 1) }
+    ensures { OnOk result (IsAddedAlso lines audit.old audit.new
+        (record { view = view_of view.now; offset = offset }) text.old.items text.new.items) }
 {
     if audit.add_sound(view) {
-        return Ok(());
+        Ok(())
+    } else {
+        add_judged(audit, view, offset, lines, text)
     }
-    add_judged(audit, view, offset, lines, text)
 }
 
 /// The same, of any record.
@@ -213,14 +244,13 @@ fn add_judged<A: Allocator + Copy>(
     text: &mut Vec<u8, A>,
 ) -> Result<(), Memory>
     requires { audit.old.added < 2 ^ 40 }
-    ensures adds { (added : List Added) → IsAuditOf audit.old added
-        → OnOk result (IsAuditOf audit.new (added ++ record { view = view_of view.now; offset = offset } ∷ [])) }
-    ensures reported { (added : List Added) → IsAuditOf audit.old added
-        → OnOk result (IsReportedMore lines added (added ++ record { view = view_of view.now; offset = offset } ∷ [])
-        text.old.items text.new.items) }
-    ensures number { OnOk result (audit.new.added ≡ audit.old.added + 1) }
+    ensures { OnOk result (IsAddedAlso lines audit.old audit.new
+        (record { view = view_of view.now; offset = offset }) text.old.items text.new.items) }
 {
-    let why = audit.add_judged(view, offset)?;
+    let why = match audit.add_judged(view, offset) {
+        Ok(why) => why,
+        Err(Memory) => return Err(Memory),
+    };
     match lines {
         Lines::OfVerdicts => Ok(()),
         Lines::OfRecords => push_reported(text, view, audit.added(), offset, why),

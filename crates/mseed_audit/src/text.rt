@@ -3,18 +3,18 @@ ghost use Rattle.std.specs.Prelude.{◌≡◌, ◌++◌, OnOk};
 ghost use Rattle.mseed_stream.specs.Device.{IsPrefixOf};
 ghost use Rattle.mseed_audit.specs.Text.{audit_text, verdict_lines, verdict_line, continuous_words};
 ghost use Rattle.mseed_audit.specs.Text.{broken_words, total_line, why_text, read_text};
-ghost use Rattle.mseed_audit.specs.Text.{fault_line, frame_words, start_text, reported_line, reported_lines};
+ghost use Rattle.mseed_audit.specs.Text.{fault_line, start_text, reported_line, reported_lines};
 ghost use Rattle.mseed_audit.specs.Reported.{reported_at};
 ghost use Rattle.mseed_record.specs.Viewing.{view_of};
-ghost use Rattle.mseed_stream.specs.declared.fault.StreamFault.{StreamFault};
 
 use crate::audits::Memory;
 use crate::finding::{Finding, Why};
+use crate::line::{fault_line_of, name_of};
 use crate::name::push_name;
 use crate::pieces::Piece::{Count, Signed, Wide, Words};
 use crate::pieces::push_pieces;
 use crate::verdict::Verdict;
-use mseed_record::{Codes, FrameFault, RecordView};
+use mseed_record::{Codes, RecordView};
 use mseed_steim::ReadFault;
 use mseed_stream::StreamFault;
 use mseed_time::{Micros, Ratio, show_time};
@@ -171,11 +171,16 @@ fn push_reported_line<A: Allocator>(
     ensures { OnOk result (text.new.items
         ≡ text.old.items ++ reported_line (record { view = view_of view.now; finding = finding.now })) }
 {
-    push_pieces(text, &[Count(finding.offset), Words(b" ")])?;
-    push_name(text, &view.codes())?;
     push_pieces(
         text,
-        &[Words(b" record "), Count(finding.number), Words(b" start ")],
+        &[
+            Count(finding.offset),
+            Words(b" "),
+            Words(&name_of(&view.codes())),
+            Words(b" record "),
+            Count(finding.number),
+            Words(b" start "),
+        ],
     )?;
     push_start(text, view)?;
     push_pieces(text, &[Words(b" ")])?;
@@ -238,67 +243,7 @@ pub fn push_fault_line<A: Allocator>(
     ensures ok { OnOk result (text.new.items ≡ text.old.items ++ fault_line fault.now) }
     ensures prefix { IsPrefixOf text.old.items text.new.items }
 {
-    match fault {
-        StreamFault::Frame(offset, fault) => push_frame_line(text, *offset, fault),
-        StreamFault::Truncated(offset, have) => push_pieces(
-            text,
-            &[
-                Words(b"fault at "),
-                Count(*offset),
-                Words(b" truncated "),
-                Count(*have as u64),
-                Words(b"\n"),
-            ],
-        ),
-        StreamFault::Read(offset) => {
-            push_pieces(
-                text,
-                &[Words(b"fault at "), Count(*offset), Words(b" read\n")],
-            )
-        }
-        StreamFault::Turns(offset) => {
-            push_pieces(
-                text,
-                &[Words(b"fault at "), Count(*offset), Words(b" turns\n")],
-            )
-        }
-        StreamFault::Memory => Ok(()),
-    }
-}
-
-/// Adds the line of bytes that begin no record.
-fn push_frame_line<A: Allocator>(
-    text: &mut Vec<u8, A>,
-    offset: u64,
-    fault: &FrameFault,
-) -> Result<(), AllocError>
-    ensures ok { OnOk result (text.new.items ≡ text.old.items ++ fault_line (StreamFault.Frame offset fault.now)) }
-    ensures prefix { IsPrefixOf text.old.items text.new.items }
-{
-    push_pieces(text, &[Words(b"fault at "), Count(offset), Words(b" ")])?;
-    push_frame_words(text, fault)?;
-    push_pieces(text, &[Words(b"\n")])
-}
-
-/// Adds why bytes begin no record.
-fn push_frame_words<A: Allocator>(
-    text: &mut Vec<u8, A>,
-    fault: &FrameFault,
-) -> Result<(), AllocError>
-    ensures ok { OnOk result (text.new.items ≡ text.old.items ++ frame_words fault.now) }
-    ensures prefix { IsPrefixOf text.old.items text.new.items }
-{
-    match fault {
-        FrameFault::NotData => push_pieces(text, &[Words(b"notdata")]),
-        FrameFault::Order => push_pieces(text, &[Words(b"order")]),
-        FrameFault::Chain => push_pieces(text, &[Words(b"chain")]),
-        FrameFault::No1000 => push_pieces(text, &[Words(b"no1000")]),
-        FrameFault::Length(exponent) => {
-            push_pieces(text, &[Words(b"length "), Count(u64::from(*exponent))])
-        }
-        FrameFault::Outside => push_pieces(text, &[Words(b"outside")]),
-        FrameFault::Version3 => push_pieces(text, &[Words(b"version3")]),
-    }
+    text.extend_from_slice(&fault_line_of(fault))
 }
 
 /// Adds the words of a finding.

@@ -13,8 +13,9 @@ use Rattle.mseed_audit.specs.declared.each.EachFault.{EachFault}
 use Rattle.mseed_audit.specs.declared.each.EachFault.TheVariants.{Write, Memory}
 use Rattle.mseed_audit.specs.Audit.{Held, IsAuditOf}
 use Rattle.mseed_audit.specs.Channels.{Added, added_from}
-use Rattle.mseed_audit.specs.Each.{EmittedFirst, EmittedPart}
-use Rattle.mseed_audit.specs.Summary.{IsGathered}
+use Rattle.mseed_audit.specs.Each.{AreGathered, EmittedFirst, EmittedPart, HasLines, IsLinesFault}
+use Rattle.mseed_audit.specs.declared.summary.Summary.{Summary}
+use Rattle.mseed_audit.specs.Summary.{Audited, IsGathered, IsSummary, text_of}
 use Rattle.mseed_audit.specs.Text.{reported_lines}
 use Rattle.mseed_audit.specs.Reported.{Reported, AreReportedOf}
 
@@ -28,6 +29,12 @@ pub record IsReportedMore (lines : Lines) (added further : List Added) (text nex
   pub more : List Reported
   pub reported : (earlier : List Reported) → AreReportedOf added earlier → AreReportedOf further (earlier ++ more)
   pub text_is : next ≡ text ++ lines_by lines more
+
+-- a record was added to an audit, with its line, if it has one
+pub record IsAddedAlso (lines : Lines) (old new : Held) (a : Added) (text next : List ℕ) : Type 0 where
+  pub audit : (added : List Added) → IsAuditOf old added → IsAuditOf new (added ++ a ∷ [])
+  pub reported : (added : List Added) → IsAuditOf old added → IsReportedMore lines added (added ++ a ∷ []) text next
+  pub number : new.added ≡ old.added + 1
 
 -- a record more was handed out than these, and it was added, with its line, if it has one
 pub record IsOneMore (lines : Lines) (views : List View) (old new : BytesRead) (c : Standing) (held : Held)
@@ -48,7 +55,47 @@ IsNext lines (Ok (Ended end)) views offset old new c held text next =
     IsGathered held end offset new views × (next ≡ text)
 IsNext lines (Err e) views offset old new c held text next = AreViews new.bytes offset views
 
+-- by an audit, a cutter and a source as they stood and stand
+abbrev pub AddsNext : Lines → Result Step NoRoom → BytesRead → BytesRead → Standing → Standing → Held → Held → List ℕ
+    → List ℕ → Type 0
+AddsNext lines result old new before c held next_held text next =
+    (views : List View) → HasHandedOut old before views → IsAuditOf held (added_from 0 views)
+    → IsNext lines result views before.offset old new c next_held text next
+
+-- the text of the audit of these records was added, and the answer is what it says in numbers
+pub record IsFinished (s : Summary) (h : BytesRead) (views : List View) (text next : List ℕ) : Type 0 where
+  pub audited : Audited h
+  pub views_are : audited.views ≡ views
+  pub summary : IsSummary s audited
+  pub text_is : next ≡ text ++ text_of audited
+
 -- a prefix of some text was written before the fault, which is the output's where the output failed
 abbrev pub IsPrefixWritten : EachFault → BytesWritten → BytesWritten → List ℕ → Type 0
 IsPrefixWritten Write old new text = (new.failures ≡ old.failures + 1) × EmittedPart old new text
 IsPrefixWritten Memory old new text = (new.failures ≡ old.failures) × EmittedFirst old new text
+
+-- records were added, and their lines were written or are gathered
+pub record AreTold (h : BytesRead) (c : Standing) (held : Held) (first now : BytesWritten) (text : List ℕ) : Type 0
+  where
+    pub views : List View
+    pub handed : HasHandedOut h c views
+    pub audit : IsAuditOf held (added_from 0 views)
+    pub reported : List Reported
+    pub are_reported : AreReportedOf (added_from 0 views) reported
+    pub lines : AreGathered first now text (reported_lines reported)
+    pub fine : now.failures ≡ first.failures
+
+-- and one more
+pub record AreToldMore (old new : BytesRead) (c : Standing) (held : Held) (first now : BytesWritten) (text : List ℕ)
+    : Type 0 where
+  pub told : AreTold new c held first now text
+  pub called : old.calls < new.calls
+  pub few : held.added ≤ new.calls
+
+-- What comes next of an input: one more record, its end, or a fault, before which a prefix of the lines was written.
+abbrev pub IsToldNext : Result Step EachFault → ℕ → BytesRead → BytesRead → Standing → Held → BytesWritten
+    → BytesWritten → List ℕ → Type 0
+IsToldNext (Ok OneMore) offset old new c held first now text = AreToldMore old new c held first now text
+IsToldNext (Ok (Ended end)) offset old new c held first now text =
+    (views : List View) × ((reported : List Reported) × HasLines held end offset new first now text views reported)
+IsToldNext (Err fault) offset old new c held first now text = IsLinesFault fault new first now

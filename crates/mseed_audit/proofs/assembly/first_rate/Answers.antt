@@ -1,7 +1,14 @@
-use Rattle.std.proofs.Common.{◌≡◌, false, true, Some, None}
+use Rattle.std.proofs.Common.{◌≡◌, ◌∙◌, List, map, false, true, Some, None, refl, sym, subst, arith}
+use Rattle.std.specs.List.{filter}
+use Rattle.std.proofs.lemmas.List.{take_all}
+use Rattle.mseed_record.specs.View.{View}
+use Rattle.mseed_record.specs.declared.view.RecordView.{RecordView}
 use Rattle.mseed_record.specs.Viewing.{view_of}
 use Rattle.mseed_audit.specs.Judging.{rate_in}
+use Rattle.mseed_audit.specs.Channels.{is_of}
+use Rattle.mseed_audit.specs.private.Kept.{IsFirstRate}
 use Rattle.mseed_audit.proofs.Assembled.{first_there}
+use Rattle.mseed_audit.proofs.Behind.{kept_next}
 use Rattle.mseed_audit.proofs.Judged.{none_unless}
 use Rattle.mseed_audit.proofs.assembly.first_rate.Goals as goal
 
@@ -17,3 +24,14 @@ returns-in-Err c =
     c.loop-view-test.true c.view-item.is c.if-is_of.ensures c.loop-view.invariant
     (none_unless (rate_in (view_of c.view-item.result))
     (λ some. let no : false ≡ true = c.in-Err.ensures.ok.1 some in cc))
+
+pub loop-view-preserved : goal.loop-view-preserved
+loop-view-preserved c =
+    kept_next c.args.codes.now c.args.views.now c.loop-view.view-index c.view-item.result false c.loop-view-test.true
+    c.view-item.is c.if-is_of.ensures ∙ c.loop-view.invariant
+
+pub returns : goal.returns
+returns c =
+    let all = take_all c.loop-view.view-index c.args.views.now (omega (arith, c.loop-view-test.false)) in
+    subst (λ (rs : List RecordView). IsFirstRate (filter (is_of c.args.codes.now) (map view_of rs)) None) all
+    (subst (λ (vs : List View). IsFirstRate vs None) (sym c.loop-view.invariant) refl)

@@ -1,24 +1,15 @@
-use Rattle.std.proofs.Common.{◌≡◌, ◌+◌, ◌-◌, ◌^◌, ◌≤◌, List}
-use Rattle.mseed_record.specs.View.{View}
+use Rattle.std.proofs.Common.{◌≡◌, ◌+◌, ◌-◌, ◌^◌, ◌≤◌}
 use Rattle.mseed_stream.specs.Calls.{WritesOn}
 use Rattle.mseed_stream.specs.Cutting.{IsAlong, TellsMore}
-use Rattle.mseed_stream.specs.Walk.{HasHandedOut}
-use Rattle.mseed_audit.specs.Audit.{IsAuditOf}
-use Rattle.mseed_audit.specs.Channels.{added_from}
-use Rattle.mseed_audit.specs.Each.{AreGathered}
-use Rattle.mseed_audit.specs.Text.{reported_lines}
-use Rattle.mseed_audit.specs.Reported.{Reported, AreReportedOf}
+use Rattle.mseed_audit.specs.private.Gathered.{AreTold}
 use Rattle.mseed_audit.proofs.each.gather_each.Given as goal
 
 abbrev pub invariant-records : goal.invariant-records
 invariant-records g l = record {
   along : IsAlong (g.R.Source.read l.source) l.cutter;
   few : l.audit.added ≤ (g.R.Source.read l.source).calls;
-  fine : (g.W.Sink.written l.sink).failures ≡ (g.W.Sink.written l.fn.sink).failures;
-  added : (views : List View) × (HasHandedOut (g.R.Source.read l.source) l.cutter views
-      × IsAuditOf l.audit (added_from 0 views)
-      × ((reported : List Reported) × (AreReportedOf (added_from 0 views) reported
-      × AreGathered (g.W.Sink.written l.fn.sink) (g.W.Sink.written l.sink) l.text.items (reported_lines reported))));
+  told : AreTold (g.R.Source.read l.source) l.cutter l.audit (g.W.Sink.written l.fn.sink) (g.W.Sink.written l.sink)
+      l.text.items;
   more : TellsMore (g.R.Source.read l.fn.source) (g.R.Source.read l.source) (g.R.Source.remaining l.fn.source)
       (g.R.Source.remaining l.source);
   beside : g.R.Source.beside l.source ≡ g.R.Source.beside l.fn.source;

@@ -1,5 +1,5 @@
-use Rattle.std.proofs.Common.{◌<◌, length, ap, arith}
-use Rattle.mseed_audit.proofs.Lines.{printed_fits, trimmed_fits}
+use Rattle.std.proofs.Common.{◌<◌, length, arith}
+use Rattle.mseed_audit.proofs.Lines.{printed_within}
 use Rattle.mseed_audit.proofs.line.put_code.Goals as goal
 
 pub push-requires : goal.push-requires
@@ -7,10 +7,8 @@ push-requires c =
     let room : length c.loop-byte.name.items < 16 =
     omega (
       arith,
-      printed_fits c.args.name.now.items c.trimmed-byte-items.result.now c.loop-byte.name.items
-          c.loop-byte.byte-index c.loop-byte.invariant,
-      trimmed_fits c.args.code.now,
-      ap length c.trimmed-byte-items.ensures,
+      printed_within c.args.name.now.items c.args.code.now c.trimmed-byte-items.result.now _
+          c.loop-byte.byte-index c.loop-byte.invariant c.trimmed-byte-items.ensures,
     ) in
     (omega arith, room)
 
@@ -18,8 +16,6 @@ pub returns-clause-most : goal.returns-clause-most
 returns-clause-most c =
     omega (
       arith,
-      printed_fits c.args.name.now.items c.trimmed-byte-items.result.now c.loop-byte.name.items
-          c.loop-byte.byte-index c.loop-byte.invariant,
-      trimmed_fits c.args.code.now,
-      ap length c.trimmed-byte-items.ensures,
+      printed_within c.args.name.now.items c.args.code.now c.trimmed-byte-items.result.now _
+          c.loop-byte.byte-index c.loop-byte.invariant c.trimmed-byte-items.ensures,
     )

@@ -1,20 +1,19 @@
-use Rattle.std.proofs.Common.{◌≡◌, ℕ, ◌+◌, length, ap, ◌∙◌}
+use Rattle.std.proofs.Common.{◌∙◌}
 use Rattle.mseed_record.specs.Viewing.{view_of}
 use Rattle.mseed_audit.specs.Channels.{Added}
-use Rattle.mseed_audit.proofs.Telling.{reported_line_more, reported_no_line}
+use Rattle.mseed_audit.proofs.Telling.{added_lined, added_unlined}
 use Rattle.mseed_audit.proofs.summary.add_judged.Goals as goal
 
-pub returns-in-OfRecords-clause-reported : goal.returns-in-OfRecords-clause-reported
-returns-in-OfRecords-clause-reported g c = λ added is.
+pub returns-in-OfRecords : goal.returns-in-OfRecords
+returns-in-OfRecords g c =
     let a : Added = record { view = view_of c.args.view.now; offset = c.args.offset } in
-    let number : c.added.result ≡ length added + 1 = c.added.ensures ∙ c.in_ok-why.ensures.number
-    ∙ ap (λ (n : ℕ). n + 1) is.number in
-    reported_line_more c.push_reported.result c.args.lines added a c.added.result c.in_ok-why.why c.args.text.now.items
-    c.push_reported.new.text.items c.in-OfRecords.is number (c.in_ok-why.ensures.found added is) c.push_reported.ensures
+    added_lined c.push_reported.result c.args.lines c.args.audit.now c.add_judged.new.self a c.added.result
+    c.in-Ok.why c.args.text.now.items c.push_reported.new.text.items c.in-OfRecords.is
+    (c.added.ensures ∙ c.in-Ok.ensures.number) c.in-Ok.ensures.number c.in-Ok.ensures.adds c.in-Ok.ensures.found
+    c.push_reported.ensures
 
-pub returns-in-OfVerdicts-clause-reported : goal.returns-in-OfVerdicts-clause-reported
-returns-in-OfVerdicts-clause-reported g c = λ added is.
+pub returns-in-OfVerdicts : goal.returns-in-OfVerdicts
+returns-in-OfVerdicts g c =
     let a : Added = record { view = view_of c.args.view.now; offset = c.args.offset } in
-    let number : c.args.audit.now.added + 1 ≡ length added + 1 = ap (λ (n : ℕ). n + 1) is.number in
-    reported_no_line c.args.lines added a (c.args.audit.now.added + 1) c.in_ok-why.why c.args.text.now.items
-    c.in-OfVerdicts.is number (c.in_ok-why.ensures.found added is)
+    added_unlined c.args.lines c.args.audit.now c.add_judged.new.self a c.in-Ok.why c.args.text.now.items
+    c.in-OfVerdicts.is c.in-Ok.ensures.number c.in-Ok.ensures.adds c.in-Ok.ensures.found

@@ -1,56 +1,34 @@
-use Rattle.std.proofs.Common.{◌∙◌, ap, length, take}
-use Rattle.mseed_stream.specs.Device.{BytesRead, BytesWritten}
-use Rattle.mseed_audit.specs.Summary.{broken_count}
-use Rattle.mseed_audit.proofs.Outcomes.{with_verdicts, audited, text_is, summary_is, written, cut_off}
+use Rattle.std.proofs.Common.{take}
+use Rattle.mseed_audit.proofs.Outcomes.{cut_off, written}
+use Rattle.mseed_stream.specs.Device.{BytesRead}
 use Rattle.mseed_stream.proofs.Calls.{writes_none}
 use Rattle.mseed_audit.proofs.summary.audit.Goals as goal
 
 pub returns-in-Ok-write_all_of-clause-outcome : goal.returns-in-Ok-write_all_of-clause-outcome
 returns-in-Ok-write_all_of-clause-outcome g c =
-    let held = c.in-Ok.gathered.0 in
-    let end = c.in-Ok.gathered.1 in
     let read : BytesRead = g.R.Source.read c.gather.new.source in
-    let old : BytesWritten = g.W.Sink.written c.args.sink.now in
-    let new : BytesWritten = g.W.Sink.written c.write_all_of.new.sink in
-    let verdicts = c.finish-verdicts.result in
-    let f = with_verdicts held end read verdicts c.in-Ok.gathered.2 c.in-Ok.ensures.gathered
-    c.finish-verdicts.ensures in
+    let found = c.in-Ok.ensures.gathered in
     let write = c.in-Ok-write_all_of.ensures in
-    let text = text_is held end read verdicts c.as_slice.result.now c.added-records.result c.new-text.result.items
-    c.push_audit.new.text.items c.deref.result.now f c.new-text.ensures.items c.in-Ok-push_audit.ensures.ok
-    c.as_slice.ensures c.added-records.ensures c.deref.ensures.value in
-    let summary = summary_is _ held end read verdicts f c.added-records.ensures
-    (ap length c.as_slice-in-Ok-write_all_of.ensures) (c.count_broken.ensures
-    ∙ ap broken_count c.as_slice-in-Ok-write_all_of-2.ensures) c.is_some.ensures in (
-      audited held end read verdicts f,
-      written _ (audited held end read verdicts f) c.deref.result.now old new text
-          summary write.ok write.fine,
-    )
+    written c.in-Ok-push_finished.summary found.0 c.new-text.result.items c.push_finished.new.text.items
+    c.deref.result.now (g.W.Sink.written c.args.sink.now) (g.W.Sink.written c.write_all_of.new.sink)
+    (c.in-Ok-push_finished.ensures read found.0 _ found.1) c.new-text.ensures.items c.deref.ensures.value write.ok
+    write.fine
 
 pub returns-clause-outcome : goal.returns-clause-outcome
 returns-clause-outcome g c =
-    let held = c.in-Ok.gathered.0 in
-    let end = c.in-Ok.gathered.1 in
     let read : BytesRead = g.R.Source.read c.gather.new.source in
-    let old : BytesWritten = g.W.Sink.written c.args.sink.now in
-    let new : BytesWritten = g.W.Sink.written c.write_all_of.new.sink in
-    let verdicts = c.finish-verdicts.result in
-    let f = with_verdicts held end read verdicts c.in-Ok.gathered.2 c.in-Ok.ensures.gathered
-    c.finish-verdicts.ensures in
+    let found = c.in-Ok.ensures.gathered in
     let write = c.in-Err-write_all_of.ensures in
-    let text = text_is held end read verdicts c.as_slice.result.now c.added-records.result c.new-text.result.items
-    c.push_audit.new.text.items c.deref.result.now f c.new-text.ensures.items c.in-Ok-push_audit.ensures.ok
-    c.as_slice.ensures c.added-records.ensures c.deref.ensures.value in (
-      audited held end read verdicts f,
-      cut_off c.in-Err-write_all_of.taken (audited held end read verdicts f)
-          c.deref.result.now old new text write.err write.within write.failed,
-    )
+    cut_off c.in-Ok-push_finished.summary c.in-Err-write_all_of.taken found.0 c.new-text.result.items
+    c.push_finished.new.text.items c.deref.result.now (g.W.Sink.written c.args.sink.now)
+    (g.W.Sink.written c.write_all_of.new.sink) (c.in-Ok-push_finished.ensures read found.0 _ found.1)
+    c.new-text.ensures.items c.deref.ensures.value write.err write.within write.failed
 
 pub returns-in-Err-clause-writes : goal.returns-in-Err-clause-writes
 returns-in-Err-clause-writes g c = writes_none _ _ _
 
-pub returns-in-Err-push_audit-clause-writes : goal.returns-in-Err-push_audit-clause-writes
-returns-in-Err-push_audit-clause-writes g c = writes_none _ _ _
+pub returns-in-Err-push_finished-clause-writes : goal.returns-in-Err-push_finished-clause-writes
+returns-in-Err-push_finished-clause-writes g c = writes_none _ _ _
 
 pub returns-in-Ok-write_all_of-clause-writes : goal.returns-in-Ok-write_all_of-clause-writes
 returns-in-Ok-write_all_of-clause-writes g c =
