@@ -1,6 +1,12 @@
 -- The differences of a series, one by one.
-use Rattle.std.proofs.Common.{◌≡◌, ℕ, zero, suc, ◌+◌, ◌<◌, List, [], ◌∷◌, length, get_or, refl, ap, arith, ℤ, pos, ◌-ℤ◌}
+use Rattle.std.proofs.Common.{◌≡◌, ◌∙◌, ℕ, zero, suc, ◌+◌, ◌<◌, ◌≤◌, List, [], ◌∷◌, length, get_or, set, refl, sym, ap}
+use Rattle.std.proofs.Common.{All, ⊎_elim, arith, eqb, false, ℤ, pos, ◌-ℤ◌}
 use native.Mathlib.Numerals.{unary_clauses}
+use Rattle.std.proofs.lemmas.Bool.{cases_lt, eqb-false}
+use Rattle.std.proofs.lemmas.Grind.{get_or-set_at}
+use Rattle.std.proofs.lemmas.List.{get_or-set_other}
+use Rattle.std.proofs.lemmas.List.Elements.{All-get_or}
+use Rattle.mseed_steim.specs.Spelling.{IsWithin}
 use Rattle.mseed_pack.specs.Stretches.{differences_from, differences}
 
 from_at : (before : ℤ) (xs : List ℤ) (i : ℕ) → i < length xs
@@ -25,3 +31,22 @@ length_from before (x ∷ xs) = ap (λ (n : ℕ). suc n) (length_from x xs)
 pub length-differences : (xs : List ℤ) → length (differences xs) ≡ length xs
 length-differences [] = refl
 length-differences (x ∷ xs) = ap (λ (n : ℕ). suc n) (length_from x xs)
+
+pub difference_fits : (xs : List ℤ) (i : ℕ) → i < length xs → All (IsWithin 32) (differences xs)
+    → IsWithin 32 (get_or (differences xs) i (pos 0))
+difference_fits xs i inside all =
+    All-get_or (IsWithin 32) (differences xs) i (pos 0) (omega (arith, inside, length-differences xs)) all
+
+pub some_items : (n : ℕ) → eqb n 0 ≡ false → 0 < n
+some_items n e = let not : n ≡ 0 → ⊥ = eqb-false n 0 e in omega (arith, not)
+
+-- one more of them is put into a list
+pub put_more : (ds xs : List ℤ) (first i : ℕ) (z : ℤ) → i < length xs → z ≡ get_or ds (first + i) (pos 0)
+    → ((k : ℕ) → k < i → get_or xs k (pos 0) ≡ get_or ds (first + k) (pos 0)) → (k : ℕ) → k < i + 1
+    → get_or (set xs i z) k (pos 0) ≡ get_or ds (first + k) (pos 0)
+put_more ds xs first i z inside is before k h = ⊎_elim
+    (λ (less : k < i). get_or-set_other xs i k z (pos 0) (λ e. omega (arith, e, less)) ∙ before k less)
+    (λ (last : i ≤ k).
+    let same : k ≡ i = omega (arith, h, last) in
+    get_or-set_at xs i k z (pos 0) same inside ∙ is ∙ ap (λ (n : ℕ). get_or ds (first + n) (pos 0)) (sym same))
+    (cases_lt k i)

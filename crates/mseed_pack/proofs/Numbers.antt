@@ -1,6 +1,7 @@
 -- Integers that are written one behind another.
 use Rattle.std.proofs.Common.{◌≡◌, ℕ, ◌+◌, ◌-◌, ◌*◌, ◌^◌, ◌<◌, ◌≤◌, List, [], ◌∷◌, ◌++◌, length, take, drop, get_or}
 use Rattle.std.proofs.Common.{sym, ap, ◌∙◌, arith, ℤ, pos, negsuc, length-append, append_assoc, of_z, w16, w32}
+use Rattle.std.proofs.Common.{◌/◌, min, FitsSigned}
 use Rattle.std.specs.List.{flat_map}
 use Rattle.std.specs.Prelude.{slice_range}
 use borrow.Rule.Slice.PartMut.{put_mid, post_of}
@@ -9,7 +10,10 @@ use Rattle.std.proofs.lemmas.List.{length-drop, take_at, drop_at, drop_all, appe
 use Rattle.std.proofs.lemmas.List.{drop-drop}
 use Rattle.mseed_steim.specs.Spelling.{residue, IsWithin}
 use Rattle.byteorder.specs.Numbers.{length-bytes_high_first}
-use Rattle.mseed_pack.specs.private.Filling.{integer_bytes}
+use Rattle.mseed_pack.specs.declared.integers.Width.{Width}
+use Rattle.mseed_pack.specs.declared.integers.Width.TheVariants.{Two as Short, Four as Long}
+use Rattle.mseed_pack.specs.declared.payload.Left.{Left}
+use Rattle.mseed_pack.specs.private.Filling.{AreLeft, AreTaken, bytes_in, integer_bytes}
 
 pub residue_16 : (z : ℤ) → IsWithin 16 z → of_z w16 z ≡ residue (2 ^ 16) z
 residue_16 (pos n) h = let high = h.1 in omega (arith, ints, high)
@@ -18,6 +22,18 @@ residue_16 (negsuc n) h = let low = h.0 in omega (arith, ints, low)
 pub residue_32 : (z : ℤ) → IsWithin 32 z → of_z w32 z ≡ residue (2 ^ 32) z
 residue_32 (pos n) h = let high = h.1 in omega (arith, ints, high)
 residue_32 (negsuc n) h = let low = h.0 in omega (arith, ints, low)
+
+pub fits_16 : (z : ℤ) → IsWithin 16 z → FitsSigned w16 z
+fits_16 (pos n) h = let high = h.1 in record { sfits = omega (arith, ints, high) }
+fits_16 (negsuc n) h = let low = h.0 in record { sfits = omega (arith, ints, low) }
+
+pub fits_32 : (z : ℤ) → IsWithin 32 z → FitsSigned w32 z
+fits_32 (pos n) h = let high = h.1 in record { sfits = omega (arith, ints, high) }
+fits_32 (negsuc n) h = let low = h.0 in record { sfits = omega (arith, ints, low) }
+
+pub wide : (z : ℤ) → IsWithin 16 z → IsWithin 32 z
+wide (pos n) h = let high = h.1 in (omega (arith, ints), omega (arith, ints, high))
+wide (negsuc n) h = let low = h.0 in (omega (arith, ints, low), omega (arith, ints))
 
 -- one more before what stood there
 pub one_more : (w size index : ℕ) (prefix bytes p q buf : List ℕ) → length prefix ≡ w * index → w * index + w ≤ size
@@ -77,3 +93,18 @@ length_flat w (z ∷ zs) = omega (
   length-bytes_high_first w (residue (2 ^ (8 * w)) z),
   length_flat w zs,
 )
+
+-- some are taken, and all of them stand before the end
+pub taken : (w : Width) (left : Left) (size r count : ℕ) → r ≡ bytes_in w
+    → count ≡ min (left.end - left.first) (size / r) → AreLeft left → 64 ≤ size → size ≤ 4032
+    → AreTaken left (record { samples = count; frames = 0 })
+taken Short left size r count e m l long short =
+    let some = l.some in
+    let most : count ≡ min (left.end - left.first) (size / 2) =
+    m ∙ ap (λ (n : ℕ). min (left.end - left.first) (size / n)) e in
+    record { some = omega (arith, most); within = omega (arith, most); few = omega (arith, most) }
+taken Long left size r count e m l long short =
+    let some = l.some in
+    let most : count ≡ min (left.end - left.first) (size / 4) =
+    m ∙ ap (λ (n : ℕ). min (left.end - left.first) (size / n)) e in
+    record { some = omega (arith, most); within = omega (arith, most); few = omega (arith, most) }

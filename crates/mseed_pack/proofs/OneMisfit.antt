@@ -1,12 +1,14 @@
 -- A series has one reason at most why it isn't packed, and none where it fits.
-use Rattle.std.proofs.Common.{◌≡◌, ℕ, ◌<◌, ◌≤◌, List, refl, ap, arith, ℤ, pos, All, ⊎_elim}
+use Rattle.std.proofs.Common.{◌≡◌, ℕ, ◌<◌, ◌≤◌, List, refl, ap, arith, ℤ, pos, All, ⊎_elim, Err}
 use Rattle.std.proofs.lemmas.Bool.{cases_lt}
+use Rattle.mseed_stream.specs.Device.{BytesWritten}
 use Rattle.mseed_audit.specs.Series.{Trace}
 use Rattle.mseed_pack.specs.declared.options.Options.{Options}
 use Rattle.mseed_pack.specs.declared.fault.PackFault.{PackFault}
 use Rattle.mseed_pack.specs.declared.fault.PackFault.TheVariants.{SampleTooLarge, DifferenceTooLarge}
 use Rattle.mseed_pack.specs.Fitting.{IsFirstNot, Fits, IsMisfit, no_sample, too_fast, time_outside, large_sample}
 use Rattle.mseed_pack.specs.Fitting.{large_difference}
+use Rattle.mseed_pack.specs.Outcome.{IsOutcome}
 
 one_first : (P : ℤ → Type 0) (xs : List ℤ) (i j : ℕ) → IsFirstNot P xs i → IsFirstNot P xs j → i ≡ j
 one_first P xs i j h k = ⊎_elim
@@ -55,3 +57,12 @@ no_misfit s o f fits (too_fast some fast) = fits.slow fast
 no_misfit s o f fits (time_outside some slow time) = fits.timed time
 no_misfit s o f fits (large_sample some slow timed i h) = none_first _ s.samples i fits.samples h
 no_misfit s o f fits (large_difference some slow timed all i h) = none_first _ _ i fits.differences_fit h
+
+-- and nothing is written of one that doesn't fit
+pub refused : (s : Trace) (o : Options) (f : PackFault) (written : BytesWritten) → IsMisfit s o f
+    → IsOutcome (Err f) s o written written
+refused s o f written (no_sample e) = (no_sample e, refl)
+refused s o f written (too_fast some fast) = (too_fast some fast, refl)
+refused s o f written (time_outside some slow time) = (time_outside some slow time, refl)
+refused s o f written (large_sample some slow timed i h) = (large_sample some slow timed i h, refl)
+refused s o f written (large_difference some slow timed all i h) = (large_difference some slow timed all i h, refl)

@@ -7,7 +7,7 @@ use Rattle.std.proofs.lemmas.List.{take_rest}
 use borrow.Rule.Slice.PartMut.{put_mid}
 use Rattle.mseed_pack.specs.private.Filling.{bytes_in, integer_bytes}
 use Rattle.mseed_pack.proofs.Filled.{length_part}
-use Rattle.mseed_pack.proofs.Numbers.{one_more, flat_more, length_flat}
+use Rattle.mseed_pack.proofs.Numbers.{flat_more, flat_none, length_flat, one_more, taken}
 use Rattle.mseed_pack.proofs.integers.fill_integers.Goals as goal
 
 pub loop-index-preserved : goal.loop-index-preserved
@@ -50,3 +50,19 @@ loop-index-preserved c =
       written = next ∙ ap (λ (n : ℕ). (prefix ++ bytes) ++ drop (n * (index + 1)) old) same
           ∙ ap (λ (l : List ℕ). l ++ drop (w * (index + 1)) old) (sym (flat_more w xs first index inside));
     }
+
+pub loop-index-init : goal.loop-index-init
+loop-index-init c =
+    let w : ℕ = bytes_in c.args.width in
+    let none : w * 0 ≡ 0 = omega arith in
+    record {
+      bytes_are = c.bytes_in-bytes.ensures;
+      written = ap (λ (n : ℕ). drop n c.args.payload.now) (sym none)
+          ∙ ap (λ (l : List ℕ). l ++ drop (w * 0) c.args.payload.now)
+          (sym (flat_none w c.args.left.now.samples.now c.args.left.now.first));
+    }
+
+pub returns-clause-taken : goal.returns-clause-taken
+returns-clause-taken c =
+    taken c.args.width c.args.left.now (length c.args.payload.now) c.bytes_in-bytes.result c.min-count.result
+    c.bytes_in-bytes.ensures c.min-count.ensures c.requires.left c.requires.frames.long c.requires.frames.short

@@ -1,7 +1,7 @@
 use Rattle.std.proofs.Common.{◌≡◌, ◌+◌, ◌*◌, ◌^◌, ℕ, sym, ap, subst, ◌∙◌, take, rules}
 use Rattle.mseed_pack.specs.Outcome.{EmittedPrefix}
 use Rattle.mseed_pack.specs.Traces.{trace_of}
-use Rattle.mseed_pack.proofs.Growing.{emitted_more, emitted_none, emitted_prefix}
+use Rattle.mseed_pack.proofs.Growing.{emitted_all, emitted_more, emitted_none, emitted_prefix}
 use Rattle.mseed_stream.proofs.Calls.{writes_none, writes_on}
 use Rattle.mseed_pack.proofs.packing.pack_through.Goals as goal
 
@@ -56,3 +56,9 @@ loop-place-preserved g c =
             beside = c.write_all_of.ensures.beside;
           });
     }
+
+pub returns-clause-ok : goal.returns-clause-ok
+returns-clause-ok g c =
+    emitted_all (trace_of c.args.series.now) c.args.options.now c.loop-place.place.number c.loop-place.place.first
+    (g.W.Sink.written c.args.sink.now) (g.W.Sink.written c.loop-place.sink) c.loop-place.invariant.emitted
+    c.loop-place-test.false
