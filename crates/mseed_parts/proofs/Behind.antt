@@ -27,7 +27,7 @@ abbrev pub HaveOneFinding : Type 0
 HaveOneFinding = (before : Option View) (v : View) (a b : Option Why) → IsFound before v a → IsFound before v b → a ≡ b
 
 -- ---- what is found of a record alone is found of it behind another
-pub own_found : (before : Option View) (v : View) (a : Option Why) (why : Why) → IsFound None v a → a ≡ Some why
+own_found : (before : Option View) (v : View) (a : Option Why) (why : Why) → IsFound None v a → a ≡ Some why
     → IsFound before v (Some why)
 own_found before v a why (by_time fault e) h =
     subst (λ (x : Option Why). IsFound before v x) h (by_time fault e)
@@ -37,7 +37,7 @@ own_found before v a why (by_read next known fault is) h =
 own_found before v a why (by_after next known samples whole) h = cc (h)
 
 -- where nothing is, it is judged by the one before
-pub sound_found : (before : Option View) (v : View) (a : Option Why) (next : Ratio) → IsFound None v a → a ≡ None
+sound_found : (before : Option View) (v : View) (a : Option Why) (next : Ratio) → IsFound None v a → a ≡ None
     → known_rate v ≡ Some next → IsFound before v (why_after before v next)
 sound_found before v a next (by_time fault e) h is = cc (h)
 sound_found before v a next (by_rate e r) h is = cc (h)
@@ -45,7 +45,7 @@ sound_found before v a next (by_read other known fault k) h is = cc (h)
 sound_found before v a next (by_after other known samples whole) h is = by_after next is samples whole
 
 -- the border says so of the record by which the next is judged
-pub border_is : (t : Tail) (b : View) (h : Head) (q : Placed) → IsTail t b → IsHead h q
+border_is : (t : Tail) (b : View) (h : Head) (q : Placed) → IsTail t b → IsHead h q
     → why_after (Some b) q.view h.rate ≡ border_why t h
 border_is t b h q tail head =
     ap (λ (r : Option Ratio). why_from b r q.view h.rate) tail.rate
@@ -61,34 +61,53 @@ found_is h q (Some why) head =
     λ i. record { number = sym head.number i; offset = sym head.offset i; why = why } ∷ []
 
 -- a record that is judged behind another has the border's finding before what is found of it alone
-border_found : HaveOneFinding → (t : Option Tail) (b : View) (h : Option Head) (q : Placed) (qs : List Placed)
-    (found : List Finding) → IsTailOf t b → IsHeadOf h q → AreFindings None (q ∷ qs) found
-    → AreFindings (Some b) (q ∷ qs) (option_to_list (border_of t h) ++ found)
-border_found only None b None q qs found tail head (one _ _ _ why rest k later) =
-    let is : why ≡ Some head.0 = only None q.view why (Some head.0) k head.1 in
-    one (Some b) q qs why rest
-    (subst (λ (x : Option Why). IsFound (Some b) q.view x) (sym is) (own_found (Some b) q.view why head.0 k is)) later
-border_found only (Some t) b None q qs found tail head (one _ _ _ why rest k later) =
-    let is : why ≡ Some head.0 = only None q.view why (Some head.0) k head.1 in
-    one (Some b) q qs why rest
-    (subst (λ (x : Option Why). IsFound (Some b) q.view x) (sym is) (own_found (Some b) q.view why head.0 k is)) later
-border_found only None b (Some h) q qs found tail head (one _ _ _ why rest k later) =
+pub record IsFoundNext (t : Option Tail) (b : View) (h : Option Head) (q : Placed) (why : Option Why) : Type 0 where
+  pub further : Option Why
+  pub found : IsFound (Some b) q.view further
+  pub is : finding_at q further ≡ option_to_list (border_of t h) ++ finding_at q why
+
+own_behind : HaveOneFinding → (b : View) (q : Placed) (why : Option Why) (own : Why) → IsFound None q.view (Some own)
+    → IsFound None q.view why → IsFound (Some b) q.view why
+own_behind only b q why own alone k =
+    let is : why ≡ Some own = only None q.view why (Some own) k alone in
+    subst (λ (x : Option Why). IsFound (Some b) q.view x) (sym is) (own_found (Some b) q.view why own k is)
+
+pub found_behind : HaveOneFinding → (t : Option Tail) (b : View) (h : Option Head) (q : Placed) (why : Option Why)
+    → IsTailOf t b → IsHeadOf h q → IsFound None q.view why → IsFoundNext t b h q why
+found_behind only None b None q why tail head k =
+    record { further = why; found = own_behind only b q why head.0 head.1 k; is = refl }
+found_behind only (Some t) b None q why tail head k =
+    record { further = why; found = own_behind only b q why head.0 head.1 k; is = refl }
+found_behind only None b (Some h) q why tail head k =
     let is : why ≡ None = only None q.view why None k head.sound in
     let nothing : why_after (Some b) q.view h.rate ≡ why =
     ap (λ (r : Option Ratio). why_from b r q.view h.rate) tail ∙ sym is in
-    one (Some b) q qs why rest
-    (subst (λ (x : Option Why). IsFound (Some b) q.view x) nothing
-    (sound_found (Some b) q.view None h.rate head.sound refl head.rate)) later
-border_found only (Some t) b (Some h) q qs found tail head (one _ _ _ why rest k later) =
+    record {
+      further = why;
+      found = subst (λ (x : Option Why). IsFound (Some b) q.view x) nothing
+          (sound_found (Some b) q.view None h.rate head.sound refl head.rate);
+      is = refl;
+    }
+found_behind only (Some t) b (Some h) q why tail head k =
     let is : why ≡ None = only None q.view why None k head.sound in
-    let here : IsFound (Some b) q.view (border_why t h) =
-    subst (λ (x : Option Why). IsFound (Some b) q.view x) (border_is t b h q tail head)
-    (sound_found (Some b) q.view None h.rate head.sound refl head.rate) in
-    let all : finding_at q (border_why t h) ++ rest
-    ≡ option_to_list (found_at h (border_why t h)) ++ (finding_at q why ++ rest) =
-    λ i. found_is h q (border_why t h) head i ++ (finding_at q (sym is i) ++ rest) in
-    subst (λ (fs : List Finding). AreFindings (Some b) (q ∷ qs) fs) all
-    (one (Some b) q qs (border_why t h) rest here later)
+    let border : List Finding = option_to_list (found_at h (border_why t h)) in
+    record {
+      further = border_why t h;
+      found = subst (λ (x : Option Why). IsFound (Some b) q.view x) (border_is t b h q tail head)
+          (sound_found (Some b) q.view None h.rate head.sound refl head.rate);
+      is = found_is h q (border_why t h) head ∙ sym (append-nil border)
+          ∙ ap (λ (w : Option Why). border ++ finding_at q w) (sym is);
+    }
+
+border_found : HaveOneFinding → (t : Option Tail) (b : View) (h : Option Head) (q : Placed) (qs : List Placed)
+    (found : List Finding) → IsTailOf t b → IsHeadOf h q → AreFindings None (q ∷ qs) found
+    → AreFindings (Some b) (q ∷ qs) (option_to_list (border_of t h) ++ found)
+border_found only t b h q qs found tail head (one _ _ _ why rest k later) =
+    let f = found_behind only t b h q why tail head k in
+    subst (λ (fs : List Finding). AreFindings (Some b) (q ∷ qs) fs)
+    (ap (λ (fs : List Finding). fs ++ rest) f.is
+    ∙ append_assoc (option_to_list (border_of t h)) (finding_at q why) rest)
+    (one (Some b) q qs f.further rest f.found later)
 
 -- the findings of records and of further ones behind them
 findings_append : (before : Option View) (ps qs : List Placed) (found further : List Finding)
@@ -109,25 +128,22 @@ pub last_is : (ps prefix : List Placed) (last : Placed) → ps ≡ prefix ++ las
 last_is ps prefix last e = ap (λ (qs : List Placed). last_of None qs) e ∙ last_snoc None prefix last
 
 -- ---- counts and ends
+ends_with : (a b : Findings) (border : Option Finding)
+    → (head_in (findings_with a b border) ≡ head_in a) × (tail_in (findings_with a b border) ≡ tail_in b)
+ends_with (Nothing head t) (Nothing h tail) None = (refl, refl)
+ends_with (Nothing head t) (Nothing h tail) (Some f) = (refl, refl)
+ends_with (Nothing head t) (Counted n g h tail) None = (refl, refl)
+ends_with (Nothing head t) (Counted n g h tail) (Some f) = (refl, refl)
+ends_with (Counted m first head t) (Nothing h tail) None = (refl, refl)
+ends_with (Counted m first head t) (Nothing h tail) (Some f) = (refl, refl)
+ends_with (Counted m first head t) (Counted n g h tail) None = (refl, refl)
+ends_with (Counted m first head t) (Counted n g h tail) (Some f) = (refl, refl)
+
 pub head_with : (a b : Findings) (border : Option Finding) → head_in (findings_with a b border) ≡ head_in a
-head_with (Nothing head t) (Nothing h tail) None = refl
-head_with (Nothing head t) (Nothing h tail) (Some f) = refl
-head_with (Nothing head t) (Counted n g h tail) None = refl
-head_with (Nothing head t) (Counted n g h tail) (Some f) = refl
-head_with (Counted m first head t) (Nothing h tail) None = refl
-head_with (Counted m first head t) (Nothing h tail) (Some f) = refl
-head_with (Counted m first head t) (Counted n g h tail) None = refl
-head_with (Counted m first head t) (Counted n g h tail) (Some f) = refl
+head_with a b border = (ends_with a b border).0
 
 pub tail_with : (a b : Findings) (border : Option Finding) → tail_in (findings_with a b border) ≡ tail_in b
-tail_with (Nothing head t) (Nothing h tail) None = refl
-tail_with (Nothing head t) (Nothing h tail) (Some f) = refl
-tail_with (Nothing head t) (Counted n g h tail) None = refl
-tail_with (Nothing head t) (Counted n g h tail) (Some f) = refl
-tail_with (Counted m first head t) (Nothing h tail) None = refl
-tail_with (Counted m first head t) (Nothing h tail) (Some f) = refl
-tail_with (Counted m first head t) (Counted n g h tail) None = refl
-tail_with (Counted m first head t) (Counted n g h tail) (Some f) = refl
+tail_with a b border = (ends_with a b border).1
 
 none_in : (fs : List Finding) → fs ≡ [] → length fs ≡ 0
 none_in fs e = ap (λ (gs : List Finding). length gs) e

@@ -3,25 +3,26 @@ use Rattle.std.proofs.Common.{◌≡◌, ℕ, ◌<◌, List, [], ◌∷◌, ◌+
 use Rattle.std.proofs.Common.{true, false, Option, Some, None, refl, sym, ap, ◌∙◌, subst}
 use Rattle.std.proofs.Common.{append_assoc}
 use Rattle.std.proofs.lemmas.List.{map-append}
+use Rattle.std.specs.Option.{option_to_list}
 use Rattle.mseed_record.specs.Header.{key_at}
 use Rattle.mseed_record.specs.View.{View}
 use Rattle.mseed_steim.specs.Reading.{count_of}
-use Rattle.mseed_time.specs.Rate.{Ratio}
 use Rattle.mseed_audit.specs.declared.finding.Finding.{Finding}
 use Rattle.mseed_audit.specs.declared.finding.Why.{Why}
 use Rattle.mseed_audit.specs.declared.channel.Head.{Head}
 use Rattle.mseed_audit.specs.declared.tail.Tail.{Tail}
-use Rattle.mseed_audit.specs.Audit.{IsHead, IsHeadOf, IsTailOf}
+use Rattle.mseed_audit.specs.Audit.{IsHeadOf, IsTailOf}
 use Rattle.mseed_audit.specs.Channels.{Added, Placed, is_of, numbered, records_of, same_key}
-use Rattle.mseed_audit.specs.Judging.{IsFound, why_after, why_from}
+use Rattle.mseed_audit.specs.Judging.{IsFound}
 use Rattle.mseed_audit.specs.Reported.{Reported, AreReported, AreReportedOf, IsFoundOf, channel_in, last_of}
 use Rattle.mseed_audit.specs.Reported.{reported_at, reported_with}
+use Rattle.mseed_audit.specs.Verdict.{finding_at}
 use Rattle.mseed_audit.specs.Reported.{none as nothing_reported, one as one_reported}
 use Rattle.mseed_audit.proofs.Maps.{same_is}
 use Rattle.mseed_audit.proofs.OneTelling.{channel_with, channel_without, last_with, last_without, of_some}
 use Rattle.mseed_audit.proofs.OneTelling.{reported_elsewhere, samples_of}
-use Rattle.mseed_parts.specs.Joining.{border_of, border_why, found_at, moved_finding}
-use Rattle.mseed_parts.proofs.Behind.{HaveOneFinding, border_is, own_found, sound_found}
+use Rattle.mseed_parts.specs.Joining.{border_of, moved_finding}
+use Rattle.mseed_parts.proofs.Behind.{HaveOneFinding, found_behind}
 use Rattle.mseed_parts.proofs.Placing.{moved}
 
 -- what is reported of a channel's records behind another, each judged by the one just before it
@@ -133,41 +134,32 @@ abbrev pub border_reported : Placed → Option Finding → List Reported
 border_reported q None = []
 border_reported q (Some f) = record { view = q.view; finding = f } ∷ []
 
-reported_is : (h : Head) (q : Placed) (why : Option Why) → IsHead h q
-    → reported_at q why ≡ border_reported q (found_at h why)
-reported_is h q None head = refl
-reported_is h q (Some why) head =
-    λ i. record {
-      view = q.view;
-      finding = record { number = sym head.number i; offset = sym head.offset i; why = why };
-    } ∷ []
+-- what is reported of a record, by its finding
+abbrev noted : Placed → Finding → Reported
+noted q f = record { view = q.view; finding = f }
+
+reported_is : (q : Placed) (why : Option Why) → reported_at q why ≡ map (noted q) (finding_at q why)
+reported_is q None = refl
+reported_is q (Some why) = refl
+
+border_is : (q : Placed) (o : Option Finding) → border_reported q o ≡ map (noted q) (option_to_list o)
+border_is q None = refl
+border_is q (Some f) = refl
+
+reported_behind : (q : Placed) (further why : Option Why) (o : Option Finding)
+    → finding_at q further ≡ option_to_list o ++ finding_at q why
+    → reported_at q further ≡ border_reported q o ++ reported_at q why
+reported_behind q further why o e = reported_is q further ∙ ap (λ (fs : List Finding). map (noted q) fs) e
+    ∙ map-append (noted q) (option_to_list o) (finding_at q why)
+    ∙ sym (λ i. border_is q o i ++ reported_is q why i)
 
 -- a record that is judged behind another has the border's finding before what is reported of it alone
 pub reported_border : HaveOneFinding → (t : Option Tail) (b : View) (h : Option Head) (q : Placed) (qs : List Placed)
     (reported : List Reported) → IsTailOf t b → IsHeadOf h q → AreReportedIn None (q ∷ qs) reported
     → AreReportedIn (Some b) (q ∷ qs) (border_reported q (border_of t h) ++ reported)
-reported_border only None b None q qs reported tail head (one _ _ _ why rest k later) =
-    let is : why ≡ Some head.0 = only None q.view why (Some head.0) k head.1 in
-    one (Some b) q qs why rest
-    (subst (λ (x : Option Why). IsFound (Some b) q.view x) (sym is) (own_found (Some b) q.view why head.0 k is)) later
-reported_border only (Some t) b None q qs reported tail head (one _ _ _ why rest k later) =
-    let is : why ≡ Some head.0 = only None q.view why (Some head.0) k head.1 in
-    one (Some b) q qs why rest
-    (subst (λ (x : Option Why). IsFound (Some b) q.view x) (sym is) (own_found (Some b) q.view why head.0 k is)) later
-reported_border only None b (Some h) q qs reported tail head (one _ _ _ why rest k later) =
-    let is : why ≡ None = only None q.view why None k head.sound in
-    let nothing : why_after (Some b) q.view h.rate ≡ why =
-    ap (λ (r : Option Ratio). why_from b r q.view h.rate) tail ∙ sym is in
-    one (Some b) q qs why rest
-    (subst (λ (x : Option Why). IsFound (Some b) q.view x) nothing
-    (sound_found (Some b) q.view None h.rate head.sound refl head.rate)) later
-reported_border only (Some t) b (Some h) q qs reported tail head (one _ _ _ why rest k later) =
-    let is : why ≡ None = only None q.view why None k head.sound in
-    let here : IsFound (Some b) q.view (border_why t h) =
-    subst (λ (x : Option Why). IsFound (Some b) q.view x) (border_is t b h q tail head)
-    (sound_found (Some b) q.view None h.rate head.sound refl head.rate) in
-    let all : reported_at q (border_why t h) ++ rest
-    ≡ border_reported q (found_at h (border_why t h)) ++ (reported_at q why ++ rest) =
-    λ i. reported_is h q (border_why t h) head i ++ (reported_at q (sym is i) ++ rest) in
-    subst (λ (ts : List Reported). AreReportedIn (Some b) (q ∷ qs) ts) all
-    (one (Some b) q qs (border_why t h) rest here later)
+reported_border only t b h q qs reported tail head (one _ _ _ why rest k later) =
+    let f = found_behind only t b h q why tail head k in
+    subst (λ (ts : List Reported). AreReportedIn (Some b) (q ∷ qs) ts)
+    (ap (λ (ts : List Reported). ts ++ rest) (reported_behind q f.further why (border_of t h) f.is)
+    ∙ append_assoc (border_reported q (border_of t h)) (reported_at q why) rest)
+    (one (Some b) q qs f.further rest f.found later)

@@ -15,7 +15,7 @@ use mseed_audit::{Channel, Finding, Findings, Head};
 const LARGEST: u64 = 0x7fff_ffff_ffff_ffff;
 
 /// A number would pass the limit.
-#[derive(Clone, Copy, Debug)]
+#[derive(Clone, Copy)]
 pub(crate) struct TooLarge;
 
 /// A sum that doesn't pass the limit.

@@ -154,10 +154,15 @@ impl<A: Allocator + Copy> Part<A> {
         one_finding();
         let mut joint = self;
         for (codes, channel) in other.channels.iter() {
-            joint.add_channel(*codes, channel)?;
+            match joint.add_channel(*codes, channel) {
+                Ok(_) => {}
+                Err(fault) => return Err(fault),
+            }
         }
-        joint.add_counts(other.records, other.bytes)?;
-        Ok(joint)
+        match joint.add_counts(other.records, other.bytes) {
+            Ok(()) => Ok(joint),
+            Err(fault) => Err(fault),
+        }
     }
 
     /// What is kept of each channel, ascending by the 12 bytes of their keys.
