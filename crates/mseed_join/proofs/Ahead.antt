@@ -2,11 +2,9 @@
 use Rattle.std.proofs.Common.{◌≡◌, ℕ, ◌+◌, ◌≤◌, ◌<◌, ◌^◌, List, [], ◌∷◌, ◌++◌, Bool, true, false, Option, Some, None}
 use Rattle.std.proofs.Common.{length, refl, sym, ap, ◌∙◌, subst, arith, append_assoc, inl, inr, ◌⊎◌}
 use Rattle.std.specs.Prelude.{codes}
-use Rattle.std.specs.Option.{option_map}
 use Rattle.std.proofs.lemmas.List.{length-append}
 use Rattle.mseed_stream.specs.declared.fault.StreamFault.{StreamFault}
 use Rattle.mseed_audit.specs.declared.channel.Channel.{Channel}
-use Rattle.mseed_parts.specs.Joining.{moved_channel, channel_joined}
 use Rattle.mseed_parts.specs.Parts.{IsAscending, Fits, FitsAt, kept_of, counts_alone}
 use Rattle.mseed_join.specs.Lines.{Line, text_of_line, IsLine}
 use Rattle.mseed_join.specs.Written.{Written, texts}
@@ -20,7 +18,7 @@ use Rattle.mseed_join.proofs.Machine.{texts_all, texts_are}
 use Rattle.mseed_join.proofs.Running.{Extends, GoesOn, HaveTexts, all_run, extends, stage_runs, texts_before}
 use Rattle.mseed_join.proofs.Running.{texts_behind}
 use Rattle.mseed_join.proofs.Shorts.{short}
-use Rattle.mseed_join.proofs.Stepping.{joined_none, kept_none, kept_there}
+use Rattle.mseed_join.proofs.Stepping.{LeavesKept, kept_none, kept_there, leaves_kept}
 use Rattle.mseed_join.proofs.Sums.{HaveOneJoint, IsFirst, IsSplit, first_of, joined_one, split}
 use Rattle.mseed_join.proofs.Taken.{IsLast, last_is}
 use Rattle.mseed_audit.proofs.Maps.{same_itself}
@@ -208,18 +206,12 @@ module _ (only : HaveOneJoint) (past : Bool) (over : List Written) (h : Written)
       let both = grown (begun_part cs) (begun_part (cs ++ (key, c) ∷ [])) refl j g in
       let l : IsLast past over (begun_part cs) h = both.0 in
       let absent : kept_of key cs ≡ None = kept_none cs key c sorted in
-      let records : h.part.records ≡ l.before.part.records = omega (arith, l.next.part.records) in
-      let bytes : h.part.bytes ≡ l.before.part.bytes = omega (arith, l.next.part.bytes) in
-      let kept : kept_of key h.part.channels ≡ kept_of key l.before.part.channels =
-      l.next.part.each key
-      ∙ ap (λ (o : Option Channel). channel_joined (kept_of key l.before.part.channels)
-      (option_map (moved_channel l.before.part.records l.before.part.bytes) o)) absent
-      ∙ joined_none (kept_of key l.before.part.channels) in
+      let left : LeavesKept key l.before.part h.part = leaves_kept key cs l.before.part h.part absent l.next.part in
       let there : kept_of key g.part.part.channels ≡ Some c =
       ap (kept_of key) (g.grows.channels ∙ append_assoc cs ((key, c) ∷ []) g.grows.others)
       ∙ kept_there (same_key key) cs (key, c) g.grows.others absent (same_itself key) in
       subst (λ (T : Type 0). T)
-      (λ i. FitsAt (sym records i) (sym bytes i) (sym kept i) (there i)) (both.1.fits.each key)
+      (λ i. FitsAt (sym left.records i) (sym left.bytes i) (sym left.kept i) (there i)) (both.1.fits.each key)
 
   pub counts_fit : (cs : Entries) (n b : ℕ) → IsJointOf past (over ++ begun_part cs ∷ []) h
       → GoesOn over (counted_part cs n b) parts → Fits h.part (counts_alone n b)

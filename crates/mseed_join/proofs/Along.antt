@@ -343,11 +343,16 @@ pub reported_none : (past : Bool) → passed_lines past (parts_at start) ≡ []
 reported_none true = refl
 reported_none false = refl
 
-pub reported_also : (xs ys : List (List ℕ)) (a b c : BytesWritten) → AreReported xs a b → AreReported ys b c
+reported_also : (xs ys : List (List ℕ)) (a b c : BytesWritten) → AreReported xs a b → AreReported ys b c
     → AreReported (xs ++ ys) a c
 reported_also xs ys a b c (AreReported.none s) q = q
 reported_also xs ys a b c (AreReported.one line lines old now new t more) q =
     AreReported.one line (lines ++ ys) old now c t (reported_also lines ys now new c more q)
+
+pub reported_more : (xs ys zs : List (List ℕ)) (a b c : BytesWritten) → AreReported xs a b → AreReported ys b c
+    → zs ≡ xs ++ ys → AreReported zs a c
+reported_more xs ys zs a b c p q e =
+    subst (λ (lines : List (List ℕ)). AreReported lines a c) (sym e) (reported_also xs ys a b c p q)
 
 -- ---- the outcome
 abbrev pub stopped : (past : Bool) (h now : BytesRead) (s : Stage) (reported at : BytesWritten) → IsStoppedAt h now s

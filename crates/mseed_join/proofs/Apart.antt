@@ -50,32 +50,32 @@ have_bytes (v ∷ views) all =
 moved_same : (d e k l : ℕ) (ns : List Notice) → d ≡ k → e ≡ l → moved_notices d e ns ≡ moved_notices k l ns
 moved_same d e k l ns p q = λ i. moved_notices (p i) (q i) ns
 
+-- a notice whose number and offset are so
+abbrev noticed : Notice → ℕ → ℕ → Notice
+noticed n number offset = record {
+  key = n.key;
+  fault = n.fault;
+  start = n.start;
+  finding = record { number = number; offset = offset; why = n.finding.why };
+}
+
+noticed_same : (n : Notice) (d e k l : ℕ) (ns ms : List Notice) → d ≡ k → e ≡ l → ns ≡ ms
+    → noticed n d e ∷ ns ≡ noticed n k l ∷ ms
+noticed_same n d e k l ns ms p q r = λ i. noticed n (p i) (q i) ∷ r i
+
 moved_twice : (d e f g : ℕ) (ns : List Notice)
     → moved_notices d e (moved_notices f g ns) ≡ moved_notices (d + f) (e + g) ns
 moved_twice d e f g [] = refl
 moved_twice d e f g (n ∷ ns) =
-    let number : d + (f + n.finding.number) ≡ d + f + n.finding.number = omega arith in
-    let offset : e + (g + n.finding.offset) ≡ e + g + n.finding.offset = omega arith in
-    let rest : moved_notices d e (moved_notices f g ns) ≡ moved_notices (d + f) (e + g) ns = moved_twice d e f g ns in
-    λ i. record {
-      key = n.key;
-      fault = n.fault;
-      start = n.start;
-      finding = record { number = number i; offset = offset i; why = n.finding.why };
-    } ∷ rest i
+    noticed_same n (d + (f + n.finding.number)) (e + (g + n.finding.offset)) (d + f + n.finding.number)
+    (e + g + n.finding.offset) (moved_notices d e (moved_notices f g ns)) (moved_notices (d + f) (e + g) ns)
+    (omega arith) (omega arith) (moved_twice d e f g ns)
 
 moved_still : (ns : List Notice) → moved_notices 0 0 ns ≡ ns
 moved_still [] = refl
 moved_still (n ∷ ns) =
-    let number : 0 + n.finding.number ≡ n.finding.number = omega arith in
-    let offset : 0 + n.finding.offset ≡ n.finding.offset = omega arith in
-    let rest : moved_notices 0 0 ns ≡ ns = moved_still ns in
-    λ i. record {
-      key = n.key;
-      fault = n.fault;
-      start = n.start;
-      finding = record { number = number i; offset = offset i; why = n.finding.why };
-    } ∷ rest i
+    noticed_same n (0 + n.finding.number) (0 + n.finding.offset) n.finding.number n.finding.offset
+    (moved_notices 0 0 ns) ns (omega arith) (omega arith) (moved_still ns)
 
 -- ---- of all archives so far, with more behind
 pub record IsMergedTo (before archive : List ℕ) (reported : List Notice) (found : List Border) (a joint : Written)

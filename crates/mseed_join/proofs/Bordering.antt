@@ -1,13 +1,12 @@
 -- What is found at the borders of parts, with one more line.
 use Rattle.std.proofs.Common.{◌≡◌, ◌+◌, ℕ, List, [], ◌∷◌, ◌++◌, Bool, true, false, Option, Some, None}
-use Rattle.std.proofs.Common.{refl, sym, ap, ◌∙◌, subst, arith, append_assoc, append-nil}
+use Rattle.std.proofs.Common.{refl, sym, ap, ◌∙◌, subst, append_assoc, append-nil}
 use Rattle.std.specs.Prelude.{⊤}
 use Rattle.std.specs.Option.{option_map}
 use Rattle.mseed_stream.specs.declared.fault.StreamFault.{StreamFault}
 use Rattle.mseed_audit.specs.declared.channel.Channel.{Channel}
 use Rattle.mseed_audit.specs.Audit.{head_in}
-use Rattle.mseed_parts.specs.Joining.{border_between, channel_joined, moved_channel}
-use Rattle.mseed_parts.specs.Parts.{kept_of}
+use Rattle.mseed_parts.specs.Joining.{border_between, moved_channel}
 use Rattle.mseed_join.specs.Borders.{AreBorders, AreBordersOf, Border, border_at, border_line, border_lines}
 use Rattle.mseed_join.specs.Borders.{border_with}
 use Rattle.mseed_join.specs.Borders.{borders_with}
@@ -17,8 +16,8 @@ use Rattle.mseed_join.specs.Written.{Written}
 use Rattle.mseed_join.specs.Reached.{Behind, none, begun, whole, IsWhere, begun_part, part_behind, parts_at}
 use Rattle.mseed_join.specs.private.Steps.{May, goes, counted_part, with_faults, with_end}
 use Rattle.mseed_join.proofs.Machine.{Entries}
-use Rattle.mseed_join.proofs.Stepping.{joined_none, kept_none}
-use Rattle.mseed_join.proofs.Sums.{HaveOneJoint, IsFirst, first_of, joined_one, none_of}
+use Rattle.mseed_join.proofs.Stepping.{LeavesKept, kept_none, leaves_kept}
+use Rattle.mseed_join.proofs.Sums.{HaveOneJoint, IsFirst, first_of, joined_one, never_open, none_of}
 use Rattle.mseed_join.proofs.Taken.{IsLast, before_is, counts_one, last_is}
 
 some_none : (f : StreamFault) → Some f ≡ None → ⊥
@@ -37,13 +36,7 @@ counted_on_by true a w ws vs b (Some x) e n more j =
     let v : Written = record { part = w.part; faults = w.faults + 1; end = None } in
     let f : IsFirst a v (counted true ws) b = first_of a v b (counted true ws) j in
     ap (λ (ts : List Written). v ∷ ts) (more f.between f.more)
-counted_on_by false a w ws vs b (Some x) e n more j =
-    let f : IsFirst a w [] b = first_of a w b [] j in
-    let same : f.between ≡ b = none_of f.between b f.more in
-    let ends : b.end ≡ Some (moved_fault a.part.bytes x) =
-    ap (λ (c : Written). c.end) (sym same) ∙ f.next.end
-    ∙ ap (λ (o : Option StreamFault). option_map (moved_fault a.part.bytes) o) e in
-    absurd (some_none (moved_fault a.part.bytes x) (sym ends ∙ n))
+counted_on_by false a w ws vs b (Some x) e n more j = absurd (never_open a w b x e n j)
 
 counted_on_from : (past : Bool) (a : Written) (ws vs : List Written) (b : Written) → b.end ≡ None
     → AreJoined a (counted past ws) b → counted past (ws ++ vs) ≡ counted past ws ++ counted past vs
@@ -315,20 +308,11 @@ with_one a (d ∷ cs) e =
     ∙ sym (append_assoc (border_with a.part d) (borders_with a.part cs) (border_with a.part e))
 
 -- what is found behind the channels before it is found behind the parts before
-same_border : (a h : Written) (cs : Entries) (key : List ℕ) (c : Channel) → kept_of key cs ≡ None
-    → h.part.records ≡ a.part.records + 0 → h.part.bytes ≡ a.part.bytes + 0
-    → kept_of key h.part.channels ≡ channel_joined (kept_of key a.part.channels) (option_map (moved_channel
-    a.part.records a.part.bytes) (kept_of key cs))
+same_border : (a h : Written) (key : List ℕ) (c : Channel) → LeavesKept key a.part h.part
     → border_with h.part (key, c) ≡ border_with a.part (key, c)
-same_border a h cs key c absent more_records more_bytes joined =
-    let records : h.part.records ≡ a.part.records = omega (arith, more_records) in
-    let bytes : h.part.bytes ≡ a.part.bytes = omega (arith, more_bytes) in
-    let kept : kept_of key h.part.channels ≡ kept_of key a.part.channels =
-    joined
-    ∙ ap (λ (o : Option Channel). channel_joined (kept_of key a.part.channels)
-    (option_map (moved_channel a.part.records a.part.bytes) o)) absent
-    ∙ joined_none (kept_of key a.part.channels) in
-    λ i. border_at key (head_in c.findings) (border_between (kept i) (moved_channel (records i) (bytes i) c))
+same_border a h key c left =
+    λ i. border_at key (head_in c.findings)
+    (border_between (left.kept i) (moved_channel (left.records i) (left.bytes i) c))
 
 pub channel_borders : HaveOneJoint → (past : Bool) (over : List Written) (b : Behind) (key : List ℕ) (c : Channel)
     (h : Written) (reported : List Border) → May b (channel key c) → h.end ≡ None
@@ -347,8 +331,8 @@ channel_borders only past over (begun cs) key c h reported m n is j found b =
     new l a k =
         let before : l.before ≡ a = joined_one only nothing (counted past over) l.before a l.joined k in
         ap (λ (w : Written). border_with w.part (key, c)) (sym before)
-        ∙ sym (same_border l.before h cs key c (kept_none cs key c m) l.next.part.records l.next.part.bytes
-        (l.next.part.each key)) ∙ sym is
+        ∙ sym (same_border l.before h key c (leaves_kept key cs l.before.part h.part (kept_none cs key c m)
+        l.next.part)) ∙ sym is
 channel_borders only past over (whole w) key c h reported m n is j found b = absurd m
 
 -- ---- their lines

@@ -26,7 +26,7 @@ use Rattle.mseed_join.specs.Joined.{AreJoined, IsJointOf, IsNext, counted, count
 use Rattle.mseed_join.specs.Lines.{HasChannelLine, HasFindings, HasHead}
 use Rattle.mseed_join.specs.Written.{Written}
 use Rattle.mseed_join.proofs.Cuts.{IsKnown, all_append, known, known_behind, known_none, one_known}
-use Rattle.mseed_join.proofs.Merging.{JoinsCounts, JoinsNone, JoinsOne, joint_of}
+use Rattle.mseed_join.proofs.Merging.{JoinsChannel, JoinsCounts, JoinsNone, joint_of}
 use Rattle.mseed_join.proofs.Parting.{sizes}
 use Rattle.mseed_join.proofs.Pieces.{AddUp, IsSoFar, at_first, counted_last, further, of_nothing}
 use Rattle.mseed_join.proofs.Readable.{IsOne, count_of_key, has_channel, has_line, ones_of}
@@ -121,7 +121,7 @@ views_of _ _ (last archive h p read by) = p.audited.views
 views_of _ _ (more archive others h p ws read end parted) = p.audited.views ++ views_of others ws parted
 
 -- ---- one more part
-module _ (add_up : AddUp) (first : JoinsNone) (joins : JoinsOne) (counts : JoinsCounts) where
+module _ (add_up : AddUp) (first : JoinsNone) (joins : JoinsChannel) (counts : JoinsCounts) where
   next_of : (before : List ℕ) (a : Written) (h : BytesRead) (p : AuditedPart h) (so : IsSoFar before a)
       → length so.views + length p.audited.views < 2 ^ 40 → size_of so.views + size_of p.audited.views < 2 ^ 63
       → (b : Written) × IsNext a p.written b

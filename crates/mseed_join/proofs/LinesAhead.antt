@@ -3,13 +3,15 @@ use Rattle.std.proofs.Common.{◌≡◌, ℕ, ◌+◌, ◌<◌, ◌≤◌, List,
 use Rattle.std.proofs.Common.{false}
 use Rattle.std.proofs.Common.{Option, Ok, refl, sym, ap, subst, ◌∙◌, arith, append_assoc, length-append}
 use Rattle.std.proofs.Common.{slice_range, take-append-drop, ⊎_elim, inl, inr, not, ◌&&◌, ◌||◌, ◌==◌}
-use Rattle.std.proofs.lemmas.Bool.{cases_lt}
+use Rattle.std.proofs.lemmas.Bool.{cases_lt, false≢true}
 use Rattle.std.proofs.lemmas.Bool.Decides.{eqb_tells}
 use Rattle.std.proofs.lemmas.List.{append-nil, drop-append-le, drop-drop, length-take-le}
 use Rattle.std.proofs.lemmas.Slice.{between_is}
 use Rattle.std.proofs.Math.Seq.{take-add}
 use Rattle.std.proofs.KnownBytes.{Consumes-nil, Consumes-trans}
-use Rattle.mseed_stream.specs.Device.{BytesRead}
+use Rattle.std.specs.Io.KnownBytes.{IsAtEnd}
+use Rattle.mseed_stream.specs.Calls.{ReadsOn}
+use Rattle.mseed_stream.specs.Device.{BytesRead, BytesWritten}
 use Rattle.mseed_stream.specs.Fault.{IsStreamFault}
 use Rattle.mseed_stream.specs.declared.fault.StreamFault.{StreamFault}
 use Rattle.mseed_stream.specs.declared.fault.StreamFault.TheVariants.{Frame, Truncated, Read, Turns, Memory}
@@ -86,6 +88,12 @@ grows_seen a b x y r s t n same grows =
       reads = grows.reads;
     } in
     subst (λ (u : LinesRead). Grows a b x y r u) (sym same) it
+
+-- what was read by then, another line found, and what is read next
+pub grows_through : (a b c : BytesRead) (x y z : Option (List ℕ)) (r s t u : LinesRead) (n : ℕ)
+    → t ≡ record s { size = n } → Grows a b x y r s → Grows b c y z t u → Grows a c x z r u
+grows_through a b c x y z r s t u n same first then =
+    grows_on a b c x y z r t u (grows_seen a b x y r s t n same first) then
 
 pub read_by_more : (start old new : BytesRead) (left rest : Option (List ℕ)) (r after : LinesRead)
     → Grows old new left rest r after → IsReadBy start old r → IsReadBy start new after
@@ -174,6 +182,27 @@ goes_on_more start old new r after left rest grows still going fine goes = recor
   failures = fine ∙ goes.failures;
   is_at_end = not_at_end old new r after left rest grows still going goes.is_at_end;
 }
+
+-- a read that failed gave no end
+pub no_end_by : (e : StreamFault) (after : LinesRead) (old new : BytesRead) → IsReadFault e after old new
+    → old.is_at_end ≡ false → new.is_at_end ≡ false
+no_end_by (Frame n f) after old new fault before = absurd fault
+no_end_by (Truncated n have) after old new fault before = absurd fault
+no_end_by (Read n) after old new fault before = fault.2
+no_end_by (Turns n) after old new fault before = ap (λ (h : BytesRead). h.is_at_end) fault.2 ∙ before
+no_end_by Memory after old new fault before = absurd fault
+
+-- what the source is known to have left is what was read of it, up to its end
+pub reads_to : (old new : BytesRead) (left rest : Option (List ℕ)) (r after : LinesRead) (x y : BytesWritten)
+    → Grows old new left rest r after → (new.is_at_end ≡ true → IsAtEnd rest) → y ≡ x → ReadsOn old new left rest x y
+reads_to old new left rest r after x y grows known beside =
+    record { more = (grows.more, grows.reported, grows.known); known = known; beside = beside }
+
+-- or not yet to its end
+pub reads_so_far : (old new : BytesRead) (left rest : Option (List ℕ)) (r after : LinesRead) (x y : BytesWritten)
+    → Grows old new left rest r after → new.is_at_end ≡ false → y ≡ x → ReadsOn old new left rest x y
+reads_so_far old new left rest r after x y grows goes_on beside =
+    reads_to old new left rest r after x y grows (λ end. absurd (false≢true (sym goes_on ∙ end))) beside
 
 -- what was seen lies ahead, wherever the input ends
 pub seen_ahead : (a : Ahead) (r : LinesRead) (at_end : Bool) → LiesAhead a r false → LiesAhead a r at_end

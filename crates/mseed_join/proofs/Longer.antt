@@ -15,10 +15,10 @@ use Rattle.mseed_record.specs.declared.fault.FrameFault.{FrameFault}
 use Rattle.mseed_record.specs.declared.fault.FrameFault.TheVariants.{Chain, Length, No1000, Outside}
 use Rattle.mseed_record.specs.declared.framer.Scan.{Scan}
 use Rattle.mseed_record.specs.declared.framer.Scan.TheVariants.{Need, Record, Not}
-use Rattle.mseed_record.proofs.Answered.{none_at}
-use Rattle.mseed_record.proofs.Framed.{fixed_prefix, order_prefix, other_at}
+use Rattle.mseed_record.proofs.Framed.{fixed_prefix, order_prefix}
 use Rattle.mseed_record.proofs.Needed.{number_more}
 use Rattle.mseed_record.proofs.Passing.{none_within}
+use Rattle.mseed_record.proofs.Reached.{none_more, version3_more}
 use Rattle.mseed_join.proofs.Digits.{some_is}
 
 -- ---- the header
@@ -29,12 +29,6 @@ version3_long (x ∷ y ∷ []) e =
     let rest = (and_parts (nat_eq 77 x) (nat_eq 83 y && false) e).1 in
     absurd (false≢true (and_parts (nat_eq 83 y) false rest).1)
 version3_long (x ∷ y ∷ z ∷ rest) e = omega arith
-
-version3_more : (prefix more : List ℕ) → 3 ≤ length prefix → is_version3 (prefix ++ more) ≡ is_version3 prefix
-version3_more [] more h = absurd (omega arith)
-version3_more (x ∷ []) more h = absurd (omega arith)
-version3_more (x ∷ y ∷ []) more h = absurd (omega arith)
-version3_more (x ∷ y ∷ z ∷ rest) more h = refl
 
 fixed_more : (prefix more : List ℕ) → 48 ≤ length prefix → has_fixed_bytes (prefix ++ more) ≡ has_fixed_bytes prefix
 fixed_more prefix more h =
@@ -51,15 +45,6 @@ byte_more : (prefix more : List ℕ) (i : ℕ) → i < length prefix → get_or 
 byte_more [] more i h = absurd (omega (arith, h))
 byte_more (x ∷ prefix) more zero h = refl
 byte_more (x ∷ prefix) more (suc i) h = byte_more prefix more i (omega (arith, h))
-
-none_more : (order : Order) (prefix more : List ℕ) (low o : ℕ) → 0 < low → at_offset order prefix low o ≡ None
-    → at_offset order (prefix ++ more) low o ≡ None
-none_more order prefix more low o some e =
-    let within = none_within order prefix low o e in
-    let wide : o + 4 ≤ length (prefix ++ more) = omega (arith, within.1, length-append prefix more) in
-    let type : type_at order (prefix ++ more) o ≡ type_at order prefix o =
-    number_more order prefix more o (omega (arith, within.1)) in
-    none_at order (prefix ++ more) low o within.0 some wide (λ t. other_at order prefix low o e (sym type ∙ t))
 
 -- the first 1000, by its exponent
 by_exponent : (low short long wide : Bool) (e k : ℕ) (f : FrameFault)

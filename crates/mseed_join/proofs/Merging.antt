@@ -151,8 +151,8 @@ absent (d ∷ done) x rest s =
 abbrev pub JoinsNone : Type 0
 JoinsNone = (a : Held) → IsAscending a.channels → IsJoint a (channels_alone []) a
 
-abbrev pub JoinsOne : Type 0
-JoinsOne = (a now next : Held) (channels : List (List ℕ × Channel)) (key : List ℕ) (c : Channel)
+abbrev pub JoinsChannel : Type 0
+JoinsChannel = (a now next : Held) (channels : List (List ℕ × Channel)) (key : List ℕ) (c : Channel)
     → IsJoint a (channels_alone channels) now → kept_of key channels ≡ None → IsJoint now (one_channel key c) next
     → IsJoint a (channels_alone (channels ++ (key, c) ∷ [])) next
 
@@ -160,7 +160,7 @@ abbrev pub JoinsCounts : Type 0
 JoinsCounts = (a b now h : Held) → IsJoint a (channels_alone b.channels) now
     → IsJoint now (counts_alone b.records b.bytes) h → IsJoint a b h
 
-all_joined : JoinsOne → (a now : Held) (done rest : Entries) → IsAscending (done ++ rest)
+all_joined : JoinsChannel → (a now : Held) (done rest : Entries) → IsAscending (done ++ rest)
     → IsJoint a (channels_alone done) now → (h : Held) × IsJoint a (channels_alone (done ++ rest)) h
 all_joined joins a now done [] s j =
     (now, subst (λ (es : Entries). IsJoint a (channels_alone es) now) (sym (append-nil done)) j)
@@ -172,7 +172,7 @@ all_joined joins a now done (x ∷ rest) s j =
     subst (λ (es : Entries). (h : Held) × IsJoint a (channels_alone es) h) same
     (all_joined joins a more.next (done ++ x ∷ []) rest (subst IsAscending (sym same) s) here)
 
-pub joint_of : JoinsNone → JoinsOne → JoinsCounts → (a b : Held) → IsAscending a.channels → IsAscending b.channels
+pub joint_of : JoinsNone → JoinsChannel → JoinsCounts → (a b : Held) → IsAscending a.channels → IsAscending b.channels
     → (h : Held) × IsJoint a b h
 joint_of first joins last a b s t =
     let all = all_joined joins a a [] b.channels t (first a s) in

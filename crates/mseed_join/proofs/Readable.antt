@@ -1,7 +1,7 @@
 -- The part of what was read has a text that can be read.
 use Rattle.std.proofs.Common.{◌≡◌, ℕ, zero, suc, ◌+◌, ◌-◌, ◌*◌, ◌^◌, ◌<◌, ◌≤◌, ◌&&◌, List, [], ◌∷◌, ◌++◌, length, drop}
 use Rattle.std.proofs.Common.{ltb, Bool, true, false, cond, Option, Some, None, IfSome, refl, sym, ap, subst, ◌∙◌}
-use Rattle.std.proofs.Common.{arith, length-append, length-take-le}
+use Rattle.std.proofs.Common.{arith, length-append}
 use Rattle.std.specs.Prelude.{⊤, nat_eq, nat_le, not, slice_range}
 use Rattle.std.specs.List.{All, AllByRecursion, concat, filter}
 use Rattle.std.specs.Map.{keys_of}
@@ -24,6 +24,7 @@ use Rattle.mseed_record.specs.declared.fault.FrameFault.{FrameFault}
 use Rattle.mseed_record.specs.declared.fault.FrameFault.TheVariants.{Chain, Length, No1000, Outside}
 use Rattle.mseed_record.specs.declared.framer.Scan.{Scan}
 use Rattle.mseed_record.specs.declared.framer.Scan.TheVariants.{Need, Record, Not}
+use Rattle.mseed_record.proofs.Bytes.{key_long}
 use Rattle.mseed_record.proofs.Called.{record_long}
 use Rattle.mseed_steim.specs.Reading.{count_of}
 use Rattle.mseed_stream.specs.Archive.{IsEndOf, is_truncated, truncated}
@@ -121,21 +122,6 @@ pub count_of_key : (key : List ℕ) (views : List View) → length (records_of k
 count_of_key key views = omega (arith, few_of key (numbered 1 (added_from 0 views)), numbered_length 1 0 views)
 
 -- ---- keys
-length_part : (b : List ℕ) (i j : ℕ) → i ≤ j → j ≤ length b → length (slice_range b i j) ≡ j - i
-length_part b i j l h = length-take-le (j - i) (drop i b) (omega (arith, h, length-drop i b))
-
-key_long : (b : List ℕ) → 48 ≤ length b → length (key_at b) ≡ 12
-key_long b h =
-    let network = length_part b 18 20 (omega arith) (omega (arith, h)) in
-    let station = length_part b 8 13 (omega arith) (omega (arith, h)) in
-    let location = length_part b 13 15 (omega arith) (omega (arith, h)) in
-    let channel = length_part b 15 18 (omega arith) (omega (arith, h)) in
-    let first = length-append (slice_range b 18 20) (slice_range b 8 13) in
-    let second = length-append (slice_range b 18 20 ++ slice_range b 8 13) (slice_range b 13 15) in
-    let all =
-    length-append ((slice_range b 18 20 ++ slice_range b 8 13) ++ slice_range b 13 15) (slice_range b 15 18) in
-    omega (arith, network, station, location, channel, first, second, all)
-
 abbrev IsByte : ℕ → Type 0
 IsByte b = b < 2 ^ 8
 
@@ -236,7 +222,7 @@ module _ (key : List ℕ) (n size : ℕ) (few : n < 2 ^ 40) (small : size < 2 ^ 
       let is : IsView s.first.view = first.placed.is_view in
       record {
         key_length = ap (λ (k : List ℕ). length k) first.key_is
-            ∙ key_long bytes (record_long bytes (view_record s.first.view is));
+            ∙ key_long bytes (omega (arith, record_long bytes (view_record s.first.view is)));
         key_bytes = subst (λ (k : List ℕ). AllByRecursion IsByte k) (sym first.key_is)
             (key_bytes bytes (octets_of s.first.view is));
         records = omega (arith, s.records, l, few);

@@ -15,6 +15,7 @@ use Rattle.mseed_audit.specs.declared.channel.Channel.{Channel}
 use Rattle.mseed_parts.specs.Joining.{moved_channel, channel_joined}
 use Rattle.mseed_parts.specs.Parts.{Held, IsAscending, IsJoint, Fits, FitsAt, kept_of, channels_alone, one_channel}
 use Rattle.mseed_parts.specs.Parts.{counts_alone}
+use Rattle.mseed_parts.proofs.Adding.{joined_none}
 use Rattle.mseed_join.specs.Lines.{Line, text_of_line, IsLine}
 use Rattle.mseed_join.specs.Lines.{IsFaultBehind}
 use Rattle.mseed_join.specs.Written.{Written}
@@ -28,6 +29,7 @@ use Rattle.mseed_join.specs.private.Steps.{May, to, counted_part, with_faults, w
 use Rattle.mseed_join.specs.private.Taking.{IsReadTo, IsTaken, IsPlace, border_by, fault_behind, passed_by}
 use Rattle.mseed_join.specs.Borders.{AreBordersOf, Border}
 use Rattle.mseed_join.proofs.Machine.{Entries}
+use Rattle.mseed_join.proofs.Merging.{JoinsChannel, JoinsCounts, JoinsNone}
 use Rattle.mseed_join.proofs.Running.{AllKeys}
 use Rattle.mseed_join.proofs.Sums.{IsGood, glue, joined_good, nothing_good, stop}
 use Rattle.mseed_join.proofs.Taken.{IsLast, in_place, last_is, ends_in_place, passed_in_place, stage_more}
@@ -61,23 +63,24 @@ kept_none (d ∷ cs) key c s =
     let other : same_key key d.0 ≡ false = same_back key d.0 ∙ ap is_eq less in
     ap (λ (b : Bool). cond b (Some d.1) (kept_of key cs)) other ∙ kept_none cs key c s.1
 
-pub joined_none : (o : Option Channel) → channel_joined o None ≡ o
-joined_none None = refl
-joined_none (Some c) = refl
+-- the channels of a part so far leave what is kept of another one, and the counts
+pub record LeavesKept (key : List ℕ) (a h : Held) : Type 0 where
+  pub records : h.records ≡ a.records
+  pub bytes : h.bytes ≡ a.bytes
+  pub kept : kept_of key h.channels ≡ kept_of key a.channels
+
+pub leaves_kept : (key : List ℕ) (cs : Entries) (a h : Held) → kept_of key cs ≡ None → IsJoint a (channels_alone cs) h
+    → LeavesKept key a h
+leaves_kept key cs a h absent joint = record {
+  records = omega (arith, joint.records);
+  bytes = omega (arith, joint.bytes);
+  kept = joint.each key
+      ∙ ap (λ (o : Option Channel). channel_joined (kept_of key a.channels)
+      (option_map (moved_channel a.records a.bytes) o)) absent
+      ∙ joined_none (kept_of key a.channels);
+}
 
 -- ---- joint parts
-abbrev pub JoinsNone : Type 0
-JoinsNone = (a : Held) → IsAscending a.channels → IsJoint a (channels_alone []) a
-
-abbrev pub JoinsChannel : Type 0
-JoinsChannel = (a now next : Held) (channels : List (List ℕ × Channel)) (key : List ℕ) (c : Channel)
-    → IsJoint a (channels_alone channels) now → kept_of key channels ≡ None → IsJoint now (one_channel key c) next
-    → IsJoint a (channels_alone (channels ++ (key, c) ∷ [])) next
-
-abbrev pub JoinsCounts : Type 0
-JoinsCounts = (a b now h : Held) → IsJoint a (channels_alone b.channels) now
-    → IsJoint now (counts_alone b.records b.bytes) h → IsJoint a b h
-
 pub begin_joint : JoinsNone → (past : Bool) (ws : List Written) (h : Written) → IsJointOf past ws h
     → IsJointOf past (ws ++ begun_part [] ∷ []) h
 begin_joint law past ws h j = by h.end refl
@@ -108,15 +111,9 @@ channel_joint law past over cs key c h k j n sorted joint fit faults_same end_no
     next : (l : IsLast past over (begun_part cs) h) → IsNext l.before (begun_part (cs ++ (key, c) ∷ [])) k
     next l =
         let absent : kept_of key cs ≡ None = kept_none cs key c sorted in
-        let records : h.part.records ≡ l.before.part.records = omega (arith, l.next.part.records) in
-        let bytes : h.part.bytes ≡ l.before.part.bytes = omega (arith, l.next.part.bytes) in
-        let kept : kept_of key h.part.channels ≡ kept_of key l.before.part.channels =
-        l.next.part.each key
-        ∙ ap (λ (o : Option Channel). channel_joined (kept_of key l.before.part.channels)
-        (option_map (moved_channel l.before.part.records l.before.part.bytes) o)) absent
-        ∙ joined_none (kept_of key l.before.part.channels) in
+        let left : LeavesKept key l.before.part h.part = leaves_kept key cs l.before.part h.part absent l.next.part in
         let here : FitsAt l.before.part.records l.before.part.bytes (kept_of key l.before.part.channels) (Some c) =
-        subst (λ (T : Type 0). T) (λ i. FitsAt (records i) (bytes i) (kept i) (Some c)) fit in record {
+        subst (λ (T : Type 0). T) (λ i. FitsAt (left.records i) (left.bytes i) (left.kept i) (Some c)) fit in record {
           part = law l.before.part h.part k.part cs key c l.next.part absent joint;
           fits = record {
             records = l.next.fits.records;

@@ -29,7 +29,8 @@ use Rattle.mseed_join.proofs.Ahead.{IsNextLine, channel_fits, counts_fit, faults
 use Rattle.mseed_join.proofs.Ended.{IsEnded, ended, no_end_from}
 use Rattle.mseed_join.proofs.OneLine.{line_one}
 use Rattle.mseed_join.proofs.Running.{Extends}
-use Rattle.mseed_join.proofs.Stepping.{JoinsChannel, JoinsCounts, JoinsNone, begin_joint, channel_joint, counts_joint}
+use Rattle.mseed_join.proofs.Merging.{JoinsChannel, JoinsCounts, JoinsNone}
+use Rattle.mseed_join.proofs.Stepping.{begin_joint, channel_joint, counts_joint}
 use Rattle.mseed_join.proofs.Stepping.{ended_joint, faults_joint, passed_joint, taken}
 use Rattle.mseed_join.proofs.Sums.{HaveOneJoint, IsFirst, first_of, none_of}
 use Rattle.mseed_join.proofs.Taken.{number_same, passed_more, passed_same, stopped}

@@ -99,6 +99,19 @@ pub split : (past : Bool) (ws vs : List Written) (h : Written) → IsJointOf pas
 split past ws vs h j = split_from past nothing ws vs h refl j
 
 -- ---- those behind, joined to those before
+-- a part that ends with a fault, and is the last that counts, leaves no joint part without one
+pub never_open : (a w b : Written) (x : StreamFault) → w.end ≡ Some x → b.end ≡ None → AreJoined a (w ∷ []) b → ⊥
+never_open a w b x e n j =
+    let f : IsFirst a w [] b = first_of a w b [] j in
+    let same : f.between ≡ b = none_of f.between b f.more in
+    let ends : b.end ≡ Some (moved_fault a.part.bytes x) =
+    ap (λ (c : Written). c.end) (sym same) ∙ f.next.end
+    ∙ ap (λ (o : Option StreamFault). option_map (moved_fault a.part.bytes) o) e in
+    some_none (moved_fault a.part.bytes x) (sym ends ∙ n)
+  where
+    some_none : (f : StreamFault) → Some f ≡ None → ⊥
+    some_none f k = cc
+
 glue_by : (past : Bool) (a w : Written) (ws vs : List Written) (b h : Written) (end : Option StreamFault)
     → w.end ≡ end → b.end ≡ None
     → ((c : Written) → AreJoined c (counted past ws) b → AreJoined c (counted past (ws ++ vs)) h)
@@ -111,16 +124,7 @@ glue_by true a w ws vs b h (Some x) e n more j =
     let v : Written = record { part = w.part; faults = w.faults + 1; end = None } in
     let f : IsFirst a v (counted true ws) b = first_of a v b (counted true ws) j in
     one a v f.between h (counted true (ws ++ vs)) f.next (more f.between f.more)
-glue_by false a w ws vs b h (Some x) e n more j =
-    let f : IsFirst a w [] b = first_of a w b [] j in
-    let same : f.between ≡ b = none_of f.between b f.more in
-    let ends : b.end ≡ Some (moved_fault a.part.bytes x) =
-    ap (λ (c : Written). c.end) (sym same) ∙ f.next.end
-    ∙ ap (λ (o : Option StreamFault). option_map (moved_fault a.part.bytes) o) e in
-    absurd (some_none (moved_fault a.part.bytes x) (sym ends ∙ n))
-  where
-    some_none : (f : StreamFault) → Some f ≡ None → ⊥
-    some_none f k = cc
+glue_by false a w ws vs b h (Some x) e n more j = absurd (never_open a w b x e n j)
 
 glue_from : (past : Bool) (a : Written) (ws vs : List Written) (b h : Written) → b.end ≡ None
     → AreJoined a (counted past ws) b → AreJoined b (counted past vs) h → AreJoined a (counted past (ws ++ vs)) h

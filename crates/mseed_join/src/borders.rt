@@ -5,7 +5,7 @@ ghost use Rattle.mseed_join.specs.private.Taking.{border_by};
 
 use crate::joint::Reported;
 use mseed_audit::Piece::{Count, Words};
-use mseed_audit::{Finding, push_name, push_pieces, push_why};
+use mseed_audit::{Finding, name_of, push_pieces, push_why};
 use mseed_record::Codes;
 use mseed_time::{Micros, show_time};
 use std::alloc::{AllocError, Allocator};
@@ -42,14 +42,19 @@ fn push_border_line<A: Allocator>(
       finding = finding.now;
     })) }
 {
-    push_pieces(text, &[Count(finding.offset), Words(b" ")])?;
-    push_name(text, codes)?;
     push_pieces(
         text,
-        &[Words(b" record "), Count(finding.number), Words(b" start ")],
+        &[
+            Count(finding.offset),
+            Words(b" "),
+            Words(&name_of(codes)),
+            Words(b" record "),
+            Count(finding.number),
+            Words(b" start "),
+            Words(&show_time(start)),
+            Words(b" "),
+        ],
     )?;
-    text.extend_from_slice(&show_time(start))?;
-    push_pieces(text, &[Words(b" ")])?;
     push_why(text, &finding.why)?;
     push_pieces(text, &[Words(b"\n")])
 }

@@ -34,7 +34,7 @@ pub struct JointPart<A: Allocator = Global> {
 }
 
 /// What a line of a part tells a listener.
-#[derive(Clone, Copy, Debug, PartialEq, Eq)]
+#[derive(Clone, Copy)]
 pub(crate) enum Reported {
     /// Nothing.
     Nothing,
@@ -58,7 +58,7 @@ pub(crate) enum Reported {
 }
 
 /// Why a line wasn't taken.
-#[derive(Clone, Copy, Debug, PartialEq, Eq)]
+#[derive(Clone, Copy)]
 pub(crate) enum LineFault {
     /// No parts go on so.
     Bad,
@@ -67,7 +67,7 @@ pub(crate) enum LineFault {
 }
 
 /// Where in a part's text the next line stands.
-#[derive(Clone, Copy, Debug)]
+#[derive(Clone, Copy)]
 pub(crate) enum Place {
     /// Before the first line of a part.
     Start,

@@ -2,6 +2,7 @@
 ghost use Rattle.std.specs.Prelude.{◌≡◌, ◌==◌, ◌+◌, ◌-◌, ◌*◌, ◌^◌, ◌<◌, ◌≤◌, ◌++◌, [], length, take, drop, true, false};
 ghost use Rattle.std.specs.Prelude.{IfOk, OnOk, IfErr, OnErr, IfSome, IfNone, IsTrue, Ok, position};
 ghost use Rattle.std.specs.Io.KnownBytes.{IsAtEnd, ReadConsumes};
+ghost use Rattle.mseed_stream.specs.Calls.{ReadsOn};
 ghost use Rattle.mseed_stream.specs.Device.{BytesRead, read_also};
 ghost use Rattle.mseed_stream.specs.Fault.{IsStreamFault};
 ghost use Rattle.mseed_join.specs.Joined.{HasNoEnd};
@@ -23,7 +24,7 @@ const ROOM: usize = 1 << 16;
 const LONGEST: usize = 512;
 
 /// What lies ahead of a reader of lines.
-#[derive(Debug, Clone, Copy, PartialEq, Eq)]
+#[derive(Clone, Copy)]
 pub(crate) enum Ahead {
     /// A line.
     Line,
@@ -128,9 +129,8 @@ impl<A: Allocator> LineReader<A> {
         ensures open { IfErr result (λ e. IsOpen self.new.held) }
 
         // The input's end is that of the bytes that the source is known to have.
-        ensures known { (R.read source.old).is_at_end ≡ false → (R.read source.new).is_at_end ≡ true
-            → IsAtEnd (R.remaining source.new) }
-        ensures beside { R.beside source.new ≡ R.beside source.old }
+        ensures reads { (R.read source.old).is_at_end ≡ false → ReadsOn (R.read source.old) (R.read source.new)
+            (R.remaining source.old) (R.remaining source.new) (R.beside source.old) (R.beside source.new) }
     {
         loop {
             if let Some(ahead) = self.see() {

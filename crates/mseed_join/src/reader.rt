@@ -1,7 +1,6 @@
 //! Parts that are read out of a source, line by line.
-ghost use Rattle.std.specs.Prelude.{◌≡◌, ◌≤◌, ◌+◌, ◌^◌, Bool, false, true, IfOk, Ok, Some};
-ghost use Rattle.std.specs.Io.KnownBytes.{IsAtEnd};
-ghost use Rattle.mseed_stream.specs.Cutting.{TellsMore};
+ghost use Rattle.std.specs.Prelude.{◌≡◌, ◌≤◌, ◌+◌, ◌^◌, Bool, false, IfOk, Ok, Some};
+ghost use Rattle.mseed_stream.specs.Calls.{ReadsOn};
 ghost use Rattle.mseed_stream.specs.Device.{BytesRead};
 ghost use Rattle.mseed_join.specs.Reached.{Stage, start};
 ghost use Rattle.mseed_join.specs.private.Along.{IsAlong, IsNextStep};
@@ -64,11 +63,8 @@ impl<A: Allocator + Copy> Reader<A> {
         ensures line { (reported : Reported) → result ≡ Ok (Some reported)
             → self.new.lines.lines ≡ self.old.lines.lines + 1 }
         ensures few { (reported : Reported) → result ≡ Ok (Some reported) → self.old.lines.lines ≤ 2 ^ 56 }
-        ensures more { TellsMore (R.read source.old) (R.read source.new) (R.remaining source.old)
-            (R.remaining source.new) }
-        ensures known { (R.read source.old).is_at_end ≡ false → (R.read source.new).is_at_end ≡ true
-            → IsAtEnd (R.remaining source.new) }
-        ensures beside { R.beside source.new ≡ R.beside source.old }
+        ensures reads { (R.read source.old).is_at_end ≡ false → ReadsOn (R.read source.old) (R.read source.new)
+            (R.remaining source.old) (R.remaining source.new) (R.beside source.old) (R.beside source.new) }
     {
         lines_are_short();
         let ahead = match self.lines.look(source) {

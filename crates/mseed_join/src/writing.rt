@@ -1,9 +1,8 @@
 //! The lines of a part, written.
 ghost use Rattle.std.specs.Prelude.{◌≡◌, ◌++◌, OnOk, codes, decimal};
-ghost use Rattle.std.specs.Fmt.{signed_decimal};
 ghost use Rattle.mseed_stream.specs.Device.{IsPrefixOf};
 ghost use Rattle.mseed_audit.specs.declared.channel.Findings.{Findings};
-ghost use Rattle.mseed_join.specs.Lines.{key_text, ratio_text, leap_text, head_text, tail_text, text_or_none};
+ghost use Rattle.mseed_join.specs.Lines.{key_text, leap_text, head_text, tail_text, text_or_none};
 ghost use Rattle.mseed_join.specs.Lines.{first_text, findings_text, channel_line, counts_line, faults_line};
 
 use crate::hex::hex_digit;
@@ -11,7 +10,6 @@ use itoa::Buffer;
 use mseed_audit::Piece::{Count, Words};
 use mseed_audit::{Channel, Finding, Findings, Head, Tail, push_pieces, push_why};
 use mseed_record::{Codes, Leap};
-use mseed_time::{Micros, Ratio};
 use std::alloc::{AllocError, Allocator};
 
 /// The line before all others, with its LF.
@@ -127,9 +125,7 @@ fn push_nothing<A: Allocator>(
     ensures ok { OnOk result (text.new.items ≡ text.old.items ++ findings_text (Findings.Nothing head.now tail.now)) }
     ensures prefix { IsPrefixOf text.old.items text.new.items }
 {
-    push_pieces(text, &[Words(b" head ")])?;
     push_head(text, head)?;
-    push_pieces(text, &[Words(b" tail ")])?;
     push_tail(text, tail)?;
     push_pieces(text, &[Words(b" findings 0")])
 }
@@ -143,10 +139,9 @@ fn push_head_or_none<A: Allocator>(
         ≡ text.old.items ++ (codes " head " ++ text_or_none head_text head.now)) }
     ensures prefix { IsPrefixOf text.old.items text.new.items }
 {
-    push_pieces(text, &[Words(b" head ")])?;
     match head {
         Some(head) => push_head(text, head),
-        None => push_pieces(text, &[Words(b"none")]),
+        None => push_pieces(text, &[Words(b" head none")]),
     }
 }
 
@@ -159,10 +154,9 @@ fn push_tail_or_none<A: Allocator>(
         ≡ text.old.items ++ (codes " tail " ++ text_or_none tail_text tail.now)) }
     ensures prefix { IsPrefixOf text.old.items text.new.items }
 {
-    push_pieces(text, &[Words(b" tail ")])?;
     match tail {
         Some(tail) => push_tail(text, tail),
-        None => push_pieces(text, &[Words(b"none")]),
+        None => push_pieces(text, &[Words(b" tail none")]),
     }
 }
 
@@ -193,54 +187,45 @@ fn push_first<A: Allocator>(
 
 /// Adds how a channel begins.
 fn push_head<A: Allocator>(text: &mut Vec<u8, A>, head: &Head) -> Result<(), AllocError>
-    ensures ok { OnOk result (text.new.items ≡ text.old.items ++ head_text head.now) }
+    ensures ok { OnOk result (text.new.items ≡ text.old.items ++ (codes " head " ++ head_text head.now)) }
     ensures prefix { IsPrefixOf text.old.items text.new.items }
 {
     push_pieces(
         text,
         &[
+            Words(b" head "),
             Count(head.number),
             Words(b" "),
             Count(head.offset),
             Words(b" "),
+            Words(Buffer::new().format(head.start.get()).as_bytes()),
+            Words(b" "),
+            Count(u64::from(head.rate.num())),
+            Words(b"/"),
+            Count(u64::from(head.rate.den())),
         ],
-    )?;
-    push_start(text, head.start)?;
-    push_pieces(text, &[Words(b" ")])?;
-    push_ratio(text, head.rate)
+    )
 }
 
 /// Adds how a channel ends.
 fn push_tail<A: Allocator>(text: &mut Vec<u8, A>, tail: &Tail) -> Result<(), AllocError>
-    ensures ok { OnOk result (text.new.items ≡ text.old.items ++ tail_text tail.now) }
+    ensures ok { OnOk result (text.new.items ≡ text.old.items ++ (codes " tail " ++ tail_text tail.now)) }
     ensures prefix { IsPrefixOf text.old.items text.new.items }
 {
-    push_start(text, tail.start)?;
     push_pieces(
         text,
-        &[Words(b" "), Count(u64::from(tail.samples)), Words(b" ")],
+        &[
+            Words(b" tail "),
+            Words(Buffer::new().format(tail.start.get()).as_bytes()),
+            Words(b" "),
+            Count(u64::from(tail.samples)),
+            Words(b" "),
+            Count(u64::from(tail.rate.num())),
+            Words(b"/"),
+            Count(u64::from(tail.rate.den())),
+        ],
     )?;
-    push_ratio(text, tail.rate)?;
     push_pieces(text, &[Words(b" "), Words(leap_word(tail.leap))])
-}
-
-/// Adds an instant, in microseconds.
-fn push_start<A: Allocator>(text: &mut Vec<u8, A>, start: Micros) -> Result<(), AllocError>
-    ensures ok { OnOk result (text.new.items ≡ text.old.items ++ signed_decimal start) }
-    ensures prefix { IsPrefixOf text.old.items text.new.items }
-{
-    let micros = start.get();
-    text.extend_from_slice(Buffer::new().format(micros).as_bytes())
-}
-
-/// Adds a rate.
-fn push_ratio<A: Allocator>(text: &mut Vec<u8, A>, rate: Ratio) -> Result<(), AllocError>
-    ensures ok { OnOk result (text.new.items ≡ text.old.items ++ ratio_text rate) }
-    ensures prefix { IsPrefixOf text.old.items text.new.items }
-{
-    let num = u64::from(rate.num());
-    let den = u64::from(rate.den());
-    push_pieces(text, &[Count(num), Words(b"/"), Count(den)])
 }
 
 /// The word for the leap seconds that a record bears.

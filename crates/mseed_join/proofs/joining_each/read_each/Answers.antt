@@ -2,14 +2,14 @@ use Rattle.std.proofs.Common.{◌++◌, ◌∙◌, ℕ, List, [], ap, sym, subst
 use Rattle.mseed_stream.specs.Device.{BytesRead, BytesWritten}
 use Rattle.std.proofs.KnownBytes.{Consumes-nil}
 use Rattle.mseed_audit.specs.Each.{AreGathered}
-use Rattle.mseed_stream.proofs.Calls.{reads_on, tells_on, writes_none, writes_on}
+use Rattle.mseed_stream.proofs.Calls.{reads_on, writes_none, writes_on}
 use Rattle.mseed_audit.proofs.Gathers.{gathered_all}
 use Rattle.mseed_join.specs.Borders.{AreBorders, Border}
-use Rattle.mseed_join.specs.Reached.{AreReported, start}
+use Rattle.mseed_join.specs.Reached.{start}
 use Rattle.mseed_join.specs.private.Bordered.{IsEachReading, IsFlushed}
 use Rattle.mseed_join.specs.private.Refused.{refusal}
 use Rattle.mseed_join.specs.private.Taking.{border_by}
-use Rattle.mseed_join.proofs.Along.{none_reported, reported_also}
+use Rattle.mseed_join.proofs.Along.{none_reported, reported_more}
 use Rattle.mseed_join.proofs.Each.{all_each, along_by, cut_each, err_each, fault_each, moved_on}
 use Rattle.mseed_join.proofs.Each.{nothing_each}
 use Rattle.mseed_join.proofs.joining_each.read_each.Goals as goal
@@ -48,6 +48,8 @@ lines-init g c =
 pub lines-preserved : goal.lines-preserved
 lines-preserved g c =
     let h : BytesRead = g.R.Source.read c.args.source.now in
+    let reads = reads_on h (g.R.Source.read c.lines.source) (g.R.Source.read c.next.new.source) _ _ _ _ _ _
+    c.lines.invariant.more c.lines.invariant.beside (c.next.ensures.reads c.lines.invariant.goes_on) in
     let first : BytesWritten = g.W.Sink.written c.args.sink.now in
     let along = c.lines.invariant.along in
     let step = rw c.in-Ok-Some.field-0-is at c.in-Ok-Some.ensures.step c.args.past h along.0 along.1.0 in
@@ -58,9 +60,7 @@ lines-preserved g c =
         step.0,
         (
           step.1.0,
-          subst (λ (lines : List (List ℕ)). AreReported lines (g.E.Sink.written c.args.errors.now)
-              (g.E.Sink.written c.tell_passed.new.errors)) (sym step.1.1.passed)
-              (reported_also _ _ _ _ _ along.1.1 c.tell_passed.ensures),
+          reported_more _ _ _ _ _ _ along.1.1 c.tell_passed.ensures step.1.1.passed,
           (
             found ++ border_by c.in-Ok-Some.reported,
             (
@@ -74,9 +74,8 @@ lines-preserved g c =
       );
       fine = add.ok.fine ∙ c.lines.invariant.fine;
       goes_on = step.1.2;
-      more = tells_on h (g.R.Source.read c.lines.source) (g.R.Source.read c.next.new.source) _ _ _
-          c.lines.invariant.more c.next.ensures.more;
-      beside = c.next.ensures.beside ∙ c.lines.invariant.beside;
+      more = reads.more;
+      beside = reads.beside;
       writes = writes_on first (g.W.Sink.written c.lines.sink) (g.W.Sink.written c.add_border.new.sink) _ _ _ _ _ _
           c.lines.invariant.writes add.writes;
     }
@@ -90,9 +89,7 @@ returns-in_err-add_border-in-Ok-Some-clause-reported g c =
     let along = c.lines.invariant.along in
     let step = rw c.in-Ok-Some.field-0-is at c.in-Ok-Some.ensures.step c.args.past h along.0 along.1.0 in
     let found : List Border = along.1.2.0 in
-    let reported = subst (λ (lines : List (List ℕ)). AreReported lines (g.E.Sink.written c.args.errors.now)
-    (g.E.Sink.written c.tell_passed.new.errors)) (sym step.1.1.passed)
-    (reported_also _ _ _ _ _ along.1.1 c.tell_passed.ensures) in
+    let reported = reported_more _ _ _ _ _ _ along.1.1 c.tell_passed.ensures step.1.1.passed in
     err_each c.from_residual.result _ c.in_err-add_border-in-Ok-Some.field-0.0 c.args.past now first new
     (g.E.Sink.written c.args.errors.now) (g.E.Sink.written c.tell_passed.new.errors) c.add_border.new.text.items
     c.from_residual.ensures.1 (λ e q. q)
@@ -106,11 +103,7 @@ returns-in_err-add_border-in-Ok-Some-clause-reported g c =
 pub returns-in_err-add_border-in-Ok-Some-clause-reads : goal.returns-in_err-add_border-in-Ok-Some-clause-reads
 returns-in_err-add_border-in-Ok-Some-clause-reads g c =
     reads_on _ (g.R.Source.read c.lines.source) _ _ _ _ _ _ _ c.lines.invariant.more c.lines.invariant.beside
-    (record {
-      more = c.next.ensures.more;
-      known = c.next.ensures.known c.lines.invariant.goes_on;
-      beside = c.next.ensures.beside;
-    })
+    (c.next.ensures.reads c.lines.invariant.goes_on)
 
 pub returns-in_err-add_border-in-Ok-Some-clause-writes : goal.returns-in_err-add_border-in-Ok-Some-clause-writes
 returns-in_err-add_border-in-Ok-Some-clause-writes g c =
@@ -151,17 +144,9 @@ returns-in-Err-next-clause-writes g c =
 pub returns-in-Err-next-clause-reads : goal.returns-in-Err-next-clause-reads
 returns-in-Err-next-clause-reads g c =
     reads_on _ (g.R.Source.read c.lines.source) _ _ _ _ _ _ _ c.lines.invariant.more c.lines.invariant.beside
-    (record {
-      more = c.next.ensures.more;
-      known = c.next.ensures.known c.lines.invariant.goes_on;
-      beside = c.next.ensures.beside;
-    })
+    (c.next.ensures.reads c.lines.invariant.goes_on)
 
 pub returns-in-Ok-None-clause-reads : goal.returns-in-Ok-None-clause-reads
 returns-in-Ok-None-clause-reads g c =
     reads_on _ (g.R.Source.read c.lines.source) _ _ _ _ _ _ _ c.lines.invariant.more c.lines.invariant.beside
-    (record {
-      more = c.next.ensures.more;
-      known = c.next.ensures.known c.lines.invariant.goes_on;
-      beside = c.next.ensures.beside;
-    })
+    (c.next.ensures.reads c.lines.invariant.goes_on)

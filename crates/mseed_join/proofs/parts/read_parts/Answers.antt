@@ -1,11 +1,11 @@
-use Rattle.std.proofs.Common.{rules, ◌≡◌, ◌∙◌, ℕ, List, [], append-nil, arith, ap, sym, subst, refl, Ok, Err}
+use Rattle.std.proofs.Common.{rules, ◌≡◌, [], append-nil, arith, ap, sym, subst, refl, Ok, Err}
 use Rattle.mseed_stream.specs.Device.{BytesRead, BytesWritten}
 use Rattle.std.proofs.KnownBytes.{Consumes-nil}
-use Rattle.mseed_stream.proofs.Calls.{reads_on, tells_on}
+use Rattle.mseed_stream.proofs.Calls.{reads_on}
 use Rattle.mseed_join.specs.declared.reader.PartsFault.{PartsFault}
-use Rattle.mseed_join.specs.Reached.{AreReported, start}
+use Rattle.mseed_join.specs.Reached.{start}
 use Rattle.mseed_join.specs.ReadParts.{IsReadOutcome}
-use Rattle.mseed_join.proofs.Along.{all_read, failed, none_read, none_reported, stopped, reported_also}
+use Rattle.mseed_join.proofs.Along.{all_read, failed, none_read, none_reported, stopped, reported_more}
 use Rattle.mseed_join.proofs.parts.read_parts.Goals as goal
 
 pub returns-in-Err-clause-outcome : goal.returns-in-Err-clause-outcome
@@ -49,11 +49,7 @@ returns-in_err-reported-clause-outcome g c =
 pub returns-in_err-reported-clause-reads : goal.returns-in_err-reported-clause-reads
 returns-in_err-reported-clause-reads g c =
     reads_on _ (g.R.Source.read c.lines.source) _ _ _ _ _ _ _ c.lines.invariant.more c.lines.invariant.beside
-    (record {
-      more = c.next.ensures.more;
-      known = c.next.ensures.known c.lines.invariant.goes_on;
-      beside = c.next.ensures.beside;
-    })
+    (c.next.ensures.reads c.lines.invariant.goes_on)
 
 pub lines-smaller : goal.lines-smaller
 lines-smaller g c =
@@ -64,6 +60,8 @@ lines-smaller g c =
 pub lines-preserved : goal.lines-preserved
 lines-preserved g c =
     let h : BytesRead = g.R.Source.read c.args.source.now in
+    let reads = reads_on h (g.R.Source.read c.lines.source) (g.R.Source.read c.next.new.source) _ _ _ _ _ _
+    c.lines.invariant.more c.lines.invariant.beside (c.next.ensures.reads c.lines.invariant.goes_on) in
     let along = c.lines.invariant.along in
     let step = rw c.in-Some.is at c.in_ok-reported.ensures.step c.args.past h along.0 along.1.0 in
     record {
@@ -71,15 +69,12 @@ lines-preserved g c =
         step.0,
         (
           step.1.0,
-          subst (λ (lines : List (List ℕ)). AreReported lines (g.E.Sink.written c.args.errors.now)
-              (g.E.Sink.written c.tell_passed.new.errors)) (sym step.1.1.passed)
-              (reported_also _ _ _ _ _ along.1.1 c.tell_passed.ensures),
+          reported_more _ _ _ _ _ _ along.1.1 c.tell_passed.ensures step.1.1.passed,
         ),
       );
       goes_on = step.1.2;
-      more = tells_on h (g.R.Source.read c.lines.source) (g.R.Source.read c.next.new.source) _ _ _
-          c.lines.invariant.more c.next.ensures.more;
-      beside = c.next.ensures.beside ∙ c.lines.invariant.beside;
+      more = reads.more;
+      beside = reads.beside;
     }
 
 pub returns-in-None-clause-outcome : goal.returns-in-None-clause-outcome
@@ -95,8 +90,4 @@ returns-in-None-clause-outcome g c =
 pub returns-in-None-clause-reads : goal.returns-in-None-clause-reads
 returns-in-None-clause-reads g c =
     reads_on _ (g.R.Source.read c.lines.source) _ _ _ _ _ _ _ c.lines.invariant.more c.lines.invariant.beside
-    (record {
-      more = c.next.ensures.more;
-      known = c.next.ensures.known c.lines.invariant.goes_on;
-      beside = c.next.ensures.beside;
-    })
+    (c.next.ensures.reads c.lines.invariant.goes_on)

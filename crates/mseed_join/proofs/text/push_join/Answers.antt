@@ -1,5 +1,6 @@
 use Rattle.std.proofs.Common.{◌≡◌, List, ℕ, OnOk, subst}
 use Rattle.mseed_join.proofs.Verdicts.{join_lines}
+use Rattle.mseed_audit.proofs.Prefixes.{prefix_trans}
 use Rattle.mseed_join.proofs.text.push_join.Goals as goal
 
 pub returns-clause-ok : goal.returns-clause-ok
@@ -8,3 +9,7 @@ returns-clause-ok g c = λ bytes.
     let a2 = rw a1 at c.push_totals.ensures.ok in
     subst (λ (xs : List ℕ). OnOk c.push_totals.result (c.push_totals.new.text.items ≡ xs))
     (join_lines c.args.channels.now c.args.records bytes c.args.faults c.args.end.now c.args.text.now.items) a2
+
+pub returns-clause-prefix : goal.returns-clause-prefix
+returns-clause-prefix g c =
+    prefix_trans _ _ _ c.push_verdicts.ensures.prefix c.push_totals.ensures.prefix

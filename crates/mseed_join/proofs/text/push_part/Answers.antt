@@ -1,4 +1,5 @@
 use Rattle.std.proofs.Common.{◌≡◌, List, ℕ, OnOk, subst}
+use Rattle.mseed_audit.proofs.Prefixes.{prefix_behind, prefix_trans}
 use Rattle.mseed_join.proofs.Channels.{part_lines}
 use Rattle.mseed_join.proofs.text.push_part.Goals as goal
 
@@ -9,3 +10,12 @@ returns-clause-ok g c =
     let a3 = rw a2 at c.push_ending.ensures.ok in
     subst (λ (xs : List ℕ). OnOk c.push_ending.result (c.push_ending.new.text.items ≡ xs))
     (part_lines c.args.channels.now c.args.records c.args.bytes c.args.faults c.args.end.now c.args.text.now.items) a3
+
+pub returns-in_err-push_channels-clause-prefix : goal.returns-in_err-push_channels-clause-prefix
+returns-in_err-push_channels-clause-prefix g c =
+    prefix_behind _ _ _ _ c.in_ok-extend_from_slice.ensures.items c.push_channels.ensures.prefix
+
+pub returns-clause-prefix : goal.returns-clause-prefix
+returns-clause-prefix g c =
+    prefix_behind _ _ _ _ c.in_ok-extend_from_slice.ensures.items
+    (prefix_trans _ _ _ c.push_channels.ensures.prefix c.push_ending.ensures.prefix)

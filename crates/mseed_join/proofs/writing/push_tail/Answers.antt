@@ -1,15 +1,5 @@
-use Rattle.std.proofs.lemmas.Grind.{common_steps}
-use Rattle.std.proofs.Common.{arith}
+use Rattle.mseed_audit.proofs.Prefixes.{prefix_trans}
 use Rattle.mseed_join.proofs.writing.push_tail.Goals as goal
 
-pub returns-in_err-push_pieces-clause-prefix : goal.returns-in_err-push_pieces-clause-prefix
-returns-in_err-push_pieces-clause-prefix g c = grind (arith, common_steps)
-
-pub returns-in_err-push_ratio-clause-prefix : goal.returns-in_err-push_ratio-clause-prefix
-returns-in_err-push_ratio-clause-prefix g c = grind (arith, common_steps)
-
-pub returns-clause-ok : goal.returns-clause-ok
-returns-clause-ok g c = grind (arith, common_steps)
-
 pub returns-clause-prefix : goal.returns-clause-prefix
-returns-clause-prefix g c = grind (arith, common_steps)
+returns-clause-prefix g c = prefix_trans _ _ _ c.push_pieces.ensures.prefix c.push_pieces-2.ensures.prefix

@@ -6,7 +6,8 @@ use Rattle.mseed_stream.specs.Fault.{IsStreamFault}
 use Rattle.mseed_stream.specs.declared.fault.StreamFault.{StreamFault}
 use Rattle.mseed_join.specs.declared.line_reader.Ahead.{Ahead}
 use Rattle.mseed_join.specs.private.LineReading.{LinesRead, GoesOn, IsReadBy}
-use Rattle.mseed_join.proofs.LinesAhead.{grows_not, grows_on, grows_seen, read_by_more, goes_on_more, not_at_end}
+use Rattle.mseed_join.proofs.LinesAhead.{grows_not, grows_on, grows_seen, grows_through, read_by_more, goes_on_more}
+use Rattle.mseed_join.proofs.LinesAhead.{no_end_by, no_end_yet, not_at_end, reads_so_far, reads_to}
 use Rattle.mseed_join.proofs.LinesAhead.{if_it_does, fault_since}
 use Rattle.mseed_join.proofs.line_reader.LineReader.look.Goals as goal
 
@@ -18,6 +19,26 @@ loop-ahead-init g c = record {
   failures = refl;
   beside = refl;
 }
+
+pub returns-in-Some-clause-more : goal.returns-in-Some-clause-more
+returns-in-Some-clause-more g c =
+    grows_seen (g.R.Source.read c.args.source.now) (g.R.Source.read c.loop-ahead.source) _ _ c.args.self.now
+    c.loop-ahead.self c.see.new.self c.see.new.self.size c.see.ensures.stays c.loop-ahead.invariant.more
+
+pub returns-in-Some-clause-along : goal.returns-in-Some-clause-along
+unfolding returns-in-Some-clause-more
+returns-in-Some-clause-along g c start by =
+    read_by_more start (g.R.Source.read c.args.source.now) (g.R.Source.read c.loop-ahead.source) _ _ c.args.self.now
+    c.see.new.self (returns-in-Some-clause-more g c) by
+
+pub returns-in-Some-clause-reads : goal.returns-in-Some-clause-reads
+unfolding returns-in-Some-clause-more
+returns-in-Some-clause-reads g c goes_on =
+    let inv = c.loop-ahead.invariant in
+    let first : BytesRead = g.R.Source.read c.args.source.now in
+    let now : BytesRead = g.R.Source.read c.loop-ahead.source in
+    let still = no_end_yet first now c.args.self.now c.loop-ahead.self _ _ inv.more inv.still inv.going_on goes_on in
+    reads_so_far first now _ _ _ _ _ _ (returns-in-Some-clause-more g c) still inv.beside
 
 pub returns-in-Some-clause-goes_on : goal.returns-in-Some-clause-goes_on
 returns-in-Some-clause-goes_on g c start goes =
@@ -34,12 +55,27 @@ returns-in-Some-clause-goes_on g c start goes =
 
 pub returns-in_err-fill-clause-more : goal.returns-in_err-fill-clause-more
 returns-in_err-fill-clause-more g c =
+    grows_through (g.R.Source.read c.args.source.now) (g.R.Source.read c.loop-ahead.source) _ _ _ _ c.args.self.now
+    c.loop-ahead.self c.see.new.self c.fill.new.self c.see.new.self.size c.see.ensures.stays c.loop-ahead.invariant.more
+    c.fill.ensures.more
+
+pub returns-in_err-fill-clause-along : goal.returns-in_err-fill-clause-along
+unfolding returns-in_err-fill-clause-more
+returns-in_err-fill-clause-along g c start by =
+    read_by_more start (g.R.Source.read c.args.source.now) (g.R.Source.read c.fill.new.source) _ _ c.args.self.now
+    c.fill.new.self (returns-in_err-fill-clause-more g c) by
+
+pub returns-in_err-fill-clause-reads : goal.returns-in_err-fill-clause-reads
+unfolding returns-in_err-fill-clause-more
+returns-in_err-fill-clause-reads g c goes_on =
+    let inv = c.loop-ahead.invariant in
     let first : BytesRead = g.R.Source.read c.args.source.now in
     let now : BytesRead = g.R.Source.read c.loop-ahead.source in
-    let seen : LinesRead = c.see.new.self in
-    grows_on first now _ _ _ _ c.args.self.now seen c.fill.new.self
-    (grows_seen first now _ _ c.args.self.now c.loop-ahead.self seen seen.size c.see.ensures.stays
-    c.loop-ahead.invariant.more) c.fill.ensures.more
+    let new : BytesRead = g.R.Source.read c.fill.new.source in
+    let still = no_end_yet first now c.args.self.now c.loop-ahead.self _ _ inv.more inv.still inv.going_on goes_on in
+    reads_so_far first new _ _ _ _ _ _ (returns-in_err-fill-clause-more g c)
+    (no_end_by c.in_err-fill.field-0.0 c.fill.new.self now new c.in_err-fill.ensures.fault still)
+    (c.fill.ensures.beside ∙ inv.beside)
 
 pub returns-in_err-fill-clause-fault : goal.returns-in_err-fill-clause-fault
 returns-in_err-fill-clause-fault g c =
@@ -70,12 +106,23 @@ returns-in_err-fill-clause-fault g c =
 
 pub returns-then-branch-clause-more : goal.returns-then-branch-clause-more
 returns-then-branch-clause-more g c =
-    let first : BytesRead = g.R.Source.read c.args.source.now in
-    let now : BytesRead = g.R.Source.read c.loop-ahead.source in
-    let seen : LinesRead = c.see.new.self in
-    grows_on first now _ _ _ _ c.args.self.now seen c.fill.new.self
-    (grows_seen first now _ _ c.args.self.now c.loop-ahead.self seen seen.size c.see.ensures.stays
-    c.loop-ahead.invariant.more) c.fill.ensures.more
+    grows_through (g.R.Source.read c.args.source.now) (g.R.Source.read c.loop-ahead.source) _ _ _ _ c.args.self.now
+    c.loop-ahead.self c.see.new.self c.fill.new.self c.see.new.self.size c.see.ensures.stays c.loop-ahead.invariant.more
+    c.fill.ensures.more
+
+pub returns-then-branch-clause-along : goal.returns-then-branch-clause-along
+unfolding returns-then-branch-clause-more
+returns-then-branch-clause-along g c start by =
+    read_by_more start (g.R.Source.read c.args.source.now) (g.R.Source.read c.fill.new.source) _ _ c.args.self.now
+    c.fill.new.self (returns-then-branch-clause-more g c) by
+
+pub returns-then-branch-clause-reads : goal.returns-then-branch-clause-reads
+unfolding returns-then-branch-clause-more
+returns-then-branch-clause-reads g c goes_on =
+    reads_to (g.R.Source.read c.args.source.now) (g.R.Source.read c.fill.new.source) _ _ _ _ _ _
+    (returns-then-branch-clause-more g c)
+    (λ end. (c.in_ok-fill.ensures.ended (ap (λ (b : Bool). Ok b) c.if-branch.true)).2)
+    (c.fill.ensures.beside ∙ c.loop-ahead.invariant.beside)
 
 pub loop-ahead-preserved : goal.loop-ahead-preserved
 loop-ahead-preserved g c =
