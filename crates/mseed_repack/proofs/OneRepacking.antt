@@ -109,6 +109,13 @@ one_whole laws h views others cs ds a b =
           (subst (λ (vs : List View). AreVerdicts (added_from 0 vs) cs) same a.verdicts) b.verdicts,
     )
 
+-- what is so of one archive that was read is so of any other
+same_archive : Laws → (P : List View → List Channel → Type 0) (h : BytesRead) (views others : List View)
+    (cs ds : List Channel) → IsArchiveOf h views cs → IsArchiveOf h others ds → P views cs → P others ds
+same_archive laws P h views others cs ds a b p =
+    let same : (views ≡ others) × (cs ≡ ds) = one_whole laws h views others cs ds a b in
+    subst (λ (vs : List View). P vs ds) same.0 (subst (λ (xs : List Channel). P views xs) same.1 p)
+
 -- How bytes end that are no whole archive.
 
 abbrev at : ℕ → End → Option StreamFault
@@ -437,10 +444,8 @@ written_prefix : Laws → (o : Options) (h : BytesRead) (views others : List Vie
     → Wrote (ArePackedInto o views cs) 0 old new → Wrote (IsPartPacked o others ds) 1 before after
     → HasWrittenPrefix old new before after
 written_prefix laws o h views others cs ds old new before after a b w v =
-    let same : (views ≡ others) × (cs ≡ ds) = one_whole laws h views others cs ds a.archive b.archive in
-    let all : ArePackedInto o others ds w.text =
-    subst (λ (vs : List View). ArePackedInto o vs ds w.text) same.0
-    (subst (λ (xs : List Channel). ArePackedInto o views xs w.text) same.1 w.text_is) in
+    let all : ArePackedInto o others ds w.text = same_archive laws (λ vs xs. ArePackedInto o vs xs w.text) h views
+    others cs ds a.archive b.archive w.text_is in
     let found : Behind v.text w.text = text_prefix laws o others ds w.text v.text all v.text_is in
     record {
       prefix = v.text;
@@ -454,10 +459,8 @@ written_one : Laws → (o : Options) (h : BytesRead) (views others : List View) 
     → Wrote (ArePackedInto o views cs) 0 old new → Wrote (ArePackedInto o others ds) 0 before after
     → HaveWrittenOne old new before after
 written_one laws o h views others cs ds old new before after a b w v =
-    let same : (views ≡ others) × (cs ≡ ds) = one_whole laws h views others cs ds a.archive b.archive in
-    let all : ArePackedInto o others ds w.text =
-    subst (λ (vs : List View). ArePackedInto o vs ds w.text) same.0
-    (subst (λ (xs : List Channel). ArePackedInto o views xs w.text) same.1 w.text_is) in
+    let all : ArePackedInto o others ds w.text = same_archive laws (λ vs xs. ArePackedInto o vs xs w.text) h views
+    others cs ds a.archive b.archive w.text_is in
     let text : w.text ≡ v.text =
     one_text laws o others ds w.text v.text (along o others ds w.text all) (along o others ds v.text v.text_is) in
     record { text = v.text; here = w.bytes ∙ ap (λ (xs : List ℕ). old.bytes ++ xs) text; there = v.bytes }
@@ -594,10 +597,8 @@ taken_prefixes : Laws → (o : Options) (h : BytesRead) (views others : List Vie
     → Wrote (IsPartPacked o views cs) 1 old new → Wrote (IsPartPacked o others ds) 1 before after
     → HaveTakenPrefixes old new before after
 taken_prefixes laws o h views others cs ds old new before after a b w v =
-    let same : (views ≡ others) × (cs ≡ ds) = one_whole laws h views others cs ds a.archive b.archive in
-    let part : IsPartPacked o others ds w.text =
-    subst (λ (vs : List View). IsPartPacked o vs ds w.text) same.0
-    (subst (λ (xs : List Channel). IsPartPacked o views xs w.text) same.1 w.text_is) in
+    let part : IsPartPacked o others ds w.text = same_archive laws (λ vs xs. IsPartPacked o vs xs w.text) h views others
+    cs ds a.archive b.archive w.text_is in
     record {
       here = w.text;
       there = v.text;
@@ -621,29 +622,23 @@ never_broken : Laws → (h : BytesRead) (views others : List View) (cs ds : List
     → IsArchiveOf h views cs → IsArchiveOf h others ds
     → All (λ (c : Channel). Whole views c.0) cs → FirstBroken others ds key → ⊥
 never_broken laws h views others cs ds key a b all is =
-    let same : (views ≡ others) × (cs ≡ ds) = one_whole laws h views others cs ds a b in
     let each : All (λ (c : Channel). Whole others c.0) ds =
-    subst (λ (vs : List View). All (λ (c : Channel). Whole vs c.0) ds) same.0
-    (subst (λ (xs : List Channel). All (λ (c : Channel). Whole views c.0) xs) same.1 all) in
+    same_archive laws (λ vs xs. All (λ (c : Channel). Whole vs c.0) xs) h views others cs ds a b all in
     none_first (Whole others) (λ (k : List ℕ). ¬ (Whole others k)) key ds (λ k no yes. no yes) each is
 
 never_misfit : Laws → (o : Options) (h : BytesRead) (views others : List View) (cs ds : List Channel) (key : List ℕ)
     (fault : PackFault) → IsArchiveOf h views cs → IsArchiveOf h others ds
     → All (λ (c : Channel). CanBePacked o views c.0) cs → FirstMisfit o others ds fault key → ⊥
 never_misfit laws o h views others cs ds key fault a b all is =
-    let same : (views ≡ others) × (cs ≡ ds) = one_whole laws h views others cs ds a b in
     let each : All (λ (c : Channel). CanBePacked o others c.0) ds =
-    subst (λ (vs : List View). All (λ (c : Channel). CanBePacked o vs c.0) ds) same.0
-    (subst (λ (xs : List Channel). All (λ (c : Channel). CanBePacked o views c.0) xs) same.1 all) in
+    same_archive laws (λ vs xs. All (λ (c : Channel). CanBePacked o vs c.0) xs) h views others cs ds a b all in
     none_first (CanBePacked o others) (CantBePacked o others fault) key ds (cant laws o others fault) each is
 
 same_broken : Laws → (h : BytesRead) (views others : List View) (cs ds : List Channel) (k l : List ℕ)
     → IsArchiveOf h views cs → IsArchiveOf h others ds → FirstBroken views cs k → FirstBroken others ds l → k ≡ l
 same_broken laws h views others cs ds k l a b p q =
-    let same : (views ≡ others) × (cs ≡ ds) = one_whole laws h views others cs ds a b in
     let first : FirstBroken others ds k =
-    subst (λ (vs : List View). FirstBroken vs ds k) same.0
-    (subst (λ (xs : List Channel). FirstBroken views xs k) same.1 p) in
+    same_archive laws (λ vs xs. FirstBroken vs xs k) h views others cs ds a b p in
     let no : (key : List ℕ) → ¬ (Whole others key) → ¬ (Whole others key) = λ key n. n in
     one_first_key (Whole others) (λ (key : List ℕ). ¬ (Whole others key)) (λ (key : List ℕ). ¬ (Whole others key)) k l
     ds no no first q
@@ -652,10 +647,8 @@ same_misfit : Laws → (o : Options) (h : BytesRead) (views others : List View) 
     (f g : PackFault) → IsArchiveOf h views cs → IsArchiveOf h others ds
     → FirstMisfit o views cs f k → FirstMisfit o others ds g l → Misfit k f ≡ Misfit l g
 same_misfit laws o h views others cs ds k l f g a b p q =
-    let same : (views ≡ others) × (cs ≡ ds) = one_whole laws h views others cs ds a b in
     let first : FirstMisfit o others ds f k =
-    subst (λ (vs : List View). FirstMisfit o vs ds f k) same.0
-    (subst (λ (xs : List Channel). FirstMisfit o views xs f k) same.1 p) in
+    same_archive laws (λ vs xs. FirstMisfit o vs xs f k) h views others cs ds a b p in
     let key : k ≡ l = one_first_key (CanBePacked o others) (CantBePacked o others f) (CantBePacked o others g) k l ds
     (cant laws o others f) (cant laws o others g) first q in
     let fault : f ≡ g = one_cant laws o others f g l (subst (CantBePacked o others f) key first.is_it) q.is_it in

@@ -1,7 +1,7 @@
 -- What is found of the channels of an archive, one after another.
 use Rattle.std.proofs.Common.{◌≡◌, ℕ, zero, suc, ◌+◌, ◌<◌, ◌≤◌, List, [], ◌∷◌, ◌++◌, length, map, take, drop, get_or}
 use Rattle.std.proofs.Common.{refl, sym, ap, subst, ◌∙◌, arith, append_assoc, append-nil, All, Bool, true}
-use Rattle.std.proofs.Common.{Result, Ok, Err, IfErr, IfOk, length-append}
+use Rattle.std.proofs.Common.{Result, Ok, Err, false, length-append}
 use Rattle.std.specs.List.{AllByRecursion}
 use Rattle.std.proofs.lemmas.List.{get_or_default, length-map, length-take-le, take-append-drop, take_all, take_more}
 use Rattle.std.proofs.lemmas.List.Elements.{All-from_recursion, recursion_from_All}
@@ -18,11 +18,11 @@ use Rattle.mseed_repack.specs.Repack.{Channel, IsArchiveOf, IsFirst, Wrote, reco
 use Rattle.mseed_repack.specs.Restretch.{ChannelFits, ChannelMisfits, IsChannelPart, IsChannelText}
 use Rattle.mseed_repack.specs.ByStretches.{AreSound, AreStandings, AreStretched, IsFit, IsPartStretched, Stands}
 use Rattle.mseed_repack.specs.ByStretches.{TellsEach, also, further, kept_of, line_of, lines_of, nothing}
-use Rattle.mseed_repack.specs.ByStretches.{IsRestretching, WereStretched, silent}
+use Rattle.mseed_repack.specs.ByStretches.{IsRestretching, silent}
 use Rattle.mseed_repack.specs.private.Reading.{channel_in, steps_of}
 use Rattle.mseed_repack.specs.private.Restretching.{AreCut, AreLengths, AreRoomy, AreStretchesWithin}
 use Rattle.mseed_repack.specs.private.Restretching.{IsFirstRefused, IsNoMisfit}
-use Rattle.mseed_repack.specs.private.Restretching.{FailsToStretch, IsPartIfFit, IsTextIfFit, IsUnbroken}
+use Rattle.mseed_repack.specs.private.Restretching.{IsPartIfFit, IsTextIfFit, IsUnbroken, PacksByStretches}
 use Rattle.mseed_repack.specs.declared.refusing.Left.{Left}
 use Rattle.mseed_repack.specs.declared.standing.Standing.{Standing}
 use Rattle.mseed_repack.specs.declared.standing.Standing.TheVariants.{Fit, Broken, Misfit}
@@ -387,6 +387,15 @@ judged_none o views cs ss room ls is none =
     (subst (λ (ms : List (List ℕ)). AreJudgedSo o views cs 0 [] room ms) (sym none)
     (record { standings = tt; roomy = tt; cut = tt; as_long = refl }))
 
+-- all channels were judged
+pub judged_all : (o : Options) (views : List View) (cs : List Channel) (k : ℕ) (ss : List Standing) (room : ℕ)
+    (ls : List (List ℕ)) → length cs ≤ k → AreJudgedSo o views cs k ss room ls
+    → AreStandings o views cs ss × (AreRoomy room views cs ss × AreCut views cs ss ls)
+judged_all o views cs k ss room ls all h =
+    let P : List Channel → Type 0 =
+    λ ds. AreStandings o views ds ss × (AreRoomy room views ds ss × AreCut views ds ss ls) in
+    subst P (take_all k cs all) (h.standings, (h.roomy, h.cut))
+
 -- one more channel, whose records are these
 pub judged_more : (o : Options) (views : List View) (cs : List Channel) (k : ℕ) (ss : List Standing)
     (room new : ℕ) (ls : List (List ℕ)) (c : Channel) (s : Standing) (ns : List ℕ) (vs : List View) → k < length cs
@@ -431,19 +440,30 @@ no_misfit (Misfit n f) fine = fine n f refl
 -- how packing an archive by stretches ends
 pub restretched_is : (r : Result Left StretchesFault) (o : Options) (leave : Bool) (h : BytesRead)
     (old new reported_old reported_new : BytesWritten) (views : List View) (cs : List Channel) → IsArchiveOf h views cs
-    → IfOk r (λ left. WereStretched o leave views cs left old new reported_old reported_new)
-    → IfErr r (FailsToStretch o leave views cs old new reported_old reported_new)
+    → PacksByStretches r o leave views cs old new reported_old reported_new
     → IsRestretching o leave r h old new reported_old reported_new
-restretched_is (Ok left) o leave h old new reported_old reported_new views cs archive ok err =
-    (views, (cs, (archive, ok)))
-restretched_is (Err (Stream f)) o leave h old new reported_old reported_new views cs archive ok err = absurd err
-restretched_is (Err (BrokenChannel key)) o leave h old new reported_old reported_new views cs archive ok err =
-    (views, (cs, (archive, err.0, err.1, err.2, err.3)))
-restretched_is (Err (MisfitStretch key n f)) o leave h old new reported_old reported_new views cs archive ok err =
-    (views, (cs, (archive, err.0.0, err.0.1, err.1, err.2, err.3)))
-restretched_is (Err Write) o leave h old new reported_old reported_new views cs archive ok err =
-    (views, (cs, (archive, err)))
-restretched_is (Err Memory) o leave h old new reported_old reported_new views cs archive ok err = err
+restretched_is (Ok left) o leave h old new reported_old reported_new views cs archive p =
+    (views, (cs, (archive, p.ok)))
+restretched_is (Err (Stream f)) o leave h old new reported_old reported_new views cs archive p = absurd p.err
+restretched_is (Err (BrokenChannel key)) o leave h old new reported_old reported_new views cs archive p =
+    (views, (cs, (archive, p.err.0, p.err.1, p.err.2, p.err.3)))
+restretched_is (Err (MisfitStretch key n f)) o leave h old new reported_old reported_new views cs archive p =
+    (views, (cs, (archive, p.err.0.0, p.err.0.1, p.err.1, p.err.2, p.err.3)))
+restretched_is (Err Write) o leave h old new reported_old reported_new views cs archive p =
+    (views, (cs, (archive, p.err)))
+restretched_is (Err Memory) o leave h old new reported_old reported_new views cs archive p = p.err
+
+-- it is refused for the first channel that isn't to be left out
+pub ends_refused : (o : Options) (leave : Bool) (views : List View) (cs : List Channel) (s reported : BytesWritten)
+    (fault : StretchesFault) → IsFirstRefused o views cs fault → leave ≡ false
+    → PacksByStretches (Err fault) o leave views cs s s reported reported
+ends_refused o leave views cs s reported (Stream f) is stays = absurd is
+ends_refused o leave views cs s reported (BrokenChannel key) is stays =
+    record { ok = tt; err = (is, stays, refl, refl) }
+ends_refused o leave views cs s reported (MisfitStretch key n f) is stays =
+    record { ok = tt; err = (is, stays, refl, refl) }
+ends_refused o leave views cs s reported Write is stays = absurd is
+ends_refused o leave views cs s reported Memory is stays = absurd is
 
 -- The same, where the channel's standing is the one at its index, whatever is given where there is none.
 

@@ -50,27 +50,25 @@ next_of Q P all left rest v e h every =
     behind [] each = each.0
     behind (u ∷ us) each = behind us each.1
 
+-- what adds up over records adds up over those before it, and it with those behind
+so_far : (f : List View → ℕ) → ((us vs : List View) → f (us ++ vs) ≡ f us + f vs) → (P : List View → Type 0)
+    (all left rest : List View) (v : View) → left ≡ v ∷ rest → (h : IsGone P all left)
+    → f all ≡ f h.gone + f (v ∷ rest)
+so_far f adds P all left rest v e h = ap f (whole P all left rest v e h) ∙ adds h.gone (v ∷ rest)
+
 -- those before it and itself have no more samples, and bear no more leap seconds, than all have
 pub samples_so_far : (P : List View → Type 0) (all left rest : List View) (v : View) → left ≡ v ∷ rest
     → (h : IsGone P all left) → samples_of h.gone + count_of v ≤ samples_of all
-samples_so_far P all left rest v e h =
-    let sum : samples_of all ≡ samples_of h.gone + samples_of (v ∷ rest) =
-    ap samples_of (whole P all left rest v e h) ∙ samples_append h.gone (v ∷ rest) in
-    omega (arith, sum)
+samples_so_far P all left rest v e h = omega (arith, so_far samples_of samples_append P all left rest v e h)
 
 pub steps_so_far : (P : List View → Type 0) (all left rest : List View) (v : View) → left ≡ v ∷ rest
     → (h : IsGone P all left) → steps_of h.gone + step_count v ≤ steps_of all
-steps_so_far P all left rest v e h =
-    let sum : steps_of all ≡ steps_of h.gone + steps_of (v ∷ rest) =
-    ap steps_of (whole P all left rest v e h) ∙ steps_append h.gone (v ∷ rest) in
-    omega (arith, sum)
+steps_so_far P all left rest v e h = omega (arith, so_far steps_of steps_append P all left rest v e h)
 
 pub count_so_far : (P : List View → Type 0) (all left rest : List View) (v : View) → left ≡ v ∷ rest
     → (h : IsGone P all left) → length h.gone + 1 ≤ length all
 count_so_far P all left rest v e h =
-    let sum : length all ≡ length h.gone + length (v ∷ rest) =
-    ap (λ (vs : List View). length vs) (whole P all left rest v e h) ∙ length-append h.gone (v ∷ rest) in
-    omega (arith, sum)
+    omega (arith, so_far (λ vs. length vs) (λ us vs. length-append us vs) P all left rest v e h)
 
 -- what is read, and what is known, of the records that were gone over, whatever their key is
 abbrev pub AreReadSo : ℕ → ℕ → List ℤ → List (ℕ × LeapStep) → List View → Type 0

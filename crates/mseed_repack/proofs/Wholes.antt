@@ -1,8 +1,7 @@
 -- A whole archive, and how packing it anew ends.
 use Rattle.std.proofs.Common.{◌≡◌, ℕ, ◌<◌, ◌^◌, List, [], ◌∷◌, ◌++◌, ◌∙◌, length, map, refl, sym, ap, subst, arith}
-use Rattle.std.proofs.Common.{IsTrue, Result, Ok, Err, OnOk, IfErr}
+use Rattle.std.proofs.Common.{IsTrue, Result, Ok, Err, OnOk, IfErr, All}
 use Rattle.std.specs.List.{AllByRecursion}
-use Rattle.std.specs.Result.{IsErrAnd}
 use Rattle.std.proofs.lemmas.List.{length-map}
 use Rattle.mseed_record.specs.View.{View, IsView}
 use Rattle.mseed_record.specs.Viewing.{view_of}
@@ -14,8 +13,9 @@ use Rattle.mseed_stream.specs.Walk.{bytes_in}
 use Rattle.mseed_audit.specs.Channels.{added_from}
 use Rattle.mseed_audit.specs.Verdict.{AreVerdicts}
 use Rattle.mseed_pack.specs.declared.options.Options.{Options}
-use Rattle.mseed_repack.specs.Repack.{AreContinuous, Channel, IsArchiveOf, IsRepacking}
-use Rattle.mseed_repack.specs.private.Repacking.{FailsToPackAnew, IsFirstBroken, IsPackedAnew}
+use Rattle.mseed_repack.specs.Repack.{AreContinuous, ArePackedInto, CanBePacked, Channel, IsArchiveOf, IsRepacking}
+use Rattle.mseed_repack.specs.Repack.{Wrote}
+use Rattle.mseed_repack.specs.private.Repacking.{FailsToFit, FailsToPack, IsFirstBroken, PacksAnew}
 use Rattle.mseed_repack.specs.declared.fault.RepackFault.{RepackFault}
 use Rattle.mseed_repack.specs.declared.fault.RepackFault.TheVariants.{Stream, Broken, Misfit, Write, Memory}
 
@@ -54,15 +54,7 @@ archive_read first h bytes rs cs unread joined fine ended archive each few verdi
     let same : h.bytes ≡ bytes = joined ∙ ap (λ (x : BytesRead). x.bytes ++ bytes) unread in
     archive_is h bytes rs cs same archive each few ended (fine ∙ ap (λ (x : BytesRead). x.failures) unread) verdicts
 
--- an error that is passed on
-ends_by : {U : Type 0} (r : Result U RepackFault) (Q : RepackFault → Type 0) (fault : RepackFault) (o : Options)
-    (h : BytesRead) (old new : BytesWritten) → IsErrAnd r Q → ((e : RepackFault) → Q e → e ≡ fault)
-    → IsRepacking {U = U} o (Err fault) h old new → IsRepacking o r h old new
-ends_by (Ok u) Q fault o h old new is q ends = absurd is
-ends_by {U} (Err e) Q fault o h old new is q ends =
-    subst (λ (f : RepackFault). IsRepacking {U = U} o (Err f) h old new) (sym (q e is)) ends
-
-broken_is : (U : Type 0) (o : Options) (h : BytesRead) (s : BytesWritten) (views : List View) (cs : List Channel)
+pub broken_is : (U : Type 0) (o : Options) (h : BytesRead) (s : BytesWritten) (views : List View) (cs : List Channel)
     (fault : RepackFault) → IsArchiveOf h views cs → IsFirstBroken views cs fault
     → IsRepacking {U = U} o (Err fault) h s s
 broken_is U o h s views cs (Stream f) archive is = absurd is
@@ -73,21 +65,34 @@ broken_is U o h s views cs Memory archive is = absurd is
 
 pub packed_is : {U : Type 0} (r : Result U RepackFault) (o : Options) (h : BytesRead) (old new : BytesWritten)
     (views : List View) (cs : List Channel) → IsArchiveOf h views cs → AreContinuous views cs
-    → OnOk r (IsPackedAnew o views cs old new) → IfErr r (FailsToPackAnew o views cs old new)
-    → IsRepacking o r h old new
-packed_is (Ok u) o h old new views cs archive continuous done fails =
-    (views, (cs, (record { archive = archive; continuous = continuous; fit = done.fit }, done.wrote)))
-packed_is (Err (Stream f)) o h old new views cs archive continuous done fails = absurd fails
-packed_is (Err (Broken key)) o h old new views cs archive continuous done fails = absurd fails
-packed_is (Err (Misfit key f)) o h old new views cs archive continuous done fails =
-    (views, (cs, (archive, continuous, fails.0, fails.1)))
-packed_is (Err Write) o h old new views cs archive continuous done fails =
-    (views, (cs, (record { archive = archive; continuous = continuous; fit = fails.0 }, fails.1)))
-packed_is (Err Memory) o h old new views cs archive continuous done fails = fails
+    → PacksAnew r o views cs old new → IsRepacking o r h old new
+packed_is (Ok u) o h old new views cs archive continuous p =
+    (views, (cs, (record { archive = archive; continuous = continuous; fit = p.ok.fit }, p.ok.wrote)))
+packed_is (Err (Stream f)) o h old new views cs archive continuous p = absurd p.err
+packed_is (Err (Broken key)) o h old new views cs archive continuous p = absurd p.err
+packed_is (Err (Misfit key f)) o h old new views cs archive continuous p =
+    (views, (cs, (archive, continuous, p.err.0, p.err.1)))
+packed_is (Err Write) o h old new views cs archive continuous p =
+    (views, (cs, (record { archive = archive; continuous = continuous; fit = p.err.0 }, p.err.1)))
+packed_is (Err Memory) o h old new views cs archive continuous p = p.err
 
-pub broken_ends : {U : Type 0} (r : Result U RepackFault) (Q : RepackFault → Type 0) (o : Options) (h : BytesRead)
-    (s : BytesWritten) (views : List View) (cs : List Channel) (fault : RepackFault) → IsErrAnd r Q
-    → ((e : RepackFault) → Q e → e ≡ fault) → IsArchiveOf h views cs → IsFirstBroken views cs fault
-    → IsRepacking o r h s s
-broken_ends {U} r Q o h s views cs fault err q archive is =
-    ends_by r Q fault o h s s err q (broken_is U o h s views cs fault archive is)
+-- a channel that can't be packed ends it before anything is written
+pub ends_unfit : {U : Type 0} (o : Options) (views : List View) (cs : List Channel) (s : BytesWritten)
+    (fault : RepackFault) → FailsToFit o views cs fault → PacksAnew {U = U} (Err fault) o views cs s s
+ends_unfit o views cs s (Stream f) is = absurd is
+ends_unfit o views cs s (Broken key) is = absurd is
+ends_unfit o views cs s (Misfit key f) is = record { ok = tt; err = (is, refl) }
+ends_unfit o views cs s Write is = absurd is
+ends_unfit o views cs s Memory is = absurd is
+
+-- where each can be, it ends as writing them does
+pub ends_fit : {U : Type 0} (r : Result U RepackFault) (o : Options) (views : List View) (cs : List Channel)
+    (old new : BytesWritten) → All (λ (c : Channel). CanBePacked o views c.0) cs
+    → OnOk r (Wrote (ArePackedInto o views cs) 0 old new) → IfErr r (FailsToPack o views cs old new)
+    → PacksAnew r o views cs old new
+ends_fit (Ok u) o views cs old new fit wrote fails = record { ok = record { fit = fit; wrote = wrote }; err = tt }
+ends_fit (Err (Stream f)) o views cs old new fit wrote fails = absurd fails
+ends_fit (Err (Broken key)) o views cs old new fit wrote fails = absurd fails
+ends_fit (Err (Misfit key f)) o views cs old new fit wrote fails = absurd fails
+ends_fit (Err Write) o views cs old new fit wrote fails = record { ok = tt; err = (fit, fails) }
+ends_fit (Err Memory) o views cs old new fit wrote fails = absurd fails

@@ -3,14 +3,14 @@ ghost use Rattle.std.specs.Prelude.{◌≡◌, ◌↔◌, ◌≤◌, ◌^◌, Is
 ghost use Rattle.std.specs.List.{AllByRecursion};
 ghost use Rattle.mseed_record.specs.Viewing.{view_of};
 ghost use Rattle.mseed_audit.specs.Follows.{IsSound};
-ghost use Rattle.mseed_repack.specs.private.Restretching.{AreCutInto};
+ghost use Rattle.mseed_repack.specs.private.Restretching.{AreCutInto, AreLengths, AreStretchesWithin};
 ghost use Rattle.mseed_repack.specs.Restretch.{IsChannelRepacking};
 
 use crate::channel_fault::ChannelFault;
 use crate::fitting::fit_stretches;
 use crate::numbering::pack_stretches;
 use crate::reading::count_steps;
-use crate::repacking::{blank_steps, zeros};
+use crate::room::room_for;
 use crate::stretching::cut_stretches;
 use mseed_pack::{Options, Packer};
 use mseed_record::RecordView;
@@ -42,23 +42,42 @@ pub fn repack_channel<A: Allocator + Copy, W: Sink>(
         return Err(ChannelFault::Broken);
     }
     let mut lengths = Vec::new(alloc);
-    let most = match cut_stretches(records, &mut lengths) {
-        Ok(most) => most,
-        Err(_) => return Err(ChannelFault::Memory),
-    };
-    let mut samples = match zeros(alloc, most) {
-        Ok(samples) => samples,
-        Err(_) => return Err(ChannelFault::Memory),
-    };
-    let mut steps = match blank_steps(alloc, count_steps(records)) {
-        Ok(steps) => steps,
-        Err(_) => return Err(ChannelFault::Memory),
-    };
-    repack_within(records, &lengths, options, &mut samples, &mut steps, output)
+    match cut_stretches(records, &mut lengths) {
+        Ok(most) => repack_cut(alloc, records, &lengths, most, options, output),
+        Err(_) => Err(ChannelFault::Memory),
+    }
 }
 
-/// The same of sound records, by how many each stretch has, with lists that have room for the samples of one stretch
-/// and for the leap seconds of all.
+/// The same of sound records, by how many each stretch has, and the most samples of one.
+fn repack_cut<A: Allocator + Copy, W: Sink>(
+    alloc: A,
+    records: &[RecordView],
+    lengths: &[usize],
+    most: usize,
+    options: &Options,
+    output: &mut W,
+) -> Result<(), ChannelFault>
+    requires few { length records.now ≤ 2 ^ 40 }
+    requires sound { AllByRecursion IsSound (map view_of records.now) }
+    requires lengths { AreLengths lengths.now (map view_of records.now) }
+    requires most { AreStretchesWithin most (map view_of records.now) }
+    ensures { IsChannelRepacking options.now (map view_of records.now) result
+        (W.written output.old) (W.written output.new) }
+{
+    match room_for(alloc, most, count_steps(records)) {
+        Ok(mut room) => repack_within(
+            records,
+            lengths,
+            options,
+            &mut room.samples,
+            &mut room.steps,
+            output,
+        ),
+        Err(_) => Err(ChannelFault::Memory),
+    }
+}
+
+/// The same with lists that have room for the samples of one stretch and for the leap seconds of all.
 fn repack_within<W: Sink>(
     records: &[RecordView],
     lengths: &[usize],

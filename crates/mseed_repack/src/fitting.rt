@@ -11,7 +11,7 @@ use mseed_record::RecordView;
 use mseed_time::LeapStep;
 
 /// The first stretch of a channel that can't be packed: its number, from 1, and why.
-#[derive(Clone, Copy, Debug, PartialEq, Eq)]
+#[derive(Clone, Copy)]
 pub(crate) struct Misfit {
     pub(crate) number: u64,
     pub(crate) fault: PackFault,

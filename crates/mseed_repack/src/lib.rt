@@ -14,6 +14,7 @@ mod reading;
 mod refusing;
 mod repacking;
 mod restretching;
+mod room;
 mod series;
 mod standing;
 mod stretches_fault;

@@ -38,6 +38,7 @@ pub(crate) fn pack_stretches<W: Sink>(
     let mut from = 0;
     while from < records.len() {
         let count = lengths[number];
+        number += 1;
         let stretch = &records[from..][..count];
         let row = Row {
             records: stretch,
@@ -47,7 +48,6 @@ pub(crate) fn pack_stretches<W: Sink>(
             Ok(written) => next = numbered_on(&next, written),
             Err(failed) => return Err(failed),
         }
-        number += 1;
         from += count;
     }
     Ok(())

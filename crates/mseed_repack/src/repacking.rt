@@ -1,19 +1,19 @@
 //! Packing an archive anew.
 ghost use Rattle.std.specs.Prelude.{◌≡◌, ◌≤◌, ◌<◌, ◌^◌, length, map, All, IfErr, IfOk, OnOk};
 ghost use Rattle.mseed_record.specs.Viewing.{view_of};
-ghost use Rattle.mseed_stream.specs.Device.{nothing_read};
+ghost use Rattle.mseed_stream.specs.Device.{BytesRead, nothing_read};
 ghost use Rattle.mseed_audit.specs.Channels.{added_from};
 ghost use Rattle.mseed_audit.specs.Verdict.{AreVerdicts};
-ghost use Rattle.mseed_repack.specs.private.Archives.{HasRoomForSeries};
+ghost use Rattle.mseed_repack.specs.private.Archives.{HasRoomForSeries, IsAudited};
 ghost use Rattle.mseed_repack.specs.private.Reading.{samples_written};
-ghost use Rattle.mseed_repack.specs.private.Repacking.{FailsToFit, FailsToPack, FailsToPackAnew, IsFirstBroken};
-ghost use Rattle.mseed_repack.specs.private.Repacking.{IsPackedAnew};
-ghost use Rattle.mseed_repack.specs.Repack.{AreContinuous, ArePackedInto, CanBePacked, IsRepacking, Wrote};
+ghost use Rattle.mseed_repack.specs.private.Repacking.{FailsToFit, FailsToPack, IsFirstBroken, PacksAnew};
+ghost use Rattle.mseed_repack.specs.Repack.{AreContinuous, ArePackedInto, CanBePacked, IsArchiveOf, IsRepacking, Wrote};
 ghost use Rattle.mseed_repack.specs.declared.fault.RepackFault.{RepackFault};
 
 use crate::archive::Archive;
 use crate::fault::RepackFault;
 use crate::reading::count_steps;
+use crate::room::room_for;
 use crate::series::{fit_series, pack_series};
 use crate::trail::lay_trails;
 use mseed_audit::{Audit, Memory, Verdict, Verdicts};
@@ -21,7 +21,7 @@ use mseed_pack::{Options, Packer};
 use mseed_record::{Codes, RecordView};
 use mseed_stream::{Sink, Source, read_all_in, split_in};
 use mseed_time::LeapStep;
-use std::alloc::{AllocError, Allocator};
+use std::alloc::Allocator;
 
 /// Packs the archive that the input tells anew: the series of its channels, in the order of their keys. All
 /// are judged before the first byte is written.
@@ -44,8 +44,26 @@ pub fn repack<A: Allocator + Copy, R: Source, W: Sink>(
     let views = split_in(alloc, &archive)?;
     let verdicts = judge(alloc, &views)?;
     let channels = verdicts.as_slice();
-    refuse_broken(&views, channels)?;
-    repack_continuous(alloc, &views, channels, options, output)
+    repack_judged(alloc, &views, channels, options, output)
+}
+
+/// Packs an archive anew of which this is what the audit says.
+fn repack_judged<A: Allocator + Copy, W: Sink>(
+    alloc: A,
+    views: &[RecordView],
+    channels: &[(Codes, Verdict)],
+    options: &Options,
+    output: &mut W,
+) -> Result<(), RepackFault>
+    requires few { length views.now ≤ 2 ^ 40 }
+    requires verdicts { AreVerdicts (added_from 0 (map view_of views.now)) channels.now }
+    ensures { (read : BytesRead) → IsArchiveOf read (map view_of views.now) channels.now
+        → IsRepacking options.now result read (W.written output.old) (W.written output.new) }
+{
+    if let Err(fault) = refuse_broken(views, channels) {
+        return Err(fault);
+    }
+    repack_continuous(alloc, views, channels, options, output)
 }
 
 /// The channels of an archive and what the audit says of each.
@@ -95,50 +113,57 @@ fn repack_continuous<A: Allocator + Copy, W: Sink>(
     requires few { length views.now ≤ 2 ^ 40 }
     requires verdicts { AreVerdicts (added_from 0 (map view_of views.now)) channels.now }
     requires continuous { AreContinuous (map view_of views.now) channels.now }
-    ensures ok { OnOk result (IsPackedAnew options.now (map view_of views.now) channels.now
-        (W.written output.old) (W.written output.new)) }
-    ensures err { IfErr result (FailsToPackAnew options.now (map view_of views.now) channels.now
-        (W.written output.old) (W.written output.new)) }
+    ensures { PacksAnew result options.now (map view_of views.now) channels.now
+        (W.written output.old) (W.written output.new) }
 {
-    let trails = match lay_trails(alloc, views, channels) {
-        Ok(trails) => trails,
-        Err(_) => return Err(RepackFault::Memory),
-    };
-    let archive = Archive {
-        views,
-        channels,
-        firsts: &trails.firsts,
-        nexts: &trails.nexts,
-    };
-    let mut samples = match zeros(alloc, longest(channels)) {
-        Ok(samples) => samples,
-        Err(_) => return Err(RepackFault::Memory),
-    };
-    let mut steps = match blank_steps(alloc, count_steps(views)) {
-        Ok(steps) => steps,
-        Err(_) => return Err(RepackFault::Memory),
-    };
-    match fit_all(&archive, options, &mut samples, &mut steps) {
-        Ok(()) => pack_all(&archive, options, &mut samples, &mut steps, output),
-        Err(fault) => Err(fault),
+    match lay_trails(alloc, views, channels) {
+        Ok(trails) => {
+            let archive = Archive {
+                views,
+                channels,
+                firsts: &trails.firsts,
+                nexts: &trails.nexts,
+            };
+            repack_archive(alloc, &archive, options, output)
+        }
+        Err(_) => Err(RepackFault::Memory),
     }
 }
 
-/// So many samples.
-pub(crate) fn zeros<A: Allocator + Copy>(alloc: A, count: usize) -> Result<Vec<i32, A>, AllocError>
-    ensures { IfOk result (λ samples. length samples.items ≡ count) }
+/// The same of an archive whose trails are laid.
+fn repack_archive<A: Allocator + Copy, W: Sink>(
+    alloc: A,
+    archive: &Archive,
+    options: &Options,
+    output: &mut W,
+) -> Result<(), RepackFault>
+    requires audited { IsAudited archive.now }
+    requires continuous { AreContinuous (map view_of archive.now.views.now) archive.now.channels.now }
+    ensures { PacksAnew result options.now (map view_of archive.now.views.now) archive.now.channels.now
+        (W.written output.old) (W.written output.new) }
 {
-    Ok(vec![in alloc; 0; count]?)
+    match room_for(alloc, longest(archive.channels), count_steps(archive.views)) {
+        Ok(mut room) => repack_within(archive, options, &mut room.samples, &mut room.steps, output),
+        Err(_) => Err(RepackFault::Memory),
+    }
 }
 
-/// So many leap seconds.
-pub(crate) fn blank_steps<A: Allocator + Copy>(
-    alloc: A,
-    count: usize,
-) -> Result<Vec<(u64, LeapStep), A>, AllocError>
-    ensures { IfOk result (λ steps. length steps.items ≡ count) }
+/// The same with lists that have room for the samples of a channel and for all leap seconds.
+fn repack_within<W: Sink>(
+    archive: &Archive,
+    options: &Options,
+    samples: &mut [i32],
+    steps: &mut [(u64, LeapStep)],
+    output: &mut W,
+) -> Result<(), RepackFault>
+    requires { HasRoomForSeries archive.now (length samples.old) (length steps.old) }
+    ensures { PacksAnew result options.now (map view_of archive.now.views.now) archive.now.channels.now
+        (W.written output.old) (W.written output.new) }
 {
-    Ok(vec![in alloc; (0, LeapStep::Plus); count]?)
+    match fit_all(archive, options, samples, steps) {
+        Ok(()) => pack_all(archive, options, samples, steps, output),
+        Err(fault) => Err(fault),
+    }
 }
 
 /// The most samples of a channel.

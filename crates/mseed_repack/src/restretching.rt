@@ -4,12 +4,12 @@ ghost use Rattle.mseed_record.specs.Viewing.{view_of};
 ghost use Rattle.mseed_stream.specs.Device.{nothing_read};
 ghost use Rattle.mseed_audit.specs.Channels.{added_from};
 ghost use Rattle.mseed_audit.specs.Verdict.{AreVerdicts};
-ghost use Rattle.mseed_repack.specs.private.Archives.{HasRoomForTrail, HasRoomForRecords, records_on};
+ghost use Rattle.mseed_repack.specs.private.Archives.{HasRoomForTrail, HasRoomForRecords, IsAudited, records_on};
 ghost use Rattle.mseed_repack.specs.private.Restretching.{AreCut, AreLengths, AreRoomy, AreStretchesWithin};
-ghost use Rattle.mseed_repack.specs.private.Restretching.{FailsToStretch, IsPartIfFit, IsTextIfFit};
+ghost use Rattle.mseed_repack.specs.private.Restretching.{IsPartIfFit, IsTextIfFit, PacksByStretches};
 ghost use Rattle.mseed_repack.specs.Repack.{Wrote};
 ghost use Rattle.mseed_repack.specs.ByStretches.{AreStandings, AreStretched, IsPartStretched, IsRestretching};
-ghost use Rattle.mseed_repack.specs.ByStretches.{Stands, WereStretched, kept_of};
+ghost use Rattle.mseed_repack.specs.ByStretches.{Stands, kept_of};
 ghost use Rattle.mseed_repack.specs.declared.standing.Standing.{Standing};
 
 use crate::archive::{Archive, Trail};
@@ -17,7 +17,8 @@ use crate::gathering::gather;
 use crate::numbering::pack_stretches;
 use crate::reading::count_steps;
 use crate::refusing::{Left, left_of, refusal_unless, tell_left};
-use crate::repacking::{blank_steps, judge};
+use crate::repacking::judge;
+use crate::room::blank_steps;
 use crate::standing::{Standing, stand_all};
 use crate::stretches_fault::StretchesFault;
 use crate::trail::lay_trails;
@@ -72,22 +73,37 @@ fn restretch<A: Allocator + Copy, W: Sink, E: Sink>(
 ) -> Result<Left, StretchesFault>
     requires few { length views.now ≤ 2 ^ 40 }
     requires verdicts { AreVerdicts (added_from 0 (map view_of views.now)) channels.now }
-    ensures ok { IfOk result (λ left. WereStretched options.now leave (map view_of views.now) channels.now left
-        (W.written output.old) (W.written output.new) (E.written errors.old) (E.written errors.new)) }
-    ensures err { IfErr result (FailsToStretch options.now leave (map view_of views.now) channels.now
-        (W.written output.old) (W.written output.new) (E.written errors.old) (E.written errors.new)) }
+    ensures { PacksByStretches result options.now leave (map view_of views.now) channels.now
+        (W.written output.old) (W.written output.new) (E.written errors.old) (E.written errors.new) }
 {
-    let trails = match lay_trails(alloc, views, channels) {
-        Ok(trails) => trails,
-        Err(_) => return Err(StretchesFault::Memory),
-    };
-    let archive = Archive {
-        views,
-        channels,
-        firsts: &trails.firsts,
-        nexts: &trails.nexts,
-    };
-    let mut steps = match blank_steps(alloc, count_steps(views)) {
+    match lay_trails(alloc, views, channels) {
+        Ok(trails) => {
+            let archive = Archive {
+                views,
+                channels,
+                firsts: &trails.firsts,
+                nexts: &trails.nexts,
+            };
+            restretch_archive(alloc, &archive, options, leave, output, errors)
+        }
+        Err(_) => Err(StretchesFault::Memory),
+    }
+}
+
+/// The same of an archive whose trails are laid.
+fn restretch_archive<A: Allocator + Copy, W: Sink, E: Sink>(
+    alloc: A,
+    archive: &Archive,
+    options: &Options,
+    leave: bool,
+    output: &mut W,
+    errors: &mut E,
+) -> Result<Left, StretchesFault>
+    requires { IsAudited archive.now }
+    ensures { PacksByStretches result options.now leave (map view_of archive.now.views.now) archive.now.channels.now
+        (W.written output.old) (W.written output.new) (E.written errors.old) (E.written errors.new) }
+{
+    let mut steps = match blank_steps(alloc, count_steps(archive.views)) {
         Ok(steps) => steps,
         Err(_) => return Err(StretchesFault::Memory),
     };
@@ -97,7 +113,7 @@ fn restretch<A: Allocator + Copy, W: Sink, E: Sink>(
     };
     restretch_within(
         alloc,
-        &archive,
+        archive,
         options,
         leave,
         &mut records,
@@ -119,16 +135,12 @@ fn restretch_within<'a, A: Allocator + Copy, W: Sink, E: Sink>(
     errors: &mut E,
 ) -> Result<Left, StretchesFault>
     requires { HasRoomForRecords archive.now (length records.old) (length steps.old) }
-    ensures ok { IfOk result (λ left. WereStretched options.now leave
-        (map view_of archive.now.views.now) archive.now.channels.now left
-        (W.written output.old) (W.written output.new) (E.written errors.old) (E.written errors.new)) }
-    ensures err { IfErr result (FailsToStretch options.now leave
-        (map view_of archive.now.views.now) archive.now.channels.now
-        (W.written output.old) (W.written output.new) (E.written errors.old) (E.written errors.new)) }
+    ensures { PacksByStretches result options.now leave (map view_of archive.now.views.now) archive.now.channels.now
+        (W.written output.old) (W.written output.new) (E.written errors.old) (E.written errors.new) }
 {
     let mut samples = Vec::new(alloc);
     let mut lengths = Vec::new(alloc);
-    let standings = match stand_all(
+    match stand_all(
         alloc,
         archive,
         options,
@@ -137,24 +149,53 @@ fn restretch_within<'a, A: Allocator + Copy, W: Sink, E: Sink>(
         &mut samples,
         steps,
     ) {
-        Ok(standings) => standings,
-        Err(_) => return Err(StretchesFault::Memory),
-    };
-    if let Some(fault) = refusal_unless(leave, archive.channels, &standings) {
+        Ok(standings) => restretch_standing(
+            archive,
+            &standings,
+            &lengths,
+            options,
+            leave,
+            records,
+            &mut samples,
+            steps,
+            output,
+            errors,
+        ),
+        Err(_) => Err(StretchesFault::Memory),
+    }
+}
+
+/// The same by what is found of the channels, and how many records each stretch has of those that fit.
+fn restretch_standing<'a, A: Allocator, W: Sink, E: Sink>(
+    archive: &Archive<'_, 'a>,
+    standings: &[Standing],
+    lengths: &[Vec<usize, A>],
+    options: &Options,
+    leave: bool,
+    records: &mut [RecordView<'a>],
+    samples: &mut [i32],
+    steps: &mut [(u64, LeapStep)],
+    output: &mut W,
+    errors: &mut E,
+) -> Result<Left, StretchesFault>
+    requires places { HasRoomForRecords archive.now (length records.old) (length steps.old) }
+    requires standings { AreStandings options.now (map view_of archive.now.views.now) archive.now.channels.now
+        standings.now }
+    requires cut { AreCut (map view_of archive.now.views.now) archive.now.channels.now standings.now
+        (map (λ own. own.items) lengths.now) }
+    requires samples_fit { AreRoomy (length samples.old) (map view_of archive.now.views.now)
+        archive.now.channels.now standings.now }
+    ensures { PacksByStretches result options.now leave (map view_of archive.now.views.now) archive.now.channels.now
+        (W.written output.old) (W.written output.new) (E.written errors.old) (E.written errors.new) }
+{
+    if let Some(fault) = refusal_unless(leave, archive.channels, standings) {
         return Err(fault);
     }
-    tell_left(archive.channels, &standings, errors);
+    tell_left(archive.channels, standings, errors);
     match pack_kept(
-        archive,
-        &standings,
-        &lengths,
-        options,
-        records,
-        &mut samples,
-        steps,
-        output,
+        archive, standings, lengths, options, records, samples, steps, output,
     ) {
-        Ok(()) => Ok(left_of(&standings)),
+        Ok(()) => Ok(left_of(standings)),
         Err(_) => Err(StretchesFault::Write),
     }
 }

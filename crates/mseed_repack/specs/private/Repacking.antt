@@ -1,5 +1,5 @@
 -- How the steps of packing anew end.
-use Rattle.std.specs.Prelude.{◌≡◌, List, All}
+use Rattle.std.specs.Prelude.{◌≡◌, List, All, Result, OnOk, IfErr}
 use Rattle.mseed_record.specs.View.{View}
 use Rattle.mseed_stream.specs.Device.{BytesWritten}
 use Rattle.mseed_audit.specs.Follows.{IsContinuous}
@@ -49,3 +49,9 @@ FailsToPackAnew o views channels old new (Misfit key fault) =
 FailsToPackAnew o views channels old new Write =
     All (λ c. CanBePacked o views c.0) channels × Wrote (IsPartPacked o views channels) 1 old new
 FailsToPackAnew o views channels old new Memory = new ≡ old
+
+-- how packing an archive anew ends, each of whose channels is continuous
+pub record PacksAnew {U : Type 0} (r : Result U RepackFault) (o : Options) (views : List View) (channels : List Channel)
+    (old new : BytesWritten) : Type 0 where
+  pub ok : OnOk r (IsPackedAnew o views channels old new)
+  pub err : IfErr r (FailsToPackAnew o views channels old new)

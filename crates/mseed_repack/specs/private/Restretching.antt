@@ -1,5 +1,6 @@
 -- What the steps of packing a channel by its stretches know.
 use Rattle.std.specs.Prelude.{Bool, false, ⊤, ◌≡◌, ℕ, ◌≤◌, ◌^◌, ℤ, List, [], ◌∷◌, length, take, drop}
+use Rattle.std.specs.Prelude.{Result, IfOk, IfErr}
 use Rattle.std.specs.List.{concat, AllByRecursion}
 use Rattle.mseed_time.specs.declared.outcome.LeapStep.{LeapStep}
 use Rattle.mseed_record.specs.View.{View}
@@ -15,7 +16,8 @@ use Rattle.mseed_repack.specs.private.Reading.{AreOf, samples_of, steps_of}
 use Rattle.mseed_repack.specs.Repack.{Channel, IsFirst, records_in}
 use Rattle.mseed_repack.specs.Restretch.{ChannelFits, ChannelMisfits, IsChannelPart, IsChannelText}
 use Rattle.mseed_repack.specs.Restretch.{IsStretchPacked}
-use Rattle.mseed_repack.specs.ByStretches.{AreSound, WereStretchedInPart}
+use Rattle.mseed_repack.specs.ByStretches.{AreSound, WereStretched, WereStretchedInPart}
+use Rattle.mseed_repack.specs.declared.refusing.Left.{Left}
 use Rattle.mseed_repack.specs.declared.standing.Standing.{Standing}
 use Rattle.mseed_repack.specs.declared.standing.Standing.TheVariants.{Fit, Broken as IsBroken, Misfit as IsMisfit}
 use Rattle.mseed_repack.specs.declared.stretches_fault.StretchesFault.{StretchesFault}
@@ -125,6 +127,12 @@ FailsToStretch o leave views channels old new reported_old reported_new Write =
     WereStretchedInPart o leave views channels old new reported_old reported_new
 FailsToStretch o leave views channels old new reported_old reported_new Memory =
     (new ≡ old) × (reported_new ≡ reported_old)
+
+-- how packing an archive by stretches ends
+pub record PacksByStretches (r : Result Left StretchesFault) (o : Options) (leave : Bool) (views : List View)
+    (channels : List Channel) (old new reported_old reported_new : BytesWritten) : Type 0 where
+  pub ok : IfOk r (λ left. WereStretched o leave views channels left old new reported_old reported_new)
+  pub err : IfErr r (FailsToStretch o leave views channels old new reported_old reported_new)
 
 -- a channel isn't broken
 abbrev pub IsUnbroken : Standing → Type 0

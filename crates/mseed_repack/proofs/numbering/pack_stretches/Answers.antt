@@ -29,6 +29,13 @@ offset_bounds-lengths-number g c =
     c.loop-from-test.true c.loop-from.invariant.1).inside in
     search rules
 
+pub overflow_add-number : goal.overflow_add-number
+overflow_add-number g c =
+    let inside : c.loop-from.number < length c.args.lengths.now =
+    (next_length c.args.lengths.now c.args.records.now c.loop-from.number c.loop-from.from
+    c.loop-from-test.true c.loop-from.invariant.1).inside in
+    search rules
+
 pub overflow_add-from : goal.overflow_add-from
 overflow_add-from g c =
     let rs = c.args.records.now in

@@ -8,8 +8,7 @@ returns g c =
     c.in_ok-archive.ensures.end (rw c.deref.ensures.value at c.in_ok-views.ensures.archive)
     c.in_ok-views.ensures.views c.in_ok-views.ensures.few
     (rw (c.deref-2.ensures.value, ← c.as_slice-channels.ensures) at c.in-Ok.ensures.ok) in
-    let ok = rw c.deref-3.ensures.value at c.restretch.ensures.ok in
-    let err = rw c.deref-3.ensures.value at c.restretch.ensures.err in
+    let ends = rw c.deref-3.ensures.value at c.restretch.ensures in
     restretched_is c.restretch.result c.args.options.now c.args.leave _ (g.W.Sink.written c.args.output.now)
     (g.W.Sink.written c.restretch.new.output) (g.E.Sink.written c.args.errors.now)
-    (g.E.Sink.written c.restretch.new.errors) _ _ archive ok err
+    (g.E.Sink.written c.restretch.new.errors) _ _ archive ends

@@ -7,7 +7,8 @@ use Rattle.mseed_repack.specs.private.Archives.{records_on}
 use Rattle.mseed_repack.specs.private.Reading.{steps_of}
 use Rattle.mseed_repack.specs.declared.standing.Standing.{Standing}
 use Rattle.mseed_repack.proofs.Archives.{few_on, of_channel}
-use Rattle.mseed_repack.proofs.Standings.{AreJudgedSo, judged_more, judged_none, sound_by, steps_gathered}
+use Rattle.mseed_repack.proofs.Standings.{AreJudgedSo, judged_all, judged_more, judged_none}
+use Rattle.mseed_repack.proofs.Standings.{sound_by, steps_gathered}
 use Rattle.mseed_repack.proofs.standing.stand_all.Goals as goal
 
 pub loop-number-init : goal.loop-number-init
@@ -70,3 +71,21 @@ loop-number-preserved g c =
     c.loop-number.number c.trail.result c.channel-item.result c.loop-number-test.true c.channel-item.is
     c.trail.ensures) c.in_ok-standing.ensures.grown c.in_ok-standing.ensures.standing c.in_ok-standing.ensures.room
     c.in_ok-standing.ensures.lengths c.loop-number.invariant))
+
+pub returns-clause-standings : goal.returns-clause-standings
+returns-clause-standings g c =
+    (judged_all c.args.options.now (map view_of c.args.archive.now.views.now) c.args.archive.now.channels.now
+    c.loop-number.number c.loop-number.standings.items (length c.loop-number.samples.items)
+    (map (λ own. own.items) c.loop-number.lengths.items) c.loop-number-test.false c.loop-number.invariant).0
+
+pub returns-clause-roomy : goal.returns-clause-roomy
+returns-clause-roomy g c =
+    (judged_all c.args.options.now (map view_of c.args.archive.now.views.now) c.args.archive.now.channels.now
+    c.loop-number.number c.loop-number.standings.items (length c.loop-number.samples.items)
+    (map (λ own. own.items) c.loop-number.lengths.items) c.loop-number-test.false c.loop-number.invariant).1.0
+
+pub returns-clause-cut : goal.returns-clause-cut
+returns-clause-cut g c =
+    (judged_all c.args.options.now (map view_of c.args.archive.now.views.now) c.args.archive.now.channels.now
+    c.loop-number.number c.loop-number.standings.items (length c.loop-number.samples.items)
+    (map (λ own. own.items) c.loop-number.lengths.items) c.loop-number-test.false c.loop-number.invariant).1.1
