@@ -1,4 +1,4 @@
-pub mod MoreHeads
+pub mod Further
 pub mod MoreRows
 pub mod Texts
 pub mod Walking

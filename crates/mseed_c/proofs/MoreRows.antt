@@ -1,16 +1,15 @@
--- One row more with its samples.
-use Rattle.std.proofs.Common.{◌≡◌, ◌≢◌, ◌≤◌, ◌<◌, ◌+◌, ◌∙◌, ◌==◌, ◌⊎◌, inl, inr, if◌then◌else◌, ℕ, ℤ, List, length}
-use Rattle.std.proofs.Common.{take, drop, slice_set, sym, ap, subst, arith}
+-- One row more with its samples, or without them.
+use Rattle.std.proofs.Common.{◌≡◌, ◌≢◌, ◌≤◌, ◌<◌, ◌+◌, ◌∙◌, ◌==◌, ◌⊎◌, inl, inr, if◌then◌else◌, ℕ, ℤ, List}
+use Rattle.std.proofs.Common.{take, drop, sym, ap, subst, arith}
 use Rattle.std.proofs.lemmas.Bool.{cases_eq, ne_eqb, eq-eqb}
-use Rattle.std.proofs.lemmas.List.{take-take, drop-take, length-drop}
+use Rattle.std.proofs.lemmas.List.{take-take, drop-take}
 use Rattle.mseed_record.specs.View.{View}
 use Rattle.mseed_steim.specs.Reading.{count_of, IsWhole}
 use Rattle.mseed_c.specs.Decoded.{IsFirst}
 use Rattle.mseed_c.specs.private.Filled.{AreSamples}
-use Rattle.mseed_c.specs.Rows.{Describes, HasSamples, IsRow, IsRead, filled_by}
+use Rattle.mseed_c.specs.private.Going.{TakesOn}
+use Rattle.mseed_c.specs.Rows.{Describes, HasSamples, IsHead, IsRow, filled_by}
 use Rattle.mseed_c.specs.declared.row.Row.{Row}
-use Rattle.mseed_c.specs.declared.reading.Progress.{Progress}
-use Rattle.mseed_c.proofs.Walking.{record_fits, walk_more}
 
 same_leading : (k filled : ℕ) (old new : List ℤ) → k ≤ filled → take filled new ≡ take filled old
     → take k old ≡ take k new
@@ -50,52 +49,47 @@ own_samples row v n filled new first samples whole =
           (whole.1 (let l : 0 < n = omega arith in l))));
     }
 
-own_row : (bytes : List ℕ) (row : Row) (v : View) (n filled code offset : ℕ) (new : List ℤ)
-    → IsFirst (drop offset bytes) v → Describes row v → row.offset ≡ offset → row.first ≡ filled → row.code ≡ code
+own_row : (bytes : List ℕ) (row : Row) (v : View) (n filled code : ℕ) (new : List ℤ)
+    → IsFirst (drop row.offset bytes) v → Describes row v → row.first ≡ filled → row.code ≡ code
     → AreSamples v (drop filled new) n code → IsRow bytes (filled + n) new row
-own_row bytes row v n filled code offset new at describes o first c s =
-    let P : ℕ → Type 0 = λ k. IsFirst (drop k bytes) v in
-    record {
-      view = v;
-      at = subst P (sym o) at;
-      describes = describes;
-      samples = λ zero. own_samples row v n filled new first describes.samples_are (s.whole (sym c ∙ zero));
-      fault = λ some. let f = (s.fault (λ zero. some (c ∙ zero))).1 in (f.0, (f.1.0, c ∙ f.1.1));
-    }
+own_row bytes row v n filled code new at describes first c s = record {
+  view = v;
+  at = at;
+  describes = describes;
+  samples = λ zero. own_samples row v n filled new first describes.samples_are (s.whole (sym c ∙ zero));
+  fault = λ some. let f = (s.fault (λ zero. some (c ∙ zero))).1 in (f.0, (f.1.0, c ∙ f.1.1));
+}
 
 filled_with : (code samples n : ℕ) → (code ≡ 0) ⊎ (code ≡ 0 → ⊥) → (code ≡ 0 → n ≡ samples) → (code ≢ 0 → n ≡ 0)
-    → (if code == 0 then samples else 0) ≡ n
-filled_with code samples n (inl e) all none = rw (eq-eqb code 0 e) (sym (all e))
-filled_with code samples n (inr d) all none = rw (ne_eqb code 0 d) (sym (none d))
+    → n ≡ (if code == 0 then samples else 0)
+filled_with code samples n (inl e) all none = rw (eq-eqb code 0 e) (all e)
+filled_with code samples n (inr d) all none = rw (ne_eqb code 0 d) (none d)
 
 -- a row says how many samples were filled in for it
-filled_is : (row : Row) (v : View) (out : List ℤ) (n code : ℕ) → row.code ≡ code → row.samples ≡ count_of v
-    → AreSamples v out n code → filled_by row ≡ n
-filled_is row v out n code c samples s =
+filled_is : (row : Row) (v : View) (out : List ℤ) (n code : ℕ) → row.samples ≡ count_of v → row.code ≡ code
+    → AreSamples v out n code → n ≡ filled_by row
+filled_is row v out n code samples c s =
     filled_with row.code row.samples n (cases_eq row.code 0) (λ e. (s.whole (sym c ∙ e)).0 ∙ sym samples)
     (λ d. (s.fault (λ e. d (c ∙ e))).0)
 
-pub read_more : (bytes : List ℕ) (offset : ℕ) (first rows : List Row) (old new : List ℤ) (p : Progress) (v : View)
-    (row : Row) (n code : ℕ) → IsRead bytes offset first rows old p → p.rows < length rows
-    → p.offset ≤ length bytes → p.filled ≤ length old
-    → length new ≡ length old → take p.filled new ≡ take p.filled old → IsFirst (drop p.offset bytes) v
-    → Describes row v → row.offset ≡ p.offset → row.first ≡ p.filled → row.code ≡ code
-    → AreSamples v (drop p.filled new) n code
-    → IsRead bytes offset first (slice_set rows p.rows row) new
-    (record { rows = p.rows + 1; offset = p.offset + length v.bytes; filled = p.filled + n; needed = p.needed })
-read_more bytes offset first rows old new p v row n code r more inside room size leading at describes o f c s =
-    let left = length-drop p.filled new in
-    let fits : n ≤ length (drop p.filled new) = s.fits in
-    record {
-      walk = walk_more (λ filled. IsRow bytes filled old) (λ filled. IsRow bytes filled new) bytes offset first rows p
-          row (length v.bytes) n r.walk more (kept_row bytes p.filled n old new leading)
-          (own_row bytes row v n p.filled code p.offset new at describes o f c s)
-          (record {
-            offset_is = o;
-            first_is = f;
-            size_is = describes.length_is;
-            filled_is = filled_is row v (drop p.filled new) n code c describes.samples_are s;
-            fits = record_fits bytes v p.offset inside at;
-          });
-      room = omega arith;
-    }
+-- samples that are kept
+pub kept_on : (v : View) (filled n code : ℕ) (old new : List ℤ) → take filled new ≡ take filled old
+    → AreSamples v (drop filled new) n code → TakesOn IsRow v filled (filled + n) code old new
+kept_on v filled n code old new leading s = record {
+  keeps = λ bytes row r. kept_row bytes filled n old new leading row r;
+  own = λ bytes row at describes first c. own_row bytes row v n filled code new at describes first c s;
+  counted = λ row samples c. ap (λ (k : ℕ). filled + k) (filled_is row v (drop filled new) n code samples c s);
+}
+
+all_counted : (code samples n : ℕ) → code ≡ 0 → samples ≡ n → n ≡ (if code == 0 then samples else 0)
+all_counted code samples n e same = rw (eq-eqb code 0 e) (sym same)
+
+-- samples that are counted alone
+pub counted_on : (v : View) (filled more : ℕ) (old new : List ℤ) → more ≡ filled + count_of v
+    → TakesOn (λ bytes n out row. IsHead bytes n row) v filled more 0 old new
+counted_on v filled more old new e = record {
+  keeps = λ bytes row h. record { view = h.view; at = h.at; describes = h.describes; fine = h.fine };
+  own = λ bytes row at describes first c. record { view = v; at = at; describes = describes; fine = c };
+  counted = λ row samples c.
+      e ∙ ap (λ (k : ℕ). filled + k) (all_counted row.code row.samples (count_of v) c samples);
+}

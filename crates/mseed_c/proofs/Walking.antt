@@ -9,7 +9,7 @@ use Rattle.mseed_c.specs.Rows.{ArePlaced, EndsWalk, IsWalk, filled_by}
 use Rattle.mseed_c.specs.declared.codes.Stop.{Stop}
 use Rattle.mseed_c.specs.declared.codes.Stop.TheVariants.{Rows, Room, Short, Not}
 use Rattle.mseed_c.specs.declared.row.Row.{Row}
-use Rattle.mseed_c.specs.declared.reading.Progress.{Progress}
+use Rattle.mseed_c.specs.declared.going.Progress.{Progress}
 
 placed_more : (offset place : ℕ) (rows : List Row) (row : Row) (next filled : ℕ)
     → ArePlaced offset place rows next filled → row.offset ≡ next → row.first ≡ filled
@@ -34,33 +34,33 @@ behind_more rows old row n e =
     drop-set-lt (n + 1) rows n row (omega arith) ∙ sym (drop-drop 1 n rows)
     ∙ ap (λ (xs : List Row). drop 1 xs) e ∙ drop-drop 1 n old
 
--- how the next row stands to a walk
-pub record IsNextRow (bytes : List ℕ) (p : Progress) (row : Row) (size n : ℕ) : Type 0 where
+-- how the next row stands to a walk, behind which so many samples are counted
+pub record IsNextRow (bytes : List ℕ) (p : Progress) (row : Row) (size more : ℕ) : Type 0 where
   pub offset_is : row.offset ≡ p.offset
   pub first_is : row.first ≡ p.filled
   pub size_is : row.length ≡ size
-  pub filled_is : filled_by row ≡ n
+  pub counted : more ≡ p.filled + filled_by row
   pub fits : p.offset + size ≤ length bytes
 
 pub walk_more : (Is Is' : ℕ → Row → Type 0) (bytes : List ℕ) (offset : ℕ) (old rows : List Row) (p : Progress)
-    (row : Row) (size n : ℕ) → IsWalk Is bytes offset old rows p → p.rows < length rows
-    → ((r : Row) → Is p.filled r → Is' (p.filled + n) r) → Is' (p.filled + n) row → IsNextRow bytes p row size n
+    (row : Row) (size more : ℕ) → IsWalk Is bytes offset old rows p → p.rows < length rows
+    → ((r : Row) → Is p.filled r → Is' more r) → Is' more row → IsNextRow bytes p row size more
     → IsWalk Is' bytes offset old (slice_set rows p.rows row)
-    (record { rows = p.rows + 1; offset = p.offset + size; filled = p.filled + n; needed = p.needed })
-walk_more Is Is' bytes offset old rows p row size n w more kept last next =
-    let P : List Row → Type 0 = λ xs. All (Is' (p.filled + n)) xs in
-    let before : P (take p.rows rows) = All-weaker (Is p.filled) (Is' (p.filled + n)) kept (take p.rows rows) w.each in
+    (record { rows = p.rows + 1; offset = p.offset + size; filled = more; needed = p.needed })
+walk_more Is Is' bytes offset old rows p row size more w free kept last next =
+    let P : List Row → Type 0 = λ xs. All (Is' more) xs in
+    let before : P (take p.rows rows) = All-weaker (Is p.filled) (Is' more) kept (take p.rows rows) w.each in
     let start : ℕ = min offset (length bytes) in
-    let Q : List Row → Type 0 = λ xs. ArePlaced start 0 xs (p.offset + size) (p.filled + n) in
-    let R : ℕ → Type 0 = λ k. ArePlaced start 0 (take p.rows rows ++ row ∷ []) (p.offset + k) (p.filled + n) in
-    let S : ℕ → Type 0 = λ k. ArePlaced start 0 (take p.rows rows ++ row ∷ []) (p.offset + row.length) (p.filled + k) in
+    let Q : List Row → Type 0 = λ xs. ArePlaced start 0 xs (p.offset + size) more in
+    let R : ℕ → Type 0 = λ k. ArePlaced start 0 (take p.rows rows ++ row ∷ []) (p.offset + k) more in
+    let S : ℕ → Type 0 = λ k. ArePlaced start 0 (take p.rows rows ++ row ∷ []) (p.offset + row.length) k in
     let leading : take (p.rows + 1) (slice_set rows p.rows row) ≡ take p.rows rows ++ row ∷ [] =
-    take_more_set rows p.rows row more in
+    take_more_set rows p.rows row free in
     record {
       counted = let same = length-set rows p.rows row in omega arith;
       inside = next.fits;
-      each = subst P (sym leading) (All-push (Is' (p.filled + n)) (take p.rows rows) row before last);
-      placed = subst Q (sym leading) (subst R next.size_is (subst S next.filled_is
+      each = subst P (sym leading) (All-push (Is' more) (take p.rows rows) row before last);
+      placed = subst Q (sym leading) (subst R next.size_is (subst S (sym next.counted)
           (placed_more start 0 (take p.rows rows) row p.offset p.filled w.placed next.offset_is next.first_is)));
       behind = behind_more rows old row p.rows w.behind;
     }

@@ -17,7 +17,7 @@ use Rattle.mseed_c.specs.declared.codes.Stop.{Stop}
 use Rattle.mseed_c.specs.declared.codes.Stop.TheVariants.{Rows, Room, Short, Not}
 use Rattle.mseed_c.specs.declared.row.Row.{Row}
 use Rattle.mseed_c.specs.declared.row.RowRate.{RowRate}
-use Rattle.mseed_c.specs.declared.reading.Progress.{Progress}
+use Rattle.mseed_c.specs.declared.going.Progress.{Progress}
 
 -- the record's rate, 0 by 0 where it has none
 abbrev pub ratio_in : View → Ratio

@@ -1,3 +1,4 @@
 -- Words of private functions and of proofs alone, which change as the code does: no public contract is stated by them.
 pub mod Filled
+pub mod Going
 pub mod Parts

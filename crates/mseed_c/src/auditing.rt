@@ -13,7 +13,7 @@ use std::alloc::Global;
 
 /// What an audit tells in numbers.
 #[repr(C)]
-#[derive(Clone, Copy, Debug, PartialEq, Eq)]
+#[derive(Clone, Copy)]
 pub struct Totals {
     /// The records, silent ones too.
     pub records: u64,

@@ -12,7 +12,7 @@ use mseed_steim::ReadFault;
 pub(crate) const MEMORY: u32 = 3;
 
 /// Why no record more is read.
-#[derive(Clone, Copy, Debug, PartialEq, Eq)]
+#[derive(Clone, Copy)]
 pub enum Stop {
     /// There's no place left for a row.
     Rows,
@@ -25,7 +25,7 @@ pub enum Stop {
 }
 
 /// Why a record at the beginning of some bytes gives no samples.
-#[derive(Clone, Copy, Debug, PartialEq, Eq)]
+#[derive(Clone, Copy)]
 pub enum SampleFault {
     /// It has no reading.
     Read(ReadFault),
@@ -34,7 +34,7 @@ pub enum SampleFault {
 }
 
 /// Why a heading is refused: the first reason that applies, in this order.
-#[derive(Clone, Copy, Debug, PartialEq, Eq)]
+#[derive(Clone, Copy)]
 pub enum Refusal {
     /// A length, an encoding or a sequence number that can't be.
     Option(BadOption),
@@ -48,7 +48,7 @@ pub enum Refusal {
 
 /// The numbers that belong to a code.
 #[repr(C)]
-#[derive(Clone, Copy, Debug, PartialEq, Eq)]
+#[derive(Clone, Copy)]
 pub struct Detail {
     /// How many samples were filled in, how many bytes or places are needed, or the first number of a reason.
     pub first: u64,

@@ -10,7 +10,7 @@ use mseed_time::{LeapStep, Micros, Rate};
 
 /// What a series has besides its samples, and how it is packed.
 #[repr(C)]
-#[derive(Clone, Copy, Debug, PartialEq, Eq)]
+#[derive(Clone, Copy)]
 pub struct Heading {
     /// The instant of the first sample, in microseconds since 1970.
     pub start: i64,

@@ -1,63 +1,25 @@
 //! The records of an archive that lies in memory, without their samples.
-ghost use Rattle.std.specs.Prelude.{◌≡◌, ◌≤◌, ◌<◌, ◌+◌, ◌^◌, ◌-◌, List, ℕ, length, IfErr, IfSome, IfNone, OnOk, OnErr};
-ghost use Rattle.mseed_c.specs.Rows.{EndsWalk, IsEnd, IsHeads};
-ghost use Rattle.mseed_c.specs.declared.row.Row.{Row};
+ghost use Rattle.std.specs.Prelude.{◌^◌, ◌-◌, length};
+ghost use Rattle.mseed_c.specs.Rows.{IsEnd, IsHead, IsHeads};
 
-use crate::codes::{Stop, code_of_stop, needed_by};
-use crate::decoding::view_at;
-use crate::reading::Progress;
-use crate::row::{Row, row_of};
+use crate::going::{Places, Progress, go_through};
+use crate::row::Row;
+use mseed_record::RecordView;
 
-/// Writes the row of one record more.
-fn head_next(bytes: &[u8], rows: &mut [Row], progress: &mut Progress) -> Result<(), Stop>
-    requires inside { progress.old.offset ≤ length bytes.now }
-    requires more { progress.old.rows < length rows.old }
-    ensures heads { (offset : ℕ) (first : List Row) → IsHeads bytes.now offset first rows.old progress.old
-        → IsHeads bytes.now offset first rows.new progress.new }
-    ensures inside { progress.new.offset ≤ length bytes.now }
-    ensures count { OnOk result (progress.new.rows ≡ progress.old.rows + 1) }
-    ensures stays { OnErr result (progress.new ≡ progress.old) }
-    ensures stopped { IfErr result (λ stop. EndsWalk stop bytes.now (length rows.new) (2 ^ 64 - 1) progress.new) }
-    ensures needed { progress.new.needed ≡ progress.old.needed }
-{
-    let view = match view_at(&bytes[progress.offset..]) {
-        Ok(view) => view,
-        Err(stop) => return Err(stop),
-    };
-    let samples = usize::from(view.samples());
-    let Some(filled) = progress.filled.checked_add(samples) else {
-        return Err(Stop::Room(samples));
-    };
-    rows[progress.rows] = row_of(&view, progress.offset, progress.filled, 0);
-    progress.rows += 1;
-    progress.offset += view.bytes().len();
-    progress.filled = filled;
-    Ok(())
-}
+/// Samples that are counted alone.
+struct Counted;
 
-/// Writes rows as long as there are records and places for them, and answers why there are no more.
-fn heads_on(bytes: &[u8], rows: &mut [Row], progress: &mut Progress) -> Option<Stop>
-    requires no_row { progress.old.rows ≡ 0 }
-    requires inside { progress.old.offset ≤ length bytes.now }
-    ensures heads { (offset : ℕ) (first : List Row) → IsHeads bytes.now offset first rows.old progress.old
-        → IsHeads bytes.now offset first rows.new progress.new }
-    ensures at_end { IfNone result (progress.new.offset ≡ length bytes.now) }
-    ensures before { IfSome result (λ stop. progress.new.offset < length bytes.now) }
-    ensures stopped { IfSome result (λ stop. EndsWalk stop bytes.now (length rows.new) (2 ^ 64 - 1) progress.new) }
-    ensures needed { progress.new.needed ≡ progress.old.needed }
-{
-    for turn in 0..rows.len() {
-        if progress.offset >= bytes.len() {
-            return None;
+impl Places for Counted {
+    ghost is_row = { λ bytes filled out row. IsHead bytes filled row };
+
+    ghost room = { λ places. 2 ^ 64 - 1 };
+
+    fn take(view: &RecordView<'_>, out: &mut [i32], filled: usize) -> Result<(usize, u32), usize> {
+        let samples = usize::from(view.samples());
+        match filled.checked_add(samples) {
+            Some(counted) => Ok((counted, 0)),
+            None => Err(samples),
         }
-        if let Err(stop) = head_next(bytes, rows, progress) {
-            return Some(stop);
-        }
-    }
-    if progress.offset < bytes.len() {
-        Some(Stop::Rows)
-    } else {
-        None
     }
 }
 
@@ -73,17 +35,5 @@ pub extern "C" fn mseed_rows(
     ensures heads { IsHeads bytes.now offset rows.old rows.new progress.new }
     ensures end { IsEnd bytes.now (length rows.new) (2 ^ 64 - 1) progress.new result }
 {
-    *progress = Progress {
-        rows: 0,
-        offset: offset.min(bytes.len()),
-        filled: 0,
-        needed: 0,
-    };
-    match heads_on(bytes, rows, progress) {
-        Some(stop) => {
-            progress.needed = needed_by(stop);
-            code_of_stop(stop)
-        }
-        None => 0,
-    }
+    go_through::<Counted>(bytes, offset, rows, &mut [], progress)
 }

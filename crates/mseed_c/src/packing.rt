@@ -14,7 +14,7 @@ use mseed_time::LeapStep;
 
 /// What packing tells.
 #[repr(C)]
-#[derive(Clone, Copy, Debug, PartialEq, Eq)]
+#[derive(Clone, Copy)]
 pub struct Packed {
     /// The number of records.
     pub records: u64,

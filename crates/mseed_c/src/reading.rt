@@ -1,28 +1,29 @@
 //! The records of an archive that lies in memory, with their samples, in one call.
-ghost use Rattle.std.specs.Prelude.{◌≡◌, ◌≤◌, ◌<◌, ◌+◌, List, ℕ, length, take, drop, IfOk, IfErr, IfSome, IfNone};
-ghost use Rattle.std.specs.Prelude.{OnOk, OnErr};
+ghost use Rattle.std.specs.Prelude.{◌≡◌, ◌≤◌, length, take, drop, IfOk, IfErr, OnErr};
 ghost use Rattle.mseed_record.specs.Viewing.{view_of};
-ghost use Rattle.mseed_c.specs.Rows.{EndsWalk, IsEnd, IsRead};
+ghost use Rattle.mseed_c.specs.Rows.{IsEnd, IsRead, IsRow};
 ghost use Rattle.mseed_c.specs.private.Filled.{AreSamples, LacksRoom};
-ghost use Rattle.mseed_c.specs.declared.row.Row.{Row};
 
-use crate::codes::{SampleFault, Stop, code_of_read, code_of_stop, needed_by};
-use crate::decoding::{fill, view_at};
-use crate::row::{Row, row_of};
+use crate::codes::{SampleFault, Stop, code_of_read};
+use crate::decoding::fill;
+use crate::going::{Places, Progress, go_through};
+use crate::row::Row;
 use mseed_record::RecordView;
 
-/// How far an archive was read.
-#[repr(C)]
-#[derive(Clone, Copy, Debug, PartialEq, Eq)]
-pub struct Progress {
-    /// The rows that were written.
-    pub rows: usize,
-    /// Where the next record begins.
-    pub offset: usize,
-    /// The samples that were read.
-    pub filled: usize,
-    /// How many bytes or places more is read with, or the number of the reason why no more is.
-    pub needed: usize,
+/// Samples that are kept in the places.
+struct Kept;
+
+impl Places for Kept {
+    ghost is_row = { IsRow };
+
+    ghost room = { λ places. places };
+
+    fn take(view: &RecordView<'_>, out: &mut [i32], filled: usize) -> Result<(usize, u32), usize> {
+        match fill_row(view, out, filled) {
+            Ok((samples, code)) => Ok((filled + samples, code)),
+            Err(places) => Err(places),
+        }
+    }
 }
 
 /// Fills in a record's samples from a place on, and answers how many, and 0 or the code of why there are none; or how
@@ -42,69 +43,6 @@ fn fill_row(view: &RecordView<'_>, out: &mut [i32], place: usize) -> Result<(usi
     }
 }
 
-/// Reads one record more.
-fn read_next(
-    bytes: &[u8],
-    rows: &mut [Row],
-    out: &mut [i32],
-    progress: &mut Progress,
-) -> Result<(), Stop>
-    requires inside { progress.old.offset ≤ length bytes.now }
-    requires more { progress.old.rows < length rows.old }
-    requires room { progress.old.filled ≤ length out.old }
-    ensures read { (offset : ℕ) (first : List Row) → IsRead bytes.now offset first rows.old out.old progress.old
-        → IsRead bytes.now offset first rows.new out.new progress.new }
-    ensures inside { progress.new.offset ≤ length bytes.now }
-    ensures room { progress.new.filled ≤ length out.new }
-    ensures count { OnOk result (progress.new.rows ≡ progress.old.rows + 1) }
-    ensures stays { OnErr result (progress.new ≡ progress.old) }
-    ensures stopped { IfErr result (λ stop.
-        EndsWalk stop bytes.now (length rows.new) (length out.new) progress.new) }
-    ensures needed { progress.new.needed ≡ progress.old.needed }
-{
-    let view = match view_at(&bytes[progress.offset..]) {
-        Ok(view) => view,
-        Err(stop) => return Err(stop),
-    };
-    let (samples, code) = match fill_row(&view, out, progress.filled) {
-        Ok(found) => found,
-        Err(places) => return Err(Stop::Room(places)),
-    };
-    rows[progress.rows] = row_of(&view, progress.offset, progress.filled, code);
-    progress.rows += 1;
-    progress.offset += view.bytes().len();
-    progress.filled += samples;
-    Ok(())
-}
-
-/// Reads records as long as there are some and places for them, and answers why no more are read.
-fn read_on(bytes: &[u8], rows: &mut [Row], out: &mut [i32], progress: &mut Progress) -> Option<Stop>
-    requires no_row { progress.old.rows ≡ 0 }
-    requires inside { progress.old.offset ≤ length bytes.now }
-    requires room { progress.old.filled ≤ length out.old }
-    ensures read { (offset : ℕ) (first : List Row) → IsRead bytes.now offset first rows.old out.old progress.old
-        → IsRead bytes.now offset first rows.new out.new progress.new }
-    ensures at_end { IfNone result (progress.new.offset ≡ length bytes.now) }
-    ensures before { IfSome result (λ stop. progress.new.offset < length bytes.now) }
-    ensures stopped { IfSome result (λ stop.
-        EndsWalk stop bytes.now (length rows.new) (length out.new) progress.new) }
-    ensures needed { progress.new.needed ≡ progress.old.needed }
-{
-    for turn in 0..rows.len() {
-        if progress.offset >= bytes.len() {
-            return None;
-        }
-        if let Err(stop) = read_next(bytes, rows, out, progress) {
-            return Some(stop);
-        }
-    }
-    if progress.offset < bytes.len() {
-        Some(Stop::Rows)
-    } else {
-        None
-    }
-}
-
 /// The records of an archive from an offset on: a row each, and their samples one behind another. How far it was read
 /// is reported. The answer is 0 at the end of the bytes, and else the code of why it stopped.
 #[unsafe(no_mangle)]
@@ -118,17 +56,5 @@ pub extern "C" fn mseed_read(
     ensures read { IsRead bytes.now offset rows.old rows.new out.new progress.new }
     ensures end { IsEnd bytes.now (length rows.new) (length out.new) progress.new result }
 {
-    *progress = Progress {
-        rows: 0,
-        offset: offset.min(bytes.len()),
-        filled: 0,
-        needed: 0,
-    };
-    match read_on(bytes, rows, out, progress) {
-        Some(stop) => {
-            progress.needed = needed_by(stop);
-            code_of_stop(stop)
-        }
-        None => 0,
-    }
+    go_through::<Kept>(bytes, offset, rows, out, progress)
 }

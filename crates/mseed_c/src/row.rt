@@ -11,7 +11,7 @@ use mseed_time::TimeFault;
 
 /// One record of an archive.
 #[repr(C)]
-#[derive(Clone, Copy, Debug, PartialEq, Eq)]
+#[derive(Clone, Copy)]
 pub struct Row {
     /// Where it begins, in bytes.
     pub offset: usize,

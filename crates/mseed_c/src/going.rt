@@ -1,0 +1,136 @@
+//! Going through the records of an archive that lies in memory: a row for each.
+ghost use Rattle.std.specs.Prelude.{◌≡◌, ◌≤◌, ◌<◌, ◌+◌, ◌^◌, List, ℕ, ℤ, length, drop, IfErr, IfOk, IfSome, IfNone};
+ghost use Rattle.std.specs.Prelude.{OnOk, OnErr};
+ghost use Rattle.mseed_record.specs.Viewing.{view_of};
+ghost use Rattle.mseed_c.specs.Decoded.{IsFirst};
+ghost use Rattle.mseed_c.specs.Rows.{EndsWalk, IsEnd, IsWalk};
+ghost use Rattle.mseed_c.specs.private.Going.{GoesOn, HasNoRoom, TakesOn};
+ghost use Rattle.mseed_c.specs.declared.row.Row.{Row};
+
+use crate::codes::{Stop, code_of_stop, needed_by};
+use crate::decoding::view_at;
+use crate::row::{Row, row_of};
+use mseed_record::RecordView;
+
+/// How far an archive was read.
+#[repr(C)]
+#[derive(Clone, Copy)]
+pub struct Progress {
+    /// The rows that were written.
+    pub rows: usize,
+    /// Where the next record begins.
+    pub offset: usize,
+    /// The samples that were read.
+    pub filled: usize,
+    /// How many bytes or places more is read with, or the number of the reason why no more is.
+    pub needed: usize,
+}
+
+/// What becomes of the samples of the records that are gone through.
+pub(crate) trait Places {
+    // What is so of a row of some bytes, where so many samples are counted and the places hold these.
+    ghost is_row: { List ℕ → ℕ → List ℤ → Row → Type 0 };
+
+    // How many samples can be counted, where there are so many places.
+    ghost room: { ℕ → ℕ };
+
+    /// Takes the samples of a record behind so many that are counted. Answers how many then are, and 0 or the code of
+    /// why it has none; or, where there is no room for them, how many it has.
+    fn take(view: &RecordView<'_>, out: &mut [i32], filled: usize) -> Result<(usize, u32), usize>
+        requires { filled ≤ room (length out.old) }
+        ensures taken { IfOk result (λ r. TakesOn is_row (view_of view.now) filled r.0 r.1 out.old out.new) }
+        ensures inside { IfOk result (λ r. r.0 ≤ room (length out.new)) }
+        ensures stays { OnErr result (out.new ≡ out.old) }
+        ensures full { IfErr result (λ places. HasNoRoom (view_of view.now) (room (length out.new)) filled places) };
+}
+
+/// Writes the row of one record more, and takes its samples.
+fn row_next<P: Places>(
+    bytes: &[u8],
+    rows: &mut [Row],
+    out: &mut [i32],
+    progress: &mut Progress,
+) -> Result<(), Stop>
+    requires inside { progress.old.offset ≤ length bytes.now }
+    requires more { progress.old.rows < length rows.old }
+    requires room { progress.old.filled ≤ P.room (length out.old) }
+    ensures goes { GoesOn P.is_row P.room bytes.now rows.old rows.new out.old out.new progress.old progress.new }
+    ensures count { OnOk result (progress.new.rows ≡ progress.old.rows + 1) }
+    ensures stays { OnErr result (progress.new ≡ progress.old) }
+    ensures stopped { IfErr result (λ stop.
+        EndsWalk stop bytes.now (length rows.new) (P.room (length out.new)) progress.new) }
+{
+    let view = match view_at(&bytes[progress.offset..]) {
+        Ok(view) => view,
+        Err(stop) => return Err(stop),
+    };
+    let (filled, code) = match P::take(&view, out, progress.filled) {
+        Ok(taken) => taken,
+        Err(places) => return Err(Stop::Room(places)),
+    };
+    rows[progress.rows] = row_of(&view, progress.offset, progress.filled, code);
+    progress.rows += 1;
+    progress.offset += view.bytes().len();
+    progress.filled = filled;
+    Ok(())
+}
+
+/// Writes rows as long as there are records and places for them, and answers why no more are written.
+fn rows_on<P: Places>(
+    bytes: &[u8],
+    rows: &mut [Row],
+    out: &mut [i32],
+    progress: &mut Progress,
+) -> Option<Stop>
+    requires no_row { progress.old.rows ≡ 0 }
+    requires inside { progress.old.offset ≤ length bytes.now }
+    requires room { progress.old.filled ≤ P.room (length out.old) }
+    ensures goes { GoesOn P.is_row P.room bytes.now rows.old rows.new out.old out.new progress.old progress.new }
+    ensures at_end { IfNone result (progress.new.offset ≡ length bytes.now) }
+    ensures before { IfSome result (λ _. progress.new.offset < length bytes.now) }
+    ensures stopped { IfSome result (λ stop.
+        EndsWalk stop bytes.now (length rows.new) (P.room (length out.new)) progress.new) }
+{
+    for turn in 0..rows.len() {
+        if progress.offset >= bytes.len() {
+            return None;
+        }
+        if let Err(stop) = row_next::<P>(bytes, rows, out, progress) {
+            return Some(stop);
+        }
+    }
+    if progress.offset < bytes.len() {
+        Some(Stop::Rows)
+    } else {
+        None
+    }
+}
+
+/// The rows of the records of an archive from an offset on. How far it was gone through is reported. The answer is 0 at
+/// the end of the bytes, and else the code of why it stopped.
+pub(crate) fn go_through<P: Places>(
+    bytes: &[u8],
+    offset: usize,
+    rows: &mut [Row],
+    out: &mut [i32],
+    progress: &mut Progress,
+) -> u32
+    ensures walk { IsWalk (λ filled. P.is_row bytes.now filled out.new) bytes.now offset rows.old rows.new
+        progress.new }
+    ensures room { progress.new.filled ≤ P.room (length out.new) }
+    ensures end { IsEnd bytes.now (length rows.new) (P.room (length out.new)) progress.new result }
+{
+    *progress = Progress {
+        rows: 0,
+        offset: offset.min(bytes.len()),
+        filled: 0,
+        needed: 0,
+    };
+    match rows_on::<P>(bytes, rows, out, progress) {
+        Some(stop) => {
+            progress.needed = needed_by(stop);
+            code_of_stop(stop)
+        }
+        None => 0,
+    }
+}
