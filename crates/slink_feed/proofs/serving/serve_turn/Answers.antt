@@ -38,3 +38,21 @@ returns-clause-fault g c =
     (stays (g.met.S.Duplex.writes_apart c.send_all.new.link) c.send_all.ensures.beside
     (g.met.S.Duplex.writes_apart c.args.link.now))
     (c.answer_once.ensures.fault _ c.in_ok-written.ensures.ok)
+
+pub returns-in_err-written-clause-fits : goal.returns-in_err-written-clause-fits
+returns-in_err-written-clause-fits g c = c.send_all.ensures.fits
+
+pub returns-in_err-written-clause-stands : goal.returns-in_err-written-clause-stands
+returns-in_err-written-clause-stands g c = c.send_all.ensures.stands
+
+pub returns-then-is_closed-clause-fits : goal.returns-then-is_closed-clause-fits
+returns-then-is_closed-clause-fits g c = c.send_all.ensures.fits
+
+pub returns-then-is_closed-clause-stands : goal.returns-then-is_closed-clause-stands
+returns-then-is_closed-clause-stands g c = c.send_all.ensures.stands
+
+pub returns-clause-fits : goal.returns-clause-fits
+returns-clause-fits g c = c.answer_once.ensures.fits
+
+pub returns-clause-stands : goal.returns-clause-stands
+returns-clause-stands g c = c.answer_once.ensures.stands

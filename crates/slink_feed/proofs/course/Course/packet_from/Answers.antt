@@ -1,5 +1,5 @@
-use Rattle.std.proofs.Common.{◌∙◌, None, ap, sym}
-use Rattle.slink_feed.specs.Session.{State, packet_at}
+use Rattle.std.proofs.Common.{◌∙◌, None, ap, inl, inr, subst, sym}
+use Rattle.slink_feed.specs.Session.{AreReached, IsChosenOf, State, packet_at}
 use Rattle.slink_feed.proofs.Reached.{sent_at_next, sent_by_record}
 use Rattle.slink_feed.proofs.course.Course.packet_from.Goals as goal
 
@@ -9,6 +9,24 @@ returns-then-grant-next-clause-sent g c =
     c.requires.phase c.requires.granted c.ring.ensures.ring c.next.ensures.value c.if-grant-next.true
     ∙ c.at_next.ensures.sent
 
+pub returns-then-grant-next-clause-fits : goal.returns-then-grant-next-clause-fits
+returns-then-grant-next-clause-fits g c = (
+  elim c.at_next.ensures.phase [
+    | inl same ↦ subst (IsChosenOf c.args.feed.now) (sym (same ∙ c.requires.phase)) tt
+    | inr closed ↦ subst (IsChosenOf c.args.feed.now) (sym closed) tt
+  ],
+  subst (AreReached c.args.feed.now) (sym c.at_next.ensures.grants) c.requires.fits,
+)
+
+pub returns-then-grant-next-clause-few : goal.returns-then-grant-next-clause-few
+returns-then-grant-next-clause-few g c bytes e = absurd (c.at_next.ensures.none bytes e)
+
+pub returns-in-Some-clause-fits : goal.returns-in-Some-clause-fits
+returns-in-Some-clause-fits g c = c.in-Some.ensures.fits
+
+pub returns-in-Some-clause-few : goal.returns-in-Some-clause-few
+returns-in-Some-clause-few g c bytes e = c.in-Some.ensures.few
+
 pub returns-in-None-clause-sent : goal.returns-in-None-clause-sent
 returns-in-None-clause-sent g c =
     sent_by_record c.args.feed.now c.args.self.now c.args.k c.args.grant c.ring.result.now None c.requires.phase
@@ -16,3 +34,10 @@ returns-in-None-clause-sent g c =
     (sym (c.in-None.ensures.gone c.ring.result.now c.ring.ensures.ring))
     (λ same. c.if-grant-next.false (same ∙ sym c.next.ensures.value))
     ∙ ap (λ (s : State). packet_at s c.args.k c.args.grant None) (sym (c.self.view_is ∙ c.in-None.ensures.none))
+
+pub returns-in-None-clause-fits : goal.returns-in-None-clause-fits
+returns-in-None-clause-fits g c = (
+  tt,
+  subst (AreReached c.args.feed.now) (sym (ap (λ (s : State). s.grants) (c.self.view_is ∙ c.in-None.ensures.none)))
+      c.requires.fits,
+)

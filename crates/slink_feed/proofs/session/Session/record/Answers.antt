@@ -1,0 +1,24 @@
+use Rattle.std.proofs.Common.{◌≡◌, ap, subst}
+use Rattle.std.specs.Option.{IfSome}
+use Rattle.slink_wire.specs.Packet.{packet_bytes}
+use Rattle.slink_feed.specs.Serving.{Standing}
+use Rattle.slink_feed.specs.Session.{sent}
+use Rattle.slink_feed.specs.declared.session.Sent.TheVariants.{Packet}
+use Rattle.slink_feed.proofs.session.Session.record.Goals as goal
+
+pub returns-clause-sent : goal.returns-clause-sent
+returns-clause-sent g c =
+    subst (λ (s : Standing). IfSome c.record.result (λ r. sent c.args.feed.now s.state c.args.k
+    ≡ (c.record.new.self, Packet (packet_bytes r.0 r.1.now)))) c.self.view_is c.record.ensures.sent
+
+pub returns-clause-number : goal.returns-clause-number
+returns-clause-number g c = c.record.ensures.number
+
+pub returns-clause-held : goal.returns-clause-held
+returns-clause-held g c = ap (λ (s : Standing). s.held) c.self.view_is
+
+pub returns-clause-fits : goal.returns-clause-fits
+returns-clause-fits g c = c.record.ensures.fits
+
+pub returns-clause-few : goal.returns-clause-few
+returns-clause-few g c = c.record.ensures.few
