@@ -1,11 +1,12 @@
 -- Turns of a session with its link, one after another.
 use Rattle.std.specs.Prelude.{⊤}
 use Rattle.std.proofs.Common.{◌≡◌, ◌⊎◌, inl, inr, ℕ, ◌+◌, ◌<◌, ◌^◌, Bool, true, false, nat_lt, not, if◌then◌else◌, List}
-use Rattle.std.proofs.Common.{[], ◌++◌, append-nil, append_assoc, Result, Ok, Err, refl, sym, ap, subst, ◌∙◌, arith}
-use Rattle.std.proofs.lemmas.List.Elements.{All-append}
+use Rattle.std.proofs.Common.{[], ◌∷◌, ◌++◌, append-nil, append_assoc, Result, Ok, Err, refl, sym, ap, subst, ◌∙◌}
+use Rattle.std.proofs.Common.{arith}
+use Rattle.std.proofs.lemmas.List.Elements.{All-append, All-cons}
 use Rattle.std.specs.Result.{IsErrAnd, is_ok}
 use Rattle.mseed_stream.specs.Device.{BytesRead, BytesWritten, nothing_read, nothing_written}
-use Rattle.mseed_stream.specs.Exchanges.{Exchange}
+use Rattle.mseed_stream.specs.Exchanges.{Exchange, exchange}
 use Rattle.slink_feed.specs.Attending.{Attends, IsServeFault, attending, is_closed, is_at_end, replies, at_send}
 use Rattle.slink_feed.specs.Attending.{at_read, at_reply}
 use Rattle.slink_feed.specs.Rounds.{Attending}
@@ -168,9 +169,32 @@ pub lost_by : (fine : Bool) → ◌≡◌ {A = ℕ} (if not fine then 1 else 0) 
 lost_by true = refl
 lost_by false = refl
 
+-- and where it went well none was
+pub lost_none : (fine : Bool) (a b : ℕ) → fine ≡ true → b ≡ a + (if not fine then 1 else 0) → b ≡ a
+lost_none true a b is e = omega (arith, e)
+lost_none false a b is e = absurd (let bad : false ≡ true = is in cc bad)
+
 -- no link yet
 pub each_none : (feed : List Window) (a : List Exchange) → HasServedEach feed a a
 each_none feed a = record { links = []; given_back = sym (append-nil a); served = λ k d lt. absurd (omega (arith, lt)) }
+
+-- one link more
+pub each_one : (feed : List Window) (a b : List Exchange) (link : Exchange) → b ≡ a ++ link ∷ [] → WasServed feed link
+    → HasServedEach feed a b
+each_one feed a b link e served = record {
+  links = link ∷ [];
+  given_back = e;
+  served = All-cons (WasServed feed) link [] served (λ k d lt. absurd (omega (arith, lt)));
+}
+
+-- a new link
+pub served_first : (feed : List Window) (result : Result ⊤ LinkFault) (h h' : BytesRead) (s s' : BytesWritten)
+    → h ≡ nothing_read → s ≡ nothing_written → IsServed feed result h h' s s' → WasServed feed (exchange h' s')
+served_first feed result h h' s s' unread unwritten is = (
+  result,
+  subst (λ (x : BytesRead). IsServed feed result x h' nothing_written s') unread
+      (subst (λ (x : BytesWritten). IsServed feed result h h' x s') unwritten is),
+)
 
 -- some and then others
 pub each_both : (feed : List Window) (a b c : List Exchange) → HasServedEach feed a b → HasServedEach feed b c

@@ -23,8 +23,6 @@ mod serving;
 mod settle;
 mod status;
 mod tcp;
-#[cfg(test)]
-mod tests;
 
 pub use accept::Accept;
 pub use dial::Dial;

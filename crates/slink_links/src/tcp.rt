@@ -27,9 +27,6 @@ use std::net::{Ipv4Addr, Net, OpenListener, OpenStream, SocketAddr, TcpListener,
 use std::os::fd::{AsRawFd, RawFd};
 use std::time::{Clock, Duration, Instant};
 
-#[cfg(test)]
-mod tests;
-
 /// The descriptors below this one are those of the standard streams.
 const FIRST_FREE: RawFd = 3;
 

@@ -1,12 +1,13 @@
 //! Orders and pieces chosen at random, in memory.
-ghost use Rattle.std.specs.Prelude.{◌≡◌, ◌≢◌, ◌≤◌, ◌<◌, [], IfOk, IfSome, length};
+ghost use Rattle.std.specs.Prelude.{◌≡◌, ◌≢◌, ◌≤◌, ◌<◌, [], length};
 ghost use Rattle.slink_live.specs.Served.{IsSound};
 
 use mseed_stream::StreamFault;
 use slink_feed::{Feed, Ring};
 use slink_live::{Event, InputFault, Log, Ready, Server, Wishes};
 use slink_wire::Place;
-use std::alloc::{AllocError, Global};
+use std::alloc::Global;
+use std::process::Abort;
 
 const SLOTS: usize = 3;
 
@@ -200,64 +201,71 @@ fn record(number: u8) -> [u8; 512] {
 }
 
 /// Records, one behind another.
-fn records(alloc: Global, count: u8) -> Result<Vec<u8>, AllocError> {
+fn records(rt: &impl Abort, alloc: Global, count: u8) -> Vec<u8> {
     let mut bytes = Vec::new(alloc);
     for number in 0..count {
-        bytes.extend_from_slice(&record(number))?;
+        bytes
+            .extend_from_slice(&record(number))
+            .expect(rt, "memory");
     }
-    Ok(bytes)
+    bytes
 }
 
 /// What is owed to a client whose first request is refused, and the second granted from the first record on.
-fn owed(alloc: Global, count: u8) -> Result<Vec<u8>, AllocError> {
+fn owed(rt: &impl Abort, alloc: Global, count: u8) -> Vec<u8> {
     let mut bytes = Vec::new(alloc);
-    bytes.extend_from_slice(b"OK\r\nERROR\r\nOK\r\n")?;
+    bytes
+        .extend_from_slice(b"OK\r\nERROR\r\nOK\r\n")
+        .expect(rt, "memory");
     for number in 0..count {
-        bytes.extend_from_slice(b"SL00000")?;
-        bytes.extend_from_slice(&[b'0' + number % 10])?;
-        bytes.extend_from_slice(&record(number))?;
+        bytes.extend_from_slice(b"SL00000").expect(rt, "memory");
+        bytes
+            .extend_from_slice(&[b'0' + number % 10])
+            .expect(rt, "memory");
+        bytes
+            .extend_from_slice(&record(number))
+            .expect(rt, "memory");
     }
-    Ok(bytes)
+    bytes
 }
 
 /// Three clients of one place.
-fn three_peers(alloc: Global) -> Result<Vec<Peer>, AllocError> {
+fn three_peers(rt: &impl Abort, alloc: Global) -> Vec<Peer> {
     let mut peers = Vec::new(alloc);
     for peer in 0..3 {
         let mut says = Vec::new(alloc);
-        says.extend_from_slice(b"STATION STA XX\r\nDATA 999\r\nDATA 0\r\nEND\r\n")?;
-        peers.push(Peer {
-            says,
-            produced: 0,
-            emitted: Vec::new(alloc),
-        })?;
+        says.extend_from_slice(b"STATION STA XX\r\nDATA 999\r\nDATA 0\r\nEND\r\n")
+            .expect(rt, "memory");
+        peers
+            .push(Peer {
+                says,
+                produced: 0,
+                emitted: Vec::new(alloc),
+            })
+            .expect(rt, "memory");
     }
-    Ok(peers)
+    peers
 }
 
 /// A server of one ring of so many records.
-fn server_of(alloc: Global, capacity: usize) -> Result<Option<Server>, AllocError>
-    ensures { IfOk result (λ server. IfSome server IsSound) }
+pub(crate) fn server_of(rt: &impl Abort, alloc: Global, capacity: usize) -> Server
+    ensures { IsSound result }
 {
-    let Ok(place) = Place::new(b"STA", b"XX") else {
-        return Ok(None);
-    };
-    let Ok(ring) = Ring::new(alloc, place, capacity, 0) else {
-        return Ok(None);
-    };
+    let place = Place::new(b"STA", b"XX").expect(rt, "a place");
+    let ring = Ring::new(alloc, place, capacity, 0).expect(rt, "a ring");
     let mut feed = Feed::new();
     feed.add_other(ring);
-    Ok(Some(Server::new(alloc, feed, SLOTS)?))
+    Server::new(alloc, feed, SLOTS).expect(rt, "memory")
 }
 
 /// Three clients, an input, and an order of this seed.
-fn script_of(alloc: Global, input: Vec<u8>, seed: u64) -> Result<Script, AllocError>
-    ensures { IfOk result (λ script. script.log.all ≡ []) }
+fn script_of(rt: &impl Abort, alloc: Global, input: Vec<u8>, seed: u64) -> Script
+    ensures { result.log.all ≡ [] }
 {
-    Ok(Script {
+    Script {
         input,
         given: 0,
-        peers: three_peers(alloc)?,
+        peers: three_peers(rt, alloc),
         dialled: 0,
         places: [None; 3],
         is_deaf: false,
@@ -267,60 +275,77 @@ fn script_of(alloc: Global, input: Vec<u8>, seed: u64) -> Result<Script, AllocEr
         is_left: false,
         is_over: false,
         log: Log::new(),
-    })
+    }
+}
+
+/// Whether each of these clients accepted all that is owed to it, or said nothing.
+fn have_what_is_owed(peers: &[Peer], owed: &[u8]) -> bool {
+    let mut is_well = true;
+    for peer in peers {
+        is_well = is_well && (peer.emitted.as_slice() == owed || peer.produced == 0);
+    }
+    is_well
+}
+
+/// Whether a server answers so by an order, and well if it goes on, with something of the order left.
+fn serves(server: &mut Server, script: &mut Script, answer: Result<(), InputFault>) -> bool
+    requires { IsSound server.old }
+{
+    server.serve(script) == answer && server.serve(script).is_ok() && script.left > 0
 }
 
 /// Three clients by an order of this seed: whether each accepted all that is owed to it, and the server answered so.
 fn went_well(
+    rt: &impl Abort,
     alloc: Global,
     input: Vec<u8>,
     seed: u64,
     answer: Result<(), InputFault>,
-) -> Result<bool, AllocError> {
-    let Some(mut server) = server_of(alloc, 100)? else {
-        return Ok(false);
-    };
-    let mut script = script_of(alloc, input, seed)?;
-    let mut is_well = server.serve(&mut script) == answer;
-    is_well = is_well && server.serve(&mut script).is_ok() && script.left > 0;
-    let owed = owed(alloc, 9)?;
-    for peer in &script.peers {
-        is_well = is_well && (peer.emitted == owed || peer.produced == 0);
-    }
-    Ok(is_well)
+) -> bool {
+    let mut script = script_of(rt, alloc, input, seed);
+    let owed = owed(rt, alloc, 9);
+    let mut server = server_of(rt, alloc, 100);
+    serves(&mut server, &mut script, answer) && have_what_is_owed(&script.peers, &owed)
 }
 
 #[test]
-fn each_takes_what_is_owed_in_any_order(rt: HostRuntime) -> Result<(), AllocError> {
+fn each_takes_what_is_owed_in_any_order(rt: HostRuntime) {
     for seed in 0..20 {
-        assert_eq!(rt;
-            went_well(rt.alloc(), records(rt.alloc(), 9)?, seed, Ok(()))?,
-            true
+        assert!(rt;
+            went_well(&rt, rt.alloc(), records(&rt, rt.alloc(), 9), seed, Ok(())),
+            "{seed}"
         );
     }
-    Ok(())
 }
 
 #[test]
-fn a_record_that_is_cut_off_is_reported(rt: HostRuntime) -> Result<(), AllocError> {
-    let mut input = records(rt.alloc(), 9)?;
-    input.extend_from_slice(b"000001D ")?;
+fn a_record_that_is_cut_off_is_reported(rt: HostRuntime) {
+    let mut input = records(&rt, rt.alloc(), 9);
+    input.extend_from_slice(b"000001D ").expect(&rt, "memory");
     let fault = InputFault::Stream(StreamFault::Truncated(4608, 8));
-    assert_eq!(rt; went_well(rt.alloc(), input, 7, Err(fault))?, true);
-    Ok(())
+    assert!(rt; went_well(&rt, rt.alloc(), input, 7, Err(fault)));
 }
 
-#[test]
-fn a_link_that_takes_nothing_loses_its_place(rt: HostRuntime) -> Result<(), AllocError> {
-    let Some(mut server) = server_of(rt.alloc(), 2)? else {
-        assert!(rt; false);
-        return Ok(());
-    };
-    let mut script = script_of(rt.alloc(), records(rt.alloc(), 40)?, 3)?;
+/// Three clients that take nothing, and 40 records that come once they are there.
+fn deaf_script(rt: &impl Abort, alloc: Global) -> Script
+    ensures { result.log.all ≡ [] }
+{
+    let mut script = script_of(rt, alloc, records(rt, alloc, 40), 3);
     script.is_deaf = true;
     script.begins = 98_000;
-    assert_eq!(rt; server.serve(&mut script), Ok(()));
-    // It ended before the order did: no link stood any more.
-    assert_eq!(rt; script.left > 0, true);
-    Ok(())
+    script
+}
+
+/// Whether a server ends well before an order does: no link stands any more.
+fn ends_early(server: &mut Server, script: &mut Script) -> bool
+    requires { IsSound server.old }
+{
+    server.serve(script).is_ok() && script.left > 0
+}
+
+#[test]
+fn a_link_that_takes_nothing_loses_its_place(rt: HostRuntime) {
+    let mut script = deaf_script(&rt, rt.alloc());
+    let mut server = server_of(&rt, rt.alloc(), 2);
+    assert!(rt; ends_early(&mut server, &mut script));
 }

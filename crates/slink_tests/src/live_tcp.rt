@@ -1,16 +1,16 @@
 //! Links over TCP, by one thread.
 ghost use Rattle.std.specs.Prelude.{◌≡◌, ◌≤◌, length};
 
-use slink_feed::{Feed, Ring};
-use slink_live::Server;
+use crate::links::rest_of;
+use crate::live::server_of;
 use slink_live_tcp::{Plan, Tcp};
-use slink_wire::Place;
+use std::alloc::Global;
 use std::io;
 use std::io::{Read, Write};
-use std::net::{Ipv4Addr, SocketAddr, TcpStream};
+use std::net::{Ipv4Addr, Net, SocketAddr};
 use std::os::fd::{AsRawFd, RawFd};
-use std::test::Fail;
-use std::time::Duration;
+use std::process::Abort;
+use std::time::{Clock, Duration};
 
 /// So many bytes are read at once, so that those who dial are there before the end.
 const PIECE: usize = 64;
@@ -47,11 +47,8 @@ fn record() -> [u8; 512] {
     bytes
 }
 
-#[test]
-fn each_link_has_the_record_and_a_silent_one_is_given_up(rt: HostRuntime) -> Result<(), Fail> {
-    let place = Place::new(b"STA", b"XX").map_err(|_| "place")?;
-    let mut feed = Feed::new();
-    feed.add_other(Ring::new(rt.alloc(), place, 10, 0).map_err(|_| "ring")?);
+/// A listener for three links, with that record as its input.
+fn bound<N: Net + Clock>(host: &N, alloc: Global) -> io::Result<Tcp<'_, N, Input>> {
     let plan = Plan {
         address: SocketAddr::from((Ipv4Addr::LOCALHOST, 0)),
         clients: 3,
@@ -61,29 +58,77 @@ fn each_link_has_the_record_and_a_silent_one_is_given_up(rt: HostRuntime) -> Res
         bytes: record(),
         given: 0,
     };
-    let mut tcp = Tcp::bind(&rt, rt.alloc(), plan, input)?;
-    let address = tcp.address()?;
-    let mut streams = Vec::new(rt.alloc());
-    for lines in [&b"STATION STA XX\r\nDATA 0\r\nEND\r\n"[..]; 2] {
-        let mut stream = TcpStream::connect(&rt, address)?;
-        stream.write_all(lines)?;
-        streams.push(stream)?;
+    Tcp::bind(host, alloc, plan, input)
+}
+
+/// What each client says: the last one is silent.
+static SAID: [&[u8]; 3] = [
+    b"STATION STA XX\r\nDATA 0\r\nEND\r\n",
+    b"STATION STA XX\r\nDATA 0\r\nEND\r\n",
+    b"",
+];
+
+/// A link to this address, over which this is said.
+fn dialled<N: Net>(host: &N, address: SocketAddr, said: &[u8]) -> io::Result<N::Stream> {
+    let mut stream = host.connect(address)?;
+    stream.write_all(said)?;
+    Ok(stream)
+}
+
+/// The links of all clients.
+fn all_dialled<N: Net>(
+    rt: &impl Abort,
+    host: &N,
+    alloc: Global,
+    address: SocketAddr,
+) -> Vec<N::Stream> {
+    let mut streams = Vec::new(alloc);
+    for said in SAID {
+        streams
+            .push(dialled(host, address, said).expect(rt, "a link"))
+            .expect(rt, "memory");
     }
-    let mut silent = TcpStream::connect(&rt, address)?;
-    let mut server = Server::new(rt.alloc(), feed, 3)?;
-    assert!(rt; server.serve(&mut tcp).is_ok());
-    assert!(rt; !tcp.has_failed());
-    let mut wanted = Vec::new(rt.alloc());
-    wanted.extend_from_slice(b"OK\r\nOK\r\nSL000000")?;
-    wanted.extend_from_slice(&record())?;
-    for stream in &mut streams {
-        let mut reported = Vec::new(rt.alloc());
-        stream.read_to_end(&mut reported)?;
-        assert!(rt; reported.as_slice() == wanted.as_slice());
+    streams
+}
+
+/// What a client is sent that asks for the record.
+fn sent(rt: &impl Abort, alloc: Global) -> Vec<u8> {
+    let mut bytes = Vec::new(alloc);
+    bytes
+        .extend_from_slice(b"OK\r\nOK\r\nSL000000")
+        .expect(rt, "memory");
+    bytes.extend_from_slice(&record()).expect(rt, "memory");
+    bytes
+}
+
+/// Whether each of these links brings the record, where its client said something, and ends then.
+fn have_the_record<S: Read>(rt: &impl Abort, alloc: Global, streams: &mut [S]) -> bool {
+    let wanted = sent(rt, alloc);
+    let mut is_well = streams.len() == 3;
+    for (stream, said) in streams.iter_mut().zip(SAID) {
+        let wanted = if said.is_empty() {
+            b""
+        } else {
+            wanted.as_slice()
+        };
+        is_well = is_well && rest_of(rt, alloc, stream).as_slice() == wanted;
     }
-    assert!(rt; silent.read(&mut [0; 1])? == 0);
+    is_well
+}
+
+/// Whether a server of one ring serves its links until none is left, and nothing fails.
+fn is_served<N: Net + Clock>(rt: &impl Abort, alloc: Global, tcp: &mut Tcp<'_, N, Input>) -> bool {
+    let mut server = server_of(rt, alloc, 10);
+    server.serve(tcp).is_ok() && !tcp.has_failed()
+}
+
+#[test]
+fn each_link_has_the_record_and_a_silent_one_is_given_up(rt: HostRuntime) {
+    let mut tcp = bound(&rt, rt.alloc()).expect(&rt, "a listener");
+    let address = tcp.address().expect(&rt, "an address");
+    let mut streams = all_dialled(&rt, &rt, rt.alloc(), address);
+    assert!(rt; is_served(&rt, rt.alloc(), &mut tcp));
+    assert!(rt; have_the_record(&rt, rt.alloc(), &mut streams));
     drop(streams);
-    drop(silent);
     tcp.finish();
-    Ok(())
 }

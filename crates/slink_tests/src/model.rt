@@ -8,15 +8,15 @@ mod turns;
 use slink_feed::{Feed, FeedFault, Ring, Sent, Session};
 use slink_wire::{Packet, Place, Reply};
 use std::alloc::Global;
-use std::test::Fail;
+use std::process::Abort;
 
 /// A place of the network XX.
-fn place(sta: &[u8]) -> Result<Place, Fail> {
-    Ok(Place::new(sta, b"XX").map_err(|_| "no place")?)
+pub(crate) fn place(rt: &impl Abort, sta: &[u8]) -> Place {
+    Place::new(sta, b"XX").expect(rt, "a place")
 }
 
 /// A record of the station in the network XX, with a byte of its own.
-fn record(sta: &[u8; 5], mark: u8) -> [u8; 512] {
+pub(crate) fn record(sta: &[u8; 5], mark: u8) -> [u8; 512] {
     let mut bytes = [mark; 512];
     bytes[8..13].copy_from_slice(sta);
     bytes[18..20].copy_from_slice(b"XX");
@@ -24,46 +24,66 @@ fn record(sta: &[u8; 5], mark: u8) -> [u8; 512] {
 }
 
 /// An empty ring of a station of the network XX.
-fn ring(alloc: Global, sta: &[u8], capacity: usize, first: u32) -> Result<Ring, Fail> {
-    Ok(Ring::new(alloc, place(sta)?, capacity, first).map_err(|_| "no ring")?)
+pub(crate) fn ring(
+    rt: &impl Abort,
+    alloc: Global,
+    sta: &[u8],
+    capacity: usize,
+    first: u32,
+) -> Ring {
+    Ring::new(alloc, place(rt, sta), capacity, first).expect(rt, "a ring")
 }
 
 /// Pushes a record to a ring of a feed.
-fn push(feed: &mut Feed, k: usize, bytes: &[u8; 512]) -> Result<(), Fail>
+pub(crate) fn push(rt: &impl Abort, feed: &mut Feed, k: usize, bytes: &[u8; 512])
     ensures { (s : State) → Fits feed.old s → Fits feed.new s }
 {
-    if k >= feed.len() {
-        Err("no such ring")?;
-    }
+    assert!(rt; k < feed.len());
     let ring = feed.ring(k);
-    if !ring.place().bears(bytes) || ring.next() >= 1 << 62 {
-        Err("no record of the ring")?;
-    }
+    assert!(rt; ring.place().bears(bytes) && ring.next() < 1 << 62);
     feed.push(k, bytes);
-    Ok(())
 }
 
-/// A feed of one ring of the place STA of XX, of two records, to which three were pushed.
-fn three_pushed(alloc: Global, first: u32) -> Result<Feed, Fail> {
+/// Adds a ring to a feed.
+fn add(rt: &impl Abort, feed: &mut Feed, ring: Ring) {
+    assert!(rt; feed.add(ring).is_ok());
+}
+
+/// The place, the station and the mark of a record.
+type Pushed = (usize, &'static [u8; 5], u8);
+
+/// Pushes records to the rings of a feed.
+fn push_all(rt: &impl Abort, feed: &mut Feed, records: &[Pushed]) {
+    for (k, sta, mark) in records {
+        push(rt, feed, *k, &record(sta, *mark));
+    }
+}
+
+/// Adds a ring of the place STA of XX, and pushes records with the marks from 0 on.
+fn fill(rt: &impl Abort, feed: &mut Feed, ring: Ring, count: u8) {
+    add(rt, feed, ring);
+    for mark in 0..count {
+        push(rt, feed, 0, &record(b"STA  ", mark));
+    }
+}
+
+/// A feed of one ring of the place STA of XX, of so many records, to which so many were pushed.
+pub(crate) fn pushed(
+    rt: &impl Abort,
+    alloc: Global,
+    capacity: usize,
+    first: u32,
+    count: u8,
+) -> Feed {
+    let ring = ring(rt, alloc, b"STA", capacity, first);
     let mut feed = Feed::new();
-    feed.add(ring(alloc, b"STA", 2, first)?)
-        .map_err(|_| "no room")?;
-    for mark in 0..3 {
-        push(&mut feed, 0, &record(b"STA  ", mark))?;
-    }
-    Ok(feed)
+    fill(rt, &mut feed, ring, count);
+    feed
 }
 
-/// The packet of a place, where the feed has it.
-fn packet(session: &mut Session, feed: &Feed, k: usize) -> Sent
-    requires { Fits feed.now session.old.state }
-    ensures { Fits feed.now session.new.state }
-{
-    if k < feed.len() {
-        session.packet(feed, k)
-    } else {
-        Sent::Wait
-    }
+/// Such a feed, of two records, to which three were pushed.
+pub(crate) fn three_pushed(rt: &impl Abort, alloc: Global, first: u32) -> Feed {
+    pushed(rt, alloc, 2, first, 3)
 }
 
 /// Whether a session takes a line whole, and replies so.
@@ -73,6 +93,26 @@ fn answers(session: &mut Session, feed: &Feed, line: &[u8], reply: &Reply) -> bo
 {
     let (used, found) = session.take(feed, line);
     used == line.len() && found == *reply
+}
+
+/// Whether a session gives this of a place.
+fn gives(session: &mut Session, feed: &Feed, k: usize, wanted: &Sent) -> bool
+    requires { Fits feed.now session.old.state }
+    ensures { Fits feed.now session.new.state }
+{
+    k < feed.len() && session.packet(feed, k) == *wanted
+}
+
+/// A place, its station, and the number and the mark of a record.
+type Row = (usize, &'static [u8; 5], u8, u8);
+
+/// Whether a session sends the packet of a record.
+fn sends(session: &mut Session, feed: &Feed, row: &Row) -> bool
+    requires { Fits feed.now session.old.state }
+    ensures { Fits feed.now session.new.state }
+{
+    let sent = Sent::Packet(Packet::write(u32::from(row.2), &record(row.1, row.3)));
+    gives(session, feed, row.0, &sent)
 }
 
 /// What a session is sent, and its reply.
@@ -91,60 +131,108 @@ static TRANSCRIPT: [(&[u8], Reply); 12] = [
     (b"\nEND\r", Reply::Nothing),
 ];
 
-#[test]
-fn serves_a_transcript(rt: HostRuntime) -> Result<(), Fail> {
-    let feed = three_pushed(rt.alloc(), 0)?;
+/// What it sends then.
+static TRANSCRIPT_SENT: [Row; 2] = [(0, b"STA  ", 1, 1), (0, b"STA  ", 2, 2)];
+
+/// Asserts that a session takes these lines, and replies so.
+fn assert_answers(rt: &impl Abort, session: &mut Session, feed: &Feed, lines: &[(&[u8], Reply)])
+    requires { Fits feed.now session.old.state }
+    ensures { Fits feed.now session.new.state }
+{
+    for (line, wanted) in lines {
+        assert!(rt; answers(session, feed, line, wanted), "{line:?}");
+    }
+}
+
+/// Asserts that a session sends the packets of these records.
+fn assert_sends(rt: &impl Abort, session: &mut Session, feed: &Feed, rows: &[Row])
+    requires { Fits feed.now session.old.state }
+    ensures { Fits feed.now session.new.state }
+{
+    for row in rows {
+        assert!(rt; sends(session, feed, row), "{row:?}");
+    }
+}
+
+/// Asserts that a new session of a feed takes these lines with their replies, sends these packets, and is done then
+/// with a place.
+fn assert_served(
+    rt: &impl Abort,
+    feed: &Feed,
+    lines: &[(&[u8], Reply)],
+    rows: &[Row],
+    last: usize,
+) {
     let mut session = Session::new();
-    for (line, wanted) in &TRANSCRIPT {
-        assert!(rt; answers(&mut session, &feed, line, wanted), "{line:?}");
-    }
-    let sent = [
-        Sent::Packet(Packet::write(1, &record(b"STA  ", 1))),
-        Sent::Packet(Packet::write(2, &record(b"STA  ", 2))),
-        Sent::Done,
-        Sent::Closed,
-    ];
-    for wanted in &sent {
-        assert_eq!(rt; packet(&mut session, &feed, 0), *wanted);
-    }
-    Ok(())
+    assert_answers(rt, &mut session, feed, lines);
+    assert_sends(rt, &mut session, feed, rows);
+    assert!(rt; gives(&mut session, feed, last, &Sent::Done));
+    assert!(rt; gives(&mut session, feed, last, &Sent::Closed));
 }
 
 #[test]
-fn ends_where_a_record_is_lost(rt: HostRuntime) -> Result<(), Fail> {
-    let mut feed = three_pushed(rt.alloc(), 0xFF_FFFE)?;
-    if feed.len() > 0 {
-        let ring = feed.ring(0);
-        assert_eq!(rt; (ring.oldest(), ring.next()), (16_777_215, 16_777_217));
-        let cases = [
-            (0xFF_FFFE, None),
-            (0xFF_FFFF, Some(16_777_215)),
-            (0, Some(16_777_216)),
-            (1, Some(16_777_217)),
-        ];
-        for (number, wanted) in cases {
-            assert_eq!(rt; ring.resolve(number), wanted);
-        }
-    }
-    let mut session = Session::new();
-    session.take(&feed, b"STATION STA\r");
-    session.take(&feed, b"DATA FFFFFF\r");
-    session.take(&feed, b"END\r");
-    push(&mut feed, 0, &record(b"STA  ", 3))?;
-    assert_eq!(rt; packet(&mut session, &feed, 0), Sent::Overrun);
-    assert_eq!(rt; packet(&mut session, &feed, 0), Sent::Closed);
-    Ok(())
+fn serves_a_transcript(rt: HostRuntime) {
+    let feed = three_pushed(&rt, rt.alloc(), 0);
+    assert_served(&rt, &feed, &TRANSCRIPT, &TRANSCRIPT_SENT, 0);
 }
 
-/// A feed of the places STA and STB of XX, to which two records and one were pushed.
-fn two_places(alloc: Global) -> Result<Feed, Fail> {
-    let mut feed = Feed::new();
-    feed.add(ring(alloc, b"STA", 4, 0)?).map_err(|_| "no room")?;
-    feed.add(ring(alloc, b"STB", 4, 0)?).map_err(|_| "no room")?;
-    push(&mut feed, 0, &record(b"STA  ", 0))?;
-    push(&mut feed, 0, &record(b"STA  ", 1))?;
-    push(&mut feed, 1, &record(b"STB  ", 2))?;
-    Ok(feed)
+/// Numbers as a client says them, and the numbers that they stand for.
+static RESOLVED: [(u32, Option<u64>); 4] = [
+    (0xFF_FFFE, None),
+    (0xFF_FFFF, Some(16_777_215)),
+    (0, Some(16_777_216)),
+    (1, Some(16_777_217)),
+];
+
+/// Whether a ring of two records, the first of which has the last number that a client can say, finds them.
+fn resolves(ring: &Ring) -> bool {
+    let mut is_well = ring.oldest() == 16_777_215 && ring.next() == 16_777_217;
+    for (number, wanted) in &RESOLVED {
+        is_well = is_well && ring.resolve(*number) == *wanted;
+    }
+    is_well
+}
+
+#[test]
+fn finds_records_behind_the_last_number(rt: HostRuntime) {
+    let feed = three_pushed(&rt, rt.alloc(), 0xFF_FFFE);
+    assert!(rt; feed.len() != 0 && resolves(feed.ring(0)));
+}
+
+/// A session that is sent the records from the last number on.
+fn asking(feed: &Feed) -> Session
+    ensures { Fits feed.now result.state }
+{
+    let mut session = Session::new();
+    session.take(feed, b"STATION STA\r");
+    session.take(feed, b"DATA FFFFFF\r");
+    session.take(feed, b"END\r");
+    session
+}
+
+/// Whether a session ends because the record that it is sent next is lost, and stays so.
+fn is_overrun(session: &mut Session, feed: &Feed) -> bool
+    requires { Fits feed.now session.old.state }
+{
+    gives(session, feed, 0, &Sent::Overrun) && gives(session, feed, 0, &Sent::Closed)
+}
+
+#[test]
+fn ends_where_a_record_is_lost(rt: HostRuntime) {
+    let mut feed = three_pushed(&rt, rt.alloc(), 0xFF_FFFE);
+    let mut session = asking(&feed);
+    push(&rt, &mut feed, 0, &record(b"STA  ", 3));
+    assert!(rt; is_overrun(&mut session, &feed));
+}
+
+/// The records of two places.
+static PUSHED: [Pushed; 3] = [(0, b"STA  ", 0), (0, b"STA  ", 1), (1, b"STB  ", 2)];
+
+/// Adds the places STA and STB of XX, and pushes two records and one.
+fn fill_two(rt: &impl Abort, alloc: Global, feed: &mut Feed) {
+    add(rt, feed, ring(rt, alloc, b"STA", 4, 0));
+    add(rt, feed, ring(rt, alloc, b"STB", 4, 0));
+    push_all(rt, feed, &PUSHED)
 }
 
 /// What a session of two places is sent, and its reply.
@@ -157,37 +245,55 @@ static TWO_PLACES: [(&[u8], Reply); 6] = [
     (b"\nEND\r", Reply::Nothing),
 ];
 
+/// What it sends: a packet of one place after another.
+static SENT: [Row; 3] = [
+    (0, b"STA  ", 0, 0),
+    (1, b"STB  ", 0, 2),
+    (0, b"STA  ", 1, 1),
+];
+
 #[test]
-fn serves_two_places(rt: HostRuntime) -> Result<(), Fail> {
-    let feed = two_places(rt.alloc())?;
-    let mut session = Session::new();
-    for (line, wanted) in &TWO_PLACES {
-        assert!(rt; answers(&mut session, &feed, line, wanted), "{line:?}");
+fn serves_two_places(rt: HostRuntime) {
+    let mut feed = Feed::new();
+    fill_two(&rt, rt.alloc(), &mut feed);
+    assert_served(&rt, &feed, &TWO_PLACES, &SENT, 1);
+}
+
+/// What came of a ring that was to be added.
+#[derive(Clone, Copy)]
+enum Added {
+    Well,
+    Double,
+    Full,
+}
+
+/// Adds an empty ring of the station of one letter.
+fn add_letter(rt: &impl Abort, alloc: Global, feed: &mut Feed, letter: u8) -> Added {
+    let ring = ring(rt, alloc, &[letter], 1, 0);
+    match feed.add(ring) {
+        Ok(()) => Added::Well,
+        Err(FeedFault::Double(_)) => Added::Double,
+        Err(FeedFault::Full(_)) => Added::Full,
     }
-    let sent = [
-        (0, Sent::Packet(Packet::write(0, &record(b"STA  ", 0)))),
-        (1, Sent::Packet(Packet::write(0, &record(b"STB  ", 2)))),
-        (0, Sent::Packet(Packet::write(1, &record(b"STA  ", 1)))),
-        (1, Sent::Done),
-    ];
-    for (k, wanted) in &sent {
-        assert_eq!(rt; packet(&mut session, &feed, *k), *wanted);
+}
+
+/// Whether a feed takes a ring of a letter's station, but no second one of A.
+fn takes_another(rt: &impl Abort, alloc: Global, feed: &mut Feed, letter: u8) -> bool {
+    let is_double = matches!(add_letter(rt, alloc, feed, b'A'), Added::Double);
+    is_double && matches!(add_letter(rt, alloc, feed, letter), Added::Well)
+}
+
+/// Whether a feed of no rings takes sixteen, and none behind them.
+fn holds_sixteen(rt: &impl Abort, alloc: Global, feed: &mut Feed) -> bool {
+    let mut is_well = matches!(add_letter(rt, alloc, feed, b'A'), Added::Well);
+    for k in 1..16 {
+        is_well = is_well && takes_another(rt, alloc, feed, b'A' + k);
     }
-    Ok(())
+    is_well && matches!(add_letter(rt, alloc, feed, b'A'), Added::Full)
 }
 
 #[test]
-fn holds_sixteen_rings(rt: HostRuntime) -> Result<(), Fail> {
+fn holds_sixteen_rings(rt: HostRuntime) {
     let mut feed = Feed::new();
-    for k in 0..16 {
-        let twice = feed.add(ring(rt.alloc(), b"A", 1, 0)?);
-        assert_eq!(rt; matches!(twice, Err(FeedFault::Double(_))), k > 0);
-        if k > 0 {
-            let other = feed.add(ring(rt.alloc(), &[b'A' + k], 1, 0)?);
-            assert!(rt; other.is_ok());
-        }
-    }
-    let full = feed.add(ring(rt.alloc(), b"A", 1, 0)?);
-    assert!(rt; matches!(full, Err(FeedFault::Full(_))));
-    Ok(())
+    assert!(rt; holds_sixteen(&rt, rt.alloc(), &mut feed));
 }

@@ -1,10 +1,12 @@
 //! Worked rows of packets, lines and commands, and a stream by `tests/models/command_lines.py`, a plain Python program
 //! that has the grammar as regular expressions.
 
+ghost use Rattle.slink_wire.specs.Request.{IsSpelled};
+
 mod stream;
 
 use slink_wire::{Command, Lines, Packet, Place, Reply, Request, What};
-use std::test::Fail;
+use std::process::Abort;
 
 /// A packet, or what may be taken for one.
 fn with_header(header: &[u8; 8]) -> [u8; 520] {
@@ -96,20 +98,25 @@ fn takes_lines_in_pieces(rt: HostRuntime) {
     }
 }
 
+/// Whether so much of a piece is used, and the line is too long.
+fn is_too_long(lines: &mut Lines, piece: &[u8], used: usize) -> bool {
+    let emitted = lines.take(piece);
+    emitted.used == used && matches!(emitted.what, What::TooLong)
+}
+
+/// The longest line, and its end.
+fn longest() -> [u8; 256] {
+    let mut longest = [b'A'; 256];
+    longest[255] = b'\r';
+    longest
+}
+
 #[test]
 fn ends_at_a_line_too_long(rt: HostRuntime) {
     let mut lines = Lines::new();
-    let mut longest = [b'A'; 256];
-    longest[255] = b'\r';
-    let emitted = lines.take(&longest);
-    assert_eq!(rt; emitted.used, 256);
-    assert!(rt; matches!(emitted.what, What::Line(line) if line.len() == 255));
-    let emitted = lines.take(&[b'A'; 300]);
-    assert_eq!(rt; emitted.used, 256);
-    assert!(rt; matches!(emitted.what, What::TooLong));
-    let emitted = lines.take(b"END\r");
-    assert_eq!(rt; emitted.used, 0);
-    assert!(rt; matches!(emitted.what, What::TooLong));
+    assert!(rt; takes(&mut lines, &longest(), 256, Some(&[b'A'; 255])));
+    assert!(rt; is_too_long(&mut lines, &[b'A'; 300], 256));
+    assert!(rt; is_too_long(&mut lines, b"END\r", 0));
 }
 
 /// A line, and its command.
@@ -171,20 +178,21 @@ fn reads_commands(rt: HostRuntime) {
     }
 }
 
+/// Whether a request is written so.
+fn is_written(request: &Request, wanted: &[u8]) -> bool
+    requires { IsSpelled request.now }
+{
+    request.bytes().as_slice() == wanted
+}
+
 #[test]
-fn writes_requests(rt: HostRuntime) -> Result<(), Fail> {
-    let place = Place::new(b"STA", b"X").map_err(|_| "a place")?;
-    let cases: [(Request, &[u8]); 5] = [
-        (Request::Station(place), b"STATION STA X\r\n"),
-        (Request::Data(Some(0)), b"DATA 000000\r\n"),
-        (Request::Fetch(Some(11_259_375)), b"FETCH ABCDEF\r\n"),
-        (Request::Fetch(None), b"FETCH\r\n"),
-        (Request::End, b"END\r\n"),
-    ];
-    for (request, wanted) in cases {
-        assert_eq!(rt; request.bytes().as_slice(), wanted);
-    }
-    Ok(())
+fn writes_requests(rt: HostRuntime) {
+    let place = Place::new(b"STA", b"X").expect(&rt, "a place");
+    assert!(rt; is_written(&Request::Station(place), b"STATION STA X\r\n"));
+    assert!(rt; is_written(&Request::Data(Some(0)), b"DATA 000000\r\n"));
+    assert!(rt; is_written(&Request::Fetch(Some(11_259_375)), b"FETCH ABCDEF\r\n"));
+    assert!(rt; is_written(&Request::Fetch(None), b"FETCH\r\n"));
+    assert!(rt; is_written(&Request::End, b"END\r\n"));
 }
 
 /// A reply, and its bytes.
@@ -202,23 +210,39 @@ fn replies(rt: HostRuntime) {
     }
 }
 
+/// Whether the next command of the stream is this one, or there is none; the one behind it is the next then.
+fn is_next(at: &mut usize, command: Option<Command>) -> bool {
+    let wanted = stream::COMMANDS.get(*at).copied();
+    *at = at.saturating_add(1);
+    wanted == command
+}
+
+/// Takes a piece of the stream, whose lines say the next of its commands. Says whether one was too long, behind all
+/// commands.
+fn takes_piece(rt: &impl Abort, lines: &mut Lines, piece: &[u8], at: &mut usize) -> bool {
+    let mut rest = piece;
+    for _ in 0..64 {
+        let emitted = lines.take(rest);
+        rest = &rest[emitted.used..];
+        match emitted.what {
+            What::More => return false,
+            What::Line(line) => assert!(rt; is_next(at, Some(Command::read(&line))), "{at}"),
+            What::TooLong => {
+                assert!(rt; is_next(at, None));
+                return true;
+            }
+        }
+    }
+    false
+}
+
 #[test]
 fn reads_a_stream_cut_at_random(rt: HostRuntime) {
     let mut lines = Lines::new();
-    let mut wanted = stream::COMMANDS.iter();
-    for piece in stream::PIECES {
-        let mut rest = piece;
-        for _ in 0..64 {
-            let emitted = lines.take(rest);
-            rest = &rest[emitted.used..];
-            match emitted.what {
-                What::More => break,
-                What::Line(line) => assert_eq!(rt; Some(&Command::read(&line)), wanted.next()),
-                What::TooLong => {
-                    assert_eq!(rt; wanted.next(), None);
-                    return;
-                }
-            }
+    let mut at = 0;
+    for piece in &stream::PIECES {
+        if takes_piece(&rt, &mut lines, piece, &mut at) {
+            return;
         }
     }
     assert!(rt; false, "no line was too long");

@@ -5,15 +5,15 @@ ghost use Rattle.std.specs.Prelude.{◌^◌, ◌<◌};
 use super::{place, record};
 use slink_feed::{Client, Event, Mode};
 use slink_wire::Packet;
-use std::test::Fail;
+use std::process::Abort;
 
 /// A client of STA of XX that wants record 1, and awaits packets.
-pub(crate) fn awaiting_packets() -> Result<Client, Fail> {
-    let mut client = Client::new(&[(place(b"STA")?, Some(1))], Mode::Data);
+pub(crate) fn awaiting_packets(rt: &impl Abort) -> Client {
+    let mut client = Client::new(&[(place(rt, b"STA"), Some(1))], Mode::Data);
     client.connect();
     client.take(b"OK\r\n");
     client.take(b"OK\r\n");
-    Ok(client)
+    client
 }
 
 /// Whether a client takes so many of these bytes, and they come to this.
@@ -33,46 +33,49 @@ fn begins_anew(client: &mut Client) -> bool {
 }
 
 /// Whether a client that awaits a reply ends so at these bytes. Before there is a link it takes them, and says nothing.
-fn is_refused_at(bytes: &[u8], wanted: &Event) -> Result<bool, Fail> {
-    let mut client = Client::new(&[(place(b"STA")?, None)], Mode::Fetch);
+fn is_refused_at(rt: &impl Abort, bytes: &[u8], wanted: &Event) -> bool {
+    let mut client = Client::new(&[(place(rt, b"STA"), None)], Mode::Fetch);
     let is_quiet = takes(&mut client, bytes, bytes.len(), &Event::None);
-    Ok(is_quiet && begins_anew(&mut client) && ends(&mut client, bytes, wanted))
+    is_quiet && begins_anew(&mut client) && ends(&mut client, bytes, wanted)
 }
 
 #[test]
-fn ends_at_what_is_no_reply(rt: HostRuntime) -> Result<(), Fail> {
-    assert!(rt; is_refused_at(b"OKAY\r\n", &Event::Garbage)?);
-    assert!(rt; is_refused_at(&[b'A'; 256], &Event::Garbage)?);
-    assert!(rt; is_refused_at(b"ERROR busy\r\n", &Event::Refused(0))?);
-    assert!(rt; is_refused_at(b"ERRORS\r\n", &Event::Refused(0))?);
-    Ok(())
+fn ends_at_what_is_no_reply(rt: HostRuntime) {
+    assert!(rt; is_refused_at(&rt, b"OKAY\r\n", &Event::Garbage));
+    assert!(rt; is_refused_at(&rt, &[b'A'; 256], &Event::Garbage));
+    assert!(rt; is_refused_at(&rt, b"ERROR busy\r\n", &Event::Refused(0)));
+    assert!(rt; is_refused_at(&rt, b"ERRORS\r\n", &Event::Refused(0)));
 }
 
 /// Whether a client that awaits packets ends so at these bytes, and wants the same record over a new link.
-fn is_ended_by(bytes: &[u8], wanted: &Event) -> Result<bool, Fail> {
-    let mut client = awaiting_packets()?;
-    Ok(ends(&mut client, bytes, wanted) && client.next(0) == Some(1) && begins_anew(&mut client))
+fn is_ended_by(rt: &impl Abort, bytes: &[u8], wanted: &Event) -> bool {
+    let mut client = awaiting_packets(rt);
+    ends(&mut client, bytes, wanted) && client.next(0) == Some(1) && begins_anew(&mut client)
 }
 
 #[test]
-fn ends_at_what_is_no_packet(rt: HostRuntime) -> Result<(), Fail> {
+fn ends_at_what_is_no_packet(rt: HostRuntime) {
     for bytes in [b"SL00000g".as_slice(), b"SXabcdef", b"X", b"ENX"] {
-        assert!(rt; is_ended_by(bytes, &Event::Garbage)?);
+        assert!(rt; is_ended_by(&rt, bytes, &Event::Garbage));
     }
-    assert!(rt; is_ended_by(b"END", &Event::End)?);
-    Ok(())
+    assert!(rt; is_ended_by(&rt, b"END", &Event::End));
 }
 
 #[test]
-fn ends_at_the_packet_of_another_record(rt: HostRuntime) -> Result<(), Fail> {
+fn ends_at_the_packet_of_another_record(rt: HostRuntime) {
     let gap = Event::Gap {
         place: 0,
         want: 1,
         got: 2,
     };
-    assert!(rt; is_ended_by(&Packet::write(2, &record(b"STA  ", 0)), &gap)?);
-    assert!(rt; is_ended_by(&Packet::write(1, &record(b"ABC  ", 0)), &Event::Foreign)?);
-    Ok(())
+    assert!(rt; is_ended_by(&rt, &Packet::write(2, &record(b"STA  ", 0)), &gap));
+    assert!(rt;
+        is_ended_by(
+            &rt,
+            &Packet::write(1, &record(b"ABC  ", 0)),
+            &Event::Foreign
+        )
+    );
 }
 
 /// The bytes of a packet without the last one.
@@ -95,11 +98,14 @@ fn says(client: &mut Client, line: &[u8]) -> bool {
 }
 
 /// A client of two places, over its first link.
-fn of_two_places() -> Result<Client, Fail> {
-    let places = [(place(b"STA")?, Some(0xFF_FFFF)), (place(b"STB")?, None)];
+fn of_two_places(rt: &impl Abort) -> Client {
+    let places = [
+        (place(rt, b"STA"), Some(0xFF_FFFF)),
+        (place(rt, b"STB"), None),
+    ];
     let mut client = Client::new(&places, Mode::Data);
     client.connect();
-    Ok(client)
+    client
 }
 
 /// Whether a client of two places requests both.
@@ -122,19 +128,30 @@ fn brings(client: &mut Client, place: usize, number: u32, record: &[u8; 512]) ->
     )
 }
 
-#[test]
-fn asks_for_each_place(rt: HostRuntime) -> Result<(), Fail> {
+/// Whether a client that requested both takes a record of each, and a packet but for its last byte.
+fn takes_both(client: &mut Client) -> bool {
     let first = record(b"STA  ", 1);
-    let mut client = of_two_places()?;
-    assert!(rt; requests_both(&mut client));
-    assert!(rt; brings(&mut client, 0, 0xFF_FFFF, &first));
-    assert!(rt; brings(&mut client, 1, 7, &record(b"STB  ", 2)));
-    let reported = client.take(all_but_one(&Packet::write(0, &first)));
-    assert_eq!(rt; reported, (519, Event::None));
-    assert_eq!(rt; client.next(0), Some(0));
-    assert_eq!(rt; client.next(1), Some(8));
+    brings(client, 0, 0xFF_FFFF, &first)
+        && brings(client, 1, 7, &record(b"STB  ", 2))
+        && takes(
+            client,
+            all_but_one(&Packet::write(0, &first)),
+            519,
+            &Event::None,
+        )
+}
+
+/// Whether it wants these records next, and says so over a new link.
+fn goes_on(client: &mut Client) -> bool {
+    let is_well = client.next(0) == Some(0) && client.next(1) == Some(8);
     client.connect();
-    let (_, event) = client.take(b"OK\r\n");
-    assert_eq!(rt; written(&event), b"DATA 000000\r\n".as_slice());
-    Ok(())
+    is_well && says(client, b"DATA 000000\r\n")
+}
+
+#[test]
+fn asks_for_each_place(rt: HostRuntime) {
+    let mut client = of_two_places(&rt);
+    assert!(rt; requests_both(&mut client));
+    assert!(rt; takes_both(&mut client));
+    assert!(rt; goes_on(&mut client));
 }

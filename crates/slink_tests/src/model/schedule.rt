@@ -3,7 +3,7 @@ use super::{place, record};
 use slink_feed::Mode;
 use slink_model::{Setup, Step, World, run_schedule};
 use std::alloc::Global;
-use std::test::Fail;
+use std::process::Abort;
 
 /// Client and server shake hands on a new link.
 const SHAKE: [Step; 6] = [
@@ -24,18 +24,16 @@ fn first(lists: &[Vec<[u8; 512]>]) -> &[[u8; 512]] {
 }
 
 /// The world of these steps: the place STA of XX, of which the client wants record 0 first, in a ring of two records.
-fn world_of(alloc: Global, steps: &[Step]) -> Result<World, Fail> {
-    let places = vec![in alloc; (place(b"STA")?, Some(0))]?;
+fn world_of(rt: &impl Abort, alloc: Global, steps: &[Step]) -> World {
+    let places = vec![in alloc; (place(rt, b"STA"), Some(0))].expect(rt, "memory");
     let setup = Setup {
         places,
         capacity: 2,
         first: 0,
         mode: Mode::Data,
     };
-    if !setup.has_steps(steps) || steps.len() > 1000 {
-        Err("no schedule of the place")?;
-    }
-    Ok(run_schedule(alloc, &setup, steps).map_err(|_| "no memory")?)
+    assert!(rt; setup.has_steps(steps) && steps.len() <= 1000);
+    run_schedule(alloc, &setup, steps).expect(rt, "memory")
 }
 
 /// Three records of the place.
@@ -48,54 +46,70 @@ fn records() -> [[u8; 512]; 3] {
 }
 
 /// The first record is pushed, and comes whole.
-fn one_comes(alloc: Global, records: &[[u8; 512]; 3]) -> Result<Vec<Step>, Fail> {
+fn one_comes(rt: &impl Abort, alloc: Global, records: &[[u8; 512]; 3]) -> Vec<Step> {
     let mut steps = Vec::new(alloc);
-    steps.push(Step::Append(0, records[0]))?;
-    steps.extend_from_slice(&SHAKE)?;
-    steps.extend_from_slice(&[Step::Send(0), Step::ToClient(520)])?;
-    Ok(steps)
+    steps.push(Step::Append(0, records[0])).expect(rt, "memory");
+    steps.extend_from_slice(&SHAKE).expect(rt, "memory");
+    steps
+        .extend_from_slice(&[Step::Send(0), Step::ToClient(520)])
+        .expect(rt, "memory");
+    steps
 }
 
 /// Two more are pushed.
-fn two_are_pushed(steps: &mut Vec<Step>, records: &[[u8; 512]; 3]) -> Result<(), Fail> {
-    Ok(steps.extend_from_slice(&[Step::Append(0, records[1]), Step::Append(0, records[2])])?)
+fn two_are_pushed(rt: &impl Abort, steps: &mut Vec<Step>, records: &[[u8; 512]; 3]) {
+    steps
+        .extend_from_slice(&[Step::Append(0, records[1]), Step::Append(0, records[2])])
+        .expect(rt, "memory")
 }
 
 /// The next packet comes but for its last byte.
-fn is_cut(steps: &mut Vec<Step>) -> Result<(), Fail> {
-    Ok(steps.extend_from_slice(&[Step::Send(0), Step::ToClient(519), Step::Cut])?)
+fn is_cut(rt: &impl Abort, steps: &mut Vec<Step>) {
+    steps
+        .extend_from_slice(&[Step::Send(0), Step::ToClient(519), Step::Cut])
+        .expect(rt, "memory")
 }
 
 /// Two packets come over a new link.
-fn two_come(steps: &mut Vec<Step>) -> Result<(), Fail> {
-    steps.extend_from_slice(&SHAKE)?;
-    Ok(steps.extend_from_slice(&[Step::Send(0), Step::Send(0), Step::ToClient(1040)])?)
+fn two_come(rt: &impl Abort, steps: &mut Vec<Step>) {
+    steps.extend_from_slice(&SHAKE).expect(rt, "memory");
+    steps
+        .extend_from_slice(&[Step::Send(0), Step::Send(0), Step::ToClient(1040)])
+        .expect(rt, "memory")
 }
 
 /// Whether a client holds these records after these steps, and wants this number next.
-fn holds(alloc: Global, steps: &[Step], held: &[[u8; 512]], next: u32) -> Result<bool, Fail> {
-    let world = world_of(alloc, steps)?;
-    Ok(first(&world.held) == held && world.client.next(0) == Some(next))
+fn holds(rt: &impl Abort, alloc: Global, steps: &[Step], held: &[[u8; 512]], next: u32) -> bool {
+    let world = world_of(rt, alloc, steps);
+    first(&world.held) == held && world.client.next(0) == Some(next)
 }
 
 /// Whether these records were pushed in these steps, behind the start.
-fn was_pushed(alloc: Global, steps: &[Step], pushed: &[[u8; 512]]) -> Result<bool, Fail> {
-    let world = world_of(alloc, steps)?;
-    Ok(first(&world.pushed) == pushed && world.start.as_slice() == [Some(0)].as_slice())
+fn was_pushed(rt: &impl Abort, alloc: Global, steps: &[Step], pushed: &[[u8; 512]]) -> bool {
+    let world = world_of(rt, alloc, steps);
+    first(&world.pushed) == pushed && world.start.as_slice() == [Some(0)].as_slice()
+}
+
+/// Whether the client goes on at a new link, where the first one is cut within the packet of the second record.
+fn goes_on(
+    rt: &impl Abort,
+    alloc: Global,
+    steps: &mut Vec<Step>,
+    records: &[[u8; 512]; 3],
+) -> bool {
+    two_are_pushed(rt, steps, records);
+    is_cut(rt, steps);
+    let is_well = holds(rt, alloc, steps, &records[..1], 1);
+    two_come(rt, steps);
+    is_well && holds(rt, alloc, steps, records, 3) && was_pushed(rt, alloc, steps, records)
 }
 
 #[test]
-fn goes_on_behind_the_last_record(rt: HostRuntime) -> Result<(), Fail> {
+fn goes_on_behind_the_last_record(rt: HostRuntime) {
     let records = records();
-    let mut steps = one_comes(rt.alloc(), &records)?;
-    assert!(rt; holds(rt.alloc(), &steps, &records[..1], 1)?);
-    two_are_pushed(&mut steps, &records)?;
-    is_cut(&mut steps)?;
-    assert!(rt; holds(rt.alloc(), &steps, &records[..1], 1)?);
-    two_come(&mut steps)?;
-    assert!(rt; holds(rt.alloc(), &steps, &records, 3)?);
-    assert!(rt; was_pushed(rt.alloc(), &steps, &records)?);
-    Ok(())
+    let mut steps = one_comes(&rt, rt.alloc(), &records);
+    assert!(rt; holds(&rt, rt.alloc(), &steps, &records[..1], 1));
+    assert!(rt; goes_on(&rt, rt.alloc(), &mut steps, &records));
 }
 
 /// What comes of the second link: so many bytes to the server, or else to the client, by turns.
@@ -109,44 +123,48 @@ const TURNS: [(bool, usize); 6] = [
 ];
 
 /// The first so many bytes of these turns come, and the link is cut.
-fn cut_after(steps: &mut Vec<Step>, count: usize) -> Result<(), Fail> {
+fn cut_after(rt: &impl Abort, steps: &mut Vec<Step>, count: usize) {
     let mut left = count;
-    steps.push(Step::Connect)?;
+    steps.push(Step::Connect).expect(rt, "memory");
     for (to_server, length) in TURNS {
         let some = left.min(length);
         left -= some;
-        steps.extend_from_slice(&[Step::Send(0), Step::Send(0)])?;
-        steps.push(if to_server {
-            Step::ToServer(some)
-        } else {
-            Step::ToClient(some)
-        })?;
+        steps
+            .extend_from_slice(&[Step::Send(0), Step::Send(0)])
+            .expect(rt, "memory");
+        steps
+            .push(if to_server {
+                Step::ToServer(some)
+            } else {
+                Step::ToClient(some)
+            })
+            .expect(rt, "memory");
     }
-    Ok(steps.push(Step::Cut)?)
+    steps.push(Step::Cut).expect(rt, "memory")
 }
 
 /// The steps of a link that is cut after so many bytes, and of one that goes on.
 fn cut_and_gone_on(
+    rt: &impl Abort,
     alloc: Global,
     records: &[[u8; 512]; 3],
     count: usize,
-) -> Result<Vec<Step>, Fail> {
-    let mut steps = one_comes(alloc, records)?;
-    two_are_pushed(&mut steps, records)?;
-    cut_after(&mut steps, count)?;
-    two_come(&mut steps)?;
-    Ok(steps)
+) -> Vec<Step> {
+    let mut steps = one_comes(rt, alloc, records);
+    two_are_pushed(rt, &mut steps, records);
+    cut_after(rt, &mut steps, count);
+    two_come(rt, &mut steps);
+    steps
 }
 
 #[test]
-fn goes_on_wherever_a_link_is_cut(rt: HostRuntime) -> Result<(), Fail> {
+fn goes_on_wherever_a_link_is_cut(rt: HostRuntime) {
     let records = records();
     for count in 0..1083 {
-        let steps = cut_and_gone_on(rt.alloc(), &records, count)?;
+        let steps = cut_and_gone_on(&rt, rt.alloc(), &records, count);
         assert!(rt;
-            holds(rt.alloc(), &steps, &records, 3)?,
+            holds(&rt, rt.alloc(), &steps, &records, 3),
             "cut after {count} bytes"
         );
     }
-    Ok(())
 }

@@ -3,11 +3,11 @@
 use super::client::awaiting_packets;
 use super::{record, three_pushed};
 use mseed_stream::Counted;
-use slink_feed::{LinkFault, Session, Turn, fetch_turn, serve_turn};
+use slink_feed::{Client, Feed, LinkFault, Session, Turn, fetch_turn, serve_turn};
 use slink_wire::Packet;
 use std::io;
 use std::io::{Read, Write};
-use std::test::Fail;
+use std::process::Abort;
 
 /// Tells its bytes, and takes bytes while there is room; then it fails.
 #[derive(Drop)]
@@ -42,24 +42,24 @@ fn link_of(reported: &[u8], room: usize) -> Counted<Pipe<'_>> {
     Counted::new(Pipe { reported, room })
 }
 
+/// What a client says that lacks records 1 and 2.
+const REQUEST: &[u8] = b"STATION STA XX\r\nFETCH 1\r\nEND\r\n";
+
+/// Whether the second turn of a server over a link with so much room ends so, and the client's position is this then.
+fn serves(feed: &Feed, room: usize, wanted: &Result<Turn, LinkFault>, position: u64) -> bool {
+    let mut session = Session::new();
+    let mut link = link_of(REQUEST, room);
+    serve_turn(&mut session, feed, &mut link) == Ok(Turn::Goes)
+        && serve_turn(&mut session, feed, &mut link) == *wanted
+        && session.position(0) == Some(position)
+}
+
 #[test]
-fn serves_until_the_link_fails(rt: HostRuntime) -> Result<(), Fail> {
-    let feed = three_pushed(rt.alloc(), 0)?;
-    let request = b"STATION STA XX\r\nFETCH 1\r\nEND\r\n";
-    let rows = [
-        (8 + 519, Err(LinkFault::Write(519))),
-        (8 + 520 + 520 + 2, Err(LinkFault::Write(1042))),
-        (8 + 520 + 520 + 3, Ok(Turn::Closed)),
-    ];
-    for (room, wanted) in &rows {
-        let mut session = Session::new();
-        let mut link = link_of(request, *room);
-        assert_eq!(rt; serve_turn(&mut session, &feed, &mut link), Ok(Turn::Goes));
-        assert_eq!(rt; serve_turn(&mut session, &feed, &mut link), *wanted);
-        let position = if *room == 8 + 519 { 2 } else { 3 };
-        assert_eq!(rt; session.position(0), Some(position));
-    }
-    Ok(())
+fn serves_until_the_link_fails(rt: HostRuntime) {
+    let feed = three_pushed(&rt, rt.alloc(), 0);
+    assert!(rt; serves(&feed, 8 + 519, &Err(LinkFault::Write(519)), 2));
+    assert!(rt; serves(&feed, 8 + 520 + 520 + 2, &Err(LinkFault::Write(1042)), 3));
+    assert!(rt; serves(&feed, 8 + 520 + 520 + 3, &Ok(Turn::Closed), 3));
 }
 
 /// The packets of records 1 and 2 of STA.
@@ -70,23 +70,35 @@ fn two_packets() -> [u8; 1040] {
     reported
 }
 
-#[test]
-fn fetches_until_the_output_fails(rt: HostRuntime) -> Result<(), Fail> {
+/// Whether the turns of a client end so that is told both packets, and has an output with so much room.
+fn fetches(client: &mut Client, room: usize, turns: &[Result<Turn, LinkFault>]) -> bool {
     let reported = two_packets();
-    // The first turn reads 1024 bytes, in which the second packet isn't whole.
-    let rows: [(usize, &[Result<Turn, LinkFault>], u32); 3] = [
-        (511, &[Err(LinkFault::Output(511))], 2),
-        (612, &[Ok(Turn::Goes), Err(LinkFault::Output(100))], 3),
-        (1024, &[Ok(Turn::Goes), Ok(Turn::Goes), Ok(Turn::Closed)], 3),
-    ];
-    for (room, turns, next) in &rows {
-        let mut client = awaiting_packets()?;
-        let mut link = link_of(&reported, 0);
-        let mut output = link_of(b"", *room);
-        for wanted in *turns {
-            assert_eq!(rt; fetch_turn(&mut client, &mut link, &mut output), *wanted);
-        }
-        assert_eq!(rt; client.next(0), Some(*next));
+    let mut link = link_of(&reported, 0);
+    let mut output = link_of(b"", room);
+    let mut is_well = true;
+    for wanted in turns {
+        is_well = is_well && fetch_turn(client, &mut link, &mut output) == *wanted;
     }
-    Ok(())
+    is_well
+}
+
+/// Whether the turns of such a client end so, and it wants this number next then.
+fn is_fetched(rt: &impl Abort, room: usize, turns: &[Result<Turn, LinkFault>], next: u32) -> bool {
+    let mut client = awaiting_packets(rt);
+    fetches(&mut client, room, turns) && client.next(0) == Some(next)
+}
+
+#[test]
+fn fetches_until_the_output_fails(rt: HostRuntime) {
+    // The first turn reads 1024 bytes, in which the second packet isn't whole.
+    assert!(rt; is_fetched(&rt, 511, &[Err(LinkFault::Output(511))], 2));
+    assert!(rt; is_fetched(&rt, 612, &[Ok(Turn::Goes), Err(LinkFault::Output(100))], 3));
+    assert!(rt;
+        is_fetched(
+            &rt,
+            1024,
+            &[Ok(Turn::Goes), Ok(Turn::Goes), Ok(Turn::Closed)],
+            3
+        )
+    );
 }

@@ -3,7 +3,7 @@
 use slink_wire::Command;
 
 /// The stream, in pieces. Its last line but one is too long.
-pub const PIECES: [&[u8]; 75] = [
+pub static PIECES: [&[u8]; 75] = [
     b"  FETCH A\r fetch  A\r\n\nBYE  ABCDEF  NET N",
     b"ET\r  dat",
     b"a FfFfFf",
@@ -82,7 +82,7 @@ pub const PIECES: [&[u8]; 75] = [
 ];
 
 /// What its lines before that one command say.
-pub const COMMANDS: [Command; 59] = [
+pub static COMMANDS: [Command; 59] = [
     Command::Fetch(Some(10)),
     Command::Fetch(Some(10)),
     Command::Other,

@@ -1,5 +1,7 @@
-use Rattle.std.proofs.Common.{◌∙◌, ap, arith, length, not}
-use Rattle.slink_links.proofs.Serves.{failed_exactly, lost_by}
+use Rattle.std.proofs.Common.{◌≡◌, ◌∙◌, ◌++◌, ◌∷◌, [], ap, arith, false, length, length-append, not, subst, sym, true}
+use Rattle.mseed_stream.specs.Exchanges.{exchange}
+use Rattle.slink_links.specs.Served.{HasServedEach}
+use Rattle.slink_links.proofs.Serves.{each_none, each_one, failed_exactly, lost_by, lost_none, served_first}
 use Rattle.slink_links.proofs.serving.serve_next.Goals as goal
 
 pub hang_up-requires : goal.hang_up-requires
@@ -18,13 +20,58 @@ hang_up-requires g c = record {
       c.in-Some.ensures.unwritten c.serve_link.ensures;
 }
 
-pub returns-in-Some-clause-failed : goal.returns-in-Some-clause-failed
-returns-in-Some-clause-failed g c =
-    omega (
-      arith,
-      c.hang_up.ensures.lost,
-      c.hang_up.ensures.failures,
-      c.in-Some.ensures.lost,
-      c.in-Some.ensures.failures,
-      lost_by c.is_ok-is_fine.result,
-    )
+pub returns-in-Some : goal.returns-in-Some
+returns-in-Some g c =
+    let unread = c.in-Some.ensures.unread in
+    let unwritten = c.in-Some.ensures.unwritten in
+    let more = c.hang_up.ensures.given_back
+    ∙ ap (λ xs. xs ++ exchange (g.A.Link.Source.read c.serve_link.new.link)
+    (g.A.Link.Sink.written c.serve_link.new.link) ∷ []) c.in-Some.ensures.given_back in record {
+      accepts = c.hang_up.ensures.calls ∙ c.in-Some.ensures.calls;
+      fine = λ is. (
+        omega (arith, c.hang_up.ensures.failures, c.in-Some.ensures.failures),
+        lost_none c.is_ok-is_fine.result (g.A.Accept.lost c.accept.new.self) (g.A.Accept.lost c.hang_up.new.self) is
+            c.hang_up.ensures.lost ∙ c.in-Some.ensures.lost,
+      );
+      failed = omega (
+        arith,
+        c.hang_up.ensures.lost,
+        c.hang_up.ensures.failures,
+        c.in-Some.ensures.lost,
+        c.in-Some.ensures.failures,
+        lost_by c.is_ok-is_fine.result,
+      );
+      out = omega (
+        arith,
+        c.requires,
+        c.hang_up.ensures.calls,
+        c.hang_up.ensures.failures,
+        c.in-Some.ensures.calls,
+        c.in-Some.ensures.failures,
+        ap length more ∙ length-append (g.A.Accept.given_back c.args.acceptor.now)
+            (exchange (g.A.Link.Source.read c.serve_link.new.link) (g.A.Link.Sink.written c.serve_link.new.link) ∷ []),
+      );
+      served = each_one c.args.feed.now (g.A.Accept.given_back c.args.acceptor.now)
+          (g.A.Accept.given_back c.hang_up.new.self)
+          (exchange (g.A.Link.Source.read c.serve_link.new.link) (g.A.Link.Sink.written c.serve_link.new.link)) more
+          (served_first c.args.feed.now c.serve_link.result (g.A.Link.Source.read c.in-Some.link)
+          (g.A.Link.Source.read c.serve_link.new.link)
+          (g.A.Link.Sink.written c.in-Some.link) (g.A.Link.Sink.written c.serve_link.new.link) unread unwritten
+          c.serve_link.ensures);
+    }
+
+pub returns-in-None : goal.returns-in-None
+returns-in-None g c = record {
+  accepts = c.in-None.ensures.calls;
+  fine = λ is. absurd (let bad : false ≡ true = is in cc bad);
+  failed = omega (arith, c.in-None.ensures.failures, c.in-None.ensures.lost);
+  out = omega (
+    arith,
+    c.requires,
+    c.in-None.ensures.calls,
+    c.in-None.ensures.failures,
+    ap length c.in-None.ensures.given_back,
+  );
+  served = subst (HasServedEach c.args.feed.now (g.A.Accept.given_back c.args.acceptor.now))
+      (sym c.in-None.ensures.given_back) (each_none c.args.feed.now (g.A.Accept.given_back c.args.acceptor.now));
+}
