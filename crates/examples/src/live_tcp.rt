@@ -26,8 +26,14 @@ pub fn serve_over_tcp<N: Net + Clock, I: Read + AsRawFd + Drop>(
         timeout: Some(Duration::from_secs(600)),
     };
     let mut tcp = Tcp::bind(host, alloc, plan, input)?;
-    let _ = tcp.address()?;
     serve_all(server, &mut tcp)
+}
+
+/// Where clients dial.
+pub fn address_of<C: Net + Clock, I: Read + AsRawFd + Drop>(
+    tcp: &Tcp<'_, C, I>,
+) -> io::Result<SocketAddr> {
+    tcp.address()
 }
 
 /// Serves the input, and on where something is wrong with it, until all links are done.
