@@ -1,8 +1,8 @@
 -- The rings of a feed, record after record.
 use Rattle.std.proofs.Common.{◌≡◌, ◌≢◌, ℕ, ◌+◌, ◌<◌, ◌≤◌, ◌^◌, inl, inr, zero, suc, refl, sym, ap, subst, ◌∙◌, arith}
 use Rattle.std.proofs.Common.{Bool, true, false, ◌&&◌, ◌||◌, not, List, [], ◌∷◌, ◌++◌, length, append-nil}
-use Rattle.std.proofs.Common.{if◌then◌else◌, ◌-◌, map, set, get_or, take, take_all, drop, Option, Some, None, Result}
-use Rattle.std.proofs.Common.{Ok, Err, slice_get, slice_range, bytes_eq, IsTrue, IsErrAnd}
+use Rattle.std.proofs.Common.{if◌then◌else◌, ◌-◌, map, set, get_or, take, take_all, Option, Some, None, Result}
+use Rattle.std.proofs.Common.{Ok, Err, slice_get, bytes_eq, IsErrAnd}
 use Rattle.std.specs.Bool.{OnFalse, OnTrue}
 use Rattle.std.specs.List.{filter}
 use Rattle.std.proofs.lemmas.List.{length-map, map-append, map_more}
@@ -19,9 +19,11 @@ use Rattle.mseed_stream.specs.Walk.{AreAllViews, HasHandedOut, IfGoesOn, bytes_i
 use Rattle.mseed_stream.specs.declared.fault.StreamFault.{StreamFault}
 use Rattle.mseed_stream.specs.declared.fault.StreamFault.TheVariants.{Frame, Truncated, Read, Turns, Memory as NoMemory}
 use Rattle.slink_wire.specs.Place.{Bears, Fields}
+use Rattle.slink_wire.proofs.Bearing.{bears_fails, bears_passes, one_place}
+use Rattle.slink_wire.proofs.Cuts.{both}
 use Rattle.slink_feed.specs.Rings.{HasPlace}
 use Rattle.slink_feed.specs.Window.{Shows, Window, window, with_record}
-use Rattle.slink_feed.proofs.Items.{one_value, same_or_not, shows_more, within_is}
+use Rattle.slink_feed.proofs.Items.{drop_none, get_mapped, map_got, shows_more, within_is}
 use Rattle.mseed.specs.Places.{Called, are_different, has_place, is_same}
 use Rattle.mseed.specs.FeedWords.{CanServe}
 use Rattle.mseed.specs.Filling.{AreOfFeed, IsFilling, IsOfFeed, IsPushed, feed_of, is_of, records_of, ring_of, served}
@@ -33,47 +35,16 @@ use Rattle.mseed.specs.declared.filling.Step.{Step}
 use Rattle.mseed.specs.declared.filling.Step.TheVariants.{Pushed}
 use Rattle.mseed.specs.declared.request.Serving.{Serving}
 
-both_true : (a b : Bool) → (a && b) ≡ true → (a ≡ true) × (b ≡ true)
-both_true true b h = (refl, h)
-both_true false b h = absurd (let bad : false ≡ true = h in cc bad)
-
-bears_is : (p : Fields) (r : List ℕ) → Bears r p → is_of p r ≡ true
-bears_is p r h =
-    ap (λ (t : Bool). t && bytes_eq (slice_range r 18 20) p.network)
-    ((bytes_eq-Decides (slice_range r 8 13) p.station).1 h.0)
-    ∙ (bytes_eq-Decides (slice_range r 18 20) p.network).1 h.1
-
-is_bears : (p : Fields) (r : List ℕ) → is_of p r ≡ true → Bears r p
-is_bears p r h =
-    let each : (bytes_eq (slice_range r 8 13) p.station ≡ true) × (bytes_eq (slice_range r 18 20) p.network ≡ true) =
-    both_true (bytes_eq (slice_range r 8 13) p.station) (bytes_eq (slice_range r 18 20) p.network) h in (
-      (bytes_eq-Decides (slice_range r 8 13) p.station).0 each.0,
-      (bytes_eq-Decides (slice_range r 18 20) p.network).0 each.1,
-    )
-
-not_is : (p : Fields) (r : List ℕ) → ¬ (Bears r p) → is_of p r ≡ false
-not_is p r other = by_test (is_of p r) refl
-  where
-    by_test : (t : Bool) → is_of p r ≡ t → is_of p r ≡ false
-    by_test true h = absurd (other (is_bears p r h))
-    by_test false h = h
-
--- a record is of one place at most
-one_place : (r : List ℕ) (p q : Fields) → Bears r p → Bears r q → p ≡ q
-one_place r p q a b =
-    ap (λ (s : List ℕ). record { station = s; network = p.network }) (sym a.0 ∙ b.0)
-    ∙ ap (λ (n : List ℕ). record { station = q.station; network = n }) (sym a.1 ∙ b.1)
-
 records_taken : (p : Fields) (rs : List (List ℕ)) (r : List ℕ) → Bears r p
     → records_of p (rs ++ r ∷ []) ≡ records_of p rs ++ r ∷ []
 records_taken p rs r h = filter-append (is_of p) rs (r ∷ [])
-    ∙ ap (λ (t : Bool). records_of p rs ++ (if t then r ∷ [] else [])) (bears_is p r h)
+    ∙ ap (λ (t : Bool). records_of p rs ++ (if t then r ∷ [] else [])) (bears_passes p r h)
 
 records_left : (p : Fields) (rs : List (List ℕ)) (r : List ℕ) → ¬ (Bears r p)
     → records_of p (rs ++ r ∷ []) ≡ records_of p rs
 records_left p rs r other =
     filter-append (is_of p) rs (r ∷ [])
-    ∙ (ap (λ (t : Bool). records_of p rs ++ (if t then r ∷ [] else [])) (not_is p r other)
+    ∙ (ap (λ (t : Bool). records_of p rs ++ (if t then r ∷ [] else [])) (bears_fails p r other)
     ∙ append-nil (records_of p rs))
 
 -- the ring of a place, by its records
@@ -139,7 +110,7 @@ pub distinct_of : (ps : List Called) → are_different ps ≡ true → Distinct 
 distinct_of [] h = tt
 distinct_of (p ∷ ps) h =
     let each : (not (has_place p.0 ps) ≡ true) × (are_different ps ≡ true) =
-    both_true (not (has_place p.0 ps)) (are_different ps) h in
+    both (not (has_place p.0 ps)) (are_different ps) h in
     (lacks_of p.0 ps (negated (has_place p.0 ps) each.0), distinct_of ps each.1)
   where
     negated : (a : Bool) → not a ≡ true → a ≡ false
@@ -150,18 +121,6 @@ lacks_at : (p q : Fields) (ps : List Fields) (k : ℕ) → Lacks p ps → slice_
 lacks_at p q [] k lacks is = absurd (let bad : None ≡ Some q = is in cc bad)
 lacks_at p q (x ∷ ps) zero lacks is = let same : x ≡ q = cc is in subst (λ (y : Fields). y ≢ p) same lacks.0
 lacks_at p q (x ∷ ps) (suc k) lacks is = lacks_at p q ps k lacks.1 is
-
-module _ {X Y : Type 0} where
-  mapped : (f : X → Y) (xs : List X) (k : ℕ) (y : Y) → slice_get (map f xs) k ≡ Some y
-      → (x : X) × (slice_get xs k ≡ Some x) × (f x ≡ y)
-  mapped f [] k y is = absurd (let bad : None ≡ Some y = is in cc bad)
-  mapped f (x ∷ xs) zero y is = (x, refl, cc is)
-  mapped f (x ∷ xs) (suc k) y is = mapped f xs k y is
-
-  map_got : (f : X → Y) (xs : List X) (k : ℕ) (x : X) → slice_get xs k ≡ Some x → slice_get (map f xs) k ≡ Some (f x)
-  map_got f [] k x is = absurd (let bad : None ≡ Some x = is in cc bad)
-  map_got f (z ∷ xs) zero x is = let same : z ≡ x = cc is in ap (λ w. Some (f w)) same
-  map_got f (z ∷ xs) (suc k) x is = map_got f xs k x is
 
 rings_left : (s : Serving) (rs : List (List ℕ)) (r : List ℕ) (p : Fields) (ps : List Fields) → Bears r p → Lacks p ps
     → map (ring_of s rs) ps ≡ map (ring_of s (rs ++ r ∷ [])) ps
@@ -182,7 +141,7 @@ rings_more s rs r (p ∷ ps) zero w distinct is h =
     ∙ (ap (λ (v : Window). v ∷ map (ring_of s rs) ps) (ring_taken s rs r p of)
     ∙ ap (λ (ws : List Window). ring_of s (rs ++ r ∷ []) p ∷ ws) (rings_left s rs r p ps of distinct.0))
 rings_more s rs r (p ∷ ps) (suc k) w distinct is h =
-    let at : (q : Fields) × (slice_get ps k ≡ Some q) × (ring_of s rs q ≡ w) = mapped (ring_of s rs) ps k w is in
+    let at : (q : Fields) × (slice_get ps k ≡ Some q) × (ring_of s rs q ≡ w) = get_mapped (ring_of s rs) ps k w is in
     let other : ¬ (Bears r p) =
     λ of. lacks_at p at.0 ps k distinct.0 at.1
     (one_place r at.0 p (subst (λ (v : Window). Bears r v.place) (sym at.2) h) of) in
@@ -201,7 +160,7 @@ pub of_feed : (s : Serving) (rs : List (List ℕ)) (r : List ℕ) (feed new : Li
     → IsPushed feed r new → IsOfFeed (served s) r
 of_feed s rs r feed new is pushed =
     let at : (q : Fields) × (slice_get (served s) pushed.k ≡ Some q) × (ring_of s rs q ≡ pushed.ring) =
-    mapped (ring_of s rs) (served s) pushed.k pushed.ring
+    get_mapped (ring_of s rs) (served s) pushed.k pushed.ring
     (subst (λ (ws : List Window). slice_get ws pushed.k ≡ Some pushed.ring) is pushed.there) in
     (pushed.size, pushed.k, at.0, at.1, subst (λ (v : Window). Bears r v.place) (sym at.2) pushed.bears)
 
@@ -227,7 +186,7 @@ pub next_at_most : (s : Serving) (rs : List (List ℕ)) (feed : List Window) (k 
     → slice_get feed k ≡ Some w → w.next ≤ s.first + length rs
 next_at_most s rs feed k w is here =
     let at : (q : Fields) × (slice_get (served s) k ≡ Some q) × (ring_of s rs q ≡ w) =
-    mapped (ring_of s rs) (served s) k w (subst (λ (ws : List Window). slice_get ws k ≡ Some w) is here) in
+    get_mapped (ring_of s rs) (served s) k w (subst (λ (ws : List Window). slice_get ws k ≡ Some w) is here) in
     let next : s.first + length (records_of at.0 rs) ≡ w.next = ap (λ (v : Window). v.next) at.2 in
     omega (arith, next, filter_short (is_of at.0) rs)
 
@@ -237,10 +196,6 @@ all_of_feed places [] r all is = (is, tt)
 all_of_feed places (x ∷ rs) r all is = (all.0, all_of_feed places rs r all.1 is)
 
 -- before the first record
-drop_none : (n : ℕ) → drop {A = List ℕ} n [] ≡ []
-drop_none zero = refl
-drop_none (suc n) = refl
-
 pub empty_ring : (s : Serving) (p : Fields) → record { place = p; capacity = s.capacity; records = []; next = s.first }
     ≡ ring_of s [] p
 empty_ring s p =
@@ -271,29 +226,6 @@ pushed_is old new bytes whole k size same lt bears pushed =
       bears = subst (λ (b : List ℕ). Bears b at.0.place) same (bears at.0 at.1);
       pushed = subst (λ (b : List ℕ). new ≡ set old k (with_record at.0 b)) same (pushed at.0 at.1);
     }
-
--- the rings that were looked at
-pub none_more : (feed : List Window) (r : List ℕ) (k : ℕ) (w : Window) → slice_get feed k ≡ Some w
-    → ¬ (Bears r w.place) → ((j : ℕ) (v : Window) → j < k → slice_get feed j ≡ Some v → ¬ (Bears r v.place))
-    → (j : ℕ) (v : Window) → j < k + 1 → slice_get feed j ≡ Some v → ¬ (Bears r v.place)
-none_more feed r k w here other before j v lt there = elim (same_or_not j k) [
-  | inl same ↦ λ bears. other
-      (subst (λ (x : Window). Bears r x.place)
-      (one_value (slice_get feed k) v w (subst (λ (i : ℕ). slice_get feed i ≡ Some v) same there) here) bears)
-  | inr ne ↦ before j v (omega (arith, lt, ne)) there
-]
-
-pub bears_by : (feed : List Window) (k : ℕ) (v w : Window) (r : List ℕ) (place : Fields) (t : Bool)
-    → slice_get feed k ≡ Some v → slice_get feed k ≡ Some w → place ≡ v.place → (IsTrue t → Bears r place) → t ≡ true
-    → Bears r w.place
-bears_by feed k v w r place t here there same tells is =
-    subst (λ (x : Window). Bears r x.place) (one_value (slice_get feed k) v w here there)
-    (subst (λ (p : Fields). Bears r p) same (tells is))
-
-pub bears_not : (v : Window) (r : List ℕ) (place : Fields) (t : Bool) → place ≡ v.place → (Bears r place → IsTrue t)
-    → t ≡ false → ¬ (Bears r v.place)
-bears_not v r place t same tells is bears = let bad : false ≡ true =
-    sym is ∙ tells (subst (λ (p : Fields). Bears r p) (sym same) bears) in cc bad
 
 -- The feed while rings are added.
 abbrev opening : Serving → ℕ → List Window

@@ -2,7 +2,7 @@
 use std::alloc::AllocError;
 
 /// Why a listing wasn't written whole.
-#[derive(Clone, Copy, Debug, PartialEq, Eq)]
+#[derive(Clone, Copy)]
 pub enum ShowFault {
     /// The output failed.
     Write,

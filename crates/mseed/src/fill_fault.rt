@@ -2,7 +2,7 @@
 use mseed_stream::StreamFault;
 
 /// Why a feed wasn't filled.
-#[derive(Clone, Copy, Debug, PartialEq, Eq)]
+#[derive(Clone, Copy)]
 pub enum FillFault {
     /// The input failed, or doesn't end where a record ends.
     Stream(StreamFault),

@@ -21,7 +21,7 @@ use slink_feed::{Feed, Ring};
 use std::alloc::{Allocator, Global};
 
 /// What comes next of an input.
-#[derive(Clone, Copy, Debug)]
+#[derive(Clone, Copy)]
 pub(crate) enum Step {
     /// A record, which a ring accepted.
     Pushed,

@@ -27,6 +27,7 @@ mod words;
 
 use mseed_stream::{Buffered, Counted, Sink};
 use outcome::Run;
+use std::alloc::{AllocError, Global};
 use std::io::{BufReader, ErrorKind};
 use std::process::ExitCode;
 use std::{env, io};
@@ -61,15 +62,35 @@ fn main(rt: HostRuntime) -> ExitCode {
 fn run_with_words<E: Sink>(rt: &HostRuntime, errors: &mut E) -> io::Result<Run>
     ensures { IfOk result CanBeServed }
 {
+    let words = words_of(rt)?;
+    let lent = lend(rt.alloc(), &words)?;
+    let mut input = Buffered::new(BufReader::with_capacity(rt.alloc(), ROOM, rt.reader())?);
+    let mut output = Counted::new(io::writer(rt));
+    Ok(command::run(rt.alloc(), &lent, &mut input, &mut output, errors))
+}
+
+/// The words of the command line, those after the program's name.
+///
+/// # Errors
+///
+/// `OutOfMemory` where there was no room for them, and `InvalidData` where one isn't UTF-8.
+fn words_of(rt: &HostRuntime) -> io::Result<Vec<String>> {
     let mut words = Vec::new(rt.alloc());
     for word in env::args(rt)?.skip(1) {
         words.push(word)?;
     }
-    let mut lent = Vec::new(rt.alloc());
-    for word in &words {
+    Ok(words)
+}
+
+/// The words, lent.
+///
+/// # Errors
+///
+/// Where there was no room for them.
+fn lend<'a>(alloc: Global, words: &'a [String]) -> Result<Vec<&'a str>, AllocError> {
+    let mut lent = Vec::new(alloc);
+    for word in words {
         lent.push(word.as_str())?;
     }
-    let mut input = Buffered::new(BufReader::with_capacity(rt.alloc(), ROOM, rt.reader())?);
-    let mut output = Counted::new(io::writer(rt));
-    Ok(command::run(rt.alloc(), &lent, &mut input, &mut output, errors))
+    Ok(lent)
 }

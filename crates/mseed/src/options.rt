@@ -1,10 +1,10 @@
 //! The command line as `clap` reads it.
-ghost use Rattle.std.specs.Prelude.{◌≡◌, IfOk, map, pos};
+ghost use Rattle.std.specs.Prelude.{◌≡◌, IfOk, false, map, pos};
 ghost use Rattle.clap.specs.Simple.{app_of, with_rule};
+ghost use Rattle.clap.specs.Walk.{rule_of};
 ghost use Rattle.clap.specs.declared.builder.value_parser.ValueParser.TheVariants.{Signed};
 ghost use Rattle.mseed.specs.Options.{bare_command, the_command, word_rule, places_rule, with_rules};
-ghost use Rattle.mseed.specs.Options.{flag_rule, number_rule, option_rule};
-ghost use Rattle.mseed.specs.private.Named.{kind_of, name_of, rule_named};
+ghost use Rattle.mseed.specs.private.Named.{kind_of, name_of, rule_by, rule_named};
 
 use crate::help::{ABOUT, COMMANDS, VERSION};
 use clap::builder::ValueParser;
@@ -175,8 +175,7 @@ impl Named {
 pub(crate) fn command<'a>(alloc: Global) -> Result<Command<'a>, AllocError>
     ensures { IfOk result (λ c. app_of c ≡ the_command) }
 {
-    let command = with_word(alloc, bare_command(alloc))?;
-    let command = with_places(alloc, command)?;
+    let command = with_places(alloc, bare_command(alloc))?;
     with_all(alloc, command, &ALL)
 }
 
@@ -191,22 +190,15 @@ fn bare_command<'a>(alloc: Global) -> Command<'a>
         .no_binary_name(true)
 }
 
-/// With the place of the command's word.
-fn with_word<'a>(alloc: Global, command: Command<'a>) -> Result<Command<'a>, AllocError>
-    ensures { IfOk result (λ c. app_of c ≡ with_rule (app_of command.entry) word_rule) }
-{
-    command.arg(Arg::new(alloc, "command").help("audit, join, show, repack, serve or fetch"))
-}
-
-/// With further places.
+/// With the place of the command's word, and further places.
 fn with_places<'a>(alloc: Global, command: Command<'a>) -> Result<Command<'a>, AllocError>
-    ensures { IfOk result (λ c. app_of c ≡ with_rule (app_of command.entry) places_rule) }
+    ensures { IfOk result (λ c. app_of c ≡ with_rule (with_rule (app_of command.entry) word_rule) places_rule) }
 {
-    command.arg(
-        Arg::new(alloc, "place").action(ArgAction::Append).help(
-            "serve, fetch: further stations, NET_STA; of fetch also NET_STA:HEX",
-        ),
-    )
+    let word = Arg::new(alloc, "command").help("audit, join, show, repack, serve or fetch");
+    let places = Arg::new(alloc, "place").action(ArgAction::Append).help(
+        "serve, fetch: further stations, NET_STA; of fetch also NET_STA:HEX",
+    );
+    command.arg(word)?.arg(places)
 }
 
 /// With all of these.
@@ -219,73 +211,35 @@ fn with_all<'a>(
 {
     let mut command = command;
     for named in all {
-        command = with_named(alloc, command, *named)?;
+        command = with_argument(alloc, command, named.name(), named.kind(), named.help())?;
     }
     Ok(command)
 }
 
-/// With one of them.
-fn with_named<'a>(
+/// With an argument behind `--`, by its name and what stands behind it.
+fn with_argument<'a>(
     alloc: Global,
     command: Command<'a>,
-    named: Named,
+    name: &'a str,
+    kind: Kind,
+    help: &'a str,
 ) -> Result<Command<'a>, AllocError>
-    ensures { IfOk result (λ c. app_of c ≡ with_rule (app_of command.entry) (rule_named named)) }
+    ensures { IfOk result (λ c. app_of c ≡ with_rule (app_of command.entry) (rule_by kind name.entry.now)) }
 {
-    let (name, help) = (named.name(), named.help());
-    match named.kind() {
-        Kind::Flag => with_flag(alloc, command, name, help),
-        Kind::Text => with_option(alloc, command, name, help),
-        Kind::Number(most) => with_number(alloc, command, name, numbers(most), help),
+    command.arg(argument(alloc, name, kind, help))
+}
+
+/// The argument.
+fn argument<'a>(alloc: Global, name: &'a str, kind: Kind, help: &'a str) -> Arg<'a>
+    ensures rule { rule_of result ≡ rule_by kind name.entry.now }
+    ensures global { result.global ≡ false }
+{
+    let argument = Arg::new(alloc, name).long(name).help(help);
+    match kind {
+        Kind::Flag => argument.action(ArgAction::SetTrue),
+        Kind::Text => argument,
+        Kind::Number(most) => argument.value_parser(numbers(most)),
     }
-}
-
-/// With a flag.
-fn with_flag<'a>(
-    alloc: Global,
-    command: Command<'a>,
-    name: &'a str,
-    help: &'a str,
-) -> Result<Command<'a>, AllocError>
-    ensures { IfOk result (λ c. app_of c ≡ with_rule (app_of command.entry) (flag_rule name.entry.now)) }
-{
-    command.arg(
-        Arg::new(alloc, name)
-            .long(name)
-            .action(ArgAction::SetTrue)
-            .help(help),
-    )
-}
-
-/// With an option that takes a value.
-fn with_option<'a>(
-    alloc: Global,
-    command: Command<'a>,
-    name: &'a str,
-    help: &'a str,
-) -> Result<Command<'a>, AllocError>
-    ensures { IfOk result (λ c. app_of c ≡ with_rule (app_of command.entry) (option_rule name.entry.now)) }
-{
-    command.arg(Arg::new(alloc, name).long(name).help(help))
-}
-
-/// With an option that takes a number.
-fn with_number<'a>(
-    alloc: Global,
-    command: Command<'a>,
-    name: &'a str,
-    numbers: ValueParser<'a>,
-    help: &'a str,
-) -> Result<Command<'a>, AllocError>
-    ensures { IfOk result (λ c. app_of c
-        ≡ with_rule (app_of command.entry) (number_rule name.entry.now numbers.entry)) }
-{
-    command.arg(
-        Arg::new(alloc, name)
-            .long(name)
-            .value_parser(numbers)
-            .help(help),
-    )
 }
 
 /// The numbers from 1 to one.

@@ -42,7 +42,7 @@ pub enum Request {
 }
 
 /// How parts are joined.
-#[derive(Clone, Copy, Debug, PartialEq, Eq)]
+#[derive(Clone, Copy)]
 pub struct Joining {
     /// What is written.
     pub form: Form,
@@ -51,7 +51,7 @@ pub struct Joining {
 }
 
 /// What records an archive is packed into.
-#[derive(Clone, Copy, Debug, PartialEq, Eq)]
+#[derive(Clone, Copy)]
 pub struct Packing {
     /// They have 2 to the power of this many bytes.
     pub exponent: u8,

@@ -19,7 +19,7 @@ use std::alloc::Allocator;
 const GATHERED: usize = 1 << 16;
 
 /// What comes next of an input.
-#[derive(Clone, Copy, Debug)]
+#[derive(Clone, Copy)]
 pub(crate) enum Step {
     /// A record, whose line was added.
     Listed,

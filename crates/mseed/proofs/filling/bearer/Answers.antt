@@ -1,6 +1,6 @@
 use Rattle.std.proofs.Common.{arith}
 use Rattle.slink_feed.proofs.Items.{is_within}
-use Rattle.mseed.proofs.Fills.{bears_by, bears_not, none_more}
+use Rattle.slink_live.proofs.Borne.{bears_by, bears_not, none_more}
 use Rattle.mseed.proofs.filling.bearer.Goals as goal
 
 pub returns-then-bears-clause-some : goal.returns-then-bears-clause-some
