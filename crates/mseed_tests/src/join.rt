@@ -4,17 +4,16 @@ mod auditing;
 mod joining;
 mod joining_each;
 
+use crate::records::{START, alone, both};
 use linked_list_allocator::LocalHeap;
-use mseed_audit::{Channel, Finding, Findings, Head, Tail, Why, push_fault_line};
+use mseed_audit::{Channel, push_fault_line};
 use mseed_join::{
     HEADER, push_channel_line, push_counts_line, push_faults_line, read_channel_line,
     read_counts_line, read_fault_line, read_faults_line,
 };
-use mseed_record::{Codes, Leap};
-use mseed_time::{Micros, Ratio};
-use std::alloc::{AllocError, Global};
+use mseed_record::Codes;
+use std::alloc::Global;
 use std::process::Abort;
-use std::test::Fail;
 
 /// A channel of a record, and the same with one that begins 25,001 microseconds late behind it.
 static LINES: [&str; 2] = [
@@ -103,169 +102,124 @@ static NO_FAULTS: [&str; 6] = [
 ];
 
 /// The line of a channel with these fields.
-fn line_with(alloc: Global, fields: &str) -> Result<Vec<u8>, AllocError> {
+fn line_with(rt: &impl Abort, alloc: Global, fields: &str) -> Vec<u8> {
     let mut line = Vec::new(alloc);
-    line.extend_from_slice(b"000A1F20FF30390941465F7E records 12 samples 345 ")?;
-    line.extend_from_slice(fields.as_bytes())?;
-    line.push(b'\n')?;
-    Ok(line)
+    line.extend_from_slice(b"000A1F20FF30390941465F7E records 12 samples 345 ")
+        .expect(rt, "memory");
+    line.extend_from_slice(fields.as_bytes())
+        .expect(rt, "memory");
+    line.push(b'\n').expect(rt, "memory");
+    line
 }
 
-/// The beginning of the channel of both lines.
-fn head(start: Micros, rate: Ratio) -> Head {
-    Head {
-        number: 1,
-        offset: 0,
-        start,
-        rate,
-    }
-}
-
-/// Its end, where its last record begins then.
-fn tail(start: Micros, rate: Ratio) -> Tail {
-    Tail {
-        start,
-        samples: 16,
-        rate,
-        leap: Leap::None,
-    }
-}
-
-/// The channel of the first line.
-fn one(start: Micros, rate: Ratio) -> Channel {
-    Channel {
-        records: 1,
-        samples: 16,
-        findings: Findings::Nothing {
-            head: head(start, rate),
-            tail: tail(start, rate),
-        },
-    }
-}
-
-/// The channel of the second line.
-fn two(start: Micros, late: Micros, rate: Ratio) -> Channel {
-    Channel {
-        records: 2,
-        samples: 32,
-        findings: Findings::Counted {
-            count: 1,
-            first: Finding {
-                number: 2,
-                offset: 128,
-                why: Why::Gap(25_001),
-            },
-            head: Some(head(start, rate)),
-            tail: Some(tail(late, rate)),
-        },
-    }
-}
-
-/// Whether the line of a channel is that of the first instant of 2024 and 20 samples a second, and reads so.
-fn is_read(line: &str, wanted: Channel) -> bool {
+/// Whether the line of XX_STA__BHZ reads so.
+fn is_read(line: &str, wanted: &Channel) -> bool {
     match read_channel_line(line.as_bytes()) {
-        Some((codes, channel)) => codes == Codes::of_key(*b"XXSTA    BHZ") && channel == wanted,
+        Some((codes, channel)) => codes == Codes::of_key(*b"XXSTA    BHZ") && channel == *wanted,
         None => false,
     }
 }
 
 #[test]
 fn reads_rows(rt: HostRuntime) {
-    let start = Micros::new(1_704_067_200_000_000).expect(&rt, "an instant");
-    let late = Micros::new(1_704_067_200_825_001).expect(&rt, "an instant");
-    let rate = Ratio::new(20, 1).expect(&rt, "a rate");
-    assert!(rt; is_read(LINES[0], one(start, rate)));
-    assert!(rt; is_read(LINES[1], two(start, late, rate)));
+    assert!(rt; is_read(LINES[0], &alone(&rt, START)));
+    assert!(rt; is_read(LINES[1], &both(&rt)));
     assert!(rt; read_counts_line(b"records 2 bytes 256\n") == Some((2, 256)));
     assert!(rt; read_faults_line(b"faults 3\n") == Some(3));
     assert!(rt; HEADER == b"mseed part 1\n".as_slice());
 }
 
 /// Whether what is read of a channel's line is written as it was.
-fn is_written_again(alloc: Global, line: &[u8]) -> Result<bool, AllocError> {
+fn is_written_again(rt: &impl Abort, alloc: Global, line: &[u8]) -> bool {
     let mut text = Vec::new(alloc);
     match read_channel_line(line) {
-        Some((codes, channel)) => push_channel_line(&mut text, &codes, &channel)?,
-        None => return Ok(false),
+        Some((codes, channel)) => push_channel_line(&mut text, &codes, &channel).expect(
+            rt, "memory",
+        ),
+        None => return false,
     }
-    Ok(text.as_slice() == line)
+    text.as_slice() == line
 }
 
 /// Whether what is read of a fault's line is written as it was.
-fn is_fault_written_again(alloc: Global, line: &[u8]) -> Result<bool, AllocError> {
+fn is_fault_written_again(rt: &impl Abort, alloc: Global, line: &[u8]) -> bool {
     let mut text = Vec::new(alloc);
     match read_fault_line(line, 128) {
-        Some(fault) => push_fault_line(&mut text, &fault)?,
-        None => return Ok(false),
+        Some(fault) => push_fault_line(&mut text, &fault).expect(rt, "memory"),
+        None => return false,
     }
-    Ok(text.as_slice() == line)
+    text.as_slice() == line
 }
 
 /// The lines of counts, of no faults and of three.
-fn counts(alloc: Global) -> Result<Vec<u8>, AllocError> {
+fn counts(rt: &impl Abort, alloc: Global) -> Vec<u8> {
     let mut text = Vec::new(alloc);
-    push_counts_line(&mut text, 2, 256)?;
-    push_faults_line(&mut text, 0)?;
-    push_faults_line(&mut text, 3)?;
-    Ok(text)
+    push_counts_line(&mut text, 2, 256).expect(rt, "memory");
+    push_faults_line(&mut text, 0).expect(rt, "memory");
+    push_faults_line(&mut text, 3).expect(rt, "memory");
+    text
 }
 
 #[test]
-fn writes_what_it_reads(rt: HostRuntime) -> Result<(), Fail> {
+fn writes_what_it_reads(rt: HostRuntime) {
     for fields in &FIELDS {
-        let line = line_with(rt.alloc(), fields)?;
-        assert!(rt; is_written_again(rt.alloc(), &line)?, "{fields}");
+        let line = line_with(&rt, rt.alloc(), fields);
+        assert!(rt; is_written_again(&rt, rt.alloc(), &line), "{fields}");
     }
     for fault in &FAULTS {
         assert!(rt;
-            is_fault_written_again(rt.alloc(), fault.as_bytes())?,
+            is_fault_written_again(&rt, rt.alloc(), fault.as_bytes()),
             "{fault}"
         );
     }
-    let text = counts(rt.alloc())?;
+    let text = counts(&rt, rt.alloc());
     assert!(rt; text.as_slice() == b"records 2 bytes 256\nfaults 3\n".as_slice());
-    Ok(())
+}
+
+/// Asserts that no prefix of a line is a channel's.
+fn assert_whole(rt: &impl Abort, line: &[u8]) {
+    for end in 0..line.len() {
+        assert!(rt; read_channel_line(&line[..end]).is_none(), "{end}");
+    }
+}
+
+/// What is no line of a channel, and none of counts or faults.
+fn refuses_each() -> bool {
+    read_channel_line(b"58585354412020202042485a records 1").is_none()
+        && read_faults_line(b"faults 0\n").is_none()
+        && read_counts_line(b"records 2 channels 1\n").is_none()
 }
 
 #[test]
-fn refuses_other_texts(rt: HostRuntime) -> Result<(), Fail> {
+fn refuses_other_texts(rt: HostRuntime) {
     for fields in &REFUSED {
-        let line = line_with(rt.alloc(), fields)?;
+        let line = line_with(&rt, rt.alloc(), fields);
         assert!(rt; read_channel_line(&line).is_none(), "{fields}");
     }
     for text in &NO_FAULTS {
         assert!(rt; read_fault_line(text.as_bytes(), 128).is_none(), "{text}");
     }
-    let whole = LINES[0].as_bytes();
-    for end in 0..whole.len() {
-        assert!(rt; read_channel_line(&whole[..end]).is_none(), "{end}");
-    }
-    assert!(rt; read_channel_line(b"58585354412020202042485a records 1").is_none());
-    assert!(rt; read_faults_line(b"faults 0\n").is_none());
-    assert!(rt; read_counts_line(b"records 2 channels 1\n").is_none());
-    Ok(())
+    assert_whole(&rt, LINES[0].as_bytes());
+    assert!(rt; refuses_each());
 }
 
 /// Writes the second line with the memory of a heap, and says whether it was enough. Where it wasn't, a prefix is
 /// written.
-fn is_enough(rt: &impl Abort, heap: &LocalHeap, codes: &Codes, channel: &Channel) -> bool {
-    let mut text = Vec::new(heap);
-    let is_whole = push_channel_line(&mut text, codes, channel).is_ok();
+fn is_enough(rt: &impl Abort, heap: &LocalHeap) -> bool {
     let line = LINES[1].as_bytes();
+    let (codes, channel) = read_channel_line(line).expect(rt, "a channel");
+    let mut text = Vec::new(heap);
+    let is_whole = push_channel_line(&mut text, &codes, &channel).is_ok();
     assert!(rt; line.starts_with(&text) && (!is_whole || text.len() == line.len()));
     is_whole
 }
 
 #[test]
-fn refuses_memory(rt: HostRuntime) -> Result<(), Fail> {
-    let (codes, channel) = read_channel_line(LINES[1].as_bytes()).ok_or("no channel")?;
+fn refuses_memory(rt: HostRuntime) {
     let mut written = 0usize;
     for size in 1..=64 {
-        let heap = LocalHeap::new(rt.alloc(), size * 16)?;
-        if is_enough(&rt, &heap, &codes, &channel) {
-            written = written.saturating_add(1);
-        }
+        let heap = LocalHeap::new(rt.alloc(), size * 16).expect(&rt, "memory");
+        written = written.saturating_add(usize::from(is_enough(&rt, &heap)));
     }
     assert!(rt; 0 < written && written < 64);
-    Ok(())
 }

@@ -1,6 +1,8 @@
 //! The records of the rows, each one sound record but for some of its bytes.
 
-use mseed_record::RecordView;
+use mseed_audit::{Channel, Finding, Findings, Head, Tail, Why};
+use mseed_record::{Leap, RecordView};
+use mseed_time::{Micros, Ratio};
 use std::process::Abort;
 
 /// 16 samples at 20 a second from the first instant of 2024, of the channel XX_STA__BHZ.
@@ -58,4 +60,63 @@ pub(crate) fn two(next: &[u8; 128]) -> [u8; 256] {
 /// The view of a record.
 pub(crate) fn view<'a>(rt: &impl Abort, bytes: &'a [u8]) -> RecordView<'a> {
     RecordView::of(bytes).expect(rt, "a record")
+}
+
+/// When the first record begins, in microseconds.
+pub(crate) const START: i64 = 1_704_067_200_000_000;
+
+/// When the record begins that follows it.
+pub(crate) const NEXT_START: i64 = 1_704_067_200_800_000;
+
+/// When the record begins that is late behind it.
+pub(crate) const LATE_START: i64 = 1_704_067_200_825_001;
+
+/// The beginning of a channel whose first record has this number, offset and start.
+pub(crate) fn head(rt: &impl Abort, number: u64, offset: u64, start: i64) -> Head {
+    Head {
+        number,
+        offset,
+        start: Micros::new(start).expect(rt, "an instant"),
+        rate: Ratio::new(20, 1).expect(rt, "a rate"),
+    }
+}
+
+/// The end of a channel whose last record begins then.
+pub(crate) fn tail(rt: &impl Abort, start: i64) -> Tail {
+    Tail {
+        start: Micros::new(start).expect(rt, "an instant"),
+        samples: 16,
+        rate: Ratio::new(20, 1).expect(rt, "a rate"),
+        leap: Leap::None,
+    }
+}
+
+/// The channel of one record alone, which begins then.
+pub(crate) fn alone(rt: &impl Abort, start: i64) -> Channel {
+    Channel {
+        records: 1,
+        samples: 16,
+        findings: Findings::Nothing {
+            head: head(rt, 1, 0, start),
+            tail: tail(rt, start),
+        },
+    }
+}
+
+/// The channel of the first record and the late one behind it.
+pub(crate) fn both(rt: &impl Abort) -> Channel {
+    Channel {
+        records: 2,
+        samples: 32,
+        findings: Findings::Counted {
+            count: 1,
+            first: Finding {
+                number: 2,
+                offset: 128,
+                why: Why::Gap(25_001),
+            },
+            head: Some(head(rt, 1, 0, START)),
+            tail: Some(tail(rt, LATE_START)),
+        },
+    }
 }

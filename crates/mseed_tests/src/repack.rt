@@ -4,7 +4,7 @@ ghost use Rattle.std.specs.Prelude.{◌≤◌, ◌^◌, length};
 use crate::records::{change, put, view, with};
 use mseed_pack::Options;
 use mseed_record::RecordView;
-use mseed_repack::{ChannelFault, Left, repack_channel, repack_stretches};
+use mseed_repack::{ChannelFault, Left, StretchesFault, repack_channel, repack_stretches};
 use mseed_stream::Counted;
 use std::alloc::Global;
 use std::process::Abort;
@@ -76,31 +76,36 @@ fn refuses_what_is_not_sound(rt: HostRuntime) {
     );
 }
 
-#[test]
-fn packs_an_archive_and_leaves_out_its_log(rt: HostRuntime) {
-    // Text (encoding 0), which isn't read, of another channel; and a gap of 8.4 s.
-    let log = numbered(&[(15, b"LOG"), (52, &[0])]);
-    let archive = three(&numbered(&[]), &log, &numbered(&[(26, &[10])]));
-    let options = Options::new(7, 3, 1).expect(&rt, "options");
-    let mut output = Counted::new(Vec::new(rt.alloc()));
-    let mut lines = Counted::new(Vec::new(rt.alloc()));
-    let answer = repack_stretches(
-        rt.alloc(),
-        &options,
-        true,
-        &mut Counted::new(archive.as_slice()),
-        &mut output,
-        &mut lines,
-    );
-    assert!(rt; answer == Ok(Left::Broken));
-    assert!(rt; are_both(&output.into_inner()));
-    let reported = lines.into_inner();
-    assert!(rt; reported.as_slice() == b"mseed: XX_STA__LOG is broken\n".as_slice());
-}
-
 /// Whether these are both records of an archive without its log, with the first two numbers.
 fn are_both(packed: &[u8]) -> bool {
     let first = with(&[(0, b"000001")]);
     let second = with(&[(0, b"000002"), (26, &[10])]);
     packed.strip_prefix(first.as_slice()) == Some(second.as_slice())
+}
+
+/// Packs an archive anew by its stretches. Answers what was left, what is written, and what is reported.
+fn left_of(
+    rt: &impl Abort,
+    alloc: Global,
+    archive: &[u8],
+) -> (Result<Left, StretchesFault>, Vec<u8>, Vec<u8>) {
+    let options = Options::new(7, 3, 1).expect(rt, "options");
+    let mut input = Counted::new(archive);
+    let mut output = Counted::new(Vec::new(alloc));
+    let mut lines = Counted::new(Vec::new(alloc));
+    let left = repack_stretches(alloc, &options, true, &mut input, &mut output, &mut lines);
+    (left, output.into_inner(), lines.into_inner())
+}
+
+/// What is reported of the log.
+const REPORTED: &[u8] = b"mseed: XX_STA__LOG is broken\n";
+
+#[test]
+fn packs_an_archive_and_leaves_out_its_log(rt: HostRuntime) {
+    // Text (encoding 0), which isn't read, of another channel; and a gap of 8.4 s.
+    let log = numbered(&[(15, b"LOG"), (52, &[0])]);
+    let archive = three(&numbered(&[]), &log, &numbered(&[(26, &[10])]));
+    let (left, packed, reported) = left_of(&rt, rt.alloc(), &archive);
+    assert!(rt; left == Ok(Left::Broken) && are_both(&packed));
+    assert!(rt; reported.as_slice() == REPORTED);
 }

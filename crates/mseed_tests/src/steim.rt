@@ -79,9 +79,17 @@ fn refuses_words_without_a_row(rt: HostRuntime) {
     }
 }
 
+/// Whether a word is read as a row says.
+fn is_row(row: &words::Row) -> bool {
+    match unpack_word(row.0, row.1 % 4, row.2) {
+        Ok(found) => row.4.get(..row.3) == Some(found.as_slice()),
+        Err(BadWord) => row.3 == 8,
+    }
+}
+
 #[test]
 fn reads_a_hundred_words(rt: HostRuntime) {
-    for word in &words::WORDS {
-        assert!(rt; is_word(word), "{:08x}", word.2);
+    for row in &words::WORDS {
+        assert!(rt; is_row(row), "{:08x}", row.2);
     }
 }

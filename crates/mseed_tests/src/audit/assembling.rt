@@ -4,7 +4,6 @@ use crate::records::{BHN, FIRST, LATE, NEXT, view, with};
 use mseed_audit::{Finding, NotContinuous, Series, Why, series};
 use mseed_record::Codes;
 use mseed_time::{LeapStep, Micros};
-use std::test::Fail;
 
 /// The samples of the first record, twice.
 static TWICE: [i32; 32] = [
@@ -36,8 +35,10 @@ fn joins_the_samples_of_a_channel(rt: HostRuntime) {
 }
 
 #[test]
-fn is_given_leap_seconds(rt: HostRuntime) -> Result<(), Fail> {
-    let steps = vec![in rt.alloc(); (1, LeapStep::Minus), (16, LeapStep::Plus)]?;
+fn is_given_leap_seconds(rt: HostRuntime) {
+    let steps = vec![in rt.alloc(); (1, LeapStep::Minus), (16, LeapStep::Plus)].expect(
+        &rt, "memory",
+    );
     let views = [view(&rt, &FIRST)];
     match series(rt.alloc(), &views, &views[0].codes()) {
         Ok(mut series) => {
@@ -45,7 +46,6 @@ fn is_given_leap_seconds(rt: HostRuntime) -> Result<(), Fail> {
         }
         Err(_) => assert!(rt; false, "a continuous channel"),
     }
-    Ok(())
 }
 
 /// Whether there is no series for this reason.

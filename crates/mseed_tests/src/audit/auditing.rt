@@ -1,5 +1,7 @@
 //! A cutter and an audit that go on where they were once memory that was refused is given.
+ghost use Rattle.std.specs.Prelude.{◌≡◌};
 ghost use Rattle.mseed_stream.specs.Cutting.{IsAlong};
+ghost use Rattle.mseed_stream.specs.Device.{nothing_read};
 
 use super::cutting::blocks_of;
 use crate::records::{NEXT, two, with};
@@ -9,7 +11,6 @@ use mseed_record::{Codes, RecordView};
 use mseed_stream::{Counted, Cutter, Source, StreamFault};
 use std::alloc::Allocator;
 use std::process::Abort;
-use std::test::Fail;
 
 /// Adds a record to an audit of few.
 fn add<A: Allocator + Copy>(
@@ -86,20 +87,31 @@ fn is_continuous(verdicts: &[(Codes, Verdict)]) -> bool {
     }
 }
 
-#[test]
-fn goes_on_where_memory_is_refused(rt: HostRuntime) -> Result<(), Fail> {
-    let bytes = two(&with(NEXT));
-    let heap = LocalHeap::new(rt.alloc(), 8192)?;
-    let mut blocks = blocks_of(rt.alloc(), &heap, 256)?;
-    let mut source = Counted::new(bytes.as_slice());
-    let mut cutter = Cutter::new(&heap);
-    let mut audit = Audit::new(&heap);
-    let first = cut_in_turn(&rt, &mut cutter, &mut audit, &mut source, &mut blocks);
-    let (cuts, adds) = first.expect(&rt, "a record");
+/// Asserts that a cutter and an audit with this memory go on behind more than one refusal each, and then need no more
+/// for a second record.
+fn assert_goes_on<A: Allocator + Copy, R: Source, B: Drop>(
+    rt: &impl Abort,
+    memory: A,
+    source: &mut R,
+    blocks: &mut Vec<B>,
+)
+    requires { R.read source.old ≡ nothing_read }
+{
+    let mut cutter = Cutter::new(memory);
+    let mut audit = Audit::new(memory);
+    let first = cut_in_turn(rt, &mut cutter, &mut audit, source, blocks);
+    let (cuts, adds) = first.expect(rt, "a record");
     assert!(rt; cuts > 1 && adds > 1);
-    let second = cut_in_turn(&rt, &mut cutter, &mut audit, &mut source, &mut blocks);
+    let second = cut_in_turn(rt, &mut cutter, &mut audit, source, blocks);
     assert!(rt; second == Some((0, 0)));
     assert!(rt; audit.added() == 2);
     assert!(rt; is_continuous(audit.finish().as_slice()));
-    Ok(())
+}
+
+#[test]
+fn goes_on_where_memory_is_refused(rt: HostRuntime) {
+    let bytes = two(&with(NEXT));
+    let heap = LocalHeap::new(rt.alloc(), 8192).expect(&rt, "memory");
+    let mut blocks = blocks_of(&rt, rt.alloc(), &heap, 256);
+    assert_goes_on(&rt, &heap, &mut Counted::new(bytes.as_slice()), &mut blocks);
 }

@@ -12,7 +12,6 @@ use std::alloc::{AllocError, Allocator, Global};
 use std::io;
 use std::io::BufReader;
 use std::process::Abort;
-use std::test::Fail;
 
 /// The header of a record of 48 32-bit integers from the first instant of 2024, and its blockettes.
 static HEAD: [u8; 64] = [
@@ -107,26 +106,26 @@ fn answers<R: Source>(alloc: Global, source: &mut R) -> [Answer; 4]
 }
 
 /// Appends a record of 2^exponent bytes, with zeros for its integers.
-fn push_record(bytes: &mut Vec<u8>, exponent: u8) -> Result<(), AllocError> {
+fn push_record(rt: &impl Abort, bytes: &mut Vec<u8>, exponent: u8) {
     let mut head = HEAD;
     head[EXPONENT] = exponent;
     let end = bytes.len().saturating_add(1 << (exponent % 21));
-    bytes.extend_from_slice(&head)?;
-    bytes.resize(end, 0)
+    bytes.extend_from_slice(&head).expect(rt, "memory");
+    bytes.resize(end, 0).expect(rt, "memory");
 }
 
 /// Records of these exponents, one after another.
-fn records(alloc: Global, exponents: &[u8]) -> Result<Vec<u8>, AllocError> {
+fn records(rt: &impl Abort, alloc: Global, exponents: &[u8]) -> Vec<u8> {
     let mut bytes = Vec::new(alloc);
     for exponent in exponents {
-        push_record(&mut bytes, *exponent)?;
+        push_record(rt, &mut bytes, *exponent);
     }
-    Ok(bytes)
+    bytes
 }
 
 #[test]
-fn cuts_records_in_any_pieces(rt: HostRuntime) -> Result<(), Fail> {
-    let bytes = records(rt.alloc(), &[8, 7, 9])?;
+fn cuts_records_in_any_pieces(rt: HostRuntime) {
+    let bytes = records(&rt, rt.alloc(), &[8, 7, 9]);
     let wanted = [
         Answer::Record(0, 256),
         Answer::Record(256, 128),
@@ -139,7 +138,6 @@ fn cuts_records_in_any_pieces(rt: HostRuntime) -> Result<(), Fail> {
             "{most}"
         );
     }
-    Ok(())
 }
 
 /// Whether a record of so many bytes is looked at where it lies, or else copied, and the cutter has so much room then.
@@ -168,22 +166,23 @@ fn lends_three<R: Source>(alloc: Global, source: &mut R) -> bool
 }
 
 #[test]
-fn lends_records_where_they_lie(rt: HostRuntime) -> Result<(), Fail> {
-    let bytes = records(rt.alloc(), &[7, 8, 9])?;
+fn lends_records_where_they_lie(rt: HostRuntime) {
+    let bytes = records(&rt, rt.alloc(), &[7, 8, 9]);
     let pieces = Pieces {
         rest: &bytes,
         most: 700,
         calls_before_failure: NEVER,
         kind: io::ErrorKind::Interrupted,
     };
-    let mut source = Buffered::new(BufReader::with_capacity(rt.alloc(), 4096, pieces)?);
+    let mut source = Buffered::new(BufReader::with_capacity(rt.alloc(), 4096, pieces).expect(
+        &rt, "memory",
+    ));
     assert!(rt; lends_three(rt.alloc(), &mut source));
-    Ok(())
 }
 
 #[test]
-fn keeps_the_fault_of_a_read(rt: HostRuntime) -> Result<(), Fail> {
-    let bytes = records(rt.alloc(), &[7, 7])?;
+fn keeps_the_fault_of_a_read(rt: HostRuntime) {
+    let bytes = records(&rt, rt.alloc(), &[7, 7]);
     let fault = Answer::Fault(StreamFault::Read(128));
     let mut source = Counted::new(Pieces {
         rest: &bytes,
@@ -194,73 +193,85 @@ fn keeps_the_fault_of_a_read(rt: HostRuntime) -> Result<(), Fail> {
     let wanted = [Answer::Record(0, 128), fault, fault, fault];
     assert!(rt; answers(rt.alloc(), &mut source) == wanted);
     assert!(rt; source.get_ref().rest.len() == 56, "the reader would go on");
-    Ok(())
 }
 
 /// As many blocks of 32 bytes as a heap has, or so many.
 pub(super) fn blocks_of<'a>(
+    rt: &impl Abort,
     alloc: Global,
     heap: &'a LocalHeap,
     most: usize,
-) -> Result<Vec<Vec<u8, &'a LocalHeap>>, AllocError> {
+) -> Vec<Vec<u8, &'a LocalHeap>> {
     let mut blocks = Vec::new(alloc);
     for _ in 0..most {
         if let Ok(block) = Vec::with_capacity(heap, 32) {
-            blocks.push(block)?;
+            blocks.push(block).expect(rt, "memory");
         }
     }
-    Ok(blocks)
+    blocks
+}
+
+/// Asserts that a cutter goes on behind more than three refusals, and cuts two records.
+fn assert_cut<A: Allocator, R: Source, B: Drop>(
+    rt: &impl Abort,
+    cutter: &mut Cutter<A>,
+    source: &mut R,
+    blocks: &mut Vec<B>,
+)
+    requires { IsAlong (R.read source.old) cutter.old }
+{
+    let refusals = refusals_before_record(cutter, source, blocks);
+    assert!(rt; refusals.expect(rt, "a record") > 3);
+    assert!(rt; next_answer(cutter, source) == Answer::Record(512, 128));
+    assert!(rt; next_answer(cutter, source) == Answer::End);
 }
 
 #[test]
-fn goes_on_where_memory_is_refused_in_turn(rt: HostRuntime) -> Result<(), Fail> {
-    let bytes = records(rt.alloc(), &[9, 7])?;
-    let heap = LocalHeap::new(rt.alloc(), 2048)?;
-    let mut blocks = blocks_of(rt.alloc(), &heap, 64)?;
+fn goes_on_where_memory_is_refused_in_turn(rt: HostRuntime) {
+    let bytes = records(&rt, rt.alloc(), &[9, 7]);
+    let heap = LocalHeap::new(rt.alloc(), 2048).expect(&rt, "memory");
+    let mut blocks = blocks_of(&rt, rt.alloc(), &heap, 64);
     let mut cutter = Cutter::new(&heap);
-    let mut source = in_pieces(&bytes, 100);
-    let refusals = refusals_before_record(&mut cutter, &mut source, &mut blocks);
-    assert!(rt; refusals.expect(&rt, "a record") > 3);
-    assert!(rt; next_answer(&mut cutter, &mut source) == Answer::Record(512, 128));
-    assert!(rt; next_answer(&mut cutter, &mut source) == Answer::End);
-    Ok(())
+    assert_cut(&rt, &mut cutter, &mut in_pieces(&bytes, 100), &mut blocks);
 }
 
 /// Splits twenty records with the memory of a heap, and says whether it was enough.
 fn splits(rt: &impl Abort, heap: &LocalHeap, bytes: &[u8]) -> bool {
-    match split_in(heap, bytes) {
-        Ok(views) => {
-            assert!(rt; views.len() == 20);
-            true
-        }
-        Err(fault) => {
-            assert!(rt; fault == StreamFault::Memory);
-            false
-        }
+    let split = split_in(heap, bytes);
+    match &split {
+        Ok(views) => assert!(rt; views.len() == 20),
+        Err(fault) => assert!(rt; *fault == StreamFault::Memory),
     }
+    split.is_ok()
 }
 
 #[test]
-fn answers_memory_of_a_slice(rt: HostRuntime) -> Result<(), Fail> {
-    let bytes = records(rt.alloc(), &[7; 20])?;
+fn answers_memory_of_a_slice(rt: HostRuntime) {
+    let bytes = records(&rt, rt.alloc(), &[7; 20]);
     let mut was_split = false;
     for size in 0..64 {
-        let heap = LocalHeap::new(rt.alloc(), size * 64)?;
+        let heap = LocalHeap::new(rt.alloc(), size * 64).expect(&rt, "memory");
         was_split = splits(&rt, &heap, &bytes) || was_split;
     }
     assert!(rt; was_split);
-    assert!(rt; split(rt.alloc(), &bytes)?.len() == 20);
-    Ok(())
+    assert!(rt; split(rt.alloc(), &bytes).expect(&rt, "records").len() == 20);
+}
+
+/// Asserts that a record of all bytes is cut, and the cutter has room for it then, and stands behind it.
+fn assert_longest<R: Source>(rt: &impl Abort, alloc: Global, source: &mut R, bytes: &[u8])
+    requires { R.read source.old ≡ nothing_read }
+{
+    let mut cutter = Cutter::new(alloc);
+    assert!(rt; cutter.room() == 0);
+    match cutter.next(source) {
+        Ok(Some(record)) => assert!(rt; record.bytes() == bytes),
+        _ => assert!(rt; false, "a record"),
+    }
+    assert!(rt; cutter.room() == 1_048_576 && cutter.offset() == 1_048_576);
 }
 
 #[test]
-fn lends_the_longest_record(rt: HostRuntime) -> Result<(), Fail> {
-    let bytes = records(rt.alloc(), &[20])?;
-    let mut cutter = Cutter::new(rt.alloc());
-    assert!(rt; cutter.room() == 0);
-    let mut source = in_pieces(&bytes, 4096);
-    let record = cutter.next(&mut source)?.expect(&rt, "a record");
-    assert!(rt; record.bytes() == bytes.as_slice());
-    assert!(rt; cutter.room() == 1_048_576 && cutter.offset() == 1_048_576);
-    Ok(())
+fn lends_the_longest_record(rt: HostRuntime) {
+    let bytes = records(&rt, rt.alloc(), &[20]);
+    assert_longest(&rt, rt.alloc(), &mut in_pieces(&bytes, 4096), &bytes);
 }

@@ -10,7 +10,6 @@ use std::alloc::Global;
 use std::io;
 use std::io::{BufReader, Read, Write};
 use std::process::Abort;
-use std::test::Fail;
 
 /// Behind more calls than there are.
 pub(super) const NEVER: usize = usize::MAX;
@@ -130,32 +129,30 @@ fn expect_nothing_read<R: Source>(source: &mut R)
 }
 
 #[test]
-fn reads_one_byte_a_call(rt: HostRuntime) -> Result<(), Fail> {
-    let bytes = read_all(rt.alloc(), &mut hello_failing_behind(NEVER))?;
+fn reads_one_byte_a_call(rt: HostRuntime) {
+    let bytes = read_all(rt.alloc(), &mut hello_failing_behind(NEVER)).expect(&rt, "bytes");
     assert!(rt; bytes.as_slice() == b"hello".as_slice());
-    let bytes = read_new(rt.alloc(), b"hello".as_slice())?;
+    let bytes = read_new(rt.alloc(), b"hello".as_slice()).expect(&rt, "bytes");
     assert!(rt; bytes.as_slice() == b"hello".as_slice());
-    Ok(())
 }
 
 /// Whether a reader that fails once is read so far, and then to its end.
-fn fails_behind(alloc: Global, reported: usize, rest: &[u8]) -> Result<bool, StreamFault> {
+fn fails_behind(rt: &impl Abort, alloc: Global, reported: usize, rest: &[u8]) -> bool {
     let mut source = hello_failing_behind(reported);
     let fault = read_all(alloc, &mut source).err();
-    let bytes = read_all(alloc, &mut source)?;
-    Ok(fault == Some(StreamFault::Read(reported as u64)) && bytes.as_slice() == rest)
+    let bytes = read_all(alloc, &mut source).expect(rt, "bytes");
+    fault == Some(StreamFault::Read(reported as u64)) && bytes.as_slice() == rest
 }
 
 #[test]
-fn says_where_a_read_failed(rt: HostRuntime) -> Result<(), Fail> {
+fn says_where_a_read_failed(rt: HostRuntime) {
     let hello = b"hello".as_slice();
     for reported in 0..6 {
         assert!(rt;
-            fails_behind(rt.alloc(), reported, &hello[reported..])?,
+            fails_behind(&rt, rt.alloc(), reported, &hello[reported..]),
             "behind {reported} bytes"
         );
     }
-    Ok(())
 }
 
 /// Whether a source answers so.
@@ -168,13 +165,20 @@ fn fails_once<R: Source>(source: &mut R, buf: &mut [u8]) -> bool {
     pulls(source, buf, Ok(1)) && pulls(source, buf, Err(Failed)) && pulls(source, buf, Ok(1))
 }
 
+/// Whether a reader is asked once that says that it is at its end, though its source is asked three times.
+fn is_asked_once(buf: &mut [u8]) -> bool {
+    let mut source = Counted::new(Waking { calls: 0 });
+    let mut is_well = true;
+    for _ in 0..3 {
+        is_well = is_well && pulls(&mut source, buf, Ok(0)) && source.get_ref().calls == 1;
+    }
+    is_well
+}
+
 #[test]
 fn asks_no_reader_behind_its_end(rt: HostRuntime) {
-    let mut source = Counted::new(Waking { calls: 0 });
     let mut buf = [0; 4];
-    for _ in 0..3 {
-        assert!(rt; pulls(&mut source, &mut buf, Ok(0)) && source.get_ref().calls == 1);
-    }
+    assert!(rt; is_asked_once(&mut buf));
     let mut source = hello_failing_behind(1);
     assert!(rt; pulls(&mut source, &mut [], Ok(0)), "no room is no end");
     assert!(rt; pulls(&mut source, &mut buf, Err(Failed)));
@@ -183,12 +187,13 @@ fn asks_no_reader_behind_its_end(rt: HostRuntime) {
 }
 
 #[test]
-fn asks_a_buffered_reader_once_a_call(rt: HostRuntime) -> Result<(), Fail> {
-    let mut source = Buffered::new(BufReader::with_capacity(rt.alloc(), 4, dripping(1))?);
+fn asks_a_buffered_reader_once_a_call(rt: HostRuntime) {
+    let mut source = Buffered::new(BufReader::with_capacity(rt.alloc(), 4, dripping(1)).expect(
+        &rt, "memory",
+    ));
     let mut buf = [0; 3];
     assert!(rt; fails_once(&mut source, &mut buf));
     assert!(rt; buf[0] == b'e');
-    Ok(())
 }
 
 /// Whether hello is written as far as there is room, and no bytes are written then.
@@ -216,29 +221,24 @@ fn writes_what_there_is_room_for(rt: HostRuntime) {
 
 /// Reads bytes with the memory of a heap, and says whether it was enough.
 fn reads(rt: &impl Abort, heap: &LocalHeap, bytes: &[u8]) -> bool {
-    match read_all_in(heap, &mut Counted::new(bytes)) {
-        Ok(read) => {
-            assert!(rt; read.as_slice() == bytes);
-            true
-        }
-        Err(fault) => {
-            assert!(rt; fault == StreamFault::Memory);
-            false
-        }
+    let read = read_all_in(heap, &mut Counted::new(bytes));
+    match &read {
+        Ok(read) => assert!(rt; read.as_slice() == bytes),
+        Err(fault) => assert!(rt; *fault == StreamFault::Memory),
     }
+    read.is_ok()
 }
 
 #[test]
-fn answers_memory_where_a_allocation_is_refused(rt: HostRuntime) -> Result<(), Fail> {
+fn answers_memory_where_a_allocation_is_refused(rt: HostRuntime) {
     let mut was_read = 0usize;
     for size in 0..100 {
-        let heap = LocalHeap::new(rt.alloc(), size * 16)?;
+        let heap = LocalHeap::new(rt.alloc(), size * 16).expect(&rt, "memory");
         if reads(&rt, &heap, &[7; 600]) {
             was_read = was_read.saturating_add(1);
         }
     }
     assert!(rt; 0 < was_read && was_read < 100);
-    Ok(())
 }
 
 /// Fails at its first write, and takes all bytes from then on.

@@ -1,9 +1,9 @@
 //! What an audit keeps of channels.
 
-use crate::records::{BHN, FIRST, LATE, NEXT, view, with};
+use crate::records::{
+    BHN, FIRST, LATE, LATE_START, NEXT, NEXT_START, START, head, tail, view, with,
+};
 use mseed_audit::{Audit, Channel, Channels, Finding, Findings, Head, Tail, Why};
-use mseed_record::Leap;
-use mseed_time::{Micros, Ratio};
 use std::alloc::Global;
 use std::process::Abort;
 
@@ -30,26 +30,6 @@ fn kept(
     audit.into_channels(alloc).expect(rt, "memory")
 }
 
-/// The beginning of a channel whose first record has this number, offset and start.
-fn head(rt: &impl Abort, number: u64, offset: u64, micros: i64) -> Head {
-    Head {
-        number,
-        offset,
-        start: Micros::new(micros).expect(rt, "an instant"),
-        rate: Ratio::new(20, 1).expect(rt, "a ratio"),
-    }
-}
-
-/// The end of a channel whose last record begins then.
-fn tail(rt: &impl Abort, micros: i64) -> Tail {
-    Tail {
-        start: Micros::new(micros).expect(rt, "an instant"),
-        samples: 16,
-        rate: Ratio::new(20, 1).expect(rt, "a ratio"),
-        leap: Leap::None,
-    }
-}
-
 /// No finding, between these ends.
 fn nothing(head: Head, tail: Tail) -> Findings {
     Findings::Nothing { head, tail }
@@ -69,10 +49,14 @@ fn keeps_beginnings_and_ends(rt: HostRuntime) {
         panic!(rt; "two channels");
     };
     assert!(rt; north.key() < vertical.key());
-    let start = 1_704_067_200_000_000;
-    assert!(rt; has(one, 1, nothing(head(&rt, 2, 128, start), tail(&rt, start))));
-    let next = 1_704_067_200_800_000;
-    assert!(rt; has(two, 2, nothing(head(&rt, 1, 0, start), tail(&rt, next))));
+    assert!(rt; has(one, 1, nothing(head(&rt, 2, 128, START), tail(&rt, START))));
+    assert!(rt;
+        has(
+            two,
+            2,
+            nothing(head(&rt, 1, 0, START), tail(&rt, NEXT_START))
+        )
+    );
 }
 
 #[test]
@@ -91,7 +75,7 @@ fn keeps_the_first_finding(rt: HostRuntime) {
             why: Why::Rate,
         },
         head: None,
-        tail: Some(tail(&rt, 1_704_067_200_825_001)),
+        tail: Some(tail(&rt, LATE_START)),
     };
     assert!(rt; has(channel, 3, findings));
 }

@@ -1,13 +1,12 @@
 //! Audits that tell each record with a finding: rows computed by hand, outputs that fail and memory that is refused.
 
-use super::devices::sink_with;
+use super::devices::{Filling, sink_with};
 use crate::records::{BHN, FIRST, LATE, put, two, with};
 use linked_list_allocator::LocalHeap;
 use mseed_audit::{EachFault, Summary, audit_each};
 use mseed_stream::Counted;
-use std::alloc::{AllocError, Global};
+use std::alloc::{Allocator, Global};
 use std::process::Abort;
-use std::test::Fail;
 
 /// What is reported of the first record and one that begins half a sample and a microsecond late.
 static GAP: &str = "128 XX_STA__BHZ record 2 start 2024-01-01T00:00:00.825001 gap 25001\n\
@@ -46,9 +45,8 @@ fn is_reported(
     wanted: Result<Summary, EachFault>,
     text: &[u8],
 ) -> bool {
-    let mut sink = sink_with(alloc, room);
-    audit_each(alloc, &mut Counted::new(bytes), &mut sink) == wanted
-        && sink.get_ref().taken.as_slice() == text
+    let (answer, reported) = told(alloc, alloc, bytes, room);
+    answer == wanted && reported.taken.as_slice() == text
 }
 
 #[test]
@@ -83,38 +81,38 @@ fn tells_what_there_is_room_for(rt: HostRuntime) {
 }
 
 /// The first record a thousand times.
-fn thousand(alloc: Global) -> Result<Vec<u8>, AllocError> {
+fn thousand(rt: &impl Abort, alloc: Global) -> Vec<u8> {
     let mut bytes = Vec::new(alloc);
     for _ in 0..1000 {
-        bytes.extend_from_slice(&FIRST)?;
+        bytes.extend_from_slice(&FIRST).expect(rt, "memory");
     }
-    Ok(bytes)
+    bytes
 }
 
 /// What is reported of them.
-fn thousand_reported(alloc: Global) -> Result<Vec<u8>, Fail> {
+fn thousand_reported(rt: &impl Abort, alloc: Global) -> Vec<u8> {
     let mut text = Vec::new(alloc);
     for number in 1..1000u32 {
         let line = format!(in alloc;
             "{} XX_STA__BHZ record {} start 2024-01-01T00:00:00.000000 overlap 800000\n",
             number * 128,
             number + 1
-        )?;
-        text.extend_from_slice(line.as_bytes())?;
+        )
+        .expect(rt, "memory");
+        text.extend_from_slice(line.as_bytes()).expect(rt, "memory");
     }
     text.extend_from_slice(
         b"XX_STA__BHZ broken findings 999 first record 2 offset 128 overlap 800000\n\
         records 1000 channels 1\n",
-    )?;
-    Ok(text)
+    )
+    .expect(rt, "memory");
+    text
 }
 
 /// Whether the audit of these bytes fills this room with what the text begins with, in some writes where there is
 /// room for many lines, and has no fault where there is room for the whole text.
 fn fills(alloc: Global, bytes: &[u8], text: &[u8], room: usize) -> bool {
-    let mut sink = sink_with(alloc, room);
-    let answer = audit_each(alloc, &mut Counted::new(bytes), &mut sink);
-    let reported = sink.get_ref();
+    let (answer, reported) = told(alloc, alloc, bytes, room);
     answer.is_ok() == (room == text.len())
         && reported.taken.len() == room
         && text.starts_with(reported.taken.as_slice())
@@ -122,41 +120,48 @@ fn fills(alloc: Global, bytes: &[u8], text: &[u8], room: usize) -> bool {
 }
 
 #[test]
-fn tells_as_records_come(rt: HostRuntime) -> Result<(), Fail> {
-    let bytes = thousand(rt.alloc())?;
-    let text = thousand_reported(rt.alloc())?;
+fn tells_as_records_come(rt: HostRuntime) {
+    let bytes = thousand(&rt, rt.alloc());
+    let text = thousand_reported(&rt, rt.alloc());
     for room in [text.len(), 70_000, 1000] {
         assert!(rt; fills(rt.alloc(), &bytes, &text, room), "{room}");
     }
-    Ok(())
+}
+
+/// What is answered and reported of an audit with this memory.
+fn told<A: Allocator + Copy>(
+    alloc: Global,
+    memory: A,
+    bytes: &[u8],
+    room: usize,
+) -> (Result<Summary, EachFault>, Filling) {
+    let mut sink = sink_with(alloc, room);
+    let answer = audit_each(memory, &mut Counted::new(bytes), &mut sink);
+    (answer, sink.into_inner())
 }
 
 /// Audits with the memory of a heap, and says whether it was enough. Where it wasn't, a prefix is reported.
 fn reports(rt: &impl Abort, alloc: Global, heap: &LocalHeap, bytes: &[u8]) -> bool {
-    let mut sink = sink_with(alloc, 1 << 20);
-    match audit_each(heap, &mut Counted::new(bytes), &mut sink) {
-        Ok(_) => {
-            assert!(rt; sink.get_ref().taken.as_slice() == MANY.as_bytes());
-            true
-        }
-        Err(fault) => {
-            assert!(rt; fault == EachFault::Memory);
-            assert!(rt; MANY.as_bytes().starts_with(&sink.get_ref().taken));
-            false
-        }
+    let (answer, reported) = told(alloc, heap, bytes, 1 << 20);
+    let taken = reported.taken.as_slice();
+    assert!(rt; MANY.as_bytes().starts_with(taken));
+    if answer.is_ok() {
+        assert!(rt; taken.len() == MANY.len());
+    } else {
+        assert!(rt; answer == Err(EachFault::Memory));
     }
+    answer.is_ok()
 }
 
 #[test]
-fn tells_a_prefix_where_memory_is_refused(rt: HostRuntime) -> Result<(), Fail> {
+fn tells_a_prefix_where_memory_is_refused(rt: HostRuntime) {
     let bytes = many();
     let mut was_reported = 0usize;
     for size in 0..400 {
-        let heap = LocalHeap::new(rt.alloc(), size * 16)?;
+        let heap = LocalHeap::new(rt.alloc(), size * 16).expect(&rt, "memory");
         if reports(&rt, rt.alloc(), &heap, &bytes) {
             was_reported = was_reported.saturating_add(1);
         }
     }
     assert!(rt; 0 < was_reported && was_reported < 400);
-    Ok(())
 }

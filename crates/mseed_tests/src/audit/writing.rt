@@ -4,22 +4,22 @@
 use crate::records::FIRST;
 use mseed_record::{BadCode, CodeField, Codes, Fields, TooShort, write_header};
 use mseed_time::{Btime, Order, Rate};
-use std::test::Fail;
+use std::process::Abort;
 
 /// The fields of the first record.
-fn fields() -> Result<Fields, Fail> {
-    Ok(Fields {
+fn fields(rt: &impl Abort) -> Fields {
+    Fields {
         sequence: 1,
-        codes: Codes::new(b"XX", b"STA", b"", b"BHZ")?,
-        start: Btime::read(&[7, 232, 0, 1, 0, 0, 0, 0, 0, 0], Order::Big)?,
+        codes: Codes::new(b"XX", b"STA", b"", b"BHZ").expect(rt, "codes"),
+        start: Btime::read(&[7, 232, 0, 1, 0, 0, 0, 0, 0, 0], Order::Big).expect(rt, "a time"),
         usec: 0,
         samples: 16,
-        rate: Rate::of(20, 1)?,
+        rate: Rate::of(20, 1).expect(rt, "a rate"),
         encoding: 3,
         exponent: 7,
         frames: 0,
         activity: 0,
-    })
+    }
 }
 
 /// Whether a record has the header of the first one, and is otherwise as it was.
@@ -28,13 +28,12 @@ fn begins_as_the_first(record: &[u8; 128]) -> bool {
 }
 
 #[test]
-fn writes_the_first_header(rt: HostRuntime) -> Result<(), Fail> {
-    let fields = fields()?;
+fn writes_the_first_header(rt: HostRuntime) {
+    let fields = fields(&rt);
     let mut record = [7; 128];
     assert!(rt; write_header(&mut record, &fields) == Ok(()));
     assert!(rt; begins_as_the_first(&record));
     assert!(rt; write_header(&mut [7; 63], &fields) == Err(TooShort));
-    Ok(())
 }
 
 /// A network, a station, a location and a channel, and the first that is none.

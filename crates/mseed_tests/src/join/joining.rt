@@ -3,14 +3,24 @@
 use super::auditing::{OF_FIRST, OF_LATE};
 use crate::audit::devices::sink_with;
 use linked_list_allocator::LocalHeap;
-use mseed_join::{Form, Joined, JoinsFault, join};
+use mseed_join::{Form, Joined, JoinsFault, join, join_each};
 use mseed_stream::Counted;
-use std::alloc::{AllocError, Global};
+use std::alloc::{Allocator, Global};
 use std::process::Abort;
-use std::test::Fail;
 
 /// The last line of the part of an archive that ends with a fault behind its first record.
-pub(super) const FAULT: &str = "fault at 128 truncated 1\n";
+const FAULT: &str = "fault at 128 truncated 1\n";
+
+/// No parts.
+pub(super) const NOTHING: [&str; 3] = ["", "", ""];
+
+/// The parts of both records, and the same where the first archive ends with a fault.
+pub(super) const SOUND: [&str; 3] = [OF_FIRST, "", OF_LATE];
+
+pub(super) const FAULTY: [&str; 3] = [OF_FIRST, FAULT, OF_LATE];
+
+/// The audit of no parts.
+pub(super) const EMPTY: &str = "records 0 channels 0\n";
 
 /// The audit of both records.
 const AUDIT: &str = "XX_STA__BHZ broken findings 1 first record 2 offset 128 gap 25001\n\
@@ -37,109 +47,113 @@ const PASSED: &str = "XX_STA__BHZ broken findings 1 first record 2 offset 128 ga
 pub(super) const REPORTED: &str = "mseed: part 1 fault at 128 truncated 1\n";
 
 /// Three texts, one behind another.
-pub(super) fn joint(alloc: Global, parts: &[&str; 3]) -> Result<Vec<u8>, AllocError> {
+pub(super) fn joint(rt: &impl Abort, alloc: Global, parts: &[&str; 3]) -> Vec<u8> {
     let mut bytes = Vec::new(alloc);
     for part in parts {
-        bytes.extend_from_slice(part.as_bytes())?;
+        bytes
+            .extend_from_slice(part.as_bytes())
+            .expect(rt, "memory");
     }
-    Ok(bytes)
+    bytes
 }
 
-/// How parts are joined, and what is written, reported and answered.
-struct Row {
-    parts: [&'static str; 3],
-    form: Form,
-    past_faults: bool,
-    text: &'static str,
-    reported: &'static str,
-    joined: Joined,
+/// What comes of a join: the answer, and what is written and reported.
+#[derive(Drop)]
+struct Outcome {
+    answer: Result<Joined, JoinsFault>,
+    written: Vec<u8>,
+    reported: Vec<u8>,
 }
+
+/// Joins the parts of a text with this memory into a form, or else with a line for each border, to an output with so
+/// much room.
+fn outcome_of<A: Allocator + Copy>(
+    alloc: Global,
+    memory: A,
+    bytes: &[u8],
+    (form, past_faults): (Option<Form>, bool),
+    room: usize,
+) -> Outcome {
+    let mut source = Counted::new(bytes);
+    let mut sink = sink_with(alloc, room);
+    let mut errors = sink_with(alloc, ALL);
+    let answer = match form {
+        Some(form) => join(
+            memory,
+            form,
+            past_faults,
+            &mut source,
+            &mut sink,
+            &mut errors,
+        ),
+        None => join_each(memory, past_faults, &mut source, &mut sink, &mut errors),
+    };
+    Outcome {
+        answer,
+        written: sink.into_inner().taken,
+        reported: errors.into_inner().taken,
+    }
+}
+
+/// Room for all that is written.
+const ALL: usize = 1 << 20;
+
+/// Three parts, the form into which they are joined, or else with borders, and whether faults are passed; and what is
+/// written, reported and answered.
+pub(super) type Row = (
+    [&'static str; 3],
+    (Option<Form>, bool),
+    &'static str,
+    &'static str,
+    Result<Joined, JoinsFault>,
+);
+
+/// What is answered where no channel is broken, and no archive ends with a fault.
+pub(super) const WELL: Result<Joined, JoinsFault> = Ok(Joined {
+    broken: 0,
+    fault: false,
+});
+
+/// The same with a broken channel.
+pub(super) const BROKEN: Result<Joined, JoinsFault> = Ok(Joined {
+    broken: 1,
+    fault: false,
+});
+
+/// The same with a fault.
+pub(super) const CUT_OFF: Result<Joined, JoinsFault> = Ok(Joined {
+    broken: 0,
+    fault: true,
+});
+
+/// The same with both.
+pub(super) const BOTH: Result<Joined, JoinsFault> = Ok(Joined {
+    broken: 1,
+    fault: true,
+});
 
 static ROWS: [Row; 5] = [
-    Row {
-        parts: ["", "", ""],
-        form: Form::Audit,
-        past_faults: false,
-        text: "records 0 channels 0\n",
-        reported: "",
-        joined: Joined {
-            broken: 0,
-            fault: false,
-        },
-    },
-    Row {
-        parts: [OF_FIRST, "", OF_LATE],
-        form: Form::Audit,
-        past_faults: false,
-        text: AUDIT,
-        reported: "",
-        joined: Joined {
-            broken: 1,
-            fault: false,
-        },
-    },
-    Row {
-        parts: [OF_FIRST, "", OF_LATE],
-        form: Form::Part,
-        past_faults: false,
-        text: PART,
-        reported: "",
-        joined: Joined {
-            broken: 1,
-            fault: false,
-        },
-    },
-    Row {
-        parts: [OF_FIRST, FAULT, OF_LATE],
-        form: Form::Audit,
-        past_faults: false,
-        text: CUT,
-        reported: "",
-        joined: Joined {
-            broken: 0,
-            fault: true,
-        },
-    },
-    Row {
-        parts: [OF_FIRST, FAULT, OF_LATE],
-        form: Form::Audit,
-        past_faults: true,
-        text: PASSED,
-        reported: REPORTED,
-        joined: Joined {
-            broken: 1,
-            fault: true,
-        },
-    },
+    (NOTHING, (Some(Form::Audit), false), EMPTY, "", WELL),
+    (SOUND, (Some(Form::Audit), false), AUDIT, "", BROKEN),
+    (SOUND, (Some(Form::Part), false), PART, "", BROKEN),
+    (FAULTY, (Some(Form::Audit), false), CUT, "", CUT_OFF),
+    (FAULTY, (Some(Form::Audit), true), PASSED, REPORTED, BOTH),
 ];
 
 /// Whether parts are joined as a row says.
-fn is_joined(alloc: Global, row: &Row) -> Result<bool, AllocError> {
-    let bytes = joint(alloc, &row.parts)?;
-    let mut source = Counted::new(bytes.as_slice());
-    let mut sink = Counted::new(Vec::new(alloc));
-    let mut errors = Counted::new(Vec::new(alloc));
-    let answer = join(
-        alloc,
-        row.form,
-        row.past_faults,
-        &mut source,
-        &mut sink,
-        &mut errors,
-    );
-    Ok(
-        answer == Ok(row.joined)
-            && sink.into_inner().as_slice() == row.text.as_bytes()
-            && errors.into_inner().as_slice() == row.reported.as_bytes(),
-    )
+pub(super) fn is_joined(rt: &impl Abort, alloc: Global, row: &Row) -> bool {
+    let (parts, how, text, reported, joined) = row;
+    let outcome = outcome_of(alloc, alloc, &joint(rt, alloc, parts), *how, ALL);
+    outcome.answer == *joined
+        && outcome.written.as_slice() == text.as_bytes()
+        && outcome.reported.as_slice() == reported.as_bytes()
 }
 
 #[test]
-fn joins_parts(rt: HostRuntime) -> Result<(), Fail> {
+fn joins_parts(rt: HostRuntime) {
     for (index, row) in ROWS.iter().enumerate() {
-        assert!(rt; is_joined(rt.alloc(), row)?, "row {index}");
+        assert!(rt; is_joined(&rt, rt.alloc(), row), "row {index}");
     }
-    Ok(())
 }
 
 /// Texts that are no parts, and their first bad lines.
@@ -153,18 +167,14 @@ static BAD_LINES: [(&str, u64); 5] = [
 
 /// Whether the audit of a text is refused at this line, with nothing written.
 fn is_bad_at(alloc: Global, text: &str, line: u64) -> bool {
-    let mut source = Counted::new(text.as_bytes());
-    let mut sink = Counted::new(Vec::new(alloc));
-    let mut errors = Counted::new(Vec::new(alloc));
-    let answer = join(
+    let outcome = outcome_of(
         alloc,
-        Form::Audit,
-        false,
-        &mut source,
-        &mut sink,
-        &mut errors,
+        alloc,
+        text.as_bytes(),
+        (Some(Form::Audit), false),
+        ALL,
     );
-    answer == Err(JoinsFault::Line(line)) && sink.into_inner().is_empty()
+    outcome.answer == Err(JoinsFault::Line(line)) && outcome.written.is_empty()
 }
 
 #[test]
@@ -174,50 +184,49 @@ fn names_bad_lines(rt: HostRuntime) {
     }
 }
 
+/// Whether a join into a form, or with borders, says that an output without room failed.
+pub(super) fn says_that_it_failed(alloc: Global, bytes: &[u8], form: Option<Form>) -> bool {
+    outcome_of(alloc, alloc, bytes, (form, false), 0).answer == Err(JoinsFault::Write)
+}
+
 #[test]
 fn says_that_the_output_failed(rt: HostRuntime) {
-    let mut source = Counted::new(OF_FIRST.as_bytes());
-    let mut errors = Counted::new(Vec::new(rt.alloc()));
-    let mut sink = sink_with(rt.alloc(), 0);
-    let answer = join(
-        rt.alloc(),
-        Form::Part,
-        false,
-        &mut source,
-        &mut sink,
-        &mut errors,
-    );
-    assert!(rt; answer == Err(JoinsFault::Write));
+    assert!(rt; says_that_it_failed(rt.alloc(), OF_FIRST.as_bytes(), Some(Form::Part)));
 }
 
-/// Joins the first part alone with the memory of a heap, and says whether it was enough. Where it wasn't, nothing is
-/// written.
-fn is_enough(rt: &impl Abort, alloc: Global, heap: &LocalHeap) -> bool {
-    let mut source = Counted::new(OF_FIRST.as_bytes());
-    let mut sink = Counted::new(Vec::new(alloc));
-    let mut errors = Counted::new(Vec::new(alloc));
-    match join(heap, Form::Part, false, &mut source, &mut sink, &mut errors) {
-        Ok(_) => {
-            assert!(rt; sink.into_inner().as_slice() == OF_FIRST.as_bytes());
-            true
-        }
-        Err(fault) => {
-            assert!(rt; fault == JoinsFault::Memory && sink.into_inner().is_empty());
-            false
-        }
+/// Says whether memory was enough to write a text. Where it wasn't, at most so many bytes that begin it are written.
+fn is_enough(rt: &impl Abort, outcome: &Outcome, text: &str, most: usize) -> bool {
+    assert!(rt; text.as_bytes().starts_with(&outcome.written));
+    let written = outcome.written.len();
+    if outcome.answer.is_ok() {
+        assert!(rt; written == text.len());
+    } else {
+        assert!(rt; outcome.answer == Err(JoinsFault::Memory) && written <= most);
     }
+    outcome.answer.is_ok()
 }
 
-#[test]
-fn writes_nothing_where_memory_is_refused(rt: HostRuntime) -> Result<(), Fail> {
+/// Asserts that memory from 2 KiB on is enough or is refused, each at some time, where parts are joined to a text.
+/// Where it is refused, at most so many bytes that begin the text are written.
+pub(super) fn assert_refusals(
+    rt: &impl Abort,
+    alloc: Global,
+    bytes: &[u8],
+    form: Option<Form>,
+    (text, most): (&str, usize),
+) {
     let mut enough = 0usize;
     // The buffer for lines takes 64 KiB of it.
     for size in 1..=64 {
-        let heap = LocalHeap::new(rt.alloc(), size * 2048)?;
-        if is_enough(&rt, rt.alloc(), &heap) {
-            enough = enough.saturating_add(1);
-        }
+        let heap = LocalHeap::new(alloc, size * 2048).expect(rt, "memory");
+        let outcome = outcome_of(alloc, &heap, bytes, (form, false), ALL);
+        enough = enough.saturating_add(usize::from(is_enough(rt, &outcome, text, most)));
     }
     assert!(rt; 0 < enough && enough < 64);
-    Ok(())
+}
+
+#[test]
+fn writes_nothing_where_memory_is_refused(rt: HostRuntime) {
+    let bytes = OF_FIRST.as_bytes();
+    assert_refusals(&rt, rt.alloc(), bytes, Some(Form::Part), (OF_FIRST, 0));
 }

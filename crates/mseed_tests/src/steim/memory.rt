@@ -5,7 +5,6 @@ use linked_list_allocator::LocalHeap;
 use mseed_record::RecordView;
 use mseed_steim::{ReadFault, read_samples};
 use std::process::Abort;
-use std::test::Fail;
 
 /// Keeps a record's samples in a heap, and says whether memory lacked. Else they are these, or this fault is answered.
 fn lacks_memory(
@@ -38,13 +37,13 @@ const SHORT: Row = Row {
 };
 
 #[test]
-fn answers_memory_behind_each_other_fault(rt: HostRuntime) -> Result<(), Fail> {
+fn answers_memory_behind_each_other_fault(rt: HostRuntime) {
     let level = record(&LEVEL);
     let short = record(&SHORT);
     let mut was_refused = false;
     let mut was_kept = false;
     for size in 0..32 {
-        let heap = LocalHeap::new(rt.alloc(), size * 16)?;
+        let heap = LocalHeap::new(rt.alloc(), size * 16).expect(&rt, "memory");
         let is_refused = lacks_memory(&rt, &heap, &level, Ok(&[7; 40]));
         assert!(rt; !(is_refused && was_kept), "more memory, and less is kept");
         was_refused = was_refused || is_refused;
@@ -52,5 +51,4 @@ fn answers_memory_behind_each_other_fault(rt: HostRuntime) -> Result<(), Fail> {
         assert!(rt; !lacks_memory(&rt, &heap, &short, Err(ReadFault::Short(52))));
     }
     assert!(rt; was_refused && was_kept);
-    Ok(())
 }
