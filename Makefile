@@ -5,6 +5,7 @@
 # make lib              the library for C, C++ and Python, in crates/mseed_c/out/lib
 # make install          the program, its manual pages and what make lib built, below /usr/local or PREFIX=..
 # make test             the whole gate, then all row files of the tests
+# make edits            tries the wrong bodies that the gate leaves: docs/developing.md
 # make tools-test       the row files of the tools beside the program: tools/README.md
 # make packages         installs what some tests want besides: tests/packages.txt, by apt-get where it can be had
 # make dist             an archive of the sources, which builds and tests without git
@@ -24,9 +25,11 @@ NAME := mseed-$(VERSION)
 MANUAL := $(DESTDIR)$(PREFIX)/share/man/man1
 KIT = $(patsubst %/,%,$(dir $(shell rt doc)))
 LIB := crates/mseed_c/out/lib
+# Crates that the program calls, of which none stands on another.
+SIDES := mseed_join mseed_repack slink_links slink_live_tcp
 PYTHON_DIR ?= $(PREFIX)/lib/python3/dist-packages
 
-.PHONY: audit bench build dist drawing feed-bench help install install-lib interop lib packages \
+.PHONY: audit bench build dist drawing edits feed-bench help install install-lib interop lib packages \
     repack show test tools-bench tools-test
 
 audit: build
@@ -44,10 +47,21 @@ repack: build
 	if [ $$status = 0 ]; then mv "$(OUT).part" "$(OUT)" && echo 'Packed into $(OUT).'; else rm -f "$(OUT).part"; fi; \
 	echo "status $$status"
 
-# Proves every crate that the program stands on, builds it, and runs it once: what isn't proved isn't built.
+# Proves every crate that the program stands on, builds it, and runs it once: what isn't proved isn't built. The first
+# time, crates that don't stand on one another are proved side by side, in copies: the toolchain shares what was proved
+# on one machine, where it may write beside itself.
 build:
-	@echo 'Proving and building: about half an hour the first time.'
-	@cd crates/mseed && rt run -- audit < /dev/null > out.log 2>&1 || { cat out.log; exit 1; }
+	@echo 'Proving and building: about 20 minutes the first time.'
+	@room=$$(mktemp -d); trap 'rm -rf "$$room"' EXIT; \
+	if [ ! -e $(MSEED) ] && [ -w $(KIT)/.. ]; then \
+	    for crate in $(SIDES); do \
+	        mkdir "$$room/$$crate"; \
+	        tar --create --exclude=out crates crates.txt HANDLES | tar --extract --directory="$$room/$$crate"; \
+	        (cd "$$room/$$crate/crates/$$crate" && rt check > check.log 2>&1) & \
+	    done; \
+	    wait; \
+	fi; \
+	cd crates/mseed && rt run -- audit < /dev/null > out.log 2>&1 || { cat out.log; exit 1; }
 	@rm -f crates/mseed/out.log
 	@echo 'Proved and built.'
 
@@ -104,6 +118,9 @@ drawing:
 
 test:
 	@tests/run.py --gate
+
+edits:
+	@tests/edits.py
 
 tools-test:
 	@tests/run.py $(patsubst tests/rows/%.py,%,$(wildcard tests/rows/tools_*.py))
