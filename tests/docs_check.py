@@ -28,7 +28,8 @@ def relinked(sources: Sources, name: str, text: str) -> str:
 
     def places_of(word: str, path: str) -> list[str]:
         if "/must-fail/" in path:
-            paths = [at for at in files_below("crates") if at.endswith(f"/must-fail/{word}.edit")]
+            folder_of = re.compile(rf"(crates/\w+/must-fail|tests/must-fail/\w+)/{word}\.edit")
+            paths = [at for at in [*files_below("crates"), *files_below("tests")] if folder_of.fullmatch(at)]
         elif path.endswith(".py"):
             paths = [at for at in files_below("tests") if os.path.basename(at) == word]
         else:

@@ -117,10 +117,10 @@ def main() -> None:
     print("//! A stream of command lines and the commands of it, made by a program of its own from the grammar.\n")
     print("use crate::Command;\n")
     print("/// The stream, in pieces. Its last line but one is too long.")
-    print(f"pub const PIECES: [&[u8]; {len(pieces)}] = [")
+    print(f"pub static PIECES: [&[u8]; {len(pieces)}] = [")
     print("\n".join(f"    {one}," for one in pieces))
     print("];\n\n/// What its lines before that one command.")
-    print(f"pub const COMMANDS: [Command; {len(commands)}] = [")
+    print(f"pub static COMMANDS: [Command; {len(commands)}] = [")
     print("\n".join(f"    {one}," for one in commands))
     print("];")
 

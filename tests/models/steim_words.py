@@ -56,10 +56,11 @@ def words() -> Iterator[tuple[str, int, int]]:
 
 
 def row(scheme: str, code: int, word: int) -> str:
-    """A row of the test."""
+    """A row of the test: the number of differences, 8 for a bad word, and the differences, with zeros behind them."""
     found = differences(scheme, code, word)
-    text = "None" if found is None else "Some(&[" + ", ".join(map(str, found)) + "])"
-    return f"(Scheme::{scheme}, {code}, 0x{word:08X}, {text})"
+    count = 8 if found is None else len(found)
+    padded = [*(found or []), *[0] * 7][:7]
+    return f"(Scheme::{scheme}, {code}, 0x{word:08X}, {count}, [{', '.join(map(str, padded))}])"
 
 
 def plain(text: str) -> str:
