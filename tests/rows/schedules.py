@@ -14,6 +14,7 @@ import shutil
 import subprocess
 import tempfile
 from pathlib import Path
+from signal import SIGABRT
 
 from driver.helpers import COMPILER, library, preloaded
 from driver.program import CRATES, SOURCES
@@ -67,9 +68,9 @@ def refused_schedules() -> Cases:
         status, log = attempt(number)
         if status == 0:
             break
-        is_refused = re.search(rb'^error: ("no memory"|AllocError|AllocFailed)', log, re.MULTILINE)
-        yield holds(f"a schedule with allocation {number} refused", status == 101 and is_refused, (status, log))
-        of_schedules += bool(re.search(rb'^error: "no memory"', log, re.MULTILINE))
+        refused = re.search(rb"^memory: (Memory|AllocError|AllocFailed)\b", log, re.MULTILINE)
+        yield holds(f"a schedule with allocation {number} refused", status == -SIGABRT and refused, (status, log))
+        of_schedules += bool(refused) and refused[1] == b"Memory"
     yield Fact(f"a schedule with no allocation refused at {number}", 0, status)
     yield holds("more than ten of the allocations were of schedules", of_schedules > 10, of_schedules)
 
