@@ -5,6 +5,7 @@ pub mod audits;
 pub mod feed;
 pub mod join;
 pub mod links;
+pub mod listing;
 pub mod live;
 pub mod live_tcp;
 pub mod model;

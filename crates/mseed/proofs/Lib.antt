@@ -1,5 +1,4 @@
 pub mod Taken
-pub mod Gathered
 pub mod Called
 pub mod Digits
 pub mod Encodings

@@ -2,10 +2,10 @@
 use Rattle.std.specs.Prelude.{◌≡◌, ℕ, Option, Some, None, Result, Ok, Err, codes}
 use Rattle.mseed_stream.specs.Device.{BytesRead, BytesWritten}
 use Rattle.mseed_stream.specs.declared.fault.StreamFault.{StreamFault}
-use Rattle.mseed.specs.declared.ending.ShowFault.{ShowFault}
-use Rattle.mseed.specs.declared.ending.ShowFault.TheVariants.{Write, Memory}
+use Rattle.mseed_show.specs.declared.fault.ShowFault.{ShowFault}
+use Rattle.mseed_show.specs.declared.fault.ShowFault.TheVariants.{Write, Memory}
 use Rattle.mseed_stream.specs.Telling.{Tells}
-use Rattle.mseed.specs.Show.{IsShown}
+use Rattle.mseed_show.specs.Show.{IsShown}
 
 -- the exit status of a listing: a fault of the input counts
 abbrev pub show_status : Result (Option StreamFault) ShowFault → ℕ

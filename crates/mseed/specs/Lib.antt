@@ -7,8 +7,6 @@ pub mod Places
 pub mod Addresses
 pub mod FeedWords
 pub mod Words
-pub mod Listing
-pub mod Show
 pub mod Done
 pub mod Joined
 pub mod Repacked

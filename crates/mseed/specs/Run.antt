@@ -11,7 +11,7 @@ use Rattle.mseed.specs.Outcome.{IsAuditRun, IsBadRun, IsEachRun, IsPartRun, IsPa
 use Rattle.mseed.specs.Plans.{IsFetchRun, IsLiveRun, IsServeRun}
 use Rattle.mseed.specs.Repacked.{IsRepackRun}
 use Rattle.mseed.specs.Restretched.{IsStretchesRun}
-use Rattle.mseed.specs.declared.ending.ShowFault.{ShowFault}
+use Rattle.mseed_show.specs.declared.fault.ShowFault.{ShowFault}
 use Rattle.mseed.specs.declared.outcome.Run.{Run}
 use Rattle.mseed.specs.declared.outcome.Run.TheVariants as runs
 use Rattle.mseed.specs.declared.request.Request.{Request}

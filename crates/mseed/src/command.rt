@@ -14,12 +14,10 @@ ghost use Rattle.clap.specs.Values.{kind_of};
 ghost use Rattle.mseed.specs.declared.request.Request.{Request};
 ghost use Rattle.clap.specs.declared.error.kind.ErrorKind.{ErrorKind};
 
-use crate::ending::ShowFault;
 use crate::outcome::{BAD_COMMAND, BROKEN, DONE, FAULT, Run};
 use crate::planning::{plan_fetch, plan_serve};
 use crate::refusal::{refuse_to_join, refuse_to_repack, refuse_to_stretch};
 use crate::request::{Packing, Request};
-use crate::show::show;
 use crate::words;
 use clap::Error;
 use clap::error::ErrorKind;
@@ -27,6 +25,7 @@ use mseed_audit::{AuditFault, EachFault, Summary, audit, audit_each};
 use mseed_join::{Joined, JoinsFault, audit_part, audit_part_each, join, join_each};
 use mseed_pack::Options;
 use mseed_repack::{Left, RepackFault, StretchesFault, repack, repack_stretches};
+use mseed_show::{ShowFault, show};
 use mseed_stream::{Sink, Source, StreamFault, tell};
 use std::alloc::{Allocator, Global};
 

@@ -6,14 +6,12 @@ ghost use Rattle.std.specs.Prelude.{IfOk};
 ghost use Rattle.mseed.specs.Live.{CanBeServed};
 
 mod command;
-mod ending;
 mod feed_words;
 mod fill_fault;
 mod filling;
 mod found;
 mod help;
 mod host_words;
-mod listing;
 mod live;
 mod numbers;
 mod options;
@@ -22,7 +20,6 @@ mod places;
 mod planning;
 mod refusal;
 mod request;
-mod show;
 mod words;
 
 use mseed_stream::{Buffered, Counted, Sink};

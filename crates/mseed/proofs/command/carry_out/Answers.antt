@@ -66,7 +66,7 @@ pub returns-in-Show-clause-done : goal.returns-in-Show-clause-done
 returns-in-Show-clause-done g c = rw c.in-Show.is (
   c.show.result,
   record {
-    shown = c.show.ensures;
+    shown = c.show.ensures.shown;
     status_is = c.shown.ensures.status;
     reported = c.shown.ensures.reported;
   },

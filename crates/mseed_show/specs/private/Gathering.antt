@@ -4,14 +4,14 @@ use Rattle.mseed_record.specs.View.{View}
 use Rattle.mseed_stream.specs.Device.{BytesRead, BytesWritten}
 use Rattle.mseed_stream.specs.declared.fault.StreamFault.{StreamFault}
 pub use Rattle.mseed_audit.specs.Each.{AreGathered}
-use Rattle.mseed.specs.Listing.{record_line, record_lines}
+use Rattle.mseed_show.specs.Listing.{record_line, record_lines}
 use Rattle.mseed_stream.specs.Standing.{Standing}
 use Rattle.mseed_stream.specs.Walk.{AreAllViews, AreViews, HasHandedOut}
-use Rattle.mseed.specs.declared.show.Step.{Step}
-use Rattle.mseed.specs.declared.show.Step.TheVariants.{Listed, Ended}
-use Rattle.mseed.specs.Show.{IsShown, EmittedFirst, EmittedPart}
-use Rattle.mseed.specs.declared.ending.ShowFault.{ShowFault}
-use Rattle.mseed.specs.declared.ending.ShowFault.TheVariants.{Write, Memory}
+use Rattle.mseed_show.specs.declared.listing.Step.{Step}
+use Rattle.mseed_show.specs.declared.listing.Step.TheVariants.{Listed, Ended}
+use Rattle.mseed_show.specs.Show.{IsShown, EmittedFirst, EmittedPart}
+use Rattle.mseed_show.specs.declared.fault.ShowFault.{ShowFault}
+use Rattle.mseed_show.specs.declared.fault.ShowFault.TheVariants.{Write, Memory}
 
 -- a prefix of some text was written before the fault, which is the output's where the output failed
 abbrev pub IsPrefixWritten : ShowFault → BytesWritten → BytesWritten → List ℕ → Type 0

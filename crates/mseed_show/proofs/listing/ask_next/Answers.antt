@@ -2,8 +2,8 @@ use Rattle.std.proofs.Common.{◌++◌, ◌∷◌, [], ◌∙◌, ℕ, List, ap,
 use Rattle.mseed_record.specs.View.{View}
 use Rattle.mseed_record.specs.Viewing.{view_of}
 use Rattle.mseed_stream.specs.Walk.{HasHandedOut}
-use Rattle.mseed.specs.Listing.{record_line}
-use Rattle.mseed.proofs.show.ask_next.Goals as goal
+use Rattle.mseed_show.specs.Listing.{record_line}
+use Rattle.mseed_show.proofs.listing.ask_next.Goals as goal
 
 pub returns-in_ok-push_record_line-in-Ok-Some : goal.returns-in_ok-push_record_line-in-Ok-Some
 returns-in_ok-push_record_line-in-Ok-Some g c = λ views before.

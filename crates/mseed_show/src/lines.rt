@@ -1,8 +1,9 @@
 //! The lines of a listing.
 ghost use Rattle.std.specs.Prelude.{◌≡◌, ◌++◌, OnOk, codes, decimal};
 ghost use Rattle.mseed_record.specs.Viewing.{view_of};
-ghost use Rattle.mseed.specs.Listing.{record_line, offset_words, size_words, time_words, payload_words, count_line};
-ghost use Rattle.mseed.specs.Listing.{start_text, rate_text, time_fault_words, order_word, last_words};
+ghost use Rattle.mseed_show.specs.Listing.{record_line, offset_words, size_words, time_words, payload_words};
+ghost use Rattle.mseed_show.specs.Listing.{count_line};
+ghost use Rattle.mseed_show.specs.Listing.{start_text, rate_text, time_fault_words, order_word, last_words};
 
 use mseed_audit::{push_count, push_name};
 use mseed_record::RecordView;

@@ -2,8 +2,8 @@ use Rattle.std.proofs.Common.{◌≡◌, ◌++◌, List, ℕ, append_assoc}
 use Rattle.std.proofs.lemmas.Result.{IfOk-equal}
 use Rattle.mseed_record.specs.View.{View}
 use Rattle.mseed_record.specs.Viewing.{view_of}
-use Rattle.mseed.specs.Listing.{offset_words, size_words, time_words, payload_words}
-use Rattle.mseed.proofs.listing.push_record_line.Goals as goal
+use Rattle.mseed_show.specs.Listing.{offset_words, size_words, time_words, payload_words}
+use Rattle.mseed_show.proofs.lines.push_record_line.Goals as goal
 
 regroup : (t a b c d : List ℕ) → ((((t ++ a) ++ b) ++ c) ++ d) ≡ t ++ (a ++ b ++ c ++ d)
 regroup t a b c d = simp append_assoc

@@ -2,10 +2,10 @@ use Rattle.std.proofs.Common.{◌≡◌, ◌++◌, ◌∙◌, ℕ, List, length,
 use Rattle.mseed_record.specs.View.{View}
 use Rattle.mseed_record.specs.Viewing.{view_of}
 use Rattle.mseed_stream.specs.Device.{BytesRead, BytesWritten}
-use Rattle.mseed.specs.private.Gathering.{AreGathered}
-use Rattle.mseed.specs.Listing.{record_line}
-use Rattle.mseed.proofs.Gathered.{gathered_all, next_err, next_written, none_left}
-use Rattle.mseed.proofs.show.push_next.Goals as goal
+use Rattle.mseed_show.specs.private.Gathering.{AreGathered}
+use Rattle.mseed_show.specs.Listing.{record_line}
+use Rattle.mseed_show.proofs.Gathered.{gathered_all, next_err, next_written, none_left}
+use Rattle.mseed_show.proofs.listing.push_next.Goals as goal
 
 pub returns-in-Some : goal.returns-in-Some
 returns-in-Some g c = λ views before.

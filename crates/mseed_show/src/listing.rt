@@ -4,13 +4,13 @@ ghost use Rattle.mseed_record.specs.View.{View};
 ghost use Rattle.mseed_stream.specs.Cutting.{IsAlong};
 ghost use Rattle.mseed_stream.specs.Device.{nothing_read};
 ghost use Rattle.mseed_stream.specs.Walk.{HasHandedOut};
-ghost use Rattle.mseed.specs.Listing.{count_line};
+ghost use Rattle.mseed_show.specs.Listing.{count_line};
 ghost use Rattle.mseed_audit.specs.Text.{end_line};
-ghost use Rattle.mseed.specs.Show.{IsShown};
-ghost use Rattle.mseed.specs.private.Gathering.{AreGathered, IsPrefixWritten, IsGatheredAlso, IsListing, IsNext};
+ghost use Rattle.mseed_show.specs.Show.{IsShown};
+ghost use Rattle.mseed_show.specs.private.Gathering.{AreGathered, IsPrefixWritten, IsGatheredAlso, IsListing, IsNext};
 
-use crate::ending::ShowFault;
-use crate::listing::{push_count_line, push_record_line};
+use crate::fault::ShowFault;
+use crate::lines::{push_count_line, push_record_line};
 use mseed_audit::push_fault_line;
 use mseed_stream::{Cutter, Sink, Source, StreamFault, write_all_of};
 use std::alloc::Allocator;
@@ -27,7 +27,11 @@ pub(crate) enum Step {
     Ended(Option<StreamFault>),
 }
 
-/// Lists the records of the input, a line for each, and answers with what fault it ended, if with any.
+/// Lists the records of the input, and answers with what fault it ended, if with any. The text is a line for each
+/// record: where it begins, in bytes, its channel, quality, length in bytes, number of samples, start (UTC, to the
+/// microsecond), rate in samples a second as a ratio, encoding and byte order (SEED manual, chapter 8: header and
+/// blockettes 1000 and 100); then how many records there are, and the fault. Lines are written as records come, some
+/// at a time. The input is one of which nothing was read yet.
 ///
 /// # Errors
 ///
@@ -37,8 +41,8 @@ pub fn show<A: Allocator + Copy, R: Source, W: Sink>(
     input: &mut R,
     output: &mut W,
 ) -> Result<Option<StreamFault>, ShowFault>
-    requires { R.read input.old ≡ nothing_read }
-    ensures { IsShown result (R.read input.new) (W.written output.old) (W.written output.new) }
+    requires unread { R.read input.old ≡ nothing_read }
+    ensures shown { IsShown result (R.read input.new) (W.written output.old) (W.written output.new) }
 {
     let mut text = Vec::new(alloc);
     let (records, end) = list(alloc, input, output, &mut text)?;

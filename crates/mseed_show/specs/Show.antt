@@ -6,9 +6,9 @@ use Rattle.mseed_stream.specs.declared.fault.StreamFault.{StreamFault}
 use Rattle.mseed_stream.specs.Walk.{AreViews, AreAllViews}
 pub use Rattle.mseed_audit.specs.Each.{EmittedFirst, EmittedPart}
 use Rattle.mseed_audit.specs.Text.{end_line}
-use Rattle.mseed.specs.Listing.{record_lines, count_line}
-use Rattle.mseed.specs.declared.ending.ShowFault.{ShowFault}
-use Rattle.mseed.specs.declared.ending.ShowFault.TheVariants.{Write, Memory}
+use Rattle.mseed_show.specs.Listing.{record_lines, count_line}
+use Rattle.mseed_show.specs.declared.fault.ShowFault.{ShowFault}
+use Rattle.mseed_show.specs.declared.fault.ShowFault.TheVariants.{Write, Memory}
 
 -- the text of a listing: a line for each record, their number, and the fault
 abbrev pub show_text : List View → Option StreamFault → List ℕ

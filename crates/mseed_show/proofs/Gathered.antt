@@ -7,18 +7,19 @@ use Rattle.std.specs.List.{concat}
 use Rattle.mseed_record.specs.View.{View}
 use Rattle.mseed_stream.specs.Device.{BytesRead, BytesWritten}
 use Rattle.mseed_stream.specs.declared.fault.StreamFault.{StreamFault}
-use Rattle.mseed.specs.Listing.{record_line, record_lines, count_line}
+use Rattle.mseed_show.specs.Listing.{record_line, record_lines, count_line}
 use Rattle.mseed_stream.specs.Walk.{AreViews}
 pub use Rattle.mseed_audit.proofs.Gathers.{gathered_all, gathered_first}
 use Rattle.mseed_audit.specs.Text.{end_line}
-use Rattle.mseed.specs.Show.{EndsShort, IsListed, IsShown, EmittedFirst, EmittedPart, show_text}
+use Rattle.mseed_show.specs.Show.{EndsShort, IsListed, IsShown, EmittedFirst, EmittedPart, show_text}
 use Rattle.std.specs.Result.{IsErrAnd}
 use Rattle.mseed_stream.specs.Standing.{Standing}
-use Rattle.mseed.specs.declared.show.Step.{Step}
-use Rattle.mseed.specs.declared.show.Step.TheVariants.{Listed, Ended}
-use Rattle.mseed.specs.private.Gathering.{AreGathered, IsPrefixWritten, IsGatheredAlso, IsListing, IsNext, HasLines}
-use Rattle.mseed.specs.declared.ending.ShowFault.{ShowFault}
-use Rattle.mseed.specs.declared.ending.ShowFault.TheVariants.{Write, Memory}
+use Rattle.mseed_show.specs.declared.listing.Step.{Step}
+use Rattle.mseed_show.specs.declared.listing.Step.TheVariants.{Listed, Ended}
+use Rattle.mseed_show.specs.private.Gathering.{AreGathered, IsPrefixWritten, IsGatheredAlso, IsListing, IsNext}
+use Rattle.mseed_show.specs.private.Gathering.{HasLines}
+use Rattle.mseed_show.specs.declared.fault.ShowFault.{ShowFault}
+use Rattle.mseed_show.specs.declared.fault.ShowFault.TheVariants.{Write, Memory}
 
 -- some more was added to what is gathered, and perhaps written
 pub gathered_more : (first old new : BytesWritten) (text next lines line whole : List ℕ)

@@ -2,9 +2,9 @@ use Rattle.std.proofs.Common.{◌≡◌, ◌+◌, ◌-◌, ◌^◌, ◌≤◌, L
 use Rattle.mseed_record.specs.View.{View}
 use Rattle.mseed_stream.specs.Cutting.{IsAlong}
 use Rattle.mseed_stream.specs.Walk.{HasHandedOut}
-use Rattle.mseed.specs.private.Gathering.{AreGathered}
-use Rattle.mseed.specs.Listing.{record_lines}
-use Rattle.mseed.proofs.show.list.Given as goal
+use Rattle.mseed_show.specs.private.Gathering.{AreGathered}
+use Rattle.mseed_show.specs.Listing.{record_lines}
+use Rattle.mseed_show.proofs.listing.list.Given as goal
 
 abbrev pub invariant-records : goal.invariant-records
 invariant-records g l = IsAlong (g.R.Source.read l.input) l.cutter × (l.records ≤ (g.R.Source.read l.input).calls)

@@ -2,12 +2,12 @@ use Rattle.std.proofs.Common.{◌≡◌, ◌++◌, ◌∷◌, [], ◌∙◌, ℕ
 use Rattle.std.proofs.lemmas.List.{append-nil, length-append}
 use Rattle.mseed_record.specs.View.{View}
 use Rattle.mseed_stream.specs.Device.{BytesRead, BytesWritten}
-use Rattle.mseed.specs.private.Gathering.{AreGathered}
-use Rattle.mseed.specs.Listing.{record_line, record_lines}
-use Rattle.mseed.specs.Show.{IsShown}
-use Rattle.mseed.specs.declared.ending.ShowFault.{ShowFault}
-use Rattle.mseed.proofs.Gathered.{cut_short, gathered_err, gathered_more, gathered_on, lines_more}
-use Rattle.mseed.proofs.show.list.Goals as goal
+use Rattle.mseed_show.specs.private.Gathering.{AreGathered}
+use Rattle.mseed_show.specs.Listing.{record_line, record_lines}
+use Rattle.mseed_show.specs.Show.{IsShown}
+use Rattle.mseed_show.specs.declared.fault.ShowFault.{ShowFault}
+use Rattle.mseed_show.proofs.Gathered.{cut_short, gathered_err, gathered_more, gathered_on, lines_more}
+use Rattle.mseed_show.proofs.listing.list.Goals as goal
 
 pub returns-in_err-push_next : goal.returns-in_err-push_next
 returns-in_err-push_next g c =

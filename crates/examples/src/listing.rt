@@ -1,0 +1,27 @@
+//! Calls of `mseed_show`.
+ghost use Rattle.std.specs.Prelude.{◌≡◌};
+ghost use Rattle.mseed_stream.specs.Device.{nothing_read};
+
+use mseed_show::{ShowFault, show};
+use mseed_stream::{Counted, Sink, Source};
+use std::alloc::Global;
+
+/// The listing of a slice's records.
+pub fn listing_of(alloc: Global, bytes: &[u8]) -> Result<Vec<u8>, ShowFault> {
+    let mut source = Counted::new(bytes);
+    let mut sink = Counted::new(Vec::new(alloc));
+    show(alloc, &mut source, &mut sink)?;
+    Ok(sink.into_inner())
+}
+
+/// Lists the records of an archive, and says whether it is whole.
+pub fn is_whole<R: Source, W: Sink>(
+    alloc: Global,
+    source: &mut R,
+    sink: &mut W,
+) -> Result<bool, ShowFault>
+    requires { R.read source.old ≡ nothing_read }
+{
+    let end = show(alloc, source, sink)?;
+    Ok(end.is_none())
+}
