@@ -26,7 +26,7 @@ MANUAL := $(DESTDIR)$(PREFIX)/share/man/man1
 KIT = $(patsubst %/,%,$(dir $(shell rt doc)))
 LIB := crates/mseed_c/out/lib
 # Crates that the program calls, of which none stands on another.
-SIDES := mseed_join mseed_repack mseed_show slink_links slink_live_tcp
+SIDES := mseed_join mseed_repack mseed_show mseed_words slink_live_tcp
 PYTHON_DIR ?= $(PREFIX)/lib/python3/dist-packages
 
 .PHONY: audit bench build dist drawing edits feed-bench help install install-lib interop lib packages \

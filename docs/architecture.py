@@ -36,6 +36,7 @@ CRATES = {
     "slink_live_tcp": (5, "an input and links over TCP"),
     "slink_model": (3, "schedules over cut links"),
     "mseed_c": (0, "the calls for C"),
+    "mseed_words": (4, "what words request"),
     "mseed": (2, "the command"),
 }
 

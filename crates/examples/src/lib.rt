@@ -18,3 +18,4 @@ pub mod stream;
 pub mod stretches;
 pub mod time;
 pub mod wire;
+pub mod words;

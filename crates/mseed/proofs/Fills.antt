@@ -24,8 +24,8 @@ use Rattle.slink_wire.proofs.Cuts.{both}
 use Rattle.slink_feed.specs.Rings.{HasPlace}
 use Rattle.slink_feed.specs.Window.{Shows, Window, window, with_record}
 use Rattle.slink_feed.proofs.Items.{drop_none, get_mapped, map_got, shows_more, within_is}
-use Rattle.mseed.specs.Places.{Called, are_different, has_place, is_same}
-use Rattle.mseed.specs.FeedWords.{CanServe}
+use Rattle.mseed_words.specs.Places.{Called, are_different, has_place, is_same}
+use Rattle.mseed_words.specs.FeedWords.{CanServe}
 use Rattle.mseed.specs.Filling.{AreOfFeed, IsFilling, IsOfFeed, IsPushed, feed_of, is_of, records_of, ring_of, served}
 use Rattle.mseed.specs.Filling.{stream_fault}
 use Rattle.mseed.specs.private.Pushing.{IsNextPushed}
@@ -33,7 +33,7 @@ use Rattle.mseed.specs.declared.fill_fault.FillFault.{FillFault}
 use Rattle.mseed.specs.declared.fill_fault.FillFault.TheVariants.{Foreign}
 use Rattle.mseed.specs.declared.filling.Step.{Step}
 use Rattle.mseed.specs.declared.filling.Step.TheVariants.{Pushed}
-use Rattle.mseed.specs.declared.request.Serving.{Serving}
+use Rattle.mseed_words.specs.declared.request.Serving.{Serving}
 
 records_taken : (p : Fields) (rs : List (List ℕ)) (r : List ℕ) → Bears r p
     → records_of p (rs ++ r ∷ []) ≡ records_of p rs ++ r ∷ []

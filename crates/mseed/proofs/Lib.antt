@@ -1,9 +1,4 @@
-pub mod Taken
-pub mod Called
-pub mod Digits
 pub mod Encodings
-pub mod PlaceWords
-pub mod Different
 pub mod Fills
 pub mod OneFilling
 pub mod Numbered

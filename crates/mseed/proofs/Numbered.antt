@@ -3,7 +3,7 @@ use Rattle.std.proofs.Common.{◌<◌, ◌^◌, [], ◌∷◌, List, map, arith}
 use Rattle.slink_wire.specs.Place.{Fields}
 use Rattle.mseed.specs.Filling.{ring_of}
 use Rattle.mseed.specs.Live.{CanNumber}
-use Rattle.mseed.specs.declared.request.Serving.{Serving}
+use Rattle.mseed_words.specs.declared.request.Serving.{Serving}
 
 -- They can be numbered on, since the first number has 24 bits.
 pub can_number_new : (serving : Serving) (places : List Fields) → serving.first < 2 ^ 24

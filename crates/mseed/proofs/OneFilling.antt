@@ -17,7 +17,7 @@ use Rattle.slink_feed.specs.Window.{Window}
 use Rattle.mseed.specs.Filling.{AreOfFeed, IsFilling, IsForeign, IsOfFeed, IsOneFilling, feed_of, served}
 use Rattle.mseed.specs.declared.fill_fault.FillFault.{FillFault}
 use Rattle.mseed.specs.declared.fill_fault.FillFault.TheVariants.{Stream, Foreign, Memory}
-use Rattle.mseed.specs.declared.request.Serving.{Serving}
+use Rattle.mseed_words.specs.declared.request.Serving.{Serving}
 
 -- These bytes begin with records of the feed, and then one that isn't.
 record Stops (places : List Fields) (bytes : List ℕ) (before : List (List ℕ)) : Type 0 where

@@ -9,7 +9,7 @@ use Rattle.mseed_stream.specs.declared.fault.StreamFault.{StreamFault}
 use Rattle.mseed_stream.specs.declared.fault.StreamFault.TheVariants.{Frame, Truncated, Read, Turns, Memory as NoMemory}
 use Rattle.slink_wire.specs.Place.{Bears, Fields}
 use Rattle.slink_feed.specs.Window.{Window, window, with_record}
-use Rattle.mseed.specs.declared.request.Serving.{Serving}
+use Rattle.mseed_words.specs.declared.request.Serving.{Serving}
 use Rattle.mseed.specs.declared.fill_fault.FillFault.{FillFault}
 use Rattle.mseed.specs.declared.fill_fault.FillFault.TheVariants.{Stream, Foreign, Memory}
 

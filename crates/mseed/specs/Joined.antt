@@ -3,12 +3,12 @@ use Rattle.std.specs.Prelude.{◌≡◌, ℕ, List, ◌++◌, Bool, nat_lt, if�
 use Rattle.mseed_stream.specs.Device.{BytesRead, BytesWritten}
 use Rattle.mseed_stream.specs.Telling.{Tells}
 use Rattle.mseed_audit.specs.Text.{fault_line}
+use Rattle.mseed_join.specs.declared.joining.Form.{Form}
 use Rattle.mseed_join.specs.declared.joining.Joined.{Joined}
 use Rattle.mseed_join.specs.declared.joining.JoinsFault.{JoinsFault}
 use Rattle.mseed_join.specs.declared.joining.JoinsFault.TheVariants.{Line, Stream, Write, Memory}
 use Rattle.mseed_join.specs.Joins.{IsJoinOutcome}
 use Rattle.mseed_join.specs.JoinsEach.{IsJoinEachOutcome}
-use Rattle.mseed.specs.declared.request.Joining.{Joining}
 
 -- the exit status: that of the audit, where its text or its part was written
 abbrev pub join_status : Result Joined JoinsFault → ℕ
@@ -28,11 +28,11 @@ TellsOfJoin (Ok joined) old new = new ≡ old
 TellsOfJoin (Err fault) old new = Tells (join_fault_text fault) old new
 
 -- joining parts, its status and its lines
-pub record IsJoinRun (joining : Joining) (outcome : Result Joined JoinsFault) (status : ℕ) (read : BytesRead)
-    (written_old written_new reported_old reported_new : BytesWritten) : Type 0 where
+pub record IsJoinRun (form : Form) (past_faults : Bool) (outcome : Result Joined JoinsFault) (status : ℕ)
+    (read : BytesRead) (written_old written_new reported_old reported_new : BytesWritten) : Type 0 where
   pub reported_between : BytesWritten
-  pub outcome_is : IsJoinOutcome joining.form joining.past_faults outcome read written_old written_new
-      reported_old reported_between
+  pub outcome_is : IsJoinOutcome form past_faults outcome read written_old written_new reported_old
+      reported_between
   pub status_is : status ≡ join_status outcome
   pub reported : TellsOfJoin outcome reported_between reported_new
 

@@ -1,12 +1,5 @@
 pub mod Outcome
 pub mod Run
-pub mod Options
-pub mod Found
-pub mod Numbers
-pub mod Places
-pub mod Addresses
-pub mod FeedWords
-pub mod Words
 pub mod Done
 pub mod Joined
 pub mod Repacked

@@ -10,7 +10,7 @@ use Rattle.slink_live.specs.Input.{IsInputFault, places_of}
 use Rattle.slink_live.specs.Served.{IsFinished, IsServing, ServerState}
 use Rattle.slink_live.specs.declared.fault.InputFault.{InputFault}
 use Rattle.slink_live.specs.declared.fault.InputFault.TheVariants as inputs
-use Rattle.mseed.specs.FeedWords.{CanLive}
+use Rattle.mseed_words.specs.FeedWords.{CanLive}
 use Rattle.mseed.specs.Plans.{fill_text}
 use Rattle.mseed.specs.declared.fill_fault.FillFault.{FillFault}
 use Rattle.mseed.specs.declared.fill_fault.FillFault.TheVariants as fills

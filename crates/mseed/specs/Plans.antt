@@ -14,9 +14,9 @@ use Rattle.mseed.specs.declared.outcome.Run.{Run}
 use Rattle.mseed.specs.declared.outcome.Run.TheVariants.{Status, Serve, Live, Fetch}
 use Rattle.slink_links.specs.declared.plan.FetchPlan.{FetchPlan}
 use Rattle.slink_links.specs.declared.plan.ServePlan.{ServePlan}
-use Rattle.mseed.specs.declared.request.Fetching.{Fetching}
-use Rattle.mseed.specs.declared.request.Living.{Living}
-use Rattle.mseed.specs.declared.request.Serving.{Serving}
+use Rattle.mseed_words.specs.declared.request.Fetching.{Fetching}
+use Rattle.mseed_words.specs.declared.request.Living.{Living}
+use Rattle.mseed_words.specs.declared.request.Serving.{Serving}
 
 -- why a feed wasn't filled
 abbrev pub fill_text : FillFault → List ℕ

@@ -7,7 +7,7 @@ use Rattle.mseed_pack.specs.declared.options.Options.{Options}
 use Rattle.mseed_stream.specs.Telling.{Tells}
 use Rattle.mseed_repack.specs.ByStretches.{broken_line, misfit_number}
 use Rattle.mseed_repack.specs.Repack.{IsRepacking}
-use Rattle.mseed.specs.declared.request.Packing.{Packing}
+use Rattle.mseed_words.specs.declared.request.Packing.{Packing}
 use Rattle.mseed_repack.specs.declared.fault.RepackFault.{RepackFault}
 use Rattle.mseed_repack.specs.declared.fault.RepackFault.TheVariants.{Stream, Broken, Misfit, Write, Memory}
 

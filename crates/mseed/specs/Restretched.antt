@@ -10,7 +10,7 @@ use Rattle.mseed_repack.specs.declared.refusing.Left.TheVariants.{Nothing, Broke
 use Rattle.mseed_repack.specs.declared.stretches_fault.StretchesFault.{StretchesFault}
 use Rattle.mseed_repack.specs.declared.stretches_fault.StretchesFault.TheVariants.{Stream, Broken, Misfit, Write}
 use Rattle.mseed_repack.specs.declared.stretches_fault.StretchesFault.TheVariants.{Memory}
-use Rattle.mseed.specs.declared.request.Packing.{Packing}
+use Rattle.mseed_words.specs.declared.request.Packing.{Packing}
 
 -- the line of a fault
 abbrev pub stretches_text : StretchesFault → List ℕ

@@ -14,10 +14,11 @@ use Rattle.mseed.specs.Restretched.{IsStretchesRun}
 use Rattle.mseed_show.specs.declared.fault.ShowFault.{ShowFault}
 use Rattle.mseed.specs.declared.outcome.Run.{Run}
 use Rattle.mseed.specs.declared.outcome.Run.TheVariants as runs
-use Rattle.mseed.specs.declared.request.Request.{Request}
-use Rattle.mseed.specs.declared.request.Request.TheVariants.{Audit, AuditEach, AuditPart, AuditPartEach}
-use Rattle.mseed.specs.declared.request.Request.TheVariants.{Join, JoinEach, Show, Repack, RepackStretches, Serve}
-use Rattle.mseed.specs.declared.request.Request.TheVariants.{Live, Fetch}
+use Rattle.mseed_words.specs.declared.request.Request.{Request}
+use Rattle.mseed_words.specs.declared.request.Request.TheVariants.{Audit, AuditEach, AuditPart, AuditPartEach}
+use Rattle.mseed_words.specs.declared.request.Request.TheVariants.{Join, JoinEach, JoinPart, Show, Repack}
+use Rattle.mseed_words.specs.declared.request.Request.TheVariants.{RepackStretches, Serve, Live, Fetch}
+use Rattle.mseed_join.specs.declared.joining.Form.TheVariants as forms
 use Rattle.mseed_join.specs.declared.joining.Joined.{Joined}
 use Rattle.mseed_join.specs.declared.joining.JoinsFault.{JoinsFault}
 
@@ -47,10 +48,12 @@ HasCarriedOut AuditPart run old new = (outcome : Result Summary AuditFault)
     × IsStatusAnd run (λ status. IsPartRun outcome status new.input old.output new.output old.errors new.errors)
 HasCarriedOut AuditPartEach run old new = (outcome : Result Summary EachFault)
     × IsStatusAnd run (λ status. IsPartEachRun outcome status new.input old.output new.output old.errors new.errors)
-HasCarriedOut (Join joining) run old new = (outcome : Result Joined JoinsFault) × IsStatusAnd run (λ status.
-    IsJoinRun joining outcome status new.input old.output new.output old.errors new.errors)
+HasCarriedOut (Join past_faults) run old new = (outcome : Result Joined JoinsFault) × IsStatusAnd run (λ status.
+    IsJoinRun forms.Audit past_faults outcome status new.input old.output new.output old.errors new.errors)
 HasCarriedOut (JoinEach past_faults) run old new = (outcome : Result Joined JoinsFault) × IsStatusAnd run (λ status.
     IsJoinEachRun past_faults outcome status new.input old.output new.output old.errors new.errors)
+HasCarriedOut (JoinPart past_faults) run old new = (outcome : Result Joined JoinsFault) × IsStatusAnd run (λ status.
+    IsJoinRun forms.Part past_faults outcome status new.input old.output new.output old.errors new.errors)
 HasCarriedOut Show run old new = (outcome : Result (Option StreamFault) ShowFault)
     × IsStatusAnd run (λ status. IsShowRun outcome status new.input old.output new.output old.errors new.errors)
 HasCarriedOut (Repack packing) run old new =

@@ -2,31 +2,26 @@
 ghost use Rattle.std.specs.Prelude.{◌≡◌, ◌⊎◌, map, codes, nat_lt, if◌then◌else◌};
 ghost use Rattle.mseed_stream.specs.Device.{nothing_read};
 ghost use Rattle.mseed_stream.specs.Telling.{Tells};
-ghost use Rattle.mseed.specs.Done.{TellsOfShow, show_status};
+ghost use Rattle.mseed.specs.Done.{TellsOfRefusal, TellsOfShow, show_status};
 ghost use Rattle.mseed.specs.Joined.{TellsOfJoin, join_status};
 ghost use Rattle.mseed.specs.Outcome.{TellsOfAudit, TellsOfEach, each_status, status_of};
 ghost use Rattle.mseed.specs.Live.{CanBeServed};
 ghost use Rattle.mseed.specs.Run.{HasCarriedOut, HasRefusedRequest, HasRefusedWords, UnlessMemoryLacks, streams};
-ghost use Rattle.mseed.specs.Words.{AsksFor, AsksForNothing, AreRefused, CanBeCalled};
+ghost use Rattle.mseed_words.specs.Words.{AsksFor, AsksForNothing, AreRefused, CanBeCalled};
 ghost use Rattle.mseed.specs.Repacked.{TellsOfRepack};
 ghost use Rattle.mseed.specs.Restretched.{TellsOfStretches};
-ghost use Rattle.clap.specs.Values.{kind_of};
-ghost use Rattle.mseed.specs.declared.request.Request.{Request};
-ghost use Rattle.clap.specs.declared.error.kind.ErrorKind.{ErrorKind};
+ghost use Rattle.mseed_words.specs.declared.request.Request.{Request};
 
 use crate::outcome::{BAD_COMMAND, BROKEN, DONE, FAULT, Run};
 use crate::planning::{plan_fetch, plan_serve};
 use crate::refusal::{refuse_to_join, refuse_to_repack, refuse_to_stretch};
-use crate::request::{Packing, Request};
-use crate::words;
-use clap::Error;
-use clap::error::ErrorKind;
 use mseed_audit::{AuditFault, EachFault, Summary, audit, audit_each};
-use mseed_join::{Joined, JoinsFault, audit_part, audit_part_each, join, join_each};
+use mseed_join::{Form, Joined, JoinsFault, audit_part, audit_part_each, join, join_each};
 use mseed_pack::Options;
 use mseed_repack::{Left, RepackFault, StretchesFault, repack, repack_stretches};
 use mseed_show::{ShowFault, show};
 use mseed_stream::{Sink, Source, StreamFault, tell};
+use mseed_words::{Packing, Refusal, Request, read};
 use std::alloc::{Allocator, Global};
 
 /// Carries out what the words of the command line ask for, those after the program's name.
@@ -65,10 +60,9 @@ pub fn run<R: Source, W: Sink, E: Sink>(
         (streams (R.read input.new) (W.written output.new) (E.written errors.new)) }
     ensures served { CanBeServed result }
 {
-    match words::read(alloc, words) {
-        Ok(Some(request)) => carry_out(alloc, request, input, output, errors),
-        Ok(None) => Run::Status(refuse_words(errors)),
-        Err(error) => Run::Status(refuse(alloc, errors, &error)),
+    match read(alloc, words) {
+        Ok(request) => carry_out(alloc, request, input, output, errors),
+        Err(refusal) => Run::Status(refuse(errors, &refusal)),
     }
 }
 
@@ -94,19 +88,16 @@ pub fn carry_out<A: Allocator + Copy, R: Source, W: Sink, E: Sink>(
         Request::AuditPartEach => {
             Run::Status(audited_each(audit_part_each(alloc, input, output), errors))
         }
-        Request::Join(joining) => {
-            let outcome = join(
-                alloc,
-                joining.form,
-                joining.past_faults,
-                input,
-                output,
-                errors,
-            );
+        Request::Join { past_faults } => {
+            let outcome = join(alloc, Form::Audit, past_faults, input, output, errors);
             Run::Status(joined(outcome, errors))
         }
         Request::JoinEach { past_faults } => {
             let outcome = join_each(alloc, past_faults, input, output, errors);
+            Run::Status(joined(outcome, errors))
+        }
+        Request::JoinPart { past_faults } => {
+            let outcome = join(alloc, Form::Part, past_faults, input, output, errors);
             Run::Status(joined(outcome, errors))
         }
         Request::Show => Run::Status(shown(show(alloc, input, output), errors)),
@@ -230,22 +221,17 @@ pub fn write_failed<E: Sink>(errors: &mut E) -> u8
     FAULT
 }
 
-/// Says why `clap` refuses the words, in its own text.
-fn refuse<E: Sink>(alloc: Global, errors: &mut E, error: &Error) -> u8
-    ensures memory { kind_of error.now ≡ ErrorKind.OutOfMemory
-        → (result ≡ 2) × Tells (codes "mseed: no memory\n") (E.written errors.old) (E.written errors.new) }
-    ensures either { (result ≡ 3)
-        ⊎ ((result ≡ 2) × Tells (codes "mseed: no memory\n") (E.written errors.old) (E.written errors.new)) }
+/// Says why the words of the command line request nothing, and answers the exit status.
+fn refuse<E: Sink>(errors: &mut E, refusal: &Refusal) -> u8
+    ensures { TellsOfRefusal refusal.now result (E.written errors.old) (E.written errors.new) }
 {
-    if error.kind() == ErrorKind::OutOfMemory {
-        return refuse_memory(errors);
-    }
-    match error.to_string(alloc) {
-        Ok(text) => {
+    match refusal {
+        Refusal::Text(text) => {
             tell(errors, text.as_bytes());
             BAD_COMMAND
         }
-        Err(_) => refuse_memory(errors),
+        Refusal::NoRequest => refuse_words(errors),
+        Refusal::Memory => refuse_memory(errors),
     }
 }
 
@@ -258,7 +244,7 @@ pub fn refuse_words<E: Sink>(errors: &mut E) -> u8
     BAD_COMMAND
 }
 
-/// Says that memory was refused: to a command, to `clap`, or to `main` for the words of the command line.
+/// Says that memory was refused: to a command, or for the words of the command line.
 pub fn refuse_memory<E: Sink>(errors: &mut E) -> u8
     ensures status { result ≡ 2 }
     ensures reported { Tells (codes "mseed: no memory\n") (E.written errors.old) (E.written errors.new) }

@@ -9,14 +9,14 @@ ghost use Rattle.mseed_stream.specs.Device.{BytesRead, nothing_read};
 ghost use Rattle.slink_wire.specs.Place.{Bears};
 ghost use Rattle.slink_feed.specs.Window.{Window};
 ghost use Rattle.mseed.specs.Filling.{IsFilling, IsOneFilling, IsPushed, feed_of};
-ghost use Rattle.mseed.specs.FeedWords.{CanServe};
+ghost use Rattle.mseed_words.specs.FeedWords.{CanServe};
 ghost use Rattle.mseed.specs.private.Pushing.{HasFilled, IsNextPushed};
 ghost use Rattle.mseed.specs.declared.fill_fault.FillFault.{FillFault};
-ghost use Rattle.mseed.specs.declared.request.Serving.{Serving};
+ghost use Rattle.mseed_words.specs.declared.request.Serving.{Serving};
 
 use crate::fill_fault::FillFault;
-use crate::request::Serving;
 use mseed_stream::{Cutter, Source};
+use mseed_words::Serving;
 use slink_feed::{Feed, Ring};
 use std::alloc::{Allocator, Global};
 

@@ -5,7 +5,7 @@ ghost use Rattle.slink_feed.specs.Window.{Window};
 ghost use Rattle.slink_live.specs.Happening.{input_of};
 ghost use Rattle.slink_live.specs.Input.{IsInputFault, places_of};
 ghost use Rattle.slink_live.specs.Served.{IsFinished, IsServing, IsSound, ServerState};
-ghost use Rattle.mseed.specs.FeedWords.{CanLive};
+ghost use Rattle.mseed_words.specs.FeedWords.{CanLive};
 ghost use Rattle.mseed.specs.Filling.{feed_of};
 ghost use Rattle.mseed.specs.Live.{CanNumber, EndsWith, HasEnded, HasServed, HasServedTcp, fill_fault};
 
@@ -14,8 +14,8 @@ use crate::fill_fault::FillFault;
 use crate::filling::open_feed;
 use crate::outcome::{DONE, FAULT};
 use crate::refusal::refuse_to_serve;
-use crate::request::Living;
 use mseed_stream::{Sink, tell};
+use mseed_words::Living;
 use slink_feed::Feed;
 use slink_live::{InputFault, Ready, Server};
 use slink_live_tcp::{Plan, Tcp};

@@ -6,21 +6,12 @@ ghost use Rattle.std.specs.Prelude.{IfOk};
 ghost use Rattle.mseed.specs.Live.{CanBeServed};
 
 mod command;
-mod feed_words;
 mod fill_fault;
 mod filling;
-mod found;
-mod help;
-mod host_words;
 mod live;
-mod numbers;
-mod options;
 mod outcome;
-mod places;
 mod planning;
 mod refusal;
-mod request;
-mod words;
 
 use mseed_stream::{Buffered, Counted, Sink};
 use outcome::Run;

@@ -1,5 +1,5 @@
 //! What a command leaves to do, and the exit statuses.
-use crate::request::Living;
+use mseed_words::Living;
 use slink_links::{FetchPlan, ServePlan};
 use std::alloc::{Allocator, Global};
 

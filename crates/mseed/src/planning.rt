@@ -1,15 +1,15 @@
 //! The plans of the two commands of a feed.
 ghost use Rattle.std.specs.Prelude.{◌≡◌, []};
 ghost use Rattle.mseed_stream.specs.Device.{nothing_read};
-ghost use Rattle.mseed.specs.FeedWords.{CanFetch, CanServe};
+ghost use Rattle.mseed_words.specs.FeedWords.{CanFetch, CanServe};
 ghost use Rattle.mseed.specs.Live.{CanBeServed};
 ghost use Rattle.mseed.specs.Plans.{IsFetchPlan, IsServeRun, talk_of};
 
 use crate::filling::{fill, one_filling};
 use crate::outcome::Run;
 use crate::refusal::refuse_to_serve;
-use crate::request::{Fetching, Serving};
 use mseed_stream::{Sink, Source};
+use mseed_words::{Fetching, Serving};
 use slink_feed::{Client, Mode};
 use slink_links::{FetchPlan, ServePlan};
 use std::alloc::Allocator;

@@ -9,7 +9,7 @@ use Rattle.mseed.specs.Filling.{AreOfFeed, IsFilling, feed_of, served}
 use Rattle.mseed.specs.declared.fill_fault.FillFault.{FillFault}
 use Rattle.mseed.specs.declared.filling.Step.{Step}
 use Rattle.mseed.specs.declared.filling.Step.TheVariants.{Pushed, Ended}
-use Rattle.mseed.specs.declared.request.Serving.{Serving}
+use Rattle.mseed_words.specs.declared.request.Serving.{Serving}
 
 -- the cutter has handed out these records, which are the feed's, and the rings have them
 pub record HasFilled (serving : Serving) (h : BytesRead) (c : Standing) (feed : List Window) (views : List View)

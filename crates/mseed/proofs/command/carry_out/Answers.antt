@@ -62,6 +62,17 @@ returns-in-JoinEach-clause-done g c = rw c.in-JoinEach.is (
   },
 )
 
+pub returns-in-JoinPart-clause-done : goal.returns-in-JoinPart-clause-done
+returns-in-JoinPart-clause-done g c = rw c.in-JoinPart.is (
+  c.join-outcome-in-JoinPart.result,
+  record {
+    reported_between = g.E.Sink.written c.join-outcome-in-JoinPart.new.errors;
+    outcome_is = c.join-outcome-in-JoinPart.ensures.outcome;
+    status_is = c.joined-in-JoinPart.ensures.status;
+    reported = c.joined-in-JoinPart.ensures.reported;
+  },
+)
+
 pub returns-in-Show-clause-done : goal.returns-in-Show-clause-done
 returns-in-Show-clause-done g c = rw c.in-Show.is (
   c.show.result,

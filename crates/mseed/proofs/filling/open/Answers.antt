@@ -1,5 +1,5 @@
 use Rattle.std.proofs.Common.{◌∙◌, List, ap, arith, get_or, length, rules}
-use Rattle.mseed.specs.Places.{Called}
+use Rattle.mseed_words.specs.Places.{Called}
 use Rattle.mseed.proofs.Fills.{opened_all, opened_few, opened_more, opened_other}
 use Rattle.mseed.proofs.filling.open.Goals as goal
 

@@ -1,5 +1,5 @@
 use Rattle.std.proofs.Common.{◌≡◌, [], map, take}
-use Rattle.mseed.specs.Places.{Called}
+use Rattle.mseed_words.specs.Places.{Called}
 use Rattle.mseed.specs.Filling.{ring_of}
 use Rattle.mseed.proofs.filling.open.Given as goal
 

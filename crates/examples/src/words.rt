@@ -1,0 +1,32 @@
+//! Calls of `mseed_words`.
+ghost use Rattle.std.specs.Prelude.{IfOk};
+ghost use Rattle.mseed_words.specs.Words.{CanBeCalled};
+
+use mseed_words::{Refusal, Request, read};
+use std::alloc::Global;
+
+/// What the words of a command line request, those after the program's name.
+pub fn requested(alloc: Global, words: &[&str]) -> Result<Request, Refusal>
+    ensures { IfOk result CanBeCalled }
+{
+    read(alloc, words)
+}
+
+/// Of how many places records are requested: of none, unless they are served or fetched.
+pub fn places_requested(request: &Request) -> usize {
+    match request {
+        Request::Serve(serving) => serving.places.as_slice().len(),
+        Request::Live(living) => living.serving.places.as_slice().len(),
+        Request::Fetch(fetching) => fetching.places.as_slice().len(),
+        _ => 0,
+    }
+}
+
+/// What to tell whoever typed words that request nothing.
+pub fn answer_to(refusal: &Refusal) -> &str {
+    match refusal {
+        Refusal::Text(text) => text.as_str(),
+        Refusal::NoRequest => "bad value\n",
+        Refusal::Memory => "no memory\n",
+    }
+}

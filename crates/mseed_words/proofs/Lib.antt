@@ -1,0 +1,5 @@
+pub mod Taken
+pub mod Called
+pub mod Digits
+pub mod PlaceWords
+pub mod Different

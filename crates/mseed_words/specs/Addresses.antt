@@ -1,0 +1,87 @@
+-- Where a feed leads, and how long a link may be silent, as the words of the command line say.
+use Rattle.std.specs.Prelude.{ℕ, Bool, ◌≤◌, ◌==◌, ◌&&◌, ◌||◌, nat_le, nat_lt, [], ◌∷◌, length, if◌then◌else◌}
+use Rattle.std.specs.Prelude.{Option, Some, None, option_and_then}
+use Rattle.std.specs.Char.{is_ascii_alphabetic, is_ascii_alphanumeric}
+use Rattle.std.specs.List.{after_first, before_first, list_all, list_any}
+use Rattle.clap.specs.Walk.{Text}
+use Rattle.slink_links.specs.Hosts.{name_of}
+use Rattle.slink_links.specs.declared.host.Address.{Address}
+use Rattle.slink_links.specs.declared.host.Host.{Host}
+use Rattle.slink_links.specs.declared.host.Host.TheVariants as hosts
+use Rattle.slink_links.specs.declared.host.Name.{Name}
+use Rattle.slink_links.specs.declared.host.Timeout.{Timeout}
+use Rattle.mseed_words.specs.Numbers.{number_in}
+
+-- how many decimal digits a number of an address has
+abbrev pub digits_in : ℕ → ℕ
+digits_in n = if nat_lt n 10 then 1 else if nat_lt n 100 then 2 else 3
+
+-- a number of an address: up to 255, without a zero before it
+abbrev pub octet_in : Text → Option ℕ
+octet_in text =
+    option_and_then (λ n. if nat_le n 255 && length text == digits_in n then Some n else None) (number_in text)
+
+-- four numbers, where each can be had
+abbrev pub address_with : Option ℕ → Option ℕ → Option ℕ → Option ℕ → Option Address
+address_with (Some a) (Some b) (Some c) (Some d) = Some (record { octets = a ∷ b ∷ c ∷ d ∷ [] })
+address_with _ _ _ _ = None
+
+-- what stands before the first dot, and what stands behind it
+abbrev pub before_dot : Text → Text
+before_dot text = before_first (λ c. c == 46) text
+
+abbrev pub behind_dot : Text → Text
+behind_dot text = after_first (λ c. c == 46) text
+
+-- an IPv4 address: four numbers with dots between them
+abbrev pub address_in : Text → Option Address
+address_in text =
+    address_with (octet_in (before_dot text)) (octet_in (before_dot (behind_dot text)))
+    (octet_in (before_dot (behind_dot (behind_dot text)))) (octet_in (behind_dot (behind_dot (behind_dot text))))
+
+-- a letter, a digit, `-`, `.` or `_`
+abbrev pub is_in_name : ℕ → Bool
+is_in_name c = is_ascii_alphanumeric c || (c == 45 || (c == 46 || c == 95))
+
+-- of such characters, with a letter among them
+abbrev pub is_name : Text → Bool
+is_name text = list_all is_in_name text && list_any is_ascii_alphabetic text
+
+-- a name of at most 253 characters
+abbrev pub name_in : Text → Option Name
+name_in text = if is_name text then name_of text else None
+
+-- an address, where there is one, and else a name
+abbrev pub host_with : Option Address → Option Name → Option Host
+host_with (Some address) name = Some (hosts.Address address)
+host_with None (Some name) = Some (hosts.Name name)
+host_with None None = None
+
+abbrev pub host_in : Text → Option Host
+host_in text = host_with (address_in text) (name_in text)
+
+-- this machine
+abbrev pub here : Address
+here = record { octets = 127 ∷ 0 ∷ 0 ∷ 1 ∷ [] }
+
+-- the address to listen at: that of this machine where none is given
+abbrev pub address_of : Option Text → Option Address
+address_of None = Some here
+address_of (Some text) = address_in text
+
+-- whom to ask: this machine where nobody is named
+abbrev pub host_of : Option Text → Option Host
+host_of None = Some (hosts.Address here)
+host_of (Some text) = host_in text
+
+-- up to a day
+abbrev pub timeout_by : ℕ → Option Timeout
+timeout_by n = if nat_le n 86400 then Some (record { seconds = n }) else None
+
+-- how long a link may be silent, in seconds of up to five digits: ten minutes where nothing is given
+abbrev pub timeout_in : Option Text → Option Timeout
+timeout_in None = Some (record { seconds = 600 })
+timeout_in (Some text) = if nat_lt 5 (length text) then None else option_and_then timeout_by (number_in text)
+
+abbrev pub IsTimeout : Timeout → Type 0
+IsTimeout timeout = timeout.seconds ≤ 86400

@@ -1,0 +1,229 @@
+-- What the words of the two commands of a feed ask for.
+use Rattle.std.specs.Prelude.{ℕ, Bool, ◌≤◌, ◌<◌, ◌^◌, ◌==◌, ◌&&◌, nat_le, nat_lt, List, [], ◌∷◌, length, map}
+use Rattle.std.specs.Prelude.{if◌then◌else◌}
+use Rattle.std.specs.Prelude.{Option, Some, None, option_and_then, option_map, codes}
+use Rattle.std.specs.Char.{is_ascii_alphanumeric}
+use Rattle.std.specs.List.{after_first, before_first, list_all, position_or_len}
+use Rattle.clap.specs.Walk.{Row, Text, first_of}
+use Rattle.slink_wire.specs.Place.{Fields, fields_of}
+use Rattle.slink_feed.specs.Fault.{IsCapacity}
+use Rattle.mseed_words.specs.Found.{asks, further_in, has_only}
+use Rattle.mseed_words.specs.Numbers.{counted_in, hexadecimal_in, number_in}
+use Rattle.mseed_words.specs.Places.{ArePlaces, Called, places_of}
+use Rattle.mseed_words.specs.declared.feed_words.Naming.{Naming}
+use Rattle.mseed_words.specs.declared.feed_words.Naming.TheVariants.{Plain, Numbered}
+use Rattle.slink_links.specs.declared.host.Address.{Address}
+use Rattle.slink_links.specs.declared.host.Host.{Host}
+use Rattle.slink_links.specs.declared.host.Timeout.{Timeout}
+use Rattle.mseed_words.specs.Addresses.{IsTimeout, address_of, host_of, timeout_in}
+use Rattle.mseed_words.specs.declared.request.Listener.{Listener}
+use Rattle.mseed_words.specs.declared.request.Server.{Server}
+use Rattle.mseed_words.specs.declared.request.Living.{Living}
+use Rattle.mseed_words.specs.declared.request.Serving.{Serving}
+use Rattle.mseed_words.specs.declared.request.Fetching.{Fetching}
+
+-- a code: 1 to so many ASCII letters or digits
+abbrev pub is_code : ℕ → Text → Bool
+is_code width code = nat_le 1 (length code) && (nat_le (length code) width && list_all is_ascii_alphanumeric code)
+
+-- the place of a station's and a network's code
+abbrev pub place_by : Text → Text → Option Fields
+place_by sta net = if is_code 5 sta && is_code 2 net then Some (fields_of sta net) else None
+
+-- the place that a word names: the network's code before its first underscore, the station's behind it
+abbrev pub place_in : Text → Option Fields
+place_in word = place_by (after_first (λ c. c == 95) word) (before_first (λ c. c == 95) word)
+
+-- the place that the two options name
+abbrev pub place_named : Option Text → Option Text → Option Fields
+place_named None net = None
+place_named (Some sta) None = None
+place_named (Some sta) (Some net) = place_by sta net
+
+-- a place, with the number that is given, if one is: in hexadecimal digits
+abbrev pub called_with : Option Fields → Option Text → Option Called
+called_with None digits = None
+called_with (Some place) None = Some (place, None)
+called_with (Some place) (Some digits) = option_map (λ number. (place, Some number)) (hexadecimal_in digits)
+
+-- what stands behind the first colon, where there is one
+abbrev pub behind_colon : Text → Option Text
+behind_colon word =
+    if nat_lt (position_or_len (λ c. c == 58) word) (length word) then Some (after_first (λ c. c == 58) word) else None
+
+-- `NET_STA`, or `NET_STA:HEX`
+abbrev pub numbered_in : Text → Option Called
+numbered_in word = called_with (place_in (before_first (λ c. c == 58) word)) (behind_colon word)
+
+-- a further place: `NET_STA`, or, where it can have a number, `NET_STA:HEX` as well
+abbrev pub called_in : Naming → Text → Option Called
+called_in Plain word = called_with (place_in word) None
+called_in Numbered word = numbered_in word
+
+-- the place of `--station` and `--network`, and the further ones
+abbrev pub places_in : Naming → Option Text → List Row → Option (List Called)
+places_in naming from rows =
+    places_of (called_with (place_named (first_of (codes "station") rows) (first_of (codes "network") rows)) from
+    ∷ map (called_in naming) (further_in rows))
+
+-- a port
+abbrev pub port_in : Option Text → Option ℕ
+port_in None = None
+port_in (Some text) = counted_in 65535 text
+
+-- how many connections or tries: one where none is given
+abbrev pub count_in : Option Text → Option ℕ
+count_in None = Some 1
+count_in (Some text) = counted_in 1000000 text
+
+-- a ring's capacity: from one record to a million
+abbrev pub capacity_by : ℕ → Option ℕ
+capacity_by n = if nat_le 1 n && nat_le n 1000000 then Some n else None
+
+-- how many records each ring keeps: a thousand where nothing is given
+abbrev pub capacity_in : Option Text → Option ℕ
+capacity_in None = Some 1000
+capacity_in (Some text) = option_and_then capacity_by (number_in text)
+
+-- the first record's number: 0 where none is given
+abbrev pub first_in : Option Text → Option ℕ
+first_in None = Some 0
+first_in (Some text) = hexadecimal_in text
+
+-- what the options give, where each can be had
+abbrev pub listener_with : Option Address → Option ℕ → Option Timeout → Option Listener
+listener_with (Some address) (Some port) (Some timeout) =
+    Some (record { address = address; port = port; timeout = timeout })
+listener_with _ _ _ = None
+
+abbrev pub server_with : Option Host → Option ℕ → Option Timeout → Option Server
+server_with (Some host) (Some port) (Some timeout) = Some (record { host = host; port = port; timeout = timeout })
+server_with _ _ _ = None
+
+abbrev pub serving_with : Option Listener → Option ℕ → Option ℕ → Option ℕ → Option (List Called) → Option Serving
+serving_with (Some listener) (Some connections) (Some capacity) (Some first) (Some places) =
+    Some (record {
+      listener = listener;
+      connections = connections;
+      capacity = capacity;
+      first = first;
+      places = places;
+    })
+serving_with _ _ _ _ _ = None
+
+abbrev pub fetching_with : Option Server → Option ℕ → Option (List Called) → Bool → Bool → Option Fetching
+fetching_with (Some server) (Some tries) (Some places) tell_next holes =
+    Some (record { server = server; tries = tries; places = places; tell_next = tell_next; holes = holes })
+fetching_with _ _ _ _ _ = None
+
+-- what `serve` takes besides its word
+abbrev pub serve_names : List Text
+serve_names = codes "command" ∷ codes "place" ∷ codes "address" ∷ codes "port" ∷ codes "timeout" ∷ codes "station"
+    ∷ codes "network"
+    ∷ codes "capacity"
+    ∷ codes "first"
+    ∷ codes "connections" ∷ []
+
+-- and with `--live`
+abbrev pub live_names : List Text
+live_names = codes "command" ∷ codes "place" ∷ codes "address" ∷ codes "port" ∷ codes "timeout" ∷ codes "station"
+    ∷ codes "network"
+    ∷ codes "capacity"
+    ∷ codes "first"
+    ∷ codes "live"
+    ∷ codes "clients" ∷ []
+
+-- and `fetch`
+abbrev pub fetch_names : List Text
+fetch_names = codes "command" ∷ codes "place" ∷ codes "address" ∷ codes "port" ∷ codes "timeout" ∷ codes "station"
+    ∷ codes "network"
+    ∷ codes "from"
+    ∷ codes "tries"
+    ∷ codes "tell-next"
+    ∷ codes "holes" ∷ []
+
+-- where connections are taken
+abbrev pub listener_of : List Row → Option Listener
+listener_of rows =
+    listener_with (address_of (first_of (codes "address") rows)) (port_in (first_of (codes "port") rows))
+    (timeout_in (first_of (codes "timeout") rows))
+
+-- whom to ask
+abbrev pub server_of : List Row → Option Server
+server_of rows =
+    server_with (host_of (first_of (codes "address") rows)) (port_in (first_of (codes "port") rows))
+    (timeout_in (first_of (codes "timeout") rows))
+
+-- a feed to be served, whatever else is named: its places have no numbers of their own
+abbrev pub serving_in : List Row → Option Serving
+serving_in rows =
+    serving_with (listener_of rows) (count_in (first_of (codes "connections") rows))
+    (capacity_in (first_of (codes "capacity") rows)) (first_in (first_of (codes "first") rows))
+    (places_in Plain None rows)
+
+abbrev pub serving_of : List Row → Option Serving
+serving_of rows = if has_only serve_names rows then serving_in rows else None
+
+-- how many clients at once: 64 where none is given
+abbrev pub clients_in : Option Text → Option ℕ
+clients_in None = Some 64
+clients_in (Some text) = counted_in 1024 text
+
+abbrev pub living_with : Option Serving → Option ℕ → Option Living
+living_with (Some serving) (Some clients) = Some (record { serving = serving; clients = clients })
+living_with _ _ = None
+
+-- a feed to be served while its records come
+abbrev pub living_of : List Row → Option Living
+living_of rows =
+    if has_only live_names rows
+    then living_with (serving_in rows) (clients_in (first_of (codes "clients") rows))
+    else None
+
+-- a feed to be fetched: `--from` is the number of the first place
+abbrev pub fetching_of : List Row → Option Fetching
+fetching_of rows =
+    if has_only fetch_names rows
+    then fetching_with (server_of rows) (count_in (first_of (codes "tries") rows))
+    (places_in Numbered (first_of (codes "from") rows) rows) (asks (codes "tell-next") rows) (asks (codes "holes") rows)
+    else None
+
+-- a port that there is
+abbrev pub IsPort : ℕ → Type 0
+IsPort port = (1 ≤ port) × (port ≤ 65535)
+
+-- one to a million
+abbrev pub IsCount : ℕ → Type 0
+IsCount count = (1 ≤ count) × (count ≤ 1000000)
+
+-- a port that there is, and a time of up to a day
+pub record IsListener (listener : Listener) : Type 0 where
+  pub port : IsPort listener.port
+  pub timeout : IsTimeout listener.timeout
+
+pub record IsServer (server : Server) : Type 0 where
+  pub port : IsPort server.port
+  pub timeout : IsTimeout server.timeout
+
+-- what a feed can be served by
+pub record CanServe (serving : Serving) : Type 0 where
+  pub listener : IsListener serving.listener
+  pub connections : IsCount serving.connections
+  pub capacity : IsCapacity serving.capacity
+  pub first : serving.first < 2 ^ 24
+  pub places : ArePlaces serving.places
+
+-- one to 1,024
+abbrev pub IsClients : ℕ → Type 0
+IsClients clients = (1 ≤ clients) × (clients ≤ 1024)
+
+-- what a feed can be served by while its records come
+pub record CanLive (living : Living) : Type 0 where
+  pub serving : CanServe living.serving
+  pub clients : IsClients living.clients
+
+-- what a feed can be fetched by
+pub record CanFetch (fetching : Fetching) : Type 0 where
+  pub server : IsServer fetching.server
+  pub tries : IsCount fetching.tries
+  pub places : ArePlaces fetching.places

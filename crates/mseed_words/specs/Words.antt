@@ -1,0 +1,171 @@
+-- What the words of the command line ask for.
+use Rattle.std.specs.Prelude.{⊤, ◌≡◌, ◌≢◌, ◌≤◌, ◌==◌, ◌^◌, ℕ, List, [], ◌∷◌, if◌then◌else◌, Bool, true, false}
+use Rattle.std.specs.Prelude.{Option, Some, None, option_and_then, option_map, codes}
+use Rattle.std.specs.Str.{bytes_eq}
+use Rattle.clap.specs.Walk.{Row, Text, first_of}
+use Rattle.clap.specs.Simple.{matches_of}
+use Rattle.clap.specs.Kinds.{Kinds}
+use Rattle.clap.specs.Faults.{fault_of}
+use Rattle.mseed_pack.specs.declared.options.Encoding.{Encoding}
+use Rattle.mseed_pack.specs.declared.options.Encoding.TheVariants.{Int16, Int32, Steim1, Steim2}
+use Rattle.mseed_words.specs.Options.{the_command}
+use Rattle.mseed_words.specs.Found.{asks, has_only}
+use Rattle.mseed_words.specs.Numbers.{number_in}
+use Rattle.mseed_words.specs.FeedWords.{CanFetch, CanLive, CanServe, fetching_of, living_of, serving_of}
+use Rattle.mseed_words.specs.declared.request.Request.{Request}
+use Rattle.mseed_words.specs.declared.request.Request.TheVariants.{Audit, AuditEach, AuditPart, AuditPartEach}
+use Rattle.mseed_words.specs.declared.request.Request.TheVariants.{Join, JoinEach, JoinPart, Show, Repack}
+use Rattle.mseed_words.specs.declared.request.Request.TheVariants.{RepackStretches, Serve, Live, Fetch}
+use Rattle.mseed_words.specs.declared.request.Packing.{Packing}
+use Rattle.mseed_words.specs.declared.refusal.Refusal.{Refusal}
+use Rattle.mseed_words.specs.declared.refusal.Refusal.TheVariants as refusal
+
+-- why `clap` refuses the words, a call for help included; none where it takes them
+abbrev pub faults_in : List Text → Kinds
+faults_in words = fault_of the_command words
+
+-- what it reads from words that it takes
+abbrev pub entries_in : List Text → List Row
+entries_in words = matches_of the_command words
+
+-- the power of two that a record's length is
+abbrev pub exponent_by : ℕ → Option ℕ
+exponent_by n =
+    if n == 2 ^ 7 then Some 7 else if n == 2 ^ 8 then Some 8 else if n == 2 ^ 9 then Some 9
+    else if n == 2 ^ 10 then Some 10 else if n == 2 ^ 11 then Some 11 else if n == 2 ^ 12 then Some 12 else None
+
+-- records of 512 bytes where no length is given
+abbrev pub exponent_in : Option Text → Option ℕ
+exponent_in None = Some 9
+exponent_in (Some text) = option_and_then exponent_by (number_in text)
+
+-- the encoding that a word names
+abbrev pub encoding_named : Text → Option Encoding
+encoding_named word =
+    if bytes_eq word (codes "int16") then Some Int16 else if bytes_eq word (codes "int32") then Some Int32
+    else if bytes_eq word (codes "steim1") then Some Steim1 else if bytes_eq word (codes "steim2") then Some Steim2
+    else None
+
+-- Steim-2 where no encoding is given
+abbrev pub encoding_in : Option Text → Option Encoding
+encoding_in None = Some Steim2
+encoding_in (Some word) = encoding_named word
+
+-- what packing anew takes: its word, a length and an encoding, and two flags
+abbrev pub packing_names : List Text
+packing_names = codes "command" ∷ codes "length" ∷ codes "encoding" ∷ codes "stretches" ∷ codes "leave" ∷ []
+
+abbrev pub packing_with : Option ℕ → Option Encoding → Option Packing
+packing_with None encoding = None
+packing_with (Some exponent) None = None
+packing_with (Some exponent) (Some encoding) = Some (record { exponent = exponent; encoding = encoding })
+
+-- as it is, or by stretches, which alone can leave channels out
+abbrev pub packing_by : Option Packing → Bool → Bool → Option Request
+packing_by None stretches leave = None
+packing_by (Some packing) true leave = Some (RepackStretches packing leave)
+packing_by (Some packing) false false = Some (Repack packing)
+packing_by (Some packing) false true = None
+
+abbrev pub packing_of : List Row → Option Request
+packing_of rows =
+    if has_only packing_names rows
+    then packing_by (packing_with (exponent_in (first_of (codes "length") rows))
+    (encoding_in (first_of (codes "encoding") rows))) (asks (codes "stretches") rows) (asks (codes "leave") rows)
+    else None
+
+-- a command that takes its word alone
+abbrev pub showing_of : List Row → Option Request
+showing_of rows = if has_only (codes "command" ∷ []) rows then Some Show else None
+
+-- what an audit writes: with a line for each finding or without, the text of the audit or its part
+abbrev pub auditing_by : Bool → Bool → Request
+auditing_by false false = Audit
+auditing_by true false = AuditEach
+auditing_by false true = AuditPart
+auditing_by true true = AuditPartEach
+
+-- what auditing takes: its word and two flags
+abbrev pub auditing_names : List Text
+auditing_names = codes "command" ∷ codes "each" ∷ codes "part" ∷ []
+
+abbrev pub auditing_of : List Row → Option Request
+auditing_of rows =
+    if has_only auditing_names rows
+    then Some (auditing_by (asks (codes "each") rows) (asks (codes "part") rows))
+    else None
+
+-- what joining takes
+abbrev pub joining_names : List Text
+joining_names = codes "command" ∷ codes "each" ∷ codes "part" ∷ codes "past-faults" ∷ []
+
+-- the text of an audit, with a line for each border before it or without, or a part
+abbrev pub joining_by : Bool → Bool → Bool → Option Request
+joining_by false false past_faults = Some (Join past_faults)
+joining_by true false past_faults = Some (JoinEach past_faults)
+joining_by false true past_faults = Some (JoinPart past_faults)
+joining_by true true past_faults = None
+
+abbrev pub joining_of : List Row → Option Request
+joining_of rows =
+    if has_only joining_names rows
+    then joining_by (asks (codes "each") rows) (asks (codes "part") rows) (asks (codes "past-faults") rows)
+    else None
+
+-- what serving asks for: all of the input first, or while it comes
+abbrev pub serving_by : Bool → List Row → Option Request
+serving_by false rows = option_map Serve (serving_of rows)
+serving_by true rows = option_map Live (living_of rows)
+
+-- what a command's word asks for
+abbrev pub request_named : Text → List Row → Option Request
+request_named word rows =
+    if bytes_eq word (codes "audit") then auditing_of rows
+    else if bytes_eq word (codes "join") then joining_of rows
+    else if bytes_eq word (codes "show") then showing_of rows
+    else if bytes_eq word (codes "repack") then packing_of rows
+    else if bytes_eq word (codes "serve") then serving_by (asks (codes "live") rows) rows
+    else if bytes_eq word (codes "fetch") then option_map Fetch (fetching_of rows) else None
+
+abbrev pub request_by : Option Text → List Row → Option Request
+request_by None rows = None
+request_by (Some word) rows = request_named word rows
+
+abbrev pub request_of : List Row → Option Request
+request_of rows = request_by (first_of (codes "command") rows) rows
+
+-- records of 128 to 4096 bytes; a feed that can be
+abbrev pub CanBeCalled : Request → Type 0
+CanBeCalled Audit = ⊤
+CanBeCalled AuditEach = ⊤
+CanBeCalled AuditPart = ⊤
+CanBeCalled AuditPartEach = ⊤
+CanBeCalled (Join past_faults) = ⊤
+CanBeCalled (JoinEach past_faults) = ⊤
+CanBeCalled (JoinPart past_faults) = ⊤
+CanBeCalled Show = ⊤
+CanBeCalled (Repack packing) = (7 ≤ packing.exponent) × (packing.exponent ≤ 12)
+CanBeCalled (RepackStretches packing leave) = (7 ≤ packing.exponent) × (packing.exponent ≤ 12)
+CanBeCalled (Serve serving) = CanServe serving
+CanBeCalled (Live living) = CanLive living
+CanBeCalled (Fetch fetching) = CanFetch fetching
+
+-- the words ask for this
+pub record AsksFor (words : List Text) (request : Request) : Type 0 where
+  pub taken : faults_in words ≡ []
+  pub request_is : request_of (entries_in words) ≡ Some request
+
+-- `clap` takes them, but they ask for nothing that there is
+pub record AsksForNothing (words : List Text) : Type 0 where
+  pub taken : faults_in words ≡ []
+  pub no_request : request_of (entries_in words) ≡ None
+
+-- `clap` refuses them
+abbrev pub AreRefused : List Text → Type 0
+AreRefused words = faults_in words ≢ []
+
+-- why words request nothing: the words decide which of the first two it is; memory may be refused whatever they are
+abbrev pub IsRefusal : List Text → Refusal → Type 0
+IsRefusal words (refusal.Text text) = AreRefused words
+IsRefusal words refusal.NoRequest = AsksForNothing words
+IsRefusal words refusal.Memory = ⊤

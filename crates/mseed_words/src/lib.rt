@@ -1,0 +1,18 @@
+//! What the words of a command line request.
+#![tactic(auto)]
+
+mod feed_words;
+mod found;
+mod help;
+mod host_words;
+mod numbers;
+mod options;
+mod places;
+mod refusal;
+mod request;
+mod words;
+
+pub use places::Places;
+pub use refusal::Refusal;
+pub use request::{Fetching, Listener, Living, Packing, Request, Server, Serving};
+pub use words::read;

@@ -1,0 +1,120 @@
+//! What a command line requests.
+use crate::places::Places;
+use mseed_pack::Encoding;
+use slink_links::{Address, Host, Timeout};
+
+/// What the words of a command line request.
+#[derive(Drop)]
+pub enum Request {
+    /// Audit the archive on standard input.
+    Audit,
+    /// Audit it, and tell each finding.
+    AuditEach,
+    /// Audit it, and write its part.
+    AuditPart,
+    /// Audit it, tell each finding, and write its part.
+    AuditPartEach,
+    /// Join the parts on standard input, and write what the audit of their archives says.
+    Join {
+        /// Whether parts behind one that ends with a fault count.
+        past_faults: bool,
+    },
+    /// Join them so, and tell each border with a finding.
+    JoinEach {
+        /// Whether parts behind one that ends with a fault count.
+        past_faults: bool,
+    },
+    /// Join them, and write their joint part.
+    JoinPart {
+        /// Whether parts behind one that ends with a fault count.
+        past_faults: bool,
+    },
+    /// List the records on standard input.
+    Show,
+    /// Pack the archive on standard input anew.
+    Repack(Packing),
+    /// Pack it anew, each channel as a list of stretches.
+    RepackStretches {
+        /// What records it is packed into.
+        packing: Packing,
+        /// Whether channels that can't be packed are left out.
+        leave: bool,
+    },
+    /// Serve the records on standard input.
+    Serve(Serving),
+    /// Serve the records on standard input while they come.
+    Live(Living),
+    /// Fetch the records that are served.
+    Fetch(Fetching),
+}
+
+/// What records an archive is packed into.
+#[derive(Clone, Copy)]
+pub struct Packing {
+    /// They have 2 to the power of this many bytes.
+    pub exponent: u8,
+    /// How their samples are encoded.
+    pub encoding: Encoding,
+}
+
+/// Where connections are taken.
+#[derive(Clone, Copy)]
+pub struct Listener {
+    /// The address of this machine.
+    pub address: Address,
+    /// The port there.
+    pub port: u16,
+    /// How long a client may be silent that has something to say.
+    pub timeout: Timeout,
+}
+
+/// Whom to ask for connections.
+#[derive(Clone, Copy)]
+pub struct Server {
+    /// The address or the name of its machine.
+    pub host: Host,
+    /// The port there.
+    pub port: u16,
+    /// How long it may be silent.
+    pub timeout: Timeout,
+}
+
+/// How records are served.
+#[derive(Drop)]
+pub struct Serving {
+    /// Where connections are taken.
+    pub listener: Listener,
+    /// So many connections are served, one after another.
+    pub connections: u32,
+    /// Each place's ring keeps so many records.
+    pub capacity: u32,
+    /// The first record of each place has this number.
+    pub first: u32,
+    /// Whose records are served. None has a number of its own.
+    pub places: Places,
+}
+
+/// How records are served while they come.
+#[derive(Drop)]
+pub struct Living {
+    /// Where connections are taken, and the rings. Its count of connections is that of a `serve` that names none, and
+    /// isn't requested.
+    pub serving: Serving,
+    /// So many connections stand at once.
+    pub clients: u32,
+}
+
+/// What is fetched.
+#[derive(Drop)]
+pub struct Fetching {
+    /// Whom to ask.
+    pub server: Server,
+    /// At most so many connections are tried.
+    pub tries: u32,
+    /// Whose records are requested, and from which number on.
+    pub places: Places,
+    /// Whether standard error is informed of the first record of each place and, at the end, how to go on.
+    pub tell_next: bool,
+    /// Whether records behind a hole are taken.
+    pub holes: bool,
+}

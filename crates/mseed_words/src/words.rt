@@ -1,0 +1,264 @@
+//! What the words of the command line ask for.
+ghost use Rattle.std.specs.Prelude.{◌≡◌, ◌≤◌, IfErr, IfOk, IfSome, List, OnOk, [], map, option_map};
+ghost use Rattle.clap.specs.Matches.{found_of};
+ghost use Rattle.clap.specs.Walk.{Text, rows_of};
+ghost use Rattle.clap.specs.Kinds.{HasKind};
+ghost use Rattle.mseed_words.specs.Words.{AsksFor, CanBeCalled, IsRefusal, auditing_by, auditing_of, encoding_in};
+ghost use Rattle.mseed_words.specs.Words.{encoding_named, entries_in, exponent_by, exponent_in, faults_in, joining_by};
+ghost use Rattle.mseed_words.specs.Words.{joining_of, packing_by, packing_of, packing_with, request_named, request_of};
+ghost use Rattle.mseed_words.specs.Words.{serving_by, showing_of};
+
+use crate::feed_words::{fetching_of, living_of, serving_of};
+use crate::found::{asks, has_only, text_of};
+use crate::numbers::number_in;
+use crate::options::command;
+use crate::refusal::Refusal;
+use crate::request::{Packing, Request};
+use clap::error::ErrorKind;
+use clap::{ArgMatches, Error};
+use mseed_pack::Encoding;
+use std::alloc::Global;
+
+/// Reads the words of a command line, those after the program's name: what they request.
+///
+/// # Errors
+///
+/// `Refusal::Text` where they aren't those of a command line, or ask for the help or the version; `Refusal::NoRequest`
+/// where they are, but request nothing that there is; `Refusal::Memory` where an allocation was refused.
+pub fn read(alloc: Global, words: &[&str]) -> Result<Request, Refusal>
+    ensures request { IfOk result (AsksFor (map (λ word. word.now) words.now)) }
+    ensures range { IfOk result CanBeCalled }
+    ensures refused { IfErr result (IsRefusal (map (λ word. word.now) words.now)) }
+{
+    match matches_of(alloc, words) {
+        Ok(matches) => match request_of(&matches) {
+            Some(request) => Ok(request),
+            None => Err(Refusal::NoRequest),
+        },
+        Err(error) => Err(refusal_of(alloc, &error)),
+    }
+}
+
+/// What `clap` finds among the words.
+///
+/// # Errors
+///
+/// That of `clap`, whose text is for the user.
+fn matches_of<'a>(alloc: Global, words: &'a [&'a str]) -> Result<ArgMatches<'a>, Error>
+    ensures taken { OnOk result (faults_in (map (λ word. word.now) words.entry.now) ≡ []) }
+    ensures found { IfOk result (λ matches. rows_of (found_of matches)
+        ≡ entries_in (map (λ word. word.now) words.entry.now)) }
+    ensures refused { IfErr result (HasKind (faults_in (map (λ word. word.now) words.entry.now))) }
+{
+    command(alloc)?.try_get_matches_from(words)
+}
+
+/// Why words are refused for which `clap` has an error: for want of memory, or with its text.
+fn refusal_of(alloc: Global, error: &Error) -> Refusal
+    ensures { (words : List Text) → HasKind (faults_in words) error.now → IsRefusal words result }
+{
+    if error.kind() == ErrorKind::OutOfMemory {
+        return Refusal::Memory;
+    }
+    match error.to_string(alloc) {
+        Ok(text) => Refusal::Text(text),
+        Err(_) => Refusal::Memory,
+    }
+}
+
+/// What was read asks for.
+fn request_of(matches: &ArgMatches<'_>) -> Option<Request>
+    ensures value { result ≡ request_of (rows_of (found_of matches.now)) }
+    ensures range { IfSome result CanBeCalled }
+{
+    match text_of(matches, "command") {
+        Some(word) => request_named(word, matches),
+        None => None,
+    }
+}
+
+/// What a command's word asks for.
+fn request_named(word: &str, matches: &ArgMatches<'_>) -> Option<Request>
+    ensures value { result ≡ request_named word.now (rows_of (found_of matches.now)) }
+    ensures range { IfSome result CanBeCalled }
+{
+    match word {
+        "audit" => auditing_of(matches),
+        "join" => joining_of(matches),
+        "show" => showing_of(matches),
+        "repack" => packing_of(matches),
+        "serve" => serving_by(asks(matches, "live"), matches),
+        "fetch" => Some(Request::Fetch(fetching_of(matches)?)),
+        _ => None,
+    }
+}
+
+/// What is requested of serving: all of the input first, or while it comes.
+fn serving_by(live: bool, matches: &ArgMatches<'_>) -> Option<Request>
+    ensures value { result ≡ serving_by live (rows_of (found_of matches.now)) }
+    ensures range { IfSome result CanBeCalled }
+{
+    if live {
+        Some(Request::Live(living_of(matches)?))
+    } else {
+        Some(Request::Serve(serving_of(matches)?))
+    }
+}
+
+/// What is requested of auditing, by its flags.
+fn auditing_of(matches: &ArgMatches<'_>) -> Option<Request>
+    ensures value { result ≡ auditing_of (rows_of (found_of matches.now)) }
+    ensures range { IfSome result CanBeCalled }
+{
+    if !has_only(matches, &["command", "each", "part"]) {
+        return None;
+    }
+    Some(auditing_by(asks(matches, "each"), asks(matches, "part")))
+}
+
+/// What an audit writes: with a line for each finding or without, the text of the audit or its part.
+fn auditing_by(each: bool, part: bool) -> Request
+    ensures value { result ≡ auditing_by each part }
+    ensures range { CanBeCalled result }
+{
+    match (each, part) {
+        (false, false) => Request::Audit,
+        (true, false) => Request::AuditEach,
+        (false, true) => Request::AuditPart,
+        (true, true) => Request::AuditPartEach,
+    }
+}
+
+/// What is requested of joining, by its flags.
+fn joining_of(matches: &ArgMatches<'_>) -> Option<Request>
+    ensures value { result ≡ joining_of (rows_of (found_of matches.now)) }
+    ensures range { IfSome result CanBeCalled }
+{
+    if !has_only(matches, &["command", "each", "part", "past-faults"]) {
+        return None;
+    }
+    joining_by(
+        asks(matches, "each"),
+        asks(matches, "part"),
+        asks(matches, "past-faults"),
+    )
+}
+
+/// What is requested of joining: the text of an audit or a part, and a line for each border before the text alone.
+fn joining_by(each: bool, part: bool, past_faults: bool) -> Option<Request>
+    ensures value { result ≡ joining_by each part past_faults }
+    ensures range { IfSome result CanBeCalled }
+{
+    match (each, part) {
+        (false, false) => Some(Request::Join { past_faults }),
+        (true, false) => Some(Request::JoinEach { past_faults }),
+        (false, true) => Some(Request::JoinPart { past_faults }),
+        (true, true) => None,
+    }
+}
+
+/// The command that lists takes its word alone.
+fn showing_of(matches: &ArgMatches<'_>) -> Option<Request>
+    ensures value { result ≡ showing_of (rows_of (found_of matches.now)) }
+    ensures range { IfSome result CanBeCalled }
+{
+    if has_only(matches, &["command"]) {
+        Some(Request::Show)
+    } else {
+        None
+    }
+}
+
+/// What is requested of the command that packs anew, by its options.
+fn packing_of(matches: &ArgMatches<'_>) -> Option<Request>
+    ensures value { result ≡ packing_of (rows_of (found_of matches.now)) }
+    ensures range { IfSome result CanBeCalled }
+{
+    if !has_only(
+        matches,
+        &["command", "length", "encoding", "stretches", "leave"],
+    ) {
+        return None;
+    }
+    let packing = packing_with(
+        exponent_in(text_of(matches, "length")),
+        encoding_in(text_of(matches, "encoding")),
+    );
+    packing_by(packing, asks(matches, "stretches"), asks(matches, "leave"))
+}
+
+/// Packing anew, as it is, or by stretches; these alone can leave channels out.
+fn packing_by(packing: Option<Packing>, stretches: bool, leave: bool) -> Option<Request>
+    requires { IfSome packing (λ p. (7 ≤ p.exponent) × (p.exponent ≤ 12)) }
+    ensures value { result ≡ packing_by packing stretches leave }
+    ensures range { IfSome result CanBeCalled }
+{
+    match (packing, stretches, leave) {
+        (None, _, _) => None,
+        (Some(packing), true, leave) => Some(Request::RepackStretches { packing, leave }),
+        (Some(packing), false, false) => Some(Request::Repack(packing)),
+        (Some(_), false, true) => None,
+    }
+}
+
+/// What records are packed, where the length and the encoding are some that there are.
+fn packing_with(exponent: Option<u8>, encoding: Option<Encoding>) -> Option<Packing>
+    requires { IfSome exponent (λ e. (7 ≤ e) × (e ≤ 12)) }
+    ensures value { result ≡ packing_with exponent encoding }
+    ensures range { IfSome result (λ packing. (7 ≤ packing.exponent) × (packing.exponent ≤ 12)) }
+{
+    match (exponent, encoding) {
+        (Some(exponent), Some(encoding)) => Some(Packing { exponent, encoding }),
+        _ => None,
+    }
+}
+
+/// The power of two that a record's length is: of 512 bytes where none is given.
+fn exponent_in(text: Option<&str>) -> Option<u8>
+    ensures value { result ≡ exponent_in (option_map (λ t. t.now) text.entry) }
+    ensures range { IfSome result (λ e. (7 ≤ e) × (e ≤ 12)) }
+{
+    match text {
+        None => Some(9),
+        Some(text) => exponent_by(number_in(text)?),
+    }
+}
+
+/// The power of two that a length of 128 to 4096 bytes is.
+fn exponent_by(length: u32) -> Option<u8>
+    ensures value { result ≡ exponent_by length }
+    ensures range { IfSome result (λ e. (7 ≤ e) × (e ≤ 12)) }
+{
+    match length {
+        128 => Some(7),
+        256 => Some(8),
+        512 => Some(9),
+        1024 => Some(10),
+        2048 => Some(11),
+        4096 => Some(12),
+        _ => None,
+    }
+}
+
+/// The encoding of packed records: Steim-2 where none is given.
+fn encoding_in(word: Option<&str>) -> Option<Encoding>
+    ensures { result ≡ encoding_in (option_map (λ w. w.now) word.entry) }
+{
+    match word {
+        None => Some(Encoding::Steim2),
+        Some(word) => encoding_named(word),
+    }
+}
+
+/// The encoding that a word names.
+fn encoding_named(word: &str) -> Option<Encoding>
+    ensures { result ≡ encoding_named word.now }
+{
+    match word {
+        "int16" => Some(Encoding::Int16),
+        "int32" => Some(Encoding::Int32),
+        "steim1" => Some(Encoding::Steim1),
+        "steim2" => Some(Encoding::Steim2),
+        _ => None,
+    }
+}
