@@ -3,14 +3,14 @@ ghost use Rattle.std.specs.Prelude.{◌≡◌, ◌↔◌, ℤ, pos, IfOk, IsTrue
 ghost use Rattle.std.specs.Result.{result_err};
 ghost use Rattle.mseed_time.specs.Btime.{Parts, first_fault, parts_at};
 ghost use Rattle.mseed_time.specs.declared.order.Order.{Order};
-ghost use Rattle.mseed_time.specs.Join.{Joins};
+ghost use Rattle.mseed_time.specs.Join.{Joins, miss_of};
 ghost use Rattle.mseed_time.specs.Naming.{Names};
 ghost use Rattle.mseed_time.specs.Ratios.{ratio_of};
 ghost use Rattle.mseed_time.specs.Text.{time_text};
 
 use mseed_time::{
-    Btime, Join, LeapStep, Micros, NoRate, Order, OutOfRange, Rate, Ratio, TimeFault, join,
-    one_name, show_time,
+    Btime, Join, LeapStep, Micros, NoRate, Order, OutOfRange, Rate, Ratio, TimeFault, drift, join,
+    one_name, show_time, step_micros,
 };
 
 /// The instant that is so many milliseconds from 1970-01-01T00:00:00.
@@ -102,6 +102,14 @@ pub fn missing_after(start: Micros, count: u32, rate: Rate, next: Micros) -> u12
         Join::Late(micros) => micros,
         Join::Meets | Join::Early(_) => 0,
     }
+}
+
+/// By how much a record misses the end of one of 100 samples, in microseconds times the rate's numerator; this leap
+/// second happened between them.
+pub fn missed_by(start: Micros, rate: Ratio, step: Option<LeapStep>, next: Micros) -> i128
+    ensures { result ≡ miss_of start 100 rate step next }
+{
+    drift(start, 100, rate, step_micros(step), next)
 }
 
 /// The time of an instant, and that it has one name at most, which a proof above may need.

@@ -17,7 +17,7 @@ meets_only (pos m) r = grind (arith, nat_tests)
 meets_only (negsuc m) r = grind (arith, nat_tests)
 
 -- a difference that fits
-pub difference : (a d : ℤ) → neg_ℤ (pos (2 ^ 95)) ≤ℤ a → a ≤ℤ pos (2 ^ 95) → pos 0 ≤ℤ d → d ≤ℤ pos (2 ^ 84)
+pub difference : (a d : ℤ) → neg_ℤ (pos (2 ^ 95)) ≤ℤ a → a ≤ℤ pos (2 ^ 95) → pos 0 ≤ℤ d → d ≤ℤ pos (2 ^ 110)
     → to_z w128 (of_z w128 (to_z w128 (of_z w128 a) -ℤ to_z w128 (of_z w128 d))) ≡ a -ℤ d
 difference a d l h m k = omega (arith, ints)
 

@@ -1,5 +1,5 @@
 -- The days that a time can name.
-use Rattle.std.proofs.Common.{ℕ, ◌≤◌, Bool, true, false, cond, arith, ℤ, ◌≤ℤ◌, pos}
+use Rattle.std.proofs.Common.{ℕ, ◌≤◌, Bool, true, false, cond, arith, ◌≤ℤ◌, pos}
 use Rattle.std.specs.Prelude.{neg_ℤ}
 use Rattle.std.proofs.lemmas.Int.{ints}
 use Rattle.mseed_time.specs.Btime.{day_of, days_in_year, is_leap}

@@ -13,11 +13,14 @@ step_of None = pos 0
 step_of (Some Plus) = pos (10 ^ 6)
 step_of (Some Minus) = negsuc 999_999
 
--- By how much the next start misses the end of n samples, in microseconds times num: positive where it
--- is late.
+-- By how much the next start misses the instant of the sample behind n others, of which the first began at `start`
+-- and with leap seconds that added so many microseconds: in microseconds times num, positive where it is late.
+abbrev pub drift_of : ℤ → ℕ → Ratio → ℤ → ℤ → ℤ
+drift_of start n rate added next = (next -ℤ start +ℤ added) *ℤ pos rate.num -ℤ pos (n * rate.den * 10 ^ 6)
+
+-- By how much it misses the end of a record of n samples, with the leap second during it.
 abbrev pub miss_of : ℤ → ℕ → Ratio → Option LeapStep → ℤ → ℤ
-miss_of start n rate step next =
-    (next -ℤ start +ℤ step_of step) *ℤ pos rate.num -ℤ pos (n * rate.den * 10 ^ 6)
+miss_of start n rate step next = drift_of start n rate (step_of step) next
 
 -- within half a sample period, the half included
 abbrev pub Joins : ℤ → ℕ → Ratio → Option LeapStep → ℤ → Type 0

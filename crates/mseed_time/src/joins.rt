@@ -1,6 +1,6 @@
 //! Whether a record begins where the one before it ends.
 ghost use Rattle.std.specs.Prelude.{◌≡◌, ◌↔◌, ◌≤◌, ◌*◌, ◌^◌, pos, neg_ℤ, ◌+ℤ◌, ◌-ℤ◌, ◌*ℤ◌, ◌≤ℤ◌};
-ghost use Rattle.mseed_time.specs.Join.{Joins, join_of, step_of, miss_of};
+ghost use Rattle.mseed_time.specs.Join.{Joins, drift_of, join_of, step_of};
 
 use crate::micros::Micros;
 use crate::outcome::{Join, LeapStep};
@@ -18,7 +18,7 @@ pub fn join(start: Micros, count: u32, rate: Ratio, step: Option<LeapStep>, next
     ensures value { result ≡ join_of start count rate step next }
     ensures meets { (result ≡ Join.Meets) ↔ Joins start count rate step next }
 {
-    let miss = miss(start, count, rate, step, next);
+    let miss = drift(start, u64::from(count), rate, step_micros(step), next);
     let distance = miss.unsigned_abs();
     if 2 * distance <= u128::from(u64::from(rate.den()) * 1_000_000) {
         Join::Meets
@@ -29,30 +29,37 @@ pub fn join(start: Micros, count: u32, rate: Ratio, step: Option<LeapStep>, next
     }
 }
 
-/// By how much `next` misses the end of the record, in microseconds times the rate's `num`: positive
-/// where it is late.
-fn miss(start: Micros, count: u32, rate: Ratio, step: Option<LeapStep>, next: Micros) -> i128
-    ensures value { result ≡ miss_of start count rate step next }
-    ensures low { neg_ℤ (pos (2 ^ 100)) ≤ℤ result }
-    ensures high { result ≤ℤ pos (2 ^ 100) }
+/// By how much `next` misses the instant of the sample behind `count` others, of which the first began at `start`,
+/// where leap seconds added so many microseconds: in microseconds times the rate's `num`, positive where it is late.
+pub fn drift(start: Micros, count: u64, rate: Ratio, added: i64, next: Micros) -> i128
+    requires few { count ≤ 2 ^ 60 }
+    requires low { neg_ℤ (pos (2 ^ 61)) ≤ℤ added }
+    requires high { added ≤ℤ pos (2 ^ 61) }
+    ensures value { result ≡ drift_of start count rate added next }
+    ensures low { neg_ℤ (pos (2 ^ 112)) ≤ℤ result }
+    ensures high { result ≤ℤ pos (2 ^ 112) }
 {
-    scaled(passed(start, step, next), rate.num()) - due(count, rate.den())
+    scaled(passed(start, added, next), rate.num()) - due(count, rate.den())
 }
 
-/// The microseconds between two starts.
-fn passed(start: Micros, step: Option<LeapStep>, next: Micros) -> i64
-    ensures { result ≡ next -ℤ start +ℤ step_of step }
+/// The microseconds between two starts, where leap seconds added so many.
+fn passed(start: Micros, added: i64, next: Micros) -> i64
+    requires low { neg_ℤ (pos (2 ^ 61)) ≤ℤ added }
+    requires high { added ≤ℤ pos (2 ^ 61) }
+    ensures { result ≡ next -ℤ start +ℤ added }
 {
-    next.get() - start.get() + step_micros(step)
+    next.get() - start.get() + added
 }
 
 /// The microseconds that `count` samples take, times the rate's `num`.
-fn due(count: u32, den: u32) -> i128
+fn due(count: u64, den: u32) -> i128
+    requires few { count ≤ 2 ^ 60 }
+    requires bound { den ≤ 2 ^ 30 }
     ensures value { result ≡ pos (count * den * 10 ^ 6) }
     ensures low { pos 0 ≤ℤ result }
-    ensures high { result ≤ℤ pos (2 ^ 84) }
+    ensures high { result ≤ℤ pos (2 ^ 110) }
 {
-    (u128::from(u64::from(count) * u64::from(den)) * 1_000_000) as i128
+    (u128::from(count) * u128::from(den) * 1_000_000) as i128
 }
 
 /// The microseconds that passed, times the rate's `num`.
@@ -65,7 +72,7 @@ fn scaled(passed: i64, num: u32) -> i128
 }
 
 /// The microseconds that a leap second adds to the time between two readings of the clock.
-fn step_micros(step: Option<LeapStep>) -> i64
+pub fn step_micros(step: Option<LeapStep>) -> i64
     ensures value { result ≡ step_of step }
     ensures low { neg_ℤ (pos 1_000_000) ≤ℤ result }
     ensures high { result ≤ℤ pos 1_000_000 }

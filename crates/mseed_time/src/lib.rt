@@ -15,7 +15,7 @@ mod show;
 
 pub use btime::Btime;
 pub use fault::{OutOfRange, TimeFault};
-pub use joins::join;
+pub use joins::{drift, join, step_micros};
 pub use law::one_name;
 pub use micros::Micros;
 pub use order::Order;

@@ -1,7 +1,7 @@
 use Rattle.std.proofs.Common.{arith, w64, FitsSigned, refl}
 use Rattle.std.proofs.lemmas.Int.{ints, to_z-of_z}
 use Rattle.mseed_time.proofs.Joining.{difference}
-use Rattle.mseed_time.proofs.joins.miss.Goals as goal
+use Rattle.mseed_time.proofs.joins.drift.Goals as goal
 
 pub returns-clause-value : goal.returns-clause-value
 returns-clause-value c =
@@ -12,6 +12,7 @@ returns-clause-value c =
       c.due.ensures.value,
       to_z-of_z w64 c.passed.result fits,
       c.passed.ensures,
+      to_z-of_z w64 c.args.added c.ranges.added,
       c.num.ensures.value,
       c.den.ensures.value,
     ) refl)
