@@ -2,7 +2,6 @@
 use Rattle.std.proofs.Common.{◌≡◌, ℕ, zero, suc, ◌+◌, ◌*◌, ◌^◌, ◌≤◌, ◌<◌, ℤ, pos, negsuc, ◌+ℤ◌, ◌-ℤ◌, ◌*ℤ◌}
 use Rattle.std.proofs.Common.{unsigned_abs}
 use Rattle.std.proofs.Common.{arith, refl, sym, ap, ◌∙◌, neg_ℤ, ◌≤ℤ◌, to_z, of_z, w64}
-use mir.Syntax.{w128}
 use Rattle.std.proofs.lemmas.Int.{ints, unsigned_abs-mul}
 use Rattle.std.proofs.Math.Nat.{le_of_mul-le-mul_right, mul-le-mul_right}
 
@@ -91,11 +90,6 @@ at_start s num den =
 
 -- by another ratio of one rate
 
-abs_times : (a b n : ℕ) → unsigned_abs (pos a -ℤ pos b) * n ≡ unsigned_abs (pos (a * n) -ℤ pos (b * n))
-abs_times a b n =
-    let z : ℤ = pos a -ℤ pos b in
-    sym (unsigned_abs-mul z (pos n)) ∙ ap unsigned_abs (times_sub z (pos a) (pos b) n refl)
-
 miss_parts : (x : ℤ) (p q num due : ℕ) → x *ℤ pos num ≡ pos (p * num) -ℤ pos (q * num)
     → x *ℤ pos num -ℤ pos due ≡ pos (p * num) -ℤ pos (q * num + due)
 miss_parts x p q num due e = omega (arith, ints)
@@ -111,23 +105,6 @@ cross_due q num den other k c e =
     let times : q * (num * den) ≡ q * (k * other) = ap (λ (m : ℕ). q * m) e in omega (arith, times)
 
 -- misses by two ratios of one rate, num over den and k over other, are in the proportion of the denominators
-misses : (x : ℤ) (num den k other c : ℕ) → k * den ≡ num * other
-    → unsigned_abs (x *ℤ pos k -ℤ pos (c * other * 10 ^ 6)) * den
-    ≡ unsigned_abs (x *ℤ pos num -ℤ pos (c * den * 10 ^ 6)) * other
-misses x num den k other c e =
-    let p : ℕ = above x in
-    let q : ℕ = below x in
-    let own : x *ℤ pos k -ℤ pos (c * other * 10 ^ 6) ≡ pos (p * k) -ℤ pos (q * k + c * other * 10 ^ 6) =
-    miss_parts x p q k (c * other * 10 ^ 6) (parts x k) in
-    let first : x *ℤ pos num -ℤ pos (c * den * 10 ^ 6) ≡ pos (p * num) -ℤ pos (q * num + c * den * 10 ^ 6) =
-    miss_parts x p q num (c * den * 10 ^ 6) (parts x num) in
-    ap (λ (z : ℤ). unsigned_abs z * den) own ∙ abs_times (p * k) (q * k + c * other * 10 ^ 6) den
-    ∙ ap (λ (m : ℕ). unsigned_abs (pos m -ℤ pos ((q * k + c * other * 10 ^ 6) * den))) (cross p k den other num e)
-    ∙ ap (λ (m : ℕ). unsigned_abs (pos ((p * num) * other) -ℤ pos m)) (cross_due q k den other num c e)
-    ∙ sym (abs_times (p * num) (q * num + c * den * 10 ^ 6) other)
-    ∙ ap (λ (z : ℤ). unsigned_abs z * other) (sym first)
-
--- and their signs are one
 signed_misses : (x : ℤ) (num den k other c : ℕ) → k * den ≡ num * other
     → (x *ℤ pos k -ℤ pos (c * other * 10 ^ 6)) *ℤ pos den ≡ (x *ℤ pos num -ℤ pos (c * den * 10 ^ 6)) *ℤ pos other
 signed_misses x num den k other c e =
@@ -148,6 +125,15 @@ signed_misses x num den k other c e =
         let less_is : pos b *ℤ pos n ≡ pos (b * n) = omega (arith, ints) in
         times_sub z (pos a) (pos b) n h ∙ ap (λ (y : ℤ). y -ℤ pos b *ℤ pos n) whole_is
         ∙ ap (λ (y : ℤ). pos (a * n) -ℤ y) less_is
+
+-- and so are the distances
+misses : (x : ℤ) (num den k other c : ℕ) → k * den ≡ num * other
+    → unsigned_abs (x *ℤ pos k -ℤ pos (c * other * 10 ^ 6)) * den
+    ≡ unsigned_abs (x *ℤ pos num -ℤ pos (c * den * 10 ^ 6)) * other
+misses x num den k other c e =
+    sym (unsigned_abs-mul (x *ℤ pos k -ℤ pos (c * other * 10 ^ 6)) (pos den))
+    ∙ ap unsigned_abs (signed_misses x num den k other c e)
+    ∙ unsigned_abs-mul (x *ℤ pos num -ℤ pos (c * den * 10 ^ 6)) (pos other)
 
 smaller : (m n den other : ℕ) → 0 < den → m * den ≡ n * other → 2 * n ≤ den * 10 ^ 6 → 2 * m ≤ other * 10 ^ 6
 smaller m n den other some e h =
@@ -241,12 +227,7 @@ same_rates num den a b c d some e f =
     let high : (c * b) * den ≤ (a * d) * den = omega (arith, one, two) in
     least (a * d) (c * b) (le_of_mul-le-mul_right low some) (le_of_mul-le-mul_right high some)
 
--- differences and sums that fit
-
-pub difference : (a d : ℤ) → neg_ℤ (pos (2 ^ 95)) ≤ℤ a → a ≤ℤ pos (2 ^ 95) → pos 0 ≤ℤ d → d ≤ℤ pos (2 ^ 110)
-    → to_z w128 (of_z w128 (to_z w128 (of_z w128 a) -ℤ to_z w128 (of_z w128 d))) ≡ a -ℤ d
-difference a d l h m k = omega (arith, ints)
-
+-- a sum that fits
 pub summed : (a b : ℤ) (n : ℕ) → neg_ℤ (pos (n * 1_000_000)) ≤ℤ a → a ≤ℤ pos (n * 1_000_000) → n ≤ 2 ^ 40
     → neg_ℤ (pos 1_000_000) ≤ℤ b → b ≤ℤ pos 1_000_000
     → to_z w64 (of_z w64 (to_z w64 (of_z w64 a) +ℤ to_z w64 (of_z w64 b))) ≡ a +ℤ b

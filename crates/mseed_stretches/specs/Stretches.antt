@@ -2,6 +2,7 @@
 use Rattle.std.specs.Prelude.{⊤, ◌≡◌, ◌≢◌, ℕ, ◌+◌, ◌*◌, ◌^◌, ◌≤◌, List, [], ◌∷◌, ◌++◌, Some, ℤ, pos, ◌+ℤ◌, ◌-ℤ◌, ◌*ℤ◌}
 use Rattle.std.specs.Prelude.{◌<◌, unsigned_abs}
 use Rattle.mseed_time.specs.Join.{step_of}
+pub use Rattle.mseed_time.specs.Join.{drift_of}
 use Rattle.mseed_time.specs.Rate.{Ratio, SameRate}
 use Rattle.mseed_record.specs.declared.leap.Leap.TheVariants.{Both}
 use Rattle.mseed_record.specs.View.{View, start_of, leap_of, step_in}
@@ -17,11 +18,6 @@ samples_of (v ∷ vs) = count_of v + samples_of vs
 abbrev pub added_by : List View → ℤ
 added_by [] = pos 0
 added_by (v ∷ vs) = step_of (step_in (leap_of v.bytes)) +ℤ added_by vs
-
--- By how much the next start misses the instant of the sample behind n others, of which the first began at `start`
--- and with leap seconds that added so many microseconds: in microseconds times num, positive where it is late.
-abbrev pub drift_of : ℤ → ℕ → Ratio → ℤ → ℤ → ℤ
-drift_of start n rate added next = (next -ℤ start +ℤ added) *ℤ pos rate.num -ℤ pos (n * rate.den * 10 ^ 6)
 
 -- within a quarter of a sample period, the quarter included
 abbrev pub IsOnTime : ℤ → ℕ → Ratio → ℤ → ℤ → Type 0

@@ -9,9 +9,9 @@ ghost use Rattle.mseed_record.specs.View.{View, leap_of, start_of};
 ghost use Rattle.mseed_record.specs.Viewing.{view_of};
 ghost use Rattle.mseed_audit.specs.Judging.{known_rate};
 
-use crate::clock::{is_on_time, step_micros};
+use crate::clock::is_on_time;
 use mseed_record::{Codes, Leap, RecordView};
-use mseed_time::{Micros, Rate};
+use mseed_time::{Micros, Rate, step_micros};
 
 /// What is kept of a stretch: how its first record begins, and how far its records have come. No sample is read for it.
 #[derive(Clone, Copy, Debug)]
