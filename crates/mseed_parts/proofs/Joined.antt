@@ -166,25 +166,36 @@ kept_still None = refl
 kept_still (Some c) = ap (λ (f : Findings). Some (record { records = c.records; samples = c.samples; findings = f }))
     (findings_still c.findings)
 
+nothing_kept : (n : Held) → IsPartOf n [] → (key : List ℕ) → kept_of key n.channels ≡ None
+nothing_kept n p key = none_kept (kept_of key n.channels) (p.each key)
+
+before_kept : (n a : Held) → IsPartOf n [] → (key : List ℕ) → kept_of key a.channels
+    ≡ channel_joined (kept_of key n.channels) (option_map (moved_channel n.records n.bytes) (kept_of key a.channels))
+before_kept n a p key =
+    sym ((λ i. channel_joined (nothing_kept n p key i)
+    (option_map (moved_channel (p.records i) (p.bytes i)) (kept_of key a.channels)))
+    ∙ kept_still (kept_of key a.channels))
+
+behind_kept : (n a : Held) → IsPartOf n [] → (key : List ℕ) → kept_of key a.channels
+    ≡ channel_joined (kept_of key a.channels) (option_map (moved_channel a.records a.bytes) (kept_of key n.channels))
+behind_kept n a p key =
+    sym (ap (λ (o : Option Channel). channel_joined (kept_of key a.channels)
+    (option_map (moved_channel a.records a.bytes) o)) (nothing_kept n p key) ∙ joined_none (kept_of key a.channels))
+
 pub unit_before : (n a : Held) → IsPartOf n [] → IsAscending a.channels → IsJoint n a a
-unit_before n a p s = record {
-  records = omega (arith, p.records);
-  bytes = omega (arith, p.bytes);
-  ascending = s;
-  each = λ key.
-      let none : kept_of key n.channels ≡ None = none_kept (kept_of key n.channels) (p.each key) in
-      sym ((λ i. channel_joined (none i)
-      (option_map (moved_channel (p.records i) (p.bytes i)) (kept_of key a.channels)))
-      ∙ kept_still (kept_of key a.channels));
-}
+unit_before n a p s =
+    record {
+      records = omega (arith, p.records);
+      bytes = omega (arith, p.bytes);
+      ascending = s;
+      each = before_kept n a p;
+    }
 
 pub unit_behind : (n a : Held) → IsPartOf n [] → IsAscending a.channels → IsJoint a n a
-unit_behind n a p s = record {
-  records = omega (arith, p.records);
-  bytes = omega (arith, p.bytes);
-  ascending = s;
-  each = λ key.
-      let none : kept_of key n.channels ≡ None = none_kept (kept_of key n.channels) (p.each key) in
-      sym (ap (λ (o : Option Channel). channel_joined (kept_of key a.channels)
-      (option_map (moved_channel a.records a.bytes) o)) none ∙ joined_none (kept_of key a.channels));
-}
+unit_behind n a p s =
+    record {
+      records = omega (arith, p.records);
+      bytes = omega (arith, p.bytes);
+      ascending = s;
+      each = behind_kept n a p;
+    }

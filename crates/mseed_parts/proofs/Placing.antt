@@ -1,6 +1,7 @@
 -- Records one behind another, and behind more records.
 use Rattle.std.proofs.Common.{◌≡◌, ℕ, suc, ◌+◌, List, [], ◌∷◌, ◌++◌, Bool, true, false, cond, map, length, refl, ap}
-use Rattle.std.proofs.Common.{◌∙◌, arith}
+use Rattle.std.proofs.Common.{◌∙◌, arith, subst, sym}
+use Rattle.std.proofs.lemmas.List.{map-append}
 use Rattle.std.specs.List.{filter}
 use Rattle.mseed_record.specs.View.{View}
 use Rattle.mseed_audit.specs.Channels.{Placed, numbered, is_of, records_of, added_from}
@@ -9,6 +10,12 @@ use Rattle.mseed_parts.specs.Parts.{bytes_in}
 -- a record behind so many more records and bytes
 abbrev pub moved : ℕ → ℕ → Placed → Placed
 moved d e p = record { view = p.view; offset = e + p.offset; number = d + p.number }
+
+-- what is told of a record and of those behind it, moved, where a list of what is told stands in a relation to records
+pub told_moved : {X : Type 0} (Of : List X → Type 0) (move : X → X) (first there rest : List X) → there ≡ map move first
+    → Of (there ++ map move rest) → Of (map move (first ++ rest))
+told_moved {X} Of move first there rest e told =
+    subst Of (ap (λ (xs : List X). xs ++ map move rest) e ∙ sym (map-append move first rest)) told
 
 abbrev placed : ℕ → ℕ → List View → List Placed
 placed n o views = numbered n (added_from o views)

@@ -23,7 +23,7 @@ use Rattle.mseed_audit.proofs.OneTelling.{channel_with, channel_without, last_wi
 use Rattle.mseed_audit.proofs.OneTelling.{reported_elsewhere, samples_of}
 use Rattle.mseed_parts.specs.Joining.{border_of, moved_finding}
 use Rattle.mseed_parts.proofs.Behind.{HaveOneFinding, found_behind}
-use Rattle.mseed_parts.proofs.Placing.{moved}
+use Rattle.mseed_parts.proofs.Placing.{moved, told_moved}
 
 -- what is reported of a channel's records behind another, each judged by the one just before it
 pub data AreReportedIn : Option View → List Placed → List Reported → Type 0 where
@@ -122,11 +122,9 @@ pub reported_moved : (d e : ℕ) (before : Option View) (ps : List Placed) (repo
     → AreReportedIn before (map (moved d e) ps) (map (moved_reported d e) reported)
 reported_moved d e before [] reported (none _) = none before
 reported_moved d e before (p ∷ ps) reported (one _ _ _ why rest h later) =
-    subst (λ (ts : List Reported). AreReportedIn before (moved d e p ∷ map (moved d e) ps) ts)
-    (ap (λ (ts : List Reported). ts ++ map (moved_reported d e) rest) (reported_at_moved d e p why)
-    ∙ sym (map-append (moved_reported d e) (reported_at p why) rest))
-    (one before (moved d e p) (map (moved d e) ps) why (map (moved_reported d e) rest) h
-    (reported_moved d e (Some p.view) ps rest later))
+    told_moved (λ (ts : List Reported). AreReportedIn before (moved d e p ∷ map (moved d e) ps) ts) (moved_reported d e)
+    (reported_at p why) (reported_at (moved d e p) why) rest (reported_at_moved d e p why) (one before (moved d e p)
+    (map (moved d e) ps) why (map (moved_reported d e) rest) h (reported_moved d e (Some p.view) ps rest later))
 
 -- ---- behind another record
 -- what is reported of a border

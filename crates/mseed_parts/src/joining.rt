@@ -2,7 +2,7 @@
 ghost use Rattle.std.specs.Prelude.{◌≡◌, ◌↔◌, ◌<◌, ◌+◌, ◌^◌, length, IsOk, IfOk, IsTrue};
 ghost use Rattle.std.specs.Option.{option_map, option_to_list};
 ghost use Rattle.mseed_audit.specs.declared.channel.Findings.TheVariants.{Nothing};
-ghost use Rattle.mseed_parts.specs.Joining.{moved_head, moved_finding, moved_findings, moved_channel};
+ghost use Rattle.mseed_parts.specs.Joining.{moved_head, moved_findings, moved_channel};
 ghost use Rattle.mseed_parts.specs.Joining.{border_of, findings_with, channel_behind};
 ghost use Rattle.mseed_audit.specs.Audit.{head_in, tail_in};
 ghost use Rattle.mseed_audit.specs.declared.tail.Tail.{Tail};
@@ -51,17 +51,6 @@ fn moved_some(head: Option<Head>, records: u64, bytes: u64) -> Result<Option<Hea
     }
 }
 
-fn moved_finding(finding: &Finding, records: u64, bytes: u64) -> Result<Finding, TooLarge>
-    ensures value { IfOk result (λ f. f ≡ moved_finding records bytes finding.now) }
-    ensures fits { IsOk result ↔ (records + finding.now.number < 2 ^ 63) × (bytes + finding.now.offset < 2 ^ 63) }
-{
-    Ok(Finding {
-        number: sum(records, finding.number)?,
-        offset: sum(bytes, finding.offset)?,
-        why: finding.why,
-    })
-}
-
 fn moved_findings(findings: &Findings, records: u64, bytes: u64) -> Result<Findings, TooLarge>
     ensures value { IfOk result (λ f. f ≡ moved_findings records bytes findings.now) }
     ensures fits { IsOk result
@@ -79,7 +68,11 @@ fn moved_findings(findings: &Findings, records: u64, bytes: u64) -> Result<Findi
             tail,
         } => Ok(Findings::Counted {
             count,
-            first: moved_finding(&first, records, bytes)?,
+            first: Finding {
+                number: sum(records, first.number)?,
+                offset: sum(bytes, first.offset)?,
+                why: first.why,
+            },
             head: moved_some(head, records, bytes)?,
             tail,
         }),

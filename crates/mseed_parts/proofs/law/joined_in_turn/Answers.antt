@@ -1,11 +1,5 @@
 use Rattle.mseed_parts.proofs.Extended.{none_joined, one_more, with_counts}
 use Rattle.mseed_parts.proofs.law.joined_in_turn.Goals as goal
 
-pub returns-clause-none : goal.returns-clause-none
-returns-clause-none c = none_joined
-
-pub returns-clause-channel : goal.returns-clause-channel
-returns-clause-channel c = one_more
-
-pub returns-clause-counts : goal.returns-clause-counts
-returns-clause-counts c = with_counts
+pub returns : goal.returns
+returns c = record { none = none_joined; channel = one_more; counts = with_counts }

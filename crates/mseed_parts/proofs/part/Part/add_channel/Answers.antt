@@ -9,47 +9,26 @@ use Rattle.mseed_parts.proofs.Within.{set_within, new_within}
 use Rattle.mseed_parts.specs.Parts.{CountsFit, IsSmall, AreWithin}
 use Rattle.mseed_parts.proofs.part.Part.add_channel.Goals as goal
 
-pub returns-in-Some-clause-joined : goal.returns-in-Some-clause-joined
-returns-in-Some-clause-joined g c =
+pub returns-in-Some : goal.returns-in-Some
+returns-in-Some g c =
     let es : Entries = c.self.inside.channels.entries in
     let after : Channel = c.put_behind.new.kept in
     let map = c.get_mut.follows.holds after in
-    let updates = map.3 (ap (λ (o : Option Channel). is_some o) (sym c.in-Some.ensures.value)) in
-    there_joined es c.self.inside.records c.self.inside.bytes c.args.self.now c.self.view_is c.args.codes
-    c.args.channel.now c.in-Some.kept.now c.in-Ok.further c.in-Some.ensures.value c.in-Ok.ensures.value
-    c.put_behind.result after _ updates.0 map.4 c.put_behind.ensures.value
-
-pub returns-in-Some-clause-border : goal.returns-in-Some-clause-border
-returns-in-Some-clause-border g c =
-    let es : Entries = c.self.inside.channels.entries in
-    there_border es c.self.inside.records c.self.inside.bytes c.args.self.now c.self.view_is c.args.codes
-    c.args.channel.now c.in-Some.kept.now c.in-Ok.further c.in-Some.ensures.value c.in-Ok.ensures.value
-    c.put_behind.result c.put_behind.ensures.border
-
-pub returns-in-Some-clause-fits : goal.returns-in-Some-clause-fits
-returns-in-Some-clause-fits g c =
-    let es : Entries = c.self.inside.channels.entries in
-    there_fits es c.self.inside.records c.self.inside.bytes c.args.self.now c.self.view_is c.args.codes
-    c.args.channel.now c.in-Some.kept.now c.in-Ok.further c.in-Some.ensures.value c.in-Ok.ensures.value
-    c.put_behind.result c.put_behind.ensures.fits (c.in-Ok.ensures.fits.0 refl)
-
-pub returns-in-Some-clause-limit : goal.returns-in-Some-clause-limit
-returns-in-Some-clause-limit g c =
-    let es : Entries = c.self.inside.channels.entries in
-    there_limit es c.self.inside.records c.self.inside.bytes c.args.self.now c.self.view_is c.args.codes
-    c.args.channel.now c.in-Some.kept.now c.in-Ok.further c.in-Some.ensures.value c.in-Ok.ensures.value
-    c.put_behind.result c.put_behind.ensures.fits
-
-pub returns-in-Some-clause-unchanged : goal.returns-in-Some-clause-unchanged
-returns-in-Some-clause-unchanged g c =
-    let es : Entries = c.self.inside.channels.entries in
-    let after : Channel = c.put_behind.new.kept in
-    let map = c.get_mut.follows.holds after in
-    on_err_weaker c.put_behind.result (λ e.
-    ap (λ (fs : Entries). held fs c.self.inside.records c.self.inside.bytes)
-    (map.0 ∙ set_value_same (same_key c.args.codes) es after
-    (sym c.in-Some.ensures.value ∙ ap (λ (k : Channel). Some k) (sym e))) ∙ c.self.view_is)
-    c.put_behind.ensures.unchanged
+    let kept = c.in-Some.ensures.value in
+    let further = c.in-Ok.ensures.value in
+    let put = c.put_behind.ensures in
+    record {
+      joined = there_joined es _ _ _ c.self.view_is _ _ _ _ kept further _ after _
+          (map.3 (ap (λ (o : Option Channel). is_some o) (sym kept))).0 map.4 put.value;
+      border = there_border es _ _ _ c.self.view_is _ _ _ _ kept further _ put.border;
+      fits = there_fits es _ _ _ c.self.view_is _ _ _ _ kept further _ put.fits (c.in-Ok.ensures.fits.0 refl);
+      limit = there_limit es _ _ _ c.self.view_is _ _ _ _ kept further _ put.fits;
+      memory = search rules;
+      unchanged = on_err_weaker c.put_behind.result (λ e.
+          ap (λ (fs : Entries). held fs c.self.inside.records c.self.inside.bytes)
+          (map.0 ∙ set_value_same (same_key c.args.codes) es after
+          (sym kept ∙ ap (λ (k : Channel). Some k) (sym e))) ∙ c.self.view_is) put.unchanged;
+    }
 
 pub returns-clause-joined : goal.returns-clause-joined
 returns-clause-joined g c =
