@@ -15,7 +15,7 @@ use Rattle.mseed_join.specs.Lines.{Line, header, channel, counts, faults, fault}
 use Rattle.mseed_join.specs.Written.{Written}
 use Rattle.mseed_join.specs.Reached.{Behind, none, begun, whole, IsWhere, begun_part, part_behind, parts_at}
 use Rattle.mseed_join.specs.private.Steps.{May, goes, counted_part, with_faults, with_end}
-use Rattle.mseed_join.proofs.Machine.{Entries}
+use Rattle.mseed_join.proofs.Machine.{Entries, rows_append}
 use Rattle.mseed_join.proofs.Stepping.{LeavesKept, kept_none, leaves_kept}
 use Rattle.mseed_join.proofs.Sums.{HaveOneJoint, IsFirst, first_of, joined_one, never_open, none_of}
 use Rattle.mseed_join.proofs.Taken.{IsLast, before_is, counts_one, last_is}
@@ -337,10 +337,7 @@ channel_borders only past over (whole w) key c h reported m n is j found b = abs
 
 -- ---- their lines
 pub lines_append : (bs ds : List Border) → border_lines (bs ++ ds) ≡ border_lines bs ++ border_lines ds
-lines_append [] ds = refl
-lines_append (b ∷ bs) ds =
-    ap (λ (t : List ℕ). border_line b ++ t) (lines_append bs ds)
-    ∙ sym (append_assoc (border_line b) (border_lines bs) (border_lines ds))
+lines_append = rows_append border_line border_lines refl (λ b bs. refl)
 
 -- ---- there is one list of them
 found_one_from : HaveOneJoint → (before ws : List Written) (found other : List Border) → AreBorders before ws found

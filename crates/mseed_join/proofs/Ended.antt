@@ -70,6 +70,12 @@ number n few =
 count : (n : ℕ) → n < 2 ^ 63 → plain (decimal n) ≡ true
 count n l = number n (omega (arith, l))
 
+-- a count behind something, and a word and something more behind it
+behind_count : (a w b : List ℕ) (n : ℕ) → plain a ≡ true → n < 2 ^ 63 → plain w ≡ true → plain b ≡ true
+    → plain (a ++ decimal n ++ w ++ b) ≡ true
+behind_count a w b n p few q r =
+    two (a ++ decimal n ++ w) b (two (a ++ decimal n) w (two a (decimal n) p (count n few)) q) r
+
 signed : (below above : ℕ) (z : ℤ) → below < 10 ^ 63 → above < 10 ^ 63 → IsWithin below above z
     → plain (signed_decimal z) ≡ true
 signed below above (pos n) low high l = number n (omega (arith, l, high))
@@ -136,9 +142,7 @@ read_fault LittleSteim l = refl
 read_fault DataOffset l = refl
 read_fault (Short found) l = two (codes "short ") (decimal found) refl (count found l)
 read_fault (BadWord frame w) l =
-    two (codes "badword " ++ decimal frame ++ codes " ") (decimal w)
-    (two (codes "badword " ++ decimal frame) (codes " ")
-    (two (codes "badword ") (decimal frame) refl (count frame l.0)) refl) (count w l.1)
+    behind_count (codes "badword ") (codes " ") (decimal w) frame refl l.0 refl (count w l.1)
 read_fault (Overflow index) l = two (codes "overflow ") (decimal index) refl (count index l)
 read_fault (LastDiffers found constant) l =
     two (codes "lastdiffers " ++ signed_decimal found ++ codes " ") (signed_decimal constant)
@@ -157,12 +161,10 @@ why (Overlap us) l = two (codes "overlap ") (decimal us) refl (number us (omega 
 
 first : (f : Finding) → HasFinding f → plain (first_text f) ≡ true
 first f fits =
-    two (codes "first " ++ decimal f.number ++ codes " " ++ decimal f.offset ++ codes " ") (why_text f.why)
-    (two (codes "first " ++ decimal f.number ++ codes " " ++ decimal f.offset) (codes " ")
-    (two (codes "first " ++ decimal f.number ++ codes " ") (decimal f.offset)
+    behind_count (codes "first " ++ decimal f.number ++ codes " ") (codes " ") (why_text f.why) f.offset
     (two (codes "first " ++ decimal f.number) (codes " ")
-    (two (codes "first ") (decimal f.number) refl (count f.number fits.number)) refl)
-    (count f.offset fits.offset)) refl) (why f.why fits.why)
+    (two (codes "first ") (decimal f.number) refl (count f.number fits.number)) refl) fits.offset refl
+    (why f.why fits.why)
 
 -- a head and a tail behind their words
 ends : (a b : List ℕ) → plain a ≡ true → plain b ≡ true → plain (codes " head " ++ a ++ codes " tail " ++ b) ≡ true
@@ -178,11 +180,8 @@ findings (Counted n f h t) fits =
     let a : List ℕ = text_or_none head_text h in
     let b : List ℕ = text_or_none tail_text t in
     let c : List ℕ = codes " head " ++ a ++ codes " tail " ++ b in
-    two (c ++ codes " findings " ++ decimal n ++ codes " ") (first_text f)
-    (two (c ++ codes " findings " ++ decimal n) (codes " ")
-    (two (c ++ codes " findings ") (decimal n)
-    (two c (codes " findings ") (ends a b (some_head h fits.3) (some_tail t fits.4)) refl)
-    (count n fits.1)) refl) (first f fits.2)
+    behind_count (c ++ codes " findings ") (codes " ") (first_text f) n
+    (two c (codes " findings ") (ends a b (some_head h fits.3) (some_tail t fits.4)) refl) fits.1 refl (first f fits.2)
 
 nibble : (n : ℕ) → nat_eq (hex_digit n) 10 ≡ false
 nibble n = by (nat_lt n 10)
@@ -226,19 +225,15 @@ ended (channel k c) l = record {
   is_plain =
       two (key_text k ++ codes " records " ++ decimal c.records ++ codes " samples " ++ decimal c.samples)
       (findings_text c.findings)
-      (two (key_text k ++ codes " records " ++ decimal c.records ++ codes " samples ") (decimal c.samples)
-      (two (key_text k ++ codes " records " ++ decimal c.records) (codes " samples ")
-      (two (key_text k ++ codes " records ") (decimal c.records)
-      (two (key_text k) (codes " records ") (key k) refl) (count c.records l.records)) refl)
-      (count c.samples l.samples)) (findings c.findings l.findings);
+      (behind_count (key_text k ++ codes " records ") (codes " samples ") (decimal c.samples) c.records
+      (two (key_text k) (codes " records ") (key k) refl) l.records refl (count c.samples l.samples))
+      (findings c.findings l.findings);
   is = refl;
 }
 ended (counts records bytes) l = record {
   body = codes "records " ++ decimal records ++ codes " bytes " ++ decimal bytes;
   is_plain =
-      two (codes "records " ++ decimal records ++ codes " bytes ") (decimal bytes)
-      (two (codes "records " ++ decimal records) (codes " bytes ")
-      (two (codes "records ") (decimal records) refl (count records l.records_fit)) refl)
+      behind_count (codes "records ") (codes " bytes ") (decimal bytes) records refl l.records_fit refl
       (count bytes l.bytes_fit);
   is = refl;
 }
@@ -251,9 +246,8 @@ ended (faults (suc n)) l = record {
 ended (fault bytes f) l = record {
   body = codes "fault at " ++ decimal bytes ++ codes " " ++ fault_words f;
   is_plain =
-      two (codes "fault at " ++ decimal bytes ++ codes " ") (fault_words f)
-      (two (codes "fault at " ++ decimal bytes) (codes " ")
-      (two (codes "fault at ") (decimal bytes) refl (count bytes l.bytes_fit)) refl) (stream_fault bytes f l.is);
+      behind_count (codes "fault at ") (codes " ") (fault_words f) bytes refl l.bytes_fit refl
+      (stream_fault bytes f l.is);
   is = fault_of f bytes l.is ∙ joined (codes "fault at ") (decimal bytes) (fault_words f);
 }
   where

@@ -52,11 +52,16 @@ rows_behind (begun channels) = header ∷ rows channels
 rows_behind (whole w) = part_rows w
 
 -- ---- their texts
+pub rows_append : {X : Type 0} (row : X → List ℕ) (text : List X → List ℕ) → text [] ≡ []
+    → ((x : X) (xs : List X) → text (x ∷ xs) ≡ row x ++ text xs) → (xs ys : List X)
+    → text (xs ++ ys) ≡ text xs ++ text ys
+rows_append row text nil more [] ys = ap (λ (t : List ℕ). t ++ text ys) (sym nil)
+rows_append row text nil more (x ∷ xs) ys =
+    more x (xs ++ ys) ∙ ap (λ (t : List ℕ). row x ++ t) (rows_append row text nil more xs ys)
+    ∙ sym (append_assoc (row x) (text xs) (text ys)) ∙ ap (λ (t : List ℕ). t ++ text ys) (sym (more x xs))
+
 pub text_append : (xs ys : List Line) → lines_text (xs ++ ys) ≡ lines_text xs ++ lines_text ys
-text_append [] ys = refl
-text_append (x ∷ xs) ys =
-    ap (λ (t : List ℕ). text_of_line x ++ t) (text_append xs ys)
-    ∙ sym (append_assoc (text_of_line x) (lines_text xs) (lines_text ys))
+text_append = rows_append text_of_line lines_text refl (λ x xs. refl)
 
 rows_text : (es : Entries) → lines_text (rows es) ≡ channel_lines es
 rows_text [] = refl

@@ -63,34 +63,32 @@ count_small v is = number_two v is 30
 product : (a b : ℕ) → 0 < a → 0 < b → a ≤ 2 ^ 15 → b ≤ 2 ^ 15 → (0 < a * b) × (a * b ≤ 2 ^ 30)
 product a b some any small few = (omega (arith, mul-le 1 1 a b some any), omega (arith, mul-le a b _ _ small few))
 
+-- a ratio of two numbers within its range
+ratio_within : (num den : ℕ) (r : Ratio) → (0 < num) × (num ≤ 2 ^ 30) → (0 < den) × (den ≤ 2 ^ 30)
+    → Some (record { num = num; den = den }) ≡ Some r → IsRatio r
+ratio_within num den r n d e =
+    subst IsRatio (some_is (record { num = num; den = den }) r e)
+    (record { num_counts = n.0; num_bound = n.1; den_counts = d.0; den_bound = d.1 })
+
+-- a factor or a multiplier
+part_within : (n : ℕ) → n < 2 ^ 15 → (0 < suc n) × (suc n ≤ 2 ^ 30)
+part_within n h = (omega arith, omega (arith, h))
+
 ratio_one : (f m : ℤ) (r : Ratio) → IsBetween (2 ^ 15) f → IsBetween (2 ^ 15) m → rate_of f m ≡ Some r → IsRatio r
 ratio_one (pos zero) m r h k e = cc e
 ratio_one (pos (suc f)) (pos zero) r h k e = cc e
 ratio_one (pos (suc f)) (pos (suc m)) r h k e =
-    let both = product (suc f) (suc m) (omega arith) (omega arith) (omega (arith, h)) (omega (arith, k)) in
-    subst IsRatio (some_is (record { num = suc f * suc m; den = 1 }) r e)
-    (record { num_counts = both.0; num_bound = both.1; den_counts = omega arith; den_bound = omega arith })
+    ratio_within (suc f * suc m) 1 r
+    (product (suc f) (suc m) (omega arith) (omega arith) (omega (arith, h)) (omega (arith, k)))
+    (omega arith, omega arith) e
 ratio_one (pos (suc f)) (negsuc m) r h k e =
-    subst IsRatio (some_is (record { num = suc f; den = suc m }) r e)
-    (record {
-      num_counts = omega arith;
-      num_bound = omega (arith, h);
-      den_counts = omega arith;
-      den_bound = omega (arith, k);
-    })
+    ratio_within (suc f) (suc m) r (part_within f (omega (arith, h))) (part_within m (omega (arith, k))) e
 ratio_one (negsuc f) (pos zero) r h k e = cc e
 ratio_one (negsuc f) (pos (suc m)) r h k e =
-    subst IsRatio (some_is (record { num = suc m; den = suc f }) r e)
-    (record {
-      num_counts = omega arith;
-      num_bound = omega (arith, k);
-      den_counts = omega arith;
-      den_bound = omega (arith, h);
-    })
+    ratio_within (suc m) (suc f) r (part_within m (omega (arith, k))) (part_within f (omega (arith, h))) e
 ratio_one (negsuc f) (negsuc m) r h k e =
-    let both = product (suc f) (suc m) (omega arith) (omega arith) (omega (arith, h)) (omega (arith, k)) in
-    subst IsRatio (some_is (record { num = 1; den = suc f * suc m }) r e)
-    (record { num_counts = omega arith; num_bound = omega arith; den_counts = both.0; den_bound = both.1 })
+    ratio_within 1 (suc f * suc m) r (omega arith, omega arith)
+    (product (suc f) (suc m) (omega arith) (omega arith) (omega (arith, h)) (omega (arith, k))) e
 
 unless_some : (o : Option TimeFault) (rate : Option Ratio) (r : Ratio) → rate_unless o rate ≡ Some r
     → (o ≡ None) × (rate ≡ Some r)

@@ -160,31 +160,36 @@ counts_joint law past over cs n b h k j free joint fit faults_same end_none =
       end = end_none;
     })
 
+-- behind what stood before it, the same part with other faults or another end, joined to the same
+same_part : (a w h v k : Written) → IsNext a w h → v.part ≡ w.part → k.part ≡ h.part → k.faults ≡ a.faults + v.faults
+    → k.faults < 2 ^ 63 → k.end ≡ option_map (moved_fault a.part.bytes) v.end → IsNext a v k
+same_part a w h v k next own joint sum fit ends = record {
+  part = subst (λ (p : Held). IsJoint a.part p k.part) (sym own)
+      (subst (λ (p : Held). IsJoint a.part w.part p) (sym joint) next.part);
+  fits = subst (λ (p : Held). Fits a.part p) (sym own) next.fits;
+  faults = sum;
+  faults_fit = fit;
+  end = ends;
+}
+
 pub faults_joint : (past : Bool) (over : List Written) (w : Written) (n : ℕ) (h k : Written)
     → IsJointOf past (over ++ w ∷ []) h → w.end ≡ None → h.end ≡ None → w.faults ≡ 0 → h.faults + n < 2 ^ 63
     → k.part ≡ h.part → k.faults ≡ h.faults + n → k.end ≡ None → IsJointOf past (over ++ with_faults w n ∷ []) k
 faults_joint past over w n h k j e free zero_faults fit part_same sum end_none =
     let l : IsLast past over w h = last_is past over w h e free j in
-    in_place past over l.before (with_faults w n) k l.joined l.goes_on e (record {
-      part = subst (λ (p : Held). IsJoint l.before.part w.part p) (sym part_same) l.next.part;
-      fits = l.next.fits;
-      faults = omega (arith, sum, l.next.faults, zero_faults);
-      faults_fit = omega (arith, sum, fit);
-      end = end_none ∙ sym (ap (λ (o : Option StreamFault). option_map (moved_fault l.before.part.bytes) o) e);
-    })
+    in_place past over l.before (with_faults w n) k l.joined l.goes_on e
+    (same_part l.before w h (with_faults w n) k l.next refl part_same (omega (arith, sum, l.next.faults, zero_faults))
+    (omega (arith, sum, fit))
+    (end_none ∙ sym (ap (λ (o : Option StreamFault). option_map (moved_fault l.before.part.bytes) o) e)))
 
 pub passed_joint : (over : List Written) (w : Written) (f : StreamFault) (h k : Written)
     → IsJointOf true (over ++ w ∷ []) h → w.end ≡ None → h.end ≡ None → h.faults + 1 < 2 ^ 63 → k.part ≡ h.part
     → k.faults ≡ h.faults + 1 → k.end ≡ None → IsJointOf true (over ++ with_end w f ∷ []) k
 passed_joint over w f h k j e free fit part_same sum end_none =
     let l : IsLast true over w h = last_is true over w h e free j in
-    passed_in_place over l.before w k f l.joined l.goes_on (record {
-      part = subst (λ (p : Held). IsJoint l.before.part w.part p) (sym part_same) l.next.part;
-      fits = l.next.fits;
-      faults = omega (arith, sum, l.next.faults);
-      faults_fit = omega (arith, sum, fit);
-      end = end_none;
-    })
+    passed_in_place over l.before w k f l.joined l.goes_on
+    (same_part l.before w h (record { part = w.part; faults = w.faults + 1; end = None }) k l.next refl part_same
+    (omega (arith, sum, l.next.faults)) (omega (arith, sum, fit)) end_none)
 
 behind_is : (d e b : ℕ) (f : StreamFault) → IsFaultBehind b f → e ≡ d + b → fault_behind e f ≡ moved_fault d f
 behind_is d e b (Frame offset x) l s = let same : e ≡ d + offset = omega (arith, l.0, s) in ap (λ n. Frame n x) same
@@ -200,14 +205,10 @@ pub ended_joint : (over : List Written) (w : Written) (f : StreamFault) (h k : W
     → IsJointOf false (over ++ with_end w f ∷ []) k
 ended_joint over w f h k j e free is part_same faults_same ends =
     let l : IsLast false over w h = last_is false over w h e free j in
-    ends_in_place over l.before w k f l.joined l.goes_on (record {
-      part = subst (λ (p : Held). IsJoint l.before.part w.part p) (sym part_same) l.next.part;
-      fits = l.next.fits;
-      faults = omega (arith, faults_same, l.next.faults);
-      faults_fit = omega (arith, faults_same, l.next.faults_fit);
-      end = ends ∙ ap (λ (x : StreamFault). Some x)
-          (behind_is l.before.part.bytes h.part.bytes w.part.bytes f is l.next.part.bytes);
-    })
+    ends_in_place over l.before w k f l.joined l.goes_on
+    (same_part l.before w h (with_end w f) k l.next refl part_same (omega (arith, faults_same, l.next.faults))
+    (omega (arith, faults_same, l.next.faults_fit)) (ends ∙ ap (λ (x : StreamFault). Some x)
+    (behind_is l.before.part.bytes h.part.bytes w.part.bytes f is l.next.part.bytes)))
 
 -- ---- a line that was taken
 pub taken : {A : Type 0} → (lines : List ℕ) (s : Stage) (x : Line) (tells : Reported) (old new : Joint A)

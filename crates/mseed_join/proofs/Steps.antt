@@ -345,13 +345,22 @@ fault_number over (whole w) l f k m e =
 no_append : (past : Bool) (ws : List Written) (h : Written) → IsJointOf past ws h → IsJointOf past (ws ++ []) h
 no_append past ws h j = subst (λ (vs : List Written). IsJointOf past vs h) (sym (append-nil ws)) j
 
+-- a part that ends with a fault is over
+fault_over : (past : Bool) (over : List Written) (b : Behind) (l : ℕ) (x : StreamFault) (h k : Written)
+    → ((w : Written) → w.end ≡ None → w.part.bytes ≡ l → IsJointOf past (over ++ w ∷ []) h
+    → IsJointOf past (over ++ with_end w x ∷ []) k)
+    → IsWhere over b → May b (fault l x) → IsJointOf past (over ++ part_behind b) h
+    → IsJointOf past (parts_at (goes over b (fault l x))) k
+fault_over past over none l x h k next v m j = absurd m
+fault_over past over (begun cs) l x h k next v m j = absurd m
+fault_over past over (whole w) l x h k next v m j =
+    no_append past (over ++ with_end w x ∷ []) k (next w v m j)
+
 fault_stops : (past : Bool) (over : List Written) (b : Behind) (l : ℕ) (x : StreamFault) (h : Written)
     (f : StreamFault) → IsWhere over b → May b (fault l x) → h.end ≡ Some f
     → IsJointOf past (over ++ part_behind b) h → IsJointOf past (parts_at (goes over b (fault l x))) h
-fault_stops past over none l x h f v m e j = absurd m
-fault_stops past over (begun cs) l x h f v m e j = absurd m
-fault_stops past over (whole w) l x h f v m e j =
-    no_append past (over ++ with_end w x ∷ []) h (stopped past over (with_end w x ∷ []) w h f v e j)
+fault_stops past over b l x h f v m e j =
+    fault_over past over b l x h h (λ w no_end at i. stopped past over (with_end w x ∷ []) w h f no_end e i) v m j
 
 -- where faults are passed no joint part ends with one
 free_by : (a w : Written) (ws : List Written) (h : Written) (end : Option StreamFault) → w.end ≡ end
@@ -418,13 +427,11 @@ fault_ends : (past : Bool) (over : List Written) (b : Behind) (l : ℕ) (x : Str
     → IsWhere over b → May b (fault l x) → IsLine (fault l x) → h.end ≡ None → k.part ≡ h.part → k.faults ≡ h.faults
     → k.end ≡ Some (fault_behind h.part.bytes x)
     → IsJointOf past (over ++ part_behind b) h → IsJointOf past (parts_at (goes over b (fault l x))) k
-fault_ends past over none l x h k p v m is free pa fa e j = absurd m
-fault_ends past over (begun cs) l x h k p v m is free pa fa e j = absurd m
-fault_ends past over (whole w) l x h k p v m is free pa fa e j =
-    no_append past (over ++ with_end w x ∷ []) k
-    (subst (λ (q : Bool). IsJointOf q (over ++ with_end w x ∷ []) k) (sym p)
-    (ended_joint over w x h k (subst (λ (q : Bool). IsJointOf q (over ++ w ∷ []) h) p j) v free
-    (subst (λ (n : ℕ). IsFaultBehind n x) (sym m) is.is) pa fa e))
+fault_ends past over b l x h k p v m is free pa fa e j =
+    fault_over past over b l x h k (λ w no_end at i.
+    subst (λ (q : Bool). IsJointOf q (over ++ with_end w x ∷ []) k) (sym p)
+    (ended_joint over w x h k (subst (λ (q : Bool). IsJointOf q (over ++ w ∷ []) h) p i) no_end free
+    (subst (λ (n : ℕ). IsFaultBehind n x) (sym at) is.is) pa fa e)) v m j
 
 -- it ends with this one
 pub fault_kept : {A : Type 0} → (old : Joint A) (so_far : JointPart A) → old.past ≡ false → old.so_far.end ≡ None
@@ -445,12 +452,10 @@ fault_passes : (past : Bool) (over : List Written) (b : Behind) (l : ℕ) (x : S
     → IsWhere over b → May b (fault l x) → h.end ≡ None → h.faults + 1 < 2 ^ 63 → k.part ≡ h.part
     → k.faults ≡ h.faults + 1 → k.end ≡ None
     → IsJointOf past (over ++ part_behind b) h → IsJointOf past (parts_at (goes over b (fault l x))) k
-fault_passes past over none l x h k p v m free fit pa fa e j = absurd m
-fault_passes past over (begun cs) l x h k p v m free fit pa fa e j = absurd m
-fault_passes past over (whole w) l x h k p v m free fit pa fa e j =
-    no_append past (over ++ with_end w x ∷ []) k
-    (subst (λ (q : Bool). IsJointOf q (over ++ with_end w x ∷ []) k) (sym p)
-    (passed_joint over w x h k (subst (λ (q : Bool). IsJointOf q (over ++ w ∷ []) h) p j) v free fit pa fa e))
+fault_passes past over b l x h k p v m free fit pa fa e j =
+    fault_over past over b l x h k (λ w no_end at i.
+    subst (λ (q : Bool). IsJointOf q (over ++ with_end w x ∷ []) k) (sym p)
+    (passed_joint over w x h k (subst (λ (q : Bool). IsJointOf q (over ++ w ∷ []) h) p i) no_end free fit pa fa e)) v m j
 
 -- it is passed
 pub fault_passed : {A : Type 0} → (old : Joint A) (so_far : JointPart A) → old.past ≡ true → old.so_far.end ≡ None

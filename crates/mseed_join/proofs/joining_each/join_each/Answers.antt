@@ -9,36 +9,33 @@ returns-in-Err-clause-outcome g c =
     (g.W.Sink.written c.read_each.new.sink) (g.E.Sink.written c.args.errors.now)
     (g.E.Sink.written c.read_each.new.errors) c.read_each.new.text.items c.in_ok-part.ensures.reported
 
-pub returns-in-Ok-write_all_of-clause-outcome : goal.returns-in-Ok-write_all_of-clause-outcome
-returns-in-Ok-write_all_of-clause-outcome g c =
+pub returns-in-Ok-write_all_of : goal.returns-in-Ok-write_all_of
+returns-in-Ok-write_all_of g c =
     let write = c.in-Ok-write_all_of.ensures in
-    each_written c.args.past_faults _ (g.R.Source.read c.read_each.new.source) c.in-Ok.joined
-    (g.W.Sink.written c.args.sink.now) (g.W.Sink.written c.read_each.new.sink)
-    (g.W.Sink.written c.write_all_of.new.sink) (g.E.Sink.written c.args.errors.now)
-    (g.E.Sink.written c.read_each.new.errors) c.read_each.new.text.items c.push_joined.new.text.items
-    c.deref.result.now c.in_ok-part.ensures.reported c.in-Ok.ensures.text c.deref.ensures.value c.in-Ok.ensures.answer
-    write.ok write.fine
+    record {
+      outcome = each_written c.args.past_faults _ (g.R.Source.read c.read_each.new.source) c.in-Ok.joined
+          (g.W.Sink.written c.args.sink.now) (g.W.Sink.written c.read_each.new.sink)
+          (g.W.Sink.written c.write_all_of.new.sink) (g.E.Sink.written c.args.errors.now)
+          (g.E.Sink.written c.read_each.new.errors) c.read_each.new.text.items c.push_joined.new.text.items
+          c.deref.result.now c.in_ok-part.ensures.reported c.in-Ok.ensures.text c.deref.ensures.value
+          c.in-Ok.ensures.answer write.ok write.fine;
+      reads = c.in_ok-part.ensures.reads;
+      writes = writes_on _ _ _ _ _ _ _ _ _ c.in_ok-part.ensures.writes
+          (record { contents = (c.deref.result.now, write.ok, write.known); beside = write.beside });
+    }
 
-pub returns-clause-outcome : goal.returns-clause-outcome
-returns-clause-outcome g c =
+pub returns : goal.returns
+returns g c =
     let write = c.in-Err-write_all_of.ensures in
-    each_cut_off c.args.past_faults _ (g.R.Source.read c.read_each.new.source) (g.W.Sink.written c.args.sink.now)
-    (g.W.Sink.written c.read_each.new.sink) (g.W.Sink.written c.write_all_of.new.sink)
-    (g.E.Sink.written c.args.errors.now) (g.E.Sink.written c.read_each.new.errors) c.read_each.new.text.items
-    c.push_joined.new.text.items c.deref.result.now c.in-Err-write_all_of.field-0 c.in_ok-part.ensures.reported
-    c.in-Ok.ensures.text c.deref.ensures.value write.err write.within write.failed
-
-pub returns-in-Ok-write_all_of-clause-writes : goal.returns-in-Ok-write_all_of-clause-writes
-returns-in-Ok-write_all_of-clause-writes g c =
-    let write = c.in-Ok-write_all_of.ensures in
-    writes_on _ _ _ _ _ _ _ _ _ c.in_ok-part.ensures.writes
-    (record { contents = (c.deref.result.now, write.ok, write.known); beside = write.beside })
-
-pub returns-clause-writes : goal.returns-clause-writes
-returns-clause-writes g c =
-    let write = c.in-Err-write_all_of.ensures in
-    writes_on _ _ _ _ _ _ _ _ _ c.in_ok-part.ensures.writes
-    (record {
-      contents = (take c.in-Err-write_all_of.field-0 c.deref.result.now, write.err, write.known);
-      beside = write.beside;
-    })
+    let taken = take c.in-Err-write_all_of.field-0 c.deref.result.now in
+    record {
+      outcome = each_cut_off c.args.past_faults _ (g.R.Source.read c.read_each.new.source)
+          (g.W.Sink.written c.args.sink.now) (g.W.Sink.written c.read_each.new.sink)
+          (g.W.Sink.written c.write_all_of.new.sink) (g.E.Sink.written c.args.errors.now)
+          (g.E.Sink.written c.read_each.new.errors) c.read_each.new.text.items c.push_joined.new.text.items
+          c.deref.result.now c.in-Err-write_all_of.field-0 c.in_ok-part.ensures.reported c.in-Ok.ensures.text
+          c.deref.ensures.value write.err write.within write.failed;
+      reads = c.in_ok-part.ensures.reads;
+      writes = writes_on _ _ _ _ _ _ _ _ _ c.in_ok-part.ensures.writes
+          (record { contents = (taken, write.err, write.known); beside = write.beside });
+    }
