@@ -5,6 +5,8 @@ use Rattle.std.proofs.Common.{append_assoc, append-nil, length-append}
 use Rattle.std.proofs.Common.{take-append-drop, length-take}
 use Rattle.std.proofs.lemmas.List.{append_cancel_left, append_cancel_right}
 use Rattle.mseed_stream.specs.Device.{BytesRead, BytesWritten}
+use Rattle.mseed_join.specs.declared.line_reader.Ahead.{Ahead}
+use Rattle.mseed_join.specs.declared.line_reader.Ahead.TheVariants.{Line as WholeLine, TooLong, Unended, Nothing}
 use Rattle.mseed_join.specs.declared.joint.Joint.{Joint}
 use Rattle.mseed_join.specs.declared.joint.Place.{Place}
 use Rattle.mseed_join.specs.declared.joint.Place.TheVariants.{Start, Channels, Whole}
@@ -19,11 +21,13 @@ use Rattle.mseed_join.specs.declared.reader.PartsFault.{PartsFault}
 use Rattle.mseed_join.specs.declared.reader.PartsFault.TheVariants.{Line as BadLine, Stream, Memory}
 use Rattle.mseed_join.specs.Written.{Written, Spells, channel_lines, part_text, texts}
 use Rattle.mseed_join.specs.private.Along.{HasEnded, IsAlong, IsBadBehind, IsFailedAt, IsNextStep, IsStoppedAt}
-use Rattle.mseed_join.specs.private.Along.{can_end}
-use Rattle.mseed_join.specs.private.LineReading.{GoesOn, Grows, IsLineAhead, IsOpen, IsReadBy, LinesRead}
+use Rattle.mseed_join.specs.private.Along.{can_end, is_over}
+use Rattle.mseed_join.specs.private.LineReading.{GoesOn, Grows, IsLineAhead, IsOpen, IsReadBy, LiesAhead}
+use Rattle.mseed_join.specs.private.LineReading.{LinesRead}
 use Rattle.mseed_join.specs.private.Taking.{IsPlace, IsReadTo, IsTaken}
 use Rattle.mseed_join.proofs.Ahead.{IsAhead, ahead, too_long}
-use Rattle.mseed_join.proofs.Machine.{AreAll, Runs, lines_text, nothing_first}
+use Rattle.mseed_join.proofs.LinesAhead.{read_by_more}
+use Rattle.mseed_join.proofs.Machine.{AreAll, Runs, lines_text, nothing_first, rows_append}
 
 -- ---- how few lines and parts there are
 pub lines_few : (bytes : List ℕ) (n : ℕ) → AreLines bytes n → n ≤ length bytes
@@ -55,10 +59,7 @@ parts_few lines s i = omega (
 
 -- ---- what was passed begins a text
 texts_append : (ws vs : List Written) → texts (ws ++ vs) ≡ texts ws ++ texts vs
-texts_append [] vs = refl
-texts_append (w ∷ ws) vs =
-    ap (λ (t : List ℕ). part_text w ++ t) (texts_append ws vs)
-    ∙ sym (append_assoc (part_text w) (texts ws) (texts vs))
+texts_append = rows_append part_text texts refl (λ w ws. refl)
 
 -- with which the last part would be over
 abbrev rest_of : Behind → List ℕ
@@ -167,13 +168,15 @@ pub record IsLooked {A : Type 0} (past : Bool) (h now : BytesRead) (s : Stage) (
 
 pub looked : {A : Type 0} → (past : Bool) (h old new : BytesRead) (left rest : Option (List ℕ)) (s : Stage)
     (r : Reader A) (after : LinesRead) → IsAlong past h old s r → Grows old new left rest r.lines after
-    → IsReadBy h new after → IsLooked past h new s after r.joint
-looked past h old new left rest s r after a g c = record {
-  by = c;
-  read = subst (λ (t : List ℕ). IsReadTo t s r.joint) (sym (same_passed h old new left rest r.lines after a.by g c))
-      a.read;
-  past_is = a.past_is;
-}
+    → IsLooked past h new s after r.joint
+looked past h old new left rest s r after a g =
+    let by : IsReadBy h new after = read_by_more h old new left rest r.lines after g a.by in
+    record {
+      by = by;
+      read = subst (λ (t : List ℕ). IsReadTo t s r.joint)
+          (sym (same_passed h old new left rest r.lines after a.by g by)) a.read;
+      past_is = a.past_is;
+    }
 
 pub looked_few : {A : Type 0} → (past : Bool) (h now : BytesRead) (s : Stage) (lines : LinesRead) (j : Joint A)
     → IsLooked past h now s lines j → lines.bytes ≤ 2 ^ 56 → (j.parts ≤ 2 ^ 56) × (lines.lines ≤ 2 ^ 56)
@@ -240,7 +243,7 @@ fails past h now s lines j l held = record {
   };
 }
 
-pub long_line : {A : Type 0} → (past : Bool) (h now : BytesRead) (s : Stage) (lines : LinesRead) (j : Joint A)
+long_line : {A : Type 0} → (past : Bool) (h now : BytesRead) (s : Stage) (lines : LinesRead) (j : Joint A)
     → IsLooked past h now s lines j → HasNoEnd (take 512 lines.held) → 512 ≤ length lines.held
     → IsBadBehind past h now s (lines.lines + 1)
 long_line past h now s lines j l no_end long =
@@ -248,7 +251,7 @@ long_line past h now s lines j l no_end long =
     (too_long past s l.by.passed (take 512 lines.held) l.read.stage no_end
     (omega (arith, long, length-take 512 lines.held)))
 
-pub unended_line : {A : Type 0} → (past : Bool) (h now : BytesRead) (s : Stage) (lines : LinesRead) (j : Joint A)
+unended_line : {A : Type 0} → (past : Bool) (h now : BytesRead) (s : Stage) (lines : LinesRead) (j : Joint A)
     → IsLooked past h now s lines j → now.is_at_end ≡ true → HasNoEnd lines.held → lines.held ≢ []
     → IsBadBehind past h now s (lines.lines + 1)
 unended_line past h now s lines j l at_end no_end some = record {
@@ -267,7 +270,7 @@ all_passed : {A : Type 0} → (past : Bool) (h now : BytesRead) (s : Stage) (lin
 all_passed past h now s lines j l held =
     l.by.reported ∙ ap (λ (t : List ℕ). h.bytes ++ l.by.passed ++ t) held ∙ append-nil (h.bytes ++ l.by.passed)
 
-pub lacking : {A : Type 0} → (past : Bool) (h now : BytesRead) (s : Stage) (lines : LinesRead) (j : Joint A)
+lacking : {A : Type 0} → (past : Bool) (h now : BytesRead) (s : Stage) (lines : LinesRead) (j : Joint A)
     → IsLooked past h now s lines j → now.is_at_end ≡ true → lines.held ≡ [] → can_end j.place ≡ false
     → IsBadBehind past h now s (lines.lines + 1)
 lacking past h now s lines j l at_end held e = record {
@@ -286,7 +289,7 @@ lacking past h now s lines j l at_end held e = record {
   };
 }
 
-pub has_ended : {A : Type 0} → (past : Bool) (h now : BytesRead) (s : Stage) (r : Reader A)
+has_ended : {A : Type 0} → (past : Bool) (h now : BytesRead) (s : Stage) (r : Reader A)
     → IsLooked past h now s r.lines r.joint → now.is_at_end ≡ true → r.lines.held ≡ [] → can_end r.joint.place ≡ true
     → HasEnded past h now s r
 has_ended past h now s r l at_end held e = record {
@@ -296,6 +299,23 @@ has_ended past h now s r l at_end held e = record {
   spells = ended l.by.passed s r.joint l.read e;
   joint = subst (λ (p : Bool). IsJointOf p (parts_at s) (written_of r.joint.so_far)) l.past_is l.read.joint;
 }
+
+-- by what lies ahead, if it is no line
+pub over_at : {A : Type 0} → (past : Bool) (h now : BytesRead) (s : Stage) (r : Reader A) (a : Ahead)
+    → IsLooked past h now s r.lines r.joint → LiesAhead a r.lines now.is_at_end → is_over a r.joint.place ≡ true
+    → HasEnded past h now s r
+over_at past h now s r WholeLine l lies e = absurd (let no : false ≡ true = e in cc no)
+over_at past h now s r TooLong l lies e = absurd (let no : false ≡ true = e in cc no)
+over_at past h now s r Unended l lies e = absurd (let no : false ≡ true = e in cc no)
+over_at past h now s r Nothing l lies e = has_ended past h now s r l lies.0 lies.1 e
+
+pub bad_at : {A : Type 0} → (past : Bool) (h now : BytesRead) (s : Stage) (lines : LinesRead) (j : Joint A) (a : Ahead)
+    → IsLooked past h now s lines j → LiesAhead a lines now.is_at_end → a ≢ WholeLine → is_over a j.place ≡ false
+    → IsBadBehind past h now s (lines.lines + 1)
+bad_at past h now s lines j WholeLine l lies other e = absurd (other refl)
+bad_at past h now s lines j TooLong l lies other e = long_line past h now s lines j l lies.0 lies.1
+bad_at past h now s lines j Unended l lies other e = unended_line past h now s lines j l lies.0 lies.1 lies.2
+bad_at past h now s lines j Nothing l lies other e = lacking past h now s lines j l lies.0 lies.1 e
 
 -- ---- a line that was taken
 pub line_taken : {A : Type 0} → (past : Bool) (h now : BytesRead) (s t : Stage) (line : List ℕ)
@@ -313,6 +333,11 @@ line_taken past h now s t line lines after j r tells l same held c goes taken =
       past_is = taken.past ∙ l.past_is;
       goes_on = subst (λ (x : LinesRead). GoesOn h now x) (sym same) goes;
     }
+
+-- a bad line is the one behind those that were passed
+pub bad_next : (past : Bool) (h now : BytesRead) (s : Stage) (n lines : ℕ) → n ≡ lines
+    → IsBadBehind past h now s (lines + 1) → IsBadBehind past h now s (n + 1)
+bad_next past h now s n lines same bad = subst (λ (k : ℕ). IsBadBehind past h now s (k + 1)) (sym same) bad
 
 -- a whole line that is refused
 pub whole_line : {A : Type 0} → (past : Bool) (h now : BytesRead) (s : Stage) (lines : LinesRead) (j : Joint A)

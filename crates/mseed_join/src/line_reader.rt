@@ -1,13 +1,13 @@
 //! Lines of what a source tells.
-ghost use Rattle.std.specs.Prelude.{◌≡◌, ◌==◌, ◌+◌, ◌-◌, ◌*◌, ◌^◌, ◌<◌, ◌≤◌, ◌++◌, [], length, take, drop, true, false};
-ghost use Rattle.std.specs.Prelude.{IfOk, OnOk, IfErr, OnErr, IfSome, IfNone, IsTrue, Ok, position};
-ghost use Rattle.std.specs.Io.KnownBytes.{IsAtEnd, ReadConsumes};
+ghost use Rattle.std.specs.Prelude.{◌≡◌, ◌==◌, ◌+◌, ◌-◌, ◌*◌, ◌^◌, ◌<◌, ◌≤◌, ◌++◌, [], length, take, drop, false, true};
+ghost use Rattle.std.specs.Prelude.{IfOk, OnOk, IfErr, IfSome, IfNone, IsTrue, Ok, position};
+ghost use Rattle.std.specs.Io.KnownBytes.{ReadConsumes};
 ghost use Rattle.mseed_stream.specs.Calls.{ReadsOn};
 ghost use Rattle.mseed_stream.specs.Device.{BytesRead, read_also};
 ghost use Rattle.mseed_stream.specs.Fault.{IsStreamFault};
 ghost use Rattle.mseed_join.specs.Joined.{HasNoEnd};
 ghost use Rattle.mseed_join.specs.private.LineReading.{Grows, IsReadBy, GoesOn, IfGoesOn, IsLineAhead, IsOpen};
-ghost use Rattle.mseed_join.specs.private.LineReading.{IsReadFault, LiesAhead};
+ghost use Rattle.mseed_join.specs.private.LineReading.{IsOneRead, LiesAhead};
 
 use mseed_audit::Memory;
 use mseed_stream::{Failed, Source, StreamFault};
@@ -115,8 +115,6 @@ impl<A: Allocator> LineReader<A> {
         // What is reported is held behind what was held before, and no line is passed.
         ensures more { Grows (R.read source.old) (R.read source.new) (R.remaining source.old) (R.remaining source.new)
             self.old self.new }
-        ensures along { (start : BytesRead) → IsReadBy start (R.read source.old) self.old
-            → IsReadBy start (R.read source.new) self.new }
         ensures goes_on { (start : BytesRead) → GoesOn start (R.read source.old) self.old
             → IfGoesOn result (GoesOn start (R.read source.new) self.new) }
         ensures fine { OnOk result ((R.read source.new).failures ≡ (R.read source.old).failures) }
@@ -208,14 +206,9 @@ impl<A: Allocator> LineReader<A> {
         requires { length self.old.held < 512 }
         ensures more { Grows (R.read source.old) (R.read source.new) (R.remaining source.old) (R.remaining source.new)
             self.old self.new }
-        ensures called { OnOk result (self.new.reads ≡ self.old.reads + 1) }
+        ensures read { IsOneRead result (R.read source.old) (R.read source.new) (R.remaining source.new) self.old
+            self.new }
         ensures turns { OnOk result (self.new.reads ≤ 2 ^ 40) }
-        ensures whole { result ≡ Ok false → (R.read source.new).is_at_end ≡ false }
-        ensures ended { result ≡ Ok true → ((R.read source.new).is_at_end ≡ true) × (self.new.held ≡ self.old.held)
-            × IsAtEnd (R.remaining source.new) }
-        ensures fine { OnOk result ((R.read source.new).failures ≡ (R.read source.old).failures) }
-        ensures fault { IfErr result (λ e. IsReadFault e self.new (R.read source.old) (R.read source.new)) }
-        ensures held { OnErr result (self.new.held ≡ self.old.held) }
         ensures beside { R.beside source.new ≡ R.beside source.old }
     {
         if self.reads == TURNS {
@@ -240,13 +233,8 @@ impl<A: Allocator> LineReader<A> {
         requires turns { self.old.reads < 2 ^ 40 }
         ensures more { Grows (R.read source.old) (R.read source.new) (R.remaining source.old) (R.remaining source.new)
             self.old self.new }
-        ensures called { self.new.reads ≡ self.old.reads + 1 }
-        ensures whole { result ≡ Ok false → (R.read source.new).is_at_end ≡ false }
-        ensures ended { result ≡ Ok true → ((R.read source.new).is_at_end ≡ true) × (self.new.held ≡ self.old.held)
-            × IsAtEnd (R.remaining source.new) }
-        ensures fine { OnOk result ((R.read source.new).failures ≡ (R.read source.old).failures) }
-        ensures fault { IfErr result (λ e. IsReadFault e self.new (R.read source.old) (R.read source.new)) }
-        ensures held { OnErr result (self.new.held ≡ self.old.held) }
+        ensures read { IsOneRead result (R.read source.old) (R.read source.new) (R.remaining source.new) self.old
+            self.new }
         ensures beside { R.beside source.new ≡ R.beside source.old }
     {
         self.reads += 1;

@@ -3,7 +3,7 @@ ghost use Rattle.std.specs.Prelude.{◌≡◌, ◌≤◌, ◌+◌, ◌^◌, Bool
 ghost use Rattle.mseed_stream.specs.Calls.{ReadsOn};
 ghost use Rattle.mseed_stream.specs.Device.{BytesRead};
 ghost use Rattle.mseed_join.specs.Reached.{Stage, start};
-ghost use Rattle.mseed_join.specs.private.Along.{IsAlong, IsNextStep};
+ghost use Rattle.mseed_join.specs.private.Along.{IsAlong, IsNextStep, is_over};
 
 use crate::joint::{Joint, JointPart, LineFault, Reported};
 use crate::law::lines_are_short;
@@ -81,16 +81,21 @@ impl<A: Allocator + Copy> Reader<A> {
                 Err(LineFault::Bad) => Err(PartsFault::Line(number)),
                 Err(LineFault::Memory) => Err(PartsFault::Memory),
             },
-            Ahead::Nothing => {
-                if self.joint.can_end() {
+            other => {
+                if self.is_over(other) {
                     Ok(None)
                 } else {
                     Err(PartsFault::Line(number))
                 }
             }
-            Ahead::TooLong => Err(PartsFault::Line(number)),
-            Ahead::Unended => Err(PartsFault::Line(number)),
         }
+    }
+
+    /// Whether what lies ahead is the input's end, where a part can end.
+    fn is_over(&self, ahead: Ahead) -> bool
+        ensures { result ≡ is_over ahead self.now.joint.place }
+    {
+        matches!(ahead, Ahead::Nothing) && self.joint.can_end()
     }
 
     /// The joint part.

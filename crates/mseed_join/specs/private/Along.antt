@@ -2,11 +2,13 @@
 use Rattle.std.specs.Prelude.{◌≡◌, ◌+◌, ℕ, List, ◌++◌, Bool, true, false, Option, Some, None, Result, Ok, Err}
 use Rattle.mseed_stream.specs.Device.{BytesRead}
 use Rattle.mseed_stream.specs.Fault.{IsStreamFault}
+use Rattle.mseed_join.specs.declared.line_reader.Ahead.{Ahead}
+use Rattle.mseed_join.specs.declared.line_reader.Ahead.TheVariants.{Line, TooLong, Unended, Nothing}
 use Rattle.mseed_join.specs.declared.joint.Place.{Place}
 use Rattle.mseed_join.specs.declared.joint.Place.TheVariants.{Start, Channels, Whole}
 use Rattle.mseed_join.specs.declared.joint.Reported.{Reported}
 use Rattle.mseed_join.specs.declared.reader.PartsFault.{PartsFault}
-use Rattle.mseed_join.specs.declared.reader.PartsFault.TheVariants.{Line, Stream, Memory}
+use Rattle.mseed_join.specs.declared.reader.PartsFault.TheVariants.{Line as BadLine, Stream, Memory}
 use Rattle.mseed_join.specs.declared.reader.Reader.{Reader}
 use Rattle.mseed_join.specs.Joined.{HasNoBadLine, IsBadLine, IsJointOf}
 use Rattle.mseed_join.specs.Reached.{AreLinesRead, Stage, parts_at}
@@ -20,6 +22,13 @@ abbrev pub can_end : Place → Bool
 can_end Start = true
 can_end (Channels last) = false
 can_end (Whole bytes has_faults) = true
+
+-- the input ends here, and so can a part
+abbrev pub is_over : Ahead → Place → Bool
+is_over Line place = false
+is_over TooLong place = false
+is_over Unended place = false
+is_over Nothing place = can_end place
 
 -- the lines that were passed are parts up to this stage, whose joint part is kept
 pub record IsAlong {A : Type 0} (past : Bool) (h now : BytesRead) (s : Stage) (r : Reader A) : Type 0 where
@@ -64,6 +73,6 @@ abbrev pub IsNextStep : {A : Type 0} → Bool → BytesRead → Stage → Result
 IsNextStep past h s (Ok (Some reported)) now r =
     (t : Stage) × (IsAlong past h now t r × IsReportedMore past s t reported × (now.is_at_end ≡ false))
 IsNextStep past h s (Ok None) now r = HasEnded past h now s r
-IsNextStep past h s (Err (Line k)) now r = IsBadBehind past h now s k
+IsNextStep past h s (Err (BadLine k)) now r = IsBadBehind past h now s k
 IsNextStep past h s (Err (Stream fault)) now r = IsStreamFault fault h now × IsFailedAt past h now s
 IsNextStep past h s (Err Memory) now r = IsStoppedAt h now s

@@ -1,7 +1,7 @@
 -- Lines that are read out of a source, and what was read and not passed yet.
 use Rattle.std.specs.Prelude.{⊤, ◌≡◌, ◌≢◌, ◌<◌, ◌≤◌, ◌^◌, ℕ, ◌+◌, Bool, true, false, List, [], ◌∷◌, ◌++◌, length, take}
-use Rattle.std.specs.Prelude.{Option, Result, Ok, Err}
-use Rattle.std.specs.Io.KnownBytes.{Consumes}
+use Rattle.std.specs.Prelude.{Option, Result, Ok, Err, OnOk, IfErr, OnErr}
+use Rattle.std.specs.Io.KnownBytes.{Consumes, IsAtEnd}
 use Rattle.mseed_stream.specs.Device.{BytesRead}
 use Rattle.mseed_stream.specs.declared.fault.StreamFault.{StreamFault}
 use Rattle.mseed_stream.specs.declared.fault.StreamFault.TheVariants.{Frame, Truncated, Read, Turns, Memory}
@@ -80,3 +80,14 @@ IsReadFault (Truncated n have) after old new = ⊥
 IsReadFault (Read n) after old new = (n ≡ after.bytes) × (new.failures ≡ old.failures + 1) × (new.is_at_end ≡ false)
 IsReadFault (Turns n) after old new = (n ≡ after.bytes) × (after.reads ≡ 2 ^ 40) × (new ≡ old)
 IsReadFault Memory after old new = ⊥
+
+-- What one read answers, by what was read of the source before and after, what that is known to have left, and what was
+-- held before and after: whether the input ended, and nothing more is held then, or why it failed.
+pub record IsOneRead (answer : Result Bool StreamFault) (old new : BytesRead) (rest : Option (List ℕ))
+    (r after : LinesRead) : Type 0 where
+  pub called : OnOk answer (after.reads ≡ r.reads + 1)
+  pub whole : answer ≡ Ok false → new.is_at_end ≡ false
+  pub ended : answer ≡ Ok true → (new.is_at_end ≡ true) × (after.held ≡ r.held) × IsAtEnd rest
+  pub fine : OnOk answer (new.failures ≡ old.failures)
+  pub fault : IfErr answer (λ e. IsReadFault e after old new)
+  pub held : OnErr answer (after.held ≡ r.held)

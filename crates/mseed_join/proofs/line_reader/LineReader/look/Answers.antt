@@ -25,12 +25,6 @@ returns-in-Some-clause-more g c =
     grows_seen (g.R.Source.read c.args.source.now) (g.R.Source.read c.loop-ahead.source) _ _ c.args.self.now
     c.loop-ahead.self c.see.new.self c.see.new.self.size c.see.ensures.stays c.loop-ahead.invariant.more
 
-pub returns-in-Some-clause-along : goal.returns-in-Some-clause-along
-unfolding returns-in-Some-clause-more
-returns-in-Some-clause-along g c start by =
-    read_by_more start (g.R.Source.read c.args.source.now) (g.R.Source.read c.loop-ahead.source) _ _ c.args.self.now
-    c.see.new.self (returns-in-Some-clause-more g c) by
-
 pub returns-in-Some-clause-reads : goal.returns-in-Some-clause-reads
 unfolding returns-in-Some-clause-more
 returns-in-Some-clause-reads g c goes_on =
@@ -55,27 +49,8 @@ returns-in-Some-clause-goes_on g c start goes =
 
 pub returns-in_err-fill-clause-more : goal.returns-in_err-fill-clause-more
 returns-in_err-fill-clause-more g c =
-    grows_through (g.R.Source.read c.args.source.now) (g.R.Source.read c.loop-ahead.source) _ _ _ _ c.args.self.now
-    c.loop-ahead.self c.see.new.self c.fill.new.self c.see.new.self.size c.see.ensures.stays c.loop-ahead.invariant.more
+    grows_through _ _ _ _ _ _ _ _ c.see.new.self _ c.see.new.self.size c.see.ensures.stays c.loop-ahead.invariant.more
     c.fill.ensures.more
-
-pub returns-in_err-fill-clause-along : goal.returns-in_err-fill-clause-along
-unfolding returns-in_err-fill-clause-more
-returns-in_err-fill-clause-along g c start by =
-    read_by_more start (g.R.Source.read c.args.source.now) (g.R.Source.read c.fill.new.source) _ _ c.args.self.now
-    c.fill.new.self (returns-in_err-fill-clause-more g c) by
-
-pub returns-in_err-fill-clause-reads : goal.returns-in_err-fill-clause-reads
-unfolding returns-in_err-fill-clause-more
-returns-in_err-fill-clause-reads g c goes_on =
-    let inv = c.loop-ahead.invariant in
-    let first : BytesRead = g.R.Source.read c.args.source.now in
-    let now : BytesRead = g.R.Source.read c.loop-ahead.source in
-    let new : BytesRead = g.R.Source.read c.fill.new.source in
-    let still = no_end_yet first now c.args.self.now c.loop-ahead.self _ _ inv.more inv.still inv.going_on goes_on in
-    reads_so_far first new _ _ _ _ _ _ (returns-in_err-fill-clause-more g c)
-    (no_end_by c.in_err-fill.field-0.0 c.fill.new.self now new c.in_err-fill.ensures.fault still)
-    (c.fill.ensures.beside ∙ inv.beside)
 
 pub returns-in_err-fill-clause-fault : goal.returns-in_err-fill-clause-fault
 returns-in_err-fill-clause-fault g c =
@@ -90,7 +65,7 @@ returns-in_err-fill-clause-fault g c =
     let more = grows_seen first now _ _ r c.loop-ahead.self seen seen.size c.see.ensures.stays inv.more in
     let same : c.from_residual.result ≡ Err fault = search rules in
     let is : (start : BytesRead) → IsReadBy start first r → GoesOn start first r → IsStreamFault fault start new =
-    λ start by goes. fault_since fault start now new seen c.fill.new.self c.in_err-fill.ensures.fault
+    λ start by goes. fault_since fault start now new seen c.fill.new.self c.in_err-fill.ensures.read.fault
     (read_by_more start first new _ _ r c.fill.new.self (returns-in_err-fill-clause-more g c) by)
     (inv.failures ∙ goes.failures)
     (not_at_end first now r seen _ _ more (λ equal. inv.still (sym stays ∙ equal))
@@ -104,24 +79,29 @@ returns-in_err-fill-clause-fault g c =
     subst (λ (a : Result Ahead StreamFault). IfErr a (λ e. (start : BytesRead) → IsReadBy start first r
     → GoesOn start first r → IsStreamFault e start new)) (sym same) is
 
+pub returns-in_err-fill-clause-reads : goal.returns-in_err-fill-clause-reads
+unfolding returns-in_err-fill-clause-more
+returns-in_err-fill-clause-reads g c goes_on =
+    let inv = c.loop-ahead.invariant in
+    let first : BytesRead = g.R.Source.read c.args.source.now in
+    let now : BytesRead = g.R.Source.read c.loop-ahead.source in
+    let new : BytesRead = g.R.Source.read c.fill.new.source in
+    let still = no_end_yet first now c.args.self.now c.loop-ahead.self _ _ inv.more inv.still inv.going_on goes_on in
+    reads_so_far first new _ _ _ _ _ _ (returns-in_err-fill-clause-more g c)
+    (no_end_by c.in_err-fill.field-0.0 c.fill.new.self now new c.in_err-fill.ensures.read.fault still)
+    (c.fill.ensures.beside ∙ inv.beside)
+
 pub returns-then-branch-clause-more : goal.returns-then-branch-clause-more
 returns-then-branch-clause-more g c =
-    grows_through (g.R.Source.read c.args.source.now) (g.R.Source.read c.loop-ahead.source) _ _ _ _ c.args.self.now
-    c.loop-ahead.self c.see.new.self c.fill.new.self c.see.new.self.size c.see.ensures.stays c.loop-ahead.invariant.more
+    grows_through _ _ _ _ _ _ _ _ c.see.new.self _ c.see.new.self.size c.see.ensures.stays c.loop-ahead.invariant.more
     c.fill.ensures.more
-
-pub returns-then-branch-clause-along : goal.returns-then-branch-clause-along
-unfolding returns-then-branch-clause-more
-returns-then-branch-clause-along g c start by =
-    read_by_more start (g.R.Source.read c.args.source.now) (g.R.Source.read c.fill.new.source) _ _ c.args.self.now
-    c.fill.new.self (returns-then-branch-clause-more g c) by
 
 pub returns-then-branch-clause-reads : goal.returns-then-branch-clause-reads
 unfolding returns-then-branch-clause-more
 returns-then-branch-clause-reads g c goes_on =
     reads_to (g.R.Source.read c.args.source.now) (g.R.Source.read c.fill.new.source) _ _ _ _ _ _
     (returns-then-branch-clause-more g c)
-    (λ end. (c.in_ok-fill.ensures.ended (ap (λ (b : Bool). Ok b) c.if-branch.true)).2)
+    (λ end. (c.in_ok-fill.ensures.read.ended (ap (λ (b : Bool). Ok b) c.if-branch.true)).2)
     (c.fill.ensures.beside ∙ c.loop-ahead.invariant.beside)
 
 pub loop-ahead-preserved : goal.loop-ahead-preserved
@@ -131,11 +111,11 @@ loop-ahead-preserved g c =
     let now : BytesRead = g.R.Source.read c.loop-ahead.source in
     let seen : LinesRead = c.see.new.self in
     let more = grows_seen first now _ _ c.args.self.now c.loop-ahead.self seen seen.size c.see.ensures.stays inv.more in
-    let called = c.in_ok-fill.ensures.called in
+    let called = c.in_ok-fill.ensures.read.called in
     record {
       more = grows_on first now _ _ _ _ c.args.self.now seen c.fill.new.self more c.fill.ensures.more;
       still = λ same. absurd (omega (arith, same, called, more.reads));
-      going_on = λ less. c.in_ok-fill.ensures.whole (ap (λ (b : Bool). Ok b) c.if-branch.false);
-      failures = c.in_ok-fill.ensures.fine ∙ inv.failures;
+      going_on = λ less. c.in_ok-fill.ensures.read.whole (ap (λ (b : Bool). Ok b) c.if-branch.false);
+      failures = c.in_ok-fill.ensures.read.fine ∙ inv.failures;
       beside = c.fill.ensures.beside ∙ inv.beside;
     }

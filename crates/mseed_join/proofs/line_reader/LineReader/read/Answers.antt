@@ -2,6 +2,7 @@ use Rattle.std.proofs.Common.{◌≡◌, ℕ, ◌+◌, ◌-◌, ◌≤◌, ◌<�
 use Rattle.std.proofs.Common.{slice_range}
 use Rattle.std.proofs.Common.{arith, length-take, length-drop, true, false, ◌==◌, inl, inr}
 use Rattle.std.proofs.lemmas.Bool.Decides.{eqb_tells}
+use Rattle.std.proofs.lemmas.Grind.{common_steps}
 use Rattle.std.proofs.lemmas.List.{append-nil}
 use Rattle.std.proofs.KnownBytes.{Consumes-nil, Consumes-kept}
 use Rattle.mseed_stream.specs.Device.{BytesRead}
@@ -69,29 +70,44 @@ returns-in-Err-clause-more g c =
       reads = ap (λ (r : LinesRead). r.reads + 1) c.self.view_is;
     }
 
-pub returns-in-Ok-clause-ended : goal.returns-in-Ok-clause-ended
+pub returns-in-Ok-clause-read : goal.returns-in-Ok-clause-read
 unfolding returns-in-Ok-clause-more
-returns-in-Ok-clause-ended g c ends =
+returns-in-Ok-clause-read g c =
     let i = c.self.inside in
     let n : ℕ = c.in-Ok.n in
     let now : List ℕ = c.pull_behind.new.buffer in
-    let test : (n == 0) ≡ true = cc ends in
-    let zero : n ≡ 0 = elim (eqb_tells n 0) [
-      | inl same ↦ same.1
-      | inr other ↦ absurd (let e : true ≡ false = sym test ∙ other.0 in cc e)
-    ] in
     let size : length now ≡ i.buffer.len = c.pull_behind.auto.buffer ∙ c.deref_mut.ensures.len in
     let room = ap (λ (r : LinesRead). r.room) c.self.view_is in
     let some : 0 < length (drop i.end now) =
     omega (arith, length-drop i.end now, size, room, c.requires.room, c.self.invariant.0) in
-    let held : List ℕ = c.args.self.now.held in (
-      ap (λ (h : BytesRead). h.is_at_end) c.in-Ok.ensures.read
-          ∙ reported_end (g.R.Source.read c.args.source.now).is_at_end n (drop i.end now) zero some,
-      (returns-in-Ok-clause-more g c).held
-          ∙ (ap (λ (k : ℕ). held ++ take k (drop i.end now)) zero ∙ append-nil held),
-      c.in-Ok.ensures.known.1 zero some,
-    )
+    let held : List ℕ = c.args.self.now.held in
+    record {
+      called = ap (λ (r : LinesRead). r.reads + 1) c.self.view_is;
+      whole = grind (arith, common_steps);
+      ended = λ ends.
+          let test : (n == 0) ≡ true = cc ends in
+          let zero : n ≡ 0 = elim (eqb_tells n 0) [
+            | inl same ↦ same.1
+            | inr other ↦ absurd (let e : true ≡ false = sym test ∙ other.0 in cc e)
+          ] in (
+            ap (λ (h : BytesRead). h.is_at_end) c.in-Ok.ensures.read
+                ∙ reported_end (g.R.Source.read c.args.source.now).is_at_end n (drop i.end now) zero some,
+            (returns-in-Ok-clause-more g c).held
+                ∙ (ap (λ (k : ℕ). held ++ take k (drop i.end now)) zero ∙ append-nil held),
+            c.in-Ok.ensures.known.1 zero some,
+          );
+      fine = omega (arith, ap (λ (h : BytesRead). h.failures) c.in-Ok.ensures.read);
+      fault = tt;
+      held = tt;
+    }
 
-pub returns-in-Err-clause-held : goal.returns-in-Err-clause-held
+pub returns-in-Err-clause-read : goal.returns-in-Err-clause-read
 unfolding returns-in-Err-clause-more
-returns-in-Err-clause-held g c = (returns-in-Err-clause-more g c).held ∙ append-nil c.args.self.now.held
+returns-in-Err-clause-read g c = record {
+  called = tt;
+  whole = λ e. cc e;
+  ended = λ e. cc e;
+  fine = tt;
+  fault = grind (arith, common_steps);
+  held = (returns-in-Err-clause-more g c).held ∙ append-nil c.args.self.now.held;
+}

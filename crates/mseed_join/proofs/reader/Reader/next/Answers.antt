@@ -1,42 +1,34 @@
-use Rattle.std.proofs.Common.{◌≡◌, ◌≢◌, ◌+◌, ◌≤◌, ◌++◌, ℕ, List, [], Bool, true, length, arith, refl, sym, ap}
-use Rattle.std.proofs.Common.{subst, take, ◌∙◌}
+use Rattle.std.proofs.Common.{◌≡◌, ◌++◌, ℕ, List, Bool, arith, refl, sym, ap}
+use Rattle.std.proofs.Common.{subst, ◌∙◌}
 use Rattle.mseed_stream.specs.Device.{BytesRead}
-use Rattle.mseed_join.specs.Joined.{HasNoEnd}
-use Rattle.mseed_join.specs.private.Along.{IsBadBehind}
 use Rattle.mseed_join.specs.private.LineReading.{GoesOn, IsLineAhead}
 use Rattle.mseed_join.specs.private.Taking.{IsReportedMore}
-use Rattle.mseed_join.proofs.Along.{looked, looked_few, whole_line, long_line, unended_line, lacking, has_ended}
-use Rattle.mseed_join.proofs.Along.{fails, line_taken, some_read}
+use Rattle.mseed_join.proofs.Along.{bad_at, bad_next, fails, line_taken, looked, looked_few, over_at, some_read, whole_line}
 use Rattle.mseed_join.proofs.reader.Reader.next.Goals as goal
 
 pub overflow_add-number : goal.overflow_add-number
 overflow_add-number g c =
     let known = c.requires in
-    let l = looked known.0 known.1 (g.R.Source.read c.args.source.now) (g.R.Source.read c.look.new.source) _ _
-    known.2 c.args.self.now c.look.new.self known.3 c.look.ensures.more (c.look.ensures.along known.1 known.3.by) in
+    let l = looked known.0 known.1 _ _ _ _ known.2 _ _ known.3 c.look.ensures.more in
     omega (arith, c.lines-number.ensures.value, (looked_few _ _ _ _ _ _ l c.lines-number.ensures.few).1)
 
 pub take_line-requires-clause-parts : goal.take_line-requires-clause-parts
 take_line-requires-clause-parts g c =
     let known = c.requires in
-    let l = looked known.0 known.1 (g.R.Source.read c.args.source.now) (g.R.Source.read c.look.new.source) _ _
-    known.2 c.args.self.now c.look.new.self known.3 c.look.ensures.more (c.look.ensures.along known.1 known.3.by) in
+    let l = looked known.0 known.1 _ _ _ _ known.2 _ _ known.3 c.look.ensures.more in
     omega (arith, (looked_few _ _ _ _ _ _ l c.lines-number.ensures.few).0)
 
 pub returns-in-Err-clause-step : goal.returns-in-Err-clause-step
 returns-in-Err-clause-step g c = λ past h s along.
-    let now : BytesRead = g.R.Source.read c.look.new.source in
-    let l = looked past h (g.R.Source.read c.args.source.now) now _ _ s c.args.self.now c.look.new.self along
-    c.look.ensures.more (c.look.ensures.along h along.by) in (
+    let l = looked past h _ _ _ _ s _ _ along c.look.ensures.more in (
       c.in-Err.ensures.fault h along.by along.goes_on,
-      fails past h now s c.look.new.self c.args.self.now.joint l c.in-Err.ensures.open,
+      fails past h _ s c.look.new.self c.args.self.now.joint l c.in-Err.ensures.open,
     )
 
 pub returns-in-Ok-take_line-clause-step : goal.returns-in-Ok-take_line-clause-step
 returns-in-Ok-take_line-clause-step g c = λ past h s along.
     let now : BytesRead = g.R.Source.read c.look.new.source in
-    let l = looked past h (g.R.Source.read c.args.source.now) now _ _ s c.args.self.now c.look.new.self along
-    c.look.ensures.more (c.look.ensures.along h along.by) in
+    let l = looked past h _ now _ _ s _ _ along c.look.ensures.more in
     let step = c.in-Ok-take_line.ensures.step l.by.passed s l.read in
     let goes = c.in-Ok.ensures.goes_on h along.goes_on in
     let lies = c.in-Ok.ensures.ahead in
@@ -57,60 +49,27 @@ returns-in-Ok-take_line-clause-step g c = λ past h s along.
 
 pub returns-in-Err-Bad-clause-step : goal.returns-in-Err-Bad-clause-step
 returns-in-Err-Bad-clause-step g c = λ past h s along.
-    let now : BytesRead = g.R.Source.read c.look.new.source in
-    let l = looked past h (g.R.Source.read c.args.source.now) now _ _ s c.args.self.now c.look.new.self along
-    c.look.ensures.more (c.look.ensures.along h along.by) in
+    let l = looked past h _ _ _ _ s _ _ along c.look.ensures.more in
     let refused = rw c.in-Err-Bad.field-0-is at c.in-Err-Bad.ensures.step l.by.passed s l.read in
     let lies = c.in-Ok.ensures.ahead in
     let line : IsLineAhead c.look.new.self.size c.look.new.self.held = rw c.in-Line.is at lies in
-    subst (λ (n : ℕ). IsBadBehind past h now s (n + 1)) (sym c.lines-number.ensures.value)
-    (whole_line past h now s c.look.new.self c.args.self.now.joint c.line.result.now l line c.line.ensures refused)
+    bad_next past h _ s _ _ c.lines-number.ensures.value
+    (whole_line past h _ s c.look.new.self c.args.self.now.joint c.line.result.now l line c.line.ensures refused)
 
-pub returns-then-can_end-clause-step : goal.returns-then-can_end-clause-step
-returns-then-can_end-clause-step g c = λ past h s along.
-    let now : BytesRead = g.R.Source.read c.look.new.source in
-    let l = looked past h (g.R.Source.read c.args.source.now) now _ _ s c.args.self.now c.look.new.self along
-    c.look.ensures.more (c.look.ensures.along h along.by) in
-    let lies = c.in-Ok.ensures.ahead in
-    let none : (now.is_at_end ≡ true) × (c.look.new.self.held ≡ []) = rw c.in-Nothing.is at lies in
-    has_ended past h now s _ l none.0 none.1 (sym c.can_end.ensures ∙ c.if-can_end.true)
+pub returns-then-is_over-clause-step : goal.returns-then-is_over-clause-step
+returns-then-is_over-clause-step g c = λ past h s along.
+    let l = looked past h _ _ _ _ s _ _ along c.look.ensures.more in
+    over_at past h _ s _ c.in-Ok.ahead l c.in-Ok.ensures.ahead (sym c.is_over.ensures ∙ c.if-is_over.true)
 
-pub returns-else-can_end-clause-step : goal.returns-else-can_end-clause-step
-returns-else-can_end-clause-step g c = λ past h s along.
-    let now : BytesRead = g.R.Source.read c.look.new.source in
-    let l = looked past h (g.R.Source.read c.args.source.now) now _ _ s c.args.self.now c.look.new.self along
-    c.look.ensures.more (c.look.ensures.along h along.by) in
-    let lies = c.in-Ok.ensures.ahead in
-    let none : (now.is_at_end ≡ true) × (c.look.new.self.held ≡ []) = rw c.in-Nothing.is at lies in
-    subst (λ (n : ℕ). IsBadBehind past h now s (n + 1)) (sym c.lines-number.ensures.value)
-    (lacking past h now s c.look.new.self c.args.self.now.joint l none.0 none.1
-    (sym c.can_end.ensures ∙ c.if-can_end.false))
-
-pub returns-in-TooLong-clause-step : goal.returns-in-TooLong-clause-step
-returns-in-TooLong-clause-step g c = λ past h s along.
-    let now : BytesRead = g.R.Source.read c.look.new.source in
-    let l = looked past h (g.R.Source.read c.args.source.now) now _ _ s c.args.self.now c.look.new.self along
-    c.look.ensures.more (c.look.ensures.along h along.by) in
-    let lies = c.in-Ok.ensures.ahead in
-    let long : HasNoEnd (take 512 c.look.new.self.held) × (512 ≤ length c.look.new.self.held) =
-    rw c.in-TooLong.is at lies in
-    subst (λ (n : ℕ). IsBadBehind past h now s (n + 1)) (sym c.lines-number.ensures.value)
-    (long_line past h now s c.look.new.self c.args.self.now.joint l long.0 long.1)
-
-pub returns-in-Unended-clause-step : goal.returns-in-Unended-clause-step
-returns-in-Unended-clause-step g c = λ past h s along.
-    let now : BytesRead = g.R.Source.read c.look.new.source in
-    let l = looked past h (g.R.Source.read c.args.source.now) now _ _ s c.args.self.now c.look.new.self along
-    c.look.ensures.more (c.look.ensures.along h along.by) in
-    let lies = c.in-Ok.ensures.ahead in
-    let left : (now.is_at_end ≡ true) × HasNoEnd c.look.new.self.held × (c.look.new.self.held ≢ []) =
-    rw c.in-Unended.is at lies in
-    subst (λ (n : ℕ). IsBadBehind past h now s (n + 1)) (sym c.lines-number.ensures.value)
-    (unended_line past h now s c.look.new.self c.args.self.now.joint l left.0 left.1 left.2)
+pub returns-else-is_over-clause-step : goal.returns-else-is_over-clause-step
+returns-else-is_over-clause-step g c = λ past h s along.
+    let l = looked past h _ _ _ _ s _ _ along c.look.ensures.more in
+    bad_next past h _ s _ _ c.lines-number.ensures.value
+    (bad_at past h _ s c.look.new.self c.args.self.now.joint c.in-Ok.ahead l c.in-Ok.ensures.ahead
+    c.in_default.not-Line (sym c.is_over.ensures ∙ c.if-is_over.false))
 
 pub returns-in-Ok-take_line-clause-few : goal.returns-in-Ok-take_line-clause-few
 returns-in-Ok-take_line-clause-few g c = λ reported is.
     let known = c.requires in
-    let l = looked known.0 known.1 (g.R.Source.read c.args.source.now) (g.R.Source.read c.look.new.source) _ _
-    known.2 c.args.self.now c.look.new.self known.3 c.look.ensures.more (c.look.ensures.along known.1 known.3.by) in
+    let l = looked known.0 known.1 _ _ _ _ known.2 _ _ known.3 c.look.ensures.more in
     omega (arith, c.look.ensures.more.lines, (looked_few _ _ _ _ _ _ l c.lines-number.ensures.few).1)
