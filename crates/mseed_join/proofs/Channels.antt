@@ -58,12 +58,12 @@ count_more cs n c h is =
 
 -- the lines of a part, in their order
 part_joined : (text header channels counts faults end : List ℕ)
-    → text ++ header ++ channels ++ (counts ++ faults ++ end) ≡ text ++ (header ++ channels ++ counts ++ faults ++ end)
+    → text ++ header ++ channels ++ counts ++ (faults ++ end) ≡ text ++ (header ++ channels ++ counts ++ faults ++ end)
 part_joined text header channels counts faults end = simp append_assoc
 
 pub part_lines : (channels : List (List ℕ × Channel)) (records bytes faults : ℕ) (end : Option StreamFault)
     (text : List ℕ)
-    → text ++ header_line ++ channel_lines channels ++ (counts_line records bytes ++ faults_line faults ++ end_line end)
+    → text ++ header_line ++ channel_lines channels ++ counts_line records bytes ++ (faults_line faults ++ end_line end)
     ≡ text ++ part_text (record {
       part = record { channels = channels; records = records; bytes = bytes };
       faults = faults;

@@ -36,13 +36,13 @@ verdicts_more cs n c v first old new h is verdict before one =
 
 -- the text of an audit, in its order
 text_joined : (text verdicts total faults end : List ℕ)
-    → text ++ verdicts ++ (total ++ faults ++ end) ≡ text ++ (verdicts ++ total ++ faults ++ end)
+    → text ++ verdicts ++ total ++ (faults ++ end) ≡ text ++ (verdicts ++ total ++ faults ++ end)
 text_joined text verdicts total faults end = simp append_assoc
 
 pub join_lines : (channels : List (List ℕ × Channel)) (records bytes faults : ℕ) (end : Option StreamFault)
     (text : List ℕ)
-    → text ++ verdict_lines (map verdict_at channels)
-    ++ (total_line records (length channels) ++ faults_line faults ++ end_line end)
+    → text ++ verdict_lines (map verdict_at channels) ++ total_line records (length channels)
+    ++ (faults_line faults ++ end_line end)
     ≡ text ++ join_text (record {
       part = record { channels = channels; records = records; bytes = bytes };
       faults = faults;

@@ -1,9 +1,9 @@
 //! The text of a part, and of the audit that it is the part of, written.
 ghost use Rattle.std.specs.Prelude.{◌≡◌, ◌++◌, ℕ, OnOk, map};
 ghost use Rattle.mseed_stream.specs.Device.{IsPrefixOf};
-ghost use Rattle.mseed_audit.specs.Text.{end_line, total_line, verdict_lines};
+ghost use Rattle.mseed_audit.specs.Text.{end_line, verdict_lines};
 ghost use Rattle.mseed_join.specs.Joined.{join_text, verdict_at};
-ghost use Rattle.mseed_join.specs.Lines.{counts_line, faults_line};
+ghost use Rattle.mseed_join.specs.Lines.{faults_line};
 ghost use Rattle.mseed_join.specs.Written.{channel_lines, part_text};
 
 use crate::writing::{HEADER, push_channel_line, push_counts_line, push_faults_line};
@@ -31,7 +31,8 @@ pub(crate) fn push_part<A: Allocator>(
 {
     text.extend_from_slice(HEADER)?;
     push_channels(text, channels)?;
-    push_ending(text, records, bytes, faults, end)
+    push_counts_line(text, records, bytes)?;
+    push_faults(text, faults, end)
 }
 
 /// Adds a line for each channel.
@@ -48,31 +49,16 @@ fn push_channels<A: Allocator>(
     Ok(())
 }
 
-/// Adds the lines behind those of the channels.
-pub(crate) fn push_ending<A: Allocator>(
+/// Adds the lines of faults: how many lie behind, and that of the one at the end, if there is one.
+fn push_faults<A: Allocator>(
     text: &mut Vec<u8, A>,
-    records: u64,
-    bytes: u64,
     faults: u64,
     end: &Option<StreamFault>,
 ) -> Result<(), AllocError>
-    ensures ok { OnOk result (text.new.items
-        ≡ text.old.items ++ (counts_line records bytes ++ faults_line faults ++ end_line end.now)) }
+    ensures ok { OnOk result (text.new.items ≡ text.old.items ++ (faults_line faults ++ end_line end.now)) }
     ensures prefix { IsPrefixOf text.old.items text.new.items }
 {
-    push_counts_line(text, records, bytes)?;
     push_faults_line(text, faults)?;
-    push_end_line(text, end)
-}
-
-/// Adds the line of the fault at the end, if there is one.
-fn push_end_line<A: Allocator>(
-    text: &mut Vec<u8, A>,
-    end: &Option<StreamFault>,
-) -> Result<(), AllocError>
-    ensures ok { OnOk result (text.new.items ≡ text.old.items ++ end_line end.now) }
-    ensures prefix { IsPrefixOf text.old.items text.new.items }
-{
     match end {
         Some(fault) => push_fault_line(text, fault),
         None => Ok(()),
@@ -96,7 +82,8 @@ pub(crate) fn push_join<A: Allocator>(
     ensures prefix { IsPrefixOf text.old.items text.new.items }
 {
     push_verdicts(text, channels)?;
-    push_totals(text, records, channels.len() as u64, faults, end)
+    push_total_line(text, records, channels.len() as u64)?;
+    push_faults(text, faults, end)
 }
 
 /// Adds a line for the verdict on each channel.
@@ -111,21 +98,4 @@ fn push_verdicts<A: Allocator>(
         push_verdict_line(text, codes, &channel.verdict())?;
     }
     Ok(())
-}
-
-/// Adds the lines behind those of the verdicts.
-fn push_totals<A: Allocator>(
-    text: &mut Vec<u8, A>,
-    records: u64,
-    channels: u64,
-    faults: u64,
-    end: &Option<StreamFault>,
-) -> Result<(), AllocError>
-    ensures ok { OnOk result (text.new.items
-        ≡ text.old.items ++ (total_line records channels ++ faults_line faults ++ end_line end.now)) }
-    ensures prefix { IsPrefixOf text.old.items text.new.items }
-{
-    push_total_line(text, records, channels)?;
-    push_faults_line(text, faults)?;
-    push_end_line(text, end)
 }

@@ -1,7 +1,6 @@
 //! The lines of a part, written.
-ghost use Rattle.std.specs.Prelude.{◌≡◌, ◌++◌, OnOk, codes, decimal};
+ghost use Rattle.std.specs.Prelude.{◌≡◌, ◌++◌, List, OnOk, codes, decimal, ℕ};
 ghost use Rattle.mseed_stream.specs.Device.{IsPrefixOf};
-ghost use Rattle.mseed_audit.specs.declared.channel.Findings.{Findings};
 ghost use Rattle.mseed_join.specs.Lines.{key_text, leap_text, head_text, tail_text, text_or_none};
 ghost use Rattle.mseed_join.specs.Lines.{first_text, findings_text, channel_line, counts_line, faults_line};
 
@@ -101,62 +100,11 @@ fn push_findings<A: Allocator>(text: &mut Vec<u8, A>, findings: &Findings) -> Re
     ensures ok { OnOk result (text.new.items ≡ text.old.items ++ findings_text findings.now) }
     ensures prefix { IsPrefixOf text.old.items text.new.items }
 {
+    push_known(text, b" head ", &findings.head())?;
+    push_known(text, b" tail ", &findings.tail())?;
     match findings {
-        Findings::Nothing { head, tail } => push_nothing(text, head, tail),
-        Findings::Counted {
-            count,
-            first,
-            head,
-            tail,
-        } => {
-            push_head_or_none(text, head)?;
-            push_tail_or_none(text, tail)?;
-            push_first(text, *count, first)
-        }
-    }
-}
-
-/// Adds how a channel begins and ends of which nothing is found.
-fn push_nothing<A: Allocator>(
-    text: &mut Vec<u8, A>,
-    head: &Head,
-    tail: &Tail,
-) -> Result<(), AllocError>
-    ensures ok { OnOk result (text.new.items ≡ text.old.items ++ findings_text (Findings.Nothing head.now tail.now)) }
-    ensures prefix { IsPrefixOf text.old.items text.new.items }
-{
-    push_head(text, head)?;
-    push_tail(text, tail)?;
-    push_pieces(text, &[Words(b" findings 0")])
-}
-
-/// Adds how a channel begins, or `none`.
-fn push_head_or_none<A: Allocator>(
-    text: &mut Vec<u8, A>,
-    head: &Option<Head>,
-) -> Result<(), AllocError>
-    ensures ok { OnOk result (text.new.items
-        ≡ text.old.items ++ (codes " head " ++ text_or_none head_text head.now)) }
-    ensures prefix { IsPrefixOf text.old.items text.new.items }
-{
-    match head {
-        Some(head) => push_head(text, head),
-        None => push_pieces(text, &[Words(b" head none")]),
-    }
-}
-
-/// Adds how a channel ends, or `none`.
-fn push_tail_or_none<A: Allocator>(
-    text: &mut Vec<u8, A>,
-    tail: &Option<Tail>,
-) -> Result<(), AllocError>
-    ensures ok { OnOk result (text.new.items
-        ≡ text.old.items ++ (codes " tail " ++ text_or_none tail_text tail.now)) }
-    ensures prefix { IsPrefixOf text.old.items text.new.items }
-{
-    match tail {
-        Some(tail) => push_tail(text, tail),
-        None => push_pieces(text, &[Words(b" tail none")]),
+        Findings::Nothing { .. } => push_pieces(text, &[Words(b" findings 0")]),
+        Findings::Counted { count, first, .. } => push_first(text, *count, first),
     }
 }
 
@@ -185,47 +133,72 @@ fn push_first<A: Allocator>(
     push_why(text, &first.why)
 }
 
-/// Adds how a channel begins.
-fn push_head<A: Allocator>(text: &mut Vec<u8, A>, head: &Head) -> Result<(), AllocError>
-    ensures ok { OnOk result (text.new.items ≡ text.old.items ++ (codes " head " ++ head_text head.now)) }
-    ensures prefix { IsPrefixOf text.old.items text.new.items }
-{
-    push_pieces(
-        text,
-        &[
-            Words(b" head "),
-            Count(head.number),
-            Words(b" "),
-            Count(head.offset),
-            Words(b" "),
-            Words(Buffer::new().format(head.start.get()).as_bytes()),
-            Words(b" "),
-            Count(u64::from(head.rate.num())),
-            Words(b"/"),
-            Count(u64::from(head.rate.den())),
-        ],
-    )
+/// How a channel begins, or how it ends.
+trait HeadOrTail {
+    // Its text.
+    ghost spelled: { Self → List ℕ };
+
+    /// Adds its text.
+    fn push_to<A: Allocator>(&self, text: &mut Vec<u8, A>) -> Result<(), AllocError>
+        ensures ok { OnOk result (text.new.items ≡ text.old.items ++ spelled self.now) }
+        ensures prefix { IsPrefixOf text.old.items text.new.items };
 }
 
-/// Adds how a channel ends.
-fn push_tail<A: Allocator>(text: &mut Vec<u8, A>, tail: &Tail) -> Result<(), AllocError>
-    ensures ok { OnOk result (text.new.items ≡ text.old.items ++ (codes " tail " ++ tail_text tail.now)) }
+impl HeadOrTail for Head {
+    ghost spelled = { head_text };
+
+    fn push_to<A: Allocator>(&self, text: &mut Vec<u8, A>) -> Result<(), AllocError> {
+        push_pieces(
+            text,
+            &[
+                Count(self.number),
+                Words(b" "),
+                Count(self.offset),
+                Words(b" "),
+                Words(Buffer::new().format(self.start.get()).as_bytes()),
+                Words(b" "),
+                Count(u64::from(self.rate.num())),
+                Words(b"/"),
+                Count(u64::from(self.rate.den())),
+            ],
+        )
+    }
+}
+
+impl HeadOrTail for Tail {
+    ghost spelled = { tail_text };
+
+    fn push_to<A: Allocator>(&self, text: &mut Vec<u8, A>) -> Result<(), AllocError> {
+        push_pieces(
+            text,
+            &[
+                Words(Buffer::new().format(self.start.get()).as_bytes()),
+                Words(b" "),
+                Count(u64::from(self.samples)),
+                Words(b" "),
+                Count(u64::from(self.rate.num())),
+                Words(b"/"),
+                Count(u64::from(self.rate.den())),
+            ],
+        )?;
+        push_pieces(text, &[Words(b" "), Words(leap_word(self.leap))])
+    }
+}
+
+/// Adds a word, and behind it how a channel begins or ends, or `none`.
+fn push_known<A: Allocator, E: HeadOrTail>(
+    text: &mut Vec<u8, A>,
+    word: &[u8],
+    end: &Option<E>,
+) -> Result<(), AllocError>
+    ensures ok { OnOk result (text.new.items ≡ text.old.items ++ (word.now ++ text_or_none E.spelled end.now)) }
     ensures prefix { IsPrefixOf text.old.items text.new.items }
 {
-    push_pieces(
-        text,
-        &[
-            Words(b" tail "),
-            Words(Buffer::new().format(tail.start.get()).as_bytes()),
-            Words(b" "),
-            Count(u64::from(tail.samples)),
-            Words(b" "),
-            Count(u64::from(tail.rate.num())),
-            Words(b"/"),
-            Count(u64::from(tail.rate.den())),
-        ],
-    )?;
-    push_pieces(text, &[Words(b" "), Words(leap_word(tail.leap))])
+    push_pieces(text, &[Words(word)])?;
+    match end {
+        Some(end) => end.push_to(text),
+        None => push_pieces(text, &[Words(b"none")]),
+    }
 }
 
 /// The word for the leap seconds that a record bears.
