@@ -1,7 +1,7 @@
 -- What is read is what is written.
-use Rattle.std.proofs.Common.{◌≡◌, ℕ, zero, suc, ◌-◌, ◌^◌, ◌<◌, ◌≤◌, ◌&&◌, nat_lt, nat_eq, List, ◌++◌, Bool, true}
-use Rattle.std.proofs.Common.{false, Option, Some, None, ℤ, pos, negsuc, refl, sym, ap, ◌∙◌, subst, arith, append_assoc}
-use Rattle.std.proofs.Common.{IfSome}
+use Rattle.std.proofs.Common.{◌≡◌, ℕ, zero, suc, ◌-◌, ◌^◌, ◌<◌, ◌≤◌, ◌&&◌, nat_lt, nat_eq, List, [], ◌∷◌, ◌++◌, Bool}
+use Rattle.std.proofs.Common.{true, false, Option, Some, None, ℤ, pos, negsuc, refl, sym, ap, ◌∙◌, subst, arith}
+use Rattle.std.proofs.Common.{append_assoc, IfSome}
 use Rattle.std.specs.Prelude.{decimal, codes}
 use Rattle.std.specs.Fmt.{signed_decimal}
 use Rattle.std.specs.Cmp.Lexicographic.{same_text}
@@ -37,12 +37,12 @@ use Rattle.mseed_join.specs.Lines.{key_text, leap_text, head_text, tail_text, te
 use Rattle.mseed_join.specs.Lines.{counts_line, faults_line, IsWord, HasHead, HasTail, HasReadFault, HasWhy, HasFinding}
 use Rattle.mseed_join.specs.Lines.{HasFindings, HasChannelLine, HasCountsLine, HasFaultsLine, HasFrameFault}
 use Rattle.mseed_join.specs.Lines.{HasFaultLine, IsFaultBehind}
-use Rattle.mseed_join.specs.private.Reading.{◌>>=◌, else_by, after, word_at, number_at, behind_at, counted_at, ratio_at}
-use Rattle.mseed_join.specs.private.Reading.{start_at, sample_at, leap_at, some_head_at, some_tail_at, or_none_at}
-use Rattle.mseed_join.specs.private.Reading.{head_at, tail_at, time_at, bad_word_at, last_differs_at, read_fault_at}
-use Rattle.mseed_join.specs.private.Reading.{timed_at, why_at, first_at, counted_findings_at, findings_at, ends, key_at}
-use Rattle.mseed_join.specs.private.Reading.{channel_at, counts_at, faults_at, frame_fault_at, stream_fault_at}
-use Rattle.mseed_join.specs.private.Reading.{fault_at}
+use Rattle.mseed_join.specs.private.Reading.{◌>>=◌, else_by, after, word_at, named_at, number_at, behind_at, counted_at}
+use Rattle.mseed_join.specs.private.Reading.{ratio_at, start_at, sample_at, leap_at, some_head_at, some_tail_at}
+use Rattle.mseed_join.specs.private.Reading.{or_none_at, head_at, tail_at, time_at, bad_word_at, last_differs_at}
+use Rattle.mseed_join.specs.private.Reading.{read_fault_at, timed_at, why_at, first_at, counted_findings_at}
+use Rattle.mseed_join.specs.private.Reading.{findings_at, ends, key_at, channel_at, counts_at, faults_at}
+use Rattle.mseed_join.specs.private.Reading.{frame_fault_at, stream_fault_at, fault_at}
 use Rattle.mseed_join.proofs.Digits.{some_is, word_behind, IsNumber, number_behind, IsWithin, IsInteger, integer_behind}
 use Rattle.mseed_join.proofs.Prefixes.{ratio_then, head_then, head_leading, tail_then, tail_leading, first_then}
 use Rattle.mseed_join.proofs.Prefixes.{findings_then}
@@ -91,6 +91,14 @@ word_spelled {X} text Fits word x is fits bytes y e =
     bind_then (IsRead text Fits bytes y) (after word bytes) _ y e (λ rest read more.
     subst (λ (z : X × List ℕ). IsRead text Fits bytes z) (some_is (x, rest) y more)
     (word_behind word bytes rest read ∙ ap (λ (w : List ℕ). w ++ rest) is, fits))
+
+-- one of these words
+named_spelled : {X : Type 0} (text : X → List ℕ) (xs : List X) (bytes : List ℕ) (y : X × List ℕ)
+    → named_at text xs bytes ≡ Some y → IsRead text Any bytes y
+named_spelled text [] bytes y e = absurd (cc e)
+named_spelled text (x ∷ xs) bytes y e =
+    else_then (IsRead text Any bytes y) _ _ y e (word_spelled text Any (text x) x refl tt bytes y)
+    (named_spelled text xs bytes y)
 
 -- a number behind a word
 record IsBehind (word : List ℕ) (largest : ℕ) (bytes : List ℕ) (x : ℕ × List ℕ) : Type 0 where
@@ -162,12 +170,7 @@ sample_spelled bytes y e =
 
 leap_spelled : (bytes : List ℕ) (y : Leap × List ℕ) → leap_at bytes ≡ Some y → IsRead leap_text Any bytes y
 unfolding leap_at
-leap_spelled bytes y e =
-    let P : Type 0 = IsRead leap_text Any bytes y in
-    else_then P _ _ y e (word_spelled leap_text Any (codes "none") NoLeap refl tt bytes y) (λ e2.
-    else_then P _ _ y e2 (word_spelled leap_text Any (codes "positive") Positive refl tt bytes y) (λ e3.
-    else_then P _ _ y e3 (word_spelled leap_text Any (codes "negative") Negative refl tt bytes y)
-    (word_spelled leap_text Any (codes "both") Both refl tt bytes y)))
+leap_spelled bytes y e = named_spelled leap_text (NoLeap ∷ Positive ∷ Negative ∷ Both ∷ []) bytes y e
 
 -- ---- heads and tails
 some_head_spelled : (bytes : List ℕ) (y : Head × List ℕ) → some_head_at bytes ≡ Some y
@@ -176,49 +179,48 @@ unfolding some_head_at
 some_head_spelled bytes y e =
     let P : Type 0 = IsRead head_text HasHead bytes y in
     bind_then P (number_at (2 ^ 63 - 1) bytes) _ y e (λ number is1 e1.
-    bind_then P (after (codes " ") number.1) _ y e1 (λ r1 is2 e2.
-    bind_then P (number_at (2 ^ 63 - 1) r1) _ y e2 (λ offset is3 e3.
-    bind_then P (after (codes " ") offset.1) _ y e3 (λ r2 is4 e4.
-    bind_then P (start_at r2) _ y e4 (λ start is5 e5. bind_then P (after (codes " ") start.1) _ y e5 (λ r3 is6 e6.
-    bind_then P (ratio_at r3) _ y e6 (λ rate is7 e7.
+    bind_then P (behind_at (codes " ") (2 ^ 63 - 1) number.1) _ y e1 (λ offset is2 e2.
+    bind_then P (after (codes " ") offset.1) _ y e2 (λ r2 is3 e3.
+    bind_then P (start_at r2) _ y e3 (λ start is4 e4. bind_then P (after (codes " ") start.1) _ y e4 (λ r3 is5 e5.
+    bind_then P (ratio_at r3) _ y e5 (λ rate is6 e6.
     let n : IsNumber (2 ^ 63 - 1) bytes number = number_behind (2 ^ 63 - 1) bytes number (omega arith) is1 in
-    let o : IsNumber (2 ^ 63 - 1) r1 offset = number_behind (2 ^ 63 - 1) r1 offset (omega arith) is3 in
-    let s = start_spelled r2 start is5 in
-    let r = ratio_spelled r3 rate is7 in
+    let o : IsBehind (codes " ") (2 ^ 63 - 1) number.1 offset =
+    behind_spelled (codes " ") (2 ^ 63 - 1) number.1 offset (omega arith) is2 in
+    let s = start_spelled r2 start is4 in
+    let r = ratio_spelled r3 rate is6 in
     let h : Head = record { number = number.0; offset = offset.0; start = start.0; rate = rate.0 } in
-    let t6 = leading (codes " ") start.1 r3 (ratio_then rate.0 rate.1) (word_behind (codes " ") start.1 r3 is6) r.0 in
-    let t5 = leading (signed_decimal start.0) r2 start.1 _ s.0 t6 in
-    let t4 = leading (codes " ") offset.1 r2 _ (word_behind (codes " ") offset.1 r2 is4) t5 in
-    let t3 = leading (decimal offset.0) r1 offset.1 _ o.is t4 in
-    let t2 = leading (codes " ") number.1 r1 _ (word_behind (codes " ") number.1 r1 is2) t3 in
+    let t5 = leading (codes " ") start.1 r3 (ratio_then rate.0 rate.1) (word_behind (codes " ") start.1 r3 is5) r.0 in
+    let t4 = leading (signed_decimal start.0) r2 start.1 _ s.0 t5 in
+    let t3 = leading (codes " ") offset.1 r2 _ (word_behind (codes " ") offset.1 r2 is3) t4 in
+    let t2 = o.is ∙ ap (λ (z : List ℕ). codes " " ++ (decimal offset.0 ++ z)) t3 in
     let t1 : bytes ≡ head_then h rate.1 = leading (decimal number.0) bytes number.1 _ n.is t2 in
     let fits : HasHead h =
     record { number = omega (arith, n.bounded); offset = omega (arith, o.bounded); start = s.1; rate = r.1 } in
-    subst (λ (z : Head × List ℕ). IsRead head_text HasHead bytes z) (some_is (h, rate.1) y e7)
-    (t1 ∙ sym (head_leading h rate.1), fits))))))))
+    subst (λ (z : Head × List ℕ). IsRead head_text HasHead bytes z) (some_is (h, rate.1) y e6)
+    (t1 ∙ sym (head_leading h rate.1), fits)))))))
 
 some_tail_spelled : (bytes : List ℕ) (y : Tail × List ℕ) → some_tail_at bytes ≡ Some y
     → IsRead tail_text HasTail bytes y
 unfolding some_tail_at
 some_tail_spelled bytes y e =
     let P : Type 0 = IsRead tail_text HasTail bytes y in
-    bind_then P (start_at bytes) _ y e (λ start is1 e1. bind_then P (after (codes " ") start.1) _ y e1 (λ r1 is2 e2.
-    bind_then P (number_at (2 ^ 16 - 1) r1) _ y e2 (λ samples is3 e3.
-    bind_then P (after (codes " ") samples.1) _ y e3 (λ r2 is4 e4.
-    bind_then P (ratio_at r2) _ y e4 (λ rate is5 e5. bind_then P (after (codes " ") rate.1) _ y e5 (λ r3 is6 e6.
-    bind_then P (leap_at r3) _ y e6 (λ leap is7 e7.
+    bind_then P (start_at bytes) _ y e (λ start is1 e1.
+    bind_then P (behind_at (codes " ") (2 ^ 16 - 1) start.1) _ y e1 (λ samples is2 e2.
+    bind_then P (after (codes " ") samples.1) _ y e2 (λ r2 is3 e3.
+    bind_then P (ratio_at r2) _ y e3 (λ rate is4 e4. bind_then P (after (codes " ") rate.1) _ y e4 (λ r3 is5 e5.
+    bind_then P (leap_at r3) _ y e5 (λ leap is6 e6.
     let s = start_spelled bytes start is1 in
-    let n : IsNumber (2 ^ 16 - 1) r1 samples = number_behind (2 ^ 16 - 1) r1 samples (omega arith) is3 in
-    let r = ratio_spelled r2 rate is5 in
-    let l = leap_spelled r3 leap is7 in
+    let n : IsBehind (codes " ") (2 ^ 16 - 1) start.1 samples =
+    behind_spelled (codes " ") (2 ^ 16 - 1) start.1 samples (omega arith) is2 in
+    let r = ratio_spelled r2 rate is4 in
+    let l = leap_spelled r3 leap is6 in
     let t : Tail = record { start = start.0; samples = samples.0; rate = rate.0; leap = leap.0 } in
-    let made = cond_some (nat_lt 0 samples.0) (t, leap.1) y e7 in
-    let t6 = leading (codes " ") rate.1 r3 (leap_text leap.0 ++ leap.1) (word_behind (codes " ") rate.1 r3 is6) l.0 in
-    let t5 : r2 ≡ ratio_then rate.0 (codes " " ++ (leap_text leap.0 ++ leap.1)) =
-    r.0 ∙ ap (λ (z : List ℕ). ratio_then rate.0 z) t6 in
-    let t4 = leading (codes " ") samples.1 r2 _ (word_behind (codes " ") samples.1 r2 is4) t5 in
-    let t3 = leading (decimal samples.0) r1 samples.1 _ n.is t4 in
-    let t2 = leading (codes " ") start.1 r1 _ (word_behind (codes " ") start.1 r1 is2) t3 in
+    let made = cond_some (nat_lt 0 samples.0) (t, leap.1) y e6 in
+    let t5 = leading (codes " ") rate.1 r3 (leap_text leap.0 ++ leap.1) (word_behind (codes " ") rate.1 r3 is5) l.0 in
+    let t4 : r2 ≡ ratio_then rate.0 (codes " " ++ (leap_text leap.0 ++ leap.1)) =
+    r.0 ∙ ap (λ (z : List ℕ). ratio_then rate.0 z) t5 in
+    let t3 = leading (codes " ") samples.1 r2 _ (word_behind (codes " ") samples.1 r2 is3) t4 in
+    let t2 = n.is ∙ ap (λ (z : List ℕ). codes " " ++ (decimal samples.0 ++ z)) t3 in
     let t1 : bytes ≡ tail_then t leap.1 = leading (signed_decimal start.0) bytes start.1 _ s.0 t2 in
     let fits : HasTail t = record {
       start = s.1;
@@ -230,7 +232,7 @@ some_tail_spelled bytes y e =
       t1
           ∙ sym (tail_leading t leap.1),
       fits,
-    ))))))))
+    )))))))
 
 or_none_spelled : {X : Type 0} (text : X → List ℕ) (Fits : X → Type 0) (read : List ℕ → Option (X × List ℕ))
     → ((bytes : List ℕ) (y : X × List ℕ) → read bytes ≡ Some y → IsRead text Fits bytes y)
@@ -259,13 +261,7 @@ tail_spelled bytes y e = or_none_spelled tail_text HasTail some_tail_at some_tai
 time_spelled : (bytes : List ℕ) (y : TimeFault × List ℕ) → time_at bytes ≡ Some y → IsRead fault_word Any bytes y
 unfolding time_at
 time_spelled bytes y e =
-    let P : Type 0 = IsRead fault_word Any bytes y in
-    else_then P _ _ y e (word_spelled fault_word Any (codes "year") Year refl tt bytes y) (λ e2.
-    else_then P _ _ y e2 (word_spelled fault_word Any (codes "day") Day refl tt bytes y) (λ e3.
-    else_then P _ _ y e3 (word_spelled fault_word Any (codes "hour") Hour refl tt bytes y) (λ e4.
-    else_then P _ _ y e4 (word_spelled fault_word Any (codes "minute") Minute refl tt bytes y) (λ e5.
-    else_then P _ _ y e5 (word_spelled fault_word Any (codes "second") Second refl tt bytes y)
-    (word_spelled fault_word Any (codes "fraction") Fraction refl tt bytes y)))))
+    named_spelled fault_word (Year ∷ Day ∷ Hour ∷ Minute ∷ Second ∷ Fraction ∷ []) bytes y e
 
 bad_word_spelled : (bytes : List ℕ) (y : ReadFault × List ℕ) → bad_word_at bytes ≡ Some y
     → IsRead read_text HasReadFault bytes y

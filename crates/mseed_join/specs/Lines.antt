@@ -95,11 +95,6 @@ faults_line zero = []
 faults_line (suc n) = codes "faults " ++ decimal (suc n) ++ codes "\n"
 
 -- ---- what has a line
--- 32 bits with a sign
-abbrev pub IsWord : ℤ → Type 0
-IsWord (pos n) = n < 2 ^ 31
-IsWord (negsuc n) = n < 2 ^ 31
-
 pub record HasHead (h : Head) : Type 0 where
   pub number : h.number < 2 ^ 63
   pub offset : h.offset < 2 ^ 63
@@ -111,6 +106,11 @@ pub record HasTail (t : Tail) : Type 0 where
   pub some : 0 < t.samples
   pub samples : t.samples < 2 ^ 16
   pub rate : IsRatio t.rate
+
+-- 32 bits with a sign
+abbrev pub IsWord : ℤ → Type 0
+IsWord (pos n) = n < 2 ^ 31
+IsWord (negsuc n) = n < 2 ^ 31
 
 -- a want of memory is no finding
 abbrev pub HasReadFault : ReadFault → Type 0

@@ -3,6 +3,7 @@ use Rattle.std.specs.Prelude.{ℕ, zero, suc, ◌+◌, ◌-◌, ◌*◌, ◌^◌
 use Rattle.std.specs.Prelude.{List, [], ◌∷◌, ◌++◌, length, take, drop, codes, ℤ, pos, negsuc, Option, Some, None}
 use Rattle.std.specs.Cmp.Lexicographic.{pointwise}
 use Rattle.mseed_time.specs.Rate.{Ratio}
+use Rattle.mseed_time.specs.Text.{fault_word}
 use Rattle.mseed_time.specs.declared.fault.TimeFault.{TimeFault}
 use Rattle.mseed_time.specs.declared.fault.TimeFault.TheVariants.{Year, Day, Hour, Minute, Second, Fraction}
 use Rattle.mseed_record.specs.declared.fault.FrameFault.{FrameFault}
@@ -24,6 +25,7 @@ use Rattle.mseed_audit.specs.declared.channel.Findings.{Findings}
 use Rattle.mseed_audit.specs.declared.channel.Findings.TheVariants.{Nothing, Counted}
 use Rattle.mseed_audit.specs.declared.channel.Head.{Head}
 use Rattle.mseed_audit.specs.declared.tail.Tail.{Tail}
+use Rattle.mseed_join.specs.Lines.{leap_text}
 
 infixl 10 ◌>>=◌
 abbrev pub ◌>>=◌ : {A B : Type 0} → Option A → (A → Option B) → Option B
@@ -43,6 +45,11 @@ after word bytes =
 -- this word, which stands for this
 abbrev pub word_at : {X : Type 0} → List ℕ → X → List ℕ → Option (X × List ℕ)
 word_at word x bytes = after word bytes >>= λ rest. Some (x, rest)
+
+-- the first of these whose word the bytes begin with
+abbrev pub named_at : {X : Type 0} → (X → List ℕ) → List X → List ℕ → Option (X × List ℕ)
+named_at word [] bytes = None
+named_at word (x ∷ xs) bytes = else_by (word_at (word x) x bytes) (named_at word xs bytes)
 
 -- ---- numbers
 abbrev pub is_digit : ℕ → Bool
@@ -117,15 +124,12 @@ abbrev pub sample_at : List ℕ → Option (ℤ × List ℕ)
 sample_at bytes = integer_at (2 ^ 31) (2 ^ 31 - 1) bytes
 
 unfoldable pub leap_at : List ℕ → Option (Leap × List ℕ)
-leap_at bytes =
-    else_by (word_at (codes "none") NoLeap bytes) (else_by (word_at (codes "positive") Positive bytes)
-    (else_by (word_at (codes "negative") Negative bytes) (word_at (codes "both") Both bytes)))
+leap_at bytes = named_at leap_text (NoLeap ∷ Positive ∷ Negative ∷ Both ∷ []) bytes
 
 unfoldable pub some_head_at : List ℕ → Option (Head × List ℕ)
 some_head_at bytes = do
   number ← number_at (2 ^ 63 - 1) bytes
-  rest ← after (codes " ") number.1
-  offset ← number_at (2 ^ 63 - 1) rest
+  offset ← behind_at (codes " ") (2 ^ 63 - 1) number.1
   rest ← after (codes " ") offset.1
   start ← start_at rest
   rest ← after (codes " ") start.1
@@ -135,8 +139,7 @@ some_head_at bytes = do
 unfoldable pub some_tail_at : List ℕ → Option (Tail × List ℕ)
 some_tail_at bytes = do
   start ← start_at bytes
-  rest ← after (codes " ") start.1
-  samples ← number_at (2 ^ 16 - 1) rest
+  samples ← behind_at (codes " ") (2 ^ 16 - 1) start.1
   rest ← after (codes " ") samples.1
   rate ← ratio_at rest
   rest ← after (codes " ") rate.1
@@ -156,10 +159,7 @@ tail_at bytes = or_none_at some_tail_at bytes
 
 -- ---- findings
 unfoldable pub time_at : List ℕ → Option (TimeFault × List ℕ)
-time_at bytes =
-    else_by (word_at (codes "year") Year bytes) (else_by (word_at (codes "day") Day bytes)
-    (else_by (word_at (codes "hour") Hour bytes) (else_by (word_at (codes "minute") Minute bytes)
-    (else_by (word_at (codes "second") Second bytes) (word_at (codes "fraction") Fraction bytes)))))
+time_at bytes = named_at fault_word (Year ∷ Day ∷ Hour ∷ Minute ∷ Second ∷ Fraction ∷ []) bytes
 
 abbrev pub bad_word_at : List ℕ → Option (ReadFault × List ℕ)
 bad_word_at bytes = do
