@@ -114,6 +114,13 @@ behind_spelled word largest bytes x few e =
       bounded = n.bounded;
     })
 
+-- a count behind a word, and the steps behind it
+count_then : {B : Type 0} (P : Type 0) (word bytes : List ℕ) (f : ℕ × List ℕ → Option B) (y : B)
+    → (behind_at word (2 ^ 63 - 1) bytes >>= f) ≡ Some y
+    → ((x : ℕ × List ℕ) → IsBehind word (2 ^ 63 - 1) bytes x → f x ≡ Some y → P) → P
+count_then P word bytes f y e k = bind_then P (behind_at word (2 ^ 63 - 1) bytes) f y e (λ x is more.
+    k x (behind_spelled word (2 ^ 63 - 1) bytes x (omega arith) is) more)
+
 counted_spelled : {X : Type 0} (text : X → List ℕ) (Fits : X → Type 0) (word : List ℕ) (largest : ℕ) (made : ℕ → X)
     → largest < 10 ^ 64 → ((n : ℕ) → word ++ decimal n ≡ text (made n)) → ((n : ℕ) → n ≤ largest → Fits (made n))
     → (bytes : List ℕ) (y : X × List ℕ) → counted_at word largest made bytes ≡ Some y → IsRead text Fits bytes y
@@ -179,13 +186,11 @@ unfolding some_head_at
 some_head_spelled bytes y e =
     let P : Type 0 = IsRead head_text HasHead bytes y in
     bind_then P (number_at (2 ^ 63 - 1) bytes) _ y e (λ number is1 e1.
-    bind_then P (behind_at (codes " ") (2 ^ 63 - 1) number.1) _ y e1 (λ offset is2 e2.
+    count_then P (codes " ") number.1 _ y e1 (λ offset o e2.
     bind_then P (after (codes " ") offset.1) _ y e2 (λ r2 is3 e3.
     bind_then P (start_at r2) _ y e3 (λ start is4 e4. bind_then P (after (codes " ") start.1) _ y e4 (λ r3 is5 e5.
     bind_then P (ratio_at r3) _ y e5 (λ rate is6 e6.
     let n : IsNumber (2 ^ 63 - 1) bytes number = number_behind (2 ^ 63 - 1) bytes number (omega arith) is1 in
-    let o : IsBehind (codes " ") (2 ^ 63 - 1) number.1 offset =
-    behind_spelled (codes " ") (2 ^ 63 - 1) number.1 offset (omega arith) is2 in
     let s = start_spelled r2 start is4 in
     let r = ratio_spelled r3 rate is6 in
     let h : Head = record { number = number.0; offset = offset.0; start = start.0; rate = rate.0 } in
@@ -267,12 +272,8 @@ bad_word_spelled : (bytes : List ℕ) (y : ReadFault × List ℕ) → bad_word_a
     → IsRead read_text HasReadFault bytes y
 bad_word_spelled bytes y e =
     let P : Type 0 = IsRead read_text HasReadFault bytes y in
-    bind_then P (behind_at (codes "badword ") (2 ^ 63 - 1) bytes) _ y e (λ frame is1 e1.
-    bind_then P (behind_at (codes " ") (2 ^ 63 - 1) frame.1) _ y e1 (λ word is2 e2.
-    let f : IsBehind (codes "badword ") (2 ^ 63 - 1) bytes frame =
-    behind_spelled (codes "badword ") (2 ^ 63 - 1) bytes frame (omega arith) is1 in
-    let w : IsBehind (codes " ") (2 ^ 63 - 1) frame.1 word =
-    behind_spelled (codes " ") (2 ^ 63 - 1) frame.1 word (omega arith) is2 in
+    count_then P (codes "badword ") bytes _ y e (λ frame f e1.
+    count_then P (codes " ") frame.1 _ y e1 (λ word w e2.
     subst (λ (z : ReadFault × List ℕ). IsRead read_text HasReadFault bytes z)
     (some_is (BadWord frame.0 word.0, word.1) y e2) (
       f.is ∙ ap (λ (z : List ℕ). codes "badword " ++ (decimal frame.0 ++ z)) w.is
@@ -350,13 +351,9 @@ first_spelled : (bytes : List ℕ) (y : Finding × List ℕ) → first_at bytes 
 unfolding first_at
 first_spelled bytes y e =
     let P : Type 0 = (bytes ≡ first_then y.0 y.1) × HasFinding y.0 in
-    bind_then P (behind_at (codes " first ") (2 ^ 63 - 1) bytes) _ y e (λ number is1 e1.
-    bind_then P (behind_at (codes " ") (2 ^ 63 - 1) number.1) _ y e1 (λ offset is2 e2.
+    count_then P (codes " first ") bytes _ y e (λ number n e1.
+    count_then P (codes " ") number.1 _ y e1 (λ offset o e2.
     bind_then P (after (codes " ") offset.1) _ y e2 (λ r3 is3 e3. bind_then P (why_at r3) _ y e3 (λ why is4 e4.
-    let n : IsBehind (codes " first ") (2 ^ 63 - 1) bytes number =
-    behind_spelled (codes " first ") (2 ^ 63 - 1) bytes number (omega arith) is1 in
-    let o : IsBehind (codes " ") (2 ^ 63 - 1) number.1 offset =
-    behind_spelled (codes " ") (2 ^ 63 - 1) number.1 offset (omega arith) is2 in
     let w = why_spelled r3 why is4 in
     let f : Finding = record { number = number.0; offset = offset.0; why = why.0 } in
     let t3 = leading (codes " ") offset.1 r3 (why_text why.0 ++ why.1) (word_behind (codes " ") offset.1 r3 is3) w.0 in
@@ -397,11 +394,9 @@ findings_spelled bytes y e =
     let P : Type 0 = IsRead findings_text HasFindings bytes y in
     bind_then P (after (codes " head ") bytes) _ y e (λ r1 is1 e1. bind_then P (head_at r1) _ y e1 (λ head is2 e2.
     bind_then P (after (codes " tail ") head.1) _ y e2 (λ r3 is3 e3. bind_then P (tail_at r3) _ y e3 (λ tail is4 e4.
-    bind_then P (behind_at (codes " findings ") (2 ^ 63 - 1) tail.1) _ y e4 (λ count is5 e5.
+    count_then P (codes " findings ") tail.1 _ y e4 (λ count c e5.
     let h = head_spelled r1 head is2 in
     let t = tail_spelled r3 tail is4 in
-    let c : IsBehind (codes " findings ") (2 ^ 63 - 1) tail.1 count =
-    behind_spelled (codes " findings ") (2 ^ 63 - 1) tail.1 count (omega arith) is5 in
     let f = counted_findings_spelled count.0 head.0 tail.0 count.1 y e5 (omega (arith, c.bounded)) h.1 t.1 in
     let t4 : r3 ≡ text_or_none tail_text tail.0 ++ (codes " findings " ++ (decimal count.0 ++ count.1)) =
     leading (text_or_none tail_text tail.0) r3 tail.1 _ t.0 c.is in
@@ -421,14 +416,10 @@ unfolding channel_at
 channel_spelled bytes y e =
     let P : Type 0 = (bytes ≡ channel_line y.0 y.1) × HasChannelLine y.0 y.1 in
     bind_then P (key_at bytes) _ y e (λ key is1 e1.
-    bind_then P (behind_at (codes " records ") (2 ^ 63 - 1) key.1) _ y e1 (λ records is2 e2.
-    bind_then P (behind_at (codes " samples ") (2 ^ 63 - 1) records.1) _ y e2 (λ samples is3 e3.
+    count_then P (codes " records ") key.1 _ y e1 (λ records r e2.
+    count_then P (codes " samples ") records.1 _ y e2 (λ samples s e3.
     bind_then P (findings_at samples.1) _ y e3 (λ findings is4 e4.
     let k : IsKey bytes key = key_spelled bytes key is1 in
-    let r : IsBehind (codes " records ") (2 ^ 63 - 1) key.1 records =
-    behind_spelled (codes " records ") (2 ^ 63 - 1) key.1 records (omega arith) is2 in
-    let s : IsBehind (codes " samples ") (2 ^ 63 - 1) records.1 samples =
-    behind_spelled (codes " samples ") (2 ^ 63 - 1) records.1 samples (omega arith) is3 in
     let f = findings_spelled samples.1 findings is4 in
     let c : Channel = record { records = records.0; samples = samples.0; findings = findings.0 } in
     let made = cond_some (ends findings.1) (key.0, c) y e4 in
@@ -452,12 +443,8 @@ pub counts_spelled : (bytes : List ℕ) (y : ℕ × ℕ) → counts_at bytes ≡
 unfolding counts_at
 counts_spelled bytes y e =
     let P : Type 0 = (bytes ≡ counts_line y.0 y.1) × HasCountsLine y.0 y.1 in
-    bind_then P (behind_at (codes "records ") (2 ^ 63 - 1) bytes) _ y e (λ records is1 e1.
-    bind_then P (behind_at (codes " bytes ") (2 ^ 63 - 1) records.1) _ y e1 (λ held is2 e2.
-    let r : IsBehind (codes "records ") (2 ^ 63 - 1) bytes records =
-    behind_spelled (codes "records ") (2 ^ 63 - 1) bytes records (omega arith) is1 in
-    let h : IsBehind (codes " bytes ") (2 ^ 63 - 1) records.1 held =
-    behind_spelled (codes " bytes ") (2 ^ 63 - 1) records.1 held (omega arith) is2 in
+    count_then P (codes "records ") bytes _ y e (λ records r e1.
+    count_then P (codes " bytes ") records.1 _ y e1 (λ held h e2.
     let made = cond_some (ends held.1) (records.0, held.0) y e2 in
     let t2 : records.1 ≡ codes " bytes " ++ (decimal held.0 ++ codes "\n") =
     h.is ∙ ap (λ (z : List ℕ). codes " bytes " ++ (decimal held.0 ++ z)) (ended held.1 made.0) in
@@ -527,11 +514,9 @@ pub fault_spelled : (bytes : List ℕ) (offset : ℕ) (y : StreamFault) → faul
 unfolding fault_at
 fault_spelled bytes offset y e =
     let P : Type 0 = (bytes ≡ fault_line y) × HasFaultLine offset y in
-    bind_then P (behind_at (codes "fault at ") (2 ^ 63 - 1) bytes) _ y e (λ at is1 e1.
+    count_then P (codes "fault at ") bytes _ y e (λ at a e1.
     bind_then P (after (codes " ") at.1) _ y e1 (λ r2 is2 e2.
     bind_then P (stream_fault_at offset r2) _ y e2 (λ fault is3 e3.
-    let a : IsBehind (codes "fault at ") (2 ^ 63 - 1) bytes at =
-    behind_spelled (codes "fault at ") (2 ^ 63 - 1) bytes at (omega arith) is1 in
     let f = stream_fault_spelled offset r2 fault is3 in
     let made = cond_some (nat_eq at.0 offset && ends fault.1) fault.0 y e3 in
     let both = both_true (nat_eq at.0 offset) (ends fault.1) made.0 in

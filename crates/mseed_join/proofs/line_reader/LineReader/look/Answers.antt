@@ -29,10 +29,8 @@ pub returns-in-Some-clause-reads : goal.returns-in-Some-clause-reads
 unfolding returns-in-Some-clause-more
 returns-in-Some-clause-reads g c goes_on =
     let inv = c.loop-ahead.invariant in
-    let first : BytesRead = g.R.Source.read c.args.source.now in
-    let now : BytesRead = g.R.Source.read c.loop-ahead.source in
-    let still = no_end_yet first now c.args.self.now c.loop-ahead.self _ _ inv.more inv.still inv.going_on goes_on in
-    reads_so_far first now _ _ _ _ _ _ (returns-in-Some-clause-more g c) still inv.beside
+    reads_so_far _ _ _ _ _ _ _ _ (returns-in-Some-clause-more g c)
+    (no_end_yet _ _ _ _ _ _ inv.more inv.still inv.going_on goes_on) inv.beside
 
 pub returns-in-Some-clause-goes_on : goal.returns-in-Some-clause-goes_on
 returns-in-Some-clause-goes_on g c start goes =
