@@ -10,4 +10,5 @@ pub mod Split
 pub mod Standing
 pub mod Telling
 pub mod Walk
+pub mod Whole
 pub mod private

@@ -1,9 +1,7 @@
 //! All that a source tells, and all of a slice to a sink.
-ghost use Rattle.std.specs.Prelude.{◌≡◌, IsTrue, ◌+◌, ◌++◌, ◌<◌, length, take, IfOk, OnOk, IfErr, OnErr};
-ghost use Rattle.std.specs.Prelude.{IfSome, MatchResult};
+ghost use Rattle.std.specs.Prelude.{◌≡◌, ◌+◌, ◌++◌, ◌<◌, length, take, OnOk, IfErr, OnErr, MatchResult};
 ghost use Rattle.std.specs.Io.KnownBytes.{Appends};
-ghost use Rattle.mseed_stream.specs.Device.{IsPrefixOf};
-ghost use Rattle.mseed_stream.specs.Fault.{IsStreamFault};
+ghost use Rattle.mseed_stream.specs.Whole.{ReadsAll};
 
 use crate::device::{Failed, Sink, Source};
 use crate::fault::StreamFault;
@@ -23,22 +21,8 @@ const ROOM: usize = 4096;
 /// at its end after 2^40 reads; `Memory` where there was no room for bytes that it reported. The bytes
 /// reported in the call are lost then.
 pub fn read_all<R: Source>(alloc: Global, source: &mut R) -> Result<Vec<u8>, StreamFault>
-    ensures ok { IfOk result (λ bytes.
-        (R.read source.new).bytes ≡ (R.read source.old).bytes ++ bytes.items) }
-    ensures end { OnOk result (IsTrue (R.read source.new).is_at_end) }
-    ensures fine { OnOk result ((R.read source.new).failures ≡ (R.read source.old).failures) }
-
-    // What the source is known to have left is what was read of it.
-    ensures known { IfOk result (λ bytes.
-        IfSome (R.remaining source.old) (λ xs. bytes.items ≡ xs)) }
-    ensures fault { IfErr result (λ fault.
-        IsStreamFault fault (R.read source.old) (R.read source.new)) }
-
-    // Memory is requested only where a byte was read.
-    ensures memory { result ≡ Err StreamFault.Memory
-        → length (R.read source.old).bytes < length (R.read source.new).bytes }
-    ensures prefix { IsPrefixOf (R.read source.old).bytes (R.read source.new).bytes }
-    ensures beside { R.beside source.new ≡ R.beside source.old }
+    ensures { ReadsAll result (R.read source.old) (R.read source.new) (R.remaining source.old) (R.beside source.old)
+        (R.beside source.new) }
 {
     read_all_in(alloc, source)
 }
@@ -52,22 +36,8 @@ pub fn read_all_in<A: Allocator, R: Source>(
     alloc: A,
     source: &mut R,
 ) -> Result<Vec<u8, A>, StreamFault>
-    ensures ok { IfOk result (λ bytes.
-        (R.read source.new).bytes ≡ (R.read source.old).bytes ++ bytes.items) }
-    ensures end { OnOk result (IsTrue (R.read source.new).is_at_end) }
-    ensures fine { OnOk result ((R.read source.new).failures ≡ (R.read source.old).failures) }
-
-    // What the source is known to have left is what was read of it.
-    ensures known { IfOk result (λ bytes.
-        IfSome (R.remaining source.old) (λ xs. bytes.items ≡ xs)) }
-    ensures fault { IfErr result (λ fault.
-        IsStreamFault fault (R.read source.old) (R.read source.new)) }
-
-    // Memory is requested only where a byte was read.
-    ensures memory { result ≡ Err StreamFault.Memory
-        → length (R.read source.old).bytes < length (R.read source.new).bytes }
-    ensures prefix { IsPrefixOf (R.read source.old).bytes (R.read source.new).bytes }
-    ensures beside { R.beside source.new ≡ R.beside source.old }
+    ensures { ReadsAll result (R.read source.old) (R.read source.new) (R.remaining source.old) (R.beside source.old)
+        (R.beside source.new) }
 {
     let mut bytes = Vec::new(alloc);
     let mut buf = [0; ROOM];

@@ -1,0 +1,23 @@
+-- What a call that reads a source to its end comes to.
+use Rattle.std.specs.Prelude.{◌≡◌, ℕ, List, ◌++◌, ◌<◌, length, Option, Result, Err, IsTrue, IfOk, OnOk, IfErr, IfSome}
+use Rattle.std.specs.declared.vec.Vec.{Vec}
+use Rattle.mseed_stream.specs.Device.{BytesRead, BytesWritten, IsPrefixOf}
+use Rattle.mseed_stream.specs.Fault.{IsStreamFault}
+use Rattle.mseed_stream.specs.declared.fault.StreamFault.{StreamFault}
+use Rattle.mseed_stream.specs.declared.fault.StreamFault.TheVariants.{Memory}
+
+-- All that a source reports up to its end, or a fault: by what was read of it before and after, what it was known to
+-- have left, and what it accepted, where it is a sink as well.
+pub record ReadsAll {A : Type 0} (result : Result (Vec ℕ A) StreamFault) (old new : BytesRead) (left : Option (List ℕ))
+    (apart later : BytesWritten) : Type 0 where
+  pub ok : IfOk result (λ bytes. new.bytes ≡ old.bytes ++ bytes.items)
+  pub end : OnOk result (IsTrue new.is_at_end)
+  pub fine : OnOk result (new.failures ≡ old.failures)
+  -- What the source is known to have left is what was read of it.
+  pub known : IfOk result (λ bytes. IfSome left (λ xs. bytes.items ≡ xs))
+  pub fault : IfErr result (λ fault. IsStreamFault fault old new)
+  -- Memory is requested only where a byte was read.
+  pub memory : result ≡ Err Memory → length old.bytes < length new.bytes
+  pub prefix : IsPrefixOf old.bytes new.bytes
+  -- What it accepted stays as it was.
+  pub beside : later ≡ apart
