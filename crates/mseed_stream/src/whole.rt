@@ -1,6 +1,7 @@
 //! All that a source tells, and all of a slice to a sink.
 ghost use Rattle.std.specs.Prelude.{◌≡◌, ◌+◌, ◌++◌, ◌<◌, length, take, OnOk, IfErr, OnErr, MatchResult};
 ghost use Rattle.std.specs.Io.KnownBytes.{Appends};
+ghost use Rattle.mseed_stream.specs.Calls.{WritesOn};
 ghost use Rattle.mseed_stream.specs.Whole.{ReadsAll};
 
 use crate::device::{Failed, Sink, Source};
@@ -73,6 +74,8 @@ pub fn write_all_of<W: Sink>(sink: &mut W, bytes: &[u8]) -> Result<(), usize>
         (λ _. Appends (W.contents sink.old) (W.contents sink.new) bytes.now)
         (λ n. Appends (W.contents sink.old) (W.contents sink.new) (take n bytes.now)) }
     ensures beside { W.beside sink.new ≡ W.beside sink.old }
+    ensures writes { WritesOn (W.written sink.old) (W.written sink.new) (W.contents sink.old) (W.contents sink.new)
+        (W.beside sink.old) (W.beside sink.new) }
 {
     let mut at = 0;
     while at < bytes.len() {

@@ -1,4 +1,3 @@
-use Rattle.std.proofs.Common.{take}
 use Rattle.mseed_audit.proofs.Outcomes.{cut_off, written}
 use Rattle.mseed_stream.specs.Device.{BytesRead}
 use Rattle.mseed_stream.proofs.Calls.{writes_none}
@@ -29,16 +28,3 @@ returns-in-Err-clause-writes g c = writes_none _ _ _
 
 pub returns-in-Err-push_finished-clause-writes : goal.returns-in-Err-push_finished-clause-writes
 returns-in-Err-push_finished-clause-writes g c = writes_none _ _ _
-
-pub returns-in-Ok-write_all_of-clause-writes : goal.returns-in-Ok-write_all_of-clause-writes
-returns-in-Ok-write_all_of-clause-writes g c =
-    let write = c.in-Ok-write_all_of.ensures in
-    record { contents = (c.deref.result.now, write.ok, write.known); beside = write.beside }
-
-pub returns-clause-writes : goal.returns-clause-writes
-returns-clause-writes g c =
-    let write = c.in-Err-write_all_of.ensures in
-    record {
-      contents = (take c.in-Err-write_all_of.taken c.deref.result.now, write.err, write.known);
-      beside = write.beside;
-    }

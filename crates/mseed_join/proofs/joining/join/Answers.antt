@@ -1,4 +1,4 @@
-use Rattle.std.proofs.Common.{Err, sym, subst, take}
+use Rattle.std.proofs.Common.{Err, sym, subst}
 use Rattle.mseed_stream.specs.Device.{BytesRead, BytesWritten}
 use Rattle.mseed_stream.proofs.Calls.{writes_none}
 use Rattle.mseed_join.specs.Joins.{IsJoinOutcome}
@@ -22,16 +22,3 @@ returns-in-Err-clause-writes g c = writes_none _ _ _
 
 pub returns-in-Err-push_joined-clause-writes : goal.returns-in-Err-push_joined-clause-writes
 returns-in-Err-push_joined-clause-writes g c = writes_none _ _ _
-
-pub returns-in-Ok-write_all_of-clause-writes : goal.returns-in-Ok-write_all_of-clause-writes
-returns-in-Ok-write_all_of-clause-writes g c =
-    let write = c.in-Ok-write_all_of.ensures in
-    record { contents = (c.deref.result.now, write.ok, write.known); beside = write.beside }
-
-pub returns-clause-writes : goal.returns-clause-writes
-returns-clause-writes g c =
-    let write = c.in-Err-write_all_of.ensures in
-    record {
-      contents = (take c.in-Err-write_all_of.field-0 c.deref.result.now, write.err, write.known);
-      beside = write.beside;
-    }
