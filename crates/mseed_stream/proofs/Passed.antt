@@ -42,7 +42,7 @@ passed c size = record c { offset = c.offset + size; prefix = []; is_lent = fals
 abbrev pub behind : Standing → ℕ → Standing
 behind c size = record c { offset = c.offset + size; reads = c.reads + 2 }
 
-pub stands_behind : (here old : Standing) (size : ℕ) → here ≡ record old { prefix = held_of old; is_lent = false }
+stands_behind : (here old : Standing) (size : ℕ) → here ≡ record old { prefix = held_of old; is_lent = false }
     → held_of old ≡ [] → behind here size ≡ passed old size
 stands_behind here old size is none =
     ap (λ (s : Standing). behind s size) is
@@ -52,6 +52,14 @@ stands_behind here old size is none =
       is_lent = false;
       reads = old.reads + 2;
     } in s) none
+
+-- what holds where it stands behind the record, and the record was read, holds of it
+pub stands_passed : (P : BytesRead → Standing → Type 0) (new : BytesRead) (here old : Standing) (size : ℕ)
+    (now : BytesRead) → here ≡ record old { prefix = held_of old; is_lent = false } → held_of old ≡ [] → new ≡ now
+    → P now (passed old size) → P new (behind here size)
+stands_passed P new here old size now is none read holds =
+    subst (λ (s : Standing). P new s) (sym (stands_behind here old size is none))
+    (subst (λ (h : BytesRead). P h (passed old size)) (sym read) holds)
 
 passed_read : (h : BytesRead) (c : Standing) (bytes : List ℕ) → IsRead h c → held_of c ≡ [] → c.reads + 2 ≤ 2 ^ 40
     → length bytes ≤ 2 ^ 20 → IsRead (lent_whole h bytes) (passed c (length bytes))

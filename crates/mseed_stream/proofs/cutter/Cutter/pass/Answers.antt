@@ -1,14 +1,12 @@
-use Rattle.std.proofs.Common.{◌≡◌, ◌≤◌, ◌+◌, ◌++◌, ◌∷◌, [], ℕ, List, length, take, false, subst, sym, ap, ◌∙◌, arith}
+use Rattle.std.proofs.Common.{◌≡◌, ◌≤◌, ◌+◌, ◌++◌, ◌∷◌, [], ℕ, List, length, take, subst, sym, ap, ◌∙◌, arith}
 use Rattle.std.proofs.lemmas.List.{length-take-le}
-use Rattle.std.specs.Vec.{vec_len}
 use Rattle.mseed_record.proofs.Called.{record_long}
 use Rattle.mseed_stream.specs.Archive.{HasRecords}
-use Rattle.mseed_stream.specs.Cutting.{IsAlong, held_of}
+use Rattle.mseed_stream.specs.Cutting.{IsAlong}
 use Rattle.mseed_stream.specs.Device.{BytesRead}
 use Rattle.mseed_stream.specs.Standing.{Standing}
 use Rattle.mseed_stream.specs.Walk.{HasHandedOut}
-use Rattle.mseed_stream.proofs.Passed.{behind, passed, passed_along, passed_handed, passed_records, record_few}
-use Rattle.mseed_stream.proofs.Passed.{stands_behind}
+use Rattle.mseed_stream.proofs.Passed.{passed_along, passed_handed, passed_records, record_few, stands_passed}
 use Rattle.mseed_stream.proofs.cutter.Cutter.pass.Goals as goal
 
 pub tell_whole-requires-clause-header : goal.tell_whole-requires-clause-header
@@ -30,22 +28,11 @@ invariant_of-self g c =
 
 pub returns-clause-along : goal.returns-clause-along
 returns-clause-along g c =
-    let lent : List ℕ = g.R.Source.lent c.args.source.now in
-    let old : Standing = c.args.self.now in
-    let size : ℕ = c.args.size in
-    let here : Standing = record {
-      offset = c.self.inside.offset;
-      prefix = take c.self.inside.have c.self.inside.held.items;
-      is_lent = c.self.inside.is_lent;
-      room = vec_len c.self.inside.held;
-      reads = c.self.inside.reads;
-      answer = c.self.inside.ending;
-    } in
-    let is : here ≡ record old { prefix = held_of old; is_lent = false } = c.self.view_is ∙ c.forget.ensures in
-    let after : behind here size ≡ passed old size = stands_behind here old size is c.requires.ahead.none in
-    let along = passed_along (g.R.Source.read c.args.source.now) old size lent c.requires.along c.requires.ahead in
-    subst (λ (s : Standing). IsAlong (g.R.Source.read c.tell_whole.new.source) s) (sym after)
-    (subst (λ (h : BytesRead). IsAlong h (passed old size)) (sym c.tell_whole.ensures.reported) along)
+    stands_passed (λ (h : BytesRead) (s : Standing). IsAlong h s) (g.R.Source.read c.tell_whole.new.source) _
+    c.args.self.now c.args.size _ (c.self.view_is ∙ c.forget.ensures) c.requires.ahead.none
+    c.tell_whole.ensures.reported
+    (passed_along (g.R.Source.read c.args.source.now) c.args.self.now c.args.size
+    (g.R.Source.lent c.args.source.now) c.requires.along c.requires.ahead)
 
 pub returns-clause-records : goal.returns-clause-records
 returns-clause-records g c = λ records has.
@@ -63,21 +50,8 @@ returns-clause-records g c = λ records has.
 
 pub returns-clause-handed : goal.returns-clause-handed
 returns-clause-handed g c = λ views v before is same.
-    let lent : List ℕ = g.R.Source.lent c.args.source.now in
-    let old : Standing = c.args.self.now in
-    let size : ℕ = c.args.size in
-    let here : Standing = record {
-      offset = c.self.inside.offset;
-      prefix = take c.self.inside.have c.self.inside.held.items;
-      is_lent = c.self.inside.is_lent;
-      room = vec_len c.self.inside.held;
-      reads = c.self.inside.reads;
-      answer = c.self.inside.ending;
-    } in
-    let stands : here ≡ record old { prefix = held_of old; is_lent = false } = c.self.view_is ∙ c.forget.ensures in
-    let after : behind here size ≡ passed old size = stands_behind here old size stands c.requires.ahead.none in
-    let handed = passed_handed (g.R.Source.read c.args.source.now) old size lent views v c.requires.ahead before is
-    same in
-    subst (λ (s : Standing). HasHandedOut (g.R.Source.read c.tell_whole.new.source) s (views ++ v ∷ [])) (sym after)
-    (subst (λ (h : BytesRead). HasHandedOut h (passed old size) (views ++ v ∷ [])) (sym c.tell_whole.ensures.reported)
-    handed)
+    stands_passed (λ (h : BytesRead) (s : Standing). HasHandedOut h s (views ++ v ∷ []))
+    (g.R.Source.read c.tell_whole.new.source) _ c.args.self.now c.args.size _ (c.self.view_is ∙ c.forget.ensures)
+    c.requires.ahead.none c.tell_whole.ensures.reported
+    (passed_handed (g.R.Source.read c.args.source.now) c.args.self.now c.args.size
+    (g.R.Source.lent c.args.source.now) views v c.requires.ahead before is same)
