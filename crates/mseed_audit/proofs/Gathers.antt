@@ -14,8 +14,8 @@ use Rattle.mseed_audit.specs.declared.each.EachFault.{EachFault}
 use Rattle.mseed_audit.specs.declared.each.EachFault.TheVariants.{Write, Memory}
 use Rattle.mseed_audit.specs.Audit.{Held}
 use Rattle.mseed_audit.specs.Channels.{added_from}
-use Rattle.mseed_audit.specs.Each.{AreGathered, AuditedEach, EmittedFirst, EmittedPart, EndsShort, HasLines}
-use Rattle.mseed_audit.specs.Each.{IsEachOutcome, IsLinesFault, each_text}
+use Rattle.mseed_audit.specs.Each.{AreGathered, AuditedEach, EmittedFirst, EmittedPart, EndsInLines, EndsShort}
+use Rattle.mseed_audit.specs.Each.{HasLines, IsEachOutcome, IsLinesFault, each_text}
 use Rattle.mseed_audit.specs.private.Gathered.{AreTold, AreToldMore, IsFinished, IsOneMore, IsPrefixWritten}
 use Rattle.mseed_audit.specs.Summary.{IsGathered, text_of}
 use Rattle.mseed_audit.specs.Text.{reported_lines}
@@ -213,35 +213,21 @@ told_all old new before held next end bytes first now text later t all same = (
 )
 
 -- ---- before the audit's text
+-- what was written of the lines was written of a text that begins with them
+ends_short : (Emitted : List ℕ → Type 0) (h : BytesRead) → EndsInLines Emitted h → EndsShort Emitted h
+ends_short Emitted h (offset, (views, (reported, short))) = (
+  offset,
+  (
+    views,
+    (reported, record { shown = short.shown; are_reported = short.are_reported; prefix = inl short.prefix }),
+  ),
+)
+
 -- the lines that were written are those before a text
 pub lines_outcome : (fault : EachFault) (h : BytesRead) (old new : BytesWritten) → IsLinesFault fault h old new
     → IsEachOutcome (Err fault) h old new
-lines_outcome Write h old new f = (
-  f.0,
-  (
-    f.1.0,
-    (
-      f.1.1.0,
-      (
-        f.1.1.1.0,
-        record { shown = f.1.1.1.1.shown; are_reported = f.1.1.1.1.are_reported; prefix = inl f.1.1.1.1.prefix },
-      ),
-    ),
-  ),
-)
-lines_outcome Memory h old new f = (
-  f.0,
-  (
-    f.1.0,
-    (
-      f.1.1.0,
-      (
-        f.1.1.1.0,
-        record { shown = f.1.1.1.1.shown; are_reported = f.1.1.1.1.are_reported; prefix = inl f.1.1.1.1.prefix },
-      ),
-    ),
-  ),
-)
+lines_outcome Write h old new f = (f.0, ends_short (EmittedPart old new) h f.1)
+lines_outcome Memory h old new f = (f.0, ends_short (EmittedFirst old new) h f.1)
 
 -- what was audited and reported, where the audit's text was added to what is gathered
 abbrev reported_also : {h : BytesRead} (s : Summary) (views : List View) (reported : List Reported)
