@@ -1,6 +1,6 @@
 -- Where channels stand on a roster, and what is kept of them there.
-use Rattle.std.proofs.Common.{◌≡◌, ℕ, suc, ◌+◌, ◌<◌, List, [], ◌∷◌, ◌++◌, Bool, true, false, cond, length, get_or, set}
-use Rattle.std.proofs.Common.{is_some, Option, IsSome, Some, None, if◌then◌else◌, refl, sym, ap, subst, ◌∙◌, arith}
+use Rattle.std.proofs.Common.{◌≡◌, ℕ, suc, ◌+◌, ◌<◌, ◌≤◌, List, [], ◌∷◌, ◌++◌, Bool, true, false, cond, length, get_or}
+use Rattle.std.proofs.Common.{set, is_some, Option, IsSome, Some, None, if◌then◌else◌, refl, sym, ap, subst, ◌∙◌, arith}
 use Rattle.std.proofs.Common.{append-nil, append_assoc}
 use Rattle.std.specs.List.{All, slice_get}
 use Rattle.std.specs.Map.{keys_of, lookup, set_value, values_of}
@@ -260,7 +260,7 @@ made_next f es key i ps e l is =
     ap (λ (o : Option (List ℕ × Channel)). read_through f key o ++ made_at f es ps) found
 
 -- what is made of the next channel stands behind what was made, and then what is made of the rest
-pub made_also : {X : Type 0} (f : Channel → X) (es : List (List ℕ × Channel)) (key : List ℕ) (i : ℕ)
+made_also : {X : Type 0} (f : Channel → X) (es : List (List ℕ × Channel)) (key : List ℕ) (i : ℕ)
     (ps : List (List ℕ × ℕ)) (e : List ℕ × Channel) (x : X) (made more all : List (List ℕ × X))
     → made ++ made_at f es ((key, i) ∷ ps) ≡ all → i < length es → e ≡ get_or es i e → x ≡ f e.1
     → more ≡ made ++ (key, x) ∷ [] → more ++ made_at f es ps ≡ all
@@ -271,7 +271,7 @@ made_also {X = X} f es key i ps e x made more all before l at is pushed =
     ∙ ap (λ (vs : List (List ℕ × X)). made ++ vs) (sym (made_next f es key i ps e l at)) ∙ before
 
 -- no place is left
-pub made_whole : {X : Type 0} (f : Channel → X) (es : List (List ℕ × Channel)) (places first rest : List (List ℕ × ℕ))
+made_whole : {X : Type 0} (f : Channel → X) (es : List (List ℕ × Channel)) (places first rest : List (List ℕ × ℕ))
     (made : List (List ℕ × X)) → made ++ made_at f es rest ≡ made_at f es first → rest ≡ [] → first ≡ places
     → made ≡ made_at f es places
 made_whole {X = X} f es places first rest made all none is = sym (append-nil made)
@@ -329,7 +329,7 @@ there_place f test es None e = ap (λ (o : Option Channel). option_map f o) (sym
 there_place f test es (Some i) e = ap (λ (o : Option Channel). option_map f o) (sym (kept_at test es i e))
 
 -- what was made of all channels ascends as their places do
-pub made_ascends : {X : Type 0} (f : Channel → X) (es : List (List ℕ × Channel)) (ps : List (List ℕ × ℕ))
+made_ascends : {X : Type 0} (f : Channel → X) (es : List (List ℕ × Channel)) (ps : List (List ℕ × ℕ))
     (made : List (List ℕ × X)) → made ≡ made_at f es ps → ArePlaces ps es
     → IsStrictlySortedBy (slice_cmp nat_cmp) (keys_of ps) → IsStrictlySortedBy (slice_cmp nat_cmp) (keys_of made)
 made_ascends {X = X} f es ps made is are ascending =
@@ -337,13 +337,49 @@ made_ascends {X = X} f es ps made is are ascending =
     (sym (ap (λ (vs : List (List ℕ × X)). keys_of vs) is ∙ made_keys f es ps are.within)) ascending
 
 -- and is at each key what is made of the channel there
-pub made_each : {X : Type 0} (f : Channel → X) (es old : List (List ℕ × Channel)) (ps : List (List ℕ × ℕ))
+made_each : {X : Type 0} (f : Channel → X) (es old : List (List ℕ × Channel)) (ps : List (List ℕ × ℕ))
     (made : List (List ℕ × X)) → made ≡ made_at f es ps → ArePlaces ps es → es ≡ old → (key : List ℕ)
     → lookup (same_key key) made ≡ option_map f (lookup (same_key key) old)
 made_each {X = X} f es old ps made is are same key = ap (λ (vs : List (List ℕ × X)). lookup (same_key key) vs) is
     ∙ made_found f es ps (same_key key) are.within ∙ ap (λ (o : Option ℕ). there_at f es o) (are.each key)
     ∙ there_place f (same_key key) es (place_of (same_key key) es) refl
     ∙ ap (λ (fs : List (List ℕ × Channel)). option_map f (lookup (same_key key) fs)) same
+
+-- What is made of the channels at the first of some places stands in a list, and what is made at the rest is to be put
+-- behind it: there is room.
+pub record IsMaking {X : Type 0} (f : Channel → X) (es : List (List ℕ × Channel)) (first rest : List (List ℕ × ℕ))
+    (made : List (List ℕ × X)) (room : ℕ) : Type 0 where
+  pub all : made ++ made_at f es rest ≡ made_at f es first
+  pub fits : length made + length rest ≤ room
+  pub within : All (λ i. i < length es) (values_of rest)
+
+-- one more is made
+pub making_more : {X : Type 0} (f : Channel → X) (es : List (List ℕ × Channel)) (first : List (List ℕ × ℕ))
+    (key : List ℕ) (i : ℕ) (rest : List (List ℕ × ℕ)) (e : List ℕ × Channel) (x : X) (made more : List (List ℕ × X))
+    (room now : ℕ) → IsMaking f es first ((key, i) ∷ rest) made room → e ≡ get_or es i e → x ≡ f e.1
+    → more ≡ made ++ (key, x) ∷ [] → length more + length rest ≤ now → IsMaking f es first rest more now
+making_more f es first key i rest e x made more room now before at is pushed fits = record {
+  all = made_also f es key i rest e x made more (made_at f es first) before.all (before.within 0 0 (omega arith)) at is
+      pushed;
+  fits = fits;
+  within = λ k d l. before.within (suc k) d (omega (arith, l));
+}
+
+-- what was made of all channels of a roster, ascending by their keys
+pub record AreMade {X : Type 0} (f : Channel → X) (old : List (List ℕ × Channel)) (made : List (List ℕ × X)) : Type 0
+  where
+    pub ascending : IsStrictlySortedBy (slice_cmp nat_cmp) (keys_of made)
+    pub each : (key : List ℕ) → lookup (same_key key) made ≡ option_map f (lookup (same_key key) old)
+
+-- no place is left
+pub all_made : {X : Type 0} (f : Channel → X) (es old : List (List ℕ × Channel)) (first rest places : List (List ℕ × ℕ))
+    (made : List (List ℕ × X)) (room : ℕ) → IsMaking f es first rest made room → rest ≡ [] → first ≡ places
+    → ArePlaces places es → IsStrictlySortedBy (slice_cmp nat_cmp) (keys_of places) → es ≡ old → AreMade f old made
+all_made {X = X} f es old first rest places made room making none is are ascending same =
+    let whole : made ≡ made_at f es places = made_whole f es places first rest made making.all none is in record {
+      ascending = made_ascends f es places made whole are ascending;
+      each = λ key. made_each f es old places made whole are same key;
+    }
 
 -- what is found at a place
 pub found_at : (test : List ℕ → Bool) (es : List (List ℕ × Channel)) (i : ℕ) (e : List ℕ × Channel)

@@ -1,9 +1,9 @@
-use Rattle.std.proofs.Common.{◌<◌, suc, length, ◌≡◌, ◌∙◌, Option, Some, None, refl, arith, rules}
-use Rattle.mseed_audit.specs.declared.channel.Channel.{Channel}
-use Rattle.mseed_audit.specs.Channels.{same_key}
+use Rattle.std.proofs.Common.{◌≡◌, ◌∙◌, Option, Some, None, refl, rules}
 use Rattle.std.specs.Map.{lookup}
 use Rattle.std.specs.Option.{option_map}
-use Rattle.mseed_audit.proofs.Rosters.{made_also, made_ascends, made_each, made_whole}
+use Rattle.mseed_audit.specs.Channels.{same_key}
+use Rattle.mseed_audit.specs.declared.channel.Channel.{Channel}
+use Rattle.mseed_audit.proofs.Rosters.{all_made, making_more}
 use Rattle.mseed_audit.proofs.roster.Roster.into_channels.Goals as goal
 
 abbrev itself : Channel → Channel
@@ -15,26 +15,13 @@ map_itself (Some c) = refl
 
 pub loop-codes-preserved : goal.loop-codes-preserved
 loop-codes-preserved g c =
-    let is = rw c.in-Some.ensures.steps at c.loop-codes.invariant in
-    let within : c.in-Some.index < length c.self.inside.channels.items = is.2 0 0 (omega arith) in (
-      made_also itself c.self.inside.channels.items c.in-Some.codes c.in-Some.index c.next.new.self c.index.result.now
-          c.index.result.now.1 c.loop-codes.sorted.items c.push.new.self.items _ is.0 within c.index.ensures refl
-          (search rules),
-      search rules,
-      λ k d l. is.2 (suc k) d (omega (arith, l)),
-    )
+    making_more itself c.self.inside.channels.items _ c.in-Some.codes c.in-Some.index c.next.new.self
+    c.index.result.now c.index.result.now.1 c.loop-codes.sorted.items c.push.new.self.items _ _
+    (rw c.in-Some.ensures.steps at c.loop-codes.invariant) c.index.ensures refl (search rules) (search rules)
 
-pub returns-clause-ascending : goal.returns-clause-ascending
-returns-clause-ascending g c =
-    let gives = c.into_iter-codes-iterator.ensures.into_iter_gives in
-    let whole = made_whole itself c.self.inside.channels.items c.self.inside.places.entries _ _
-    c.loop-codes.sorted.items c.loop-codes.invariant.0 c.in-None.ensures.steps.0 gives.0 in
-    made_ascends itself _ _ _ whole c.self.invariant.0 gives.5
-
-pub returns-clause-each : goal.returns-clause-each
-returns-clause-each g c = λ key.
-    let gives = c.into_iter-codes-iterator.ensures.into_iter_gives in
-    let whole = made_whole itself c.self.inside.channels.items c.self.inside.places.entries _ _
-    c.loop-codes.sorted.items c.loop-codes.invariant.0 c.in-None.ensures.steps.0 gives.0 in
-    made_each itself _ _ _ _ whole c.self.invariant.0 c.self.view_is key
-    ∙ map_itself (lookup (same_key key) c.args.self)
+pub returns : goal.returns
+returns g c =
+    let all = all_made itself _ _ _ _ _ c.loop-codes.sorted.items _ c.loop-codes.invariant c.in-None.ensures.steps.0
+    c.into_iter-codes-iterator.ensures.into_iter_gives.0 c.self.invariant.0
+    c.into_iter-codes-iterator.ensures.into_iter_gives.5 c.self.view_is in
+    record { ascending = all.ascending; each = λ key. all.each key ∙ map_itself (lookup (same_key key) c.args.self) }

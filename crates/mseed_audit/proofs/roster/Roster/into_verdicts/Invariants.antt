@@ -1,14 +1,8 @@
-use Rattle.std.proofs.Common.{◌≡◌, ◌+◌, ◌<◌, ◌≤◌, ◌++◌, length}
-use Rattle.std.specs.List.{All}
-use Rattle.std.specs.Map.{values_of}
 use Rattle.std.specs.Vec.{vec_capacity}
 use Rattle.mseed_audit.specs.Audit.{verdict_of}
-use Rattle.mseed_audit.proofs.Rosters.{made_at}
+use Rattle.mseed_audit.proofs.Rosters.{IsMaking}
 use Rattle.mseed_audit.proofs.roster.Roster.into_verdicts.Given as goal
 
 abbrev pub invariant-loop-codes : goal.invariant-loop-codes
 invariant-loop-codes g l =
-    (l.verdicts.items ++ made_at verdict_of l.channels.items l.codes-iterator ≡ made_at verdict_of l.channels.items
-    l.initial.codes-iterator)
-    × (length l.verdicts.items + length l.codes-iterator ≤ vec_capacity l.verdicts)
-    × All (λ i. i < length l.channels.items) (values_of l.codes-iterator)
+    IsMaking verdict_of l.channels.items l.initial.codes-iterator l.codes-iterator l.verdicts.items (vec_capacity l.verdicts)
