@@ -1,5 +1,5 @@
 -- Records that stand one behind another, and those of a channel among them.
-use Rattle.std.proofs.Common.{◌≡◌, ℕ, zero, suc, ◌+◌, ◌^◌, ◌≤◌, ◌<◌, List, [], ◌∷◌, ◌++◌, length, map, take, get_or}
+use Rattle.std.proofs.Common.{◌≡◌, ℕ, zero, suc, ◌+◌, ◌*◌, ◌^◌, ◌≤◌, ◌<◌, List, [], ◌∷◌, ◌++◌, length, map, take, get_or}
 use Rattle.std.proofs.Common.{cond, if◌then◌else◌, Bool, true, false, Option, refl, sym, ap, subst, ◌∙◌, append-nil}
 use Rattle.std.proofs.Common.{length-take-le, arith}
 use Rattle.std.specs.List.{filter, AllByRecursion}
@@ -67,6 +67,17 @@ end_next rs n r offset h is at =
     let vs : List View = map view_of (take n rs) in
     ap (λ (k : ℕ). k + length r.bytes.now) at ∙ sym (end_more 0 vs (view_of r))
     ∙ sym (ap (λ (ws : List View). end_of 0 ws) (passed rs n r h is))
+
+-- the offset behind the next record, where each so far had at most 2 ^ 20 bytes
+pub offset_next : (rs : List RecordView) (n : ℕ) (r : RecordView) (offset : ℕ) (bytes : List ℕ) → n < length rs
+    → r ≡ get_or rs n r → offset ≡ end_of 0 (map view_of (take n rs)) → offset ≤ 2 ^ 20 * n → IsView (view_of r)
+    → bytes ≡ r.bytes.now
+    → (offset + length bytes ≡ end_of 0 (map view_of (take (n + 1) rs))) × (offset + length bytes ≤ 2 ^ 20 * (n + 1))
+offset_next rs n r offset bytes below is at far view same =
+    let size : length bytes ≡ length r.bytes.now = ap (λ (xs : List ℕ). length xs) same in (
+      ap (λ (k : ℕ). offset + k) size ∙ end_next rs n r offset below is at,
+      omega (arith, few_bytes (view_of r) view, size, far),
+    )
 
 -- what is kept of the channel takes the next record in
 pub stands_next : (key : List ℕ) (rs : List RecordView) (n : ℕ) (r : RecordView) (offset : ℕ)
