@@ -173,43 +173,21 @@ pub(crate) fn add_next<A: Allocator + Copy, R: Source>(
 {
     let offset = cutter.offset();
     match cutter.peek(source) {
-        Some(view) => match add_reported(audit, &view, offset, lines, text) {
-            Ok(()) => {
-                let size = view.bytes().len();
-                cutter.pass(source, size);
+        Some(view) => {
+            add_reported(audit, &view, offset, lines, text)?;
+            let size = view.bytes().len();
+            cutter.pass(source, size);
+            Ok(Step::Added)
+        }
+        None => match cutter.next(source) {
+            Ok(Some(view)) => {
+                add_reported(audit, &view, offset, lines, text)?;
                 Ok(Step::Added)
             }
-            Err(Memory) => Err(Memory),
+            Ok(None) => Ok(Step::Ended(None)),
+            Err(StreamFault::Memory) => Err(Memory),
+            Err(fault) => Ok(Step::Ended(Some(fault))),
         },
-        None => add_cut(audit, cutter, source, lines, text),
-    }
-}
-
-/// The same, of a record that the source doesn't hold whole.
-#[inline(always)]
-fn add_cut<A: Allocator + Copy, R: Source>(
-    audit: &mut Audit<A>,
-    cutter: &mut Cutter<A>,
-    source: &mut R,
-    lines: Lines,
-    text: &mut Vec<u8, A>,
-) -> Result<Step, Memory>
-    requires along { IsAlong (R.read source.old) cutter.old }
-    requires few { audit.old.added ≤ (R.read source.old).calls }
-    ensures next { AddsNext lines result (R.read source.old) (R.read source.new) cutter.old cutter.new audit.old
-        audit.new text.old.items text.new.items }
-    ensures reads { cutter.old.answer ≡ None → ReadsOn (R.read source.old) (R.read source.new) (R.remaining source.old)
-        (R.remaining source.new) (R.beside source.old) (R.beside source.new) }
-{
-    let offset = cutter.offset();
-    match cutter.next(source) {
-        Ok(Some(view)) => match add_reported(audit, &view, offset, lines, text) {
-            Ok(()) => Ok(Step::Added),
-            Err(Memory) => Err(Memory),
-        },
-        Ok(None) => Ok(Step::Ended(None)),
-        Err(StreamFault::Memory) => Err(Memory),
-        Err(fault) => Ok(Step::Ended(Some(fault))),
     }
 }
 
