@@ -68,10 +68,12 @@ pub printed_within : (old code cut line : List ℕ) (n : ℕ) → line ≡ old +
 printed_within old code cut line n e is =
     (printed_fits old cut line n e, omega (arith, ap length is, trimmed_fits code))
 
--- a piece of a key
-pub code_fits : (key piece : List ℕ) (a b : ℕ) → piece ≡ slice_range key a b → length piece ≤ b - a
-code_fits key piece a b e = omega (arith, ap length e, length-take (b - a) (drop a key))
+-- a code of a key
+pub code_fits : (key code : List ℕ) (a b : ℕ) → code ≡ slice_range key a b → length code ≤ b - a
+code_fits key code a b e = omega (arith, ap length e, length-take (b - a) (drop a key))
 
--- a line with one more byte
-pub one_longer : (old line : List ℕ) (byte : ℕ) → line ≡ old ++ byte ∷ [] → length line ≡ length old + 1
-one_longer old line byte e = omega (arith, ap length e, length-append old (byte ∷ []))
+-- those before the last
+pub codes_fit : (key network station location : List ℕ) → network ≡ slice_range key 0 2 → station ≡ slice_range key 2 7
+    → location ≡ slice_range key 7 9 → length network + length station + length location ≤ 9
+codes_fit key network station location n s l =
+    omega (arith, code_fits key network 0 2 n, code_fits key station 2 7 s, code_fits key location 7 9 l)

@@ -58,21 +58,20 @@ pub fn name_of(codes: &Codes) -> Name
 {
     let mut name = ArrayVec::new();
     put_code(&mut name, codes.network());
-    put_mark(&mut name);
-    put_code(&mut name, codes.station());
-    put_mark(&mut name);
-    put_code(&mut name, codes.location());
-    put_mark(&mut name);
-    put_code(&mut name, codes.channel());
+    put_further(&mut name, codes.station());
+    put_further(&mut name, codes.location());
+    put_further(&mut name, codes.channel());
     name
 }
 
-/// Puts what stands between two codes behind a name.
-fn put_mark(name: &mut Name)
-    requires { length name.old.items < 16 }
-    ensures { name.new.items ≡ name.old.items ++ codes "_" }
+/// Puts a further code behind a name, and before it what stands between two codes.
+fn put_further(name: &mut Name, code: &[u8])
+    requires { length name.old.items + length code.now < 16 }
+    ensures text { name.new.items ≡ name.old.items ++ codes "_" ++ code_text code.now }
+    ensures most { length name.new.items ≤ length name.old.items + 1 + length code.now }
 {
     name.push(b'_');
+    put_code(name, code);
 }
 
 /// Puts a code without its trailing spaces and NULs behind a name.
