@@ -91,31 +91,36 @@ part_behind first old new text lines tail before emitted =
       (omega (arith, emitted.1.0, size), taken_behind first old new text lines tail emitted.0 before emitted.1.1),
     )
 
+-- what was written is so of the lines of the first records
+in_lines : (Emitted : List ℕ → Type 0) (h : BytesRead) (offset : ℕ) (views : List View) (reported : List Reported)
+    → AreViews h.bytes offset views → AreReportedOf (added_from 0 views) reported → Emitted (reported_lines reported)
+    → EndsInLines Emitted h
+in_lines Emitted h offset views reported shown are prefix =
+    (offset, (views, (reported, record { shown = shown; are_reported = are; prefix = prefix })))
+
+-- with nothing behind
+none_behind : (P Q : List ℕ → Type 0) (text lines : List ℕ) → (P (text ++ []) → Q (lines ++ [])) → P text → Q lines
+none_behind P Q text lines step p =
+    subst (λ (xs : List ℕ). Q xs) (append-nil lines)
+    (step (subst (λ (xs : List ℕ). P xs) (sym (append-nil text)) p))
+
 -- a prefix of what is gathered was written: of the lines
 short_lines : (fault : EachFault) (h : BytesRead) (first old new : BytesWritten) (text : List ℕ) (offset : ℕ)
     (views : List View) (reported : List Reported) → AreViews h.bytes offset views → old.failures ≡ first.failures
     → AreGathered first old text (reported_lines reported) → AreReportedOf (added_from 0 views) reported
     → IsPrefixWritten fault old new text → IsLinesFault fault h first new
-short_lines Write h first old new text offset views reported shown same before are w =
-    let lines : List ℕ = reported_lines reported in
-    let all : EmittedPart old new (text ++ []) =
-    subst (λ (xs : List ℕ). EmittedPart old new xs) (sym (append-nil text)) w.1 in
-    let part : EmittedPart first new lines =
-    subst (λ (xs : List ℕ). EmittedPart first new xs) (append-nil lines)
-    (part_behind first old new text lines [] before all) in (
-      omega (arith, same, w.0),
-      (offset, (views, (reported, record { shown = shown; are_reported = are; prefix = part }))),
-    )
-short_lines Memory h first old new text offset views reported shown same before are w =
-    let lines : List ℕ = reported_lines reported in
-    let all : EmittedFirst old new (text ++ []) =
-    subst (λ (xs : List ℕ). EmittedFirst old new xs) (sym (append-nil text)) w.1 in
-    let part : EmittedFirst first new lines =
-    subst (λ (xs : List ℕ). EmittedFirst first new xs) (append-nil lines)
-    (first_behind first old new text lines [] before all) in (
-      w.0 ∙ same,
-      (offset, (views, (reported, record { shown = shown; are_reported = are; prefix = part }))),
-    )
+short_lines Write h first old new text offset views reported shown same before are w = (
+  omega (arith, same, w.0),
+  in_lines (EmittedPart first new) h offset views reported shown are
+      (none_behind (EmittedPart old new) (EmittedPart first new) text (reported_lines reported)
+      (part_behind first old new text (reported_lines reported) [] before) w.1),
+)
+short_lines Memory h first old new text offset views reported shown same before are w = (
+  w.0 ∙ same,
+  in_lines (EmittedFirst first new) h offset views reported shown are
+      (none_behind (EmittedFirst old new) (EmittedFirst first new) text (reported_lines reported)
+      (first_behind first old new text (reported_lines reported) [] before) w.1),
+)
 
 -- no memory for more than these lines
 pub memory_short : (h : BytesRead) (first new : BytesWritten) (text : List ℕ) (offset : ℕ) (views : List View)
@@ -124,20 +129,8 @@ pub memory_short : (h : BytesRead) (first new : BytesWritten) (text : List ℕ) 
     → IsLinesFault Memory h first new
 memory_short h first new text offset views reported shown same before are = (
   same,
-  (
-    offset,
-    (
-      views,
-      (
-        reported,
-        record {
-          shown = shown;
-          are_reported = are;
-          prefix = gathered_first first new text (reported_lines reported) before;
-        },
-      ),
-    ),
-  ),
+  in_lines (EmittedFirst first new) h offset views reported shown are
+      (gathered_first first new text (reported_lines reported) before),
 )
 
 -- ---- what comes next of an input
