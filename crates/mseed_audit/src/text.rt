@@ -23,6 +23,7 @@ use std::alloc::{AllocError, Allocator};
 /// Adds the text of an audit: a line for each verdict, the numbers of records and of channels, and the line of
 /// the fault with which the archive ends, if with any. Where memory is refused, a part of it may have been
 /// added.
+#[tactic(auto, using(crate::proofs::Prefixes::prefix_trans))]
 pub(crate) fn push_audit<A: Allocator>(
     text: &mut Vec<u8, A>,
     verdicts: &[(Codes, Verdict)],
@@ -60,6 +61,7 @@ fn push_verdicts<A: Allocator>(
 ///
 /// `AllocError` where memory is refused. What was there stays, and a part of the line may have been added
 /// behind it.
+#[tactic(auto, using(crate::proofs::Prefixes::prefix_trans))]
 pub fn push_verdict_line<A: Allocator>(
     text: &mut Vec<u8, A>,
     codes: &Codes,
@@ -111,6 +113,7 @@ fn push_continuous<A: Allocator>(
 }
 
 /// Adds what follows the name of a broken channel.
+#[tactic(auto, using(crate::proofs::Prefixes::prefix_trans))]
 fn push_broken<A: Allocator>(
     text: &mut Vec<u8, A>,
     first: &Finding,

@@ -1,6 +1,5 @@
 use Rattle.std.proofs.Common.{append_assoc}
 use Rattle.std.proofs.lemmas.Result.{IfOk-equal}
-use Rattle.mseed_audit.proofs.Prefixes.{prefix_trans}
 use Rattle.mseed_audit.proofs.text.push_broken.Goals as goal
 
 pub returns-clause-ok : goal.returns-clause-ok
@@ -9,12 +8,3 @@ returns-clause-ok g c =
     let a2 = rw a1 at c.in_ok-push_why.ensures.ok in
     let a3 = rw a2 at c.push_pieces-2.ensures.ok in
     IfOk-equal c.push_pieces-2.result _ _ _ a3 (simp append_assoc)
-
-pub returns-in_err-push_why-clause-prefix : goal.returns-in_err-push_why-clause-prefix
-returns-in_err-push_why-clause-prefix g c =
-    prefix_trans _ _ _ c.push_pieces.ensures.prefix c.push_why.ensures.prefix
-
-pub returns-clause-prefix : goal.returns-clause-prefix
-returns-clause-prefix g c =
-    prefix_trans _ _ _ (prefix_trans _ _ _ c.push_pieces.ensures.prefix c.push_why.ensures.prefix)
-    c.push_pieces-2.ensures.prefix

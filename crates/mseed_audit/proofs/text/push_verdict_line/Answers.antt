@@ -1,7 +1,6 @@
 use Rattle.std.proofs.Common.{append_assoc}
 use Rattle.std.proofs.lemmas.Result.{IfOk-equal}
 use Rattle.mseed_audit.specs.Text.{name_text, broken_words, continuous_words}
-use Rattle.mseed_audit.proofs.Prefixes.{prefix_trans}
 use Rattle.mseed_audit.proofs.text.push_verdict_line.Goals as goal
 
 pub returns-in-Broken-clause-ok : goal.returns-in-Broken-clause-ok
@@ -18,11 +17,3 @@ returns-in-Continuous-clause-ok g c =
     c.in-Continuous.samples in
     rw c.in-Continuous.is (IfOk-equal c.push_continuous.result _ _ _ a1
     (append_assoc c.args.text.now.items (name_text c.args.codes.now) words))
-
-pub returns-in-Broken-clause-prefix : goal.returns-in-Broken-clause-prefix
-returns-in-Broken-clause-prefix g c =
-    prefix_trans _ _ _ c.push_name.ensures.prefix c.push_broken.ensures.prefix
-
-pub returns-in-Continuous-clause-prefix : goal.returns-in-Continuous-clause-prefix
-returns-in-Continuous-clause-prefix g c =
-    prefix_trans _ _ _ c.push_name.ensures.prefix c.push_continuous.ensures.prefix
