@@ -1,7 +1,7 @@
 -- Records that stand one behind another, and those of a channel among them.
-use Rattle.std.proofs.Common.{◌≡◌, ℕ, zero, suc, ◌+◌, ◌*◌, ◌^◌, ◌≤◌, ◌<◌, List, [], ◌∷◌, ◌++◌, length, map, take, get_or}
+use Rattle.std.proofs.Common.{◌≡◌, ℕ, zero, suc, ◌+◌, ◌^◌, ◌≤◌, ◌<◌, List, [], ◌∷◌, ◌++◌, length, map, take, get_or}
 use Rattle.std.proofs.Common.{cond, if◌then◌else◌, Bool, true, false, Option, refl, sym, ap, subst, ◌∙◌, append-nil}
-use Rattle.std.proofs.Common.{length-take-le, arith}
+use Rattle.std.proofs.Common.{◌*◌, length-take-le, arith}
 use Rattle.std.specs.List.{filter, AllByRecursion}
 use Rattle.std.proofs.lemmas.List.{map_more, length-map}
 use Rattle.std.proofs.Math.Nat.{pow-le-pow_right}

@@ -151,6 +151,7 @@ impl<A: Allocator + Copy> Audit<A> {
     /// # Errors
     ///
     /// `Memory` as `add`.
+    #[cold]
     #[inline(never)]
     pub fn add_judged(&mut self, view: &RecordView, offset: u64) -> Result<Option<Why>, Memory>
         requires { self.old.added < 2 ^ 40 }

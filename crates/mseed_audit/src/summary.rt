@@ -205,30 +205,9 @@ fn add_reported<A: Allocator + Copy>(
         (record { view = view_of view.now; offset = offset }) text.old.items text.new.items) }
 {
     if audit.add_sound(view) {
-        Ok(())
-    } else {
-        add_judged(audit, view, offset, lines, text)
+        return Ok(());
     }
-}
-
-/// The same, of any record.
-#[cold]
-#[inline(never)]
-fn add_judged<A: Allocator + Copy>(
-    audit: &mut Audit<A>,
-    view: &RecordView,
-    offset: u64,
-    lines: Lines,
-    text: &mut Vec<u8, A>,
-) -> Result<(), Memory>
-    requires { audit.old.added < 2 ^ 40 }
-    ensures { OnOk result (IsAddedAlso lines audit.old audit.new
-        (record { view = view_of view.now; offset = offset }) text.old.items text.new.items) }
-{
-    let why = match audit.add_judged(view, offset) {
-        Ok(why) => why,
-        Err(Memory) => return Err(Memory),
-    };
+    let why = audit.add_judged(view, offset)?;
     match lines {
         Lines::OfVerdicts => Ok(()),
         Lines::OfRecords => push_reported(text, view, audit.added(), offset, why),

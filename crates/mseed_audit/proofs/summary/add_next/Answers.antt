@@ -36,7 +36,8 @@ returns-in_ok-add_reported-in-Ok-Some-clause-next g c = λ views before is.
     let handed : HasHandedOut (g.R.Source.read c.next.new.source) c.next.follows.lender-at-none (views ++ view ∷ []) =
     search rules in
     one_more c.args.lines views view c.offset-offset.result _ _ c.args.cutter.now _ c.args.audit.now _
-    c.args.text.now.items _ before is c.requires.few c.offset-offset.ensures c.in_ok-add_reported-in-Ok-Some.ensures handed called
+    c.args.text.now.items _ before is c.requires.few c.offset-offset.ensures c.in_ok-add_reported-in-Ok-Some.ensures
+    handed called
 
 pub returns-in_err-add_reported-in-Ok-Some-clause-next : goal.returns-in_err-add_reported-in-Ok-Some-clause-next
 returns-in_err-add_reported-in-Ok-Some-clause-next g c = λ views before is.

@@ -1,9 +1,9 @@
-use Rattle.std.proofs.Common.{OnOk, subst}
+use Rattle.std.proofs.Common.{OnOk, ◌∙◌, subst}
 use Rattle.mseed_record.specs.Viewing.{view_of}
 use Rattle.mseed_audit.specs.Audit.{Held}
 use Rattle.mseed_audit.specs.Channels.{Added}
 use Rattle.mseed_audit.specs.private.Gathered.{IsAddedAlso}
-use Rattle.mseed_audit.proofs.Telling.{added_sound}
+use Rattle.mseed_audit.proofs.Telling.{added_lined, added_sound, added_unlined}
 use Rattle.mseed_audit.proofs.summary.add_reported.Goals as goal
 
 pub returns-then-add_sound : goal.returns-then-add_sound
@@ -14,9 +14,20 @@ returns-then-add_sound g c =
     (c.add_sound.ensures.number sound) (λ added is. c.add_sound.ensures.adds sound added c.args.offset is)
     (c.add_sound.ensures.sound sound)
 
-pub returns-else-add_sound : goal.returns-else-add_sound
-returns-else-add_sound g c =
+pub returns-in-OfRecords : goal.returns-in-OfRecords
+returns-in-OfRecords g c =
     let a : Added = record { view = view_of c.args.view.now; offset = c.args.offset } in
-    subst (λ (h : Held). OnOk c.add_judged.result (IsAddedAlso c.args.lines h c.add_judged.new.audit a
-    c.args.text.now.items c.add_judged.new.text.items)) (c.add_sound.ensures.unchanged c.if-add_sound.false)
-    c.add_judged.ensures
+    subst (λ (h : Held). OnOk c.push_reported.result (IsAddedAlso c.args.lines h c.add_judged.new.self a
+    c.args.text.now.items c.push_reported.new.text.items)) (c.add_sound.ensures.unchanged c.if-add_sound.false)
+    (added_lined c.push_reported.result c.args.lines c.add_sound.new.self c.add_judged.new.self a c.added.result
+    c.in_ok-why.why c.args.text.now.items c.push_reported.new.text.items c.in-OfRecords.is
+    (c.added.ensures ∙ c.in_ok-why.ensures.number) c.in_ok-why.ensures.number c.in_ok-why.ensures.adds
+    c.in_ok-why.ensures.found c.push_reported.ensures)
+
+pub returns-in-OfVerdicts : goal.returns-in-OfVerdicts
+returns-in-OfVerdicts g c =
+    let a : Added = record { view = view_of c.args.view.now; offset = c.args.offset } in
+    subst (λ (h : Held). IsAddedAlso c.args.lines h c.add_judged.new.self a c.args.text.now.items
+    c.args.text.now.items) (c.add_sound.ensures.unchanged c.if-add_sound.false)
+    (added_unlined c.args.lines c.add_sound.new.self c.add_judged.new.self a c.in_ok-why.why c.args.text.now.items
+    c.in-OfVerdicts.is c.in_ok-why.ensures.number c.in_ok-why.ensures.adds c.in_ok-why.ensures.found)

@@ -21,7 +21,7 @@ loop-codes-preserved g c =
 
 pub returns : goal.returns
 returns g c =
-    let all = all_made itself _ _ _ _ _ c.loop-codes.sorted.items _ c.loop-codes.invariant c.in-None.ensures.steps.0
-    c.into_iter-codes-iterator.ensures.into_iter_gives.0 c.self.invariant.0
+    let all = all_made itself _ _ _ _ _ c.loop-codes.sorted.items _ c.loop-codes.invariant
+    c.in-None.ensures.steps.0 c.into_iter-codes-iterator.ensures.into_iter_gives.0 c.self.invariant.0
     c.into_iter-codes-iterator.ensures.into_iter_gives.5 c.self.view_is in
     record { ascending = all.ascending; each = λ key. all.each key ∙ map_itself (lookup (same_key key) c.args.self) }
