@@ -1,43 +1,23 @@
 -- How many differences words have: seven each at the most.
-use Rattle.std.proofs.Common.{ℕ, ◌+◌, ◌*◌, ◌/◌, ◌^◌, ◌≤◌, List, [], ◌∷◌, length, ℤ, arith, length-append, eqb, Option}
-use Rattle.std.proofs.Common.{Some, None, Result}
+use Rattle.std.proofs.Common.{ℕ, ◌+◌, ◌*◌, ◌/◌, ◌^◌, ◌≤◌, List, [], ◌∷◌, length, ℤ, arith, refl, length-append, eqb}
+use Rattle.std.proofs.Common.{Option, Some, None, Result}
 use Rattle.std.proofs.lemmas.Bool.{cond_both}
 use Rattle.std.proofs.lemmas.List.{length-map}
 use Rattle.mseed_steim.specs.declared.scheme.Scheme.{Scheme}
-use Rattle.mseed_steim.specs.declared.scheme.Scheme.TheVariants.{One, Two}
 use Rattle.mseed_steim.specs.declared.differences.BadWordAt.{BadWordAt}
 use Rattle.mseed_steim.specs.Groups.{Group, group_of}
 use Rattle.mseed_steim.specs.private.Digits.{differences_in, differences_of}
 use Rattle.mseed_steim.specs.Frames.{DataWord}
 use Rattle.mseed_steim.specs.private.Items.{with_items, items_of}
-use Rattle.mseed_steim.proofs.Table.{cond_holds}
+use Rattle.mseed_steim.proofs.Table.{AllSized, group_sized}
 use Rattle.mseed_steim.proofs.Spelled.{length-digits}
 
--- each row has seven differences at the most
-data AllFew : Option Group → Type 0 where
-  no_row : AllFew None
-  row : (g : Group) → g.count ≤ 7 → AllFew (Some g)
-
-few : (s : Scheme) (c d : ℕ) → AllFew (group_of s c d)
-few One c d =
-    cond_holds AllFew (eqb c 1) _ _ (row _ (omega arith))
-    (cond_holds AllFew (eqb c 2) _ _ (row _ (omega arith))
-    (cond_holds AllFew (eqb c 3) _ _ (row _ (omega arith)) no_row))
-few Two c d =
-    cond_holds AllFew (eqb c 1) _ _ (row _ (omega arith))
-    (cond_holds AllFew (eqb c 2) _ _
-    (cond_holds AllFew (eqb d 1) _ _ (row _ (omega arith))
-    (cond_holds AllFew (eqb d 2) _ _ (row _ (omega arith))
-    (cond_holds AllFew (eqb d 3) _ _ (row _ (omega arith)) no_row)))
-    (cond_holds AllFew (eqb c 3) _ _
-    (cond_holds AllFew (eqb d 0) _ _ (row _ (omega arith))
-    (cond_holds AllFew (eqb d 1) _ _ (row _ (omega arith))
-    (cond_holds AllFew (eqb d 2) _ _ (row _ (omega arith)) no_row))) no_row))
-
-few_in : (w : DataWord) (o : Option Group) (more : List (Result ℤ BadWordAt)) → AllFew o
+few_in : (w : DataWord) (o : Option Group) (more : List (Result ℤ BadWordAt)) → AllSized o
     → length (with_items w (differences_in w.bits o) more) ≤ 7 + length more
-few_in w None more no_row = omega arith
-few_in w (Some g) more (row h p) = simp (length-append, length-map, length-digits) (omega arith)
+few_in w None more sized = omega arith
+few_in w (Some g) more sized =
+    let few : g.count ≤ 7 = (sized g refl).few in
+    simp (length-append, length-map, length-digits) (omega arith)
 
 few_items : (s : Scheme) (w : DataWord) (more : List (Result ℤ BadWordAt))
     → length (with_items w (differences_of s w.code w.bits) more) ≤ 7 + length more
@@ -45,7 +25,7 @@ unfolding differences_of
 few_items s w more = cond_both (eqb w.code 0) (Some []) (differences_in w.bits (group_of s w.code (w.bits / 2 ^ 30)))
     (λ (o : Option (List ℤ)). length (with_items w o more) ≤ 7 + length more)
     (λ _. omega arith)
-    (λ _. few_in w (group_of s w.code (w.bits / 2 ^ 30)) more (few s w.code (w.bits / 2 ^ 30)))
+    (λ _. few_in w (group_of s w.code (w.bits / 2 ^ 30)) more (group_sized s w.code (w.bits / 2 ^ 30)))
 
 pub few_of : (s : Scheme) (ws : List DataWord) → length (items_of s ws) ≤ 7 * length ws
 unfolding items_of

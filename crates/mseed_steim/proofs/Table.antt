@@ -1,5 +1,5 @@
 -- What the table's rows have in common.
-use Rattle.std.proofs.Common.{◌≡◌, ℕ, ◌+◌, ◌*◌, ◌/◌, ◌%◌, ◌^◌, ◌<◌, List, length, ℤ, arith, refl, subst, Bool, true}
+use Rattle.std.proofs.Common.{◌≡◌, ℕ, ◌+◌, ◌*◌, ◌/◌, ◌%◌, ◌^◌, ◌<◌, ◌≤◌, List, length, ℤ, arith, refl, subst, Bool, true}
 use Rattle.std.proofs.Common.{false, cond, Option, Some, None, eqb}
 use Rattle.mseed_steim.specs.declared.scheme.Scheme.{Scheme}
 use Rattle.mseed_steim.specs.declared.scheme.Scheme.TheVariants.{One, Two}
@@ -19,6 +19,7 @@ pub data Kind (g : Group) : Type 0 where
 
 pub record Sized (g : Group) : Type 0 where
   pub wide : 0 < g.width
+  pub few : g.count ≤ 7
   pub kind : Kind g
 
 abbrev pub AllSized : Option Group → Type 0
@@ -27,35 +28,35 @@ AllSized o = (g : Group) → o ≡ Some g → Sized g
 none_sized : AllSized None
 none_sized g e = cc
 
-some_sized : (g : Group) → 0 < g.width → Kind g → AllSized (Some g)
-some_sized g p q h e = let same : g ≡ h = cc in subst Sized same (record { wide = p; kind = q })
+some_sized : (g : Group) → 0 < g.width → g.count ≤ 7 → Kind g → AllSized (Some g)
+some_sized g p f q h e = let same : g ≡ h = cc in subst Sized same (record { wide = p; few = f; kind = q })
 
-plain_sized : (k w : ℕ) → 0 < w → w * k ≡ 32 → AllSized (plain k w)
-plain_sized k w p q = some_sized _ p (whole refl refl q)
+plain_sized : (k w : ℕ) → 0 < w → k ≤ 7 → w * k ≡ 32 → AllSized (plain k w)
+plain_sized k w p f q = some_sized _ p f (whole refl refl q)
 
-marked_sized : (k w : ℕ) → 0 < w → w * k ≡ 30 → AllSized (marked k w)
-marked_sized k w p q = some_sized _ p (full refl refl q)
+marked_sized : (k w : ℕ) → 0 < w → k ≤ 7 → w * k ≡ 30 → AllSized (marked k w)
+marked_sized k w p f q = some_sized _ p f (full refl refl q)
 
 wide_sized : (d : ℕ) → AllSized (wide_group d)
 wide_sized d =
-    cond_holds AllSized (eqb d 1) _ _ (marked_sized 1 30 (omega arith) refl)
-    (cond_holds AllSized (eqb d 2) _ _ (marked_sized 2 15 (omega arith) refl)
-    (cond_holds AllSized (eqb d 3) _ _ (marked_sized 3 10 (omega arith) refl) none_sized))
+    cond_holds AllSized (eqb d 1) _ _ (marked_sized 1 30 (omega arith) (omega arith) refl)
+    (cond_holds AllSized (eqb d 2) _ _ (marked_sized 2 15 (omega arith) (omega arith) refl)
+    (cond_holds AllSized (eqb d 3) _ _ (marked_sized 3 10 (omega arith) (omega arith) refl) none_sized))
 
 narrow_sized : (d : ℕ) → AllSized (narrow_group d)
 narrow_sized d =
-    cond_holds AllSized (eqb d 0) _ _ (marked_sized 5 6 (omega arith) refl)
-    (cond_holds AllSized (eqb d 1) _ _ (marked_sized 6 5 (omega arith) refl)
-    (cond_holds AllSized (eqb d 2) _ _ (some_sized _ (omega arith) (short refl refl refl)) none_sized))
+    cond_holds AllSized (eqb d 0) _ _ (marked_sized 5 6 (omega arith) (omega arith) refl)
+    (cond_holds AllSized (eqb d 1) _ _ (marked_sized 6 5 (omega arith) (omega arith) refl)
+    (cond_holds AllSized (eqb d 2) _ _ (some_sized _ (omega arith) (omega arith) (short refl refl refl)) none_sized))
 
 -- each row is sized
 pub group_sized : (s : Scheme) (c d : ℕ) → AllSized (group_of s c d)
 group_sized One c d =
-    cond_holds AllSized (eqb c 1) _ _ (plain_sized 4 8 (omega arith) refl)
-    (cond_holds AllSized (eqb c 2) _ _ (plain_sized 2 16 (omega arith) refl)
-    (cond_holds AllSized (eqb c 3) _ _ (plain_sized 1 32 (omega arith) refl) none_sized))
+    cond_holds AllSized (eqb c 1) _ _ (plain_sized 4 8 (omega arith) (omega arith) refl)
+    (cond_holds AllSized (eqb c 2) _ _ (plain_sized 2 16 (omega arith) (omega arith) refl)
+    (cond_holds AllSized (eqb c 3) _ _ (plain_sized 1 32 (omega arith) (omega arith) refl) none_sized))
 group_sized Two c d =
-    cond_holds AllSized (eqb c 1) _ _ (plain_sized 4 8 (omega arith) refl)
+    cond_holds AllSized (eqb c 1) _ _ (plain_sized 4 8 (omega arith) (omega arith) refl)
     (cond_holds AllSized (eqb c 2) _ _ (wide_sized d)
     (cond_holds AllSized (eqb c 3) _ _ (narrow_sized d) none_sized))
 
