@@ -12,20 +12,9 @@ use Rattle.mseed_steim.specs.Frames.{DataWord, data_word, words_from, data_words
 use Rattle.mseed_steim.specs.Runs.{SpellsRun}
 use Rattle.mseed_steim.specs.Packing.{IsFullest, PacksRun, IsEmptyWord, IsTooLargeAt, IsFirstTooLarge, IsFewest}
 use Rattle.mseed_steim.specs.Packing.{IsFarthest, LeavesRoom}
+use Rattle.mseed_steim.proofs.Walking.{words_none, words_skip, words_step}
 use Rattle.mseed_steim.proofs.Packs.{run_more, run_prefix, prefix_spelled, first_large, taken_not_large}
 use Rattle.mseed_steim.proofs.Fewest.{is_fewest, is_farthest, no_room}
-
-words_skip : (p : List ℕ) (k n : ℕ) → k % 16 ≡ 0 → words_from p k (suc n) ≡ words_from p (k + 1) n
-unfolding words_from
-words_skip p k n e = rw e refl
-
-words_step : (p : List ℕ) (k n : ℕ) → k % 16 ≢ 0 → words_from p k (suc n) ≡ data_word p k ∷ words_from p (k + 1) n
-unfolding words_from
-words_step p k n h = rw (ne_eqb (k % 16) 0 h) refl
-
-words_none : (p : List ℕ) (k : ℕ) → words_from p k 0 ≡ []
-unfolding words_from
-words_none p k = refl
 
 -- one more word at the end: data, or a frame's first
 words_push : (p : List ℕ) (k n : ℕ) → (k + n) % 16 ≢ 0

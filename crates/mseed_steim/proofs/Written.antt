@@ -7,7 +7,7 @@ use Rattle.std.proofs.Math.Nat.{pow-le-pow_right, mul_assoc}
 use Rattle.std.proofs.lemmas.Bool.{cases_lt, cases_eq, ne_eqb, eq-eqb}
 use Rattle.std.proofs.lemmas.Nat.{or_comm, or_shr, or_mod, shl_whole, shl-shr, shl_below, shr_below, mod_low, pow-add}
 use Rattle.std.proofs.lemmas.List.{length-take-le, length-drop, drop-drop, drop_at, drop_all, get_or-drop, get_or-take}
-use Rattle.std.proofs.lemmas.List.{get_or_append_left, append_assoc, append-nil}
+use Rattle.std.proofs.lemmas.List.{get_or_append_left, append_assoc, append-nil, take_rest}
 use Rattle.byteorder.specs.Endian.{big_number, big_bytes}
 use Rattle.byteorder.specs.Numbers.{big_number-reads_back, length-bytes_high_first}
 use Rattle.mseed_steim.specs.Frames.{word_at, code_at}
@@ -67,7 +67,7 @@ word_with a n p k j e h small =
     (cases_eq k j)
 
 pub word_written : (p buf : List ℕ) (n j k : ℕ) → 4 * (j + 1) ≤ length p → n < 2 ^ 32
-    → buf ≡ big_bytes 4 n ++ drop 4 (drop (4 * j) p)
+    → buf ≡ big_bytes 4 n ++ drop 4 (take (length p - 4 * j) (drop (4 * j) p))
     → word_at (put_mid (4 * j) (length p - 4 * j) p buf) k ≡ cond (eqb k j) n (word_at p k)
 word_written p buf n j k h small e =
     let left : length (drop (4 * j) p) ≡ length p - 4 * j = length-drop (4 * j) p in
@@ -75,6 +75,7 @@ word_written p buf n j k h small e =
     drop_all (length p - 4 * j) (drop (4 * j) p) (omega (arith, left)) in
     let buf_is : buf ++ post_of (4 * j) (length p - 4 * j) p ≡ big_bytes 4 n ++ drop (4 * j + 4) p =
     ap (λ (l : List ℕ). buf ++ l) none ∙ append-nil buf ∙ e
+    ∙ ap (λ (l : List ℕ). big_bytes 4 n ++ drop 4 l) (take_rest p (4 * j))
     ∙ ap (λ (l : List ℕ). big_bytes 4 n ++ l) (drop-drop 4 (4 * j) p) in
     let whole : put_mid (4 * j) (length p - 4 * j) p buf ≡ with_bytes (4 * j) p (big_bytes 4 n) =
     ap (λ (l : List ℕ). take (4 * j) p ++ l) buf_is in
