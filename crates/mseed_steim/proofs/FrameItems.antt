@@ -1,7 +1,7 @@
 -- A frame's words in lanes are the payload's data words, and a row of lanes is the group of the word.
 use Rattle.std.proofs.Common.{◌≡◌, ◌≢◌, ℕ, zero, suc, ◌+◌, ◌-◌, ◌*◌, ◌/◌, ◌%◌, ◌^◌, ◌<◌, ◌≤◌, List, [], ◌∷◌, ◌++◌}
 use Rattle.std.proofs.Common.{length, map, take, drop, get_or, ℤ, ◌+ℤ◌, refl, sym, ap, ◌∙◌, append_assoc, length-append}
-use Rattle.std.proofs.Common.{arith, inl, inr, Some, Ok, Result}
+use Rattle.std.proofs.Common.{arith, inl, inr, subst, Some, Ok, Result}
 use Rattle.std.specs.List.{range_with_len}
 use Rattle.std.proofs.lemmas.Int.{ints}
 use Rattle.std.proofs.lemmas.Bool.{le-ltb, lt-ltb}
@@ -11,14 +11,14 @@ use Rattle.mseed_steim.specs.declared.scheme.Scheme.{Scheme}
 use Rattle.mseed_steim.specs.declared.scheme.Scheme.TheVariants.{One, Two}
 use Rattle.mseed_steim.specs.declared.differences.BadWordAt.{BadWordAt}
 use Rattle.mseed_steim.specs.declared.frame.Moved.{Moved}
-use Rattle.mseed_steim.specs.private.Moves.{MovesBy}
+use Rattle.mseed_steim.specs.private.Moves.{Adds, MovesBy}
 use Rattle.mseed_steim.specs.private.Digits.{digits, differences_of}
 use Rattle.mseed_steim.specs.Frames.{DataWord, data_word, word_at, code_at, words_from}
 use Rattle.mseed_steim.specs.private.Items.{items_of}
 use Rattle.mseed_steim.specs.private.Lanes.{total, span, sum_z, words, word_at as lanes_word_at, row_at, Begins}
-use Rattle.mseed_steim.specs.private.Lanes.{counts_two, widths_two, moved_two, spanned_two, counts_one, widths_one}
-use Rattle.mseed_steim.specs.private.Lanes.{moved_one, spanned_one}
+use Rattle.mseed_steim.specs.private.Lanes.{counts_two, widths_two, counts_one, widths_one, counts_of, widths_of}
 use Rattle.mseed_steim.proofs.Below.{four}
+use Rattle.mseed_steim.proofs.FrameNear.{frame_near}
 use Rattle.mseed_steim.proofs.Spelled.{length-digits}
 use Rattle.mseed_steim.proofs.Walking.{words_none, words_step, items_group}
 
@@ -33,7 +33,7 @@ abbrev Row : Scheme → List ℕ → List ℕ → ℕ → ℕ → ℕ → Type 0
 Row s counts widths c word t = word / 2 ^ 30 ≡ t → get_or counts (4 * c + t) 0 < 128
     → differences_of s c word ≡ Some (digits (get_or widths (4 * c + t) 0) word (get_or counts (4 * c + t) 0))
 
-pub rows_two : Rows Two counts_two widths_two
+rows_two : Rows Two counts_two widths_two
 unfolding counts_two widths_two differences_of digits
 rows_two c word h small few = four (λ n. (t : ℕ) → t < 4 → Row Two counts_two widths_two n word t)
     (four (Row Two counts_two widths_two 0 word) (λ _ _. refl) (λ _ _. refl) (λ _ _. refl) (λ _ _. refl))
@@ -45,7 +45,7 @@ rows_two c word h small few = four (λ n. (t : ℕ) → t < 4 → Row Two counts
     (λ e _. rw e refl) (λ _ few. absurd (omega (arith, few))))
     c h (word / 2 ^ 30) (omega arith) refl few
 
-pub rows_one : Rows One counts_one widths_one
+rows_one : Rows One counts_one widths_one
 unfolding counts_one widths_one differences_of digits
 rows_one c word h small few = four (λ n. (t : ℕ) → t < 4 → Row One counts_one widths_one n word t)
     (four (Row One counts_one widths_one 0 word) (λ _ _. refl) (λ _ _. refl) (λ _ _. refl) (λ _ _. refl))
@@ -216,7 +216,7 @@ moves s counts widths p f begin k from m (inr h) = rw h.0 (moves_4 s counts widt
 word_small : (f : List ℕ) (w : ℕ) → ((i : ℕ) → get_or f i 0 < 256) → lanes_word_at f w < 2 ^ 32
 word_small f w h = omega (arith, h (4 * w + 0), h (4 * w + 1), h (4 * w + 2), h (4 * w + 3))
 
-pub reads_by : (s : Scheme) (counts widths p f : List ℕ) (k from : ℕ) → Rows s counts widths
+reads_by : (s : Scheme) (counts widths p f : List ℕ) (k from : ℕ) → Rows s counts widths
     → ((r : ℕ) → r < 4 → get_or counts r 0 ≡ 0) → f ≡ take 64 (drop (64 * k) p) → ((i : ℕ) → get_or f i 0 < 256)
     → Reads s counts widths p f k from
 reads_by s counts widths p f k from rows zeros e h = record {
@@ -232,30 +232,23 @@ reads_by s counts widths p f k from rows zeros e h = record {
       rw row (zeros (lanes_word_at f j / 2 ^ 30) (omega (arith, small)));
 }
 
-pub zeros_two : (r : ℕ) → r < 4 → get_or counts_two r 0 ≡ 0
+zeros_two : (r : ℕ) → r < 4 → get_or counts_two r 0 ≡ 0
 unfolding counts_two
 zeros_two = four (λ r. get_or counts_two r 0 ≡ 0) refl refl refl refl
 
-pub zeros_one : (r : ℕ) → r < 4 → get_or counts_one r 0 ≡ 0
+zeros_one : (r : ℕ) → r < 4 → get_or counts_one r 0 ≡ 0
 unfolding counts_one
 zeros_one = four (λ r. get_or counts_one r 0 ≡ 0) refl refl refl refl
 
-pub moves_two : (p f begin : List ℕ) (k from : ℕ) (m : Moved) → Begins begin from → f ≡ take 64 (drop (64 * k) p)
-    → ((i : ℕ) → get_or f i 0 < 256)
-    → m.count ≡ sum_l (map (λ w. get_or counts_two (row_at f from w) 0) words)
-    → (m.count < 128 → m.by ≡ sum_z (map (moved_two f from) words))
-    → (m.count < 128 → sum_l (map (spanned_two f from) words) ≤ 1048576)
-    → MovesBy Two (words_from p (16 * k + from) (16 - from)) m
-moves_two p f begin k from m begins e h =
-    moves Two counts_two widths_two p f begin k from m begins
-    (reads_by Two counts_two widths_two p f k from rows_two zeros_two e h)
+pub reads_as : (s : Scheme) (p f : List ℕ) (k from : ℕ) → f ≡ take 64 (drop (64 * k) p)
+    → ((i : ℕ) → get_or f i 0 < 256) → Reads s (counts_of s) (widths_of s) p f k from
+reads_as One p f k from = reads_by One _ _ p f k from rows_one zeros_one
+reads_as Two p f k from = reads_by Two _ _ p f k from rows_two zeros_two
 
-pub moves_one : (p f begin : List ℕ) (k from : ℕ) (m : Moved) → Begins begin from → f ≡ take 64 (drop (64 * k) p)
-    → ((i : ℕ) → get_or f i 0 < 256)
-    → m.count ≡ sum_l (map (λ w. get_or counts_one (row_at f from w) 0) words)
-    → (m.count < 128 → m.by ≡ sum_z (map (moved_one f from) words))
-    → (m.count < 128 → sum_l (map (spanned_one f from) words) ≤ 1048576)
-    → MovesBy One (words_from p (16 * k + from) (16 - from)) m
-moves_one p f begin k from m begins e h =
-    moves One counts_one widths_one p f begin k from m begins
-    (reads_by One counts_one widths_one p f k from rows_one zeros_one e h)
+-- what is counted and added up of the frame is what its words move by
+pub moved_by : (s : Scheme) (p f begin : List ℕ) (k from : ℕ) (m : Moved) → Begins begin from
+    → f ≡ take 64 (drop (64 * k) p) → ((i : ℕ) → get_or f i 0 < 256) → Adds s f from m
+    → MovesBy s (words_from p (16 * k + from) (16 - from)) m
+moved_by s p f begin k from m begins e h a =
+    moves s (counts_of s) (widths_of s) p f begin k from m begins (reads_as s p f k from e h) a.count a.by
+    (λ few. frame_near s f from h (subst (λ (n : ℕ). n < 128) a.count few))

@@ -8,8 +8,10 @@ use Rattle.std.proofs.lemmas.Nat.{mod_below, pow_pos}
 use lib.Lanes.{sum_l}
 use Rattle.mseed_steim.specs.private.Digits.{signed, digits}
 use Rattle.mseed_steim.specs.private.Lanes.{span}
-use Rattle.mseed_steim.specs.private.Lanes.{words, word_at, row_at, counts_two, widths_two, spanned_two, counts_one}
-use Rattle.mseed_steim.specs.private.Lanes.{widths_one, spanned_one}
+use Rattle.mseed_steim.specs.declared.scheme.Scheme.{Scheme}
+use Rattle.mseed_steim.specs.declared.scheme.Scheme.TheVariants.{One, Two}
+use Rattle.mseed_steim.specs.private.Lanes.{words, word_at, row_at, counts_two, widths_two, counts_one, widths_one}
+use Rattle.mseed_steim.specs.private.Lanes.{counts_of, widths_of, spanned}
 use Rattle.mseed_steim.proofs.Below.{sixteen}
 use Rattle.mseed_steim.proofs.LaneSums.{long_words}
 use Rattle.mseed_steim.proofs.Words.{twice_half}
@@ -78,18 +80,14 @@ all_near count far h (w ∷ ws) lt =
     let b = all_near count far h ws (omega (arith, lt)) in
     omega (arith, a, b)
 
-pub frame_near_two : (f : List ℕ) (from : ℕ) → ((k : ℕ) → get_or f k 0 < 256)
-    → sum_l (map (λ w. get_or counts_two (row_at f from w) 0) words) < 128
-    → sum_l (map (spanned_two f from) words) ≤ 1048576
-frame_near_two f from h few =
-    subst (λ n. sum_l (map (spanned_two f from) words) ≤ 65536 * n) long_words
-    (all_near (λ w. get_or counts_two (row_at f from w) 0) (spanned_two f from)
-    (λ w. near_two (word_at f w) (row_at f from w) (row_small f from h w)) words few)
+near_row : (s : Scheme) (word row : ℕ) → row < 16 → Near (widths_of s) (counts_of s) word row
+near_row One = near_one
+near_row Two = near_two
 
-pub frame_near_one : (f : List ℕ) (from : ℕ) → ((k : ℕ) → get_or f k 0 < 256)
-    → sum_l (map (λ w. get_or counts_one (row_at f from w) 0) words) < 128
-    → sum_l (map (spanned_one f from) words) ≤ 1048576
-frame_near_one f from h few =
-    subst (λ n. sum_l (map (spanned_one f from) words) ≤ 65536 * n) long_words
-    (all_near (λ w. get_or counts_one (row_at f from w) 0) (spanned_one f from)
-    (λ w. near_one (word_at f w) (row_at f from w) (row_small f from h w)) words few)
+pub frame_near : (s : Scheme) (f : List ℕ) (from : ℕ) → ((k : ℕ) → get_or f k 0 < 256)
+    → sum_l (map (λ w. get_or (counts_of s) (row_at f from w) 0) words) < 128
+    → sum_l (map (spanned s f from) words) ≤ 1048576
+frame_near s f from h few =
+    subst (λ n. sum_l (map (spanned s f from) words) ≤ 65536 * n) long_words
+    (all_near (λ w. get_or (counts_of s) (row_at f from w) 0) (spanned s f from)
+    (λ w. near_row s (word_at f w) (row_at f from w) (row_small f from h w)) words few)

@@ -3,14 +3,15 @@ use Rattle.std.proofs.Common.{to_z, w32, negsuc, ◌≡◌, ℕ, suc, ◌+◌, �
 use Rattle.std.proofs.Common.{map, get_or, bit_and, bit_xor, refl, sym, ap, subst, ◌∙◌, arith, ℤ, pos, ◌+ℤ◌}
 use Rattle.std.proofs.lemmas.Int.{ints, to_z_pos}
 use lib.Lanes.{sum_l}
+use Rattle.mseed_steim.specs.declared.scheme.Scheme.TheVariants.{One}
 use Rattle.mseed_steim.specs.private.Digits.{digits}
 use Rattle.mseed_steim.specs.private.Lanes.{total, word_of}
 use Rattle.mseed_steim.specs.private.Lanes.{words, sum_z, byte_at, row_at, low_one, high_one, flipped, flipped_low}
-use Rattle.mseed_steim.specs.private.Lanes.{least_one, counts_one, widths_one, moved_one}
+use Rattle.mseed_steim.specs.private.Lanes.{least_one, counts_one, widths_one, moved}
 use Rattle.mseed_steim.proofs.Below.{sixteen}
 use Rattle.mseed_steim.proofs.LaneSums.{long_words}
 use Rattle.mseed_steim.proofs.FrameWords.{gone}
-use Rattle.mseed_steim.proofs.FrameSums.{row_small}
+use Rattle.mseed_steim.proofs.FrameSums.{part_at, row_small}
 use Rattle.std.proofs.Math.Facts.{to_z-neg}
 use Rattle.std.proofs.lemmas.Bool.{cases_lt}
 use Rattle.std.proofs.Common.{⊎_elim}
@@ -165,37 +166,29 @@ whole_at_one f from w = whole_one (row_at f from w) (byte_at f 0 w) (byte_at f 1
 
 reported_one : (f : List ℕ) (from : ℕ) → ((k : ℕ) → get_or f k 0 < 256) → (w : ℕ)
     → Reported_one (λ w. get_or counts_one (row_at f from w) 0) (whole_at_one f from)
-    (λ w. 512 * least_one (row_at f from w)) (moved_one f from) w
+    (λ w. 512 * least_one (row_at f from w)) (moved One f from) w
 reported_one f from h w =
     tells_one (byte_at f 0 w) (byte_at f 1 w) (byte_at f 2 w) (byte_at f 3 w) (h (4 * w + 0)) (h (4 * w + 1))
     (h (4 * w + 2)) (h (4 * w + 3)) (row_at f from w) (row_small f from h w)
 
 pub frame_sum_one : (f : List ℕ) (from : ℕ) → ((k : ℕ) → get_or f k 0 < 256) → (r le LO HI : ℕ)
     → (r + 512 * le) % 4294967296 ≡ (LO + 256 * HI) % 4294967296 → r < 4294967296
-    → LO ≡ sum_l (map (λ w. low_one (row_at f from w) (flipped (row_at f from w) (byte_at f 0 w))
-    (flipped_low (row_at f from w) (byte_at f 1 w)) (flipped (row_at f from w) (byte_at f 2 w))
-    (flipped_low (row_at f from w) (byte_at f 3 w))) words)
-    → HI ≡ sum_l (map (λ w. high_one (row_at f from w) (flipped (row_at f from w) (byte_at f 0 w))
-    (flipped_low (row_at f from w) (byte_at f 1 w)) (flipped (row_at f from w) (byte_at f 2 w))
-    (flipped_low (row_at f from w) (byte_at f 3 w))) words)
+    → LO ≡ sum_l (map (part_at low_one flipped flipped_low flipped flipped_low f from) words)
+    → HI ≡ sum_l (map (part_at high_one flipped flipped_low flipped flipped_low f from) words)
     → le ≡ sum_l (map (λ w. least_one (row_at f from w)) words)
     → sum_l (map (λ w. get_or counts_one (row_at f from w) 0) words) < 128
-    → to_z w32 r ≡ sum_z (map (moved_one f from) words)
+    → to_z w32 r ≡ sum_z (map (moved One f from) words)
 frame_sum_one f from h r le LO HI come small lo hi l few =
     let all = reported_all_one (λ w. get_or counts_one (row_at f from w) 0) (whole_at_one f from)
-    (λ w. 512 * least_one (row_at f from w)) (moved_one f from) (reported_one f from h) words few in
+    (λ w. 512 * least_one (row_at f from w)) (moved One f from) (reported_one f from h) words few in
     let W : ℕ = sum_l (map (whole_at_one f from) words) in
     let L : ℕ = sum_l (map (λ w. 512 * least_one (row_at f from w)) words) in
     let is_w : LO + 256 * HI ≡ W =
-    rw (lo, hi) (sym (sums_256 (λ w. low_one (row_at f from w) (flipped (row_at f from w) (byte_at f 0 w))
-    (flipped_low (row_at f from w) (byte_at f 1 w)) (flipped (row_at f from w) (byte_at f 2 w))
-    (flipped_low (row_at f from w) (byte_at f 3 w)))
-    (λ w. high_one (row_at f from w) (flipped (row_at f from w) (byte_at f 0 w))
-    (flipped_low (row_at f from w) (byte_at f 1 w)) (flipped (row_at f from w) (byte_at f 2 w))
-    (flipped_low (row_at f from w) (byte_at f 3 w))) words)) in
+    rw (lo, hi) (sym (sums_256 (part_at low_one flipped flipped_low flipped flipped_low f from)
+    (part_at high_one flipped flipped_low flipped flipped_low f from) words)) in
     let is_l : 512 * le ≡ L = rw l (sym (sums_512 (λ w. least_one (row_at f from w)) words)) in
     let e : (r + L) % 4294967296 ≡ W % 4294967296 =
     ap (λ n. (r + n) % 4294967296) (sym is_l) ∙ come ∙ ap (λ n. n % 4294967296) is_w in
     let bound_w : W ≤ 2097152 = subst (λ n. W ≤ 131072 * n) long_words all.1 in
     let bound_l : L ≤ 1048576 = subst (λ n. L ≤ 65536 * n) long_words all.2 in
-    read_back r W L (sum_z (map (moved_one f from) words)) e small bound_w bound_l all.0
+    read_back r W L (sum_z (map (moved One f from) words)) e small bound_w bound_l all.0

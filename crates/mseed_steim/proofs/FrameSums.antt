@@ -5,8 +5,9 @@ use Rattle.std.proofs.Common.{arith, ℤ, pos, ◌+ℤ◌, ◌-ℤ◌}
 use Rattle.std.proofs.lemmas.Int.{ints}
 use lib.Lanes.{sum_l}
 use Rattle.std.proofs.lemmas.Int.{to_z_pos, to_z-of_z}
+use Rattle.mseed_steim.specs.declared.scheme.Scheme.TheVariants.{Two}
 use Rattle.mseed_steim.specs.private.Lanes.{word_of}
-use Rattle.mseed_steim.specs.private.Lanes.{words, sum_z, byte_at, word_at, row_at, moved_two, counts_two, ones_two}
+use Rattle.mseed_steim.specs.private.Lanes.{words, sum_z, byte_at, word_at, row_at, moved, counts_two, ones_two}
 use Rattle.mseed_steim.specs.private.Lanes.{fine_two, coarse_two, turned_a, turned_b, turned_c, turned_d, least_two}
 use Rattle.mseed_steim.specs.private.Lanes.{least_coarse_two}
 use Rattle.mseed_steim.proofs.LaneSums.{long_words}
@@ -88,9 +89,16 @@ row_small f from h w =
 abbrev pub whole_at : List ℕ → ℕ → ℕ → ℕ
 whole_at f from w = whole (row_at f from w) (byte_at f 0 w) (byte_at f 1 w) (byte_at f 2 w) (byte_at f 3 w)
 
+-- a part of a word, some bits of whose bytes are turned over
+abbrev pub part_at : (ℕ → ℕ → ℕ → ℕ → ℕ → ℕ) → (ℕ → ℕ → ℕ) → (ℕ → ℕ → ℕ) → (ℕ → ℕ → ℕ) → (ℕ → ℕ → ℕ) → List ℕ → ℕ
+    → ℕ → ℕ
+part_at part a b c d f from w =
+    part (row_at f from w) (a (row_at f from w) (byte_at f 0 w)) (b (row_at f from w) (byte_at f 1 w))
+    (c (row_at f from w) (byte_at f 2 w)) (d (row_at f from w) (byte_at f 3 w))
+
 reported : (f : List ℕ) (from : ℕ) → ((k : ℕ) → get_or f k 0 < 256) → (w : ℕ)
     → Reported (λ w. get_or counts_two (row_at f from w) 0) (whole_at f from) (λ w. least (row_at f from w))
-    (moved_two f from) w
+    (moved Two f from) w
 reported f from h w =
     tells (byte_at f 0 w) (byte_at f 1 w) (byte_at f 2 w) (byte_at f 3 w) (h (4 * w + 0)) (h (4 * w + 1))
     (h (4 * w + 2)) (h (4 * w + 3)) (row_at f from w) (row_small f from h w)
@@ -101,36 +109,24 @@ cast_back n lt = ap (λ z. to_z w32 (of_z w32 (z -ℤ pos 1048576))) (to_z_pos w
 
 pub frame_sum : (f : List ℕ) (from : ℕ) → ((k : ℕ) → get_or f k 0 < 256) → (r le far ON FI CO : ℕ)
     → (r + 128 * (8 * le + 256 * far)) % 4294967296 ≡ (128 * ON + FI + 32768 * CO) % 4294967296 → r < 4294967296
-    → ON ≡ sum_l (map (λ w. ones_two (row_at f from w) (turned_a (row_at f from w) (byte_at f 0 w))
-    (turned_b (row_at f from w) (byte_at f 1 w)) (turned_c (row_at f from w) (byte_at f 2 w))
-    (turned_d (row_at f from w) (byte_at f 3 w))) words)
-    → FI ≡ sum_l (map (λ w. fine_two (row_at f from w) (turned_a (row_at f from w) (byte_at f 0 w))
-    (turned_b (row_at f from w) (byte_at f 1 w)) (turned_c (row_at f from w) (byte_at f 2 w))
-    (turned_d (row_at f from w) (byte_at f 3 w))) words)
-    → CO ≡ sum_l (map (λ w. coarse_two (row_at f from w) (turned_a (row_at f from w) (byte_at f 0 w))
-    (turned_b (row_at f from w) (byte_at f 1 w)) (turned_c (row_at f from w) (byte_at f 2 w))
-    (turned_d (row_at f from w) (byte_at f 3 w))) words)
+    → ON ≡ sum_l (map (part_at ones_two turned_a turned_b turned_c turned_d f from) words)
+    → FI ≡ sum_l (map (part_at fine_two turned_a turned_b turned_c turned_d f from) words)
+    → CO ≡ sum_l (map (part_at coarse_two turned_a turned_b turned_c turned_d f from) words)
     → le ≡ sum_l (map (λ w. least_two (row_at f from w)) words)
     → far ≡ sum_l (map (λ w. least_coarse_two (row_at f from w)) words)
     → sum_l (map (λ w. get_or counts_two (row_at f from w) 0) words) < 128
     → to_z w32 (of_z w32 (to_z w32 ((r + 134217728) % 4294967296 / 128) -ℤ pos 1048576))
-    ≡ sum_z (map (moved_two f from) words)
+    ≡ sum_z (map (moved Two f from) words)
 frame_sum f from h r le far ON FI CO come small on fi co l c few =
     let all = reported_all (λ w. get_or counts_two (row_at f from w) 0) (whole_at f from) (λ w. least (row_at f from w))
-    (moved_two f from) (reported f from h) words few in
+    (moved Two f from) (reported f from h) words few in
     let W : ℕ = sum_l (map (whole_at f from) words) in
     let L : ℕ = sum_l (map (λ w. least (row_at f from w)) words) in
     let is_w : 128 * ON + FI + 32768 * CO ≡ W =
     rw (on, fi, co) (sym (three_sums
-    (λ w. ones_two (row_at f from w) (turned_a (row_at f from w) (byte_at f 0 w))
-    (turned_b (row_at f from w) (byte_at f 1 w)) (turned_c (row_at f from w) (byte_at f 2 w))
-    (turned_d (row_at f from w) (byte_at f 3 w)))
-    (λ w. fine_two (row_at f from w) (turned_a (row_at f from w) (byte_at f 0 w))
-    (turned_b (row_at f from w) (byte_at f 1 w)) (turned_c (row_at f from w) (byte_at f 2 w))
-    (turned_d (row_at f from w) (byte_at f 3 w)))
-    (λ w. coarse_two (row_at f from w) (turned_a (row_at f from w) (byte_at f 0 w))
-    (turned_b (row_at f from w) (byte_at f 1 w)) (turned_c (row_at f from w) (byte_at f 2 w))
-    (turned_d (row_at f from w) (byte_at f 3 w))) words)) in
+    (part_at ones_two turned_a turned_b turned_c turned_d f from)
+    (part_at fine_two turned_a turned_b turned_c turned_d f from)
+    (part_at coarse_two turned_a turned_b turned_c turned_d f from) words)) in
     let is_l : 8 * le + 256 * far ≡ L =
     rw (l, c) (sym (least_sums (λ w. least_two (row_at f from w)) (λ w. least_coarse_two (row_at f from w))
     words)) in
@@ -140,7 +136,7 @@ frame_sum f from h r le far ON FI CO come small on fi co l c few =
     let bound_l : L ≤ 524288 = subst (λ n. L ≤ 32768 * n) long_words all.3 in
     let n : ℕ = (r + 134217728) % 4294967296 / 128 in
     cast_back n (under r)
-    ∙ lowered n (W / 128) L (sum_z (map (moved_two f from) words)) (raised r W L e small all.0 bound_w bound_l) all.1
+    ∙ lowered n (W / 128) L (sum_z (map (moved Two f from) words)) (raised r W L e small all.0 bound_w bound_l) all.1
   where
     under : (r : ℕ) → (r + 134217728) % 4294967296 / 128 < 33554432
     under r = omega arith

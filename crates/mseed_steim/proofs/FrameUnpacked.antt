@@ -15,14 +15,13 @@ use Rattle.mseed_steim.specs.Frames.{DataWord, data_word, word_at, code_at, word
 use Rattle.mseed_steim.specs.private.Items.{items_of}
 use Rattle.mseed_steim.specs.private.Lanes.{span, words, row_at, Begins, code_from, counts_one, counts_two}
 use Rattle.mseed_steim.specs.private.Lanes.{word_at as lanes_word_at}
-use Rattle.mseed_steim.specs.private.Unpacked.{AreNarrow, FitIn, Unpacks, counts_of, widths_of, lanes_of}
-use Rattle.mseed_steim.specs.private.Unpacked.{differences_at, unpacked}
+use Rattle.mseed_steim.specs.private.Lanes.{counts_of, widths_of, differences_at}
+use Rattle.mseed_steim.specs.private.Unpacked.{AreNarrow, FitIn, Unpacks, lanes_of, unpacked}
 use Rattle.mseed_steim.proofs.Below.{sixteen}
 use Rattle.mseed_steim.proofs.Walking.{words_none, words_step, items_group}
-use Rattle.mseed_steim.proofs.FrameItems.{Reads, reads_by, rows_one, rows_two, zeros_one, zeros_two, none_at}
-use Rattle.mseed_steim.proofs.FrameItems.{span-append}
+use Rattle.mseed_steim.proofs.FrameItems.{Reads, reads_as, none_at, span-append}
 use Rattle.mseed_steim.proofs.LaneDigits.{at_word, one_of_sum}
-use Rattle.mseed_steim.proofs.FrameNear.{frame_near_one, frame_near_two}
+use Rattle.mseed_steim.proofs.FrameNear.{frame_near}
 use Rattle.mseed_steim.proofs.FrameSums.{row_small}
 
 -- one word more
@@ -63,11 +62,6 @@ spelled s p f k from reads narrow (suc n) j some behind end rest =
     ∙ sym (append_assoc (map Ok group) (map Ok others) (items_of s rest))
     ∙ ap (λ (xs : List (Result ℤ BadWordAt)). xs ++ items_of s rest) (sym (map-append Ok group others))
 
-reads_as : (s : Scheme) (p f : List ℕ) (k from : ℕ) → f ≡ take 64 (drop (64 * k) p) → ((i : ℕ) → get_or f i 0 < 256)
-    → Reads s (counts_of s) (widths_of s) p f k from
-reads_as One p f k from = reads_by One _ _ p f k from rows_one zeros_one
-reads_as Two p f k from = reads_by Two _ _ p f k from rows_two zeros_two
-
 -- no word before the first has any
 behind_4 : (s : Scheme) (p f : List ℕ) (k : ℕ) → Reads s (counts_of s) (widths_of s) p f k 4
     → unpacked s f 4 1 15 ≡ unpacked s f 4 4 12
@@ -105,8 +99,7 @@ near_sum s f from most = let all = span_unpacked s f from 15 1 in omega (arith, 
 
 pub all_near : (s : Scheme) (f : List ℕ) (from : ℕ) → ((i : ℕ) → get_or f i 0 < 256)
     → sum_l (map (λ w. get_or (counts_of s) (row_at f from w) 0) words) < 128 → span (unpacked s f from 1 15) ≤ 2 ^ 20
-all_near One f from octets few = near_sum One f from (frame_near_one f from octets few)
-all_near Two f from octets few = near_sum Two f from (frame_near_two f from octets few)
+all_near s f from octets few = near_sum s f from (frame_near s f from octets few)
 
 pub lanes_few : (s : Scheme) → lanes_of s ≤ 8
 lanes_few One = omega arith

@@ -6,7 +6,7 @@ use Rattle.std.specs.List.{range_with_len}
 use lib.Lanes.{all_below, zip2, sum_l, fold_l, dots, Each1}
 use lib.Dec.{T}
 use lib.ListN.{replicate}
-use Rattle.mseed_steim.specs.private.Lanes.{words, counts_two, counts_one}
+use Rattle.mseed_steim.specs.private.Lanes.{words}
 use Rattle.mseed_steim.proofs.LaneTables.{each_of_all}
 
 pub plus_sum : (xs ys : List ℕ) → length xs ≡ length ys → sum_l (zip2 (λ a b. (a + b) % 4294967296) xs ys) % 4294967296
@@ -109,18 +109,8 @@ counted_in t h row (w ∷ ws) =
     at_most (x ∷ t) h zero = h.0
     at_most (x ∷ t) h (suc i) = at_most t h.1 i
 
-counted_by : (t : List ℕ) → T (all_below 129 t) → (row : ℕ → ℕ)
+pub counted_by : (t : List ℕ) → T (all_below 129 t) → (row : ℕ → ℕ)
     → sum_l (map (λ w. get_or t (row w) 0) words) % 4294967296 ≡ sum_l (map (λ w. get_or t (row w) 0) words)
 counted_by t small row =
     let h = counted_in t (each_of_all 129 t small) row words in
     omega (arith, h, long_words)
-
-pub counted : (row : ℕ → ℕ) → sum_l (map (λ w. get_or counts_two (row w) 0) words) % 4294967296
-    ≡ sum_l (map (λ w. get_or counts_two (row w) 0) words)
-unfolding counts_two
-counted = counted_by counts_two tt
-
-pub counted_one : (row : ℕ → ℕ) → sum_l (map (λ w. get_or counts_one (row w) 0) words) % 4294967296
-    ≡ sum_l (map (λ w. get_or counts_one (row w) 0) words)
-unfolding counts_one
-counted_one = counted_by counts_one tt

@@ -1,5 +1,5 @@
 -- How the words of a row are unpacked: the tables hold the powers.
-use Rattle.std.proofs.Common.{◌≡◌, ℕ, ◌-◌, ◌*◌, ◌^◌, ◌<◌, ◌≤◌, get_or, refl, arith}
+use Rattle.std.proofs.Common.{◌≡◌, ℕ, ◌-◌, ◌*◌, ◌^◌, ◌<◌, ◌≤◌, List, get_or, refl, arith}
 use Rattle.mseed_steim.specs.declared.unpack.Unpacking.{Unpacking}
 use Rattle.mseed_steim.specs.declared.unpack.TheConstants.{ROWS_ONE, ROWS_TWO}
 use Rattle.mseed_steim.specs.private.Lanes.{counts_one, counts_two, widths_one, widths_two}
@@ -48,18 +48,17 @@ of_seven : (w : ℕ) (by : Unpacking) → by.count ≡ 7 → w * 7 ≤ 32 → by
 of_seven w by n fits fall positive a b c d e f g =
     of_row 7 w by n fits fall positive (seven (Lift 7 w by) a b c d e f g)
 
-abbrev InTwo : Unpacking → ℕ → Type 0
-InTwo none r = get_or counts_two r 0 < 128
-    → Unpacks (get_or counts_two r 0) (get_or widths_two r 0) (get_or ROWS_TWO r none)
+abbrev InTable : List ℕ → List ℕ → List Unpacking → Unpacking → ℕ → Type 0
+InTable counts widths table none r =
+    get_or counts r 0 < 128 → Unpacks (get_or counts r 0) (get_or widths r 0) (get_or table r none)
 
-pub rows_two : (none : Unpacking) (r : ℕ) → r < 16 → InTwo none r
+pub rows_two : (none : Unpacking) (r : ℕ) → r < 16 → InTable counts_two widths_two ROWS_TWO none r
 unfolding counts_two widths_two
-rows_two none = sixteen (InTwo none)
-    (λ few. of_none _ refl) (λ few. of_none _ refl) (λ few. of_none _ refl) (λ few. of_none _ refl)
-    (λ few. of_four 8 _ refl (omega arith) refl (omega arith) refl refl refl refl)
-    (λ few. of_four 8 _ refl (omega arith) refl (omega arith) refl refl refl refl)
-    (λ few. of_four 8 _ refl (omega arith) refl (omega arith) refl refl refl refl)
-    (λ few. of_four 8 _ refl (omega arith) refl (omega arith) refl refl refl refl)
+rows_two none =
+    let empty : InTable counts_two widths_two ROWS_TWO none 0 = λ few. of_none _ refl in
+    let bytes : InTable counts_two widths_two ROWS_TWO none 4 =
+    λ few. of_four 8 _ refl (omega arith) refl (omega arith) refl refl refl refl in
+    sixteen (InTable counts_two widths_two ROWS_TWO none) empty empty empty empty bytes bytes bytes bytes
     (λ few. absurd (omega (arith, few))) (λ few. absurd (omega (arith, few)))
     (λ few. of_two 15 _ refl (omega arith) refl (omega arith) refl refl)
     (λ few. of_three 10 _ refl (omega arith) refl (omega arith) refl refl refl)
@@ -68,21 +67,14 @@ rows_two none = sixteen (InTwo none)
     (λ few. of_seven 4 _ refl (omega arith) refl (omega arith) refl refl refl refl refl refl refl)
     (λ few. absurd (omega (arith, few)))
 
-abbrev InOne : Unpacking → ℕ → Type 0
-InOne none r = get_or counts_one r 0 < 128
-    → Unpacks (get_or counts_one r 0) (get_or widths_one r 0) (get_or ROWS_ONE r none)
-
-pub rows_one : (none : Unpacking) (r : ℕ) → r < 16 → InOne none r
+pub rows_one : (none : Unpacking) (r : ℕ) → r < 16 → InTable counts_one widths_one ROWS_ONE none r
 unfolding counts_one widths_one
-rows_one none = sixteen (InOne none)
-    (λ few. of_none _ refl) (λ few. of_none _ refl) (λ few. of_none _ refl) (λ few. of_none _ refl)
-    (λ few. of_four 8 _ refl (omega arith) refl (omega arith) refl refl refl refl)
-    (λ few. of_four 8 _ refl (omega arith) refl (omega arith) refl refl refl refl)
-    (λ few. of_four 8 _ refl (omega arith) refl (omega arith) refl refl refl refl)
-    (λ few. of_four 8 _ refl (omega arith) refl (omega arith) refl refl refl refl)
-    (λ few. of_two 16 _ refl (omega arith) refl (omega arith) refl refl)
-    (λ few. of_two 16 _ refl (omega arith) refl (omega arith) refl refl)
-    (λ few. of_two 16 _ refl (omega arith) refl (omega arith) refl refl)
-    (λ few. of_two 16 _ refl (omega arith) refl (omega arith) refl refl)
-    (λ few. absurd (omega (arith, few))) (λ few. absurd (omega (arith, few)))
+rows_one none =
+    let empty : InTable counts_one widths_one ROWS_ONE none 0 = λ few. of_none _ refl in
+    let bytes : InTable counts_one widths_one ROWS_ONE none 4 =
+    λ few. of_four 8 _ refl (omega arith) refl (omega arith) refl refl refl refl in
+    let pair : InTable counts_one widths_one ROWS_ONE none 8 =
+    λ few. of_two 16 _ refl (omega arith) refl (omega arith) refl refl in
+    sixteen (InTable counts_one widths_one ROWS_ONE none) empty empty empty empty bytes bytes bytes bytes
+    pair pair pair pair (λ few. absurd (omega (arith, few))) (λ few. absurd (omega (arith, few)))
     (λ few. absurd (omega (arith, few))) (λ few. absurd (omega (arith, few)))

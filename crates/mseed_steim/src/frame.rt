@@ -1,16 +1,15 @@
 //! What the differences of a frame add up to, all sixteen words at once.
 
-ghost use Rattle.std.specs.Prelude.{◌≡◌, ◌<◌, ◌≤◌, ◌+◌, ◌-◌, ◌*◌, ◌%◌, ℕ, List, map, take, drop, slice_index};
-ghost use Rattle.std.specs.Simd.Lanes.{Each1, sum_l};
-ghost use Rattle.mseed_steim.specs.private.Lanes.{words, row_at, spanned_two, spanned_one, Begins, fine_two, ones_two};
-ghost use Rattle.mseed_steim.specs.private.Lanes.{coarse_two, counts_two, moved_two, sum_z};
-ghost use Rattle.mseed_steim.specs.private.Lanes.{low_one, high_one, counts_one};
-ghost use Rattle.mseed_steim.specs.private.Lanes.{moved_one};
+ghost use Rattle.std.specs.Prelude.{◌≡◌, ◌<◌, ◌+◌, ◌-◌, ◌*◌, ℕ, List, take, drop};
+ghost use Rattle.std.specs.Simd.Lanes.{Each1};
+ghost use Rattle.mseed_steim.specs.declared.scheme.Scheme.TheVariants.{One, Two};
+ghost use Rattle.mseed_steim.specs.private.Lanes.{AddsUp, AreLanes, Begins, row_at, turned_at};
+ghost use Rattle.mseed_steim.specs.private.Lanes.{fine_two, ones_two, coarse_two, low_one, high_one};
 ghost use Rattle.mseed_steim.specs.Frames.{words_from};
-ghost use Rattle.mseed_steim.specs.private.Moves.{MovesBy};
+ghost use Rattle.mseed_steim.specs.private.Moves.{Adds, MovesBy};
 
 use crate::lanes::{
-    Rows, minus, part, part_by, planes, plus, rows_of, shifted, sum_of, tally, turn,
+    Rows, counted, minus, part, part_by, planes, plus, rows_of, shifted, sum_of, tally, turn,
 };
 use crate::scheme::Scheme;
 use std::simd::prelude::*;
@@ -44,14 +43,35 @@ pub(crate) const FROM_1: Rows = [
     0, 0x30, 0x0C, 0x03, 0xC0, 0x30, 0x0C, 0x03, 0xC0, 0x30, 0x0C, 0x03, 0xC0, 0x30, 0x0C, 0x03,
 ];
 
+/// The rows of a frame's words, and the planes of their bytes, of which some bits are turned over by row.
+#[inline(always)]
+fn turned_lanes(
+    frame: &[u8; 64],
+    begin: Rows,
+    tops: (Rows, Rows, Rows, Rows),
+) -> (u8x16, u8x16, u8x16, u8x16, u8x16)
+    ensures rows { Each1 (λ r. r < 16) result.0 }
+    ensures lanes { (from : ℕ) → Begins begin from
+        → AreLanes (row_at frame.now from) (turned_at tops.0 frame.now from 0) (turned_at tops.1 frame.now from 1)
+        (turned_at tops.2 frame.now from 2) (turned_at tops.3 frame.now from 3)
+        result.0 result.1 result.2 result.3 result.4 }
+{
+    let (a, b, c, d) = planes(frame);
+    let rows = rows_of(frame, a, begin);
+    (
+        rows,
+        turn(a, rows, tops.0),
+        turn(b, rows, tops.1),
+        turn(c, rows, tops.2),
+        turn(d, rows, tops.3),
+    )
+}
+
 /// What counts for less than 1, 128-fold.
 #[inline(always)]
 fn fine_of(a: u8x16, b: u8x16, c: u8x16, d: u8x16, rows: u8x16) -> u32x4
     requires { Each1 (λ r. r < 16) rows }
-    ensures { (row byte_a byte_b byte_c byte_d : ℕ → ℕ) → rows ≡ map row words → a ≡ map byte_a words
-        → b ≡ map byte_b words → c ≡ map byte_c words → d ≡ map byte_d words
-        → sum_l result % 4294967296
-        ≡ sum_l (map (λ w. fine_two (row w) (byte_a w) (byte_b w) (byte_c w) (byte_d w)) words) % 4294967296 }
+    ensures { AddsUp fine_two rows a b c d result }
 {
     let of_a = part_by(a, rows, rows_two!(0, 0, 0, 0, 0x3E, 0), 64);
     let of_b = part(
@@ -80,10 +100,7 @@ fn fine_of(a: u8x16, b: u8x16, c: u8x16, d: u8x16, rows: u8x16) -> u32x4
 #[inline(always)]
 fn ones_of(a: u8x16, b: u8x16, c: u8x16, d: u8x16, rows: u8x16) -> u32x4
     requires { Each1 (λ r. r < 16) rows }
-    ensures { (row byte_a byte_b byte_c byte_d : ℕ → ℕ) → rows ≡ map row words → a ≡ map byte_a words
-        → b ≡ map byte_b words → c ≡ map byte_c words → d ≡ map byte_d words
-        → sum_l result % 4294967296
-        ≡ sum_l (map (λ w. ones_two (row w) (byte_a w) (byte_b w) (byte_c w) (byte_d w)) words) % 4294967296 }
+    ensures { AddsUp ones_two rows a b c d result }
 {
     let of_a = part(
         a,
@@ -111,10 +128,7 @@ fn ones_of(a: u8x16, b: u8x16, c: u8x16, d: u8x16, rows: u8x16) -> u32x4
 #[inline(always)]
 fn coarse_of(a: u8x16, c: u8x16, rows: u8x16) -> u32x4
     requires { Each1 (λ r. r < 16) rows }
-    ensures { (row byte_a byte_b byte_c byte_d : ℕ → ℕ) → rows ≡ map row words → a ≡ map byte_a words
-        → c ≡ map byte_c words
-        → sum_l result % 4294967296
-        ≡ sum_l (map (λ w. coarse_two (row w) (byte_a w) (byte_b w) (byte_c w) (byte_d w)) words) % 4294967296 }
+    ensures { (b d : List ℕ) → AddsUp coarse_two rows a b c d result }
 {
     let of_a = part_by(a, rows, rows_two!(0, 0x3F, 0, 0, 0, 0), 2);
     let of_c = part_by(c, rows, rows_two!(0, 0x7F, 0x03, 0, 0, 0), 1);
@@ -124,24 +138,19 @@ fn coarse_of(a: u8x16, c: u8x16, rows: u8x16) -> u32x4
 /// The differences of a Steim-2 frame.
 #[inline(always)]
 pub(crate) fn frame_two(frame: &[u8; 64], begin: Rows) -> Moved
-    ensures count { (from : ℕ) → Begins begin from
-        → result.count ≡ sum_l (map (λ w. slice_index counts_two (row_at frame.now from w)) words) }
-    ensures by { (from : ℕ) → Begins begin from → result.count < 128
-        → result.by ≡ sum_z (map (moved_two frame.now from) words) }
-    ensures near { (from : ℕ) → Begins begin from → result.count < 128
-        → sum_l (map (spanned_two frame.now from) words) ≤ 1048576 }
+    ensures { (from : ℕ) → Begins begin from → Adds Two frame.now from result }
 {
-    let (a, b, c, d) = planes(frame);
-    let rows = rows_of(frame, a, begin);
-    let count = sum_of(tally(rows, COUNT_TWO));
     // the top bit of each difference turned over, so that it stands for what it is more than the least
-    let turned_a = turn(a, rows, rows_two!(128, 0x20, 0x20, 0x20, 0x21, 0x08));
-    let turned_b = turn(b, rows, rows_two!(128, 0x00, 0x08, 0x82, 0x08, 0x88));
-    let turned_c = turn(c, rows, rows_two!(128, 0x40, 0x02, 0x08, 0x42, 0x88));
-    let turned_d = turn(d, rows, rows_two!(128, 0x00, 0x00, 0x20, 0x10, 0x88));
-    let fine = fine_of(turned_a, turned_b, turned_c, turned_d, rows);
-    let ones = ones_of(turned_a, turned_b, turned_c, turned_d, rows);
-    let coarse = coarse_of(turned_a, turned_c, rows);
+    let tops = (
+        rows_two!(128, 0x20, 0x20, 0x20, 0x21, 0x08),
+        rows_two!(128, 0x00, 0x08, 0x82, 0x08, 0x88),
+        rows_two!(128, 0x40, 0x02, 0x08, 0x42, 0x88),
+        rows_two!(128, 0x00, 0x00, 0x20, 0x10, 0x88),
+    );
+    let (rows, a, b, c, d) = turned_lanes(frame, begin, tops);
+    let fine = fine_of(a, b, c, d, rows);
+    let ones = ones_of(a, b, c, d, rows);
+    let coarse = coarse_of(a, c, rows);
     let least = tally(rows, rows_two!(64, 0, 192, 20, 12, 7));
     let least_coarse = tally(rows, rows_two!(0, 128, 0, 0, 0, 0));
     // all of them 128-fold, so that what is divided is one number, and comes out even
@@ -151,7 +160,7 @@ pub(crate) fn frame_two(frame: &[u8; 64], begin: Rows) -> Moved
     // 2^20 more than the sum, which is no less than 0
     let more = sum.wrapping_add(1 << 27) >> 7;
     Moved {
-        count,
+        count: counted(rows, COUNT_TWO),
         by: more as i32 - (1 << 20),
     }
 }
@@ -170,10 +179,7 @@ pub(crate) const COUNT_ONE: Rows = [0, 0, 0, 0, 4, 4, 4, 4, 2, 2, 2, 2, 128, 128
 #[inline(always)]
 fn low_of(a: u8x16, b: u8x16, c: u8x16, d: u8x16, rows: u8x16) -> u32x4
     requires { Each1 (λ r. r < 16) rows }
-    ensures { (row byte_a byte_b byte_c byte_d : ℕ → ℕ) → rows ≡ map row words → a ≡ map byte_a words
-        → b ≡ map byte_b words → c ≡ map byte_c words → d ≡ map byte_d words
-        → sum_l result % 4294967296
-        ≡ sum_l (map (λ w. low_one (row w) (byte_a w) (byte_b w) (byte_c w) (byte_d w)) words) % 4294967296 }
+    ensures { AddsUp low_one rows a b c d result }
 {
     let of_a = part_by(a, rows, rows_one!(255, 0), 1);
     let of_b = part_by(b, rows, rows_one!(255, 255), 1);
@@ -186,10 +192,7 @@ fn low_of(a: u8x16, b: u8x16, c: u8x16, d: u8x16, rows: u8x16) -> u32x4
 #[inline(always)]
 fn high_of(a: u8x16, c: u8x16, rows: u8x16) -> u32x4
     requires { Each1 (λ r. r < 16) rows }
-    ensures { (row byte_a byte_b byte_c byte_d : ℕ → ℕ) → rows ≡ map row words → a ≡ map byte_a words
-        → c ≡ map byte_c words
-        → sum_l result % 4294967296
-        ≡ sum_l (map (λ w. high_one (row w) (byte_a w) (byte_b w) (byte_c w) (byte_d w)) words) % 4294967296 }
+    ensures { (b d : List ℕ) → AddsUp high_one rows a b c d result }
 {
     let of_a = part_by(a, rows, rows_one!(0, 255), 1);
     let of_c = part_by(c, rows, rows_one!(0, 255), 1);
@@ -199,27 +202,17 @@ fn high_of(a: u8x16, c: u8x16, rows: u8x16) -> u32x4
 /// The differences of a Steim-1 frame.
 #[inline(always)]
 pub(crate) fn frame_one(frame: &[u8; 64], begin: Rows) -> Moved
-    ensures count { (from : ℕ) → Begins begin from
-        → result.count ≡ sum_l (map (λ w. slice_index counts_one (row_at frame.now from w)) words) }
-    ensures by { (from : ℕ) → Begins begin from → result.count < 128
-        → result.by ≡ sum_z (map (moved_one frame.now from) words) }
-    ensures near { (from : ℕ) → Begins begin from → result.count < 128
-        → sum_l (map (spanned_one frame.now from) words) ≤ 1048576 }
+    ensures { (from : ℕ) → Begins begin from → Adds One frame.now from result }
 {
-    let (a, b, c, d) = planes(frame);
-    let rows = rows_of(frame, a, begin);
-    let count = sum_of(tally(rows, COUNT_ONE));
-    let turned_a = turn(a, rows, rows_one!(128, 128));
-    let turned_b = turn(b, rows, rows_one!(128, 0));
-    let turned_c = turn(c, rows, rows_one!(128, 128));
-    let turned_d = turn(d, rows, rows_one!(128, 0));
-    let low = low_of(turned_a, turned_b, turned_c, turned_d, rows);
-    let high = high_of(turned_a, turned_c, rows);
+    let (upper, lower) = (rows_one!(128, 128), rows_one!(128, 0));
+    let (rows, a, b, c, d) = turned_lanes(frame, begin, (upper, lower, upper, lower));
+    let low = low_of(a, b, c, d, rows);
+    let high = high_of(a, c, rows);
     let least = tally(rows, rows_one!(1, 128));
     let raised = plus(low, shifted(high, 8));
     let sum = sum_of(minus(raised, shifted(least, 9)));
     Moved {
-        count,
+        count: counted(rows, COUNT_ONE),
         by: sum.cast_signed(),
     }
 }

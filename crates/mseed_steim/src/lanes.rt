@@ -181,3 +181,13 @@ pub(crate) fn sum_of(a: u32x4) -> u32
 {
     a.reduce_sum()
 }
+
+/// What a table of at most 128 for a row says of all the rows.
+#[inline(always)]
+pub(crate) fn counted(rows: u8x16, table: Rows) -> u32
+    requires rows { Each1 (λ r. r < 16) rows }
+    requires few { T (all_below 129 table) }
+    ensures { (row : ℕ → ℕ) → rows ≡ map row words → result ≡ sum_l (map (λ w. slice_index table (row w)) words) }
+{
+    sum_of(tally(rows, table))
+}

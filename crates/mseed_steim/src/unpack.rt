@@ -12,12 +12,13 @@ ghost use Rattle.mseed_steim.specs.private.Digits.{digit_at, digits};
 ghost use Rattle.mseed_steim.specs.Frames.{DataWord, words_from};
 ghost use Rattle.mseed_steim.specs.private.Items.{items_of};
 ghost use Rattle.mseed_steim.specs.private.Lanes.{Begins, row_at, span, word_at, word_of, words};
-ghost use Rattle.mseed_steim.specs.private.Unpacked.{AreNarrow, FitIn, Unpacks, counts_of, lanes_of, row_of};
-ghost use Rattle.mseed_steim.specs.private.Unpacked.{unpacked, widths_of};
+ghost use Rattle.mseed_steim.specs.private.Lanes.{counts_of, widths_of};
+ghost use Rattle.mseed_steim.specs.private.Unpacked.{AreNarrow, FitIn, Unpacks, lanes_of, row_of, unpacked};
+ghost use Rattle.mseed_steim.specs.private.Unpacked.{AreUnpacked};
 
 use crate::ends::has_no_code_3;
 use crate::frame::{COUNT_ONE, COUNT_TWO};
-use crate::lanes::{Rows, planes, rows_of, sum_of, tally};
+use crate::lanes::{Rows, counted, planes, rows_of};
 use crate::scheme::Scheme;
 use std::simd::prelude::*;
 
@@ -167,8 +168,8 @@ fn rows_in(scheme: Scheme, frame: &[u8; 64], begin: Rows) -> ([u64; 2], u32)
     let (tops, _, _, _) = planes(frame);
     let rows = rows_of(frame, tops, begin);
     let count = match scheme {
-        Scheme::One => sum_of(tally(rows, COUNT_ONE)),
-        Scheme::Two => sum_of(tally(rows, COUNT_TWO)),
+        Scheme::One => counted(rows, COUNT_ONE),
+        Scheme::Two => counted(rows, COUNT_TWO),
     };
     (u64x2::from_le_bytes(rows).to_array(), count)
 }
@@ -289,12 +290,7 @@ fn unpack_by(
     differences: &mut [i32; ROOM],
 ) -> Option<usize>
     requires { (from : ℕ) × Begins begin from }
-    ensures few { IfSome result (λ count. count ≤ 120) }
-    ensures items { IfSome result (λ count. (p : List ℕ) (k from : ℕ) (rest : List DataWord) → Begins begin from
-        → frame.now ≡ take 64 (drop (64 * k) p)
-        → items_of scheme (words_from p (16 * k + from) (16 - from) ++ rest)
-        ≡ map Ok (take count differences.new) ++ items_of scheme rest) }
-    ensures near { IfSome result (λ count. span (take count differences.new) ≤ 2 ^ 20) }
+    ensures { IfSome result (λ count. AreUnpacked scheme begin frame.now (take count differences.new) count) }
 {
     let (rows, count) = rows_in(scheme, frame, begin);
     if count >= 128 {
@@ -312,12 +308,7 @@ pub(crate) fn unpack_frame(
     differences: &mut [i32; ROOM],
 ) -> Option<usize>
     requires { (from : ℕ) × Begins begin from }
-    ensures few { IfSome result (λ count. count ≤ 120) }
-    ensures items { IfSome result (λ count. (p : List ℕ) (k from : ℕ) (rest : List DataWord) → Begins begin from
-        → frame.now ≡ take 64 (drop (64 * k) p)
-        → items_of scheme (words_from p (16 * k + from) (16 - from) ++ rest)
-        ≡ map Ok (take count differences.new) ++ items_of scheme rest) }
-    ensures near { IfSome result (λ count. span (take count differences.new) ≤ 2 ^ 20) }
+    ensures { IfSome result (λ count. AreUnpacked scheme begin frame.now (take count differences.new) count) }
 {
     match scheme {
         Scheme::One => unpack_by(Scheme::One, frame, begin, differences),

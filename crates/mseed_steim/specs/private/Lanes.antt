@@ -1,6 +1,9 @@
 -- The sixteen words of a frame, as they stand in lanes: what a word adds by its row, and by which parts of its bytes.
 use Rattle.std.specs.Prelude.{◌≡◌, ◌⊎◌, ℕ, ℤ, pos, ◌+ℤ◌, ◌+◌, ◌-◌, ◌*◌, ◌/◌, ◌%◌, ◌^◌, nat_lt, if◌then◌else◌, nat_abs}
-use Rattle.std.specs.Prelude.{List, [], ◌∷◌, slice_index, bit_and, bit_xor}
+use Rattle.std.specs.Prelude.{List, [], ◌∷◌, map, slice_index, bit_and, bit_xor}
+use Rattle.std.specs.Simd.Lanes.{sum_l}
+use Rattle.mseed_steim.specs.declared.scheme.Scheme.{Scheme}
+use Rattle.mseed_steim.specs.declared.scheme.Scheme.TheVariants.{One, Two}
 use Rattle.mseed_steim.specs.private.Digits.{digits}
 
 -- the word of four bytes
@@ -58,20 +61,6 @@ counts_two = 0 ∷ 0 ∷ 0 ∷ 0 ∷ 4 ∷ 4 ∷ 4 ∷ 4 ∷ 128 ∷ 128 ∷ 2 �
 unfoldable pub widths_two : List ℕ
 widths_two = table_two 8 15 10 6 5 4
 
--- a word's differences
-abbrev pub differences_two : List ℕ → ℕ → ℕ → List ℤ
-differences_two frame from word =
-    digits (slice_index widths_two (row_at frame from word)) (word_at frame word)
-    (slice_index counts_two (row_at frame from word))
-
--- their sum
-abbrev pub moved_two : List ℕ → ℕ → ℕ → ℤ
-moved_two frame from word = total (differences_two frame from word)
-
--- how far they go in all, up and down
-abbrev pub spanned_two : List ℕ → ℕ → ℕ → ℕ
-spanned_two frame from word = span (differences_two frame from word)
-
 -- what a byte's part counts for
 abbrev pub kept : List ℕ → List ℕ → ℕ → ℕ → ℕ
 kept mask weight row byte = bit_and byte (slice_index mask row) * slice_index weight row
@@ -79,8 +68,27 @@ kept mask weight row byte = bit_and byte (slice_index mask row) * slice_index we
 abbrev pub kept_by : List ℕ → ℕ → ℕ → ℕ → ℕ
 kept_by mask weight row byte = bit_and byte (slice_index mask row) * weight
 
+-- a byte with some bits turned over
 abbrev pub turned : List ℕ → ℕ → ℕ → ℕ
 turned table row byte = bit_xor byte (slice_index table row)
+
+abbrev pub turned_at : List ℕ → List ℕ → ℕ → ℕ → ℕ → ℕ
+turned_at table frame from place word = turned table (row_at frame from word) (byte_at frame place word)
+
+-- Five planes: of each word its row, and what stands for each of its four bytes.
+pub record AreLanes (row byte_a byte_b byte_c byte_d : ℕ → ℕ) (rows a b c d : List ℕ) : Type 0 where
+  pub rows_are : rows ≡ map row words
+  pub first : a ≡ map byte_a words
+  pub second : b ≡ map byte_b words
+  pub third : c ≡ map byte_c words
+  pub fourth : d ≡ map byte_d words
+
+-- The sums come, modulo 2^32, to what a part of each word counts for, by its row and bytes.
+abbrev pub AddsUp : (ℕ → ℕ → ℕ → ℕ → ℕ → ℕ) → List ℕ → List ℕ → List ℕ → List ℕ → List ℕ → List ℕ → Type 0
+AddsUp part rows a b c d sums =
+    (row byte_a byte_b byte_c byte_d : ℕ → ℕ) → AreLanes row byte_a byte_b byte_c byte_d rows a b c d
+    → sum_l sums % 4294967296
+    ≡ sum_l (map (λ w. part (row w) (byte_a w) (byte_b w) (byte_c w) (byte_d w)) words) % 4294967296
 
 -- by a word's row and bytes: what counts for less than 1, 128-fold
 unfoldable pub fine_two : ℕ → ℕ → ℕ → ℕ → ℕ → ℕ
@@ -133,18 +141,28 @@ counts_one = 0 ∷ 0 ∷ 0 ∷ 0 ∷ 4 ∷ 4 ∷ 4 ∷ 4 ∷ 2 ∷ 2 ∷ 2 ∷ 2
 unfoldable pub widths_one : List ℕ
 widths_one = table_one 8 16
 
-abbrev pub differences_one : List ℕ → ℕ → ℕ → List ℤ
-differences_one frame from word =
-    digits (slice_index widths_one (row_at frame from word)) (word_at frame word)
-    (slice_index counts_one (row_at frame from word))
+-- the same by the scheme
+abbrev pub counts_of : Scheme → List ℕ
+counts_of One = counts_one
+counts_of Two = counts_two
+
+abbrev pub widths_of : Scheme → List ℕ
+widths_of One = widths_one
+widths_of Two = widths_two
+
+-- the differences of a word by its row
+abbrev pub differences_at : Scheme → List ℕ → ℕ → ℕ → List ℤ
+differences_at scheme frame from word =
+    digits (slice_index (widths_of scheme) (row_at frame from word)) (word_at frame word)
+    (slice_index (counts_of scheme) (row_at frame from word))
 
 -- their sum
-abbrev pub moved_one : List ℕ → ℕ → ℕ → ℤ
-moved_one frame from word = total (differences_one frame from word)
+abbrev pub moved : Scheme → List ℕ → ℕ → ℕ → ℤ
+moved scheme frame from word = total (differences_at scheme frame from word)
 
 -- how far they go in all, up and down
-abbrev pub spanned_one : List ℕ → ℕ → ℕ → ℕ
-spanned_one frame from word = span (differences_one frame from word)
+abbrev pub spanned : Scheme → List ℕ → ℕ → ℕ → ℕ
+spanned scheme frame from word = span (differences_at scheme frame from word)
 
 unfoldable pub low_one : ℕ → ℕ → ℕ → ℕ → ℕ → ℕ
 low_one row a b c d =

@@ -1,20 +1,12 @@
 -- The differences of a frame's words, unpacked word by word.
 use Rattle.std.specs.Prelude.{◌≡◌, ◌⊎◌, ℕ, zero, suc, ◌+◌, ◌-◌, ◌*◌, ◌/◌, ◌%◌, ◌^◌, ◌<◌, ◌≤◌, List, [], ◌++◌, ℤ}
-use Rattle.std.specs.Prelude.{slice_index, slice_index_or}
+use Rattle.std.specs.Prelude.{slice_index, slice_index_or, take, drop, map, Ok}
 use Rattle.mseed_steim.specs.declared.scheme.Scheme.{Scheme}
 use Rattle.mseed_steim.specs.declared.scheme.Scheme.TheVariants.{One, Two}
 use Rattle.mseed_steim.specs.declared.unpack.Unpacking.{Unpacking}
-use Rattle.mseed_steim.specs.private.Digits.{digits}
-use Rattle.mseed_steim.specs.private.Lanes.{row_at, word_at, counts_one, counts_two, widths_one, widths_two}
-
--- how many differences a word of a row has, and of how many bits
-abbrev pub counts_of : Scheme → List ℕ
-counts_of One = counts_one
-counts_of Two = counts_two
-
-abbrev pub widths_of : Scheme → List ℕ
-widths_of One = widths_one
-widths_of Two = widths_two
+use Rattle.mseed_steim.specs.Frames.{DataWord, words_from}
+use Rattle.mseed_steim.specs.private.Items.{items_of}
+use Rattle.mseed_steim.specs.private.Lanes.{Begins, row_at, counts_of, differences_at, span}
 
 -- no fewer than the differences of a word, as far as they have at most 16 bits
 abbrev pub lanes_of : Scheme → ℕ
@@ -44,14 +36,15 @@ FitIn scheme frame from lanes =
     (lanes_of scheme ≤ lanes)
     ⊎ ((word : ℕ) → word < 16 → slice_index (counts_of scheme) (row_at frame from word) ≤ lanes)
 
--- the differences of a word by its row
-abbrev pub differences_at : Scheme → List ℕ → ℕ → ℕ → List ℤ
-differences_at scheme frame from word =
-    digits (slice_index (widths_of scheme) (row_at frame from word)) (word_at frame word)
-    (slice_index (counts_of scheme) (row_at frame from word))
-
--- those of n words, one after another
+-- the differences of n words, one after another
 unfoldable pub unpacked : Scheme → List ℕ → ℕ → ℕ → ℕ → List ℤ
 unpacked scheme frame from word zero = []
 unpacked scheme frame from word (suc n) =
     differences_at scheme frame from word ++ unpacked scheme frame from (word + 1) n
+
+-- so many differences are those of a frame's words from word 1 or word 4 on, wherever it stands in a payload
+pub record AreUnpacked (scheme : Scheme) (begin frame : List ℕ) (differences : List ℤ) (count : ℕ) : Type 0 where
+  pub few : count ≤ 120
+  pub items : (p : List ℕ) (k from : ℕ) (rest : List DataWord) → Begins begin from → frame ≡ take 64 (drop (64 * k) p)
+      → items_of scheme (words_from p (16 * k + from) (16 - from) ++ rest) ≡ map Ok differences ++ items_of scheme rest
+  pub near : span differences ≤ 2 ^ 20

@@ -8,23 +8,7 @@ pub returns-clause-value : goal.returns-clause-value
 unfolding words
 returns-clause-value c = λ from begins.
     let small : (k : ℕ) → get_or c.args.frame.now k 0 < 256 = c.fits-frame in
-    elim begins [
-      | inl h ↦ rw (
-        h.0,
-        c.low-2.ensures.value,
-        c.look_up-codes.ensures.value,
-        c.low.ensures.value,
-        h.1,
-        c.requires,
-        spelled c.args.frame.now (omega arith),
-      ) (rows_later c.args.frame.now small)
-      | inr h ↦ rw (
-        h.0,
-        c.low-2.ensures.value,
-        c.look_up-codes.ensures.value,
-        c.low.ensures.value,
-        h.1,
-        c.requires,
-        spelled c.args.frame.now (omega arith),
-      ) (rows_first c.args.frame.now small)
-    ]
+    rw (c.low-2.ensures.value, c.look_up-codes.ensures.value, c.low.ensures.value) (elim begins [
+      | inl h ↦ rw (h.0, h.1, c.requires, spelled c.args.frame.now (omega arith)) (rows_later c.args.frame.now small)
+      | inr h ↦ rw (h.0, h.1, c.requires, spelled c.args.frame.now (omega arith)) (rows_first c.args.frame.now small)
+    ])

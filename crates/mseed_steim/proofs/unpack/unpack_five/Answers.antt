@@ -2,7 +2,8 @@ use Rattle.std.proofs.Common.{◌≡◌, ◌<◌, ◌≤◌, ◌+◌, ◌++◌, 
 use Rattle.std.proofs.Common.{append_assoc}
 use Rattle.mseed_steim.specs.private.Digits.{digits}
 use Rattle.mseed_steim.specs.private.Lanes.{row_at, word_at}
-use Rattle.mseed_steim.specs.private.Unpacked.{lanes_of, differences_at, unpacked, widths_of}
+use Rattle.mseed_steim.specs.private.Lanes.{differences_at, widths_of}
+use Rattle.mseed_steim.specs.private.Unpacked.{lanes_of, unpacked}
 use Rattle.mseed_steim.proofs.FrameUnpacked.{by_own_count, lanes_enough, lanes_few, unpacked_more}
 use Rattle.mseed_steim.proofs.LaneDigits.{at_word}
 use Rattle.mseed_steim.proofs.unpack.unpack_five.Goals as goal
