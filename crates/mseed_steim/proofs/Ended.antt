@@ -1,6 +1,6 @@
 -- The ends of samples.
 use Rattle.std.proofs.Common.{◌≡◌, ◌≢◌, ℕ, ◌-◌, ◌<◌, List, [], ◌∷◌, ◌++◌, length, get_or, ℤ, arith, refl, ap, sym, ◌∙◌}
-use Rattle.std.proofs.Common.{subst, slice_get, Option, Some, None, Result, Ok, Err, All}
+use Rattle.std.proofs.Common.{subst, slice_get, Option, Some, None, Result, Ok, Err, All, IfOk, IfErr, OnOk, IsOkAnd}
 use Rattle.mseed_time.specs.declared.order.Order.TheVariants.{Big}
 use Rattle.mseed_steim.specs.declared.scheme.Scheme.{Scheme}
 use Rattle.mseed_steim.specs.declared.form.Form.TheVariants.{Frames}
@@ -12,7 +12,7 @@ use Rattle.mseed_steim.specs.Frames.{word_count, data_words, first_constant, las
 use Rattle.mseed_steim.specs.private.Items.{items_of}
 use Rattle.mseed_steim.specs.Samples.{IsSample, AreSums, IsFrameFault, short, last_differs, IsChecked, IsPayloadReading}
 use Rattle.mseed_steim.specs.Samples.{EndsOnConstant}
-use Rattle.mseed_steim.specs.private.Sums.{fold, met_in, lack}
+use Rattle.mseed_steim.specs.private.Sums.{fold, met_in, lack, walk}
 use Rattle.mseed_steim.proofs.Walking.{words_none}
 use Rattle.mseed_steim.proofs.Given.{items_given, words_small}
 use Rattle.mseed_steim.proofs.Folded.{last_of, Lacks, lacks}
@@ -117,3 +117,25 @@ no_frame s p n small some =
     let over : word_count p - 3 ≡ 0 = omega arith in
     let none : data_words p ≡ [] = rw over (words_none p 3) in
     short [] (rw none refl) some
+
+-- what the tail of a walk answers, where nothing is kept of its samples
+pub walk_checked : (s : Scheme) (p : List ℕ) (n : ℕ) (constants : Ends) (walked : Result Sum ReadFault)
+    (r : Result Ends ReadFault) → 0 < n → ((i : ℕ) → get_or p i 0 < 256) → walked ≡ walk s p n
+    → constants.first ≡ first_constant p → constants.last ≡ last_constant p → IfOk r (λ ends. ends ≡ constants)
+    → OnOk r (IsOkAnd walked (λ sum. sum.last ≡ last_constant p)) → IfErr r (λ fault. IsFrameFault s p n fault)
+    → IsChecked (Frames s) Big p n r
+walk_checked s p n constants (Ok sum) (Ok ends) h octets e first last same met fault =
+    ends_met s p n sum h octets e ends (ap (λ (x : Ends). x.first) same ∙ first) (ap (λ (x : Ends). x.last) same ∙ last)
+    met
+walk_checked s p n constants (Err f) (Ok ends) h octets e first last same met fault = absurd met
+walk_checked s p n constants (Ok sum) (Err g) h octets e first last same met fault = fault
+walk_checked s p n constants (Err f) (Err g) h octets e first last same met fault = fault
+
+-- and where they are
+pub walk_filled : (s : Scheme) (p : List ℕ) (n : ℕ) (walked : Result Sum ReadFault) (out : List ℤ) → 0 < n
+    → ((i : ℕ) → get_or p i 0 < 256) → walked ≡ walk s p n
+    → OnOk walked (out ≡ met_in n (record { met = 0; last = first_constant p }) (items_of s (data_words p)))
+    → IsOkAnd walked (λ sum. sum.last ≡ last_constant p)
+    → IsPayloadReading (Frames s) Big p n out × EndsOnConstant (Frames s) p out
+walk_filled s p n (Ok sum) out h octets e kept met = filled_met s p n sum out h octets e kept met
+walk_filled s p n (Err f) out h octets e kept met = absurd met

@@ -202,30 +202,43 @@ pub answer_denies : (v : View) (r : Result Ends ReadFault) → 0 < count_of v �
 answer_denies v (Ok ends) some h = tt
 answer_denies v (Err f) some h = fault_denies v f some h
 
--- a check of the payload is one of the record
-pub payload_answer : (v : View) (form : Form) (p : List ℕ) (r : Result Ends ReadFault) → 0 < count_of v
-    → HoldsIn v form p → IsChecked form v.payload_order p (count_of v) r → IsAnswer v r
-payload_answer v form p (Ok ends) some holds h =
-    let e : form_of v.encoding ≡ Some form = holds.1 in (
-      h.0,
-      (
-        record {
-          some = some;
-          one_rate = holds.0;
-          form = form;
-          encoding = e;
-          payload = holds.3;
-          spelled = subst (λ (xs : List ℕ). IsPayloadReading form v.payload_order xs (count_of v) h.0) holds.4 h.1.0;
-        },
-        (λ other q. let same : form ≡ other = cc (e, q) in
-            subst (λ (x : Form). EndsOnConstant x (payload_of v) h.0) same
-            (subst (λ (xs : List ℕ). EndsOnConstant form xs h.0) holds.4 h.1.1)),
-        h.1.2,
-      ),
+-- a reading of the payload is one of the record, as is a fault
+payload_read : (v : View) (form : Form) (p : List ℕ) (n : ℕ) (order : Order) (s : List ℤ) → 0 < count_of v
+    → HoldsIn v form p → n ≡ count_of v → order ≡ v.payload_order → IsPayloadReading form order p n s
+    → EndsOnConstant form p s → IsWhole v s
+payload_read v form p n order s some holds count ordered read end =
+    let e : form_of v.encoding ≡ Some form = holds.1 in
+    let in_record = subst (λ (q : List ℕ). IsPayloadReading form order q n s) holds.4 read in
+    let as_many = subst (λ (m : ℕ). IsPayloadReading form order (payload_of v) m s) count in_record in
+    let spelled = subst (λ (o : Order). IsPayloadReading form o (payload_of v) (count_of v) s) ordered as_many in (
+      record {
+        some = some;
+        one_rate = holds.0;
+        form = form;
+        encoding = e;
+        payload = holds.3;
+        spelled = spelled;
+      },
+      (λ other q. let same : form ≡ other = cc (e, q) in
+          subst (λ (x : Form). EndsOnConstant x (payload_of v) s) same
+          (subst (λ (xs : List ℕ). EndsOnConstant form xs s) holds.4 end)),
     )
-payload_answer v form p (Err f) some holds h =
+
+payload_lacks : (v : View) (form : Form) (p : List ℕ) (n : ℕ) (f : ReadFault) → HoldsIn v form p → n ≡ count_of v
+    → IsPayloadFault form p n f → IsFault v f
+payload_lacks v form p n f holds count h =
     in_payload holds.0 form holds.1 holds.2 holds.3 f
-    (subst (λ (xs : List ℕ). IsPayloadFault form xs (count_of v) f) holds.4 h)
+    (subst (λ (m : ℕ). IsPayloadFault form (payload_of v) m f) count
+    (subst (λ (q : List ℕ). IsPayloadFault form q n f) holds.4 h))
+
+-- so a check of the payload is one of the record
+pub payload_answer : (v : View) (form : Form) (p : List ℕ) (n : ℕ) (order : Order) (r : Result Ends ReadFault)
+    → 0 < count_of v → HoldsIn v form p → n ≡ count_of v → order ≡ v.payload_order → IsChecked form order p n r
+    → IsAnswer v r
+payload_answer v form p n order (Ok ends) some holds count ordered h =
+    let whole = payload_read v form p n order h.0 some holds count ordered h.1.0 h.1.1 in
+    (h.0, (whole.0, whole.1, h.1.2))
+payload_answer v form p n order (Err f) some holds count ordered h = payload_lacks v form p n f holds count h
 
 little_in : (v : View) (form : Form) (order : Order) → v.has_rate_blockette ≡ false → form_of v.encoding ≡ Some form
     → v.payload_order ≡ order → is_little_steim form order ≡ true → IsFault v LittleSteim
@@ -244,26 +257,12 @@ readable_else (Frames scheme) Big h = refl
 readable_else (Frames scheme) Little h = cc
 
 -- a filled payload is a record's
-pub payload_filled : (v : View) (form : Form) (p : List ℕ) (out : List ℤ) (r : Result (Unit {0}) ReadFault)
-    → 0 < count_of v → HoldsIn v form p → IsFilled form v.payload_order p (count_of v) out r
-    → MatchResult r (λ _. IsWhole v out) (λ f. IsFault v f)
-payload_filled v form p out (Ok done) some holds h =
-    let e : form_of v.encoding ≡ Some form = holds.1 in (
-      record {
-        some = some;
-        one_rate = holds.0;
-        form = form;
-        encoding = e;
-        payload = holds.3;
-        spelled = subst (λ (xs : List ℕ). IsPayloadReading form v.payload_order xs (count_of v) out) holds.4 h.0;
-      },
-      (λ other q. let same : form ≡ other = cc (e, q) in
-          subst (λ (x : Form). EndsOnConstant x (payload_of v) out) same
-          (subst (λ (xs : List ℕ). EndsOnConstant form xs out) holds.4 h.1)),
-    )
-payload_filled v form p out (Err f) some holds h =
-    in_payload holds.0 form holds.1 holds.2 holds.3 f
-    (subst (λ (xs : List ℕ). IsPayloadFault form xs (count_of v) f) holds.4 h)
+pub payload_filled : (v : View) (form : Form) (p : List ℕ) (n : ℕ) (order : Order) (out : List ℤ)
+    (r : Result (Unit {0}) ReadFault) → 0 < count_of v → HoldsIn v form p → n ≡ count_of v → order ≡ v.payload_order
+    → IsFilled form order p n out r → MatchResult r (λ _. IsWhole v out) (λ f. IsFault v f)
+payload_filled v form p n order out (Ok done) some holds count ordered h =
+    payload_read v form p n order out some holds count ordered h.0 h.1
+payload_filled v form p n order out (Err f) some holds count ordered h = payload_lacks v form p n f holds count h
 
 -- what the answer of a read means
 pub read_only : {X : Type 0} (v : View) (items : X → List ℤ) (r : Result X ReadFault) → 0 < count_of v

@@ -1,11 +1,13 @@
 //! Payloads that are checked without keeping their samples.
 
-ghost use Rattle.std.specs.Prelude.{◌≡◌, ◌↔◌, ◌<◌, ◌≤◌, ℕ, List, ℤ, IfOk, IfErr, IfSome, IfNone, IsOkAnd, Err, length};
+ghost use Rattle.std.specs.Prelude.{◌≡◌, ◌↔◌, ◌<◌, ◌≤◌, ℕ, List, ℤ, IfOk, IfErr, IfSome, IfNone, IsOkAnd, OnOk, Err};
+ghost use Rattle.std.specs.Prelude.{length};
 ghost use Rattle.mseed_record.specs.Viewing.{view_of};
 ghost use Rattle.mseed_time.specs.declared.order.Order.TheVariants.{Big};
 ghost use Rattle.mseed_steim.specs.declared.form.Form.TheVariants.{Integers, Frames};
 ghost use Rattle.mseed_steim.specs.Frames.{first_constant, last_constant};
-ghost use Rattle.mseed_steim.specs.Samples.{IsChecked, AreEnds};
+ghost use Rattle.mseed_steim.specs.Samples.{IsChecked, IsFrameFault, AreEnds};
+ghost use Rattle.mseed_steim.specs.private.Sums.{walk};
 ghost use Rattle.mseed_steim.specs.declared.fault.ReadFault.{ReadFault};
 ghost use Rattle.mseed_steim.specs.Reading.{count_of, IsReading, EndsOnConstants, IsFault, Denies, HoldsIn, IsAnswer};
 ghost use Rattle.mseed_steim.specs.Reading.{is_little_steim};
@@ -14,6 +16,7 @@ use crate::data_words::read_word;
 use crate::fault::{Ends, ReadFault};
 use crate::form::{Form, Width, form_of, integer_at};
 use crate::scheme::Scheme;
+use crate::sum::Sum;
 use crate::walk::{add_frames, find_lack};
 use mseed_record::RecordView;
 use mseed_time::Order;
@@ -34,16 +37,24 @@ pub(crate) fn constants_of(payload: &[u8]) -> Option<Ends>
     })
 }
 
-/// The ends of so many samples of Steim frames.
-#[inline(never)]
-fn check_frames(payload: &[u8], scheme: Scheme, samples: usize) -> Result<Ends, ReadFault>
-    requires { 0 < samples }
-    ensures { IsChecked (Frames scheme) Big payload.now samples result }
+/// The constants, where so many samples that were added up from the first of them end on the last; else the fault that
+/// comes first.
+#[inline(always)]
+pub(crate) fn ends_of_walk(
+    payload: &[u8],
+    scheme: Scheme,
+    samples: usize,
+    constants: Ends,
+    walked: Result<Sum, ReadFault>,
+) -> Result<Ends, ReadFault>
+    requires some { 0 < samples }
+    requires last { constants.last ≡ last_constant payload.now }
+    requires walked { walked ≡ walk scheme payload.now samples }
+    ensures ends { IfOk result (λ ends. ends ≡ constants) }
+    ensures met { OnOk result (IsOkAnd walked (λ sum. sum.last ≡ last_constant payload.now)) }
+    ensures fault { IfErr result (λ fault. IsFrameFault scheme payload.now samples fault) }
 {
-    let Some(constants) = constants_of(payload) else {
-        return Err(ReadFault::Short(0));
-    };
-    match add_frames(scheme, payload, samples, constants.first) {
+    match walked {
         Ok(sum) => {
             if sum.last == constants.last {
                 Ok(constants)
@@ -56,6 +67,20 @@ fn check_frames(payload: &[u8], scheme: Scheme, samples: usize) -> Result<Ends, 
             None => Err(fault),
         },
     }
+}
+
+/// The ends of so many samples of Steim frames.
+#[tactic(auto, using(crate::proofs::Ended::no_frame))]
+#[inline(never)]
+fn check_frames(payload: &[u8], scheme: Scheme, samples: usize) -> Result<Ends, ReadFault>
+    requires { 0 < samples }
+    ensures { IsChecked (Frames scheme) Big payload.now samples result }
+{
+    let Some(constants) = constants_of(payload) else {
+        return Err(ReadFault::Short(0));
+    };
+    let walked = add_frames(scheme, payload, samples, constants.first);
+    ends_of_walk(payload, scheme, samples, constants, walked)
 }
 
 /// The ends of so many integers.

@@ -9,17 +9,17 @@ ghost use Rattle.mseed_steim.specs.declared.fault.ReadFault.TheVariants.{Memory}
 ghost use Rattle.mseed_steim.specs.Reading.{count_of, IsFault, IsWhole, IsRefusal, Denies};
 ghost use Rattle.mseed_steim.specs.Samples.{IsFilled};
 
-use crate::check::{check_samples, constants_of, payload_of};
+use crate::check::{check_samples, constants_of, ends_of_walk, payload_of};
 use crate::fault::ReadFault;
 use crate::form::{Form, Width, integer_at};
 use crate::put::put_words;
 use crate::scheme::Scheme;
-use crate::walk::find_lack;
 use mseed_record::RecordView;
 use mseed_time::Order;
 use std::alloc::{AllocError, Allocator};
 
 /// Fills in so many samples of Steim frames.
+#[tactic(auto, using(crate::proofs::Ended::no_frame))]
 fn fill_frames(
     payload: &[u8],
     scheme: Scheme,
@@ -33,18 +33,10 @@ fn fill_frames(
     let Some(constants) = constants_of(payload) else {
         return Err(ReadFault::Short(0));
     };
-    match put_words(payload, scheme, samples, constants.first, out) {
-        Ok(sum) => {
-            if sum.last == constants.last {
-                Ok(())
-            } else {
-                Err(ReadFault::LastDiffers(sum.last, constants.last))
-            }
-        }
-        Err(fault) => match find_lack(payload, scheme, samples) {
-            Some(earlier) => Err(earlier),
-            None => Err(fault),
-        },
+    let walked = put_words(payload, scheme, samples, constants.first, out);
+    match ends_of_walk(payload, scheme, samples, constants, walked) {
+        Ok(_) => Ok(()),
+        Err(fault) => Err(fault),
     }
 }
 

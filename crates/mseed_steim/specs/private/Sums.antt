@@ -5,6 +5,9 @@ use Rattle.mseed_steim.specs.declared.differences.BadWordAt.{BadWordAt}
 use Rattle.mseed_steim.specs.declared.fault.ReadFault.{ReadFault}
 use Rattle.mseed_steim.specs.declared.fault.ReadFault.TheVariants.{Short, BadWord, Overflow}
 use Rattle.mseed_steim.specs.declared.sum.Sum.{Sum}
+use Rattle.mseed_steim.specs.declared.scheme.Scheme.{Scheme}
+use Rattle.mseed_steim.specs.Frames.{data_words, first_constant}
+use Rattle.mseed_steim.specs.private.Items.{items_of}
 
 -- 32 bits hold the number
 abbrev pub fits : ℤ → Bool
@@ -24,6 +27,11 @@ fold n sum (Ok d ∷ more) =
     else if sum.met == 0 then fold n (one_more sum sum.last) more
     else if fits (sum.last +ℤ d) then fold n (one_more sum (sum.last +ℤ d)) more
     else Err (Overflow sum.met)
+
+-- the walk over a payload's words, from its first constant on
+abbrev pub walk : Scheme → List ℕ → ℕ → Result Sum ReadFault
+walk scheme payload n =
+    fold n (record { met = 0; last = first_constant payload }) (items_of scheme (data_words payload))
 
 -- the samples that the walk meets
 unfoldable pub met_in : ℕ → Sum → List (Result ℤ BadWordAt) → List ℤ

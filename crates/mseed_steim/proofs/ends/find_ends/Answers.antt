@@ -1,20 +1,16 @@
-use Rattle.std.proofs.Common.{◌≡◌, ◌∙◌}
+use Rattle.std.proofs.Common.{◌∙◌}
 use Rattle.mseed_record.specs.Viewing.{view_of}
 use Rattle.mseed_steim.specs.declared.form.Form.TheVariants.{Integers, Frames}
-use Rattle.mseed_steim.specs.Reading.{count_of, HoldsIn, IsAnswer}
+use Rattle.mseed_steim.specs.Reading.{HoldsIn, IsAnswer}
 use Rattle.mseed_steim.proofs.Constants.{answer_ends, answer_fault, constants_end, frameless}
 use Rattle.mseed_steim.proofs.Laws.{payload_answer}
 use Rattle.mseed_steim.proofs.ends.find_ends.Goals as goal
 
 answer : (c : goal.After-check_integers) → IsAnswer (view_of c.args.view.now) c.check_integers.result
 answer c =
-    let count : c.from-samples.result ≡ count_of (view_of c.args.view.now) = c.from-samples.ensures
-    ∙ c.samples.ensures in
-    let held : HoldsIn (view_of c.args.view.now) (Integers c.in-Integers.width) c.in-Ok.found.1.now =
-    rw c.in-Integers.is at c.in-Ok.ensures.held in
-    let checked = rw (c.payload_order.ensures, count) at c.check_integers.ensures in
-    payload_answer (view_of c.args.view.now) (Integers c.in-Integers.width) c.in-Ok.found.1.now c.check_integers.result
-    c.requires held checked
+    payload_answer (view_of c.args.view.now) (Integers c.in-Integers.width) c.in-Ok.found.1.now _ _
+    c.check_integers.result c.requires (rw c.in-Integers.is at c.in-Ok.ensures.held)
+    (c.from-samples.ensures ∙ c.samples.ensures) c.payload_order.ensures c.check_integers.ensures
 
 pub returns-in-Integers-clause-ends : goal.returns-in-Integers-clause-ends
 returns-in-Integers-clause-ends c = answer_ends (view_of c.args.view.now) c.check_integers.result (answer c)
