@@ -7,8 +7,9 @@ use Rattle.std.proofs.lemmas.Bool.{lt-ltb}
 use Rattle.mseed_steim.specs.declared.differences.BadWordAt.{BadWordAt}
 use Rattle.mseed_steim.specs.declared.sum.Sum.{Sum}
 use Rattle.mseed_steim.specs.private.Lanes.{total, span}
-use Rattle.mseed_steim.specs.private.Sums.{fits, fold, one_more}
+use Rattle.mseed_steim.specs.private.Sums.{fits, fold, met_in, one_more, sums}
 use Rattle.mseed_steim.proofs.Folds.{fold_add}
+use Rattle.mseed_steim.proofs.Folded.{met_add}
 
 pub abs_sum : (a b : ℤ) → nat_abs (a +ℤ b) ≤ nat_abs a + nat_abs b
 abs_sum (pos a) (pos b) = omega arith
@@ -24,20 +25,27 @@ pub total_near : (ds : List ℤ) → nat_abs (total ds) ≤ span ds
 total_near [] = omega arith
 total_near (d ∷ ds) = let later = total_near ds in omega (arith, later, abs_sum d (total ds))
 
-pub fold_far : (n : ℕ) (ds : List ℤ) (s : Sum) (more : List (Result ℤ BadWordAt)) → 0 < s.met → s.met + length ds ≤ n
+-- while the limits of 32 bits are out of reach, a walk goes on from the sum of the differences, and meets their sums
+pub goes_far : (n : ℕ) (ds : List ℤ) (s : Sum) (more : List (Result ℤ BadWordAt)) → 0 < s.met → s.met + length ds ≤ n
     → nat_abs s.last + span ds < 2 ^ 31
-    → fold n s (map Ok ds ++ more) ≡ fold n (record { met = s.met + length ds; last = s.last +ℤ total ds }) more
-fold_far n [] s more some room far =
+    → (fold n s (map Ok ds ++ more) ≡ fold n (record { met = s.met + length ds; last = s.last +ℤ total ds }) more)
+    × (met_in n s (map Ok ds ++ more)
+    ≡ sums s.last ds ++ met_in n (record { met = s.met + length ds; last = s.last +ℤ total ds }) more)
+goes_far n [] s more some room far =
     let met : s.met + 0 ≡ s.met = omega arith in
     let last : s.last +ℤ pos 0 ≡ s.last = omega (arith, ints) in
-    rw (met, last) refl
-fold_far n (d ∷ ds) s more some room far =
+    rw (met, last) (refl, refl)
+goes_far n (d ∷ ds) s more some room far =
     let near = abs_sum s.last d in
     let met : s.met + 1 + length ds ≡ s.met + length (d ∷ ds) = omega arith in
     let last : (s.last +ℤ d) +ℤ total ds ≡ s.last +ℤ total (d ∷ ds) = omega (arith, ints) in
-    fold_add n s d (map Ok ds ++ more) (omega arith) some (near_fits (s.last +ℤ d) (omega (arith, near)))
-    ∙ (rw (met, last) at (fold_far n ds (one_more s (s.last +ℤ d)) more (omega arith) (omega arith)
-    (omega (arith, near))))
+    let within = near_fits (s.last +ℤ d) (omega (arith, near)) in
+    let later = rw (met, last) at (goes_far n ds (one_more s (s.last +ℤ d)) more (omega arith) (omega arith)
+    (omega (arith, near))) in (
+      fold_add n s d (map Ok ds ++ more) (omega arith) some within ∙ later.0,
+      met_add n s d (map Ok ds ++ more) (omega arith) some within
+          ∙ ap (λ (zs : List ℤ). (s.last +ℤ d) ∷ zs) later.1,
+    )
 
 pub near_signed : (z : ℤ) → nat_abs z < 2 ^ 31 → FitsSigned w32 z
 near_signed (pos n) h = record { sfits = omega (arith, h) }

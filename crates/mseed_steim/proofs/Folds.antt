@@ -1,12 +1,18 @@
 -- One item after another: how a walk goes on.
-use Rattle.std.proofs.Common.{◌≡◌, ◌≢◌, ℕ, ◌<◌, ◌^◌, List, [], ◌∷◌, ◌++◌, take, ◌∙◌, ℤ, pos, negsuc, ◌+ℤ◌, arith, refl}
-use Rattle.std.proofs.Common.{eqb, false, true, Result, Ok, Err, w32, FitsSigned}
+use Rattle.std.proofs.Common.{◌≡◌, ◌≢◌, ℕ, ◌<◌, ◌^◌, List, [], ◌∷◌, ◌++◌, map, take, ◌∙◌, ℤ, pos, negsuc, ◌+ℤ◌}
+use Rattle.std.proofs.Common.{arith, refl, sym, ap, subst, eqb, false, true, Some, None, Result, Ok, Err, w32, FitsSigned}
 use Rattle.std.proofs.lemmas.Bool.{ne_eqb, eq-eqb, lt-ltb, le-ltb}
 use Rattle.mseed_steim.specs.declared.differences.BadWordAt.{BadWordAt}
 use Rattle.mseed_steim.specs.declared.fault.ReadFault.{ReadFault}
 use Rattle.mseed_steim.specs.declared.fault.ReadFault.TheVariants.{Short, BadWord, Overflow}
+use Rattle.mseed_steim.specs.declared.scheme.Scheme.{Scheme}
 use Rattle.mseed_steim.specs.declared.sum.Sum.{Sum}
+use Rattle.mseed_steim.specs.private.Digits.{differences_of}
+use Rattle.mseed_steim.specs.private.Items.{items_of}
+use Rattle.mseed_steim.specs.Frames.{DataWord, words_from}
+use Rattle.mseed_steim.specs.Runs.{place_of}
 use Rattle.mseed_steim.specs.private.Sums.{GoesOn, Keeps, fits, fold, met_in, one_more}
+use Rattle.mseed_steim.proofs.Walking.{items_group, items_bad}
 
 pub fold_enough : (n : ℕ) (s : Sum) (items : List (Result ℤ BadWordAt)) → s.met ≡ n → fold n s items ≡ Ok s
 unfolding fold
@@ -68,3 +74,53 @@ pub keeps_from : (n : ℕ) (s t : Sum) (before between after : List ℤ) (items 
     → Keeps n t between later behind after r → Keeps n s before items behind after r
 keeps_from n s t before between after items later behind (Ok next) e h = h ∙ e
 keeps_from n s t before between after items later behind (Err fault) e h = tt
+
+-- no more is needed, whatever stands behind
+pub fold_done : (n : ℕ) (s : Sum) (items later : List (Result ℤ BadWordAt)) → s.met ≡ n
+    → fold n s items ≡ fold n s later
+fold_done n s items later e = fold_enough n s items e ∙ sym (fold_enough n s later e)
+
+-- a word's differences, or that it is bad
+pub word_goes_on : (n : ℕ) (s : Scheme) (w : DataWord) (ds : List ℤ) (a : Sum) (r : Result Sum ReadFault)
+    → differences_of s w.code w.bits ≡ Some ds
+    → ((more : List (Result ℤ BadWordAt)) → GoesOn n a (map Ok ds ++ more) more r) → (rest : List DataWord)
+    → GoesOn n a (items_of s (w ∷ rest)) (items_of s rest) r
+word_goes_on n s w ds a r e h rest =
+    subst (λ (items : List (Result ℤ BadWordAt)). GoesOn n a items (items_of s rest) r)
+    (sym (items_group s (w ∷ rest) rest w ds refl e)) (h (items_of s rest))
+
+pub word_keeps : (n : ℕ) (s : Scheme) (w : DataWord) (ds : List ℤ) (a : Sum) (before after : List ℤ)
+    (r : Result Sum ReadFault) → differences_of s w.code w.bits ≡ Some ds
+    → ((more : List (Result ℤ BadWordAt)) → Keeps n a before (map Ok ds ++ more) more after r)
+    → (rest : List DataWord) → Keeps n a before (items_of s (w ∷ rest)) (items_of s rest) after r
+word_keeps n s w ds a before after r e h rest =
+    subst (λ (items : List (Result ℤ BadWordAt)). Keeps n a before items (items_of s rest) after r)
+    (sym (items_group s (w ∷ rest) rest w ds refl e)) (h (items_of s rest))
+
+pub bad_word : (n : ℕ) (s : Scheme) (w : DataWord) (a : Sum) → differences_of s w.code w.bits ≡ None → a.met < n
+    → (rest : List DataWord) → fold n a (items_of s (w ∷ rest)) ≡ Err (BadWord w.frame w.place)
+bad_word n s w a e less rest =
+    ap (λ (items : List (Result ℤ BadWordAt)). fold n a items) (items_bad s (w ∷ rest) rest w refl e)
+    ∙ fold_bad n a (place_of w) [] less
+
+-- the first frame, once its first data word has been taken
+pub first_goes_on : (n : ℕ) (s : Scheme) (p : List ℕ) (w : DataWord) (a t : Sum) (r : Result Sum ReadFault)
+    → words_from p 3 13 ≡ w ∷ words_from p 4 12
+    → ((rest : List DataWord) → fold n a (items_of s (w ∷ rest)) ≡ fold n t (items_of s rest)) → (rest : List DataWord)
+    → GoesOn n t (items_of s (words_from p 4 12 ++ rest)) (items_of s rest) r
+    → GoesOn n a (items_of s (words_from p 3 13 ++ rest)) (items_of s rest) r
+first_goes_on n s p w a t r cut step rest =
+    goes_from n a t (items_of s (words_from p 3 13 ++ rest)) (items_of s (words_from p 4 12 ++ rest)) (items_of s rest) r
+    (ap (λ (ws : List DataWord). fold n a (items_of s (ws ++ rest))) cut ∙ step (words_from p 4 12 ++ rest))
+
+pub first_keeps : (n : ℕ) (s : Scheme) (p : List ℕ) (w : DataWord) (a t : Sum) (before between after : List ℤ)
+    (r : Result Sum ReadFault) → words_from p 3 13 ≡ w ∷ words_from p 4 12
+    → ((rest : List DataWord) → take t.met between ++ met_in n t (items_of s rest)
+    ≡ take a.met before ++ met_in n a (items_of s (w ∷ rest))) → (rest : List DataWord)
+    → Keeps n t between (items_of s (words_from p 4 12 ++ rest)) (items_of s rest) after r
+    → Keeps n a before (items_of s (words_from p 3 13 ++ rest)) (items_of s rest) after r
+first_keeps n s p w a t before between after r cut step rest =
+    keeps_from n a t before between after (items_of s (words_from p 3 13 ++ rest))
+    (items_of s (words_from p 4 12 ++ rest)) (items_of s rest) r
+    (step (words_from p 4 12 ++ rest)
+    ∙ ap (λ (ws : List DataWord). take a.met before ++ met_in n a (items_of s (ws ++ rest))) (sym cut))

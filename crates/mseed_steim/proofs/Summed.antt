@@ -14,7 +14,7 @@ use Rattle.mseed_steim.specs.private.Lanes.{total, span}
 use Rattle.mseed_steim.specs.declared.differences.BadWordAt.{BadWordAt}
 use Rattle.mseed_steim.specs.declared.sum.Sum.{Sum}
 use Rattle.mseed_steim.specs.private.Sums.{fold, met_in, one_more, sums}
-use Rattle.mseed_steim.proofs.Far.{abs_sum, fold_far, near_fits, near_signed, total_near}
+use Rattle.mseed_steim.proofs.Far.{abs_sum, goes_far, near_signed, total_near}
 use Rattle.mseed_steim.proofs.Folded.{met_add}
 use Rattle.mseed_steim.proofs.FrameItems.{span-append}
 
@@ -201,23 +201,6 @@ pub length-sums : (l : ℤ) (xs : List ℤ) → length (sums l xs) ≡ length xs
 length-sums l [] = refl
 length-sums l (x ∷ xs) = ap suc (length-sums (l +ℤ x) xs)
 
--- the samples that a walk meets, while the limits of 32 bits are out of reach
-pub met_far : (n : ℕ) (ds : List ℤ) (s : Sum) (more : List (Result ℤ BadWordAt)) → 0 < s.met → s.met + length ds ≤ n
-    → nat_abs s.last + span ds < 2 ^ 31
-    → met_in n s (map Ok ds ++ more)
-    ≡ sums s.last ds ++ met_in n (record { met = s.met + length ds; last = s.last +ℤ total ds }) more
-met_far n [] s more some room far =
-    let met : s.met + 0 ≡ s.met = omega arith in
-    let last : s.last +ℤ pos 0 ≡ s.last = omega (arith, ints) in
-    rw (met, last) refl
-met_far n (d ∷ ds) s more some room far =
-    let near = abs_sum s.last d in
-    let met : s.met + 1 + length ds ≡ s.met + length (d ∷ ds) = omega arith in
-    let last : (s.last +ℤ d) +ℤ total ds ≡ s.last +ℤ total (d ∷ ds) = omega (arith, ints) in
-    met_add n s d (map Ok ds ++ more) (omega arith) some (near_fits (s.last +ℤ d) (omega (arith, near)))
-    ∙ ap (λ (zs : List ℤ). (s.last +ℤ d) ∷ zs)
-    (rw (met, last) at (met_far n ds (one_more s (s.last +ℤ d)) more (omega arith) (omega arith) (omega (arith, near))))
-
 -- numbers that are held in 32 bits
 pub all_held : (xs : List ℤ) → span xs < 2 ^ 31 → map (to_z w32) (map (of_z w32) xs) ≡ xs
 all_held [] near = refl
@@ -335,7 +318,7 @@ whole_kept n count k rest ds s out after z more long some room near inside fille
     ap (λ (m : ℕ). take m (take s.met out ++ (after ++ behind))) at
     ∙ take-append-add (take s.met out) (after ++ behind) count
     ∙ ap (λ (ys : List ℤ). take s.met out ++ ys) (take-append-le count after behind filled ∙ kept) in
-    let far = met_far n ds s more some (omega (arith, long, room)) near in
+    let far = (goes_far n ds s more some (omega (arith, long, room)) near).1 in
     ap (λ (ys : List ℤ). ys ++ met_in n (record { met = s.met + count; last = z }) more) places
     ∙ append_assoc (take s.met out) (sums s.last ds) (met_in n (record { met = s.met + count; last = z }) more)
     ∙ ap (λ (ys : List ℤ). take s.met out ++ ys) (rw (moved, sym long) (sym far))
@@ -344,4 +327,4 @@ pub whole_goes_on : (n count : ℕ) (ds : List ℤ) (s : Sum) (z : ℤ) (more : 
     → length ds ≡ count → 0 < s.met → s.met + count ≤ n → nat_abs s.last + span ds < 2 ^ 31 → z ≡ s.last +ℤ total ds
     → fold n s (map Ok ds ++ more) ≡ fold n (record { met = s.met + count; last = z }) more
 whole_goes_on n count ds s z more long some room near moved =
-    rw (moved, sym long) (fold_far n ds s more some (omega (arith, long, room)) near)
+    rw (moved, sym long) ((goes_far n ds s more some (omega (arith, long, room)) near).0)

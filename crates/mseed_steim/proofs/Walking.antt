@@ -94,12 +94,3 @@ frame_cut p k inside =
     let count : 16 + (word_count p - 16 * (k + 1)) ≡ word_count p - 16 * k = omega (arith, inside) in
     let place : 16 * k + 16 ≡ 16 * (k + 1) = omega arith in
     rw (count, place) at (words_cut p (16 * k) 16 (word_count p - 16 * (k + 1)))
-
--- the data words of the first frame behind the first of them
-pub behind_first : (p : List ℕ) (w : DataWord) (ws : List DataWord) → words_from p 3 13 ≡ w ∷ ws
-    → ws ≡ words_from p 4 12
-behind_first p w ws e =
-    let some : 3 % 16 ≢ 0 = λ e. omega arith in
-    let step = words_step p 3 12 some in
-    let same : w ∷ ws ≡ data_word p 3 ∷ words_from p 4 12 = sym e ∙ step in
-    cc

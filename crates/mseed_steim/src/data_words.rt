@@ -1,7 +1,7 @@
 //! The data words of a payload's frames.
 
-ghost use Rattle.std.specs.Prelude.{◌≡◌, ◌≢◌, ◌≤◌, ◌<◌, ◌+◌, ◌-◌, ◌*◌, ◌/◌, ◌%◌, ◌^◌, ℕ, List, [], ◌++◌, length, map};
-ghost use Rattle.std.specs.Prelude.{Ok};
+ghost use Rattle.std.specs.Prelude.{◌≡◌, ◌≢◌, ◌≤◌, ◌<◌, ◌+◌, ◌-◌, ◌*◌, ◌/◌, ◌%◌, ◌^◌, ℕ, List, [], ◌∷◌, ◌++◌, map};
+ghost use Rattle.std.specs.Prelude.{length, Ok};
 ghost use Rattle.std.specs.Iterator.{YieldsFirstBy, item_count};
 ghost use Rattle.mseed_steim.specs.Frames.{AreOctets, DataWord, word_at, words_from, data_words};
 ghost use Rattle.byteorder.specs.Endian.{twos_complement};
@@ -63,6 +63,20 @@ pub(crate) fn code_in(codes: u32, index: usize) -> u8
     ensures small { result < 4 }
 {
     (codes >> (30 - 2 * (index % FRAME)) & 3) as u8
+}
+
+/// The first data word of a payload.
+#[inline]
+pub(crate) fn first_word(payload: &[u8]) -> Word
+    requires { 64 ≤ length payload.now }
+    ensures { words_from payload.now 3 13 ≡ as_data result ∷ words_from payload.now 4 12 }
+{
+    Word {
+        frame: 0,
+        place: 3,
+        code: code_in(read_word(payload, 0), 3),
+        bits: read_word(payload, 3),
+    }
 }
 
 /// The first data word from a word on, up to a frame's end, and its frame's codes; these are known unless the word

@@ -1,7 +1,7 @@
 //! Differences that are added up, word by word.
 
-ghost use Rattle.std.specs.Prelude.{◌≡◌, ◌+◌, ◌-◌, ◌^◌, ◌≤◌, ◌<◌, List, ◌∷◌, ◌++◌, map, ℤ, ◌+ℤ◌, nat_abs, Result};
-ghost use Rattle.std.specs.Prelude.{Ok, IfOk};
+ghost use Rattle.std.specs.Prelude.{◌≡◌, ◌+◌, ◌-◌, ◌^◌, ◌≤◌, ◌<◌, List, [], ◌∷◌, ◌++◌, map, ℤ, ◌+ℤ◌, nat_abs, Result};
+ghost use Rattle.std.specs.Prelude.{Ok, IfOk, OnOk};
 ghost use Rattle.mseed_steim.specs.declared.differences.BadWordAt.{BadWordAt};
 ghost use Rattle.mseed_steim.specs.private.Digits.{digits};
 ghost use Rattle.mseed_steim.specs.private.Sums.{GoesOn, fold, met_in};
@@ -78,6 +78,19 @@ pub(crate) fn add_digit(
 {
     let difference = read_digit(word, group.width, group.count - 1 - index);
     add_difference(difference, samples, sum)
+}
+
+/// The sum where no difference is left: short, unless all samples have been met.
+#[inline]
+pub(crate) fn all_met(samples: usize, sum: Sum) -> Result<Sum, ReadFault>
+    ensures folded { result ≡ fold samples sum [] }
+    ensures met { OnOk result (sum.met ≡ samples) }
+{
+    if sum.met == samples {
+        Ok(sum)
+    } else {
+        Err(ReadFault::Short(sum.met))
+    }
 }
 
 /// The differences of a group in the low bits of a word, as far as they are needed.

@@ -9,12 +9,12 @@ ghost use Rattle.mseed_steim.specs.private.Moves.{Moves};
 ghost use Rattle.mseed_steim.specs.private.Reads.{as_data};
 ghost use Rattle.mseed_steim.specs.private.Sums.{GoesOn, fold, lack};
 
-use crate::data_words::{FRAME, Word, Words};
+use crate::data_words::{FRAME, Word, Words, first_word};
 use crate::fault::ReadFault;
 use crate::frame::{FROM_1, FROM_4, Moved, move_of};
 use crate::group::group_of;
 use crate::scheme::Scheme;
-use crate::sum::{Sum, add_group};
+use crate::sum::{Sum, add_group, all_met};
 
 /// No sum of a frame's differences is further from 0 than this, unless one of them has 30 or 32 bits.
 const REACH: u32 = 1 << 20;
@@ -97,17 +97,13 @@ fn add_first_frame(
         met: 0,
         last: first,
     };
-    let mut words = Words::between(payload, 3, FRAME);
-    let Some(word) = words.next() else {
-        return Ok(none);
-    };
-    let sum = match add_word(scheme, word, samples, none) {
+    let sum = match add_word(scheme, first_word(payload), samples, none) {
         Ok(sum) => sum,
         Err(fault) => return Err(fault),
     };
     match add_at_once(move_of(scheme, frame, FROM_4), samples, sum) {
         Some(sum) => Ok(sum),
-        None => add_words(scheme, words, samples, sum),
+        None => add_words(scheme, Words::between(payload, 4, FRAME), samples, sum),
     }
 }
 
@@ -162,11 +158,7 @@ pub(crate) fn add_frames(
             Err(fault) => return Err(fault),
         }
     }
-    if sum.met == samples {
-        Ok(sum)
-    } else {
-        Err(ReadFault::Short(sum.met))
-    }
+    all_met(samples, sum)
 }
 
 /// What comes first in place of one of so many differences, where any does, whatever they add up to.

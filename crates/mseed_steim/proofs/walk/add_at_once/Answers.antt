@@ -1,7 +1,7 @@
 use Rattle.std.proofs.Common.{◌+◌, ◌<◌, ◌≤◌, ◌^◌, length, ◌+ℤ◌, nat_abs, arith, rules, w32, FitsSigned, ◌∙◌}
 use Rattle.std.proofs.lemmas.Int.{to_z-of_z, wrapping_add_is, int_wrap_fits}
 use Rattle.mseed_steim.specs.private.Lanes.{total, span}
-use Rattle.mseed_steim.proofs.Far.{fold_far, total_near, abs_sum, near_signed}
+use Rattle.mseed_steim.proofs.Far.{goes_far, total_near, abs_sum, near_signed}
 use Rattle.mseed_steim.proofs.walk.add_at_once.Goals as goal
 
 pub returns-clause-goes_on : goal.returns-clause-goes_on
@@ -17,4 +17,4 @@ returns-clause-goes_on c = λ ds more m.
     let wrapped = wrapping_add_is w32 c.args.sum.last c.args.moved.by last by
     ∙ int_wrap_fits w32 (c.args.sum.last +ℤ c.args.moved.by)
     (near_signed (c.args.sum.last +ℤ c.args.moved.by) sum) in
-    rw (wrapped, ← m.count, ← m.by) (fold_far c.args.samples ds c.args.sum more (omega arith) room far)
+    rw (wrapped, ← m.count, ← m.by) ((goes_far c.args.samples ds c.args.sum more (omega arith) room far).0)

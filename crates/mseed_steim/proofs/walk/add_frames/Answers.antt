@@ -4,7 +4,7 @@ use Rattle.mseed_steim.specs.Frames.{DataWord, words_from, word_count}
 use Rattle.mseed_steim.specs.private.Items.{items_of}
 use Rattle.mseed_steim.specs.private.Sums.{fold}
 use Rattle.mseed_steim.proofs.Walking.{first_cut, frame_cut, words_none, no_items, frame_at}
-use Rattle.mseed_steim.proofs.Folds.{fold_enough, fold_short}
+use Rattle.mseed_steim.proofs.Folds.{fold_enough}
 use Rattle.mseed_steim.proofs.walk.add_frames.Goals as goal
 
 pub returns-in-Err : goal.returns-in-Err
@@ -55,18 +55,12 @@ loop-index-preserved c = record {
       ∙ c.in-Ok-add_frame.ensures.goes_on _;
 }
 
-pub returns-then-sum-samples-2 : goal.returns-then-sum-samples-2
-returns-then-sum-samples-2 c =
-    let fits : FitsSigned w32 c.args.first = c.ranges.first in
-    let same = rw to_z-of_z at c.loop-index.invariant.same in
-    sym (same ∙ fold_enough c.args.samples c.loop-index.sum _ c.if-sum-samples-2.true)
-
-pub returns-else-sum-samples-2 : goal.returns-else-sum-samples-2
-returns-else-sum-samples-2 c =
+pub returns : goal.returns
+returns c =
     let fits : FitsSigned w32 c.args.first = c.ranges.first in
     let same = rw to_z-of_z at c.loop-index.invariant.same in
     let over : word_count c.args.payload.now - 16 * c.loop-index.index ≡ 0 = omega arith in
     let none = no_items c.args.scheme (words_from c.args.payload.now (16 * c.loop-index.index)
     (word_count c.args.payload.now - 16 * c.loop-index.index))
     (rw over (words_none c.args.payload.now (16 * c.loop-index.index))) in
-    sym (same ∙ (rw none (fold_short c.args.samples c.loop-index.sum (λ e. c.if-sum-samples-2.false e))))
+    c.all_met.ensures.folded ∙ sym (rw none at same)
