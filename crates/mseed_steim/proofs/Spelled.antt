@@ -1,6 +1,7 @@
 -- A word's digits are what it spells, and nothing else is.
 use Rattle.std.proofs.Common.{◌≡◌, ℕ, zero, suc, ◌+◌, ◌-◌, ◌*◌, ◌/◌, ◌%◌, ◌^◌, ◌<◌, ◌≤◌, List, [], ◌∷◌, length, ℤ}
 use Rattle.std.proofs.Common.{arith, sym, ap, subst, refl, All, ⊎_elim, Bool, true, false, cond, eqb, Option, Some}
+use Rattle.std.proofs.Common.{if◌then◌else◌}
 use Rattle.std.proofs.Common.{None, w32, to_z}
 use Rattle.std.proofs.lemmas.Nat.{pow_pos, mod-pow-add}
 use Rattle.std.proofs.lemmas.Int.{ints}
@@ -54,33 +55,23 @@ digits_positional w word (suc k) p =
     let long : w * suc k ≡ w + w * k = omega (arith, mul-suc w k) in
     rw (digit, length-digits w word k, digits_positional w word k p, long) (sym (mod-pow-add word w (w * k)))
 
--- the digits are the word's differences, by the three kinds of rows
+-- the digits are the word's differences, whatever of the word stands above them
+group_by : (g : Group) (word spare : ℕ) → 0 < g.width → spare < g.spare
+    → word ≡ (if g.marked then word / 2 ^ 30 * 2 ^ 30 else 0) + spare * 2 ^ 28 + word % 2 ^ (g.width * g.count)
+    → IsGroup g (word / 2 ^ 30) word (digits g.width word g.count)
+group_by g word spare p few sum = record {
+  count = length-digits g.width word g.count;
+  range = digits_within g.width word g.count p;
+  sum = (spare, few, rw (digits_positional g.width word g.count p) sum);
+}
+
+-- by the three kinds of rows
 is_group : (g : Group) (word : ℕ) → word < 2 ^ 32 → 0 < g.width → Kind g
     → IsGroup g (word / 2 ^ 30) word (digits g.width word g.count)
-is_group g word small p (whole m j l) =
-    let sum : positional g.width (digits g.width word g.count) ≡ word % 2 ^ 32 =
-    rw l at (digits_positional g.width word g.count p) in
-    record {
-      count = length-digits g.width word g.count;
-      range = digits_within g.width word g.count p;
-      sum = (0, omega (arith, j), rw m (omega (arith, sum)));
-    }
-is_group g word small p (full m j l) =
-    let sum : positional g.width (digits g.width word g.count) ≡ word % 2 ^ 30 =
-    rw l at (digits_positional g.width word g.count p) in
-    record {
-      count = length-digits g.width word g.count;
-      range = digits_within g.width word g.count p;
-      sum = (0, omega (arith, j), rw m (omega (arith, sum)));
-    }
+is_group g word small p (whole m j l) = group_by g word 0 p (omega (arith, j)) (rw (m, l) (omega (arith, small)))
+is_group g word small p (full m j l) = group_by g word 0 p (omega (arith, j)) (rw (m, l) (omega arith))
 is_group g word small p (short m j l) =
-    let sum : positional g.width (digits g.width word g.count) ≡ word % 2 ^ 28 =
-    rw l at (digits_positional g.width word g.count p) in
-    record {
-      count = length-digits g.width word g.count;
-      range = digits_within g.width word g.count p;
-      sum = (word / 2 ^ 28 % 4, omega (arith, j), rw m (omega (arith, sum)));
-    }
+    group_by g word (word / 2 ^ 28 % 4) p (omega (arith, j)) (rw (m, l) (omega arith))
 
 from_group : (s : Scheme) (c word : ℕ) (o : Option Group) (ds : List ℤ) → word < 2 ^ 32
     → group_of s c (word / 2 ^ 30) ≡ o → differences_in word o ≡ Some ds → Spells s c word ds

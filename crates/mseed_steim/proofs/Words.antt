@@ -1,6 +1,6 @@
 -- Words as sums of signed digits.
-use Rattle.std.proofs.Common.{◌≡◌, ℕ, suc, ◌+◌, ◌-◌, ◌*◌, ◌^◌, ◌<◌, ◌≤ℤ◌, ◌<ℤ◌, List, [], ◌∷◌, length, ℤ, pos, negsuc}
-use Rattle.std.proofs.Common.{neg_ℤ, arith, ap, refl, All}
+use Rattle.std.proofs.Common.{◌≡◌, ℕ, suc, ◌+◌, ◌-◌, ◌*◌, ◌%◌, ◌^◌, ◌<◌, ◌≤ℤ◌, ◌<ℤ◌, List, [], ◌∷◌, length, ℤ, pos, negsuc}
+use Rattle.std.proofs.Common.{neg_ℤ, arith, ap, sym, refl, All}
 use Rattle.std.proofs.lemmas.Nat.{pow_pos, pow-add, same_from_place, mul-add-lt}
 use Rattle.std.proofs.lemmas.Int.{ints}
 use Rattle.std.proofs.lemmas.List.Elements.{All-head, All-tail}
@@ -20,31 +20,27 @@ pub residue_lt : (m : ℕ) (d : ℤ) → 0 < m → residue m d < m
 residue_lt m (pos n) p = mod-lt n p
 residue_lt m (negsuc n) p = omega (arith, mod-lt n p)
 
+-- numbers below the half are their own residues
+small_mod : (m h n : ℕ) → m ≡ 2 * h → n < h → n % m ≡ n
+small_mod m h n s less = mod-eq_of_lt (omega (arith, s, less))
+
+-- none of them is that of a number below 0
+differ : {A : Type 0} (m h a b : ℕ) → m ≡ 2 * h → a < h → b < h → a % m ≡ m - 1 - b % m → A
+differ m h a b s al bl r = absurd (omega (arith, s, al, bl, r, small_mod m h a s al, small_mod m h b s bl))
+
 -- two numbers in range with one residue are one
 residue_one_half : (m h : ℕ) (d e : ℤ) → m ≡ 2 * h → (neg_ℤ (pos h) ≤ℤ d) → d <ℤ pos h → (neg_ℤ (pos h) ≤ℤ e)
     → e <ℤ pos h → residue m d ≡ residue m e → d ≡ e
 residue_one_half m h (pos a) (pos b) s d1 d2 e1 e2 r =
-    let al : a < m = omega (arith, ints) in
-    let bl : b < m = omega (arith, ints) in
-    ap pos (omega (arith, r, mod-eq_of_lt al, mod-eq_of_lt bl))
+    ap pos (omega (arith, r, small_mod m h a s (omega (arith, ints)), small_mod m h b s (omega (arith, ints))))
 residue_one_half m h (pos a) (negsuc b) s d1 d2 e1 e2 r =
-    let al : a < h = omega (arith, ints) in
-    let bl : b < h = omega (arith, ints) in
-    let am : a < m = omega arith in
-    let bm : b < m = omega arith in
-    absurd (omega (arith, r, mod-eq_of_lt am, mod-eq_of_lt bm))
+    differ m h a b s (omega (arith, ints)) (omega (arith, ints)) r
 residue_one_half m h (negsuc a) (pos b) s d1 d2 e1 e2 r =
-    let al : a < h = omega (arith, ints) in
-    let bl : b < h = omega (arith, ints) in
-    let am : a < m = omega arith in
-    let bm : b < m = omega arith in
-    absurd (omega (arith, r, mod-eq_of_lt am, mod-eq_of_lt bm))
+    differ m h b a s (omega (arith, ints)) (omega (arith, ints)) (sym r)
 residue_one_half m h (negsuc a) (negsuc b) s d1 d2 e1 e2 r =
     let al : a < h = omega (arith, ints) in
     let bl : b < h = omega (arith, ints) in
-    let am : a < m = omega arith in
-    let bm : b < m = omega arith in
-    ap negsuc (omega (arith, r, mod-eq_of_lt am, mod-eq_of_lt bm))
+    ap negsuc (omega (arith, r, small_mod m h a s al, small_mod m h b s bl))
 
 pub residue_one : (w : ℕ) (d e : ℤ) → 0 < w → IsWithin w d → IsWithin w e → residue (2 ^ w) d ≡ residue (2 ^ w) e
     → d ≡ e

@@ -4,10 +4,10 @@ ghost use Rattle.std.specs.Prelude.{◌≡◌, ◌≢◌, ◌↔◌, ◌<◌, �
 ghost use Rattle.std.specs.Prelude.{length, IsTrue};
 ghost use Rattle.std.specs.Bool.{OnTrue};
 ghost use Rattle.mseed_record.specs.Viewing.{view_of};
-ghost use Rattle.mseed_steim.specs.Frames.{word_at, word_count};
+ghost use Rattle.mseed_steim.specs.Frames.{AreOctets, word_at, word_count};
 ghost use Rattle.mseed_steim.specs.Nearness.{AreNear, AreShort, IsNarrowAt, IsSurelyNear, ShowsNear};
 ghost use Rattle.mseed_steim.specs.Reading.{count_of, IsFault, IsWhole};
-ghost use Rattle.mseed_steim.specs.Samples.{AreEnds, IsPayloadReading};
+ghost use Rattle.mseed_steim.specs.Samples.{AreEnds};
 ghost use Rattle.mseed_steim.specs.Spelling.{IsWithin};
 
 use crate::check::{check_integers, constants_of, payload_of};
@@ -76,7 +76,7 @@ pub fn is_surely_near(view: &RecordView<'_>) -> bool
 /// Whether the words or integers of a payload show it.
 fn shows_near(form: Form, order: Order, payload: &[u8], samples: usize) -> bool
     ensures shown { IsTrue result ↔ IsSurelyNear form order payload.now samples }
-    ensures near { OnTrue result ((s : List ℤ) → IsPayloadReading form order payload.now samples s → AreNear s) }
+    ensures octets { AreOctets payload.now }
 {
     match form {
         Form::Integers(Width::Two) => true,
