@@ -1,51 +1,20 @@
 -- Words that are packed from a prefix of some differences are packed from all of them, where the prefix is long enough.
-use Rattle.std.proofs.Common.{◌≡◌, ℕ, zero, suc, ◌+◌, ◌-◌, ◌*◌, ◌≤◌, eqb, Bool, true, false, cond, List, [], ◌∷◌}
-use Rattle.std.proofs.Common.{length, take, drop, refl, sym, ap, subst, ◌∙◌, arith, ℤ, Option, Some, None}
+use Rattle.std.proofs.Common.{◌≡◌, ℕ, zero, suc, ◌+◌, ◌-◌, ◌*◌, ◌≤◌, Bool, true, false, cond, List, [], ◌∷◌}
+use Rattle.std.proofs.Common.{length, take, drop, refl, sym, ap, subst, ◌∙◌, arith, ℤ}
 use Rattle.std.specs.List.{filter, range_with_len}
 use Rattle.std.proofs.lemmas.List.{length-map, length-drop, length-take, length-take-le, drop-take, drop-drop}
 use Rattle.std.proofs.lemmas.List.{take-take}
 use Rattle.mseed_steim.specs.declared.scheme.Scheme.{Scheme}
-use Rattle.mseed_steim.specs.declared.scheme.Scheme.TheVariants.{One, Two}
-use Rattle.mseed_steim.specs.Groups.{Group, group_of}
 use Rattle.mseed_steim.specs.Spelling.{Spells, empty, row}
 use Rattle.mseed_steim.specs.Frames.{DataWord, data_word, is_data, words_from, data_words, word_count}
 use Rattle.mseed_steim.specs.Packing.{CanSpell, IsFullest, PacksRun}
-
-cond_holds : (P : Option Group → Type 0) (b : Bool) (x y : Option Group) → P x → P y → P (cond b x y)
-cond_holds P true x y p q = p
-cond_holds P false x y p q = q
-
--- no row has more than seven differences
-abbrev AtMostSeven : Option Group → Type 0
-AtMostSeven o = (g : Group) → o ≡ Some g → g.count ≤ 7
-
-none_seven : AtMostSeven None
-none_seven g e = cc
-
-some_seven : (g : Group) → g.count ≤ 7 → AtMostSeven (Some g)
-some_seven g h k e = let same : g ≡ k = cc in subst (λ (x : Group). x.count ≤ 7) same h
-
-seven : (s : Scheme) (c d : ℕ) → AtMostSeven (group_of s c d)
-seven One c d =
-    cond_holds AtMostSeven (eqb c 1) _ _ (some_seven _ (omega arith))
-    (cond_holds AtMostSeven (eqb c 2) _ _ (some_seven _ (omega arith))
-    (cond_holds AtMostSeven (eqb c 3) _ _ (some_seven _ (omega arith)) none_seven))
-seven Two c d =
-    cond_holds AtMostSeven (eqb c 1) _ _ (some_seven _ (omega arith))
-    (cond_holds AtMostSeven (eqb c 2) _ _
-    (cond_holds AtMostSeven (eqb d 1) _ _ (some_seven _ (omega arith))
-    (cond_holds AtMostSeven (eqb d 2) _ _ (some_seven _ (omega arith))
-    (cond_holds AtMostSeven (eqb d 3) _ _ (some_seven _ (omega arith)) none_seven)))
-    (cond_holds AtMostSeven (eqb c 3) _ _
-    (cond_holds AtMostSeven (eqb d 0) _ _ (some_seven _ (omega arith))
-    (cond_holds AtMostSeven (eqb d 1) _ _ (some_seven _ (omega arith))
-    (cond_holds AtMostSeven (eqb d 2) _ _ (some_seven _ (omega arith)) none_seven)))
-    none_seven))
+use Rattle.mseed_steim.proofs.Table.{group_sized}
 
 pub spelled_seven : (s : Scheme) (c w : ℕ) (ds : List ℤ) → Spells s c w ds → length ds ≤ 7
 spelled_seven s c w ds (empty e none) = let size : length ds ≡ 0 = ap (λ (xs : List ℤ). length xs) none in
     omega (arith, size)
-spelled_seven s c w ds (row g d found is) = let few = seven s c d g found in omega (arith, few, is.count)
+spelled_seven s c w ds (row g d found is) = let few : g.count ≤ 7 = (group_sized s c d g found).few in
+    omega (arith, few, is.count)
 
 used_seven : (s : Scheme) (ds : List ℤ) (c w used : ℕ) → IsFullest s ds c w used → used ≤ 7
 used_seven s ds c w used full =

@@ -3,23 +3,16 @@ use Rattle.std.proofs.Common.{◌≡◌, ◌≢◌, ℕ, zero, suc, ◌+◌, ◌
 use Rattle.std.proofs.Common.{get_or, refl, sym, ap, subst, ◌∙◌, arith, ◌⊎◌, inl, inr, ⊎_elim}
 use Rattle.std.proofs.Math.Nat.{div-div-eq-div-mul}
 use Rattle.std.proofs.lemmas.Nat.{pow-add}
-use Rattle.std.proofs.lemmas.Bool.{cases_eq, cases_lt, ne_eqb}
+use Rattle.std.proofs.lemmas.Bool.{cases_eq, cases_lt}
 use Rattle.std.proofs.lemmas.Bool.Decides.{nat_tests}
 use Rattle.std.proofs.lemmas.Int.{ints}
 use Rattle.std.proofs.lemmas.List.{ext_get_or, get_or-drop}
 use Rattle.byteorder.specs.Endian.{twos_complement}
 use Rattle.byteorder.specs.Numbers.{big_from-lt}
-use Rattle.mseed_steim.specs.Frames.{DataWord, data_word, words_from, data_words, word_at, code_at, word_count}
+use Rattle.mseed_steim.specs.Frames.{DataWord, words_from, data_words, word_at, code_at, word_count}
 use Rattle.mseed_steim.specs.Frames.{first_constant, last_constant}
 use Rattle.mseed_steim.specs.Packing.{contents}
-
-words_skip : (p : List ℕ) (k n : ℕ) → k % 16 ≡ 0 → words_from p k (suc n) ≡ words_from p (k + 1) n
-unfolding words_from
-words_skip p k n e = rw e refl
-
-words_step : (p : List ℕ) (k n : ℕ) → k % 16 ≢ 0 → words_from p k (suc n) ≡ data_word p k ∷ words_from p (k + 1) n
-unfolding words_from
-words_step p k n h = rw (ne_eqb (k % 16) 0 h) refl
+use Rattle.mseed_steim.proofs.Walking.{words_skip, words_step}
 
 abbrev Alike : List ℕ → List ℕ → ℕ → Type 0
 Alike p q k = (code_at p k ≡ code_at q k) × (word_at p k ≡ word_at q k)
