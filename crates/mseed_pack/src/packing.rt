@@ -3,7 +3,6 @@ ghost use Rattle.std.specs.Prelude.{◌≡◌, ◌≤◌, IfErr, IfOk, List, len
 ghost use Rattle.std.specs.List.{AllByRecursion};
 ghost use Rattle.mseed_stream.specs.Calls.{WritesOn};
 ghost use Rattle.mseed_audit.specs.Series.{AreSteps};
-ghost use Rattle.mseed_pack.specs.private.Filling.{HoldsDifferences};
 ghost use Rattle.mseed_pack.specs.Fitting.{Fits};
 ghost use Rattle.mseed_pack.specs.FewestWords.{HasFewestWords};
 ghost use Rattle.mseed_pack.specs.Outcome.{IsOutcome, IsTrace, EmittedAll, EmittedPrefix};
@@ -169,38 +168,16 @@ impl Packer {
             (W.beside sink.old) (W.beside sink.new) }
     {
         self.window.forget();
-        pack_through(series, options, sink, &mut self.records, &mut self.window)
-    }
-}
-
-/// The same through these bytes, in which records are gathered, and through a window.
-fn pack_through<W: Sink>(
-    series: &SeriesView,
-    options: &Options,
-    sink: &mut W,
-    records: &mut [u8],
-    window: &mut Window,
-) -> Result<u64, u128>
-    requires fits { Fits (trace_of series.now) options.now }
-    requires steps { AreSteps (length series.now.samples.now) series.now.steps.now }
-    requires long { 4096 ≤ length records.old }
-    requires held { HoldsDifferences series.now.samples.now window.old }
-    ensures ok { IfOk result (λ count.
-        EmittedAll (trace_of series.now) options.now count (W.written sink.old) (W.written sink.new)) }
-    ensures err { IfErr result (λ taken.
-        EmittedPrefix (trace_of series.now) options.now taken (W.written sink.old) (W.written sink.new)) }
-    ensures writes { WritesOn (W.written sink.old) (W.written sink.new) (W.contents sink.old) (W.contents sink.new)
-        (W.beside sink.old) (W.beside sink.new) }
-{
-    let length = length_of(options);
-    let job = Job { series, options };
-    let mut place = first_place(series);
-    while place.first < series.samples.len() {
-        let batch = gather(&job, place, window, records);
-        if let Err(taken) = write_all_of(sink, &records[..batch.bytes]) {
-            return Err(u128::from(place.number) * length as u128 + taken as u128);
+        let length = length_of(options);
+        let job = Job { series, options };
+        let mut place = first_place(series);
+        while place.first < series.samples.len() {
+            let batch = gather(&job, place, &mut self.window, &mut self.records);
+            if let Err(taken) = write_all_of(sink, &self.records[..batch.bytes]) {
+                return Err(u128::from(place.number) * length as u128 + taken as u128);
+            }
+            place = batch.next;
         }
-        place = batch.next;
+        Ok(place.number)
     }
-    Ok(place.number)
 }

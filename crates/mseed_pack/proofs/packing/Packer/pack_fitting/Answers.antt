@@ -3,7 +3,7 @@ use Rattle.mseed_pack.specs.Outcome.{EmittedPrefix}
 use Rattle.mseed_pack.specs.Traces.{trace_of}
 use Rattle.mseed_pack.proofs.Growing.{emitted_all, emitted_more, emitted_none, emitted_prefix}
 use Rattle.mseed_stream.proofs.Calls.{writes_none, writes_on}
-use Rattle.mseed_pack.proofs.packing.pack_through.Goals as goal
+use Rattle.mseed_pack.proofs.packing.Packer.pack_fitting.Goals as goal
 
 pub returns-in-Err-clause-err : goal.returns-in-Err-clause-err
 returns-in-Err-clause-err g c =
