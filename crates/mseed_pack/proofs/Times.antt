@@ -49,3 +49,11 @@ stretch_timed start rate steps size stretch last h e some first not_last i low h
     let rise_on : (start +ℤ pos (periods rate i) -ℤ stretch.added) ≤ℤ
     (start +ℤ pos (periods rate last) -ℤ stretch.added) = omega (arith, ints, late) in
     subst (λ (t : ℤ). ¬ (IsOutside t)) b (between _ _ _ rise rise_on first not_last)
+
+-- a sample of a stretch whose instant can't be written
+pub outside_in : (start : ℤ) (rate : Ratio) (steps : List (ℕ × LeapStep)) (size : ℕ) (stretch : Stretch) (i : ℕ)
+    → IsStretch steps size stretch → stretch.begin ≤ i → i < stretch.end → i < size
+    → IsOutside (start +ℤ pos (periods rate i) -ℤ stretch.added)
+    → (j : ℕ) × ((j < size) × IsOutside (reading_at start rate steps j))
+outside_in start rate steps size stretch i h low high inside out =
+    (i, (inside, subst (λ (t : ℤ). IsOutside t) (reading_in start rate steps size stretch i h low high) out))

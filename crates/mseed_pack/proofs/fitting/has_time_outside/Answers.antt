@@ -1,30 +1,27 @@
-use Rattle.std.proofs.Common.{◌<◌, ◌≤◌, ◌-◌, ℤ, arith, refl, subst, ⊎_elim}
+use Rattle.std.proofs.Common.{◌<◌, ◌≤◌, ◌-◌, arith, refl, ⊎_elim}
 use Rattle.std.proofs.lemmas.Bool.{false≢true, cases_lt}
-use Rattle.mseed_time.specs.Naming.{IsOutside}
 use Rattle.mseed_time.specs.Ratios.{ratio_of}
 use Rattle.mseed_pack.proofs.Steps.{end_inside}
-use Rattle.mseed_pack.proofs.Times.{reading_in, stretch_timed}
+use Rattle.mseed_pack.proofs.Times.{outside_in, stretch_timed}
 use Rattle.mseed_pack.proofs.fitting.has_time_outside.Goals as goal
 
 pub returns-then-early : goal.returns-then-early
 returns-then-early c =
-    let stretch = c.loop-stretch.stretch in
-    let h = c.loop-stretch.invariant in
-    let ends = end_inside c.args.steps.now c.args.size stretch h.standing c.loop-stretch-test.true in
-    let out = subst (λ (z : ℤ). IsOutside z)
-    (reading_in c.args.start (ratio_of c.args.rate) c.args.steps.now c.args.size stretch stretch.begin h.standing
-    (omega arith) ends.0) (c.if-early.ensures.0 refl) in
-    (λ _. (stretch.begin, (c.loop-stretch-test.true, out)), λ _. refl)
+    let h = c.loop-stretch.invariant.standing in
+    let ends = end_inside c.args.steps.now c.args.size c.loop-stretch.stretch h c.loop-stretch-test.true in (
+      λ _. outside_in c.args.start (ratio_of c.args.rate) c.args.steps.now c.args.size c.loop-stretch.stretch _ h
+          (omega arith) ends.0 c.loop-stretch-test.true (c.if-early.ensures.0 refl),
+      λ _. refl,
+    )
 
 pub returns-then-late : goal.returns-then-late
 returns-then-late c =
-    let stretch = c.loop-stretch.stretch in
-    let h = c.loop-stretch.invariant in
-    let ends = end_inside c.args.steps.now c.args.size stretch h.standing c.loop-stretch-test.true in
-    let out = subst (λ (z : ℤ). IsOutside z)
-    (reading_in c.args.start (ratio_of c.args.rate) c.args.steps.now c.args.size stretch (stretch.end - 1)
-    h.standing (omega (arith, ends.0)) (omega (arith, ends.0))) (c.if-late.ensures.0 refl) in
-    (λ _. (stretch.end - 1, (omega (arith, ends.0, ends.1), out)), λ _. refl)
+    let h = c.loop-stretch.invariant.standing in
+    let ends = end_inside c.args.steps.now c.args.size c.loop-stretch.stretch h c.loop-stretch-test.true in (
+      λ _. outside_in c.args.start (ratio_of c.args.rate) c.args.steps.now c.args.size c.loop-stretch.stretch _ h
+          (omega (arith, ends.0)) (omega (arith, ends.0)) (omega (arith, ends.0, ends.1)) (c.if-late.ensures.0 refl),
+      λ _. refl,
+    )
 
 pub returns-then-stretch-size : goal.returns-then-stretch-size
 returns-then-stretch-size c =

@@ -26,27 +26,24 @@ fits xs index some inside h =
     subst (λ (z : ℤ). FitsSigned w32 z) (is xs index some inside)
     (within_fits (get_or (differences xs) index (pos 0)) h)
 
+-- the difference of two numbers that are held in 32 bits, and so is the difference
+held : (a b : ℤ) → FitsSigned w32 a → FitsSigned w32 b → FitsSigned w32 (a -ℤ b)
+    → FitsSigned w32 (to_z w32 (of_z w32 a) -ℤ to_z w32 (of_z w32 b))
+held a b one two both = rw (to_z-of_z w32 a one, to_z-of_z w32 b two) both
+
+held_is : (a b : ℤ) → FitsSigned w32 a → FitsSigned w32 b → FitsSigned w32 (a -ℤ b)
+    → to_z w32 (of_z w32 (to_z w32 (of_z w32 a) -ℤ to_z w32 (of_z w32 b))) ≡ a -ℤ b
+held_is a b one two both = rw (to_z-of_z w32 a one, to_z-of_z w32 b two) (to_z-of_z w32 (a -ℤ b) both)
+
 pub overflow_sub-result-2 : goal.overflow_sub-result-2
 overflow_sub-result-2 c =
     let xs = c.args.samples.now in
-    let index = c.args.index in
-    let one : to_z w32 (of_z w32 (get_or xs index (pos 0))) ≡ get_or xs index (pos 0) =
-    to_z-of_z w32 _ (search rules) in
-    let two : to_z w32 (of_z w32 (get_or xs (index - 1) (pos 0))) ≡ get_or xs (index - 1) (pos 0) =
-    to_z-of_z w32 _ (search rules) in
-    subst (λ (z : ℤ). FitsSigned w32 (z -ℤ to_z w32 (of_z w32 (get_or xs (index - 1) (pos 0))))) (sym one)
-    (subst (λ (z : ℤ). FitsSigned w32 (get_or xs index (pos 0) -ℤ z)) (sym two)
-    (fits xs index (λ e. omega (arith, e, c.requires.some)) c.requires.inside c.requires.fits))
+    held (get_or xs c.args.index (pos 0)) (get_or xs (c.args.index - 1) (pos 0)) (search rules) (search rules)
+    (fits xs c.args.index (λ e. omega (arith, e, c.requires.some)) c.requires.inside c.requires.fits)
 
 pub returns : goal.returns
 returns c =
     let xs = c.args.samples.now in
-    let index = c.args.index in
-    let one : to_z w32 (of_z w32 (get_or xs index (pos 0))) ≡ get_or xs index (pos 0) =
-    to_z-of_z w32 _ (search rules) in
-    let two : to_z w32 (of_z w32 (get_or xs (index - 1) (pos 0))) ≡ get_or xs (index - 1) (pos 0) =
-    to_z-of_z w32 _ (search rules) in
-    ap (λ (z : ℤ). to_z w32 (of_z w32 (z -ℤ to_z w32 (of_z w32 (get_or xs (index - 1) (pos 0)))))) one
-    ∙ ap (λ (z : ℤ). to_z w32 (of_z w32 (get_or xs index (pos 0) -ℤ z))) two
-    ∙ to_z-of_z w32 _ (fits xs index (λ e. omega (arith, e, c.requires.some)) c.requires.inside c.requires.fits)
-    ∙ sym (is xs index (λ e. omega (arith, e, c.requires.some)) c.requires.inside)
+    held_is (get_or xs c.args.index (pos 0)) (get_or xs (c.args.index - 1) (pos 0)) (search rules) (search rules)
+    (fits xs c.args.index (λ e. omega (arith, e, c.requires.some)) c.requires.inside c.requires.fits)
+    ∙ sym (is xs c.args.index (λ e. omega (arith, e, c.requires.some)) c.requires.inside)

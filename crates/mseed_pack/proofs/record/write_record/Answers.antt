@@ -55,16 +55,16 @@ returns-in-Ok-clause-packed c =
           c.fill-filled.new.payload) (sym left_is) c.fill-filled.ensures.holds);
     }
 
-pub returns-in-Err-clause-packed : goal.returns-in-Err-clause-packed
-returns-in-Err-clause-packed c =
+-- a record is longer than its header
+no_fault : (c : goal.In-Err) → ⊥
+no_fault c =
     let short = c.in-Err.ensures.too_short.0 refl in
     let same = ap (λ (l : List ℕ). length l) c.in-Err.ensures.unchanged in
     let size : length c.write_header.new.out ≡ length c.args.out.now = search rules in
-    absurd (omega (arith, short, same, size, c.requires.long))
+    omega (arith, short, same, size, c.requires.long)
+
+pub returns-in-Err-clause-packed : goal.returns-in-Err-clause-packed
+returns-in-Err-clause-packed c = absurd (no_fault c)
 
 pub returns-in-Err-clause-some : goal.returns-in-Err-clause-some
-returns-in-Err-clause-some c =
-    let short = c.in-Err.ensures.too_short.0 refl in
-    let same = ap (λ (l : List ℕ). length l) c.in-Err.ensures.unchanged in
-    let size : length c.write_header.new.out ≡ length c.args.out.now = search rules in
-    absurd (omega (arith, short, same, size, c.requires.long))
+returns-in-Err-clause-some c = absurd (no_fault c)
