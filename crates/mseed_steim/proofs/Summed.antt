@@ -13,9 +13,8 @@ use Rattle.std.proofs.lemmas.Int.{ints, to_z-of_z}
 use Rattle.mseed_steim.specs.private.Lanes.{total, span}
 use Rattle.mseed_steim.specs.declared.differences.BadWordAt.{BadWordAt}
 use Rattle.mseed_steim.specs.declared.sum.Sum.{Sum}
-use Rattle.mseed_steim.specs.private.Sums.{fold, met_in, one_more, sums}
+use Rattle.mseed_steim.specs.private.Sums.{fold, met_in, sums}
 use Rattle.mseed_steim.proofs.Far.{abs_sum, goes_far, near_signed, total_near}
-use Rattle.mseed_steim.proofs.Folded.{met_add}
 use Rattle.mseed_steim.proofs.FrameItems.{span-append}
 
 -- a list of four

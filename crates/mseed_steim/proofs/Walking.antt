@@ -2,7 +2,7 @@
 use Rattle.std.specs.Simd.{first_chunks}
 use Rattle.std.proofs.Common.{◌≡◌, ◌≢◌, ◌⊎◌, ⊎_elim, take, drop, get_or, ◌*◌, ◌∙◌, inl, inr, ℕ, zero, suc, ◌+◌, ◌%◌}
 use Rattle.std.proofs.Common.{◌-◌, ◌/◌, ◌<◌, ◌≤◌, List, [], ◌∷◌, ◌++◌, map, length, ℤ, arith, refl, ap}
-use Rattle.std.proofs.Common.{sym, Option, Some, None, Ok, Err}
+use Rattle.std.proofs.Common.{Option, Some, None, Ok, Err}
 use Rattle.std.proofs.lemmas.Bool.{ne_eqb, cases_lt}
 use Rattle.std.proofs.lemmas.List.{drop-drop}
 use Rattle.mseed_steim.specs.declared.scheme.Scheme.{Scheme}

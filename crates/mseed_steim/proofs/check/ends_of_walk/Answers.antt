@@ -1,4 +1,4 @@
-use Rattle.std.proofs.Common.{◌≡◌, ◌<◌, ◌∙◌, rules, sym, ap, w32, to_z, of_z, FitsSigned, get_or, ℕ}
+use Rattle.std.proofs.Common.{◌<◌, ◌∙◌, rules, sym, ap, w32, to_z, of_z, FitsSigned, get_or, ℕ}
 use Rattle.std.proofs.lemmas.Int.{to_z-of_z}
 use Rattle.mseed_steim.proofs.Ended.{ends_differ, lacking_fault, walk_fault}
 use Rattle.mseed_steim.proofs.check.ends_of_walk.Goals as goal

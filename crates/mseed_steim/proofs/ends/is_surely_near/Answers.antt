@@ -1,4 +1,4 @@
-use Rattle.std.proofs.Common.{◌∙◌, ◌<◌, List, ℤ, subst}
+use Rattle.std.proofs.Common.{◌∙◌, List, ℤ, subst}
 use Rattle.std.proofs.lemmas.Bool.{OnTrue_from}
 use Rattle.mseed_time.specs.declared.order.Order.{Order}
 use Rattle.mseed_record.specs.Viewing.{view_of}

@@ -1,4 +1,4 @@
-use Rattle.std.proofs.Common.{◌++◌, ◌∙◌, List, ℤ, Result, Ok, ap, refl, inr, w32, FitsSigned}
+use Rattle.std.proofs.Common.{◌∙◌, List, ℤ, Result, Ok, ap, refl, inr, w32, FitsSigned}
 use Rattle.std.proofs.lemmas.Int.{to_z-of_z}
 use Rattle.mseed_steim.specs.declared.differences.BadWordAt.{BadWordAt}
 use Rattle.mseed_steim.specs.private.Items.{items_of}
