@@ -8,6 +8,7 @@ use Rattle.slink_wire.specs.declared.request.Request.TheVariants.{Station, Data,
 use Rattle.slink_wire.specs.Command.{IsCommand}
 use Rattle.slink_wire.specs.Place.{Fields, IsField, code_in}
 use Rattle.slink_wire.specs.Request.{HasPlace, IsSpelled, number_bytes, request_line, requested}
+use Rattle.slink_wire.specs.Lines.{stripped}
 use Rattle.slink_wire.specs.Written.{IsLine}
 use Rattle.slink_wire.proofs.Codes.{without}
 use Rattle.slink_wire.proofs.Cuts.{Lacks}
@@ -42,21 +43,24 @@ station_line place p q =
       no_lf = refl;
     }
 
+-- a keyword, with a number behind it
+numbered_line : (word : List ℕ) (number : Option ℕ) → 1 ≤ length word → length word ≤ 8 → Lacks 13 word
+    → stripped (word ++ number_bytes number) ≡ word ++ number_bytes number → IsLine (word ++ number_bytes number)
+numbered_line word number some short lacks no_lf =
+    let long : length (word ++ number_bytes number) ≡ length word + length (number_bytes number) =
+    length-append word (number_bytes number) in
+    record {
+      some = omega (arith, long, some);
+      short = omega (arith, long, short, number_long number);
+      no_cr = lacks_both word (number_bytes number) lacks (number_lacks number);
+      no_lf = no_lf;
+    }
+
 pub data_line : (number : Option ℕ) → IsLine (request_line (Data number))
-data_line number = record {
-  some = omega arith;
-  short = omega (arith, number_long number);
-  no_cr = lacks_both (codes "DATA") (number_bytes number) refl (number_lacks number);
-  no_lf = refl;
-}
+data_line number = numbered_line (codes "DATA") number (omega arith) (omega arith) refl refl
 
 pub fetch_line : (number : Option ℕ) → IsLine (request_line (Fetch number))
-fetch_line number = record {
-  some = omega arith;
-  short = omega (arith, number_long number);
-  no_cr = lacks_both (codes "FETCH") (number_bytes number) refl (number_lacks number);
-  no_lf = refl;
-}
+fetch_line number = numbered_line (codes "FETCH") number (omega arith) (omega arith) refl refl
 
 pub end_line : IsLine (request_line End)
 end_line = record { some = omega arith; short = omega arith; no_cr = refl; no_lf = refl }
