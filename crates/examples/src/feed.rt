@@ -64,6 +64,12 @@ pub fn push_to_feed(feed: &mut Feed, bytes: &[u8; 512]) -> bool {
     true
 }
 
+/// The number that a record gets in the first ring whose place it bears.
+pub fn number_to_be(feed: &Feed, bytes: &[u8; 512]) -> Option<u64> {
+    let k = feed.bearer(bytes)?;
+    Some(feed.ring(k).next())
+}
+
 /// What a new session answers to the first line.
 pub fn first_reply(feed: &Feed, bytes: &[u8]) -> Reply {
     let mut session = Session::new();

@@ -21,7 +21,7 @@ use Rattle.mseed_stream.specs.declared.fault.StreamFault.TheVariants.{Frame, Tru
 use Rattle.slink_wire.specs.Place.{Bears, Fields}
 use Rattle.slink_wire.proofs.Bearing.{bears_fails, bears_passes, one_place}
 use Rattle.slink_wire.proofs.Cuts.{both}
-use Rattle.slink_feed.specs.Rings.{HasPlace}
+use Rattle.slink_feed.specs.Rings.{BearsNone, HasPlace}
 use Rattle.slink_feed.specs.Window.{Shows, Window, window, with_record}
 use Rattle.slink_feed.proofs.Items.{drop_none, get_mapped, map_got, shows_more, within_is}
 use Rattle.mseed_words.specs.Places.{Called, are_different, has_place, is_same}
@@ -166,7 +166,7 @@ of_feed s rs r feed new is pushed =
 
 -- one of which no ring is isn't
 pub not_of_feed : (s : Serving) (rs : List (List ℕ)) (r : List ℕ) (feed : List Window) → feed ≡ feed_of s rs
-    → (length r ≡ 512 → (k : ℕ) (w : Window) → slice_get feed k ≡ Some w → ¬ (Bears r w.place))
+    → (length r ≡ 512 → BearsNone feed r)
     → ¬ (IsOfFeed (served s) r)
 not_of_feed s rs r feed is none of =
     none of.0 of.1 (ring_of s rs of.2) (subst (λ (ws : List Window). slice_get ws of.1 ≡ Some (ring_of s rs of.2))
@@ -312,16 +312,14 @@ pub pushed_next : (s : Serving) (views : List View) (view : View) (bytes : List 
     → CanServe s → bytes ≡ view.bytes → HasHandedOut h c (views ++ view ∷ []) → old.calls < h.calls
     → AreOfFeed (served s) (bytes_in views) → feed ≡ feed_of s (bytes_in views) → number ≡ length views + 1
     → OnTrue is_pushed (IsPushed feed bytes new)
-    → OnFalse is_pushed (length bytes ≡ 512
-    → (k : ℕ) (w : Window) → slice_get feed k ≡ Some w → ¬ (Bears bytes w.place))
+    → OnFalse is_pushed (length bytes ≡ 512 → BearsNone feed bytes)
     → OnTrue is_pushed (result ≡ Ok Pushed) → OnFalse is_pushed (result ≡ Err (Foreign number))
     → IsNextPushed s result views old h c new
 pushed_next s views view bytes number result is_pushed feed new old h c can same handed called each is n =
     by_test is_pushed
   where
     by_test : (t : Bool) → OnTrue t (IsPushed feed bytes new)
-        → OnFalse t (length bytes ≡ 512
-        → (k : ℕ) (w : Window) → slice_get feed k ≡ Some w → ¬ (Bears bytes w.place))
+        → OnFalse t (length bytes ≡ 512 → BearsNone feed bytes)
         → OnTrue t (result ≡ Ok Pushed) → OnFalse t (result ≡ Err (Foreign number))
         → IsNextPushed s result views old h c new
     by_test true pushed _ ok _ =

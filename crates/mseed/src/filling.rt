@@ -2,11 +2,10 @@
 ghost use Rattle.std.specs.Prelude.{◌≡◌, ◌^◌, ◌<◌, ℕ, List, [], ◌∷◌, ◌++◌, length, IfErr, IfOk, IfSome};
 ghost use Rattle.std.specs.Prelude.{None, Some, Ok, Err, Result, slice_get, ◌+◌};
 ghost use Rattle.std.specs.Bool.{OnFalse, OnTrue};
-ghost use Rattle.std.specs.Option.{ForSome};
 ghost use Rattle.mseed_record.specs.View.{View};
 ghost use Rattle.mseed_stream.specs.Cutting.{IsAlong};
 ghost use Rattle.mseed_stream.specs.Device.{BytesRead, nothing_read};
-ghost use Rattle.slink_wire.specs.Place.{Bears};
+ghost use Rattle.slink_feed.specs.Rings.{BearsNone};
 ghost use Rattle.slink_feed.specs.Window.{Window};
 ghost use Rattle.mseed.specs.Filling.{IsFilling, IsOneFilling, IsPushed, feed_of};
 ghost use Rattle.mseed_words.specs.FeedWords.{CanServe};
@@ -127,34 +126,18 @@ pub(crate) fn open_feed(alloc: Global, serving: &Serving) -> Result<Feed, FillFa
 fn push_record<A: Allocator>(feed: &mut Feed<A>, bytes: &[u8]) -> bool
     requires room { (k : ℕ) (w : Window) → slice_get feed.old k ≡ Some w → w.next < 2 ^ 63 }
     ensures yes { OnTrue result (IsPushed feed.old bytes.now feed.new) }
-    ensures no { OnFalse result (length bytes.now ≡ 512
-        → (k : ℕ) (w : Window) → slice_get feed.old k ≡ Some w → ¬ (Bears bytes.now w.place)) }
+    ensures no { OnFalse result (length bytes.now ≡ 512 → BearsNone feed.old bytes.now) }
 {
     let Some(bytes) = bytes.as_array::<512>() else {
         return false;
     };
-    match bearer(feed, bytes) {
+    match feed.bearer(bytes) {
         Some(k) => {
             feed.push(k, bytes);
             true
         }
         None => false,
     }
-}
-
-/// The index of the first ring whose place a record is of.
-fn bearer<A: Allocator>(feed: &Feed<A>, bytes: &[u8; 512]) -> Option<usize>
-    ensures some { IfSome result (λ k. (k < length feed.now)
-        × ForSome (slice_get feed.now k) (λ w. Bears bytes.now w.place)) }
-    ensures none { result ≡ None
-        → (k : ℕ) (w : Window) → slice_get feed.now k ≡ Some w → ¬ (Bears bytes.now w.place) }
-{
-    for k in 0..feed.len() {
-        if feed.ring(k).place().bears(bytes) {
-            return Some(k);
-        }
-    }
-    None
 }
 
 /// What was read of an input comes to one filling of a feed, but where memory was refused.

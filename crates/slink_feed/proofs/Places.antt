@@ -1,12 +1,14 @@
 -- Which places the rings of a feed have.
-use Rattle.std.proofs.Common.{◌≡◌, ◌≢◌, ℕ, ◌+◌, ◌≤◌, inl, inr, zero, suc, refl, sym, ap, subst, ◌∙◌, arith, add-one}
+use Rattle.std.proofs.Common.{◌≡◌, ◌≢◌, ℕ, ◌+◌, ◌<◌, ◌≤◌, inl, inr, zero, suc, refl, sym, ap, subst, ◌∙◌, arith, add-one}
 use Rattle.std.proofs.Common.{Bool, true, false, ◌&&◌, nat_eq, List, [], ◌∷◌, length, take, take_all, drop}
-use Rattle.std.proofs.Common.{drop_of_length-le, if◌then◌else◌, Option, Some, None, slice_get}
+use Rattle.std.proofs.Common.{drop_of_length-le, if◌then◌else◌, IsTrue, Option, Some, None}
+use Rattle.std.proofs.Common.{slice_get}
 use Rattle.std.specs.List.{position_from}
 use Rattle.std.specs.Cmp.Lexicographic.{pointwise, same_text, other_text}
-use Rattle.slink_wire.specs.Place.{Fields}
+use Rattle.slink_wire.specs.Place.{Bears, Fields}
 use Rattle.slink_feed.specs.Rings.{HasPlace, LacksPlace}
 use Rattle.slink_feed.specs.Window.{Window}
+use Rattle.slink_feed.proofs.Items.{one_value, same_or_not}
 
 pub has_at : (ws : List Window) (k : ℕ) (w : Window) (place : Fields) → slice_get ws k ≡ Some w → w.place ≡ place
     → HasPlace ws place
@@ -93,3 +95,27 @@ passed_at p feed k w t o here test fails before =
 pub none_left : (p : Window → Bool) (feed : List Window) (k : ℕ) (o : Option ℕ) → length feed ≤ k
     → o ≡ position_from p k (drop k feed) → o ≡ None
 none_left p feed k o past before = before ∙ ap (position_from p k) (drop_of_length-le feed past)
+
+-- Which ring takes a record.
+-- one more ring whose place a record doesn't bear
+pub none_more : (feed : List Window) (r : List ℕ) (k : ℕ) (w : Window) → slice_get feed k ≡ Some w
+    → ¬ (Bears r w.place) → ((j : ℕ) (v : Window) → j < k → slice_get feed j ≡ Some v → ¬ (Bears r v.place))
+    → (j : ℕ) (v : Window) → j < k + 1 → slice_get feed j ≡ Some v → ¬ (Bears r v.place)
+none_more feed r k w here other before j v lt there = elim (same_or_not j k) [
+  | inl same ↦ λ bears. other
+      (subst (λ (x : Window). Bears r x.place)
+      (one_value (slice_get feed k) v w (subst (λ (i : ℕ). slice_get feed i ≡ Some v) same there) here) bears)
+  | inr ne ↦ before j v (omega (arith, lt, ne)) there
+]
+
+pub bears_by : (feed : List Window) (k : ℕ) (v w : Window) (r : List ℕ) (place : Fields) (t : Bool)
+    → slice_get feed k ≡ Some v → slice_get feed k ≡ Some w → place ≡ v.place → (IsTrue t → Bears r place) → t ≡ true
+    → Bears r w.place
+bears_by feed k v w r place t here there same tells is =
+    subst (λ (x : Window). Bears r x.place) (one_value (slice_get feed k) v w here there)
+    (subst (λ (p : Fields). Bears r p) same (tells is))
+
+pub bears_not : (v : Window) (r : List ℕ) (place : Fields) (t : Bool) → place ≡ v.place → (Bears r place → IsTrue t)
+    → t ≡ false → ¬ (Bears r v.place)
+bears_not v r place t same tells is bears = let bad : false ≡ true =
+    sym is ∙ tells (subst (λ (p : Fields). Bears r p) (sym same) bears) in cc bad

@@ -1,7 +1,8 @@
 -- The rings of a feed.
-use Rattle.std.specs.Prelude.{◌≡◌, ◌≢◌, ℕ, ◌⊎◌, List, [], ◌∷◌, Option, Some, None}
+use Rattle.std.specs.Prelude.{◌≡◌, ◌≢◌, ℕ, ◌⊎◌, ◌<◌, List, [], ◌∷◌, Option, Some, None, length, slice_get}
 use Rattle.std.specs.List.{position_from}
-use Rattle.slink_wire.specs.Place.{Fields, matches}
+use Rattle.std.specs.Option.{ForSome}
+use Rattle.slink_wire.specs.Place.{Bears, Fields, matches}
 use Rattle.slink_feed.specs.Window.{Window}
 
 -- One of the rings is of this place.
@@ -17,6 +18,16 @@ LacksPlace (w ∷ ws) place = (w.place ≢ place) × LacksPlace ws place
 -- the index of the first ring whose place has this station, in this network or in any
 abbrev pub station_at : List Window → List ℕ → Option (List ℕ) → Option ℕ
 station_at feed sta net = position_from (λ w. matches w.place sta net) 0 feed
+
+-- the first ring whose place a record bears
+pub record IsBearer (feed : List Window) (bytes : List ℕ) (k : ℕ) : Type 0 where
+  pub within : k < length feed
+  pub bears : ForSome (slice_get feed k) (λ w. Bears bytes w.place)
+  pub first : (j : ℕ) (w : Window) → j < k → slice_get feed j ≡ Some w → ¬ (Bears bytes w.place)
+
+-- A record bears the place of no ring.
+abbrev pub BearsNone : List Window → List ℕ → Type 0
+BearsNone feed bytes = (k : ℕ) (w : Window) → slice_get feed k ≡ Some w → ¬ (Bears bytes w.place)
 
 module _ {X : Type 0} where
   -- what stands in slots

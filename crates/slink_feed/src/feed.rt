@@ -1,11 +1,11 @@
 //! The rings of one feed.
 ghost use Rattle.std.specs.Prelude.{◌≡◌, ◌≢◌, ◌^◌, ◌<◌, ◌≤◌, ℕ, List, [], ◌∷◌, ◌++◌, Some, length, slice_get};
-ghost use Rattle.std.specs.Prelude.{slice_set, IfErr, IfSome, OnOk, OnErr, IsSomeAnd, option_map};
+ghost use Rattle.std.specs.Prelude.{slice_set, IfErr, IfSome, None, OnOk, OnErr, IsSomeAnd, option_map};
 ghost use Rattle.std.specs.Option.{ForSome};
 ghost use Rattle.std.specs.Bool.{OnFalse, OnTrue};
 ghost use Rattle.slink_wire.specs.Place.{Bears};
 ghost use Rattle.slink_feed.specs.Fault.{IsFeedFault};
-ghost use Rattle.slink_feed.specs.Rings.{HasPlace, LacksPlace, station_at};
+ghost use Rattle.slink_feed.specs.Rings.{BearsNone, HasPlace, IsBearer, LacksPlace, station_at};
 ghost use Rattle.slink_feed.specs.Session.{Fits, State};
 ghost use Rattle.slink_feed.specs.Window.{Shows, Window, with_record};
 
@@ -139,6 +139,19 @@ impl<A: Allocator> Feed<A> {
             unreachable!();
         }
         push_slot(&mut slots[k], bytes);
+    }
+
+    /// The index of the first ring whose place a record bears.
+    pub fn bearer(&self, bytes: &[u8; 512]) -> Option<usize>
+        ensures some { IfSome result (IsBearer self.now bytes.now) }
+        ensures none { result ≡ None → BearsNone self.now bytes.now }
+    {
+        for k in 0..self.len() {
+            if self.ring(k).place().bears(bytes) {
+                return Some(k);
+            }
+        }
+        None
     }
 
     /// The index of the first ring whose place has this station, in this network or in any.

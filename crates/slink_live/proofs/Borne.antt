@@ -2,43 +2,21 @@
 use Rattle.std.proofs.Common.{◌≡◌, ℕ, zero, suc, ◌+◌, ◌<◌, ◌≤◌, ◌∙◌, ap, subst, refl, sym, arith, Bool, true, false}
 use Rattle.std.proofs.Common.{◌⊎◌, List}
 use Rattle.std.proofs.Common.{[], ◌∷◌, ◌++◌, length, set, Some, None, option_map, slice_get}
-use Rattle.std.proofs.Common.{if◌then◌else◌, inl, inr, IsTrue}
+use Rattle.std.proofs.Common.{if◌then◌else◌, inl, inr}
 use Rattle.std.proofs.lemmas.Option.{slice_get-map}
 use Rattle.slink_wire.specs.Place.{Bears, Fields}
 use Rattle.slink_wire.proofs.Bearing.{bears_fails, bears_passes}
+use Rattle.slink_feed.specs.Rings.{BearsNone, IsBearer}
 use Rattle.slink_feed.specs.Session.{Fits, State}
 use Rattle.slink_feed.specs.Window.{Window, with_record}
 use Rattle.slink_feed.proofs.Fitting.{fits_pushed}
-use Rattle.slink_feed.proofs.Items.{one_value, same_or_not, within_is}
+use Rattle.slink_feed.proofs.Items.{within_is}
 use Rattle.slink_live.specs.Input.{fed, is_of, places_of, pushed}
 use Rattle.slink_live.specs.Served.{IsBelow}
-use Rattle.slink_live.specs.private.Cutting.{IsBearer, IsOfNone, IsPushed}
+use Rattle.slink_live.specs.private.Cutting.{IsOfNone, IsPushed}
 
 same_some : (v w : Window) → Some v ≡ Some w → v ≡ w
 same_some v w e = cc e
-
--- one ring more is not of its place
-pub none_more : (feed : List Window) (r : List ℕ) (k : ℕ) (w : Window) → slice_get feed k ≡ Some w
-    → ¬ (Bears r w.place) → ((j : ℕ) (v : Window) → j < k → slice_get feed j ≡ Some v → ¬ (Bears r v.place))
-    → (j : ℕ) (v : Window) → j < k + 1 → slice_get feed j ≡ Some v → ¬ (Bears r v.place)
-none_more feed r k w here other before j v lt there = elim (same_or_not j k) [
-  | inl same ↦ λ bears. other
-      (subst (λ (x : Window). Bears r x.place)
-      (one_value (slice_get feed k) v w (subst (λ (i : ℕ). slice_get feed i ≡ Some v) same there) here) bears)
-  | inr ne ↦ before j v (omega (arith, lt, ne)) there
-]
-
-pub bears_by : (feed : List Window) (k : ℕ) (v w : Window) (r : List ℕ) (place : Fields) (t : Bool)
-    → slice_get feed k ≡ Some v → slice_get feed k ≡ Some w → place ≡ v.place → (IsTrue t → Bears r place) → t ≡ true
-    → Bears r w.place
-bears_by feed k v w r place t here there same tells is =
-    subst (λ (x : Window). Bears r x.place) (one_value (slice_get feed k) v w here there)
-    (subst (λ (p : Fields). Bears r p) same (tells is))
-
-pub bears_not : (v : Window) (r : List ℕ) (place : Fields) (t : Bool) → place ≡ v.place → (Bears r place → IsTrue t)
-    → t ≡ false → ¬ (Bears r v.place)
-bears_not v r place t same tells is bears = let bad : false ≡ true =
-    sym is ∙ tells (subst (λ (p : Fields). Bears r p) (sym same) bears) in cc bad
 
 -- The first ring of its place takes it.
 pub pushed_at : (feed : List Window) (r : List ℕ) (k : ℕ) (w : Window) → slice_get feed k ≡ Some w → Bears r w.place
@@ -83,8 +61,7 @@ window_of [] k p h = absurd (let bad : None ≡ Some p = h in cc bad)
 window_of (v ∷ ws) zero p h = (v, refl, (let both : Some v.place ≡ Some p = h in cc both))
 window_of (v ∷ ws) (suc k) p h = window_of ws k p h
 
-pub of_none : (feed : List Window) (r : List ℕ)
-    → ((k : ℕ) (w : Window) → slice_get feed k ≡ Some w → ¬ (Bears r w.place)) → IsOfNone (places_of feed) r
+pub of_none : (feed : List Window) (r : List ℕ) → BearsNone feed r → IsOfNone (places_of feed) r
 of_none feed r none k p here bears =
     let at : (w : Window) × (slice_get feed k ≡ Some w) × (w.place ≡ p) = window_of feed k p here in
     none k at.0 at.1 (subst (Bears r) (sym at.2) bears)

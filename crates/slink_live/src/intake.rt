@@ -10,7 +10,7 @@ ghost use Rattle.slink_wire.specs.Place.{Bears};
 ghost use Rattle.slink_feed.specs.Window.{Window};
 ghost use Rattle.slink_live.specs.Input.{places_of};
 ghost use Rattle.slink_live.specs.Served.{IsBelow};
-ghost use Rattle.slink_live.specs.private.Cutting.{Cuts, CutsOff, IsBearer, IsOfNone, IsPushed, IsRefused, LooksOn};
+ghost use Rattle.slink_live.specs.private.Cutting.{Cuts, CutsOff, IsOfNone, IsPushed, IsRefused, LooksOn};
 
 use crate::fault::InputFault;
 use arrayvec::ArrayVec;
@@ -38,20 +38,6 @@ impl Model for Intake {
     ghost view = { λ i. record { feed = i.feed; kept = i.kept.items; records = i.records } };
 }
 
-/// The index of the first ring whose place a record is of.
-fn bearer(feed: &Feed, bytes: &[u8; 512]) -> Option<usize>
-    ensures some { IfSome result (IsBearer feed.now bytes.now) }
-    ensures none { result ≡ None
-        → (k : ℕ) (w : Window) → slice_get feed.now k ≡ Some w → ¬ (Bears bytes.now w.place) }
-{
-    for k in 0..feed.len() {
-        if feed.ring(k).place().bears(bytes) {
-            return Some(k);
-        }
-    }
-    None
-}
-
 /// Gives a record to the first ring of its place, and answers whether there is one.
 fn push_record(feed: &mut Feed, bytes: &[u8; 512]) -> bool
     requires { IsBelow 9223372036854775807 feed.old }
@@ -59,7 +45,7 @@ fn push_record(feed: &mut Feed, bytes: &[u8; 512]) -> bool
     ensures no { OnFalse result (IsOfNone (places_of feed.old) bytes.now) }
     ensures stays { OnFalse result (feed.new ≡ feed.old) }
 {
-    match bearer(feed, bytes) {
+    match feed.bearer(bytes) {
         Some(k) => {
             feed.push(k, bytes);
             true

@@ -1,18 +1,11 @@
 -- How bytes of the input are taken in.
 use Rattle.std.specs.Prelude.{◌≡◌, ℕ, ◌+◌, ◌<◌, List, [], ◌++◌, length, take, slice_get, Some}
 use Rattle.std.specs.List.{AllByRecursion, concat}
-use Rattle.std.specs.Option.{ForSome}
 use Rattle.slink_wire.specs.Place.{Bears, Fields}
 use Rattle.slink_feed.specs.Window.{Window}
 use Rattle.slink_live.specs.declared.fault.InputFault.{InputFault}
 use Rattle.slink_live.specs.Input.{IsFaultIn, IsOf, fed, places_of, pushed}
 use Rattle.slink_live.specs.Served.{IntakeState}
-
--- the first ring whose place a record is of
-pub record IsBearer (feed : List Window) (bytes : List ℕ) (k : ℕ) : Type 0 where
-  pub within : k < length feed
-  pub bears : ForSome (slice_get feed k) (λ w. Bears bytes w.place)
-  pub first : (j : ℕ) (w : Window) → j < k → slice_get feed j ≡ Some w → ¬ (Bears bytes w.place)
 
 -- The first ring of its place accepted the record.
 pub record IsPushed (old new : List Window) (bytes : List ℕ) : Type 0 where

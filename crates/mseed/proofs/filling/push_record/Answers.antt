@@ -7,16 +7,16 @@ pub push-requires : goal.push-requires
 push-requires g c = (
   search rules,
   (
-    c.in-Some-bearer.ensures.some.0,
-    (c.in-Some-bearer.ensures.some.1, λ w there. c.requires.room c.in-Some-bearer.k w there),
+    c.in-Some-bearer.ensures.some.within,
+    (c.in-Some-bearer.ensures.some.bears, λ w there. c.requires.room c.in-Some-bearer.k w there),
   ),
 )
 
 pub returns-in-Some-bearer-clause-yes : goal.returns-in-Some-bearer-clause-yes
 returns-in-Some-bearer-clause-yes g c =
     pushed_is c.args.feed.now c.push.new.self c.args.bytes.now c.in-Some.bytes.now c.in-Some-bearer.k
-    c.in-Some.ensures.cases.long c.in-Some.ensures.cases.same c.in-Some-bearer.ensures.some.0
-    c.in-Some-bearer.ensures.some.1 c.push.ensures.pushed
+    c.in-Some.ensures.cases.long c.in-Some.ensures.cases.same c.in-Some-bearer.ensures.some.within
+    c.in-Some-bearer.ensures.some.bears c.push.ensures.pushed
 
 pub returns-in-None-clause-no : goal.returns-in-None-clause-no
 returns-in-None-clause-no g c =
