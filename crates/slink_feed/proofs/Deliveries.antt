@@ -10,9 +10,9 @@ use Rattle.slink_feed.specs.declared.fetching.Counts.{Counts}
 use Rattle.slink_feed.specs.declared.turn.LinkFault.{LinkFault}
 use Rattle.slink_feed.specs.declared.turn.LinkFault.TheVariants as faults
 use Rattle.slink_feed.specs.declared.turn.Turn.TheVariants as turns
-use Rattle.slink_feed.specs.private.Delivery.{ComesTo, FailsToOutput, IsDelivered, IsUndelivered, IsUnwritten}
-use Rattle.slink_feed.specs.Fetching.{Delivers, FailsAt, Fetches, Fetching, ReadsOn, Takes, bytes_reported, joined_by}
-use Rattle.slink_feed.specs.Fetching.{line_written, lines_written, record_reported}
+use Rattle.slink_feed.specs.private.Delivery.{ComesTo, FailsAtEvent, IsDelivered, IsUndelivered}
+use Rattle.slink_feed.specs.Fetching.{Delivers, FailsAt, FailsAtLast, Fetches, Fetching, ReadsOn, Takes, bytes_reported}
+use Rattle.slink_feed.specs.Fetching.{joined_by, line_written, lines_written, record_reported}
 use Rattle.slink_feed.specs.Listening.{Brings, IsLinked, Listening, Reads, telling}
 use Rattle.slink_feed.specs.Turns.{Emitted, EmittedPrefix, reported_once}
 use Rattle.slink_feed.proofs.Goings.{says_on, still_linked, tells_on}
@@ -31,14 +31,15 @@ pub record SoFar (old now : Fetching) (bytes : List ℕ) (offset written_count o
   pub written_few : written_count ≤ 32 * offset
   pub output_few : output_count_is ≤ 512 * offset
 
-reads_none : (c : Listening) → ReadsOn c [] [] c
-reads_none c start stream before reads =
+-- Reading on, piece after piece.
+pub on_none : (c : Listening) → ReadsOn c [] [] c
+on_none c start stream before reads =
     subst (λ (s : List ℕ). Reads start s (before ++ []) c) (sym (append-nil stream))
     (subst (λ (es : List Event). Reads start stream es c) (sym (append-nil before)) reads)
 
-reads_further : (a b c : Listening) (xs ys : List ℕ) (es fs : List Event) → ReadsOn a xs es b → ReadsOn b ys fs c
+pub on_both : (a b c : Listening) (xs ys : List ℕ) (es fs : List Event) → ReadsOn a xs es b → ReadsOn b ys fs c
     → ReadsOn a (xs ++ ys) (es ++ fs) c
-reads_further a b c xs ys es fs one more start stream before reads =
+on_both a b c xs ys es fs one more start stream before reads =
     subst (λ (s : List ℕ). Reads start s (before ++ (es ++ fs)) c) (append_assoc stream xs ys)
     (subst (λ (t : List Event). Reads start ((stream ++ xs) ++ ys) t c) (append_assoc before es fs)
     (more start (stream ++ xs) (before ++ es) (one start stream before reads)))
@@ -158,7 +159,7 @@ pub nothing_so_far : (s : Fetching) (bytes : List ℕ) → SoFar s s bytes 0 0 0
 nothing_so_far s bytes = record {
   reported = [];
   within = omega arith;
-  reads = reads_none s.client;
+  reads = on_none s.client;
   linked = λ linked e. subst IsLinked e linked;
   written = emitted_none s.written;
   output = emitted_none s.output;
@@ -174,7 +175,7 @@ module _ (old now new : Fetching) (bytes : List ℕ) (offset used : ℕ) (event 
   further : ReadsOn old.client (take (offset + used) bytes) (so_far.reported ++ telling event) new.client
   further = subst (λ (s : List ℕ). ReadsOn old.client s (so_far.reported ++ telling event) new.client)
       (piece_is bytes offset used)
-      (reads_further old.client now.client new.client (take offset bytes)
+      (on_both old.client now.client new.client (take offset bytes)
       (take used (take (length bytes - offset) (drop offset bytes))) so_far.reported (telling event) so_far.reads
       piece.reads)
 
@@ -218,73 +219,43 @@ module _ (old now new : Fetching) (bytes : List ℕ) (offset used : ℕ) (event 
   }
 
   -- a device that fails within what the event gives it
-  record CutsOff (given : Event → List ℕ) (from to : BytesWritten) (count : ℕ) : Type 0 where
-    some : 0 < length (given event)
-    one : telling event ≡ event ∷ []
-    prefix : EmittedPrefix from to (joined_by given (so_far.reported ++ event ∷ [])) count
-    behind : length (joined_by given so_far.reported) ≤ count
-
-  cuts_off : (given : Event → List ℕ) (from mid to : BytesWritten) (count_before more count : ℕ)
-      → given events.None ≡ [] → count_before ≡ length (joined_by given so_far.reported) → count ≡ count_before + more
-      → Emitted from mid (joined_by given so_far.reported) → EmittedPrefix mid to (given event) more
-      → CutsOff given from to count
-  cuts_off given from mid to count_before more count none before_is count_is emitted cut =
-      let some : 0 < length (given event) = omega (arith, cut.part) in
+  fails_within : (given others : Event → List ℕ) (f g h o p q : BytesWritten) (count_before count : ℕ)
+      → given events.None ≡ [] → count_before ≡ length (joined_by given so_far.reported)
+      → Emitted f g (joined_by given so_far.reported) → Emitted o p (joined_by others so_far.reported)
+      → (0 < length (given event) → IsLinked new.client.talk.stage)
+      → FailsAtEvent given event count_before count g h p q
+      → FailsAtLast given others old.client new.client bytes count f h o q
+  fails_within given others f g h o p q count_before count none counted emitted other linked cut =
+      let some : 0 < length (given event) = omega (arith, cut.failing.part) in
       let one : telling event ≡ event ∷ [] = telling_some given event none some in
       let joined : joined_by given (so_far.reported ++ event ∷ []) ≡ joined_by given so_far.reported ++ given event =
       ap (λ es. joined_by given (so_far.reported ++ es)) (sym one) ∙ joined_once given so_far.reported event none in
-      let counted : count ≡ length (joined_by given so_far.reported) + more = count_is ∙ ap (λ n. n + more) before_is in
-      record {
-        some = some;
-        one = one;
-        prefix = prefix_further from mid to (joined_by given so_far.reported) (given event)
-            (joined_by given (so_far.reported ++ event ∷ [])) count more joined counted emitted cut;
-        behind = omega (arith, counted);
-      }
-
-  fails_at_say : (count : ℕ) → IsUnwritten event before.written count now.written new.written now.output new.output
-      → FailsAt (faults.Write count) old new bytes
-  fails_at_say count cut =
-      let off : CutsOff line_written old.written new.written count =
-      cuts_off line_written old.written now.written new.written before.written cut.more count refl
-      so_far.written_counted cut.count_is so_far.written cut.written in
+      let total : count ≡ length (joined_by given so_far.reported) + cut.more =
+      cut.count_is ∙ ap (λ n. n + cut.more) counted in
       record {
         reported = so_far.reported;
         last = event;
-        takes = takes_last off.one;
-        linked = says_on now.client.talk
-            (now.client.kept ++ take used (take (length bytes - offset) (drop offset bytes))) new.client event
-            piece.brings off.some;
-        written = off.prefix;
-        behind = off.behind;
-        output = subst (λ (o : BytesWritten). Emitted old.output o (bytes_reported so_far.reported)) (sym cut.output)
-            so_far.output;
-      }
-
-  fails_at_write : (count : ℕ) → FailsToOutput event before.output count now.written new.written now.output new.output
-      → FailsAt (faults.Output count) old new bytes
-  fails_at_write count cut =
-      let off : CutsOff record_reported old.output new.output count =
-      cuts_off record_reported old.output now.output new.output before.output cut.more count refl
-      so_far.output_counted cut.count_is so_far.output cut.output in
-      record {
-        reported = so_far.reported;
-        last = event;
-        takes = takes_last off.one;
-        linked = tells_on now.client.talk
-            (now.client.kept ++ take used (take (length bytes - offset) (drop offset bytes))) new.client event
-            piece.brings off.some;
-        written = subst (λ (o : BytesWritten). Emitted old.written o (lines_written so_far.reported)) (sym cut.written)
-            so_far.written;
-        output = off.prefix;
-        behind = off.behind;
+        takes = takes_last one;
+        linked = linked some;
+        failing = prefix_further f g h (joined_by given so_far.reported) (given event)
+            (joined_by given (so_far.reported ++ event ∷ [])) count cut.more joined total emitted cut.failing;
+        behind = omega (arith, total);
+        other = subst (λ (w : BytesWritten). Emitted o w (joined_by others so_far.reported)) (sym cut.other) other;
       }
 
   pub fails_here : (fault : LinkFault) → IsUndelivered fault event before now.written new.written now.output new.output
       → FailsAt fault old new bytes
   fails_here faults.Read cut = absurd cut
-  fails_here (faults.Write count) cut = fails_at_say count cut
-  fails_here (faults.Output count) cut = fails_at_write count cut
+  fails_here (faults.Write count) cut =
+      fails_within line_written record_reported old.written now.written new.written old.output now.output new.output
+      before.written count refl so_far.written_counted so_far.written so_far.output
+      (says_on now.client.talk (now.client.kept ++ take used (take (length bytes - offset) (drop offset bytes)))
+      new.client event piece.brings) cut
+  fails_here (faults.Output count) cut =
+      fails_within record_reported line_written old.output now.output new.output old.written now.written new.written
+      before.output count refl so_far.output_counted so_far.output so_far.written
+      (tells_on now.client.talk (now.client.kept ++ take used (take (length bytes - offset) (drop offset bytes)))
+      new.client event piece.brings) cut
 
 -- nothing is left, or the client takes no more
 pub all_delivered : (old now : Fetching) (bytes : List ℕ) (offset written_count output_count_is : ℕ)

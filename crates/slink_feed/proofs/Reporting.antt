@@ -14,10 +14,12 @@ use Rattle.slink_feed.specs.Dialogue.{Talk, read}
 use Rattle.slink_feed.specs.Fetching.{Fetching, line_written, record_reported}
 use Rattle.slink_feed.specs.Listening.{Brings, Listening, begun, telling, whole}
 use Rattle.slink_feed.specs.private.Delivery.{FailsToHear, Hears, IsDelivered, IsUndelivered}
-use Rattle.slink_feed.specs.Reports.{AreHandedOver, Kept, Reports, TakesRecords, all, but_last}
-use Rattle.slink_feed.specs.Teller.{AreReported, Telling, lines_at, lines_of, none, one, telling_behind, telling_past}
+use Rattle.slink_feed.specs.Reports.{AreHandedOver, Kept, Reports, TakesRecords, TellsRecords, all, but_last, kept}
+use Rattle.slink_feed.specs.Teller.{Account, AreReported, Telling, lines_at, lines_of, none, one, telling_behind}
+use Rattle.slink_feed.specs.Teller.{telling_past}
 use Rattle.slink_feed.specs.Reported.{HasReported, bytes_in, record_in, records_reported}
 use Rattle.slink_feed.specs.Turns.{Emitted, EmittedPrefix}
+use Rattle.slink_feed.proofs.Noting.{nothing_noted, notes_both}
 use Rattle.slink_feed.proofs.Numbers.{kept_read}
 use Rattle.slink_feed.proofs.Telling.{bytes_both, comes_read, reported_both, reported_none, reported_one}
 
@@ -164,6 +166,22 @@ reports_both old now new a b c p fine q = record {
   handed_over = handed_over_both p.records q.records a b c p.handed_over fine q.handed_over;
 }
 
+-- What one who tells of records has reported, one call after another.
+pub told_none : (t : Talk) (teller : Account) (output errors : BytesWritten)
+    → TellsRecords t t teller teller output output errors errors
+told_none t teller output errors = record {
+  received = nothing_noted teller.received output;
+  reports = reports_none t (kept output errors teller.telling);
+}
+
+pub told_both : (old now new : Talk) (r s t : Account) (a b c d e f : BytesWritten) → TellsRecords old now r s a b d e
+    → b.failures ≡ a.failures → TellsRecords now new s t b c e f → TellsRecords old new r t a c d f
+told_both old now new r s t a b c d e f p fine q = record {
+  received = notes_both r.received s.received t.received a b c fine p.received q.received;
+  reports = reports_both old now new (kept a d r.telling) (kept b e s.telling) (kept c f t.telling) p.reports fine
+      q.reports;
+}
+
 -- What an event tells of.
 reported_event : (talk : Talk) (bytes : List ℕ) (new : Listening) (event : Event) → Brings talk bytes new event
     → HasReported talk.holes talk.wants new.talk.wants (record_in event)
@@ -192,14 +210,14 @@ pub takes_cut : (fault : LinkFault) (event : Event) (before : Counts) (w w' o o'
     → IsUndelivered fault event before w w' o o' → TakesRecords (record_in event) o o'
 takes_cut faults.Read event before w w' o o' cut = absurd cut
 takes_cut (faults.Write count) event before w w' o o' cut =
-    let quiet : record_in event ≡ [] = line_alone event (omega (arith, cut.written.part)) in
+    let quiet : record_in event ≡ [] = line_alone event (omega (arith, cut.failing.part)) in
     subst (λ rs. TakesRecords rs o o') (sym quiet)
-    (subst (λ (x : BytesWritten). TakesRecords [] o x) (sym cut.output) (takes_none o))
+    (subst (λ (x : BytesWritten). TakesRecords [] o x) (sym cut.other) (takes_none o))
 takes_cut (faults.Output count) event before w w' o o' cut =
     let alone : (r : Numbered) × (record_in event ≡ r ∷ []) =
-    record_alone event (omega (arith, cut.output.part)) in
+    record_alone event (omega (arith, cut.failing.part)) in
     but_last [] alone.0 cut.more alone.1 (omega arith)
-    (subst (λ bytes. EmittedPrefix o o' bytes cut.more) (record_bytes event) cut.output)
+    (subst (λ bytes. EmittedPrefix o o' bytes cut.more) (record_bytes event) cut.failing)
 
 -- one event more
 pub reports_more : (first : Talk) (now new : Listening) (bytes : List ℕ) (event : Event) (a b c : Kept)

@@ -1,5 +1,6 @@
 -- A turn of a client with its link: one read, and what comes of the bytes that it gave.
 use Rattle.std.specs.Prelude.{◌≡◌, ◌≢◌, ◌⊎◌, ℕ, ◌≤◌, ◌<◌, Bool, true, false, List, [], ◌∷◌, ◌++◌, length}
+use Rattle.std.specs.Prelude.{IfErr, IfOk, Result}
 use Rattle.mseed_stream.specs.Device.{BytesRead, IsPrefixOf, BytesWritten}
 use Rattle.slink_feed.specs.declared.dialogue.Ending.{Ending}
 use Rattle.slink_feed.specs.declared.dialogue.Ending.TheVariants as endings
@@ -77,25 +78,27 @@ pub record Delivers (old new : Fetching) (bytes : List ℕ) : Type 0 where
   pub written : Emitted old.written new.written (lines_written reported)
   pub output : Emitted old.output new.output (bytes_reported reported)
 
--- The link failed within the line of the last event, once it had taken so many bytes.
-pub record FailsToSay (old new : Fetching) (bytes : List ℕ) (count : ℕ) : Type 0 where
+-- A device failed within what the last event gives it, once it had taken so many bytes. The other device took what the
+-- events before give that one.
+pub record FailsAtLast (given others : Event → List ℕ) (old new : Listening) (bytes : List ℕ) (count : ℕ)
+    (failing_old failing_new other_old other_new : BytesWritten) : Type 0 where
   pub reported : List Event
   pub last : Event
-  pub takes : Takes old.client new.client bytes (reported ++ last ∷ [])
-  pub linked : IsLinked new.client.talk.stage
-  pub written : EmittedPrefix old.written new.written (lines_written (reported ++ last ∷ [])) count
-  pub behind : length (lines_written reported) ≤ count
-  pub output : Emitted old.output new.output (bytes_reported reported)
+  pub takes : Takes old new bytes (reported ++ last ∷ [])
+  pub linked : IsLinked new.talk.stage
+  pub failing : EmittedPrefix failing_old failing_new (joined_by given (reported ++ last ∷ [])) count
+  pub behind : length (joined_by given reported) ≤ count
+  pub other : Emitted other_old other_new (joined_by others reported)
 
--- The output failed within the record of the last event, once it had taken so many bytes.
-pub record FailsToWrite (old new : Fetching) (bytes : List ℕ) (count : ℕ) : Type 0 where
-  pub reported : List Event
-  pub last : Event
-  pub takes : Takes old.client new.client bytes (reported ++ last ∷ [])
-  pub linked : IsLinked new.client.talk.stage
-  pub written : Emitted old.written new.written (lines_written reported)
-  pub output : EmittedPrefix old.output new.output (bytes_reported (reported ++ last ∷ [])) count
-  pub behind : length (bytes_reported reported) ≤ count
+-- The link failed within the line of the last event.
+abbrev pub FailsToSay : Fetching → Fetching → List ℕ → ℕ → Type 0
+FailsToSay old new bytes count = FailsAtLast line_written record_reported old.client new.client bytes count old.written
+    new.written old.output new.output
+
+-- The output failed within the record of the last event.
+abbrev pub FailsToWrite : Fetching → Fetching → List ℕ → ℕ → Type 0
+FailsToWrite old new bytes count = FailsAtLast record_reported line_written old.client new.client bytes count old.output
+    new.output old.written new.written
 
 -- what failed while a client accepted these bytes
 abbrev pub FailsAt : LinkFault → Fetching → Fetching → List ℕ → Type 0
@@ -144,6 +147,13 @@ abbrev pub IsFetchFault : LinkFault → Fetching → Fetching → BytesRead → 
 IsFetchFault faults.Read old new before after = (new ≡ old) × (after ≡ failed_once before)
 IsFetchFault (faults.Write count) old new before after = IsCutShort old new before after (faults.Write count)
 IsFetchFault (faults.Output count) old new before after = IsCutShort old new before after (faults.Output count)
+
+-- What a call that takes a turn comes to: a turn, or what failed in it. The bytes that the client had kept read as what is
+-- begun: so the turn tells what they read as with those of the link.
+pub record TakesTurn (result : Result Turn LinkFault) (old new : Fetching) (before after : BytesRead) : Type 0 where
+  pub ok : IfOk result (λ turn. Fetches old new before after turn)
+  pub fault : IfErr result (λ fault. IsFetchFault fault old new before after)
+  pub reading : Reads old.client.talk old.client.kept [] old.client
 
 -- a client with what the two devices accepted so far
 abbrev pub fetching : Listening → BytesWritten → BytesWritten → Fetching

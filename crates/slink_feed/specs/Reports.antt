@@ -3,7 +3,8 @@ use Rattle.std.specs.Prelude.{◌≡◌, ℕ, ◌≤◌, List, [], ◌∷◌, �
 use Rattle.mseed_stream.specs.Device.{BytesWritten}
 use Rattle.slink_feed.specs.Delivered.{Numbered}
 use Rattle.slink_feed.specs.Dialogue.{Talk}
-use Rattle.slink_feed.specs.Teller.{AreReported, Telling, lines_of, telling_behind}
+use Rattle.slink_feed.specs.Fetching.{Notes}
+use Rattle.slink_feed.specs.Teller.{Account, AreReported, Telling, lines_of, telling_behind}
 use Rattle.slink_feed.specs.Reported.{HasReported, bytes_in}
 use Rattle.slink_feed.specs.Turns.{Emitted, EmittedPrefix}
 
@@ -36,3 +37,11 @@ pub record Reports (old new : Talk) (before after : Kept) : Type 0 where
   pub reported : HasReported old.holes old.wants new.wants records
   pub holes : new.holes ≡ old.holes
   pub handed_over : AreHandedOver records before after
+
+-- A client reported records, each of which a teller reported before the output took it; and the teller noted whether the
+-- output accepted some.
+pub record TellsRecords (old new : Talk) (teller_old teller_new : Account)
+    (output_old output_new errors_old errors_new : BytesWritten) : Type 0 where
+  pub received : Notes teller_old.received teller_new.received output_old output_new
+  pub reports : Reports old new (kept output_old errors_old teller_old.telling)
+      (kept output_new errors_new teller_new.telling)

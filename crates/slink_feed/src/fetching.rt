@@ -3,10 +3,10 @@ ghost use Rattle.std.specs.Prelude.{◌≡◌, ◌≤◌, ◌<◌, ◌^◌, [], 
 ghost use Rattle.std.specs.Bool.{OnFalse, OnTrue};
 ghost use Rattle.mseed_stream.specs.Device.{BytesWritten};
 ghost use Rattle.slink_feed.specs.declared.dialogue.Event.{Event};
-ghost use Rattle.slink_feed.specs.Fetching.{Delivers, FailsAt, Fetches, IsFetchFault, Notes, fetching};
+ghost use Rattle.slink_feed.specs.Fetching.{Delivers, FailsAt, Notes, TakesTurn, fetching};
 ghost use Rattle.slink_feed.specs.private.Delivery.{FailsToHear, Hears, IsDelivered, IsReportedOf, IsUndelivered};
-ghost use Rattle.slink_feed.specs.Listening.{IsLinked, Reads};
-ghost use Rattle.slink_feed.specs.Reports.{Reports, kept};
+ghost use Rattle.slink_feed.specs.Listening.{IsLinked};
+ghost use Rattle.slink_feed.specs.Reports.{TellsRecords, kept};
 ghost use Rattle.slink_feed.specs.Teller.{AreReported, lines_of, telling_behind};
 ghost use Rattle.slink_feed.specs.Reported.{record_in};
 
@@ -44,13 +44,8 @@ pub fn fetch_turn<S: Duplex, W: Sink>(
     link: &mut S,
     output: &mut W,
 ) -> Result<Turn, LinkFault>
-    ensures ok { IfOk result (λ turn. Fetches (fetching client.old (S.written link.old) (W.written output.old))
-        (fetching client.new (S.written link.new) (W.written output.new)) (S.read link.old) (S.read link.new) turn) }
-    ensures fault { IfErr result (λ fault. IsFetchFault fault
-        (fetching client.old (S.written link.old) (W.written output.old))
-        (fetching client.new (S.written link.new) (W.written output.new)) (S.read link.old) (S.read link.new)) }
-    // The bytes that the client kept read as what is begun: so the turn tells what they read as with those of the link.
-    ensures reading { Reads client.old.talk client.old.kept [] client.old }
+    ensures turn { TakesTurn result (fetching client.old (S.written link.old) (W.written output.old))
+        (fetching client.new (S.written link.new) (W.written output.new)) (S.read link.old) (S.read link.new) }
 {
     let mut teller = Teller::new(client, false);
     let mut nowhere = Counted::new(sink());
@@ -70,16 +65,10 @@ pub fn fetch_turn_telling<S: Duplex, W: Sink, E: Sink>(
     errors: &mut E,
     teller: &mut Teller,
 ) -> Result<Turn, LinkFault>
-    ensures ok { IfOk result (λ turn. Fetches (fetching client.old (S.written link.old) (W.written output.old))
-        (fetching client.new (S.written link.new) (W.written output.new)) (S.read link.old) (S.read link.new) turn) }
-    ensures fault { IfErr result (λ fault. IsFetchFault fault
-        (fetching client.old (S.written link.old) (W.written output.old))
-        (fetching client.new (S.written link.new) (W.written output.new)) (S.read link.old) (S.read link.new)) }
-    ensures reading { Reads client.old.talk client.old.kept [] client.old }
-    ensures received { Notes teller.old.received teller.new.received (W.written output.old) (W.written output.new) }
-    ensures reports { Reports client.old.talk client.new.talk
-        (kept (W.written output.old) (E.written errors.old) teller.old.telling)
-        (kept (W.written output.new) (E.written errors.new) teller.new.telling) }
+    ensures turn { TakesTurn result (fetching client.old (S.written link.old) (W.written output.old))
+        (fetching client.new (S.written link.new) (W.written output.new)) (S.read link.old) (S.read link.new) }
+    ensures told { TellsRecords client.old.talk client.new.talk teller.old teller.new (W.written output.old)
+        (W.written output.new) (E.written errors.old) (E.written errors.new) }
 {
     fetch_turn_in(client, link, output, errors, teller, &mut [0; PACKET])
 }
@@ -98,16 +87,10 @@ pub fn fetch_turn_in<S: Duplex, W: Sink, E: Sink>(
     teller: &mut Teller,
     room: &mut Room,
 ) -> Result<Turn, LinkFault>
-    ensures ok { IfOk result (λ turn. Fetches (fetching client.old (S.written link.old) (W.written output.old))
-        (fetching client.new (S.written link.new) (W.written output.new)) (S.read link.old) (S.read link.new) turn) }
-    ensures fault { IfErr result (λ fault. IsFetchFault fault
-        (fetching client.old (S.written link.old) (W.written output.old))
-        (fetching client.new (S.written link.new) (W.written output.new)) (S.read link.old) (S.read link.new)) }
-    ensures reading { Reads client.old.talk client.old.kept [] client.old }
-    ensures received { Notes teller.old.received teller.new.received (W.written output.old) (W.written output.new) }
-    ensures reports { Reports client.old.talk client.new.talk
-        (kept (W.written output.old) (E.written errors.old) teller.old.telling)
-        (kept (W.written output.new) (E.written errors.new) teller.new.telling) }
+    ensures turn { TakesTurn result (fetching client.old (S.written link.old) (W.written output.old))
+        (fetching client.new (S.written link.new) (W.written output.new)) (S.read link.old) (S.read link.new) }
+    ensures told { TellsRecords client.old.talk client.new.talk teller.old teller.new (W.written output.old)
+        (W.written output.new) (E.written errors.old) (E.written errors.new) }
 {
     client.has_reading();
     let lack = client.lack();
@@ -137,10 +120,8 @@ fn read<L: Sink, W: Sink, E: Sink>(
     ensures fault { IfErr result
         (λ fault. FailsAt fault (fetching client.old (L.written link.old) (W.written output.old))
         (fetching client.new (L.written link.new) (W.written output.new)) bytes.now) }
-    ensures received { Notes teller.old.received teller.new.received (W.written output.old) (W.written output.new) }
-    ensures reports { Reports client.old.talk client.new.talk
-        (kept (W.written output.old) (E.written errors.old) teller.old.telling)
-        (kept (W.written output.new) (E.written errors.new) teller.new.telling) }
+    ensures told { TellsRecords client.old.talk client.new.talk teller.old teller.new (W.written output.old)
+        (W.written output.new) (E.written errors.old) (E.written errors.new) }
     ensures beside { L.beside link.new ≡ L.beside link.old }
 {
     let mut offset = 0;

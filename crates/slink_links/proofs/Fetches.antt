@@ -2,7 +2,7 @@
 use Rattle.std.proofs.Common.{Bool, ◌≡◌, ◌⊎◌, ℕ, ◌+◌, ◌<◌, ◌≤◌, inl, inr, refl, sym, ap, subst, ◌∙◌, arith, List, []}
 use Rattle.std.proofs.Common.{◌∷◌}
 use Rattle.std.proofs.Common.{◌++◌, append_assoc, append-nil, length, length-append, take, Option, Some, None, Result}
-use Rattle.std.proofs.Common.{Ok, Err, IfOk, IfErr}
+use Rattle.std.proofs.Common.{Ok, Err}
 use Rattle.mseed_stream.specs.Device.{BytesRead, IsPrefixOf, BytesWritten, nothing_read, nothing_written}
 use Rattle.mseed_stream.specs.Exchanges.{Exchange, exchange}
 use Rattle.slink_feed.specs.declared.dialogue.Ending.{Ending}
@@ -16,13 +16,14 @@ use Rattle.slink_feed.specs.declared.turn.LinkFault.TheVariants as faults
 use Rattle.slink_feed.specs.declared.turn.Turn.{Turn}
 use Rattle.slink_feed.specs.Delivered.{Numbered}
 use Rattle.slink_feed.specs.Dialogue.{Talk, Wants, says_place, to_place, want_at}
-use Rattle.slink_feed.specs.Fetching.{Delivers, FailsToSay, FailsToWrite, Fetches, IsFetchFault, ReadsOn}
-use Rattle.slink_feed.specs.Fetching.{bytes_reported}
+use Rattle.slink_feed.specs.Fetching.{Delivers, FailsToSay, FailsToWrite, Fetches, Fetching, IsFetchFault, ReadsOn}
+use Rattle.slink_feed.specs.Fetching.{TakesTurn, bytes_reported}
 use Rattle.slink_feed.specs.Fetching.{fetching, line_written, lines_written, record_reported, turn_after, turn_of}
 use Rattle.slink_feed.specs.Listening.{IsLinked, Listening, Reads}
 use Rattle.slink_feed.specs.Reported.{HasReported, bytes_in, record_in, records_reported}
 use Rattle.slink_feed.specs.Turns.{Emitted, EmittedPrefix}
 use Rattle.slink_feed.specs.Reports.{Kept, TakesRecords, Reports, all, but_last}
+use Rattle.slink_feed.proofs.Deliveries.{on_both, on_none}
 use Rattle.slink_feed.proofs.Numbers.{kept_place}
 use Rattle.slink_feed.proofs.OneReading as one
 use Rattle.slink_feed.proofs.Reporting.{all_taken, line_alone, record_alone, record_bytes, handed_over_both}
@@ -34,7 +35,7 @@ use Rattle.slink_feed.proofs.Telling.{wants_written}
 use Rattle.slink_links.specs.declared.fetching.FetchEnd.{FetchEnd}
 use Rattle.slink_links.specs.declared.fetching.FetchEnd.TheVariants.{Done, Refused, BadFeed, WriteFailed, LinkFailed}
 use Rattle.slink_links.specs.Fetched.{AreTaken, HasFetched, HasReadEach, HasReadLink, HasReadLinks, HasTurned}
-use Rattle.slink_links.specs.Fetched.{WasFetchedOver}
+use Rattle.slink_links.specs.Fetched.{IsTurnBy, WasFetchedOver}
 use Rattle.slink_links.specs.Fetched.{HaveMoved, IsFetchedOver, IsReading, IsUnended, StandsAt, StandsBy}
 use Rattle.slink_links.specs.Fetched.{FetchesTelling, end_by, failures_by, over_none, over_one_more, over_the_last}
 
@@ -88,19 +89,6 @@ left_unwritten es e n old new emitted behind =
     but_last (records_reported es) last.0 n (records_last es e ∙ ap (λ rs. records_reported es ++ rs) last.1)
     (omega (arith, behind, ap length (reported_bytes es)))
     (subst (λ bytes. EmittedPrefix old new bytes n) (reported_bytes (es ++ e ∷ [])) emitted)
-
--- Reading on, one turn after another.
-on_none : (now : Listening) → ReadsOn now [] [] now
-on_none now start stream before reads =
-    subst (λ s. Reads start s (before ++ []) now) (sym (append-nil stream))
-    (subst (λ es. Reads start stream es now) (sym (append-nil before)) reads)
-
-on_both : (a b c : Listening) (xs ys : List ℕ) (some more : List Event) → ReadsOn a xs some b → ReadsOn b ys more c
-    → ReadsOn a (xs ++ ys) (some ++ more) c
-on_both a b c xs ys some more p q start stream before reads =
-    subst (λ s. Reads start s (before ++ (some ++ more)) c) (append_assoc stream xs ys)
-    (subst (λ es. Reads start ((stream ++ xs) ++ ys) es c) (append_assoc before some more)
-    (q start (stream ++ xs) (before ++ some) (p start stream before reads)))
 
 -- By no bytes nothing changes.
 same_by_none : (old new : Listening) (reported : List Event) → IsReading old → ReadsOn old [] reported new → new ≡ old
@@ -252,13 +240,13 @@ turned_err faults.Read old new s0 s1 w0 w1 h0 h1 f reading linked =
 turned_err (faults.Write n) old new s0 s1 w0 w1 h0 h1 f reading linked =
     let x : FailsToSay (fetching old s0 w0) (fetching new s1 w1) f.bytes n = f.fails in
     let emitted : Emitted w0 w1 (bytes_in (records_reported x.reported)) =
-    subst (Emitted w0 w1) (reported_bytes x.reported) x.output in record {
+    subst (Emitted w0 w1) (reported_bytes x.reported) x.other in record {
       bytes = x.takes.taken;
       taken = prefix_taken (Some LinkFailed) h0 h1 f.bytes x.takes.taken (ap (λ (h : BytesRead). h.bytes) f.read)
           x.takes.prefix (λ goes. absurd (some_end LinkFailed goes));
       reported = x.reported ++ x.last ∷ [];
       reads = x.takes.reads;
-      emitted = subst (λ rs. TakesRecords rs w0 w1) (sym (unwritten_none x.reported x.last n x.written.part x.behind))
+      emitted = subst (λ rs. TakesRecords rs w0 w1) (sym (unwritten_none x.reported x.last n x.failing.part x.behind))
           (all emitted);
       stands = inl (linked_unended new.talk.stage x.linked);
       failures = emitted.failures ∙ omega arith;
@@ -270,20 +258,28 @@ turned_err (faults.Output n) old new s0 s1 w0 w1 h0 h1 f reading linked =
           x.takes.prefix (λ goes. absurd (some_end WriteFailed goes));
       reported = x.reported ++ x.last ∷ [];
       reads = x.takes.reads;
-      emitted = left_unwritten x.reported x.last n w0 w1 x.output x.behind;
+      emitted = left_unwritten x.reported x.last n w0 w1 x.failing x.behind;
       stands = linked_unended new.talk.stage x.linked;
-      failures = x.output.failures;
+      failures = x.failing.failures;
     }
 
 -- what one turn comes to
 pub turned : (r : Result Turn LinkFault) (old new : Listening) (s0 s1 w0 w1 : BytesWritten) (h0 h1 : BytesRead)
-    → IfOk r (λ turn. Fetches (fetching old s0 w0) (fetching new s1 w1) h0 h1 turn)
-    → IfErr r (λ fault. IsFetchFault fault (fetching old s0 w0) (fetching new s1 w1) h0 h1) → IsReading old
-    → IsLinked old.talk.stage → HasTurned (end_by r) old new h0 h1 w0 w1
-turned (Ok turn) old new s0 s1 w0 w1 h0 h1 ok fault reading linked =
-    turned_ok turn old new s0 s1 w0 w1 h0 h1 ok reading linked
-turned (Err e) old new s0 s1 w0 w1 h0 h1 ok fault reading linked =
-    turned_err e old new s0 s1 w0 w1 h0 h1 fault reading linked
+    → TakesTurn r (fetching old s0 w0) (fetching new s1 w1) h0 h1 → IsReading old → IsLinked old.talk.stage
+    → HasTurned (end_by r) old new h0 h1 w0 w1
+turned (Ok turn) old new s0 s1 w0 w1 h0 h1 takes reading linked =
+    turned_ok turn old new s0 s1 w0 w1 h0 h1 takes.ok reading linked
+turned (Err e) old new s0 s1 w0 w1 h0 h1 takes reading linked =
+    turned_err e old new s0 s1 w0 w1 h0 h1 takes.fault reading linked
+
+-- where the end is known
+pub turned_to : (e f : Option FetchEnd) (old new : Listening) (h0 h1 : BytesRead) (w0 w1 : BytesWritten) → e ≡ f
+    → HasTurned e old new h0 h1 w0 w1 → HasTurned f old new h0 h1 w0 w1
+turned_to e f old new h0 h1 w0 w1 is p = subst (λ end. HasTurned end old new h0 h1 w0 w1) is p
+
+pub turn_to : (e f : Option FetchEnd) (old new : Fetching) (h0 h1 : BytesRead) → e ≡ f → IsTurnBy e old new h0 h1
+    → IsTurnBy f old new h0 h1
+turn_to e f old new h0 h1 is p = subst (λ end. IsTurnBy end old new h0 h1) is p
 
 -- no turn yet
 pub turned_none : (now : Listening) (read : BytesRead) (written : BytesWritten) → IsLinked now.talk.stage

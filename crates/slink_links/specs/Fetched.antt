@@ -1,7 +1,7 @@
 -- How fetching over one link after another ends, and what the output accepted by then.
 use Rattle.std.specs.Prelude.{◌≡◌, ◌⊎◌, ℕ, ◌+◌, ◌%◌, ◌^◌, ◌<◌, ◌≤◌, Bool, true, false, List, ◌∷◌, ◌++◌, [], length}
 use Rattle.std.specs.Prelude.{Option, Some, None}
-use Rattle.std.specs.Prelude.{Result, Ok, Err, IfOk, IfErr, codes}
+use Rattle.std.specs.Prelude.{Result, Ok, Err, codes}
 use Rattle.mseed_stream.specs.Device.{BytesRead, IsPrefixOf, BytesWritten, nothing_read, nothing_written}
 use Rattle.mseed_stream.specs.Exchanges.{Exchange}
 use Rattle.slink_feed.specs.declared.dialogue.Ending.{Ending}
@@ -16,7 +16,7 @@ use Rattle.slink_feed.specs.declared.turn.Turn.{Turn}
 use Rattle.slink_feed.specs.declared.turn.Turn.TheVariants as turns
 use Rattle.slink_feed.specs.Delivered.{Numbered}
 use Rattle.slink_feed.specs.Dialogue.{Talk, Wants, next_at, says_place}
-use Rattle.slink_feed.specs.Fetching.{Fetches, Fetching, IsFetchFault, ReadsOn, fetching, line_written}
+use Rattle.slink_feed.specs.Fetching.{Fetching, ReadsOn, TakesTurn, fetching, line_written}
 use Rattle.slink_feed.specs.Listening.{IsLinked, Listening, Reads}
 use Rattle.slink_feed.specs.Reports.{AreHandedOver, Kept, TakesRecords}
 use Rattle.slink_feed.specs.Teller.{AreReported, lines_of, next_line_of, telling_behind, telling_of, wants_left}
@@ -198,8 +198,7 @@ pub record HasReadLink (old new : Listening) (read_old read_new : BytesRead)
 -- A turn was taken with a link, by which the fetch ends so, or goes on.
 pub record IsTurnBy (end : Option FetchEnd) (old new : Fetching) (before after : BytesRead) : Type 0 where
   pub turn : Result Turn LinkFault
-  pub goes : IfOk turn (λ t. Fetches old new before after t)
-  pub fails : IfErr turn (λ fault. IsFetchFault fault old new before after)
+  pub takes : TakesTurn turn old new before after
   pub ends : end ≡ end_by turn
 
 -- So many turns were taken with a link, and the fetch goes on behind each.

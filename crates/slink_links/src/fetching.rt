@@ -4,7 +4,7 @@ ghost use Rattle.slink_feed.specs.declared.dialogue.Ending.{Ending};
 ghost use Rattle.slink_feed.specs.declared.dialogue.Stage.{Stage};
 ghost use Rattle.slink_feed.specs.Fetching.{Notes, fetching};
 ghost use Rattle.slink_feed.specs.Listening.{IsLinked};
-ghost use Rattle.slink_feed.specs.Reports.{Reports, kept};
+ghost use Rattle.slink_feed.specs.Reports.{TellsRecords, kept};
 ghost use Rattle.slink_feed.specs.Teller.{AreReported, wants_left};
 ghost use Rattle.slink_links.specs.Fetched.{HasDialled, HasFetched, HasReadEach, HasReadLink, HasTakenAll, HasTurned};
 ghost use Rattle.slink_links.specs.Out.{AreOut};
@@ -259,10 +259,8 @@ fn take_turns<S: Settle, W: Sink, E: Sink>(
     ensures taken { HasTakenAll (fetching client.old (S.written link.old) (W.written output.old)) (S.read link.old)
         result
         (fetching client.new (S.written link.new) (W.written output.new)) (S.read link.new) }
-    ensures received { Notes teller.old.received teller.new.received (W.written output.old) (W.written output.new) }
-    ensures reports { Reports client.old.talk client.new.talk
-        (kept (W.written output.old) (E.written errors.old) teller.old.telling)
-        (kept (W.written output.new) (E.written errors.new) teller.new.telling) }
+    ensures told { TellsRecords client.old.talk client.new.talk teller.old teller.new (W.written output.old)
+        (W.written output.new) (E.written errors.old) (E.written errors.new) }
 {
     for turn in 0..TURNS {
         if let Some(end) = take_turn(client, link, output, errors, teller, room) {
@@ -287,10 +285,8 @@ fn take_turn<S: Settle, W: Sink, E: Sink>(
         (W.written output.new) }
     ensures by { IsTurnBy result (fetching client.old (S.written link.old) (W.written output.old))
         (fetching client.new (S.written link.new) (W.written output.new)) (S.read link.old) (S.read link.new) }
-    ensures received { Notes teller.old.received teller.new.received (W.written output.old) (W.written output.new) }
-    ensures reports { Reports client.old.talk client.new.talk
-        (kept (W.written output.old) (E.written errors.old) teller.old.telling)
-        (kept (W.written output.new) (E.written errors.new) teller.new.telling) }
+    ensures told { TellsRecords client.old.talk client.new.talk teller.old teller.new (W.written output.old)
+        (W.written output.new) (E.written errors.old) (E.written errors.new) }
 {
     let turn = fetch_turn_in(client, link, output, errors, teller, room);
     settle(client, link);

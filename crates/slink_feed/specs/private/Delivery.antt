@@ -23,30 +23,22 @@ pub record IsDelivered (event : Event) (before after : Counts)
   pub short : length (line_written event) ≤ 32
   pub sized : length (record_reported event) ≤ 512
 
--- The link failed within the event's line.
-pub record IsUnwritten (event : Event) (before count : ℕ)
-    (written_old written_new output_old output_new : BytesWritten) : Type 0 where
+-- A device failed within what the event gives it, behind so many bytes. The other device took nothing.
+pub record FailsAtEvent (given : Event → List ℕ) (event : Event) (before count : ℕ)
+    (failing_old failing_new other_old other_new : BytesWritten) : Type 0 where
   pub more : ℕ
   pub count_is : count ≡ before + more
-  pub written : EmittedPrefix written_old written_new (line_written event) more
-  pub output : output_new ≡ output_old
+  pub failing : EmittedPrefix failing_old failing_new (given event) more
+  pub other : other_new ≡ other_old
 
--- The output failed within the event's record.
-pub record FailsToOutput (event : Event) (before count : ℕ)
-    (written_old written_new output_old output_new : BytesWritten) : Type
-    0 where
-  pub more : ℕ
-  pub count_is : count ≡ before + more
-  pub written : written_new ≡ written_old
-  pub output : EmittedPrefix output_old output_new (record_reported event) more
-
+-- The link failed within the event's line, or the output within its record.
 abbrev pub IsUndelivered : LinkFault → Event → Counts → BytesWritten → BytesWritten → BytesWritten → BytesWritten
     → Type 0
 IsUndelivered faults.Read event before written_old written_new output_old output_new = ⊥
 IsUndelivered (faults.Write count) event before written_old written_new output_old output_new =
-    IsUnwritten event before.written count written_old written_new output_old output_new
+    FailsAtEvent line_written event before.written count written_old written_new output_old output_new
 IsUndelivered (faults.Output count) event before written_old written_new output_old output_new =
-    FailsToOutput event before.output count written_old written_new output_old output_new
+    FailsAtEvent record_reported event before.output count output_old output_new written_old written_new
 
 -- So many of these bytes come to an event, or to none yet.
 pub record ComesTo (event : Event) (used : ℕ) (bytes : List ℕ) (old new : Listening) : Type 0 where

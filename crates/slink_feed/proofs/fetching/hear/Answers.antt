@@ -1,9 +1,8 @@
-use Rattle.std.proofs.Common.{rules, arith}
+use Rattle.std.proofs.Common.{arith}
+use Rattle.std.proofs.lemmas.Result.{err_from_is_err_and}
 use Rattle.slink_feed.specs.declared.dialogue.Event.TheVariants as events
-use Rattle.slink_feed.specs.Fetching.{Fetching, fetching}
-use Rattle.slink_feed.specs.private.Delivery.{FailsToHear}
-use Rattle.slink_feed.specs.Reports.{Kept, kept}
 use Rattle.slink_feed.proofs.Deliveries.{comes_to}
+use Rattle.slink_feed.proofs.Sendoffs.{passed_on}
 use Rattle.slink_feed.proofs.fetching.hear.Goals as goal
 
 pub returns-in_ok-counts-in-Some-clause-ok : goal.returns-in_ok-counts-in-Some-clause-ok
@@ -16,22 +15,15 @@ returns-in_ok-counts-in-Some-clause-ok g c = record {
 
 pub returns-in_err-counts-in-Some-clause-fault : goal.returns-in_err-counts-in-Some-clause-fault
 returns-in_err-counts-in-Some-clause-fault g c =
-    let old : Fetching = fetching c.args.client.now (g.L.Sink.written c.args.link.now)
-    (g.W.Sink.written c.args.output.now) in
-    let new : Fetching = fetching c.take_record.new.self (g.L.Sink.written c.args.link.now)
-    (g.W.Sink.written c.deliver_record.new.output) in
-    let was : Kept = kept (g.W.Sink.written c.args.output.now) (g.E.Sink.written c.args.errors.now)
-    c.args.teller.now.telling in
-    let is : Kept = kept (g.W.Sink.written c.deliver_record.new.output) (g.E.Sink.written c.deliver_record.new.errors)
-    c.deliver_record.new.teller.telling in
-    let fails : FailsToHear c.in_err-counts-in-Some.field-0.0 c.args.bytes.now c.args.counts old new was is = record {
+    passed_on c.from_residual.result c.in_err-counts-in-Some.field-0.0 _
+    (err_from_is_err_and c.from_residual.result c.from_residual.ensures.1)
+    (record {
       event = events.Record c.in-Some.place c.in-Some.number c.in-Some.record.now;
       used = 520;
       comes = record { brings = c.in-Some.ensures.brings; some = omega arith; bound = c.in-Some.ensures.long };
       reported = c.deliver_record.ensures.reported;
       cut = c.in_err-counts-in-Some.ensures.fault (g.L.Sink.written c.args.link.now);
-    } in
-    search (rules, fails)
+    })
 
 pub returns-in_ok-after-in-None-clause-ok : goal.returns-in_ok-after-in-None-clause-ok
 returns-in_ok-after-in-None-clause-ok g c = record {
@@ -45,15 +37,9 @@ returns-in_ok-after-in-None-clause-ok g c = record {
 
 pub returns-in_err-after-in-None-clause-fault : goal.returns-in_err-after-in-None-clause-fault
 returns-in_err-after-in-None-clause-fault g c =
-    let old : Fetching = fetching c.args.client.now (g.L.Sink.written c.args.link.now)
-    (g.W.Sink.written c.args.output.now) in
-    let new : Fetching = fetching c.take-used.new.self (g.L.Sink.written c.deliver.new.link)
-    (g.W.Sink.written c.deliver.new.output) in
-    let was : Kept = kept (g.W.Sink.written c.args.output.now) (g.E.Sink.written c.args.errors.now)
-    c.args.teller.now.telling in
-    let is : Kept = kept (g.W.Sink.written c.deliver.new.output) (g.E.Sink.written c.deliver.new.errors)
-    c.deliver.new.teller.telling in
-    let fails : FailsToHear c.in_err-after-in-None.field-0.0 c.args.bytes.now c.args.counts old new was is = record {
+    passed_on c.from_residual-in_err-after-in-None.result c.in_err-after-in-None.field-0.0 _
+    (err_from_is_err_and c.from_residual-in_err-after-in-None.result c.from_residual-in_err-after-in-None.ensures.1)
+    (record {
       event = c.take-used.result.1;
       used = c.take-used.result.0;
       comes = comes_to c.args.client.now c.take_record.new.self c.take-used.new.self c.args.bytes.now
@@ -61,5 +47,4 @@ returns-in_err-after-in-None-clause-fault g c =
           c.take-used.ensures.brings c.take-used.ensures.some c.take-used.ensures.bound;
       reported = record { telling = c.deliver.ensures.telling; lines = c.deliver.ensures.lines };
       cut = c.in_err-after-in-None.ensures.fault;
-    } in
-    search (rules, fails)
+    })

@@ -15,13 +15,11 @@ returns-clause-turned g c =
     (g.S.Sink.written c.fetch_turn_in-turn.new.link)
     before after
     (g.S.Source.read c.args.link.now) (g.S.Source.read c.fetch_turn_in-turn.new.link)
-    c.fetch_turn_in-turn.ensures.ok c.fetch_turn_in-turn.ensures.fault
-    c.requires.reading c.requires.linked)
+    c.fetch_turn_in-turn.ensures.turn c.requires.reading c.requires.linked)
 
 pub returns-clause-by : goal.returns-clause-by
 returns-clause-by g c = record {
   turn = c.fetch_turn_in-turn.result;
-  goes = c.fetch_turn_in-turn.ensures.ok;
-  fails = c.fetch_turn_in-turn.ensures.fault;
+  takes = c.fetch_turn_in-turn.ensures.turn;
   ends = c.end_by.ensures;
 }

@@ -1,15 +1,13 @@
 use Rattle.std.proofs.Common.{None}
-use Rattle.slink_feed.specs.Fetching.{Notes, fetching}
-use Rattle.slink_feed.specs.Reports.{Reports, kept}
+use Rattle.slink_feed.specs.Fetching.{fetching}
+use Rattle.slink_feed.specs.Reports.{TellsRecords}
 use Rattle.slink_links.specs.Fetched.{HasTakenTurns, HasTurned}
 use Rattle.slink_links.proofs.fetching.take_turns.Given as goal
 
 abbrev pub invariant-loop-turn : goal.invariant-loop-turn
 invariant-loop-turn g l = record {
-  received : Notes l.fn.teller.received l.teller.received (g.W.Sink.written l.fn.output) (g.W.Sink.written l.output);
-  reports : Reports l.fn.client.talk l.client.talk
-      (kept (g.W.Sink.written l.fn.output) (g.E.Sink.written l.fn.errors) l.fn.teller.telling)
-      (kept (g.W.Sink.written l.output) (g.E.Sink.written l.errors) l.teller.telling);
+  told : TellsRecords l.fn.client.talk l.client.talk l.fn.teller l.teller (g.W.Sink.written l.fn.output)
+      (g.W.Sink.written l.output) (g.E.Sink.written l.fn.errors) (g.E.Sink.written l.errors);
   turned : HasTurned None l.fn.client l.client (g.S.Source.read l.fn.link) (g.S.Source.read l.link)
       (g.W.Sink.written l.fn.output) (g.W.Sink.written l.output);
   taken : HasTakenTurns (fetching l.fn.client (g.S.Sink.written l.fn.link) (g.W.Sink.written l.fn.output))
