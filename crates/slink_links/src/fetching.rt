@@ -160,16 +160,16 @@ fn fetch_links<D: Dial, P: Pause, W: Sink, E: Sink>(
     if tries == 0 {
         return FetchEnd::LinkFailed;
     }
+    let mut left = tries;
     let mut count = 0;
-    for dialled in 1..tries {
+    'links: loop {
         let (end, received) = try_link(client, dialler, output, errors, teller);
-        if end != FetchEnd::LinkFailed {
+        left -= 1;
+        if end != FetchEnd::LinkFailed || left == 0 {
             return end;
         }
         count = wait_behind(received, count, waits);
     }
-    let (end, received) = try_link(client, dialler, output, errors, teller);
-    end
 }
 
 /// Dials once and fetches over that link, and answers how it ended, and whether it brought a record.

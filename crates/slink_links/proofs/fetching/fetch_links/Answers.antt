@@ -15,13 +15,15 @@ pub returns-then-tries-eq0-clause-read : goal.returns-then-tries-eq0-clause-read
 returns-then-tries-eq0-clause-read g c =
     reads_none c.args.client.now (g.D.Dial.given_back c.args.dialler.now) (g.W.Sink.written c.args.output.now)
 
-pub loop-dialled-init : goal.loop-dialled-init
-loop-dialled-init g c =
+pub links-init : goal.links-init
+links-init g c =
     let before : Calls = calls_of (g.D.Dial.calls c.args.dialler.now) (g.D.Dial.given_back c.args.dialler.now)
     (g.P.Pause.called c.args.waits.now) in
     record {
       fetched = fetched_none c.args.client.now
           (kept (g.W.Sink.written c.args.output.now) (g.E.Sink.written c.args.errors.now) c.args.teller.now.telling);
+      some = omega (arith, c.if-tries-eq0.false);
+      most = omega arith;
       dialled = refl;
       out = c.requires;
       read = reads_none c.args.client.now (g.D.Dial.given_back c.args.dialler.now) (g.W.Sink.written c.args.output.now);
@@ -30,118 +32,88 @@ loop-dialled-init g c =
 
 pub returns-then-ne-clause-fetched : goal.returns-then-ne-clause-fetched
 returns-then-ne-clause-fetched g c =
-    fetched_both c.try_link-end.result.0 c.args.client.now c.loop-dialled.client c.try_link-end.new.client
+    fetched_both c.try_link-end.result.0 c.args.client.now c.links.client c.try_link-end.new.client
     (kept (g.W.Sink.written c.args.output.now) (g.E.Sink.written c.args.errors.now) c.args.teller.now.telling)
-    (kept (g.W.Sink.written c.loop-dialled.output) (g.E.Sink.written c.loop-dialled.errors)
-    c.loop-dialled.teller.telling)
+    (kept (g.W.Sink.written c.links.output) (g.E.Sink.written c.links.errors)
+    c.links.teller.telling)
     (kept (g.W.Sink.written c.try_link-end.new.output) (g.E.Sink.written c.try_link-end.new.errors)
-    c.try_link-end.new.teller.telling) c.loop-dialled.invariant.fetched c.try_link-end.ensures.fetched
+    c.try_link-end.new.teller.telling) c.links.invariant.fetched c.try_link-end.ensures.fetched
 
 pub returns-then-ne-clause-read : goal.returns-then-ne-clause-read
 returns-then-ne-clause-read g c =
-    reads_both c.try_link-end.result.0 c.args.client.now c.loop-dialled.client c.try_link-end.new.client
-    (g.D.Dial.given_back c.args.dialler.now) (g.D.Dial.given_back c.loop-dialled.dialler)
+    reads_both c.try_link-end.result.0 c.args.client.now c.links.client c.try_link-end.new.client
+    (g.D.Dial.given_back c.args.dialler.now) (g.D.Dial.given_back c.links.dialler)
     (g.D.Dial.given_back c.try_link-end.new.dialler) (g.W.Sink.written c.args.output.now)
-    (g.W.Sink.written c.loop-dialled.output) (g.W.Sink.written c.try_link-end.new.output)
-    c.loop-dialled.invariant.read c.try_link-end.ensures.read
+    (g.W.Sink.written c.links.output) (g.W.Sink.written c.try_link-end.new.output)
+    c.links.invariant.read c.try_link-end.ensures.read
 
 pub returns-then-ne-clause-paused : goal.returns-then-ne-clause-paused
 returns-then-ne-clause-paused g c =
     let before : Calls = calls_of (g.D.Dial.calls c.args.dialler.now) (g.D.Dial.given_back c.args.dialler.now)
     (g.P.Pause.called c.args.waits.now) in
-    let mid : Calls = calls_of (g.D.Dial.calls c.loop-dialled.dialler) (g.D.Dial.given_back c.loop-dialled.dialler)
-    (g.P.Pause.called c.loop-dialled.waits) in
+    let mid : Calls = calls_of (g.D.Dial.calls c.links.dialler) (g.D.Dial.given_back c.links.dialler)
+    (g.P.Pause.called c.links.waits) in
     let after : Calls = calls_of (g.D.Dial.calls c.try_link-end.new.dialler)
     (g.D.Dial.given_back c.try_link-end.new.dialler)
-    (g.P.Pause.called c.loop-dialled.waits) in
-    tried_last c.try_link-end.result.0 c.try_link-end.result.1 c.args.client.now c.loop-dialled.client
-    c.try_link-end.new.client (g.W.Sink.written c.args.output.now) (g.W.Sink.written c.loop-dialled.output)
+    (g.P.Pause.called c.links.waits) in
+    tried_last c.try_link-end.result.0 c.try_link-end.result.1 c.args.client.now c.links.client
+    c.try_link-end.new.client (g.W.Sink.written c.args.output.now) (g.W.Sink.written c.links.output)
     (g.W.Sink.written c.try_link-end.new.output)
-    before mid after c.loop-dialled.count c.loop-dialled.invariant.tried c.try_link-end.ensures.tried
+    before mid after c.links.count c.links.invariant.tried c.try_link-end.ensures.tried
     c.try_link-end.ensures.dialled refl
 
 pub wait_behind-count-requires : goal.wait_behind-count-requires
 wait_behind-count-requires g c =
     let before : Calls = calls_of (g.D.Dial.calls c.args.dialler.now) (g.D.Dial.given_back c.args.dialler.now)
     (g.P.Pause.called c.args.waits.now) in
-    let mid : Calls = calls_of (g.D.Dial.calls c.loop-dialled.dialler) (g.D.Dial.given_back c.loop-dialled.dialler)
-    (g.P.Pause.called c.loop-dialled.waits) in
+    let mid : Calls = calls_of (g.D.Dial.calls c.links.dialler) (g.D.Dial.given_back c.links.dialler)
+    (g.P.Pause.called c.links.waits) in
     omega (
       arith,
-      few_counted c.args.client.now c.loop-dialled.client (g.W.Sink.written c.args.output.now)
-          (g.W.Sink.written c.loop-dialled.output) before mid c.loop-dialled.count c.loop-dialled.invariant.tried,
-      c.loop-dialled.invariant.dialled,
-      c.loop-dialled-test.true,
+      few_counted c.args.client.now c.links.client (g.W.Sink.written c.args.output.now)
+          (g.W.Sink.written c.links.output) before mid c.links.count c.links.invariant.tried,
+      c.links.invariant.dialled,
+      c.links.invariant.some,
       c.ranges.tries.fits,
     )
 
-pub loop-dialled-preserved : goal.loop-dialled-preserved
-loop-dialled-preserved g c =
+pub links-preserved : goal.links-preserved
+links-preserved g c =
     let same : c.try_link-end.result.0 ≡ LinkFailed = search rules in
-    let now = c.loop-dialled.client in
+    let now = c.links.client in
     let new = c.try_link-end.new.client in
     let first = g.W.Sink.written c.args.output.now in
-    let written_now = g.W.Sink.written c.loop-dialled.output in
+    let written_now = g.W.Sink.written c.links.output in
     let written_new = g.W.Sink.written c.try_link-end.new.output in
-    let kept_now : Kept = kept written_now (g.E.Sink.written c.loop-dialled.errors) c.loop-dialled.teller.telling in
+    let kept_now : Kept = kept written_now (g.E.Sink.written c.links.errors) c.links.teller.telling in
     let kept_new : Kept = kept written_new (g.E.Sink.written c.try_link-end.new.errors)
     c.try_link-end.new.teller.telling in
-    let links_now = g.D.Dial.given_back c.loop-dialled.dialler in
+    let links_now = g.D.Dial.given_back c.links.dialler in
     let links_new = g.D.Dial.given_back c.try_link-end.new.dialler in
     let before : Calls = calls_of (g.D.Dial.calls c.args.dialler.now) (g.D.Dial.given_back c.args.dialler.now)
     (g.P.Pause.called c.args.waits.now) in
-    let mid : Calls = calls_of (g.D.Dial.calls c.loop-dialled.dialler) (g.D.Dial.given_back c.loop-dialled.dialler)
-    (g.P.Pause.called c.loop-dialled.waits) in
+    let mid : Calls = calls_of (g.D.Dial.calls c.links.dialler) (g.D.Dial.given_back c.links.dialler)
+    (g.P.Pause.called c.links.waits) in
     let after : Calls = calls_of (g.D.Dial.calls c.try_link-end.new.dialler)
     (g.D.Dial.given_back c.try_link-end.new.dialler)
     (g.P.Pause.called c.wait_behind-count.new.waits) in
     record {
       fetched = fetched_both LinkFailed c.args.client.now now new
           (kept (g.W.Sink.written c.args.output.now) (g.E.Sink.written c.args.errors.now) c.args.teller.now.telling)
-          kept_now kept_new c.loop-dialled.invariant.fetched
+          kept_now kept_new c.links.invariant.fetched
           (subst (λ end. FetchesTelling end now new kept_now kept_new) same c.try_link-end.ensures.fetched);
-      dialled = omega (arith, c.try_link-end.ensures.dialled, c.loop-dialled.invariant.dialled);
+      some = omega (arith, c.if-left-eq0.false);
+      most = omega (arith, c.links.invariant.most);
+      dialled = omega (arith, c.try_link-end.ensures.dialled, c.links.invariant.dialled, c.links.invariant.some);
       out = c.try_link-end.ensures.out;
       read = reads_both LinkFailed c.args.client.now now new (g.D.Dial.given_back c.args.dialler.now) links_now
           links_new first written_now written_new
-          c.loop-dialled.invariant.read
+          c.links.invariant.read
           (subst (λ end. HasReadEach end now new links_now links_new written_now written_new)
           same c.try_link-end.ensures.read);
       tried = tried_more c.try_link-end.result.1 c.args.client.now now new first written_now written_new before mid
-          after c.loop-dialled.count c.wait_behind-count.result c.loop-dialled.invariant.tried
+          after c.links.count c.wait_behind-count.result c.links.invariant.tried
           (subst (λ end. HasTried end c.try_link-end.result.1 now new links_now links_new written_now written_new)
           same c.try_link-end.ensures.tried) c.try_link-end.ensures.dialled c.wait_behind-count.ensures.called
           c.wait_behind-count.ensures.next;
     }
-
-pub returns-clause-fetched : goal.returns-clause-fetched
-returns-clause-fetched g c =
-    fetched_both c.try_link-end-2.result.0 c.args.client.now c.loop-dialled.client c.try_link-end-2.new.client
-    (kept (g.W.Sink.written c.args.output.now) (g.E.Sink.written c.args.errors.now) c.args.teller.now.telling)
-    (kept (g.W.Sink.written c.loop-dialled.output) (g.E.Sink.written c.loop-dialled.errors)
-    c.loop-dialled.teller.telling)
-    (kept (g.W.Sink.written c.try_link-end-2.new.output) (g.E.Sink.written c.try_link-end-2.new.errors)
-    c.try_link-end-2.new.teller.telling) c.loop-dialled.invariant.fetched c.try_link-end-2.ensures.fetched
-
-pub returns-clause-read : goal.returns-clause-read
-returns-clause-read g c =
-    reads_both c.try_link-end-2.result.0 c.args.client.now c.loop-dialled.client c.try_link-end-2.new.client
-    (g.D.Dial.given_back c.args.dialler.now) (g.D.Dial.given_back c.loop-dialled.dialler)
-    (g.D.Dial.given_back c.try_link-end-2.new.dialler) (g.W.Sink.written c.args.output.now)
-    (g.W.Sink.written c.loop-dialled.output) (g.W.Sink.written c.try_link-end-2.new.output)
-    c.loop-dialled.invariant.read c.try_link-end-2.ensures.read
-
-pub returns-clause-paused : goal.returns-clause-paused
-returns-clause-paused g c =
-    let before : Calls = calls_of (g.D.Dial.calls c.args.dialler.now) (g.D.Dial.given_back c.args.dialler.now)
-    (g.P.Pause.called c.args.waits.now) in
-    let mid : Calls = calls_of (g.D.Dial.calls c.loop-dialled.dialler) (g.D.Dial.given_back c.loop-dialled.dialler)
-    (g.P.Pause.called c.loop-dialled.waits) in
-    let after : Calls = calls_of (g.D.Dial.calls c.try_link-end-2.new.dialler)
-    (g.D.Dial.given_back c.try_link-end-2.new.dialler)
-    (g.P.Pause.called c.loop-dialled.waits) in
-    tried_last c.try_link-end-2.result.0 c.try_link-end-2.result.1 c.args.client.now c.loop-dialled.client
-    c.try_link-end-2.new.client (g.W.Sink.written c.args.output.now) (g.W.Sink.written c.loop-dialled.output)
-    (g.W.Sink.written c.try_link-end-2.new.output)
-    before mid after c.loop-dialled.count c.loop-dialled.invariant.tried c.try_link-end-2.ensures.tried
-    c.try_link-end-2.ensures.dialled refl

@@ -1,4 +1,4 @@
-use Rattle.std.proofs.Common.{◌≡◌, ◌+◌}
+use Rattle.std.proofs.Common.{◌≡◌, ◌+◌, ◌<◌, ◌≤◌}
 use Rattle.slink_links.specs.declared.fetching.FetchEnd.TheVariants.{LinkFailed}
 use Rattle.slink_feed.specs.Reports.{kept}
 use Rattle.slink_links.specs.Fetched.{FetchesTelling, HasReadEach, calls_of}
@@ -6,12 +6,14 @@ use Rattle.slink_links.specs.Out.{AreOut}
 use Rattle.slink_links.proofs.Tries.{AreTried}
 use Rattle.slink_links.proofs.fetching.fetch_links.Given as goal
 
-abbrev pub invariant-loop-dialled : goal.invariant-loop-dialled
-invariant-loop-dialled g l = record {
+abbrev pub invariant-links : goal.invariant-links
+invariant-links g l = record {
   fetched : FetchesTelling LinkFailed l.fn.client l.client
       (kept (g.W.Sink.written l.fn.output) (g.E.Sink.written l.fn.errors) l.fn.teller.telling)
       (kept (g.W.Sink.written l.output) (g.E.Sink.written l.errors) l.teller.telling);
-  dialled : g.D.Dial.calls l.dialler + 1 ≡ g.D.Dial.calls l.fn.dialler + l.dialled;
+  some : 0 < l.left;
+  most : l.left ≤ l.tries;
+  dialled : g.D.Dial.calls l.dialler + l.left ≡ g.D.Dial.calls l.fn.dialler + l.tries;
   out : AreOut 0 (g.D.Dial.calls l.dialler) (g.D.Dial.failures l.dialler) (g.D.Dial.given_back l.dialler);
   read : HasReadEach LinkFailed l.fn.client l.client (g.D.Dial.given_back l.fn.dialler) (g.D.Dial.given_back l.dialler)
       (g.W.Sink.written l.fn.output) (g.W.Sink.written l.output);
@@ -19,3 +21,6 @@ invariant-loop-dialled g l = record {
       (calls_of (g.D.Dial.calls l.fn.dialler) (g.D.Dial.given_back l.fn.dialler) (g.P.Pause.called l.fn.waits))
       (calls_of (g.D.Dial.calls l.dialler) (g.D.Dial.given_back l.dialler) (g.P.Pause.called l.waits)) l.count;
 }
+
+abbrev pub decreases-links : goal.decreases-links
+decreases-links g l = l.left
