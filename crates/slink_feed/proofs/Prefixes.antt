@@ -1,5 +1,5 @@
 -- The elements of a list, by their indices.
-use Rattle.std.proofs.Common.{◌≡◌, ℕ, ◌+◌, ◌-◌, ◌<◌, zero, suc, refl, sym, ap, ◌∙◌, arith, List, [], ◌∷◌, ◌++◌}
+use Rattle.std.proofs.Common.{◌≡◌, ℕ, ◌+◌, ◌-◌, ◌<◌, ◌≤◌, zero, suc, refl, sym, ap, ◌∙◌, arith, List, [], ◌∷◌, ◌++◌}
 use Rattle.std.proofs.Common.{append_assoc, length, take, take-add, take_all, drop, length-drop, Some, slice_get}
 use Rattle.std.proofs.lemmas.List.{take_rest}
 
@@ -24,3 +24,9 @@ emitted_more start kept new bytes used m before more =
 -- bytes from an offset on, as a slice has them
 pub from_offset : (bytes : List ℕ) (start : ℕ) → take (length bytes - start) (drop start bytes) ≡ drop start bytes
 from_offset bytes start = take_all (length bytes - start) (drop start bytes) (omega (arith, length-drop start bytes))
+
+-- so many of those that are left are within all
+pub within_more : (bytes : List ℕ) (used more : ℕ) → used ≤ length bytes
+    → more ≤ length (take (length bytes - used) (drop used bytes)) → used + more ≤ length bytes
+within_more bytes used more within bound =
+    omega (arith, within, bound, ap length (from_offset bytes used), length-drop used bytes)

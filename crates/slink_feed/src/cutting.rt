@@ -2,7 +2,7 @@
 ghost use Rattle.std.specs.Prelude.{◌≡◌, ℕ, ◌+◌, ◌<◌, ◌≤◌, List, [], ◌∷◌, ◌++◌, IfOk, length, take};
 ghost use Rattle.slink_wire.specs.Packet.{HasHead};
 ghost use Rattle.slink_feed.specs.Cutting.{Begins, IsPacketBegun, IsReplyBegun};
-ghost use Rattle.slink_feed.specs.private.Parts.{IsDue, IsPacketPart, IsReplyPart, ends_reply};
+ghost use Rattle.slink_feed.specs.private.Parts.{IsDue, IsPacketPart, IsReplyPart, TakesUpTo, ends_reply};
 
 use arrayvec::ArrayVec;
 use slink_wire::Packet;
@@ -68,11 +68,7 @@ fn ends_reply(bytes: &[u8], byte: u8) -> bool
 /// Takes bytes up to the end of a reply, or to the byte that is too many in one, or all.
 pub(crate) fn take_reply(kept: &mut ArrayVec<u8, 520>, bytes: &[u8]) -> (usize, Part)
     requires { IsReplyBegun kept.old.items }
-    ensures kept { kept.new.items ≡ kept.old.items ++ take result.0 bytes.now }
-    ensures part { IsReplyPart kept.new.items result.1 }
-    ensures whole { result.1 ≡ Part.Begun → result.0 ≡ length bytes.now }
-    ensures some { 0 < length bytes.now → 0 < result.0 }
-    ensures bound { result.0 ≤ length bytes.now }
+    ensures { TakesUpTo IsReplyPart kept.old.items kept.new.items bytes.now result.0 result.1 }
 {
     for (i, byte) in bytes.iter().enumerate() {
         match take_reply_byte(kept, *byte) {
@@ -159,11 +155,7 @@ fn take_part(kept: &mut ArrayVec<u8, 520>, bytes: &[u8]) -> (usize, Part)
 /// Takes bytes up to the end of a packet, or of the end, or to the byte by which they are neither, or all.
 pub(crate) fn take_packet(kept: &mut ArrayVec<u8, 520>, bytes: &[u8]) -> (usize, Part)
     requires { IsPacketBegun kept.old.items }
-    ensures kept { kept.new.items ≡ kept.old.items ++ take result.0 bytes.now }
-    ensures part { IsPacketPart kept.new.items result.1 }
-    ensures whole { result.1 ≡ Part.Begun → result.0 ≡ length bytes.now }
-    ensures some { 0 < length bytes.now → 0 < result.0 }
-    ensures bound { result.0 ≤ length bytes.now }
+    ensures { TakesUpTo IsPacketPart kept.old.items kept.new.items bytes.now result.0 result.1 }
 {
     let mut used = 0;
     while used < bytes.len() {

@@ -1,6 +1,6 @@
 -- What the bytes that a client keeps have come to.
 use Rattle.std.specs.Prelude.{◌≡◌, ◌≢◌, ℕ, Bool, false, ◌-◌, ◌≤◌, ◌<◌, ◌==◌, ◌&&◌, List, length, codes, Option, Some}
-use Rattle.std.specs.Prelude.{None, slice_get}
+use Rattle.std.specs.Prelude.{None, slice_get, take, ◌++◌}
 use Rattle.slink_wire.specs.Packet.{HasHead}
 use Rattle.slink_feed.specs.declared.cutting.Part.{Part}
 use Rattle.slink_feed.specs.declared.cutting.Part.TheVariants as parts
@@ -34,3 +34,12 @@ pub record IsDue (bytes : List ℕ) : Type 0 where
   pub first : (b : ℕ) → Begins bytes b → b ≢ 83 → b ≢ 69 → length bytes ≡ 1
   pub end : Begins bytes 69 → length bytes ≤ 3
   pub head : Begins bytes 83 → 8 < length bytes → (n : ℕ) × HasHead bytes n
+
+-- So many of these bytes went behind those that were kept, and this is what they have come to. Where they come to nothing
+-- yet, all were taken.
+pub record TakesUpTo (Comes : List ℕ → Part → Type 0) (old new bytes : List ℕ) (used : ℕ) (it : Part) : Type 0 where
+  pub kept : new ≡ old ++ take used bytes
+  pub part : Comes new it
+  pub whole : it ≡ parts.Begun → used ≡ length bytes
+  pub some : 0 < length bytes → 0 < used
+  pub bound : used ≤ length bytes

@@ -2,7 +2,7 @@ use Rattle.std.proofs.Common.{◌-◌, ◌<◌, subst, arith, take, drop, length
 use Rattle.std.proofs.lemmas.List.{length-drop, length-take}
 use Rattle.slink_feed.specs.private.Parts.{IsPacketPart}
 use Rattle.slink_feed.specs.declared.cutting.Part.{Part}
-use Rattle.slink_feed.proofs.Prefixes.{emitted_more}
+use Rattle.slink_feed.proofs.Prefixes.{emitted_more, within_more}
 use Rattle.slink_feed.proofs.cutting.take_packet.Goals as goal
 
 pub loop-used-preserved : goal.loop-used-preserved
@@ -11,21 +11,15 @@ loop-used-preserved c = record {
       c.loop-used.used c.take_part-more.result.0 c.loop-used.invariant.kept c.take_part-more.ensures.kept;
   begun = subst (λ (p : Part). IsPacketPart c.take_part-more.new.kept.items p) c.in-Begun.is
       c.take_part-more.ensures.part;
-  within = omega (
-    arith,
-    c.take_part-more.ensures.bound,
-    length-take (length c.args.bytes.now - c.loop-used.used)
-        (drop c.loop-used.used c.args.bytes.now),
-    length-drop c.loop-used.used c.args.bytes.now,
-    c.loop-used.invariant.within,
-  );
+  within = within_more c.args.bytes.now c.loop-used.used c.take_part-more.result.0 c.loop-used.invariant.within
+      c.take_part-more.ensures.bound;
 }
 
 pub returns-in_default : goal.returns-in_default
 returns-in_default c = record {
+  part = c.take_part-more.ensures.part;
   kept = emitted_more c.args.kept.now.items c.loop-used.kept.items c.take_part-more.new.kept.items c.args.bytes.now
       c.loop-used.used c.take_part-more.result.0 c.loop-used.invariant.kept c.take_part-more.ensures.kept;
-  part = c.take_part-more.ensures.part;
   whole = λ e. absurd (c.in_default.not-Begun e);
   some = λ _.
       let left : 0 < length (take (length c.args.bytes.now - c.loop-used.used)
@@ -37,12 +31,6 @@ returns-in_default c = record {
         c.loop-used-test.true,
       ) in
       omega (arith, c.take_part-more.ensures.some left);
-  bound = omega (
-    arith,
-    c.take_part-more.ensures.bound,
-    length-take (length c.args.bytes.now - c.loop-used.used)
-        (drop c.loop-used.used c.args.bytes.now),
-    length-drop c.loop-used.used c.args.bytes.now,
-    c.loop-used.invariant.within,
-  );
+  bound = within_more c.args.bytes.now c.loop-used.used c.take_part-more.result.0 c.loop-used.invariant.within
+      c.take_part-more.ensures.bound;
 }
