@@ -2,3 +2,4 @@
 pub mod Delivery
 pub mod Parts
 pub mod Replying
+pub mod Lines

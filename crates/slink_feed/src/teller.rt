@@ -6,6 +6,7 @@ ghost use Rattle.slink_feed.specs.Teller.{AreReported, first_line, first_lines, 
 ghost use Rattle.slink_feed.specs.Teller.{lines_at};
 ghost use Rattle.slink_feed.specs.Teller.{next_line, next_line_of, number_behind, options_of, telling_of, telling_past};
 ghost use Rattle.slink_feed.specs.Teller.{wants_left, word_of};
+ghost use Rattle.slink_feed.specs.private.Lines.{PutsBehind};
 
 use crate::client::Client;
 use crate::dialogue::Wanted;
@@ -58,8 +59,7 @@ fn hole_line(place: &Place, want: u32, got: u32) -> Line
 /// Puts a number behind a line, with its name, where it is known.
 fn put_number(line: &mut Line, name: &[u8], number: Option<u32>)
     requires { length line.old.items + length name.now + 6 ≤ 320 }
-    ensures text { line.new.items ≡ line.old.items ++ number_behind name.now number }
-    ensures short { length line.new.items ≤ length line.old.items + length name.now + 6 }
+    ensures { PutsBehind line.old.items line.new.items (number_behind name.now number) (length name.now + 6) }
 {
     if let Some(number) = number {
         put(line, name);
@@ -70,8 +70,7 @@ fn put_number(line: &mut Line, name: &[u8], number: Option<u32>)
 /// Puts the options that name the first place behind a line.
 fn put_options(line: &mut Line, want: &Option<Wanted>)
     requires { length line.old.items + 43 ≤ 320 }
-    ensures text { line.new.items ≡ line.old.items ++ options_of want.now }
-    ensures short { length line.new.items ≤ length line.old.items + 43 }
+    ensures { PutsBehind line.old.items line.new.items (options_of want.now) 43 }
 {
     if let Some(wanted) = want {
         put(line, b" --network ");
@@ -85,8 +84,7 @@ fn put_options(line: &mut Line, want: &Option<Wanted>)
 /// Puts the word that names a further place behind a line.
 fn put_word(line: &mut Line, want: &Option<Wanted>)
     requires { length line.old.items + 16 ≤ 320 }
-    ensures text { line.new.items ≡ line.old.items ++ word_of want.now }
-    ensures short { length line.new.items ≤ length line.old.items + 16 }
+    ensures { PutsBehind line.old.items line.new.items (word_of want.now) 16 }
 {
     if let Some(wanted) = want {
         put(line, b" ");
