@@ -33,21 +33,24 @@ first_within : (p : Window → Bool) (i k : ℕ) (ws : List Window) → position
 first_within p i k [] e = absurd (let bad : None ≡ Some k = e in cc bad)
 first_within p i k (w ∷ ws) e = within_by p i k w ws (p w) (first_within p (i + 1) k ws) e
 
-resolved_within : (w : Window) (seq p : ℕ) → resolve_of w seq ≡ Some p → p ≤ w.next
-resolved_within w seq p e = elim (leb_tells (ahead_of w seq) (w.next - oldest_of w)) [
+-- a grant begins within the ring
+resolved_at : (w : Window) (seq p : ℕ) → resolve_of w seq ≡ Some p → (oldest_of w ≤ p) × (p ≤ w.next)
+resolved_at w seq p e = elim (leb_tells (ahead_of w seq) (w.next - oldest_of w)) [
   | inl passes ↦ let at : oldest_of w + ahead_of w seq ≡ p =
       some_is (oldest_of w + ahead_of w seq) p
       (sym (ap (λ t. if t then Some (oldest_of w + ahead_of w seq) else None) passes.0) ∙ e) in
-      omega (arith, at, passes.1)
+      (omega (arith, at), omega (arith, at, passes.1))
   | inr fails ↦ absurd (let bad : None ≡ Some p = sym
       (ap (λ t. if t then Some (oldest_of w + ahead_of w seq) else None) fails.0) ∙ e in cc bad)
 ]
 
-granted_within : (mode : Mode) (number : Option ℕ) (w : Window) (p : ℕ) → grant_of mode number w ≡ Some p → p ≤ w.next
-granted_within Modes.Data None w p e = let at : w.next ≡ p = some_is w.next p e in omega (arith, at)
-granted_within Modes.Fetch None w p e = let at : oldest_of w ≡ p = some_is (oldest_of w) p e in omega (arith, at)
-granted_within Modes.Data (Some seq) w p e = resolved_within w seq p e
-granted_within Modes.Fetch (Some seq) w p e = resolved_within w seq p e
+pub granted_at : (mode : Mode) (number : Option ℕ) (w : Window) (p : ℕ) → grant_of mode number w ≡ Some p
+    → (oldest_of w ≤ p) × (p ≤ w.next)
+granted_at Modes.Data None w p e = let at : w.next ≡ p = some_is w.next p e in (omega (arith, at), omega (arith, at))
+granted_at Modes.Fetch None w p e = let at : oldest_of w ≡ p = some_is (oldest_of w) p e in
+    (omega (arith, at), omega (arith, at))
+granted_at Modes.Data (Some seq) w p e = resolved_at w seq p e
+granted_at Modes.Fetch (Some seq) w p e = resolved_at w seq p e
 
 fits_chosen : (feed : List Window) (s : State) (o : Option ℕ) → ((k : ℕ) → o ≡ Some k → k < length feed) → Fits feed s
     → Fits feed (chosen o s).0
@@ -72,7 +75,7 @@ fits_ring : (feed : List Window) (s : State) (mode : Mode) (k : ℕ) (number : O
     → Fits feed (granted mode k (option_and_then (grant_of mode number) r) s).0
 fits_ring feed s mode k number None at lt f = f
 fits_ring feed s mode k number (Some w) at lt f =
-    fits_granted feed s mode k w (grant_of mode number w) at lt (λ p e. granted_within mode number w p e) f
+    fits_granted feed s mode k w (grant_of mode number w) at lt (λ p e. (granted_at mode number w p e).1) f
 
 fits_called : (feed : List Window) (s : State) (mode : Mode) (k : ℕ) (number : Option ℕ) → k < length feed → Fits feed s
     → Fits feed (called feed k mode number s).0
@@ -88,27 +91,19 @@ fits_fresh feed s End f = f
 fits_fresh feed s Bye f = (tt, f.1)
 fits_fresh feed s Other f = f
 
+-- where a place is chosen, with a grant or without
 fits_when_chosen : (feed : List Window) (k : ℕ) (s : State) (c : Command) → k < length feed → Fits feed s
-    → Fits feed (in_chosen feed k s c).0
-fits_when_chosen feed k s Hello lt f = f
-fits_when_chosen feed k s (Station sta net) lt f = fits_station feed s sta net f
-fits_when_chosen feed k s SelectAll lt f = f
-fits_when_chosen feed k s (Data number) lt f = fits_called feed s Modes.Data k number lt f
-fits_when_chosen feed k s (Fetch number) lt f = fits_called feed s Modes.Fetch k number lt f
-fits_when_chosen feed k s End lt f = f
-fits_when_chosen feed k s Bye lt f = (tt, f.1)
-fits_when_chosen feed k s Other lt f = f
-
-fits_when_granted : (feed : List Window) (k : ℕ) (s : State) (c : Command) → k < length feed → Fits feed s
-    → Fits feed (in_granted feed k s c).0
-fits_when_granted feed k s Hello lt f = f
-fits_when_granted feed k s (Station sta net) lt f = fits_station feed s sta net f
-fits_when_granted feed k s SelectAll lt f = f
-fits_when_granted feed k s (Data number) lt f = fits_called feed s Modes.Data k number lt f
-fits_when_granted feed k s (Fetch number) lt f = fits_called feed s Modes.Fetch k number lt f
-fits_when_granted feed k s End lt f = (tt, f.1)
-fits_when_granted feed k s Bye lt f = (tt, f.1)
-fits_when_granted feed k s Other lt f = f
+    → Fits feed (in_chosen feed k s c).0 × Fits feed (in_granted feed k s c).0
+fits_when_chosen feed k s Hello lt f = (f, f)
+fits_when_chosen feed k s (Station sta net) lt f = (fits_station feed s sta net f, fits_station feed s sta net f)
+fits_when_chosen feed k s SelectAll lt f = (f, f)
+fits_when_chosen feed k s (Data number) lt f =
+    (fits_called feed s Modes.Data k number lt f, fits_called feed s Modes.Data k number lt f)
+fits_when_chosen feed k s (Fetch number) lt f =
+    (fits_called feed s Modes.Fetch k number lt f, fits_called feed s Modes.Fetch k number lt f)
+fits_when_chosen feed k s End lt f = (f, (tt, f.1))
+fits_when_chosen feed k s Bye lt f = ((tt, f.1), (tt, f.1))
+fits_when_chosen feed k s Other lt f = (f, f)
 
 fits_streaming : (feed : List Window) (s : State) (c : Command) → Fits feed s → Fits feed (in_streaming s c).0
 fits_streaming feed s Bye f = (tt, f.1)
@@ -123,8 +118,8 @@ fits_streaming feed s Other f = f
 fits_in : (phase : Phase) (feed : List Window) (s : State) (c : Command) → s.phase ≡ phase → Fits feed s
     → Fits feed (answered_in phase feed s c).0
 fits_in Fresh feed s c e f = fits_fresh feed s c f
-fits_in (Chosen k) feed s c e f = fits_when_chosen feed k s c (subst (IsChosenOf feed) e f.0) f
-fits_in (Granted k) feed s c e f = fits_when_granted feed k s c (subst (IsChosenOf feed) e f.0) f
+fits_in (Chosen k) feed s c e f = (fits_when_chosen feed k s c (subst (IsChosenOf feed) e f.0) f).0
+fits_in (Granted k) feed s c e f = (fits_when_chosen feed k s c (subst (IsChosenOf feed) e f.0) f).1
 fits_in Streaming feed s c e f = fits_streaming feed s c f
 fits_in Closed feed s c e f = f
 

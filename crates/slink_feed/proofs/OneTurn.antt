@@ -5,7 +5,7 @@ use Rattle.std.proofs.Common.{length-append, replicate, take, Option, Some, None
 use Rattle.std.proofs.lemmas.Bool.Decides.{eqb_tells, leb_tells}
 use Rattle.std.proofs.lemmas.List.{append_cancel_left}
 use Rattle.mseed_stream.specs.Device.{BytesRead}
-use Rattle.slink_wire.specs.Lines.{IsHeld}
+use Rattle.slink_wire.specs.Lines.{IsHeld, lines_of}
 use Rattle.slink_wire.specs.Reply.{reply_bytes}
 use Rattle.slink_feed.specs.declared.grant.Grant.{Grant}
 use Rattle.slink_feed.specs.declared.session.Phase.{Phase}
@@ -312,31 +312,47 @@ nothing_reported : (before : BytesRead) (bytes : List ℕ) → 0 < length bytes
 nothing_reported before bytes some e = let none : 0 ≡ length bytes = ap length (reported_same before [] bytes e) in
     omega (arith, some, none)
 
+-- Two sessions that began alike, once each has sent what it had to send, and goes on to read.
+record SentAlike (old m n : Attending) : Type 0 where
+  alike : AreAlike m n
+  session : n.session ≡ m.session
+  stream : List ℕ
+  held : IsHeld m.session.held stream
+  fits : (lines_of stream).is_too_long ≡ false
+
+sent_alike : (feed : List Window) (old m n : Attending) → Stands old.session → GoesOn feed old m → GoesOn feed old n
+    → SentAlike old m n
+sent_alike feed old m n stands g h =
+    let mid : AreAlike m n = sent_once feed old m n g.sends h.sends in
+    let awake : Open old.session.state.phase =
+    λ shut. g.open_still (ap (λ (s : State). s.phase)
+    (shut_given feed 0 g.sends.place old.session.state m.session.state g.sends.given g.sends.gives shut) ∙ shut) in
+    let some : (stream : List ℕ) × StandsFor old.session stream = stands awake in record {
+      alike = mid;
+      session = sym (standings_same m.session n.session mid.state (mid.held g.open_still));
+      stream = some.0;
+      held = subst (λ h. IsHeld h some.0) (sym g.sends.held) some.1.0;
+      fits = sym some.1.0.1 ∙ some.1.1;
+    }
+
 replied_alike : (feed : List Window) (old m n a b : Attending) (bytes more : List ℕ) → Stands old.session
     → GoesOn feed old m → GoesOn feed old n → more ≡ bytes → RepliesToAll feed m a bytes → RepliesToAll feed n b more
     → AreAlike a b
 replied_alike feed old m n a b bytes more stands g h same p q =
-    let mid : AreAlike m n = sent_once feed old m n g.sends h.sends in
-    let session : n.session ≡ m.session = sym (standings_same m.session n.session mid.state (mid.held g.open_still)) in
-    let awake : Open old.session.state.phase =
-    λ shut. g.open_still (ap (λ (s : State). s.phase)
-    (shut_given feed 0 g.sends.place old.session.state m.session.state g.sends.given g.sends.gives shut) ∙ shut) in
-    let some : (stream : List ℕ) × StandsFor old.session stream = stands awake in
-    let held : IsHeld m.session.held some.0 = subst (λ h. IsHeld h some.0) (sym g.sends.held) some.1.0 in
+    let behind : SentAlike old m n = sent_alike feed old m n stands g h in
     let other : Serves feed m.session bytes m.written.bytes b.session b.written.bytes =
-    subst (λ (s : Standing). Serves feed s bytes m.written.bytes b.session b.written.bytes) session
-    (subst (λ w. Serves feed n.session bytes w b.session b.written.bytes) (sym mid.bytes)
+    subst (λ (s : Standing). Serves feed s bytes m.written.bytes b.session b.written.bytes) behind.session
+    (subst (λ w. Serves feed n.session bytes w b.session b.written.bytes) (sym behind.alike.bytes)
     (subst (λ bs. Serves feed n.session bs n.written.bytes b.session b.written.bytes) same q.serves)) in
     let one : Same feed a.session b.session a.written.bytes b.written.bytes =
-    served_once feed m.session a.session b.session some.0 bytes m.written.bytes a.written.bytes b.written.bytes
-    (λ _. held)
-    (sym some.1.0.1 ∙ some.1.1) p.serves other in
+    served_once feed m.session a.session b.session behind.stream bytes m.written.bytes a.written.bytes b.written.bytes
+    (λ _. behind.held) behind.fits p.serves other in
     record {
       state = one.state;
       held = one.held;
       bytes = one.out;
       failures = p.failures
-          ∙ (mid.failures ∙ sym q.failures);
+          ∙ (behind.alike.failures ∙ sym q.failures);
     }
 
 pub turned_once : (feed : List Window) (old a b : Attending) (before after : BytesRead) (t u : Turn)
@@ -372,16 +388,11 @@ cut_alike : (feed : List Window) (old m n a b : Attending) (bytes more : List �
     → length b.written.bytes ≡ length old.written.bytes + count
     → EmittedAlike a b
 cut_alike feed old m n a b bytes more count stands g h same p q long short =
-    let mid : AreAlike m n = sent_once feed old m n g.sends h.sends in
-    let session : n.session ≡ m.session = sym (standings_same m.session n.session mid.state (mid.held g.open_still)) in
-    let awake : Open old.session.state.phase =
-    λ shut. g.open_still (ap (λ (s : State). s.phase)
-    (shut_given feed 0 g.sends.place old.session.state m.session.state g.sends.given g.sends.gives shut) ∙ shut) in
-    let some : (stream : List ℕ) × StandsFor old.session stream = stands awake in
-    let held : IsHeld m.session.held some.0 = subst (λ h. IsHeld h some.0) (sym g.sends.held) some.1.0 in
+    let behind : SentAlike old m n = sent_alike feed old m n stands g h in
     let other : Serves feed m.session q.prefix m.written.bytes q.before.session q.before.written.bytes =
-    subst (λ (s : Standing). Serves feed s q.prefix m.written.bytes q.before.session q.before.written.bytes) session
-    (subst (λ w. Serves feed n.session q.prefix w q.before.session q.before.written.bytes) (sym mid.bytes)
+    subst (λ (s : Standing). Serves feed s q.prefix m.written.bytes q.before.session q.before.written.bytes)
+    behind.session
+    (subst (λ w. Serves feed n.session q.prefix w q.before.session q.before.written.bytes) (sym behind.alike.bytes)
     q.replies.serves) in
     let total : length (p.before.written.bytes ++ take p.count (reply_bytes p.reply))
     ≡ length (q.before.written.bytes ++ take q.count (reply_bytes q.reply)) =
@@ -389,17 +400,17 @@ cut_alike feed old m n a b bytes more count stands g h same p q long short =
     let one : (a.session.state ≡ b.session.state)
     × (p.before.written.bytes ++ take p.count (reply_bytes p.reply) ≡ q.before.written.bytes ++ take q.count
     (reply_bytes q.reply)) =
-    cut_in_once feed m.session p.before.session q.before.session a.session b.session some.0 bytes p.prefix p.piece
+    cut_in_once feed m.session p.before.session q.before.session a.session b.session behind.stream bytes p.prefix p.piece
     p.rest q.prefix q.piece q.rest m.written.bytes p.before.written.bytes q.before.written.bytes p.reply q.reply p.count
     q.count
-    (λ _. held) (sym some.1.0.1 ∙ some.1.1) (p.bytes_are ∙ append_assoc p.prefix p.piece p.rest) p.replies.serves
+    (λ _. behind.held) behind.fits (p.bytes_are ∙ append_assoc p.prefix p.piece p.rest) p.replies.serves
     p.takes p.written.part (sym same ∙ (q.bytes_are ∙ append_assoc q.prefix q.piece q.rest)) other q.takes
     q.written.part
     total in
     record {
       state = one.0;
       bytes = p.written.bytes ∙ (one.1 ∙ sym q.written.bytes);
-      failures = p.written.failures ∙ (ap (λ n. n + 1) (p.replies.failures ∙ (mid.failures ∙ sym q.replies.failures))
+      failures = p.written.failures ∙ (ap (λ n. n + 1) (p.replies.failures ∙ (behind.alike.failures ∙ sym q.replies.failures))
           ∙ sym q.written.failures);
     }
 

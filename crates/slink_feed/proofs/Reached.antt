@@ -12,7 +12,7 @@ use Rattle.slink_feed.specs.Session.{sent_from, sent_in, sent_of}
 use Rattle.slink_feed.specs.Window.{Window, record_at}
 
 -- a grant once another was written
-grant_set : (gs : Grants) (k j : ℕ) (o : Option Grant) → ((j ≡ k) × (grant_at (set gs k o) j ≡ o))
+pub grant_set : (gs : Grants) (k j : ℕ) (o : Option Grant) → ((j ≡ k) × (grant_at (set gs k o) j ≡ o))
     ⊎ (grant_at (set gs k o) j ≡ grant_at gs j)
 grant_set [] k j o = inr refl
 grant_set (x ∷ gs) zero zero o = inl (refl, refl)

@@ -14,7 +14,8 @@ use Rattle.slink_feed.specs.Cutting.{IsBegun, IsReply, IsWhole, IsWholePacket, I
 use Rattle.slink_feed.specs.private.Parts.{IsPacketPart, IsReplyPart}
 use Rattle.slink_feed.specs.Dialogue.{Talk, Whole, Reply, Packet, End, Garbage, at_packet, bearer, ended, read}
 use Rattle.slink_feed.specs.Dialogue.{read_at}
-use Rattle.slink_feed.specs.Listening.{AreBrought, AwaitsReply, Brings, Brought, Listening, Reads, begun, bytes_of}
+use Rattle.slink_feed.specs.Listening.{AreBrought, AwaitsReply, Brings, Brought, IsLinked, Listening, Reads, begun}
+use Rattle.slink_feed.specs.Listening.{bytes_of}
 use Rattle.slink_feed.specs.Listening.{events_of, talk_after, telling, whole}
 
 -- a packet's number has six digits
@@ -202,3 +203,10 @@ reads_more start stream more es now new e (whole w is h none) reads =
     reads_whole start stream more es now new e w is h none reads
 reads_more start stream more es now new e (begun is same quiet) reads =
     reads_begun start stream more es now new e is same quiet reads
+
+-- what it goes on to stand for by what bytes bring, while it is linked
+pub reads_by : (now new : Listening) (e : Event) (bytes : List ℕ)
+    → (IsLinked now.talk.stage → Brings now.talk (now.kept ++ bytes) new e) → (start : Talk) (stream : List ℕ)
+    (es : List Event) → IsLinked now.talk.stage → Reads start stream es now
+    → Reads start (stream ++ bytes) (es ++ telling e) new
+reads_by now new e bytes brings start stream es linked = reads_more start stream bytes es now new e (brings linked)

@@ -214,12 +214,19 @@ impl Course {
         }
     }
 
+    /// Where the session stands.
+    fn phase(&self) -> Phase
+        ensures { result ≡ self.now.phase }
+    {
+        self.phase
+    }
+
     /// Answers a command.
     fn answer<A: Allocator>(&mut self, feed: &Feed<A>, command: Command) -> Reply
         requires { Fits feed.now self.old }
         ensures answered { answered feed.now self.old command ≡ (self.new, result) }
     {
-        match self.phase {
+        match self.phase() {
             Phase::Fresh => self.in_fresh(feed, command),
             Phase::Chosen(k) => self.in_chosen(feed, k, command),
             Phase::Granted(k) => self.in_granted(feed, k, command),

@@ -34,7 +34,8 @@ use Rattle.slink_feed.specs.Window.{Window}
 use Rattle.slink_model.specs.World.{AllHappen, Both, Differ, Happens, IsServed, LinkState, WorldState, opening}
 use Rattle.slink_model.proofs.Answering.{Comes, IsPending, called_on, it_came, not_yet, quiet_on}
 use Rattle.slink_feed.proofs.Closing.{Open, open_or}
-use Rattle.slink_model.proofs.Commanded.{grant_set, leaves}
+use Rattle.slink_feed.proofs.Reached.{grant_set}
+use Rattle.slink_model.proofs.Commanded.{leaves}
 use Rattle.slink_feed.proofs.Items.{put_there, same_or_not}
 use Rattle.slink_model.proofs.Lined.{IsAnswered, IsAsking}
 use Rattle.slink_model.proofs.Requested.{end_command, number_command, station_command}

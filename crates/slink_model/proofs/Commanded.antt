@@ -1,7 +1,5 @@
 -- What answers leave of the grants of a session.
-use Rattle.std.proofs.Common.{◌≡◌, ℕ, ◌+◌, ◌-◌, ◌≤◌, ◌⊎◌, inl, inr, zero, suc, refl, sym, ap, subst, ◌∙◌, arith, List}
-use Rattle.std.proofs.Common.{[], ◌∷◌, set, Option, Some, None, slice_get, if◌then◌else◌}
-use Rattle.std.proofs.lemmas.Bool.Decides.{leb_tells}
+use Rattle.std.proofs.Common.{◌≡◌, ℕ, ◌≤◌, inl, inr, refl, sym, ap, subst, ◌∙◌, List, Option, Some, None, slice_get}
 use Rattle.std.specs.Option.{option_and_then}
 use Rattle.slink_wire.specs.declared.command.Command.{Command}
 use Rattle.slink_wire.specs.declared.command.Command.TheVariants.{Hello, Station, SelectAll, Data, Fetch, End, Bye}
@@ -21,38 +19,9 @@ use Rattle.slink_feed.specs.Serving.{IsAnswer}
 use Rattle.slink_feed.specs.Session.{Grants, IsBefore, State, answered_in, called, at, chosen, grant_at, granted}
 use Rattle.slink_feed.specs.Session.{in_chosen, in_fresh, in_granted, in_streaming, reply_at_next}
 use Rattle.slink_model.specs.Ties.{IsGranted, Leaves, dropped, given, same}
-use Rattle.slink_feed.specs.Window.{Window, ahead_of, oldest_of, resolve_of}
-
-some_is : (p q : ℕ) → Some p ≡ Some q → p ≡ q
-some_is p q e = cc e
-
-resolved_at : (w : Window) (seq p : ℕ) → resolve_of w seq ≡ Some p → (oldest_of w ≤ p) × (p ≤ w.next)
-resolved_at w seq p e = elim (leb_tells (ahead_of w seq) (w.next - oldest_of w)) [
-  | inl passes ↦ let at : oldest_of w + ahead_of w seq ≡ p =
-      some_is (oldest_of w + ahead_of w seq) p
-      (sym (ap (λ t. if t then Some (oldest_of w + ahead_of w seq) else None) passes.0) ∙ e) in
-      (omega (arith, at), omega (arith, at, passes.1))
-  | inr fails ↦ absurd (let bad : None ≡ Some p = sym
-      (ap (λ t. if t then Some (oldest_of w + ahead_of w seq) else None) fails.0) ∙ e in cc bad)
-]
-
-granted_at : (mode : Mode) (number : Option ℕ) (w : Window) (p : ℕ) → grant_of mode number w ≡ Some p
-    → (oldest_of w ≤ p) × (p ≤ w.next)
-granted_at modes.Data None w p e = let at : w.next ≡ p = some_is w.next p e in (omega (arith, at), omega (arith, at))
-granted_at modes.Fetch None w p e = let at : oldest_of w ≡ p = some_is (oldest_of w) p e in
-    (omega (arith, at), omega (arith, at))
-granted_at modes.Data (Some seq) w p e = resolved_at w seq p e
-granted_at modes.Fetch (Some seq) w p e = resolved_at w seq p e
-
--- a grant once another was written
-pub grant_set : (gs : Grants) (k j : ℕ) (o : Option Grant) → ((j ≡ k) × (grant_at (set gs k o) j ≡ o))
-    ⊎ (grant_at (set gs k o) j ≡ grant_at gs j)
-grant_set [] k j o = inr refl
-grant_set (x ∷ gs) zero zero o = inl (refl, refl)
-grant_set (x ∷ gs) zero (suc j) o = inr refl
-grant_set (x ∷ gs) (suc k) zero o = inr refl
-grant_set (x ∷ gs) (suc k) (suc j) o =
-    elim (grant_set gs k j o) [ inl here ↦ inl (ap suc here.0, here.1) | inr there ↦ inr there ]
+use Rattle.slink_feed.specs.Window.{Window, oldest_of}
+use Rattle.slink_feed.proofs.Fitting.{granted_at}
+use Rattle.slink_feed.proofs.Reached.{grant_set}
 
 module _ (feed : List Window) (s : State) where
   abbrev pub Grants_stay : State → Type 0

@@ -31,7 +31,8 @@ use Rattle.slink_model.specs.Ties.{AreSound, Item, Accepted, Refused, Greeted, C
 use Rattle.slink_model.specs.Ties.{items_of, of_place, way_bytes}
 use Rattle.slink_feed.specs.Window.{Window}
 use Rattle.slink_model.specs.World.{Differ}
-use Rattle.slink_model.proofs.Commanded.{grant_set, leaves}
+use Rattle.slink_feed.proofs.Reached.{grant_set}
+use Rattle.slink_model.proofs.Commanded.{leaves}
 use Rattle.slink_model.proofs.Items.{flow_more, reply_carries, reply_items}
 use Rattle.slink_model.proofs.Lined.{IsAnswered, IsAsking, IsRead, more_answered, more_called, nothing, the_line}
 use Rattle.slink_model.proofs.Requested.{also_at, end_command, number_command, request_answered, station_command}
