@@ -19,56 +19,65 @@ pub record IsGone (P : List View → Type 0) (all left : List View) : Type 0 whe
   pub parts : all ≡ gone ++ left
   pub holds : P gone
 
-pub gone_none : (P : List View → Type 0) (all : List View) → P [] → IsGone P all all
-gone_none P all h = record { gone = []; parts = refl; holds = h }
+-- and behind them this is the next one
+pub record IsNext (P : List View → Type 0) (all : List View) (v : View) (rest : List View) : Type 0 where
+  pub gone : List View
+  pub parts : all ≡ gone ++ v ∷ rest
+  pub holds : P gone
 
-whole : (P : List View → Type 0) (all left rest : List View) (v : View) → left ≡ v ∷ rest → (h : IsGone P all left)
-    → all ≡ h.gone ++ v ∷ rest
-whole P all left rest v e h = h.parts ∙ ap (λ (vs : List View). h.gone ++ vs) e
+pub gone_none : {P : List View → Type 0} {all : List View} → P [] → IsGone P all all
+gone_none h = record { gone = []; parts = refl; holds = h }
+
+pub next_gone : {P : List View → Type 0} {all left rest : List View} {v : View} → IsGone P all left → left ≡ v ∷ rest
+    → IsNext P all v rest
+next_gone h e = record {
+  gone = h.gone;
+  parts = h.parts ∙ ap (λ (vs : List View). h.gone ++ vs) e;
+  holds = h.holds;
+}
 
 -- one more record
-pub gone_more : (P Q : List View → Type 0) (all left rest : List View) (v : View) → left ≡ v ∷ rest
-    → (h : IsGone P all left) → Q (h.gone ++ v ∷ []) → IsGone Q all rest
-gone_more P Q all left rest v e h next = record {
+pub gone_more : {P Q : List View → Type 0} {all rest : List View} {v : View} → (h : IsNext P all v rest)
+    → Q (h.gone ++ v ∷ []) → IsGone Q all rest
+gone_more {rest = rest} {v = v} h next = record {
   gone = h.gone ++ v ∷ [];
-  parts = whole P all left rest v e h ∙ sym (append_assoc h.gone (v ∷ []) rest);
+  parts = h.parts ∙ sym (append_assoc h.gone (v ∷ []) rest);
   holds = next;
 }
 
 -- none is left
-pub gone_all : (P : List View → Type 0) (all left : List View) → left ≡ [] → IsGone P all left → P all
-gone_all P all left e h =
+pub gone_all : {P : List View → Type 0} {all left : List View} → IsGone P all left → left ≡ [] → P all
+gone_all {P = P} h e =
     subst P (sym (h.parts ∙ ap (λ (vs : List View). h.gone ++ vs) e ∙ append-nil h.gone)) h.holds
 
 -- what holds of each holds of the next one
-pub next_of : (Q : View → Type 0) (P : List View → Type 0) (all left rest : List View) (v : View) → left ≡ v ∷ rest
-    → IsGone P all left → AllByRecursion Q all → Q v
-next_of Q P all left rest v e h every =
-    behind h.gone (subst (λ (vs : List View). AllByRecursion Q vs) (whole P all left rest v e h) every)
+pub next_of : {P : List View → Type 0} {all rest : List View} {v : View} (Q : View → Type 0) → IsNext P all v rest
+    → AllByRecursion Q all → Q v
+next_of {rest = rest} {v = v} Q h every =
+    behind h.gone (subst (λ (vs : List View). AllByRecursion Q vs) h.parts every)
   where
     behind : (us : List View) → AllByRecursion Q (us ++ v ∷ rest) → Q v
     behind [] each = each.0
     behind (u ∷ us) each = behind us each.1
 
 -- what adds up over records adds up over those before it, and it with those behind
-so_far : (f : List View → ℕ) → ((us vs : List View) → f (us ++ vs) ≡ f us + f vs) → (P : List View → Type 0)
-    (all left rest : List View) (v : View) → left ≡ v ∷ rest → (h : IsGone P all left)
+so_far : {P : List View → Type 0} {all rest : List View} {v : View} (f : List View → ℕ)
+    → ((us vs : List View) → f (us ++ vs) ≡ f us + f vs) → (h : IsNext P all v rest)
     → f all ≡ f h.gone + f (v ∷ rest)
-so_far f adds P all left rest v e h = ap f (whole P all left rest v e h) ∙ adds h.gone (v ∷ rest)
+so_far {rest = rest} {v = v} f adds h = ap f h.parts ∙ adds h.gone (v ∷ rest)
 
 -- those before it and itself have no more samples, and bear no more leap seconds, than all have
-pub samples_so_far : (P : List View → Type 0) (all left rest : List View) (v : View) → left ≡ v ∷ rest
-    → (h : IsGone P all left) → samples_of h.gone + count_of v ≤ samples_of all
-samples_so_far P all left rest v e h = omega (arith, so_far samples_of samples_append P all left rest v e h)
+pub samples_so_far : {P : List View → Type 0} {all rest : List View} {v : View} → (h : IsNext P all v rest)
+    → samples_of h.gone + count_of v ≤ samples_of all
+samples_so_far h = omega (arith, so_far samples_of samples_append h)
 
-pub steps_so_far : (P : List View → Type 0) (all left rest : List View) (v : View) → left ≡ v ∷ rest
-    → (h : IsGone P all left) → steps_of h.gone + step_count v ≤ steps_of all
-steps_so_far P all left rest v e h = omega (arith, so_far steps_of steps_append P all left rest v e h)
+pub steps_so_far : {P : List View → Type 0} {all rest : List View} {v : View} → (h : IsNext P all v rest)
+    → steps_of h.gone + step_count v ≤ steps_of all
+steps_so_far h = omega (arith, so_far steps_of steps_append h)
 
-pub count_so_far : (P : List View → Type 0) (all left rest : List View) (v : View) → left ≡ v ∷ rest
-    → (h : IsGone P all left) → length h.gone + 1 ≤ length all
-count_so_far P all left rest v e h =
-    omega (arith, so_far (λ vs. length vs) (λ us vs. length-append us vs) P all left rest v e h)
+pub count_so_far : {P : List View → Type 0} {all rest : List View} {v : View} → (h : IsNext P all v rest)
+    → length h.gone + 1 ≤ length all
+count_so_far h = omega (arith, so_far (λ vs. length vs) (λ us vs. length-append us vs) h)
 
 -- what is read, and what is known, of the records that were gone over, whatever their key is
 abbrev pub AreReadSo : ℕ → ℕ → List ℤ → List (ℕ × LeapStep) → List View → Type 0

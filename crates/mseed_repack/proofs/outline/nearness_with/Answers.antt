@@ -1,4 +1,4 @@
-use Rattle.std.proofs.Common.{◌≡◌, ◌++◌, ℤ, ◌-ℤ◌, refl, sym, subst, rules, to_z, of_z, w32}
+use Rattle.std.proofs.Common.{◌≡◌, ◌++◌, List, ℤ, ◌-ℤ◌, refl, sym, subst, rules, to_z, of_z, w32}
 use Rattle.std.proofs.lemmas.Int.{to_z-of_z}
 use Rattle.mseed_steim.specs.Spelling.{IsWithin}
 use Rattle.mseed_repack.specs.private.Outline.{IsKnown}
@@ -7,20 +7,21 @@ use Rattle.mseed_repack.specs.declared.outline.Nearness.TheVariants.{Near}
 use Rattle.mseed_repack.proofs.Near.{known_first, known_more}
 use Rattle.mseed_repack.proofs.outline.nearness_with.Goals as goal
 
+-- the last sample is kept in 32 bits
+as_kept : (last : ℤ) (xs : List ℤ) → to_z w32 (of_z w32 last) ≡ last → IsKnown (Near last) xs
+    → IsKnown (Near (to_z w32 (of_z w32 last))) xs
+as_kept last xs same known = subst (λ (z : ℤ). IsKnown (Near z) xs) (sym same) known
+
 pub returns-in-Empty : goal.returns-in-Empty
-returns-in-Empty c =
+returns-in-Empty c = λ xs s known whole.
     let ends = c.in-Some.ends in
-    let same : to_z w32 (of_z w32 ends.last) ≡ ends.last = to_z-of_z w32 _ (search rules) in
-    λ xs s known whole.
     let found = c.in-Some.ensures s whole in
-    let none = subst (λ (n : Nearness). IsKnown n xs) c.in-Empty.is known in
-    subst (λ (z : ℤ). IsKnown (Near z) (xs ++ s)) (sym same) (known_first ends xs s none found.0 found.1)
+    as_kept ends.last (xs ++ s) (to_z-of_z w32 _ (search rules))
+    (known_first ends xs s (subst (λ (n : Nearness). IsKnown n xs) c.in-Empty.is known) found.0 found.1)
 
 pub returns-then-is_near : goal.returns-then-is_near
-returns-then-is_near c =
+returns-then-is_near c = λ xs s known whole.
     let ends = c.in-Some.ends in
-    let same : to_z w32 (of_z w32 ends.last) ≡ ends.last = to_z-of_z w32 _ (search rules) in
-    λ xs s known whole.
     let found = c.in-Some.ensures s whole in
     let before = subst (λ (n : Nearness). IsKnown n xs) c.in-Near.is known in
     let first : to_z w32 (of_z w32 ends.first) ≡ ends.first = to_z-of_z w32 _ (search rules) in
@@ -28,5 +29,5 @@ returns-then-is_near c =
     let step : IsWithin 30 (ends.first -ℤ c.in-Near.last) =
     subst (λ (z : ℤ). IsWithin 30 (z -ℤ c.in-Near.last)) first
     (subst (λ (z : ℤ). IsWithin 30 (to_z w32 (of_z w32 ends.first) -ℤ z)) last (c.if-is_near.ensures.0 refl)) in
-    subst (λ (z : ℤ). IsKnown (Near z) (xs ++ s)) (sym same)
+    as_kept ends.last (xs ++ s) (to_z-of_z w32 _ (search rules))
     (known_more ends c.in-Near.last xs s before found.0 found.1 step)

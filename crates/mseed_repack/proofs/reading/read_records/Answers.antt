@@ -2,61 +2,44 @@ use Rattle.std.proofs.Common.{◌≤◌, [], length, arith}
 use Rattle.mseed_record.specs.Viewing.{view_of}
 use Rattle.mseed_audit.specs.Follows.{IsSound}
 use Rattle.mseed_repack.proofs.ReadChannels.{read_more, read_none}
-use Rattle.mseed_repack.proofs.Walks.{AreReadSo, gone_all, gone_more, gone_none, next_of, samples_so_far, steps_so_far}
+use Rattle.mseed_repack.proofs.Walks.{AreReadSo, gone_all, gone_more, gone_none, next_gone, next_of, samples_so_far, steps_so_far}
 use Rattle.mseed_repack.proofs.reading.read_records.Goals as goal
 
 pub loop-view-init : goal.loop-view-init
 loop-view-init g c = (
   c.requires.walks.led,
-  gone_none (AreReadSo 0 0 c.args.samples.now c.args.steps.now) (g.R.Walk.left c.args.records)
-      (λ key. read_none key c.args.samples.now c.args.steps.now),
+  gone_none (λ key. read_none key c.args.samples.now c.args.steps.now),
 )
 
 pub read_record-read-requires : goal.read_record-read-requires
 read_record-read-requires g c =
     let l = c.loop-view in
-    let all = g.R.Walk.left c.args.records in
-    let left = g.R.Walk.left l.rest in
-    let rest = g.R.Walk.left c.next.new.self in
-    let v = view_of c.in-Some.view in
-    let Reads = AreReadSo l.read.samples l.read.steps l.samples l.steps in
-    let samples = samples_so_far Reads all left rest v c.in-Some.ensures.next l.invariant.1 in
-    let steps = steps_so_far Reads all left rest v c.in-Some.ensures.next l.invariant.1 in
-    let held = l.invariant.1.holds [] in
+    let h = next_gone l.invariant.1 c.in-Some.ensures.next in
+    let held = h.holds [] in
     record {
-      sound = next_of IsSound Reads all left rest v c.in-Some.ensures.next l.invariant.1 c.requires.walks.sound;
-      samples_fit = omega (arith, samples, held.samples_count, c.requires.samples_fit, l.auto.samples);
-      steps_fit = omega (arith, steps, held.steps_count, c.requires.steps_fit, l.auto.steps);
+      sound = next_of IsSound h c.requires.walks.sound;
+      samples_fit = omega (arith, samples_so_far h, held.samples_count, c.requires.samples_fit, l.auto.samples);
+      steps_fit = omega (arith, steps_so_far h, held.steps_count, c.requires.steps_fit, l.auto.steps);
     }
 
 pub loop-view-preserved : goal.loop-view-preserved
 loop-view-preserved g c =
     let l = c.loop-view in
-    let h = l.invariant.1 in
-    let all = g.R.Walk.left c.args.records in
-    let left = g.R.Walk.left l.rest in
-    let rest = g.R.Walk.left c.next.new.self in
-    let v = view_of c.in-Some.view in
+    let h = next_gone l.invariant.1 c.in-Some.ensures.next in
+    let inside : l.read.samples ≤ length l.samples =
+    omega (arith, samples_so_far h, (h.holds []).samples_count, c.requires.samples_fit, l.auto.samples) in
     let e = c.read_record-read.ensures in
     let o = c.read_record-read.result in
-    let new = c.read_record-read.new in
-    let far = samples_so_far (AreReadSo l.read.samples l.read.steps l.samples l.steps) all left rest v
-    c.in-Some.ensures.next h in
-    let inside : l.read.samples ≤ length l.samples =
-    omega (arith, far, (h.holds []).samples_count, c.requires.samples_fit, l.auto.samples) in (
+    let new = c.read_record-read.new in (
       c.in-Some.ensures.leads,
-      gone_more (AreReadSo l.read.samples l.read.steps l.samples l.steps)
-          (AreReadSo o.samples o.steps new.samples new.steps) all left rest v c.in-Some.ensures.next h
-          (λ key. read_more key h.gone v l.read.samples l.read.steps o.samples o.steps l.samples new.samples
-          e.samples.0 l.steps new.steps inside (h.holds key) e.samples.1.0 e.samples.1.1 e.steps e.samples_count
-          e.steps_count),
+      gone_more {Q = AreReadSo o.samples o.steps new.samples new.steps} h (λ key. read_more key h.gone (view_of c.in-Some.view) l.read.samples l.read.steps o.samples o.steps
+          l.samples new.samples e.samples.0 l.steps new.steps inside (h.holds key) e.samples.1.0 e.samples.1.1 e.steps
+          e.samples_count e.steps_count),
     )
 
 pub returns-clause-read : goal.returns-clause-read
 returns-clause-read g c =
-    let l = c.loop-view in
-    let whole = gone_all (AreReadSo l.read.samples l.read.steps l.samples l.steps) (g.R.Walk.left c.args.records)
-    (g.R.Walk.left l.rest) c.in_default.ensures.next.0 l.invariant.1 in
+    let whole = gone_all c.loop-view.invariant.1 c.in_default.ensures.next.0 in
     λ key. (whole key).read
 
 pub returns-clause-places : goal.returns-clause-places
@@ -64,14 +47,10 @@ returns-clause-places g c = (c.loop-view.invariant.1.holds []).places
 
 pub returns-clause-samples_inside : goal.returns-clause-samples_inside
 returns-clause-samples_inside g c =
-    let l = c.loop-view in
-    let whole = gone_all (AreReadSo l.read.samples l.read.steps l.samples l.steps) (g.R.Walk.left c.args.records)
-    (g.R.Walk.left l.rest) c.in_default.ensures.next.0 l.invariant.1 in
-    omega (arith, (whole []).samples_count, c.requires.samples_fit, l.auto.samples)
+    let whole = gone_all c.loop-view.invariant.1 c.in_default.ensures.next.0 [] in
+    omega (arith, whole.samples_count, c.requires.samples_fit, c.loop-view.auto.samples)
 
 pub returns-clause-steps_inside : goal.returns-clause-steps_inside
 returns-clause-steps_inside g c =
-    let l = c.loop-view in
-    let whole = gone_all (AreReadSo l.read.samples l.read.steps l.samples l.steps) (g.R.Walk.left c.args.records)
-    (g.R.Walk.left l.rest) c.in_default.ensures.next.0 l.invariant.1 in
-    omega (arith, (whole []).steps_count, c.requires.steps_fit, l.auto.steps)
+    let whole = gone_all c.loop-view.invariant.1 c.in_default.ensures.next.0 [] in
+    omega (arith, whole.steps_count, c.requires.steps_fit, c.loop-view.auto.steps)
