@@ -1,5 +1,5 @@
 -- A whole archive, and how packing it anew ends.
-use Rattle.std.proofs.Common.{◌≡◌, ℕ, ◌<◌, ◌^◌, List, [], ◌∷◌, ◌++◌, ◌∙◌, length, map, refl, sym, ap, subst, arith}
+use Rattle.std.proofs.Common.{◌≡◌, ℕ, List, [], ◌∷◌, ◌++◌, ◌∙◌, map, refl, sym, ap, subst, arith}
 use Rattle.std.proofs.Common.{IsTrue, Result, Ok, Err, OnOk, IfErr, All}
 use Rattle.std.specs.List.{AllByRecursion}
 use Rattle.std.proofs.lemmas.List.{length-map}
@@ -10,11 +10,10 @@ use Rattle.mseed_stream.specs.Archive.{IsArchive}
 use Rattle.mseed_stream.specs.Device.{BytesRead, BytesWritten, nothing_read}
 use Rattle.mseed_stream.specs.Split.{bytes_of_each}
 use Rattle.mseed_stream.specs.Walk.{bytes_in}
-use Rattle.mseed_audit.specs.Channels.{added_from}
-use Rattle.mseed_audit.specs.Verdict.{AreVerdicts}
 use Rattle.mseed_pack.specs.declared.options.Options.{Options}
 use Rattle.mseed_repack.specs.Repack.{AreContinuous, ArePackedInto, CanBePacked, Channel, IsArchiveOf, IsRepacking}
 use Rattle.mseed_repack.specs.Repack.{Wrote}
+use Rattle.mseed_repack.specs.private.Judging.{IsJudged}
 use Rattle.mseed_repack.specs.private.Repacking.{FailsToFit, FailsToPack, IsFirstBroken, PacksAnew}
 use Rattle.mseed_repack.specs.declared.fault.RepackFault.{RepackFault}
 use Rattle.mseed_repack.specs.declared.fault.RepackFault.TheVariants.{Stream, Broken, Misfit, Write, Memory}
@@ -28,31 +27,23 @@ views_each : (rs : List RecordView) → AllByRecursion (λ (r : RecordView). IsV
 views_each [] h = tt
 views_each (r ∷ rs) h = (h.0, views_each rs h.1)
 
--- what was read and split is an archive
-archive_is : (h : BytesRead) (bytes : List ℕ) (rs : List RecordView) (cs : List Channel) → h.bytes ≡ bytes
-    → IsArchive bytes (bytes_of_each rs) []
-    → AllByRecursion (λ (r : RecordView). IsView (view_of r)) rs → length rs < 2 ^ 40 → IsTrue h.is_at_end
-    → h.failures ≡ 0 → AreVerdicts (added_from 0 (map view_of rs)) cs → IsArchiveOf h (map view_of rs) cs
-archive_is h bytes rs cs same archive each few ended fine verdicts = record {
-  whole = record {
-    archive = subst (λ (bs : List (List ℕ)). IsArchive h.bytes bs []) (bytes_are rs)
-        (subst (λ (xs : List ℕ). IsArchive xs (bytes_of_each rs) []) (sym same) archive);
-    each = views_each rs each;
-    few = omega (arith, few, length-map rs view_of);
-    ended = ended;
-    fine = fine;
-  };
-  verdicts = verdicts;
-}
-
--- of an input of which nothing had been read
-pub archive_read : (first h : BytesRead) (bytes : List ℕ) (rs : List RecordView) (cs : List Channel)
+-- what was read, of an input of which nothing had been read, and judged is an archive
+pub archive_read : {first h : BytesRead} {bytes : List ℕ} {rs : List RecordView} {cs : List Channel}
     → first ≡ nothing_read → h.bytes ≡ first.bytes ++ bytes → h.failures ≡ first.failures → IsTrue h.is_at_end
-    → IsArchive bytes (bytes_of_each rs) [] → AllByRecursion (λ (r : RecordView). IsView (view_of r)) rs
-    → length rs < 2 ^ 40 → AreVerdicts (added_from 0 (map view_of rs)) cs → IsArchiveOf h (map view_of rs) cs
-archive_read first h bytes rs cs unread joined fine ended archive each few verdicts =
+    → IsJudged bytes rs cs → IsArchiveOf h (map view_of rs) cs
+archive_read {h = h} {bytes = bytes} {rs = rs} unread joined fine ended judged =
     let same : h.bytes ≡ bytes = joined ∙ ap (λ (x : BytesRead). x.bytes ++ bytes) unread in
-    archive_is h bytes rs cs same archive each few ended (fine ∙ ap (λ (x : BytesRead). x.failures) unread) verdicts
+    record {
+      whole = record {
+        archive = subst (λ (bs : List (List ℕ)). IsArchive h.bytes bs []) (bytes_are rs)
+            (subst (λ (xs : List ℕ). IsArchive xs (bytes_of_each rs) []) (sym same) judged.archive);
+        each = views_each rs judged.views;
+        few = omega (arith, judged.few, length-map rs view_of);
+        ended = ended;
+        fine = fine ∙ ap (λ (x : BytesRead). x.failures) unread;
+      };
+      verdicts = judged.verdicts;
+    }
 
 pub broken_is : (U : Type 0) (o : Options) (h : BytesRead) (s : BytesWritten) (views : List View) (cs : List Channel)
     (fault : RepackFault) → IsArchiveOf h views cs → IsFirstBroken views cs fault

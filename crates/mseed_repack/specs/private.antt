@@ -1,5 +1,6 @@
 -- Words of private functions and of proofs alone, which change as the code does: no public contract is stated by them.
 pub mod Archives
+pub mod Judging
 pub mod Outline
 pub mod Reading
 pub mod Repacking

@@ -7,6 +7,7 @@ mod channel_fault;
 mod fault;
 mod fitting;
 mod gathering;
+mod judging;
 mod law;
 mod numbering;
 mod outline;

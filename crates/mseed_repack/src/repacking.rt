@@ -1,5 +1,5 @@
 //! Packing an archive anew.
-ghost use Rattle.std.specs.Prelude.{◌≡◌, ◌≤◌, ◌<◌, ◌^◌, length, map, All, IfErr, IfOk, OnOk};
+ghost use Rattle.std.specs.Prelude.{◌≡◌, ◌≤◌, ◌^◌, length, map, All, IfErr, OnOk};
 ghost use Rattle.mseed_record.specs.Viewing.{view_of};
 ghost use Rattle.mseed_stream.specs.Device.{BytesRead, nothing_read};
 ghost use Rattle.mseed_audit.specs.Channels.{added_from};
@@ -12,14 +12,15 @@ ghost use Rattle.mseed_repack.specs.declared.fault.RepackFault.{RepackFault};
 
 use crate::archive::Archive;
 use crate::fault::RepackFault;
+use crate::judging::judge;
 use crate::reading::count_steps;
 use crate::room::room_for;
 use crate::series::{fit_series, pack_series};
 use crate::trail::lay_trails;
-use mseed_audit::{Audit, Memory, Verdict, Verdicts};
+use mseed_audit::Verdict;
 use mseed_pack::{Options, Packer};
 use mseed_record::{Codes, RecordView};
-use mseed_stream::{Sink, Source, read_all_in, split_in};
+use mseed_stream::{Sink, Source, read_all_in};
 use mseed_time::LeapStep;
 use std::alloc::Allocator;
 
@@ -41,13 +42,17 @@ pub fn repack<A: Allocator + Copy, R: Source, W: Sink>(
     ensures { IsRepacking options.now result (R.read input.new) (W.written output.old) (W.written output.new) }
 {
     let archive = read_all_in(alloc, input)?;
-    let views = split_in(alloc, &archive)?;
-    let verdicts = judge(alloc, &views)?;
-    let channels = verdicts.as_slice();
-    repack_judged(alloc, &views, channels, options, output)
+    let judged = judge(alloc, &archive)?;
+    repack_judged(
+        alloc,
+        &judged.views,
+        judged.verdicts.as_slice(),
+        options,
+        output,
+    )
 }
 
-/// Packs an archive anew of which this is what the audit says.
+/// Packs an archive anew of which this is what the audit says. All memory is requested before anything is written.
 fn repack_judged<A: Allocator + Copy, W: Sink>(
     alloc: A,
     views: &[RecordView],
@@ -63,28 +68,10 @@ fn repack_judged<A: Allocator + Copy, W: Sink>(
     if let Err(fault) = refuse_broken(views, channels) {
         return Err(fault);
     }
-    repack_continuous(alloc, views, channels, options, output)
-}
-
-/// The channels of an archive and what the audit says of each.
-pub(crate) fn judge<A: Allocator + Copy>(
-    alloc: A,
-    views: &[RecordView],
-) -> Result<Verdicts<A>, RepackFault>
-    requires { length views.now < 2 ^ 40 }
-    ensures ok { IfOk result (λ verdicts. AreVerdicts (added_from 0 (map view_of views.now)) verdicts) }
-    ensures err { IfErr result (λ fault. fault ≡ RepackFault.Memory) }
-{
-    let mut audit = Audit::new(alloc);
-    let mut offset = 0;
-    for (index, view) in views.iter().enumerate() {
-        match audit.add(view, offset) {
-            Ok(()) => {}
-            Err(Memory) => return Err(RepackFault::Memory),
-        }
-        offset += view.bytes().len() as u64;
+    match lay_trails(alloc, views, channels) {
+        Ok(trails) => repack_archive(alloc, &trails.archive(views, channels), options, output),
+        Err(_) => Err(RepackFault::Memory),
     }
-    Ok(audit.finish())
 }
 
 /// Refuses the first channel that is broken.
@@ -101,36 +88,7 @@ fn refuse_broken(views: &[RecordView], channels: &[(Codes, Verdict)]) -> Result<
     Ok(())
 }
 
-/// Packs the channels of an archive anew, each of which is continuous. All memory is requested before anything is
-/// written.
-fn repack_continuous<A: Allocator + Copy, W: Sink>(
-    alloc: A,
-    views: &[RecordView],
-    channels: &[(Codes, Verdict)],
-    options: &Options,
-    output: &mut W,
-) -> Result<(), RepackFault>
-    requires few { length views.now ≤ 2 ^ 40 }
-    requires verdicts { AreVerdicts (added_from 0 (map view_of views.now)) channels.now }
-    requires continuous { AreContinuous (map view_of views.now) channels.now }
-    ensures { PacksAnew result options.now (map view_of views.now) channels.now
-        (W.written output.old) (W.written output.new) }
-{
-    match lay_trails(alloc, views, channels) {
-        Ok(trails) => {
-            let archive = Archive {
-                views,
-                channels,
-                firsts: &trails.firsts,
-                nexts: &trails.nexts,
-            };
-            repack_archive(alloc, &archive, options, output)
-        }
-        Err(_) => Err(RepackFault::Memory),
-    }
-}
-
-/// The same of an archive whose trails are laid.
+/// Packs the channels of an archive anew, each of which is continuous.
 fn repack_archive<A: Allocator + Copy, W: Sink>(
     alloc: A,
     archive: &Archive,

@@ -1,5 +1,5 @@
 //! Packing an archive anew by the stretches of its channels.
-ghost use Rattle.std.specs.Prelude.{◌≡◌, ◌≤◌, ◌^◌, length, map, IfErr, IfOk, OnOk};
+ghost use Rattle.std.specs.Prelude.{◌≡◌, ◌≤◌, ◌^◌, length, map, IfErr, OnOk};
 ghost use Rattle.mseed_record.specs.Viewing.{view_of};
 ghost use Rattle.mseed_stream.specs.Device.{nothing_read};
 ghost use Rattle.mseed_audit.specs.Channels.{added_from};
@@ -14,10 +14,10 @@ ghost use Rattle.mseed_repack.specs.declared.standing.Standing.{Standing};
 
 use crate::archive::{Archive, Trail};
 use crate::gathering::gather;
+use crate::judging::judge;
 use crate::numbering::pack_stretches;
 use crate::reading::count_steps;
 use crate::refusing::{Left, left_of, refusal_unless, tell_left};
-use crate::repacking::judge;
 use crate::room::blank_steps;
 use crate::standing::{Standing, stand_all};
 use crate::stretches_fault::StretchesFault;
@@ -25,7 +25,7 @@ use crate::trail::lay_trails;
 use mseed_audit::Verdict;
 use mseed_pack::{Options, Packer};
 use mseed_record::{Codes, RecordView};
-use mseed_stream::{Failed, Sink, Source, read_all_in, split_in};
+use mseed_stream::{Failed, Sink, Source, read_all_in};
 use mseed_time::LeapStep;
 use std::alloc::Allocator;
 
@@ -52,13 +52,16 @@ pub fn repack_stretches<A: Allocator + Copy, R: Source, W: Sink, E: Sink>(
         (W.written output.old) (W.written output.new) (E.written errors.old) (E.written errors.new) }
 {
     let archive = read_all_in(alloc, input)?;
-    let views = split_in(alloc, &archive)?;
-    let verdicts = match judge(alloc, &views) {
-        Ok(verdicts) => verdicts,
-        Err(_) => return Err(StretchesFault::Memory),
-    };
-    let channels = verdicts.as_slice();
-    restretch(alloc, &views, channels, options, leave, output, errors)
+    let judged = judge(alloc, &archive)?;
+    restretch(
+        alloc,
+        &judged.views,
+        judged.verdicts.as_slice(),
+        options,
+        leave,
+        output,
+        errors,
+    )
 }
 
 /// The same of records whose channels are known.
@@ -77,15 +80,14 @@ fn restretch<A: Allocator + Copy, W: Sink, E: Sink>(
         (W.written output.old) (W.written output.new) (E.written errors.old) (E.written errors.new) }
 {
     match lay_trails(alloc, views, channels) {
-        Ok(trails) => {
-            let archive = Archive {
-                views,
-                channels,
-                firsts: &trails.firsts,
-                nexts: &trails.nexts,
-            };
-            restretch_archive(alloc, &archive, options, leave, output, errors)
-        }
+        Ok(trails) => restretch_archive(
+            alloc,
+            &trails.archive(views, channels),
+            options,
+            leave,
+            output,
+            errors,
+        ),
         Err(_) => Err(StretchesFault::Memory),
     }
 }

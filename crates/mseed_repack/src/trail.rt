@@ -1,5 +1,5 @@
 //! Where the records of each channel stand in an archive.
-ghost use Rattle.std.specs.Prelude.{◌≡◌, ◌<◌, ◌+◌, All, IfNone, IfSome, IfOk, List, false, length};
+ghost use Rattle.std.specs.Prelude.{◌≡◌, ◌<◌, ◌≤◌, ◌+◌, ◌^◌, All, IfNone, IfSome, IfOk, List, false, length, map};
 ghost use Rattle.std.specs.Map.{keys_of};
 ghost use Rattle.std.specs.Ordering.{nat_cmp};
 ghost use Rattle.std.specs.Cmp.Lexicographic.{slice_cmp};
@@ -7,10 +7,13 @@ ghost use Rattle.std.specs.Prelude.{slice_index_or, true};
 ghost use Rattle.std.specs.List.Sorted.{IsStrictlySortedBy};
 ghost use Rattle.mseed_record.specs.Viewing.{view_of};
 ghost use Rattle.mseed_record.specs.declared.view.RecordView.{RecordView};
-ghost use Rattle.mseed_audit.specs.Channels.{same_key};
+ghost use Rattle.mseed_audit.specs.Channels.{added_from, same_key};
+ghost use Rattle.mseed_audit.specs.Verdict.{AreVerdicts};
 ghost use Rattle.mseed_repack.specs.Repack.{Channel};
+ghost use Rattle.mseed_repack.specs.private.Archives.{IsAudited};
 ghost use Rattle.mseed_repack.specs.private.Trails.{AreLaid, AreTrails, AreTrailsFrom};
 
+use crate::archive::Archive;
 use mseed_audit::Verdict;
 use mseed_record::{Codes, RecordView};
 use std::alloc::{AllocError, Allocator};
@@ -21,6 +24,29 @@ use std::alloc::{AllocError, Allocator};
 pub(crate) struct Trails<A: Allocator> {
     pub(crate) firsts: Vec<usize, A>,
     pub(crate) nexts: Vec<usize, A>,
+}
+
+impl<A: Allocator> Trails<A> {
+    /// The archive of the records and channels whose trails these are.
+    pub(crate) fn archive<'r, 'a>(
+        &'r self,
+        views: &'r [RecordView<'a>],
+        channels: &'r [(Codes, Verdict)],
+    ) -> Archive<'r, 'a>
+        requires few { length views.now ≤ 2 ^ 40 }
+        requires verdicts { AreVerdicts (added_from 0 (map view_of views.now)) channels.now }
+        requires laid { AreLaid views.now channels.now self.now.firsts.items self.now.nexts.items }
+        ensures audited { IsAudited result }
+        ensures views { result.views.now ≡ views.now }
+        ensures channels { result.channels.now ≡ channels.now }
+    {
+        Archive {
+            views,
+            channels,
+            firsts: &self.firsts,
+            nexts: &self.nexts,
+        }
+    }
 }
 
 /// The trails of all channels, whose keys rise.

@@ -9,8 +9,8 @@ returns-in-Err g c = λ read archive.
     broken_is ⊤ c.args.options.now read (g.W.Sink.written c.args.output.now) (map view_of c.args.views.now)
     c.args.channels.now c.in-Err.fault archive c.in-Err.ensures.err
 
-pub returns : goal.returns
-returns g c = λ read archive.
-    packed_is c.repack_continuous.result c.args.options.now read (g.W.Sink.written c.args.output.now)
-    (g.W.Sink.written c.repack_continuous.new.output) (map view_of c.args.views.now) c.args.channels.now archive
-    c.in_default.ensures.ok c.repack_continuous.ensures
+pub returns-in-Ok : goal.returns-in-Ok
+returns-in-Ok g c = λ read archive.
+    packed_is c.repack_archive.result c.args.options.now read (g.W.Sink.written c.args.output.now)
+    (g.W.Sink.written c.repack_archive.new.output) (map view_of c.args.views.now) c.args.channels.now archive
+    c.in_default.ensures.ok (rw (c.archive.ensures.views, c.archive.ensures.channels) at c.repack_archive.ensures)

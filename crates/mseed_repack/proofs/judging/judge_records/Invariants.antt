@@ -3,7 +3,7 @@ use Rattle.mseed_record.specs.Viewing.{view_of}
 use Rattle.mseed_audit.specs.Channels.{added_from}
 use Rattle.mseed_audit.specs.Audit.{IsAuditOf}
 use Rattle.mseed_audit.proofs.Behind.{end_of}
-use Rattle.mseed_repack.proofs.repacking.judge.Given as goal
+use Rattle.mseed_repack.proofs.judging.judge_records.Given as goal
 
 abbrev pub invariant-loop-index : goal.invariant-loop-index
 invariant-loop-index g l =
