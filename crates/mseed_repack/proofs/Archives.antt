@@ -42,6 +42,13 @@ pub on_trail : (a : Archive) (k : ℕ) (t : Trail) (w : IsTrailOf a k t)
     → records_on t ≡ channel_in w.channel.0 (map view_of a.views.now)
 on_trail a k t w = w.records_are ∙ views_are w.channel.0 (views_of a)
 
+-- so is what was written of them
+pub wrote_on : {a : Archive} {k : ℕ} {t : Trail} {old new : BytesWritten} (P : List View → List ℕ → Type 0) (n : ℕ)
+    → (w : IsTrailOf a k t) → Wrote (P (records_on t)) n old new
+    → Wrote (P (channel_in w.channel.0 (map view_of a.views.now))) n old new
+wrote_on {a = a} {k = k} {t = t} {old = old} {new = new} P n w one =
+    subst (λ (vs : List View). Wrote (P vs) n old new) (on_trail a k t w) one
+
 -- however the channel is met
 pub of_channel : (a : Archive) (k : ℕ) (t : Trail) (c : Channel) → k < length a.channels.now
     → c ≡ get_or a.channels.now k c → IsTrailOf a k t → records_on t ≡ channel_in c.0 (map view_of a.views.now)

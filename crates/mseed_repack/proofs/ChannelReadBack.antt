@@ -1,11 +1,11 @@
 -- What the stretches of a channel were packed into reads back, and is one list of records.
 use Rattle.std.proofs.Common.{◌≡◌, ℕ, ℤ, ◌+◌, ◌<◌, ◌≤◌, List, [], ◌∷◌, ◌++◌, length, refl, sym, ap, subst, ◌∙◌, Some}
-use Rattle.std.proofs.Common.{append_assoc, append-nil, arith, drop, get_or, length-append, Bool, Ok}
+use Rattle.std.proofs.Common.{append_assoc, append-nil, arith, drop, get_or, length-append}
 use Rattle.std.proofs.Math.Bridge.{le_prop}
 use Rattle.std.specs.List.{AllByRecursion, concat}
 use Rattle.mseed_time.specs.Rate.{Ratio}
 use Rattle.mseed_record.specs.View.{View, IsView}
-use Rattle.mseed_stream.specs.Device.{BytesRead, BytesWritten}
+use Rattle.mseed_stream.specs.Device.{BytesRead}
 use Rattle.mseed_audit.specs.Follows.{IsContinuous, IsSound}
 use Rattle.mseed_audit.specs.Judging.{known_rate}
 use Rattle.mseed_audit.specs.Series.{Trace, AreJoined, IsSeriesOf, none, one}
@@ -18,11 +18,11 @@ use Rattle.mseed_pack.specs.ReadBack.{ReadsAs}
 use Rattle.mseed_pack.specs.declared.options.Encoding.{Encoding}
 use Rattle.mseed_pack.specs.declared.options.Options.{Options}
 use Rattle.mseed_pack.proofs.Traced.{is_trace, kept_views}
-use Rattle.mseed_repack.specs.ByStretches.{AreStandings, AreStretched, IsRestretching, further, kept_of, nothing}
-use Rattle.mseed_repack.specs.declared.refusing.Left.{Left}
+use Rattle.mseed_repack.specs.ByStretches.{AreStandings, AreStretched, EachRestretching, WroteFitting, further, kept_of}
+use Rattle.mseed_repack.specs.ByStretches.{nothing}
 use Rattle.mseed_repack.specs.declared.standing.Standing.{Standing}
 use Rattle.mseed_repack.specs.declared.standing.Standing.TheVariants.{Fit, Broken, Misfit}
-use Rattle.mseed_repack.specs.Repack.{Channel, records_in}
+use Rattle.mseed_repack.specs.Repack.{Channel, IsArchiveOf, records_in}
 use Rattle.mseed_repack.specs.Restretch.{ArePackedOn, ChannelFits, IsChannelPacked, IsNumberedOn, IsStretchPacked}
 use Rattle.mseed_repack.specs.Restretch.{IsChannelText, StretchFits, none as packed_none, more as packed_more}
 use Rattle.mseed_repack.specs.StretchesReadBack.{AreChannelsReadBack, AreReadBack, IsChannelReadBack}
@@ -284,18 +284,32 @@ channels_read laws o views _ _ each fit (further cs c text own before here) =
     (channels_read laws o views cs text each (each_in_leading P cs (c ∷ []) fit) before)
     (reads_back laws o (records_in views c.0) here.records own_views (each_at_back P cs (c ∷ []) fit).0 here.packed))
 
-pub stretched_back : Laws → (o : Options) (leave : Bool) (left : Left) (h : BytesRead)
-    (old new reported_old reported_new : BytesWritten)
-    → IsRestretching o leave (Ok left) h old new reported_old reported_new
-    → IsStretchedBack o h old new
-stretched_back laws o leave left h old new reported_old reported_new (views, (channels, (archive, were))) = record {
-  views = views;
-  channels = channels;
-  archive = archive;
-  standings = were.standings;
-  are = were.are;
-  text = were.wrote.text;
-  wrote = were.wrote.bytes;
-  read = channels_read laws o views (kept_of channels were.standings) were.wrote.text archive.whole.each
-      (kept_fit o views channels were.standings were.are) were.wrote.text_is;
-}
+-- what follows for a text of channels that fit is so of whatever is written of an archive
+pub each_restretching : (P : List View → List Channel → List ℕ → Type 0)
+    → ((o : Options) (h : BytesRead) (views : List View) (channels : List Channel) (ss : List Standing) (text : List ℕ)
+    → IsArchiveOf h views channels
+    → AllByRecursion (λ (c : Channel). ChannelFits o (records_in views c.0)) (kept_of channels ss)
+    → AreStretched o views (kept_of channels ss) text → P views (kept_of channels ss) text)
+    → EachRestretching (WroteFitting P)
+each_restretching P follows o leave left h old new reported_old reported_new (views, (channels, (archive, were))) =
+    let kept = were.kept in
+    record {
+      views = views;
+      channels = channels;
+      archive = archive;
+      standings = were.standings;
+      are = kept.are;
+      wrote = record {
+        text = kept.wrote.text;
+        text_is = follows o h views channels were.standings kept.wrote.text archive
+            (kept_fit o views channels were.standings kept.are) kept.wrote.text_is;
+        bytes = kept.wrote.bytes;
+        failed = kept.wrote.failed;
+      };
+    }
+
+pub stretched_back : Laws → EachRestretching IsStretchedBack
+stretched_back laws =
+    each_restretching (λ views kept text. AreChannelsReadBack views kept text)
+    (λ o h views channels ss text archive fit stretched.
+    channels_read laws o views (kept_of channels ss) text archive.whole.each fit stretched)

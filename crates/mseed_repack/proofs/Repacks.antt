@@ -2,7 +2,7 @@
 use Rattle.std.proofs.Common.{◌≡◌, ℕ, suc, ◌+◌, ◌<◌, ◌≤◌, ◌↔◌, Bool, true, ◌++◌, List, [], ◌∷◌, length, take, drop, map}
 use Rattle.std.proofs.Common.{get_or, refl, sym, ap, subst, ◌∙◌, append_assoc, arith, false, IsTrue, Option, Some, All}
 use Rattle.std.proofs.Common.{append-nil}
-use Rattle.std.specs.List.{concat, AllByRecursion}
+use Rattle.std.specs.List.{AllByRecursion}
 use Rattle.std.specs.Map.{lookup, keys_of}
 use Rattle.std.specs.Ordering.{nat_cmp, is_eq}
 use Rattle.std.specs.Cmp.Lexicographic.{slice_cmp}
@@ -81,6 +81,17 @@ first_at Before At cs i d lt before is = record {
   is_it = is;
 }
 
+-- what is written behind a text
+pub behind_text : {P Q : List ℕ → Type 0} {n : ℕ} {first old new : BytesWritten} (R : List ℕ → Type 0)
+    → Wrote P 0 first old → Wrote Q n old new
+    → ((text own : List ℕ) → P text → Q own → R (text ++ own)) → Wrote R n first new
+behind_text {first = first} R before one both = record {
+  text = before.text ++ one.text;
+  text_is = both before.text one.text before.text_is one.text_is;
+  bytes = one.bytes ∙ ap (λ (xs : List ℕ). xs ++ one.text) before.bytes ∙ append_assoc first.bytes before.text one.text;
+  failed = omega (arith, one.failed, before.failed);
+}
+
 -- the records of one more channel
 pub packed_next : (o : Options) (views : List View) (cs : List Channel) (i count : ℕ) (d : Channel)
     (first old new : BytesWritten) → i < length cs → Wrote (ArePackedInto o views (take i cs)) 0 first old
@@ -89,44 +100,34 @@ pub packed_next : (o : Options) (views : List View) (cs : List Channel) (i count
 packed_next o views cs i count d first old new lt before one =
     let next : take i cs ++ get_or cs i d ∷ [] ≡ take (i + 1) cs = sym (take-suc cs i d lt)
     ∙ ap (λ (n : ℕ). take n cs) {x = suc i} (omega arith) in
-    let records : List (List ℕ) = one.text_is.records in
-    let own = one.text_is.packed in
-    let packed : ArePackedInto o views (take i cs ++ get_or cs i d ∷ []) (before.text ++ concat records) =
-    more (take i cs) (get_or cs i d) before.text records before.text_is
-    (record { trace = own.trace; series = own.series; packing = own.packing }) in record {
-      text = before.text ++ concat records;
-      text_is = subst (λ (ds : List Channel). ArePackedInto o views ds (before.text ++ concat records)) next packed;
-      bytes = one.bytes ∙ ap (λ (xs : List ℕ). xs ++ one.text) before.bytes
-          ∙ append_assoc first.bytes before.text one.text
-          ∙ ap (λ (xs : List ℕ). first.bytes ++ (before.text ++ xs)) one.text_is.text_is;
-      failed = omega (arith, one.failed, before.failed);
-    }
+    behind_text (ArePackedInto o views (take (i + 1) cs)) before one (λ text own is its.
+    let packed = its.packed in
+    subst (λ (ds : List Channel). ArePackedInto o views ds (text ++ own)) next
+    (subst (λ (xs : List ℕ). ArePackedInto o views (take i cs ++ get_or cs i d ∷ []) (text ++ xs)) (sym its.text_is)
+    (more (take i cs) (get_or cs i d) text its.records is
+    (record { trace = packed.trace; series = packed.series; packing = packed.packing }))))
 
 -- or a part of its records
 pub part_of_next : (o : Options) (views : List View) (cs : List Channel) (i : ℕ) (d : Channel)
     (first old new : BytesWritten) → i < length cs → Wrote (ArePackedInto o views (take i cs)) 0 first old
     → Wrote (IsStretchPart o (records_in views (get_or cs i d).0)) 1 old new
     → Wrote (IsPartPacked o views cs) 1 first new
-part_of_next o views cs i d first old new lt before one = record {
-  text = before.text ++ one.text;
-  text_is = record {
-    prefix = take i cs;
-    next = get_or cs i d;
-    back = drop (suc i) cs;
-    parts = cut_at cs i d lt;
-    before = before.text;
-    packed = before.text_is;
-    trace = one.text_is.trace;
-    series = one.text_is.series;
-    records = one.text_is.further;
-    left = one.text_is.samples_left;
-    packing = one.text_is.packing;
-    taken = one.text_is.taken;
-    text_is = ap (λ (xs : List ℕ). before.text ++ xs) one.text_is.text_is;
-  };
-  bytes = one.bytes ∙ ap (λ (xs : List ℕ). xs ++ one.text) before.bytes ∙ append_assoc first.bytes before.text one.text;
-  failed = omega (arith, one.failed, before.failed);
-}
+part_of_next o views cs i d first old new lt before one =
+    behind_text (IsPartPacked o views cs) before one (λ text own is its. record {
+      prefix = take i cs;
+      next = get_or cs i d;
+      back = drop (suc i) cs;
+      parts = cut_at cs i d lt;
+      before = text;
+      packed = is;
+      trace = its.trace;
+      series = its.series;
+      records = its.further;
+      left = its.samples_left;
+      packing = its.packing;
+      taken = its.taken;
+      text_is = ap (λ (xs : List ℕ). text ++ xs) its.text_is;
+    })
 
 -- a record behind all others
 behind : (offset : ℕ) (vs : List View) (v : View)

@@ -16,11 +16,22 @@ use Rattle.mseed_pack.specs.declared.fault.PackFault.{PackFault}
 use Rattle.mseed_pack.specs.declared.options.Options.{Options}
 use Rattle.mseed_repack.specs.Repack.{Wrote}
 use Rattle.mseed_repack.specs.Restretch.{ArePackedOn, ChannelFits, ChannelMisfits, IsChannelPart}
-use Rattle.mseed_repack.specs.Restretch.{IsNumberedOn, StretchFits, StretchMisfits, more, none}
+use Rattle.mseed_repack.specs.Restretch.{IsNextStretch, IsNumberedOn, StretchFits, StretchMisfits, more, none}
 use Rattle.mseed_repack.specs.private.Restretching.{IsStretchPart, IsStretchText}
 use Rattle.mseed_repack.proofs.Cutting.{IsCut, IsNextCut, at_stretch, cut_next, each_more, inside_next}
 use Rattle.mseed_repack.proofs.Cutting.{some_cut}
 use Rattle.mseed_repack.proofs.Stretched.{fits_on, on_more, on_none}
+
+-- a stretch of so many records is the next one
+next_stretch : (rs : List RecordView) (from n : ℕ) (done : List (List View))
+    → AreStretchesUpTo (map view_of rs) done (map view_of (drop from rs)) → IsNextCut rs from n
+    → IsNextStretch (map view_of rs) done (map view_of (take n (drop from rs)))
+next_stretch rs from n done cut first = record {
+  left = map view_of (drop from rs);
+  cut = cut;
+  rest = map view_of (drop n (drop from rs));
+  first = first;
+}
 
 -- so many stretches were cut, of which each fits
 pub record IsFitSo (o : Options) (rs : List RecordView) (from number : ℕ) : Type 0 where
@@ -59,11 +70,8 @@ pub first_misfit : (o : Options) (rs : List RecordView) (from number n : ℕ) (f
 first_misfit o rs from number n fault sound h first one = record {
   sound = sound;
   before = h.cut.done;
-  left = map view_of (drop from rs);
-  cut = h.cut.cut;
   stretch = map view_of (take n (drop from rs));
-  rest = map view_of (drop n (drop from rs));
-  next = first;
+  next = next_stretch rs from n h.cut.done h.cut.cut first;
   number_is = omega (arith, h.number_is);
   fit = h.cut.each;
   misfit = one;
@@ -140,11 +148,8 @@ part_packed o rs from n next first old new h cut wrote =
       text = concat h.records ++ wrote.text;
       text_is = record {
         before = h.done;
-        left = map view_of (drop from rs);
-        cut = h.cut;
         stretch = s;
-        rest = map view_of (drop n (drop from rs));
-        next = cut;
+        next = next_stretch rs from n h.done h.cut cut;
         records = h.records;
         packed = h.packed;
         trace = one.trace;

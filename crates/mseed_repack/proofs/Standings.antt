@@ -18,7 +18,7 @@ use Rattle.mseed_repack.specs.Repack.{Channel, IsArchiveOf, IsFirst, Wrote, reco
 use Rattle.mseed_repack.specs.Restretch.{ChannelFits, ChannelMisfits, IsChannelPart, IsChannelText}
 use Rattle.mseed_repack.specs.ByStretches.{AreSound, AreStandings, AreStretched, IsFit, IsPartStretched, Stands}
 use Rattle.mseed_repack.specs.ByStretches.{TellsEach, also, further, kept_of, line_of, lines_of, nothing}
-use Rattle.mseed_repack.specs.ByStretches.{IsRestretching, silent}
+use Rattle.mseed_repack.specs.ByStretches.{IsRestretching, WroteKept, silent}
 use Rattle.mseed_repack.specs.private.Reading.{channel_in, steps_of}
 use Rattle.mseed_repack.specs.private.Restretching.{AreCut, AreLengths, AreRoomy, AreStretchesWithin}
 use Rattle.mseed_repack.specs.private.Restretching.{IsFirstRefused, IsNoMisfit}
@@ -32,7 +32,7 @@ use Rattle.mseed_repack.specs.declared.stretches_fault.StretchesFault.TheVariant
 use Rattle.mseed_repack.specs.declared.stretches_fault.StretchesFault.TheVariants.{Stream, Write}
 use Rattle.mseed_repack.proofs.Lengths.{as_many_cut, cut_at, cut_more}
 use Rattle.mseed_repack.proofs.ReadChannels.{steps_in}
-use Rattle.mseed_repack.proofs.Repacks.{first_at, says_of}
+use Rattle.mseed_repack.proofs.Repacks.{behind_text, first_at, says_of}
 
 -- one more channel
 pub standings_more : (o : Options) (views : List View) (cs : List Channel) (ss : List Standing) (c : Channel)
@@ -134,111 +134,97 @@ one_more cs ss k c s lt less size at is =
     ∙ ap (λ (t : Standing). take k ss ++ t ∷ []) (sym is))
     ∙ kept_append (take k cs) (c ∷ []) (take k ss) (s ∷ []) long
 
+-- The channels up to the next one are written, of those that fit; this is the next one, and what is found of it.
+pub record IsNextChannel (o : Options) (views : List View) (cs : List Channel) (ss : List Standing) (k : ℕ)
+    (c : Channel) (s : Standing) (first old : BytesWritten) : Type 0 where
+  pub inside : k < length cs
+  pub as_many : length ss ≡ length cs
+  pub channel_is : c ≡ get_or cs k c
+  pub standing_is : s ≡ get_or ss k s
+  pub before : Wrote (AreStretched o views (kept_of (take k cs) (take k ss))) 0 first old
+
+with_next : {o : Options} {views : List View} {cs : List Channel} {ss : List Standing} {k : ℕ} {c : Channel}
+    {s : Standing} {first old : BytesWritten} → IsNextChannel o views cs ss k c s first old
+    → kept_of (take (k + 1) cs) (take (k + 1) ss) ≡ kept_of (take k cs) (take k ss) ++ kept_of (c ∷ []) (s ∷ [])
+with_next {cs = cs} {ss = ss} {k = k} {c = c} {s = s} h =
+    one_more cs ss k c s h.inside (omega (arith, h.inside, h.as_many)) h.as_many h.channel_is h.standing_is
+
 -- a channel that is left out is passed over
-pub left_next : (o : Options) (views : List View) (cs : List Channel) (ss : List Standing) (k : ℕ) (c : Channel)
-    (s : Standing) (first old : BytesWritten) → k < length cs → length ss ≡ length cs → c ≡ get_or cs k c
-    → s ≡ get_or ss k s → kept_of (c ∷ []) (s ∷ []) ≡ []
-    → Wrote (AreStretched o views (kept_of (take k cs) (take k ss))) 0 first old
+left_next : {o : Options} {views : List View} {cs : List Channel} {ss : List Standing} {k : ℕ} {c : Channel}
+    {s : Standing} {first old : BytesWritten} → IsNextChannel o views cs ss k c s first old
+    → kept_of (c ∷ []) (s ∷ []) ≡ []
     → Wrote (AreStretched o views (kept_of (take (k + 1) cs) (take (k + 1) ss))) 0 first old
-left_next o views cs ss k c s first old lt size at is none wrote =
+left_next {o = o} {views = views} {cs = cs} {ss = ss} {k = k} {first = first} {old = old} h none =
     subst (λ (ds : List Channel). Wrote (AreStretched o views ds) 0 first old)
-    (sym (one_more cs ss k c s lt (omega (arith, lt, size)) size at is
-    ∙ ap (λ (ds : List Channel). kept_of (take k cs) (take k ss) ++ ds) none
-    ∙ append-nil (kept_of (take k cs) (take k ss)))) wrote
+    (sym (with_next h ∙ ap (λ (ds : List Channel). kept_of (take k cs) (take k ss) ++ ds) none
+    ∙ append-nil (kept_of (take k cs) (take k ss)))) h.before
 
 -- one that fits is written
-pub kept_next : (o : Options) (views : List View) (cs : List Channel) (ss : List Standing) (k : ℕ) (c : Channel)
-    (s : Standing) (first old new : BytesWritten) → k < length cs → length ss ≡ length cs → c ≡ get_or cs k c
-    → s ≡ get_or ss k s → s ≡ Fit
-    → Wrote (AreStretched o views (kept_of (take k cs) (take k ss))) 0 first old
+kept_next : {o : Options} {views : List View} {cs : List Channel} {ss : List Standing} {k : ℕ} {c : Channel}
+    {first old new : BytesWritten} → IsNextChannel o views cs ss k c Fit first old
     → Wrote (IsChannelText o (records_in views c.0)) 0 old new
     → Wrote (AreStretched o views (kept_of (take (k + 1) cs) (take (k + 1) ss))) 0 first new
-kept_next o views cs ss k c s first old new lt size at is fit before one =
-    let kept : kept_of (c ∷ []) (s ∷ []) ≡ c ∷ [] = ap (λ (t : Standing). kept_of (c ∷ []) (t ∷ [])) fit in
-    let all : kept_of (take k cs) (take k ss) ++ c ∷ [] ≡ kept_of (take (k + 1) cs) (take (k + 1) ss) =
-    ap (λ (ds : List Channel). kept_of (take k cs) (take k ss) ++ ds) (sym kept)
-    ∙ sym (one_more cs ss k c s lt (omega (arith, lt, size)) size at is) in
-    record {
-      text = before.text ++ one.text;
-      text_is = subst (λ (ds : List Channel). AreStretched o views ds (before.text ++ one.text)) all
-          (further (kept_of (take k cs) (take k ss)) c before.text one.text before.text_is one.text_is);
-      bytes = one.bytes ∙ ap (λ (xs : List ℕ). xs ++ one.text) before.bytes
-          ∙ append_assoc first.bytes before.text one.text;
-      failed = omega (arith, one.failed, before.failed);
-    }
+kept_next {o = o} {views = views} {cs = cs} {ss = ss} {k = k} {c = c} h one =
+    behind_text (AreStretched o views (kept_of (take (k + 1) cs) (take (k + 1) ss))) h.before one
+    (λ text own is its. subst (λ (ds : List Channel). AreStretched o views ds (text ++ own)) (sym (with_next h))
+    (further (kept_of (take k cs) (take k ss)) c text own is its))
 
 -- or a part of it
-pub part_next : (o : Options) (views : List View) (cs : List Channel) (ss : List Standing) (k : ℕ) (c : Channel)
-    (s : Standing) (first old new : BytesWritten) → k < length cs → length ss ≡ length cs → c ≡ get_or cs k c
-    → s ≡ get_or ss k s → s ≡ Fit
-    → Wrote (AreStretched o views (kept_of (take k cs) (take k ss))) 0 first old
+part_next : {o : Options} {views : List View} {cs : List Channel} {ss : List Standing} {k : ℕ} {c : Channel}
+    {first old new : BytesWritten} → IsNextChannel o views cs ss k c Fit first old
     → Wrote (IsChannelPart o (records_in views c.0)) 1 old new
     → Wrote (IsPartStretched o views (kept_of cs ss)) 1 first new
-part_next o views cs ss k c s first old new lt size at is fit before one =
-    let less : k < length ss = omega (arith, lt, size) in
+part_next {o = o} {views = views} {cs = cs} {ss = ss} {k = k} {c = c} h one =
+    let lt = h.inside in
+    let size = h.as_many in
     let behind : List Channel = kept_of (drop (k + 1) cs) (drop (k + 1) ss) in
-    let kept : kept_of (c ∷ []) (s ∷ []) ≡ c ∷ [] = ap (λ (t : Standing). kept_of (c ∷ []) (t ∷ [])) fit in
     let long : length (take (k + 1) ss) ≡ length (take (k + 1) cs) =
-    length-take-le (k + 1) ss (omega (arith, less)) ∙ sym (length-take-le (k + 1) cs (omega (arith, lt))) in
+    length-take-le (k + 1) ss (omega (arith, lt, size)) ∙ sym (length-take-le (k + 1) cs (omega (arith, lt))) in
     let whole : kept_of cs ss ≡ kept_of (take (k + 1) cs) (take (k + 1) ss) ++ behind =
     ap (λ (ds : List Channel). kept_of ds ss) (sym (take-append-drop (k + 1) cs))
     ∙ ap (λ (ts : List Standing). kept_of (take (k + 1) cs ++ drop (k + 1) cs) ts) (sym (take-append-drop (k + 1) ss))
     ∙ kept_append (take (k + 1) cs) (drop (k + 1) cs) (take (k + 1) ss) (drop (k + 1) ss) long in
+    behind_text (IsPartStretched o views (kept_of cs ss)) h.before one (λ text own is its.
     record {
-      text = before.text ++ one.text;
-      text_is = record {
-        prefix = kept_of (take k cs) (take k ss);
-        next = c;
-        back = behind;
-        parts = whole ∙ ap (λ (ds : List Channel). ds ++ behind) (one_more cs ss k c s lt less size at is
-            ∙ ap (λ (ds : List Channel). kept_of (take k cs) (take k ss) ++ ds) kept)
-            ∙ append_assoc (kept_of (take k cs) (take k ss)) (c ∷ []) behind;
-        before = before.text;
-        packed = before.text_is;
-        own = one.text;
-        part = one.text_is;
-        text_is = refl;
-      };
-      bytes = one.bytes ∙ ap (λ (xs : List ℕ). xs ++ one.text) before.bytes
-          ∙ append_assoc first.bytes before.text one.text;
-      failed = omega (arith, one.failed, before.failed);
-    }
+      prefix = kept_of (take k cs) (take k ss);
+      next = c;
+      back = behind;
+      parts = whole ∙ ap (λ (ds : List Channel). ds ++ behind) (with_next h)
+          ∙ append_assoc (kept_of (take k cs) (take k ss)) (c ∷ []) behind;
+      before = text;
+      packed = is;
+      own = own;
+      part = its;
+      text_is = refl;
+    })
 
 -- nothing is written of one that is left out
-same_written : (P : List ℕ → Type 0) (first old new : BytesWritten) → Wrote P 0 first old
+same_written : {P : List ℕ → Type 0} {first old new : BytesWritten} → Wrote P 0 first old
     → Wrote (λ (text : List ℕ). text ≡ []) 0 old new → Wrote P 0 first new
-same_written P first old new before one = record {
+same_written {old = old} before one = record {
   text = before.text;
   text_is = before.text_is;
   bytes = one.bytes ∙ ap (λ (xs : List ℕ). old.bytes ++ xs) one.text_is ∙ append-nil old.bytes ∙ before.bytes;
   failed = omega (arith, one.failed, before.failed);
 }
 
-pub kept_step : (o : Options) (views : List View) (cs : List Channel) (ss : List Standing) (k : ℕ) (c : Channel)
-    (s : Standing) (first old new : BytesWritten) → k < length cs → length ss ≡ length cs → c ≡ get_or cs k c
-    → s ≡ get_or ss k s → Wrote (AreStretched o views (kept_of (take k cs) (take k ss))) 0 first old
+pub kept_step : {o : Options} {views : List View} {cs : List Channel} {ss : List Standing} {k : ℕ} {c : Channel}
+    {first old new : BytesWritten} (s : Standing) → IsNextChannel o views cs ss k c s first old
     → Wrote (IsTextIfFit o (channel_in c.0 views) s) 0 old new
     → Wrote (AreStretched o views (kept_of (take (k + 1) cs) (take (k + 1) ss))) 0 first new
-kept_step o views cs ss k c Fit first old new lt size at is before one =
-    kept_next o views cs ss k c Fit first old new lt size at is refl before
-    (subst (λ (vs : List View). Wrote (IsChannelText o vs) 0 old new) (sym (views_are c.0 views)) one)
-kept_step o views cs ss k c Broken first old new lt size at is before one =
-    same_written (AreStretched o views (kept_of (take (k + 1) cs) (take (k + 1) ss))) first old new
-    (left_next o views cs ss k c Broken first old lt size at is refl before) one
-kept_step o views cs ss k c (Misfit n f) first old new lt size at is before one =
-    same_written (AreStretched o views (kept_of (take (k + 1) cs) (take (k + 1) ss))) first old new
-    (left_next o views cs ss k c (Misfit n f) first old lt size at is refl before) one
+kept_step {o = o} {views = views} {c = c} {old = old} {new = new} Fit h one =
+    kept_next h (subst (λ (vs : List View). Wrote (IsChannelText o vs) 0 old new) (sym (views_are c.0 views)) one)
+kept_step Broken h one = same_written (left_next h refl) one
+kept_step (Misfit n f) h one = same_written (left_next h refl) one
 
-pub part_step : (o : Options) (views : List View) (cs : List Channel) (ss : List Standing) (k : ℕ) (c : Channel)
-    (s : Standing) (first old new : BytesWritten) → k < length cs → length ss ≡ length cs → c ≡ get_or cs k c
-    → s ≡ get_or ss k s → Wrote (AreStretched o views (kept_of (take k cs) (take k ss))) 0 first old
+pub part_step : {o : Options} {views : List View} {cs : List Channel} {ss : List Standing} {k : ℕ} {c : Channel}
+    {first old new : BytesWritten} (s : Standing) → IsNextChannel o views cs ss k c s first old
     → Wrote (IsPartIfFit o (channel_in c.0 views) s) 1 old new
     → Wrote (IsPartStretched o views (kept_of cs ss)) 1 first new
-part_step o views cs ss k c Fit first old new lt size at is before one =
-    part_next o views cs ss k c Fit first old new lt size at is refl before
-    (subst (λ (vs : List View). Wrote (IsChannelPart o vs) 1 old new) (sym (views_are c.0 views)) one)
-part_step o views cs ss k c Broken first old new lt size at is before one = absurd one.text_is
-part_step o views cs ss k c (Misfit n f) first old new lt size at is before one = absurd one.text_is
+part_step {o = o} {views = views} {c = c} {old = old} {new = new} Fit h one =
+    part_next h (subst (λ (vs : List View). Wrote (IsChannelPart o vs) 1 old new) (sym (views_are c.0 views)) one)
+part_step Broken h one = absurd one.text_is
+part_step (Misfit n f) h one = absurd one.text_is
 
 pub kept_none : (o : Options) (views : List View) (cs : List Channel) (ss : List Standing) (s : BytesWritten)
     → Wrote (AreStretched o views (kept_of (take 0 cs) (take 0 ss))) 0 s s
@@ -257,6 +243,14 @@ all_kept o views cs ss k first new le size wrote =
     subst (λ (ds : List Channel). Wrote (AreStretched o views ds) 0 first new)
     (ap (λ (ds : List Channel). kept_of ds (take k ss)) (take_all k cs le)
     ∙ ap (λ (ts : List Standing). kept_of cs ts) (take_all k ss (omega (arith, le, size)))) wrote
+
+-- what was written of the channels that fit, and reported of the others
+pub wrote_kept : {P : List Channel → List ℕ → Type 0} {failures : ℕ} {o : Options} {leave : Bool} {views : List View}
+    {cs : List Channel} {ss : List Standing} {old new reported_old reported_new : BytesWritten}
+    → AreStandings o views cs ss → (leave ≡ false → AllByRecursion IsFit ss)
+    → TellsEach (lines_of cs ss) reported_old reported_new → Wrote (P (kept_of cs ss)) failures old new
+    → WroteKept P failures o leave views cs ss old new reported_old reported_new
+wrote_kept are whole reported wrote = record { are = are; whole = whole; reported = reported; wrote = wrote }
 
 -- channels of which none is broken, and of which each fits
 
@@ -514,22 +508,16 @@ cut_for o views cs ss ls k c d ns all cut lt at fit =
     (ap (λ (e : Channel). records_in views e.0) (sym at) ∙ views_are c.0 views)
     (cut_at views cs ss ls k c d ns lt size cut fit)
 
-pub kept_at : (o : Options) (views : List View) (cs : List Channel) (ss : List Standing) (k : ℕ) (c : Channel)
-    (d : Standing) (first old new : BytesWritten) → k < length cs → AreStandings o views cs ss → c ≡ get_or cs k c
+pub channel_at : {o : Options} {views : List View} {cs : List Channel} {ss : List Standing} {k : ℕ} {c : Channel}
+    {first old : BytesWritten} (d : Standing) → k < length cs → AreStandings o views cs ss → c ≡ get_or cs k c
     → Wrote (AreStretched o views (kept_of (take k cs) (take k ss))) 0 first old
-    → Wrote (IsTextIfFit o (channel_in c.0 views) (get_or ss k d)) 0 old new
-    → Wrote (AreStretched o views (kept_of (take (k + 1) cs) (take (k + 1) ss))) 0 first new
-kept_at o views cs ss k c d first old new lt all at before one =
+    → IsNextChannel o views cs ss k c (get_or ss k d) first old
+channel_at {o = o} {views = views} {cs = cs} {ss = ss} {k = k} d lt all at before =
     let size = as_many o views cs ss all in
-    kept_step o views cs ss k c (get_or ss k d) first old new lt size at (here_is ss k d (omega (arith, lt, size)))
-    before one
-
-pub part_at : (o : Options) (views : List View) (cs : List Channel) (ss : List Standing) (k : ℕ) (c : Channel)
-    (d : Standing) (first old new : BytesWritten) → k < length cs → AreStandings o views cs ss → c ≡ get_or cs k c
-    → Wrote (AreStretched o views (kept_of (take k cs) (take k ss))) 0 first old
-    → Wrote (IsPartIfFit o (channel_in c.0 views) (get_or ss k d)) 1 old new
-    → Wrote (IsPartStretched o views (kept_of cs ss)) 1 first new
-part_at o views cs ss k c d first old new lt all at before one =
-    let size = as_many o views cs ss all in
-    part_step o views cs ss k c (get_or ss k d) first old new lt size at (here_is ss k d (omega (arith, lt, size)))
-    before one
+    record {
+      inside = lt;
+      as_many = size;
+      channel_is = at;
+      standing_is = here_is ss k d (omega (arith, lt, size));
+      before = before;
+    }

@@ -1,6 +1,6 @@
 -- What was written of an archive by stretches is an archive, channel behind channel.
 use Rattle.std.specs.Prelude.{⊤}
-use Rattle.std.proofs.Common.{◌≡◌, ◌≢◌, ℕ, List, [], ◌∷◌, ◌++◌, Bool, true, false, IsTrue, Ok, refl, sym, ap, subst}
+use Rattle.std.proofs.Common.{◌≡◌, ◌≢◌, ℕ, List, [], ◌∷◌, ◌++◌, Bool, true, false, IsTrue, refl, sym, ap, subst}
 use Rattle.std.proofs.Common.{◌∙◌}
 use Rattle.std.proofs.Common.{append_assoc, append-nil, cond}
 use Rattle.std.specs.List.{AllByRecursion, concat, filter}
@@ -13,22 +13,21 @@ use Rattle.std.proofs.lemmas.List.Elements.{filter-append}
 use Rattle.std.proofs.lemmas.List.Folds.{concat-append}
 use Rattle.mseed_record.specs.Header.{key_at}
 use Rattle.mseed_record.specs.View.{View, IsView}
-use Rattle.mseed_stream.specs.Device.{BytesRead, BytesWritten}
+use Rattle.mseed_stream.specs.Device.{BytesRead}
 use Rattle.mseed_stream.specs.Walk.{bytes_in}
 use Rattle.mseed_audit.specs.Channels.{is_of}
 use Rattle.mseed_audit.proofs.Behind.{views_are}
 use Rattle.mseed_pack.specs.declared.options.Options.{Options}
 use Rattle.mseed_pack.proofs.Archived.{all_kept, key_of}
 use Rattle.mseed_pack.proofs.Traced.{kept_views}
-use Rattle.mseed_repack.specs.Borders.{IsStretchedArchive, KeepsBorders}
-use Rattle.mseed_repack.specs.ByStretches.{AreStretched, IsRestretching, further, kept_of, nothing}
-use Rattle.mseed_repack.specs.Repack.{Channel, records_in}
+use Rattle.mseed_repack.specs.Borders.{IsArchiveKept, IsStretchedArchive, KeepsBorders}
+use Rattle.mseed_repack.specs.ByStretches.{AreStretched, EachRestretching, further, kept_of, nothing}
+use Rattle.mseed_repack.specs.Repack.{Channel, IsArchiveOf, records_in}
 use Rattle.mseed_repack.specs.Restretch.{ChannelFits}
-use Rattle.mseed_repack.specs.declared.refusing.Left.{Left}
 use Rattle.mseed_repack.specs.declared.standing.Standing.{Standing}
 use Rattle.mseed_repack.specs.declared.standing.Standing.TheVariants.{Fit, Broken, Misfit}
 use Rattle.mseed_repack.proofs.Bordered.{Layers, own_of}
-use Rattle.mseed_repack.proofs.ChannelReadBack.{each_at_back, each_in_leading, kept_fit}
+use Rattle.mseed_repack.proofs.ChannelReadBack.{each_at_back, each_in_leading, each_restretching}
 use Rattle.mseed_repack.proofs.ReadBack.{all_records, none_further, others_by}
 
 -- The views of what was written of each channel, one channel's behind another's.
@@ -211,26 +210,17 @@ in_records views written (c ∷ cs) h = (
   in_records views written cs h.1,
 )
 
-pub stretched_archive : Layers → (o : Options) (leave : Bool) (left : Left) (h : BytesRead)
-    (old new reported_old reported_new : BytesWritten)
-    → IsRestretching o leave (Ok left) h old new reported_old reported_new
-    → IsStretchedArchive o h old new
-stretched_archive laws o leave left h old new reported_old reported_new (views, (channels, (archive, were))) =
-    let kept : List Channel = kept_of channels were.standings in
-    let all = all_of laws o views kept were.wrote.text archive.whole.each
-    (kept_fit o views channels were.standings were.are) were.wrote.text_is in
+archive_kept : Layers → (o : Options) (h : BytesRead) (views : List View) (channels : List Channel)
+    (ss : List Standing) (text : List ℕ) → IsArchiveOf h views channels
+    → AllByRecursion (λ (c : Channel). ChannelFits o (records_in views c.0)) (kept_of channels ss)
+    → AreStretched o views (kept_of channels ss) text → IsArchiveKept views (kept_of channels ss) text
+archive_kept laws o h views channels ss text archive fit stretched =
+    let kept : List Channel = kept_of channels ss in
+    let all = all_of laws o views kept text archive.whole.each fit stretched in
     let written : List View = all.0 in
     let each : AllByRecursion IsView written = each_view views kept written all.1.0 in
-    let apart : AreDistinct kept =
-    distinct_kept channels were.standings (distinct channels archive.verdicts.ascending) in
+    let apart : AreDistinct kept = distinct_kept channels ss (distinct channels archive.verdicts.ascending) in
     record {
-      views = views;
-      channels = channels;
-      archive = archive;
-      standings = were.standings;
-      are = were.are;
-      text = were.wrote.text;
-      wrote = were.wrote.bytes;
       written = written;
       read = record {
         joined = sym all.1.1 ∙ sym (append-nil (concat (bytes_in written)));
@@ -241,3 +231,9 @@ stretched_archive laws o leave left h old new reported_old reported_new (views, 
       others = λ key others. views_are key written ∙ none_among views key kept written all.1.0 others;
       borders = in_records views written kept (each_keeps views kept [] written all.1.0 apart (none_yet kept));
     }
+
+pub stretched_archive : Layers → EachRestretching IsStretchedArchive
+stretched_archive laws =
+    each_restretching (λ views kept text. IsArchiveKept views kept text)
+    (λ o h views channels ss text archive fit stretched.
+    archive_kept laws o h views channels ss text archive fit stretched)

@@ -15,9 +15,8 @@ use Rattle.mseed_audit.specs.declared.finding.Why.TheVariants.{Gap, Overlap}
 use Rattle.mseed_stretches.specs.Stretches.{samples_of}
 use Rattle.mseed_pack.specs.ReadBack.{AreViewsOf}
 use Rattle.mseed_pack.specs.declared.options.Options.{Options}
-use Rattle.mseed_repack.specs.Repack.{Channel, IsArchiveOf, records_in}
-use Rattle.mseed_repack.specs.ByStretches.{AreStandings, kept_of}
-use Rattle.mseed_repack.specs.declared.standing.Standing.{Standing}
+use Rattle.mseed_repack.specs.ByStretches.{WroteFitting}
+use Rattle.mseed_repack.specs.Repack.{Channel, records_in}
 
 -- The next record has the same rate, and misses this one's end, with its leap second put in, by so many microseconds
 -- times num: positive where it is late.
@@ -73,20 +72,15 @@ pub record KeepsBorders (vs written : List View) : Type 0 where
   pub overlap : (leading : List View) (b v : View) (back : List View) → vs ≡ leading ++ b ∷ (v ∷ back) → Overlaps b v
       → IsFoundBehind (λ us. Overlap us) (samples_of (leading ++ b ∷ [])) (start_of v) written
 
--- What was written of an archive by stretches is an archive, of the channels that fit and no others: and so is what was
--- written of each of them.
-pub record IsStretchedArchive (o : Options) (h : BytesRead) (old new : BytesWritten) : Type 0 where
-  pub views : List View
-  pub channels : List Channel
-  pub archive : IsArchiveOf h views channels
-  pub standings : List Standing
-  pub are : AreStandings o views channels standings
-  pub text : List ℕ
-  pub wrote : new.bytes ≡ old.bytes ++ text
+-- the text is an archive of these channels and no others, and keeps the borders of each
+pub record IsArchiveKept (views : List View) (kept : List Channel) (text : List ℕ) : Type 0 where
   pub written : List View
   pub read : IsArchive text (bytes_in written) []
   pub each : AllByRecursion IsView written
-  pub others : (key : List ℕ) → AllByRecursion (λ (c : Channel). c.0 ≢ key) (kept_of channels standings)
-      → records_in written key ≡ []
-  pub borders : AllByRecursion (λ (c : Channel). KeepsBorders (records_in views c.0) (records_in written c.0))
-      (kept_of channels standings)
+  pub others : (key : List ℕ) → AllByRecursion (λ (c : Channel). c.0 ≢ key) kept → records_in written key ≡ []
+  pub borders : AllByRecursion (λ (c : Channel). KeepsBorders (records_in views c.0) (records_in written c.0)) kept
+
+-- What was written of an archive by stretches is an archive, of the channels that fit and no others: and so is what was
+-- written of each of them.
+abbrev pub IsStretchedArchive : Options → BytesRead → BytesWritten → BytesWritten → Type 0
+IsStretchedArchive o h old new = WroteFitting (λ views kept text. IsArchiveKept views kept text) o h old new

@@ -6,14 +6,14 @@ use Rattle.mseed_record.specs.View.{View}
 use Rattle.mseed_stream.specs.Device.{BytesRead, BytesWritten}
 use Rattle.mseed_stream.specs.Telling.{Tells}
 use Rattle.mseed_stream.specs.declared.fault.StreamFault.{StreamFault}
-use Rattle.mseed_stream.specs.declared.fault.StreamFault.TheVariants.{Frame, Truncated, Read, Turns, Memory as NoMemory}
+use Rattle.mseed_stream.specs.declared.fault.StreamFault.TheVariants.{Memory as NoMemory}
 use Rattle.mseed_audit.specs.Follows.{IsSound}
 use Rattle.mseed_audit.specs.Text.{name_text}
 use Rattle.mseed_pack.specs.declared.fault.PackFault.{PackFault}
 use Rattle.mseed_pack.specs.declared.fault.PackFault.TheVariants.{Empty, RateTooHigh, TimeOutOfRange, SampleTooLarge}
 use Rattle.mseed_pack.specs.declared.fault.PackFault.TheVariants.{DifferenceTooLarge, Write as WriteFailed}
 use Rattle.mseed_pack.specs.declared.options.Options.{Options}
-use Rattle.mseed_repack.specs.Repack.{Channel, Exists, IsArchiveOf, IsFirst, IsUnread, Wrote, records_in}
+use Rattle.mseed_repack.specs.Repack.{Channel, Exists, IsArchiveOf, IsFirst, IsUnread, Wrote, input_fault, records_in}
 use Rattle.mseed_repack.specs.Restretch.{ChannelFits, ChannelMisfits, IsChannelPart, IsChannelText}
 use Rattle.mseed_repack.specs.declared.refusing.Left.{Left}
 use Rattle.mseed_repack.specs.declared.refusing.Left.TheVariants.{Nothing, Broken as LeftBroken, Misfit as LeftMisfit}
@@ -64,13 +64,9 @@ pub record IsPartStretched (o : Options) (views : List View) (channels : List Ch
   pub part : IsChannelPart o (records_in views next.0) own
   pub text_is : text ≡ before ++ own
 
--- a fault of the input; a want of memory is none
+-- a fault of the input, or refused memory
 abbrev pub stretches_fault : StreamFault → StretchesFault
-stretches_fault (Frame n f) = Stream (Frame n f)
-stretches_fault (Truncated n have) = Stream (Truncated n have)
-stretches_fault (Read n) = Stream (Read n)
-stretches_fault (Turns n) = Stream (Turns n)
-stretches_fault NoMemory = Memory
+stretches_fault fault = input_fault (λ f. Stream f) Memory fault
 
 -- each record of each channel is sound
 abbrev pub AreSound : List View → List Channel → Type 0
@@ -128,25 +124,28 @@ pub data TellsEach : List (List ℕ) → BytesWritten → BytesWritten → Type 
   also : (lines : List (List ℕ)) (line : List ℕ) (old between new : BytesWritten) → TellsEach lines old between
       → Tells line between new → TellsEach (lines ++ line ∷ []) old new
 
--- What was written by stretches: of each channel that fits its stretches' records; and the others were reported, unless
--- there was to be none.
-pub record WereStretched (o : Options) (leave : Bool) (views : List View) (channels : List Channel) (left : Left)
+-- Of the channels that fit a text was written of which this is so; and the others were reported, unless there was to be
+-- none.
+pub record WroteKept (P : List Channel → List ℕ → Type 0) (failures : ℕ) (o : Options) (leave : Bool)
+    (views : List View) (channels : List Channel) (standings : List Standing)
     (old new reported_old reported_new : BytesWritten) : Type 0 where
-  pub standings : List Standing
   pub are : AreStandings o views channels standings
   pub whole : leave ≡ false → AllByRecursion IsFit standings
   pub reported : TellsEach (lines_of channels standings) reported_old reported_new
-  pub wrote : Wrote (AreStretched o views (kept_of channels standings)) 0 old new
+  pub wrote : Wrote (P (kept_of channels standings)) failures old new
+
+-- What was written by stretches: of each channel that fits its stretches' records.
+pub record WereStretched (o : Options) (leave : Bool) (views : List View) (channels : List Channel) (left : Left)
+    (old new reported_old reported_new : BytesWritten) : Type 0 where
+  pub standings : List Standing
+  pub kept : WroteKept (AreStretched o views) 0 o leave views channels standings old new reported_old reported_new
   pub left_is : left ≡ left_of standings
 
 -- the same, where the output failed
 pub record WereStretchedInPart (o : Options) (leave : Bool) (views : List View) (channels : List Channel)
     (old new reported_old reported_new : BytesWritten) : Type 0 where
   pub standings : List Standing
-  pub are : AreStandings o views channels standings
-  pub whole : leave ≡ false → AllByRecursion IsFit standings
-  pub reported : TellsEach (lines_of channels standings) reported_old reported_new
-  pub wrote : Wrote (IsPartStretched o views (kept_of channels standings)) 1 old new
+  pub kept : WroteKept (IsPartStretched o views) 1 o leave views channels standings old new reported_old reported_new
 
 -- What packing anew by stretches comes to. Where the input is a whole archive, the channels are written of which each
 -- record is sound and each stretch can be packed, and the others are reported, or else the archive is refused for the
@@ -172,3 +171,19 @@ IsRestretching o leave (Err Write) h old new reported_old reported_new =
     Exists (λ views channels. IsArchiveOf h views channels
     × WereStretchedInPart o leave views channels old new reported_old reported_new)
 IsRestretching o leave (Err Memory) h old new reported_old reported_new = (new ≡ old) × (reported_new ≡ reported_old)
+
+-- Of an archive the channels that fit were written, as a text of which this is so.
+pub record WroteFitting (P : List View → List Channel → List ℕ → Type 0) (o : Options) (h : BytesRead)
+    (old new : BytesWritten) : Type 0 where
+  pub views : List View
+  pub channels : List Channel
+  pub archive : IsArchiveOf h views channels
+  pub standings : List Standing
+  pub are : AreStandings o views channels standings
+  pub wrote : Wrote (P views (kept_of channels standings)) 0 old new
+
+-- this is so of whatever an archive was packed into by stretches
+abbrev pub EachRestretching : (Options → BytesRead → BytesWritten → BytesWritten → Type 0) → Type 0
+EachRestretching P =
+    (o : Options) (leave : Bool) (left : Left) (read : BytesRead) (old new reported_old reported_new : BytesWritten)
+    → IsRestretching o leave (Ok left) read old new reported_old reported_new → P o read old new

@@ -22,13 +22,16 @@ use Rattle.mseed_pack.specs.declared.options.Options.{Options}
 use Rattle.mseed_repack.specs.declared.fault.RepackFault.{RepackFault}
 use Rattle.mseed_repack.specs.declared.fault.RepackFault.TheVariants.{Stream, Broken, Misfit, Write, Memory}
 
--- a fault of the input; a want of memory is none
+-- a fault of the input, or refused memory, which is none of the input's
+abbrev pub input_fault : {F : Type 0} → (StreamFault → F) → F → StreamFault → F
+input_fault stream memory (Frame n f) = stream (Frame n f)
+input_fault stream memory (Truncated n have) = stream (Truncated n have)
+input_fault stream memory (Read n) = stream (Read n)
+input_fault stream memory (Turns n) = stream (Turns n)
+input_fault stream memory NoMemory = memory
+
 abbrev pub stream_fault : StreamFault → RepackFault
-stream_fault (Frame n f) = Stream (Frame n f)
-stream_fault (Truncated n have) = Stream (Truncated n have)
-stream_fault (Read n) = Stream (Read n)
-stream_fault (Turns n) = Stream (Turns n)
-stream_fault NoMemory = Memory
+stream_fault fault = input_fault (λ f. Stream f) Memory fault
 
 -- a channel of an archive: its key, and the verdict on it
 abbrev pub Channel : Type 0

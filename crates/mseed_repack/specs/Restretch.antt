@@ -58,14 +58,18 @@ pub record IsChannelText (o : Options) (vs : List View) (text : List ℕ) : Type
   pub packed : IsChannelPacked o vs records
   pub text_is : text ≡ concat records
 
+-- behind some stretches of a channel this is the next one
+pub record IsNextStretch (vs : List View) (before : List (List View)) (stretch : List View) : Type 0 where
+  pub left : List View
+  pub cut : AreStretchesUpTo vs before left
+  pub rest : List View
+  pub first : IsFirstStretch left stretch rest
+
 -- the text is the records of a channel's first stretches, and a part of those of the next one
 pub record IsChannelPart (o : Options) (vs : List View) (text : List ℕ) : Type 0 where
   pub before : List (List View)
-  pub left : List View
-  pub cut : AreStretchesUpTo vs before left
   pub stretch : List View
-  pub rest : List View
-  pub next : IsFirstStretch left stretch rest
+  pub next : IsNextStretch vs before stretch
   pub records : List (List ℕ)
   pub packed : ArePackedOn o before records
   pub trace : Trace
@@ -89,11 +93,8 @@ pub record ChannelFits (o : Options) (vs : List View) : Type 0 where
 pub record ChannelMisfits (o : Options) (number : ℕ) (fault : PackFault) (vs : List View) : Type 0 where
   pub sound : AllByRecursion IsSound vs
   pub before : List (List View)
-  pub left : List View
-  pub cut : AreStretchesUpTo vs before left
   pub stretch : List View
-  pub rest : List View
-  pub next : IsFirstStretch left stretch rest
+  pub next : IsNextStretch vs before stretch
   pub number_is : number ≡ length before + 1
   pub fit : AllByRecursion (StretchFits o) before
   pub misfit : StretchMisfits o fault stretch

@@ -8,10 +8,9 @@ use Rattle.mseed_audit.specs.Series.{Trace, AreJoined, IsSeriesOf}
 use Rattle.mseed_stretches.specs.Stretches.{AllStayNear, AreStretches}
 use Rattle.mseed_stream.specs.Device.{BytesRead, BytesWritten}
 use Rattle.mseed_pack.specs.ReadBack.{ReadsAs}
-use Rattle.mseed_repack.specs.Repack.{Channel, IsArchiveOf, records_in}
 use Rattle.mseed_pack.specs.declared.options.Options.{Options}
-use Rattle.mseed_repack.specs.ByStretches.{AreStandings, kept_of}
-use Rattle.mseed_repack.specs.declared.standing.Standing.{Standing}
+use Rattle.mseed_repack.specs.ByStretches.{WroteFitting}
+use Rattle.mseed_repack.specs.Repack.{Channel, records_in}
 
 -- by its first record's clock, no sample of a stretch stands further than a quarter of its period from where its own
 -- record has it
@@ -49,12 +48,5 @@ pub data AreChannelsReadBack (views : List View) : List Channel → List ℕ →
       → AreChannelsReadBack views (cs ++ c ∷ []) (text ++ concat records)
 
 -- What was written of an archive by stretches reads back: of the channels that fit, each in its place.
-pub record IsStretchedBack (o : Options) (h : BytesRead) (old new : BytesWritten) : Type 0 where
-  pub views : List View
-  pub channels : List Channel
-  pub archive : IsArchiveOf h views channels
-  pub standings : List Standing
-  pub are : AreStandings o views channels standings
-  pub text : List ℕ
-  pub wrote : new.bytes ≡ old.bytes ++ text
-  pub read : AreChannelsReadBack views (kept_of channels standings) text
+abbrev pub IsStretchedBack : Options → BytesRead → BytesWritten → BytesWritten → Type 0
+IsStretchedBack o h old new = WroteFitting (λ views kept text. AreChannelsReadBack views kept text) o h old new

@@ -1,5 +1,5 @@
 //! Laws of packing an archive anew.
-ghost use Rattle.std.specs.Prelude.{⊤, ◌≡◌, ◌≢◌, ◌∷◌, ◌++◌, Bool, ℕ, List, [], Result, Ok};
+ghost use Rattle.std.specs.Prelude.{⊤, ◌≡◌, ◌≢◌, ◌∷◌, ◌++◌, ℕ, List, [], Result, Ok};
 ghost use Rattle.std.specs.List.{AllByRecursion};
 ghost use Rattle.mseed_record.specs.View.{View, IsView, start_of};
 ghost use Rattle.mseed_audit.specs.Follows.{AllNeighbours, IsContinuous};
@@ -11,11 +11,10 @@ ghost use Rattle.mseed_repack.specs.OneRepacking.{ComeToOne};
 ghost use Rattle.mseed_repack.specs.ReadBack.{IsReadBack};
 ghost use Rattle.mseed_repack.specs.Borders.{AreReadAs, IsClose, IsFoundBehind, IsStretchedArchive, LeavesGap};
 ghost use Rattle.mseed_repack.specs.Borders.{Overlaps};
-ghost use Rattle.mseed_repack.specs.ByStretches.{AreStretched, IsRestretching};
+ghost use Rattle.mseed_repack.specs.ByStretches.{AreStretched, EachRestretching};
 ghost use Rattle.mseed_repack.specs.Repack.{Channel, IsRepacking};
 ghost use Rattle.mseed_repack.specs.Restretch.{ChannelFits, IsChannelPacked};
 ghost use Rattle.mseed_repack.specs.StretchesReadBack.{IsChannelReadBack, IsStretchedBack};
-ghost use Rattle.mseed_repack.specs.declared.refusing.Left.{Left};
 ghost use Rattle.mseed_repack.specs.declared.fault.RepackFault.{RepackFault};
 
 use mseed_audit::{continuous_exactly, one_list_of_verdicts, one_series};
@@ -73,9 +72,7 @@ pub fn stretches_read_back()
     ensures channel { (o : Options) (vs : List View) (records : List (List ℕ)) → AllByRecursion IsView vs
         → ChannelFits o vs → IsChannelPacked o vs records → IsChannelReadBack vs records }
     // And what is written of an archive: of each channel that fits, in its place.
-    ensures archive { (o : Options) (leave : Bool) (left : Left) (read : BytesRead)
-        (old new reported_old reported_new : BytesWritten)
-        → IsRestretching o leave (Ok left) read old new reported_old reported_new → IsStretchedBack o read old new }
+    ensures archive { EachRestretching IsStretchedBack }
 {
     reads_back();
     one_series();
@@ -105,9 +102,7 @@ pub fn borders_are_kept()
         → vs ≡ leading ++ b ∷ (v ∷ back) → Overlaps b v
         → AreReadAs (IsFoundBehind (λ us. Overlap us) (samples_of (leading ++ b ∷ [])) (start_of v)) records }
     // What is written of an archive is an archive of the channels that fit, and so is each of them in it.
-    ensures archive { (o : Options) (leave : Bool) (left : Left) (read : BytesRead)
-        (old new reported_old reported_new : BytesWritten)
-        → IsRestretching o leave (Ok left) read old new reported_old reported_new → IsStretchedArchive o read old new }
+    ensures archive { EachRestretching IsStretchedArchive }
 {
     header_reads_back();
     packed_spells();

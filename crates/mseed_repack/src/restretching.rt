@@ -5,11 +5,10 @@ ghost use Rattle.mseed_stream.specs.Device.{nothing_read};
 ghost use Rattle.mseed_audit.specs.Channels.{added_from};
 ghost use Rattle.mseed_audit.specs.Verdict.{AreVerdicts};
 ghost use Rattle.mseed_repack.specs.private.Archives.{HasRoomForTrail, HasRoomForRecords, IsAudited, records_on};
-ghost use Rattle.mseed_repack.specs.private.Restretching.{AreCut, AreLengths, AreRoomy, AreStretchesWithin};
+ghost use Rattle.mseed_repack.specs.private.Restretching.{AreLengths, AreReady, AreStretchesWithin};
 ghost use Rattle.mseed_repack.specs.private.Restretching.{IsPartIfFit, IsTextIfFit, PacksByStretches};
 ghost use Rattle.mseed_repack.specs.Repack.{Wrote};
-ghost use Rattle.mseed_repack.specs.ByStretches.{AreStandings, AreStretched, IsPartStretched, IsRestretching};
-ghost use Rattle.mseed_repack.specs.ByStretches.{Stands, kept_of};
+ghost use Rattle.mseed_repack.specs.ByStretches.{AreStretched, IsPartStretched, IsRestretching, Stands, kept_of};
 ghost use Rattle.mseed_repack.specs.declared.standing.Standing.{Standing};
 
 use crate::archive::{Archive, Trail};
@@ -180,13 +179,8 @@ fn restretch_standing<'a, A: Allocator, W: Sink, E: Sink>(
     output: &mut W,
     errors: &mut E,
 ) -> Result<Left, StretchesFault>
-    requires places { HasRoomForRecords archive.now (length records.old) (length steps.old) }
-    requires standings { AreStandings options.now (map view_of archive.now.views.now) archive.now.channels.now
-        standings.now }
-    requires cut { AreCut (map view_of archive.now.views.now) archive.now.channels.now standings.now
-        (map (λ own. own.items) lengths.now) }
-    requires samples_fit { AreRoomy (length samples.old) (map view_of archive.now.views.now)
-        archive.now.channels.now standings.now }
+    requires { AreReady options.now archive.now standings.now (map (λ own. own.items) lengths.now)
+        (length records.old) (length samples.old) (length steps.old) }
     ensures { PacksByStretches result options.now leave (map view_of archive.now.views.now) archive.now.channels.now
         (W.written output.old) (W.written output.new) (E.written errors.old) (E.written errors.new) }
 {
@@ -213,13 +207,8 @@ fn pack_kept<'a, A: Allocator, W: Sink>(
     steps: &mut [(u64, LeapStep)],
     output: &mut W,
 ) -> Result<(), Failed>
-    requires places { HasRoomForRecords archive.now (length records.old) (length steps.old) }
-    requires standings { AreStandings options.now (map view_of archive.now.views.now) archive.now.channels.now
-        standings.now }
-    requires cut { AreCut (map view_of archive.now.views.now) archive.now.channels.now standings.now
-        (map (λ own. own.items) lengths.now) }
-    requires samples_fit { AreRoomy (length samples.old) (map view_of archive.now.views.now)
-        archive.now.channels.now standings.now }
+    requires { AreReady options.now archive.now standings.now (map (λ own. own.items) lengths.now)
+        (length records.old) (length samples.old) (length steps.old) }
     ensures ok { OnOk result (Wrote (AreStretched options.now (map view_of archive.now.views.now)
         (kept_of archive.now.channels.now standings.now)) 0 (W.written output.old) (W.written output.new)) }
     ensures err { IfErr result (λ _. Wrote (IsPartStretched options.now (map view_of archive.now.views.now)

@@ -1,9 +1,10 @@
 -- What the steps of packing a channel by its stretches know.
-use Rattle.std.specs.Prelude.{Bool, false, ⊤, ◌≡◌, ℕ, ◌≤◌, ◌^◌, ℤ, List, [], ◌∷◌, length, take, drop}
+use Rattle.std.specs.Prelude.{Bool, false, ⊤, ◌≡◌, ℕ, ◌≤◌, ◌^◌, ℤ, List, [], ◌∷◌, length, map, take, drop}
 use Rattle.std.specs.Prelude.{Result, IfOk, IfErr}
 use Rattle.std.specs.List.{concat, AllByRecursion}
 use Rattle.mseed_time.specs.declared.outcome.LeapStep.{LeapStep}
 use Rattle.mseed_record.specs.View.{View}
+use Rattle.mseed_record.specs.Viewing.{view_of}
 use Rattle.mseed_stream.specs.Device.{BytesWritten}
 use Rattle.mseed_audit.specs.Follows.{IsSound}
 use Rattle.mseed_audit.specs.Series.{Trace, IsSeriesOf}
@@ -12,11 +13,13 @@ use Rattle.mseed_stretches.specs.Stretches.{AreStretchesUpTo, IsFirstStretch}
 use Rattle.mseed_stretches.specs.declared.stretch.Stretch.{Stretch}
 use Rattle.mseed_pack.specs.Packing.{PacksUpTo}
 use Rattle.mseed_pack.specs.declared.options.Options.{Options}
+use Rattle.mseed_repack.specs.private.Archives.{HasRoomForRecords}
 use Rattle.mseed_repack.specs.private.Reading.{AreOf, samples_of, steps_of}
 use Rattle.mseed_repack.specs.Repack.{Channel, IsFirst, records_in}
 use Rattle.mseed_repack.specs.Restretch.{ChannelFits, ChannelMisfits, IsChannelPart, IsChannelText}
 use Rattle.mseed_repack.specs.Restretch.{IsStretchPacked}
-use Rattle.mseed_repack.specs.ByStretches.{AreSound, WereStretched, WereStretchedInPart}
+use Rattle.mseed_repack.specs.ByStretches.{AreSound, AreStandings, WereStretched, WereStretchedInPart}
+use Rattle.mseed_repack.specs.declared.archive.Archive.{Archive}
 use Rattle.mseed_repack.specs.declared.refusing.Left.{Left}
 use Rattle.mseed_repack.specs.declared.standing.Standing.{Standing}
 use Rattle.mseed_repack.specs.declared.standing.Standing.TheVariants.{Fit, Broken as IsBroken, Misfit as IsMisfit}
@@ -88,6 +91,15 @@ AreRoomy most views [] ss = ⊤
 AreRoomy most views (c ∷ cs) [] = ⊤
 AreRoomy most views (c ∷ cs) (s ∷ ss) =
     (s ≡ Fit → AreStretchesWithin most (records_in views c.0)) × AreRoomy most views cs ss
+
+-- This is found of the channels of an archive, and how long the stretches are of those that fit; and there is room for
+-- so many records of a channel, samples of a stretch, and leap seconds.
+pub record AreReady (o : Options) (a : Archive) (ss : List Standing) (lengths : List (List ℕ))
+    (records samples steps : ℕ) : Type 0 where
+  pub places : HasRoomForRecords a records steps
+  pub standings : AreStandings o (map view_of a.views.now) a.channels.now ss
+  pub cut : AreCut (map view_of a.views.now) a.channels.now ss lengths
+  pub samples_fit : AreRoomy samples (map view_of a.views.now) a.channels.now ss
 
 -- the text is all records of a channel that fits, and nothing of another
 abbrev pub IsTextIfFit : Options → List View → Standing → List ℕ → Type 0

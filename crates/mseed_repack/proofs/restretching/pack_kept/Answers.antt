@@ -4,12 +4,11 @@ use Rattle.mseed_record.specs.View.{View}
 use Rattle.mseed_record.specs.Viewing.{view_of}
 use Rattle.mseed_repack.specs.private.Reading.{channel_in}
 use Rattle.mseed_repack.specs.ByStretches.{Stands}
-use Rattle.mseed_repack.specs.Repack.{Wrote}
 use Rattle.mseed_repack.specs.private.Restretching.{AreLengths, AreStretchesWithin, IsPartIfFit, IsTextIfFit}
 use Rattle.mseed_repack.specs.declared.standing.Standing.TheVariants.{Fit}
-use Rattle.mseed_repack.proofs.Archives.{on_trail, records_room, room_on}
-use Rattle.mseed_repack.proofs.Standings.{all_kept, as_many, cut_for, cut_inside, kept_at, kept_none, part_at}
-use Rattle.mseed_repack.proofs.Standings.{roomy_for, stands_for}
+use Rattle.mseed_repack.proofs.Archives.{on_trail, records_room, room_on, wrote_on}
+use Rattle.mseed_repack.proofs.Standings.{all_kept, as_many, channel_at, cut_for, cut_inside, kept_none, kept_step}
+use Rattle.mseed_repack.proofs.Standings.{part_step, roomy_for, stands_for}
 use Rattle.mseed_repack.proofs.restretching.pack_kept.Goals as goal
 
 pub loop-number-init : goal.loop-number-init
@@ -80,25 +79,17 @@ pack_if_fit-requires-clause-lengths g c = λ fit.
 
 pub returns-in-Err-clause-err : goal.returns-in-Err-clause-err
 returns-in-Err-clause-err g c =
-    let old = g.W.Sink.written c.loop-number.output in
-    let new = g.W.Sink.written c.pack_if_fit.new.output in
-    part_at c.args.options.now (map view_of c.args.archive.now.views.now) c.args.archive.now.channels.now
-    c.args.standings.now c.loop-number.number c.trail.ensures.channel Fit (g.W.Sink.written c.args.output.now) old new
-    c.loop-number-test.true c.requires.standings c.trail.ensures.at c.loop-number.invariant
-    (subst (λ (vs : List View). Wrote (IsPartIfFit c.args.options.now vs
-    (get_or c.args.standings.now c.loop-number.number Fit)) 1 old new)
-    (on_trail c.args.archive.now c.loop-number.number c.trail.result c.trail.ensures) c.in-Err.ensures.err)
+    part_step (get_or c.args.standings.now c.loop-number.number Fit)
+    (channel_at Fit c.loop-number-test.true c.requires.standings c.trail.ensures.at c.loop-number.invariant)
+    (wrote_on (λ vs. IsPartIfFit c.args.options.now vs (get_or c.args.standings.now c.loop-number.number Fit)) 1
+    c.trail.ensures c.in-Err.ensures.err)
 
 pub loop-number-preserved : goal.loop-number-preserved
 loop-number-preserved g c =
-    let old = g.W.Sink.written c.loop-number.output in
-    let new = g.W.Sink.written c.pack_if_fit.new.output in
-    kept_at c.args.options.now (map view_of c.args.archive.now.views.now) c.args.archive.now.channels.now
-    c.args.standings.now c.loop-number.number c.trail.ensures.channel Fit (g.W.Sink.written c.args.output.now) old new
-    c.loop-number-test.true c.requires.standings c.trail.ensures.at c.loop-number.invariant
-    (subst (λ (vs : List View). Wrote (IsTextIfFit c.args.options.now vs
-    (get_or c.args.standings.now c.loop-number.number Fit)) 0 old new)
-    (on_trail c.args.archive.now c.loop-number.number c.trail.result c.trail.ensures) c.in-Ok.ensures.ok)
+    kept_step (get_or c.args.standings.now c.loop-number.number Fit)
+    (channel_at Fit c.loop-number-test.true c.requires.standings c.trail.ensures.at c.loop-number.invariant)
+    (wrote_on (λ vs. IsTextIfFit c.args.options.now vs (get_or c.args.standings.now c.loop-number.number Fit)) 0
+    c.trail.ensures c.in-Ok.ensures.ok)
 
 pub returns-clause-ok : goal.returns-clause-ok
 returns-clause-ok g c =

@@ -1,6 +1,6 @@
 use Rattle.std.proofs.Common.{map}
 use Rattle.mseed_record.specs.Viewing.{view_of}
-use Rattle.mseed_repack.proofs.Standings.{as_many, ends_refused}
+use Rattle.mseed_repack.proofs.Standings.{as_many, ends_refused, wrote_kept}
 use Rattle.mseed_repack.proofs.restretching.restretch_standing.Goals as goal
 
 pub refusal_unless-requires : goal.refusal_unless-requires
@@ -22,10 +22,7 @@ pub returns-in-Ok : goal.returns-in-Ok
 returns-in-Ok g c = record {
   ok = record {
     standings = c.args.standings.now;
-    are = c.requires.standings;
-    whole = c.in_default.ensures.fit;
-    reported = c.tell_left.ensures;
-    wrote = c.in-Ok.ensures.ok;
+    kept = wrote_kept c.requires.standings c.in_default.ensures.fit c.tell_left.ensures c.in-Ok.ensures.ok;
     left_is = c.left_of.ensures;
   };
   err = tt;
@@ -36,9 +33,6 @@ returns-in-Err g c = record {
   ok = tt;
   err = record {
     standings = c.args.standings.now;
-    are = c.requires.standings;
-    whole = c.in_default.ensures.fit;
-    reported = c.tell_left.ensures;
-    wrote = c.in-Err.ensures.err;
+    kept = wrote_kept c.requires.standings c.in_default.ensures.fit c.tell_left.ensures c.in-Err.ensures.err;
   };
 }
