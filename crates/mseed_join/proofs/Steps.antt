@@ -455,7 +455,8 @@ fault_passes : (past : Bool) (over : List Written) (b : Behind) (l : ℕ) (x : S
 fault_passes past over b l x h k p v m free fit pa fa e j =
     fault_over past over b l x h k (λ w no_end at i.
     subst (λ (q : Bool). IsJointOf q (over ++ with_end w x ∷ []) k) (sym p)
-    (passed_joint over w x h k (subst (λ (q : Bool). IsJointOf q (over ++ w ∷ []) h) p i) no_end free fit pa fa e)) v m j
+    (passed_joint over w x h k (subst (λ (q : Bool). IsJointOf q (over ++ w ∷ []) h) p i) no_end free fit pa fa e))
+    v m j
 
 -- it is passed
 pub fault_passed : {A : Type 0} → (old : Joint A) (so_far : JointPart A) → old.past ≡ true → old.so_far.end ≡ None

@@ -10,11 +10,10 @@ use crate::joint::JointPart;
 use crate::parts::read_parts;
 use crate::reader::PartsFault;
 use crate::text::{push_join, push_part};
-use mseed_audit::{Channel, Memory};
+use mseed_audit::Memory;
 use mseed_parts::Part;
-use mseed_record::Codes;
 use mseed_stream::{Sink, Source, StreamFault, write_all_of};
-use std::alloc::{AllocError, Allocator};
+use std::alloc::Allocator;
 use thiserror::Error;
 
 /// What is written of parts that are joined.
@@ -126,34 +125,16 @@ pub(crate) fn push_joined<A: Allocator + Copy>(
 {
     let (records, bytes) = (part.records(), part.bytes());
     let channels = part.into_channels(alloc)?;
-    match push_joint(text, form, channels.as_slice(), records, bytes, faults, end) {
+    let pushed = match form {
+        Form::Audit => push_join(text, channels.as_slice(), records, faults, end),
+        Form::Part => push_part(text, channels.as_slice(), records, bytes, faults, end),
+    };
+    match pushed {
         Ok(()) => Ok(Joined {
             broken: count_broken(channels.as_slice()),
             fault: is_faulty(faults, end),
         }),
         Err(_) => Err(Memory),
-    }
-}
-
-/// Adds the text of the audit of these channels, or of the part of them.
-fn push_joint<A: Allocator>(
-    text: &mut Vec<u8, A>,
-    form: Form,
-    channels: &[(Codes, Channel)],
-    records: u64,
-    bytes: u64,
-    faults: u64,
-    end: &Option<StreamFault>,
-) -> Result<(), AllocError>
-    ensures { OnOk result (text.new.items ≡ text.old.items ++ text_by form (record {
-      part = record { channels = channels.now; records = records; bytes = bytes };
-      faults = faults;
-      end = end.now;
-    })) }
-{
-    match form {
-        Form::Audit => push_join(text, channels, records, faults, end),
-        Form::Part => push_part(text, channels, records, bytes, faults, end),
     }
 }
 

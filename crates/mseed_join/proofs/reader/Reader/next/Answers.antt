@@ -3,7 +3,8 @@ use Rattle.std.proofs.Common.{subst, ◌∙◌}
 use Rattle.mseed_stream.specs.Device.{BytesRead}
 use Rattle.mseed_join.specs.private.LineReading.{GoesOn, IsLineAhead}
 use Rattle.mseed_join.specs.private.Taking.{IsReportedMore}
-use Rattle.mseed_join.proofs.Along.{bad_at, bad_next, fails, line_taken, looked, looked_few, over_at, some_read, whole_line}
+use Rattle.mseed_join.proofs.Along.{bad_at, bad_next, fails, line_taken, looked, looked_few, over_at, some_read}
+use Rattle.mseed_join.proofs.Along.{whole_line}
 use Rattle.mseed_join.proofs.reader.Reader.next.Goals as goal
 
 pub overflow_add-number : goal.overflow_add-number
