@@ -11,7 +11,7 @@ use Rattle.mseed_steim.specs.private.Lanes.{total, word_of}
 use Rattle.mseed_steim.proofs.Words.{twice_half}
 use mir.ValLaws.{and_both}
 
-abbrev all_below : (ℕ → Bool) → ℕ → Bool
+abbrev pub all_below : (ℕ → Bool) → ℕ → Bool
 all_below p zero = true
 all_below p (suc n) = p n && all_below p n
 
@@ -27,12 +27,37 @@ every_below p (suc n) h i l =
 pub same : (f g : ℕ → ℕ) → T (all_below (λ x. eqb (f x) (g x)) 256) → (x : ℕ) → x < 256 → f x ≡ g x
 same f g h x lt = eqb→eq (f x) (g x) (every_below (λ x. eqb (f x) (g x)) 256 h x lt)
 
--- a part of a byte with some bits turned over: what it counts for
-pub part : (turned mask weight times low more size : ℕ)
-    → T (all_below (λ x. eqb (bit_and (bit_xor x turned) mask * weight) (times * ((x / low + more) % size))) 256)
-    → (x : ℕ) → x < 256 → bit_and (bit_xor x turned) mask * weight ≡ times * ((x / low + more) % size)
-part turned mask weight times low more size =
-    same (λ x. bit_and (bit_xor x turned) mask * weight) (λ x. times * ((x / low + more) % size))
+-- a number of four bytes that is a sum of numbers of one byte each
+abbrev pub Separate : (ℕ → ℕ → ℕ → ℕ → ℕ) → Type 0
+Separate f = (a b c d : ℕ) → f a b c d + 3 * f 0 0 0 0 ≡ f a 0 0 0 + f 0 b 0 0 + f 0 0 c 0 + f 0 0 0 d
+
+-- two such numbers agree where one byte alone isn't 0
+abbrev pub agree_at : (ℕ → ℕ → ℕ → ℕ → ℕ) → (ℕ → ℕ → ℕ → ℕ → ℕ) → ℕ → Bool
+agree_at f g x = eqb (f x 0 0 0) (g x 0 0 0)
+    && (eqb (f 0 x 0 0) (g 0 x 0 0) && (eqb (f 0 0 x 0) (g 0 0 x 0) && eqb (f 0 0 0 x) (g 0 0 0 x)))
+
+all_four : (p q r s : Bool) → T (p && (q && (r && s))) → T p × T q × T r × T s
+all_four p q r s h =
+    let one = and_both p (q && (r && s)) h in
+    let two = and_both q (r && s) one.1 in
+    let three = and_both r s two.1 in
+    (one.0, two.0, three.0, three.1)
+
+-- so they are one
+pub by_bytes : (f g : ℕ → ℕ → ℕ → ℕ → ℕ) → Separate f → Separate g → T (all_below (agree_at f g) 256)
+    → (a b c d : ℕ) → a < 256 → b < 256 → c < 256 → d < 256 → f a b c d ≡ g a b c d
+by_bytes f g F G h a b c d A B C D =
+    let one : f a 0 0 0 ≡ g a 0 0 0 = eqb→eq (f a 0 0 0) (g a 0 0 0) (at a A).0 in
+    let two : f 0 b 0 0 ≡ g 0 b 0 0 = eqb→eq (f 0 b 0 0) (g 0 b 0 0) (at b B).1 in
+    let three : f 0 0 c 0 ≡ g 0 0 c 0 = eqb→eq (f 0 0 c 0) (g 0 0 c 0) (at c C).2 in
+    let four : f 0 0 0 d ≡ g 0 0 0 d = eqb→eq (f 0 0 0 d) (g 0 0 0 d) (at d D).3 in
+    let none : f 0 0 0 0 ≡ g 0 0 0 0 = eqb→eq (f 0 0 0 0) (g 0 0 0 0) (at 0 (omega arith)).0 in
+    omega (arith, F a b c d, G a b c d, one, two, three, four, none)
+  where
+    at : (x : ℕ) → x < 256 → T (eqb (f x 0 0 0) (g x 0 0 0)) × T (eqb (f 0 x 0 0) (g 0 x 0 0))
+        × T (eqb (f 0 0 x 0) (g 0 0 x 0)) × T (eqb (f 0 0 0 x) (g 0 0 0 x))
+    at x less = all_four (eqb (f x 0 0 0) (g x 0 0 0)) (eqb (f 0 x 0 0) (g 0 x 0 0)) (eqb (f 0 0 x 0) (g 0 0 x 0))
+        (eqb (f 0 0 0 x) (g 0 0 0 x)) (every_below (agree_at f g) 256 h x less)
 
 -- a digit, more by half its range
 raised : (w x : ℕ) → 0 < w → x < 2 ^ w → signed w x +ℤ pos (2 ^ (w - 1)) ≡ pos ((x + 2 ^ (w - 1)) % 2 ^ w)
@@ -66,96 +91,81 @@ raised_total w word some (suc n) =
     let more : suc n * 2 ^ (w - 1) ≡ 2 ^ (w - 1) + n * 2 ^ (w - 1) = omega arith in
     rw more (omega (arith, ints, one, later))
 
+pub raised_small : (w word n : ℕ) → raised_sum w word n ≤ n * 2 ^ w
+raised_small w word zero = omega arith
+raised_small w word (suc n) =
+    let one = mod-lt (word / 2 ^ (w * n) % 2 ^ w + 2 ^ (w - 1)) (pow_pos w) in
+    let later = raised_small w word n in
+    let more : suc n * 2 ^ w ≡ 2 ^ w + n * 2 ^ w = omega arith in
+    omega (arith, one, later, more)
+
 -- 4 differences of 8 bits
 pub four_is : (a b c d : ℕ) → a < 256 → b < 256 → c < 256 → d < 256
-    → pos (1 * ((a / 1 + 128) % 256) + 1 * ((b / 1 + 128) % 256) + 1 * ((c / 1 + 128) % 256)
-    + 1 * ((d / 1 + 128) % 256)) ≡ total (digits 8 (word_of a b c d) 4) +ℤ pos 512
+    → raised_sum 8 (word_of a b c d) 4 ≡ (a + 128) % 256 + (b + 128) % 256 + (c + 128) % 256 + (d + 128) % 256
 four_is a b c d A B C D =
-    let digit_3 : (word_of a b c d / 16777216 % 256 + 128) % 256 ≡ (a / 1 + 128) % 256 = omega arith in
-    let digit_2 : (word_of a b c d / 65536 % 256 + 128) % 256 ≡ (b / 1 + 128) % 256 = omega arith in
-    let digit_1 : (word_of a b c d / 256 % 256 + 128) % 256 ≡ (c / 1 + 128) % 256 = omega arith in
-    let digit_0 : (word_of a b c d / 1 % 256 + 128) % 256 ≡ (d / 1 + 128) % 256 = omega arith in
-    ap pos (omega (arith, digit_3, digit_2, digit_1, digit_0)) ∙ raised_total 8 (word_of a b c d) (omega arith) 4
+    let digit_3 : (word_of a b c d / 16777216 % 256 + 128) % 256 ≡ (a + 128) % 256 = omega arith in
+    let digit_2 : (word_of a b c d / 65536 % 256 + 128) % 256 ≡ (b + 128) % 256 = omega arith in
+    let digit_1 : (word_of a b c d / 256 % 256 + 128) % 256 ≡ (c + 128) % 256 = omega arith in
+    let digit_0 : (word_of a b c d / 1 % 256 + 128) % 256 ≡ (d + 128) % 256 = omega arith in
+    omega (arith, digit_3, digit_2, digit_1, digit_0)
 
 -- 2 differences of 15 bits
 pub two_is : (a b c d : ℕ) → a < 256 → b < 256 → c < 256 → d < 256
-    → pos (2 * ((b / 1 + 0) % 256) + 1 * ((d / 1 + 0) % 256) + (128 * ((c / 128 + 0) % 2)) / 128
-    + 256 * (2 * ((a / 1 + 32) % 64) + 1 * ((c / 1 + 64) % 128))) ≡ total (digits 15 (word_of a b c d) 2) +ℤ pos 32768
+    → raised_sum 15 (word_of a b c d) 2 ≡ 512 * ((a + 32) % 64) + 2 * b + c / 128 + 256 * ((c + 64) % 128) + d
 two_is a b c d A B C D =
-    let digit_1 : (word_of a b c d / 32768 % 32768 + 16384) % 32768 ≡ ((a / 1 + 32) % 64) * 512 + ((b / 1
-    + 0) % 256) * 2 + ((c / 128 + 0) % 2) = omega arith in
-    let digit_0 : (word_of a b c d / 1 % 32768 + 16384) % 32768 ≡ ((c / 1 + 64) % 128) * 256 + ((d / 1
-    + 0) % 256) = omega arith in
-    let fine : (128 * ((c / 128 + 0) % 2)) / 128 ≡ 1 * ((c / 128 + 0) % 2) = omega arith in
-    ap pos (omega (arith, digit_1, digit_0, fine)) ∙ raised_total 15 (word_of a b c d) (omega arith) 2
+    let digit_1 : (word_of a b c d / 32768 % 32768 + 16384) % 32768 ≡ 512 * ((a + 32) % 64) + 2 * b + c / 128 = omega arith in
+    let digit_0 : (word_of a b c d / 1 % 32768 + 16384) % 32768 ≡ 256 * ((c + 64) % 128) + d = omega arith in
+    omega (arith, digit_1, digit_0)
 
 -- 3 differences of 10 bits
 pub three_is : (a b c d : ℕ) → a < 256 → b < 256 → c < 256 → d < 256
-    → pos (16 * ((a / 1 + 32) % 64) + 64 * ((b / 1 + 8) % 16) + 1 * ((d / 1 + 0) % 256)
-    + (128 * ((b / 16 + 0) % 16) + 128 * ((c / 4 + 0) % 64)) / 128 + 256 * (1 * ((c / 1 + 2) % 4)))
-    ≡ total (digits 10 (word_of a b c d) 3) +ℤ pos 1536
+    → raised_sum 10 (word_of a b c d) 3 ≡ 16 * ((a + 32) % 64) + b / 16 + 64 * ((b + 8) % 16) + c / 4 + 256 * ((c + 2) % 4) + d
 three_is a b c d A B C D =
-    let digit_2 : (word_of a b c d / 1048576 % 1024 + 512) % 1024 ≡ ((a / 1 + 32) % 64) * 16 + ((b / 16
-    + 0) % 16) = omega arith in
-    let digit_1 : (word_of a b c d / 1024 % 1024 + 512) % 1024 ≡ ((b / 1 + 8) % 16) * 64 + ((c / 4 + 0) % 64)
-    = omega arith in
-    let digit_0 : (word_of a b c d / 1 % 1024 + 512) % 1024 ≡ ((c / 1 + 2) % 4) * 256 + ((d / 1 + 0) % 256)
-    = omega arith in
-    let fine : (128 * ((b / 16 + 0) % 16) + 128 * ((c / 4 + 0) % 64)) / 128 ≡ 1 * ((b / 16 + 0) % 16)
-    + 1 * ((c / 4 + 0) % 64) = omega arith in
-    ap pos (omega (arith, digit_2, digit_1, digit_0, fine)) ∙ raised_total 10 (word_of a b c d) (omega arith) 3
+    let digit_2 : (word_of a b c d / 1048576 % 1024 + 512) % 1024 ≡ 16 * ((a + 32) % 64) + b / 16 = omega arith in
+    let digit_1 : (word_of a b c d / 1024 % 1024 + 512) % 1024 ≡ 64 * ((b + 8) % 16) + c / 4 = omega arith in
+    let digit_0 : (word_of a b c d / 1 % 1024 + 512) % 1024 ≡ 256 * ((c + 2) % 4) + d = omega arith in
+    omega (arith, digit_2, digit_1, digit_0)
 
 -- 5 differences of 6 bits
 pub five_is : (a b c d : ℕ) → a < 256 → b < 256 → c < 256 → d < 256
-    → pos (1 * ((a / 1 + 32) % 64) + 16 * ((b / 1 + 2) % 4) + 4 * ((c / 1 + 8) % 16) + 1 * ((d / 1 + 32) % 64)
-    + (128 * ((b / 4 + 32) % 64) + 128 * ((c / 16 + 0) % 16) + 128 * ((d / 64 + 0) % 4)) / 128)
-    ≡ total (digits 6 (word_of a b c d) 5) +ℤ pos 160
+    → raised_sum 6 (word_of a b c d) 5 ≡ (a + 32) % 64 + (b / 4 + 32) % 64 + 16 * ((b + 2) % 4) + c / 16 + 4 * ((c + 8) % 16) + d / 64 + (d + 32) % 64
 five_is a b c d A B C D =
-    let digit_4 : (word_of a b c d / 16777216 % 64 + 32) % 64 ≡ (a / 1 + 32) % 64 = omega arith in
+    let digit_4 : (word_of a b c d / 16777216 % 64 + 32) % 64 ≡ (a + 32) % 64 = omega arith in
     let digit_3 : (word_of a b c d / 262144 % 64 + 32) % 64 ≡ (b / 4 + 32) % 64 = omega arith in
-    let digit_2 : (word_of a b c d / 4096 % 64 + 32) % 64 ≡ ((b / 1 + 2) % 4) * 16 + ((c / 16 + 0) % 16)
-    = omega arith in
-    let digit_1 : (word_of a b c d / 64 % 64 + 32) % 64 ≡ ((c / 1 + 8) % 16) * 4 + ((d / 64 + 0) % 4) = omega arith in
-    let digit_0 : (word_of a b c d / 1 % 64 + 32) % 64 ≡ (d / 1 + 32) % 64 = omega arith in
-    let fine : (128 * ((b / 4 + 32) % 64) + 128 * ((c / 16 + 0) % 16) + 128 * ((d / 64 + 0) % 4)) / 128
-    ≡ 1 * ((b / 4 + 32) % 64) + 1 * ((c / 16 + 0) % 16) + 1 * ((d / 64 + 0) % 4) = omega arith in
-    ap pos (omega (arith, digit_4, digit_3, digit_2, digit_1, digit_0, fine))
-    ∙ raised_total 6 (word_of a b c d) (omega arith) 5
+    let digit_2 : (word_of a b c d / 4096 % 64 + 32) % 64 ≡ 16 * ((b + 2) % 4) + c / 16 = omega arith in
+    let digit_1 : (word_of a b c d / 64 % 64 + 32) % 64 ≡ 4 * ((c + 8) % 16) + d / 64 = omega arith in
+    let digit_0 : (word_of a b c d / 1 % 64 + 32) % 64 ≡ (d + 32) % 64 = omega arith in
+    omega (arith, digit_4, digit_3, digit_2, digit_1, digit_0)
 
 -- 6 differences of 5 bits
 pub six_is : (a b c d : ℕ) → a < 256 → b < 256 → c < 256 → d < 256
-    → pos (16 * ((a / 1 + 1) % 2) + 2 * ((b / 1 + 8) % 16) + 8 * ((c / 1 + 2) % 4) + 1 * ((d / 1 + 16) % 32)
-    + (128 * ((a / 2 + 16) % 32) + 128 * ((b / 16 + 0) % 16) + 128 * ((c / 4 + 16) % 32) + 128 * ((c / 128 + 0) % 2)
-    + 128 * ((d / 32 + 0) % 8)) / 128) ≡ total (digits 5 (word_of a b c d) 6) +ℤ pos 96
+    → raised_sum 5 (word_of a b c d) 6 ≡ (a / 2 + 16) % 32 + 16 * ((a + 1) % 2) + b / 16 + 2 * ((b + 8) % 16) + c / 128 + (c / 4 + 16) % 32 + 8 * ((c + 2) % 4) + d / 32 + (d + 16) % 32
 six_is a b c d A B C D =
     let digit_5 : (word_of a b c d / 33554432 % 32 + 16) % 32 ≡ (a / 2 + 16) % 32 = omega arith in
-    let digit_4 : (word_of a b c d / 1048576 % 32 + 16) % 32 ≡ ((a / 1 + 1) % 2) * 16 + ((b / 16 + 0) % 16)
-    = omega arith in
-    let digit_3 : (word_of a b c d / 32768 % 32 + 16) % 32 ≡ ((b / 1 + 8) % 16) * 2 + ((c / 128 + 0) % 2)
-    = omega arith in
+    let digit_4 : (word_of a b c d / 1048576 % 32 + 16) % 32 ≡ 16 * ((a + 1) % 2) + b / 16 = omega arith in
+    let digit_3 : (word_of a b c d / 32768 % 32 + 16) % 32 ≡ 2 * ((b + 8) % 16) + c / 128 = omega arith in
     let digit_2 : (word_of a b c d / 1024 % 32 + 16) % 32 ≡ (c / 4 + 16) % 32 = omega arith in
-    let digit_1 : (word_of a b c d / 32 % 32 + 16) % 32 ≡ ((c / 1 + 2) % 4) * 8 + ((d / 32 + 0) % 8) = omega arith in
-    let digit_0 : (word_of a b c d / 1 % 32 + 16) % 32 ≡ (d / 1 + 16) % 32 = omega arith in
-    let fine : (128 * ((a / 2 + 16) % 32) + 128 * ((b / 16 + 0) % 16) + 128 * ((c / 4 + 16) % 32)
-    + 128 * ((c / 128 + 0) % 2) + 128 * ((d / 32 + 0) % 8)) / 128 ≡ 1 * ((a / 2 + 16) % 32) + 1 * ((b / 16
-    + 0) % 16) + 1 * ((c / 4 + 16) % 32) + 1 * ((c / 128 + 0) % 2) + 1 * ((d / 32 + 0) % 8) = omega arith in
-    ap pos (omega (arith, digit_5, digit_4, digit_3, digit_2, digit_1, digit_0, fine))
-    ∙ raised_total 5 (word_of a b c d) (omega arith) 6
+    let digit_1 : (word_of a b c d / 32 % 32 + 16) % 32 ≡ 8 * ((c + 2) % 4) + d / 32 = omega arith in
+    let digit_0 : (word_of a b c d / 1 % 32 + 16) % 32 ≡ (d + 16) % 32 = omega arith in
+    omega (arith, digit_5, digit_4, digit_3, digit_2, digit_1, digit_0)
 
 -- 7 differences of 4 bits
 pub seven_is : (a b c d : ℕ) → a < 256 → b < 256 → c < 256 → d < 256
-    → pos (1 * ((a / 1 + 8) % 16) + 1 * ((b / 1 + 8) % 16) + 1 * ((c / 1 + 8) % 16) + 1 * ((d / 1 + 8) % 16)
-    + (128 * ((b / 16 + 8) % 16) + 128 * ((c / 16 + 8) % 16) + 128 * ((d / 16 + 8) % 16)) / 128)
-    ≡ total (digits 4 (word_of a b c d) 7) +ℤ pos 56
+    → raised_sum 4 (word_of a b c d) 7 ≡ (a + 8) % 16 + (b / 16 + 8) % 16 + (b + 8) % 16 + (c / 16 + 8) % 16 + (c + 8) % 16 + (d / 16 + 8) % 16 + (d + 8) % 16
 seven_is a b c d A B C D =
-    let digit_6 : (word_of a b c d / 16777216 % 16 + 8) % 16 ≡ (a / 1 + 8) % 16 = omega arith in
+    let digit_6 : (word_of a b c d / 16777216 % 16 + 8) % 16 ≡ (a + 8) % 16 = omega arith in
     let digit_5 : (word_of a b c d / 1048576 % 16 + 8) % 16 ≡ (b / 16 + 8) % 16 = omega arith in
-    let digit_4 : (word_of a b c d / 65536 % 16 + 8) % 16 ≡ (b / 1 + 8) % 16 = omega arith in
+    let digit_4 : (word_of a b c d / 65536 % 16 + 8) % 16 ≡ (b + 8) % 16 = omega arith in
     let digit_3 : (word_of a b c d / 4096 % 16 + 8) % 16 ≡ (c / 16 + 8) % 16 = omega arith in
-    let digit_2 : (word_of a b c d / 256 % 16 + 8) % 16 ≡ (c / 1 + 8) % 16 = omega arith in
+    let digit_2 : (word_of a b c d / 256 % 16 + 8) % 16 ≡ (c + 8) % 16 = omega arith in
     let digit_1 : (word_of a b c d / 16 % 16 + 8) % 16 ≡ (d / 16 + 8) % 16 = omega arith in
-    let digit_0 : (word_of a b c d / 1 % 16 + 8) % 16 ≡ (d / 1 + 8) % 16 = omega arith in
-    let fine : (128 * ((b / 16 + 8) % 16) + 128 * ((c / 16 + 8) % 16) + 128 * ((d / 16 + 8) % 16)) / 128
-    ≡ 1 * ((b / 16 + 8) % 16) + 1 * ((c / 16 + 8) % 16) + 1 * ((d / 16 + 8) % 16) = omega arith in
-    ap pos (omega (arith, digit_6, digit_5, digit_4, digit_3, digit_2, digit_1, digit_0, fine))
-    ∙ raised_total 4 (word_of a b c d) (omega arith) 7
+    let digit_0 : (word_of a b c d / 1 % 16 + 8) % 16 ≡ (d + 8) % 16 = omega arith in
+    omega (arith, digit_6, digit_5, digit_4, digit_3, digit_2, digit_1, digit_0)
+
+-- 2 differences of 16 bits
+pub wide_is : (a b c d : ℕ) → a < 256 → b < 256 → c < 256 → d < 256
+    → raised_sum 16 (word_of a b c d) 2 ≡ 256 * ((a + 128) % 256) + b + 256 * ((c + 128) % 256) + d
+wide_is a b c d A B C D =
+    let digit_1 : (word_of a b c d / 65536 % 65536 + 32768) % 65536 ≡ 256 * ((a + 128) % 256) + b = omega arith in
+    let digit_0 : (word_of a b c d / 1 % 65536 + 32768) % 65536 ≡ 256 * ((c + 128) % 256) + d = omega arith in
+    omega (arith, digit_1, digit_0)

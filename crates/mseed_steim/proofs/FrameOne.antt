@@ -1,6 +1,6 @@
 -- Steim-1: what a word's parts add up to, by its row, and a frame's words.
 use Rattle.std.proofs.Common.{to_z, w32, negsuc, ◌≡◌, ℕ, suc, ◌+◌, ◌-◌, ◌*◌, ◌/◌, ◌%◌, ◌<◌, ◌≤◌, List, [], ◌∷◌, length}
-use Rattle.std.proofs.Common.{map, get_or, bit_and, bit_xor, refl, sym, ap, subst, ◌∙◌, arith, ℤ, pos, ◌+ℤ◌}
+use Rattle.std.proofs.Common.{T, ◌^◌, map, get_or, refl, sym, ap, subst, ◌∙◌, arith, ℤ, pos, ◌+ℤ◌}
 use Rattle.std.proofs.lemmas.Int.{ints, to_z_pos}
 use lib.Lanes.{sum_l}
 use Rattle.mseed_steim.specs.declared.scheme.Scheme.TheVariants.{One}
@@ -10,12 +10,13 @@ use Rattle.mseed_steim.specs.private.Lanes.{words, sum_z, byte_at, row_at, low_o
 use Rattle.mseed_steim.specs.private.Lanes.{least_one, counts_one, widths_one, moved}
 use Rattle.mseed_steim.proofs.Below.{sixteen}
 use Rattle.mseed_steim.proofs.LaneSums.{long_words}
-use Rattle.mseed_steim.proofs.FrameWords.{gone}
 use Rattle.mseed_steim.proofs.FrameSums.{part_at, row_small}
 use Rattle.std.proofs.Math.Facts.{to_z-neg}
 use Rattle.std.proofs.lemmas.Bool.{cases_lt}
 use Rattle.std.proofs.Common.{⊎_elim}
-use Rattle.mseed_steim.proofs.FrameBytes.{four_is, part, raised_total, same}
+use Rattle.mseed_steim.proofs.FrameBytes.{Separate, agree_at, all_below, by_bytes, raised_small, raised_sum}
+use Rattle.mseed_steim.proofs.FrameBytes.{raised_total, four_is, wide_is}
+use Rattle.mseed_steim.proofs.Words.{twice_half}
 
 -- the parts of a word
 abbrev pub whole_one : ℕ → ℕ → ℕ → ℕ → ℕ → ℕ
@@ -30,81 +31,49 @@ Tells_one row a b c d =
     ≡ total (digits (get_or widths_one row 0) (word_of a b c d) (get_or counts_one row 0)) +ℤ pos (512 * least_one row))
     × (whole_one row a b c d ≤ 131072) × (512 * least_one row ≤ 65536)
 
-plain : (x : ℕ) → x < 256 → bit_and (bit_xor x 0) 255 * 1 ≡ x
-plain = same (λ x. bit_and (bit_xor x 0) 255 * 1) (λ x. x) tt
+abbrev AllTell_one : ℕ → Type 0
+AllTell_one row = (a b c d : ℕ) → a < 256 → b < 256 → c < 256 → d < 256 → Tells_one row a b c d
 
-top_turned : (x : ℕ) → x < 256 → bit_and (bit_xor x 128) 255 * 1 ≡ (x + 128) % 256
-top_turned = same (λ x. bit_and (bit_xor x 128) 255 * 1) (λ x. (x + 128) % 256) tt
+-- told by the digits of a word, each more by half its range
+told_one : (row : ℕ) (sum : ℕ → ℕ → ℕ → ℕ → ℕ)
+    → ((a b c d : ℕ) → a < 256 → b < 256 → c < 256 → d < 256
+    → raised_sum (get_or widths_one row 0) (word_of a b c d) (get_or counts_one row 0) ≡ sum a b c d)
+    → 512 * least_one row ≡ get_or counts_one row 0 * 2 ^ (get_or widths_one row 0 - 1) → 0 < get_or widths_one row 0
+    → get_or counts_one row 0 * 2 ^ get_or widths_one row 0 ≤ 131072 → Separate (whole_one row) → Separate sum
+    → T (all_below (agree_at (whole_one row) sum) 256) → AllTell_one row
+told_one row sum is low some high F G agree a b c d A B C D few =
+    let n : ℕ = get_or counts_one row 0 in
+    let w : ℕ = get_or widths_one row 0 in
+    let e : whole_one row a b c d ≡ sum a b c d = by_bytes (whole_one row) sum F G agree a b c d A B C D in
+    let small = raised_small w (word_of a b c d) n in
+    let half : n * 2 ^ w ≡ 2 * (n * 2 ^ (w - 1)) = rw (twice_half w some) (omega arith) in (
+      rw (e, low, ← is a b c d A B C D) (raised_total w (word_of a b c d) some n),
+      omega (arith, e, is a b c d A B C D, small, high),
+      omega (arith, low, half, high),
+    )
 
-wide_is : (a b c d : ℕ) → a < 256 → b < 256 → c < 256 → d < 256
-    → pos (b + d + 256 * ((a + 128) % 256 + (c + 128) % 256)) ≡ total (digits 16 (word_of a b c d) 2) +ℤ pos 65536
-wide_is a b c d A B C D =
-    let digit_1 : (word_of a b c d / 65536 % 65536 + 32768) % 65536 ≡ 256 * ((a + 128) % 256) + b = omega arith in
-    let digit_0 : (word_of a b c d / 1 % 65536 + 32768) % 65536 ≡ 256 * ((c + 128) % 256) + d = omega arith in
-    ap pos (omega (arith, digit_1, digit_0)) ∙ raised_total 16 (word_of a b c d) (omega arith) 2
+none_told : (row : ℕ) → Separate (whole_one row) → T (all_below (agree_at (whole_one row) (λ a b c d. 0)) 256)
+    → get_or counts_one row 0 ≡ 0 → least_one row ≡ 0 → AllTell_one row
+unfolding digits
+none_told row F agree none low a b c d A B C D few =
+    let e : whole_one row a b c d ≡ 0 =
+    by_bytes (whole_one row) (λ a b c d. 0) F (λ a b c d. refl) agree a b c d A B C D in
+    (rw (e, none, low) refl, omega (arith, e), omega (arith, low))
 
-scaled_one : (row a b c d k : ℕ) → whole_one row a b c d ≡ k → k ≤ 131072
-    → pos k ≡ total (digits (get_or widths_one row 0) (word_of a b c d) (get_or counts_one row 0)) +ℤ pos
-    (512 * least_one row) → 512 * least_one row ≤ 65536
-    → (pos (whole_one row a b c d)
-    ≡ total (digits (get_or widths_one row 0) (word_of a b c d) (get_or counts_one row 0)) +ℤ pos (512 * least_one row))
-    × (whole_one row a b c d ≤ 131072) × (512 * least_one row ≤ 65536)
-scaled_one row a b c d k e small is low = (ap pos e ∙ is, omega (arith, e, small), low)
-
-none_one : (a b c d : ℕ) → a < 256 → b < 256 → c < 256 → d < 256
-    → (bit_and (bit_xor a 0) 0 * 1 + bit_and (bit_xor b 0) 0 * 1 + bit_and (bit_xor c 0) 0 * 1 + bit_and (bit_xor d 0)
-    0 * 1) + 256 * (bit_and (bit_xor a 0) 0 * 1 + bit_and (bit_xor c 0) 0 * 1) ≡ 0
-none_one a b c d A B C D = omega (
-  arith,
-  gone (bit_xor a 0) 1,
-  gone (bit_xor b 0) 1,
-  gone (bit_xor c 0) 1,
-  gone (bit_xor d 0) 1,
-)
-
-four_one : (a b c d : ℕ) → a < 256 → b < 256 → c < 256 → d < 256
-    → (bit_and (bit_xor a 128) 255 * 1 + bit_and (bit_xor b 128) 255 * 1 + bit_and (bit_xor c 128) 255 * 1 + bit_and
-    (bit_xor d 128) 255 * 1) + 256 * (bit_and (bit_xor a 128) 0 * 1 + bit_and (bit_xor c 128) 0 * 1)
-    ≡ 1 * ((a / 1 + 128) % 256) + 1 * ((b / 1 + 128) % 256) + 1 * ((c / 1 + 128) % 256) + 1 * ((d / 1 + 128) % 256)
-four_one a b c d A B C D = omega (
-  arith,
-  part 128 255 1 1 1 128 256 tt a A,
-  part 128 255 1 1 1 128 256 tt b B,
-  part 128 255 1 1 1 128 256 tt c C,
-  part 128 255 1 1 1 128 256 tt d D,
-  gone (bit_xor a 128) 1,
-  gone (bit_xor c 128) 1,
-)
-
-wide_one : (a b c d : ℕ) → a < 256 → b < 256 → c < 256 → d < 256
-    → (bit_and (bit_xor a 128) 0 * 1 + bit_and (bit_xor b 0) 255 * 1 + bit_and (bit_xor c 128) 0 * 1 + bit_and
-    (bit_xor d 0) 255 * 1) + 256 * (bit_and (bit_xor a 128) 255 * 1 + bit_and (bit_xor c 128) 255 * 1)
-    ≡ b + d + 256 * ((a + 128) % 256 + (c + 128) % 256)
-wide_one a b c d A B C D = omega (
-  arith,
-  plain b B,
-  plain d D,
-  top_turned a A,
-  top_turned c C,
-  gone (bit_xor a 128) 1,
-  gone (bit_xor c 128) 1,
-)
+all_tell : (row : ℕ) → row < 16 → AllTell_one row
+unfolding low_one high_one flipped flipped_low least_one counts_one widths_one
+all_tell =
+    let none : AllTell_one 0 = none_told 0 (λ a b c d. omega arith) tt refl refl in
+    let bytes : AllTell_one 4 =
+    told_one 4 _ four_is refl (omega arith) (omega arith) (λ a b c d. omega arith) (λ a b c d. omega arith) tt in
+    let pairs : AllTell_one 8 =
+    told_one 8 _ wide_is refl (omega arith) (omega arith) (λ a b c d. omega arith) (λ a b c d. omega arith) tt in
+    sixteen AllTell_one none none none none bytes bytes bytes bytes pairs pairs pairs pairs
+    (λ a b c d A B C D few. absurd (omega (arith, few))) (λ a b c d A B C D few. absurd (omega (arith, few)))
+    (λ a b c d A B C D few. absurd (omega (arith, few))) (λ a b c d A B C D few. absurd (omega (arith, few)))
 
 pub tells_one : (a b c d : ℕ) → a < 256 → b < 256 → c < 256 → d < 256 → (row : ℕ) → row < 16 → Tells_one row a b c d
-unfolding low_one high_one flipped flipped_low least_one counts_one widths_one digits
-tells_one a b c d A B C D =
-    let none : Tells_one 0 a b c d =
-    λ few. scaled_one 0 a b c d 0 (none_one a b c d A B C D) (omega arith) refl (omega arith) in
-    let bytes : Tells_one 4 a b c d =
-    λ few. scaled_one 4 a b c d _ (four_one a b c d A B C D) (omega arith) (four_is a b c d A B C D) (omega arith) in
-    let pairs : Tells_one 8 a b c d =
-    λ few. scaled_one 8 a b c d _ (wide_one a b c d A B C D) (omega arith) (wide_is a b c d A B C D) (omega arith) in
-    sixteen (λ row. Tells_one row a b c d)
-    none none none none
-    bytes bytes bytes bytes
-    pairs pairs pairs pairs
-    (λ few. absurd (omega (arith, few))) (λ few. absurd (omega (arith, few)))
-    (λ few. absurd (omega (arith, few))) (λ few. absurd (omega (arith, few)))
+tells_one a b c d A B C D row less = all_tell row less a b c d A B C D
 
 abbrev pub Reported_one : (ℕ → ℕ) → (ℕ → ℕ) → (ℕ → ℕ) → (ℕ → ℤ) → ℕ → Type 0
 Reported_one count whole least moved w = count w < 128 → (pos (whole w) ≡ moved w +ℤ pos (least w)) × (whole w ≤ 131072)
