@@ -1,6 +1,6 @@
 -- A frame's words in lanes are the payload's data words, and a row of lanes is the group of the word.
 use Rattle.std.proofs.Common.{◌≡◌, ◌≢◌, ℕ, zero, suc, ◌+◌, ◌-◌, ◌*◌, ◌/◌, ◌%◌, ◌^◌, ◌<◌, ◌≤◌, List, [], ◌∷◌, ◌++◌}
-use Rattle.std.proofs.Common.{length, map, take, drop, get_or, ℤ, ◌+ℤ◌, refl, sym, ap, ◌∙◌, append_assoc, length-append}
+use Rattle.std.proofs.Common.{length, map, take, drop, get_or, ℤ, pos, ◌+ℤ◌, refl, sym, ap, ◌∙◌, append_assoc, length-append}
 use Rattle.std.proofs.Common.{arith, inl, inr, subst, Some, Ok, Result}
 use Rattle.std.specs.List.{range_with_len}
 use Rattle.std.proofs.lemmas.Int.{ints}
@@ -148,60 +148,36 @@ unfolding digits
 none_at counts widths f from w e = rw e refl
 
 -- ---- all words of the frame
-moves_1 : (s : Scheme) (counts widths p f : List ℕ) (k : ℕ) (m : Moved) → Reads s counts widths p f k 1
-    → m.count ≡ sum_l (map (count_at counts f 1) words)
-    → (m.count < 128 → m.by ≡ sum_z (map (λ w. total (group_at counts widths f 1 w)) words))
-    → (m.count < 128 → sum_l (map (λ w. span (group_at counts widths f 1 w)) words) ≤ 2 ^ 20)
-    → MovesBy s (words_from p (16 * k + 1) 15) m
+-- those before the first that is added count for nothing
+behind : (g : ℕ → ℕ) (begin : List ℕ) (from : ℕ) → Begins begin from → ((j : ℕ) → j < from → g j ≡ 0)
+    → sum_l (map g words) ≡ sum_l (map g (range_with_len from (16 - from)))
 unfolding words
-moves_1 s counts widths p f k m reads count by near = λ few.
-    let z = reads.empty 0 (omega arith) in
-    let none = none_at counts widths f 1 0 z in
-    let all = found s counts widths p f k 1 reads 15 1 (omega arith) (omega arith) refl (omega (arith, few, count)) in
-    let sum = by few in
-    let span_all = near few in (
-      all.ds,
-      (
-        record {
-          count = omega (arith, all.count, count, z);
-          by = all.by
-              ∙ sym (sum ∙ (rw none (omega (arith, ints))));
-          near = omega (arith, all.near, rw none at span_all);
-        },
-        all.items,
-      ),
-    )
+behind g begin from (inl h) none = rw h.0 (omega (arith, none 0 (omega (arith, h.0))))
+behind g begin from (inr h) none = rw h.0 (omega (
+  arith,
+  none 0 (omega (arith, h.0)),
+  none 1 (omega (arith, h.0)),
+  none 2 (omega (arith, h.0)),
+  none 3 (omega (arith, h.0)),
+))
 
-moves_4 : (s : Scheme) (counts widths p f : List ℕ) (k : ℕ) (m : Moved) → Reads s counts widths p f k 4
-    → m.count ≡ sum_l (map (count_at counts f 4) words)
-    → (m.count < 128 → m.by ≡ sum_z (map (λ w. total (group_at counts widths f 4 w)) words))
-    → (m.count < 128 → sum_l (map (λ w. span (group_at counts widths f 4 w)) words) ≤ 2 ^ 20)
-    → MovesBy s (words_from p (16 * k + 4) 12) m
+behind_z : (g : ℕ → ℤ) (begin : List ℕ) (from : ℕ) → Begins begin from → ((j : ℕ) → j < from → g j ≡ pos 0)
+    → sum_z (map g words) ≡ sum_z (map g (range_with_len from (16 - from)))
 unfolding words
-moves_4 s counts widths p f k m reads count by near = λ few.
-    let z0 = reads.empty 0 (omega arith) in
-    let z1 = reads.empty 1 (omega arith) in
-    let z2 = reads.empty 2 (omega arith) in
-    let z3 = reads.empty 3 (omega arith) in
-    let n0 = none_at counts widths f 4 0 z0 in
-    let n1 = none_at counts widths f 4 1 z1 in
-    let n2 = none_at counts widths f 4 2 z2 in
-    let n3 = none_at counts widths f 4 3 z3 in
-    let all = found s counts widths p f k 4 reads 12 4 (omega arith) (omega arith) refl (omega (arith, few, count)) in
-    let sum = by few in
-    let span_all = near few in (
-      all.ds,
-      (
-        record {
-          count = omega (arith, all.count, count, z0, z1, z2, z3);
-          by = all.by
-              ∙ sym (sum ∙ (rw (n0, n1, n2, n3) (omega (arith, ints))));
-          near =
-              omega (arith, all.near, rw (n0, n1, n2, n3) at span_all);
-        },
-        all.items,
-      ),
-    )
+behind_z g begin from (inl h) none = rw h.0 (omega (arith, ints, none 0 (omega (arith, h.0))))
+behind_z g begin from (inr h) none = rw h.0 (omega (
+  arith,
+  ints,
+  none 0 (omega (arith, h.0)),
+  none 1
+      (omega (arith, h.0)),
+  none 2 (omega (arith, h.0)),
+  none 3 (omega (arith, h.0)),
+))
+
+begins_low : (begin : List ℕ) (from : ℕ) → Begins begin from → (0 < from) × (from ≤ 16)
+begins_low begin from (inl h) = rw h.0 (omega arith, omega arith)
+begins_low begin from (inr h) = rw h.0 (omega arith, omega arith)
 
 moves : (s : Scheme) (counts widths p f begin : List ℕ) (k from : ℕ) (m : Moved) → Begins begin from
     → Reads s counts widths p f k from
@@ -209,8 +185,25 @@ moves : (s : Scheme) (counts widths p f begin : List ℕ) (k from : ℕ) (m : Mo
     → (m.count < 128 → m.by ≡ sum_z (map (λ w. total (group_at counts widths f from w)) words))
     → (m.count < 128 → sum_l (map (λ w. span (group_at counts widths f from w)) words) ≤ 2 ^ 20)
     → MovesBy s (words_from p (16 * k + from) (16 - from)) m
-moves s counts widths p f begin k from m (inl h) = rw h.0 (moves_1 s counts widths p f k m)
-moves s counts widths p f begin k from m (inr h) = rw h.0 (moves_4 s counts widths p f k m)
+moves s counts widths p f begin k from m begins reads count by near = λ few.
+    let low = begins_low begin from begins in
+    let none = λ (j : ℕ) (less : j < from). none_at counts widths f from j (reads.empty j less) in
+    let counted = behind (count_at counts f from) begin from begins reads.empty in
+    let spans = behind (λ w. span (group_at counts widths f from w)) begin from begins (λ j less. ap span (none j less)) in
+    let totals = behind_z (λ w. total (group_at counts widths f from w)) begin from begins
+    (λ j less. ap total (none j less)) in
+    let all = found s counts widths p f k from reads (16 - from) from low.0 (omega arith) (omega (arith, low.1))
+    (omega (arith, few, count, counted)) in (
+      all.ds,
+      (
+        record {
+          count = all.count ∙ sym (count ∙ counted);
+          by = all.by ∙ sym (by few ∙ totals);
+          near = omega (arith, all.near, spans, near few);
+        },
+        all.items,
+      ),
+    )
 
 -- ---- the two schemes
 word_small : (f : List ℕ) (w : ℕ) → ((i : ℕ) → get_or f i 0 < 256) → lanes_word_at f w < 2 ^ 32

@@ -65,26 +65,26 @@ pub more_sums : (f g : ℕ → ℕ) (ws : List ℕ) (s t u : ℕ) → s % 429496
     → u % 4294967296 ≡ sum_l (map (λ w. f w + g w) ws) % 4294967296
 more_sums f g ws s t u d e h = let k = sums_plus f g ws in omega (arith, d, e, h, k)
 
--- a plane's part, word by word
-pub turn_words : (p t rows : List ℕ) (table : List ℕ) (byte row : ℕ → ℕ) (ws : List ℕ)
-    → t ≡ map (λ r. get_or table r 0) rows → p ≡ map byte ws → rows ≡ map row ws
-    → zip2 bit_xor p t ≡ map (λ w. bit_xor (byte w) (get_or table (row w) 0)) ws
-turn_words p t rows table byte row ws e f g =
-    zip2_of_maps bit_xor byte (λ w. get_or table (row w) 0) ws f (e ∙ ap (λ z. map (λ r. get_or table r 0) z) g
-    ∙ map-map (λ r. get_or table r 0) row ws)
-
-pub kept_words : (p t rows : List ℕ) (table : List ℕ) (byte row : ℕ → ℕ) (ws : List ℕ)
-    → t ≡ map (λ r. get_or table r 0) rows → p ≡ map byte ws → rows ≡ map row ws
-    → zip2 bit_and p t ≡ map (λ w. bit_and (byte w) (get_or table (row w) 0)) ws
-kept_words p t rows table byte row ws e f g =
-    zip2_of_maps bit_and byte (λ w. get_or table (row w) 0) ws f (e ∙ ap (λ z. map (λ r. get_or table r 0) z) g
-    ∙ map-map (λ r. get_or table r 0) row ws)
+pub four_sums : (f g h k : ℕ → ℕ) (ws : List ℕ) (a b c d s t u : ℕ) → a ≡ sum_l (map f ws) → b ≡ sum_l (map g ws)
+    → c ≡ sum_l (map h ws) → d ≡ sum_l (map k ws) → s % 4294967296 ≡ (a + b) % 4294967296
+    → t % 4294967296 ≡ (s + c) % 4294967296 → u % 4294967296 ≡ (t + d) % 4294967296
+    → u % 4294967296 ≡ sum_l (map (λ w. f w + g w + h w + k w) ws) % 4294967296
+four_sums f g h k ws a b c d s t u p q r v e m n =
+    more_sums (λ w. f w + g w + h w) k ws t d u
+    (more_sums (λ w. f w + g w) h ws s c t (two_sums f g ws a b s p q e) r m) v n
 
 pub table_words : (t rows : List ℕ) (table : List ℕ) (row : ℕ → ℕ) (ws : List ℕ) → t ≡ map (λ r. get_or table r 0) rows
     → rows ≡ map row ws
     → t ≡ map (λ w. get_or table (row w) 0) ws
 table_words t rows table row ws e g = e ∙ ap (λ z. map (λ r. get_or table r 0) z) g
     ∙ map-map (λ r. get_or table r 0) row ws
+
+-- a plane and what a table says of its rows, word by word
+pub planes_by : (by : ℕ → ℕ → ℕ) (p t rows : List ℕ) (table : List ℕ) (byte row : ℕ → ℕ) (ws : List ℕ)
+    → t ≡ map (λ r. get_or table r 0) rows → p ≡ map byte ws → rows ≡ map row ws
+    → zip2 by p t ≡ map (λ w. by (byte w) (get_or table (row w) 0)) ws
+planes_by by p t rows table byte row ws e f g =
+    zip2_of_maps by byte (λ w. get_or table (row w) 0) ws f (table_words t rows table row ws e g)
 
 pub weighed_words : (xs vs : List ℕ) (f g : ℕ → ℕ) (ws : List ℕ) → length xs ≡ 16 → length vs ≡ 16 → xs ≡ map f ws
     → vs ≡ map g ws

@@ -1,7 +1,7 @@
 -- How the words of a row are unpacked: the tables hold the powers.
 use Rattle.std.proofs.Common.{◌≡◌, ℕ, ◌-◌, ◌*◌, ◌^◌, ◌<◌, ◌≤◌, List, get_or, refl, arith}
 use Rattle.mseed_steim.specs.declared.unpack.Unpacking.{Unpacking}
-use Rattle.mseed_steim.specs.declared.unpack.TheConstants.{ROWS_ONE, ROWS_TWO}
+use Rattle.mseed_steim.specs.declared.unpack.TheConstants.{BYTES, NONE, PAIR, ROWS_ONE, ROWS_TWO}
 use Rattle.mseed_steim.specs.private.Lanes.{counts_one, counts_two, widths_one, widths_two}
 use Rattle.mseed_steim.specs.private.Unpacked.{Unpacks}
 use Rattle.mseed_steim.proofs.Below.{two, three, four, five, six, seven, sixteen}
@@ -52,29 +52,33 @@ abbrev InTable : List ℕ → List ℕ → List Unpacking → Unpacking → ℕ 
 InTable counts widths table none r =
     get_or counts r 0 < 128 → Unpacks (get_or counts r 0) (get_or widths r 0) (get_or table r none)
 
+of_empty : Unpacks 0 0 NONE
+of_empty = of_none NONE refl
+
+of_bytes : Unpacks 4 8 BYTES
+of_bytes = of_four 8 BYTES refl (omega arith) refl (omega arith) refl refl refl refl
+
+of_pair : Unpacks 2 16 PAIR
+of_pair = of_two 16 PAIR refl (omega arith) refl (omega arith) refl refl
+
 pub rows_two : (none : Unpacking) (r : ℕ) → r < 16 → InTable counts_two widths_two ROWS_TWO none r
 unfolding counts_two widths_two
 rows_two none =
-    let empty : InTable counts_two widths_two ROWS_TWO none 0 = λ few. of_none _ refl in
-    let bytes : InTable counts_two widths_two ROWS_TWO none 4 =
-    λ few. of_four 8 _ refl (omega arith) refl (omega arith) refl refl refl refl in
-    sixteen (InTable counts_two widths_two ROWS_TWO none) empty empty empty empty bytes bytes bytes bytes
+    sixteen (InTable counts_two widths_two ROWS_TWO none) (λ _. of_empty) (λ _. of_empty) (λ _. of_empty) (λ _. of_empty)
+    (λ _. of_bytes) (λ _. of_bytes) (λ _. of_bytes) (λ _. of_bytes)
     (λ few. absurd (omega (arith, few))) (λ few. absurd (omega (arith, few)))
-    (λ few. of_two 15 _ refl (omega arith) refl (omega arith) refl refl)
-    (λ few. of_three 10 _ refl (omega arith) refl (omega arith) refl refl refl)
-    (λ few. of_five 6 _ refl (omega arith) refl (omega arith) refl refl refl refl refl)
-    (λ few. of_six 5 _ refl (omega arith) refl (omega arith) refl refl refl refl refl refl)
-    (λ few. of_seven 4 _ refl (omega arith) refl (omega arith) refl refl refl refl refl refl refl)
+    (λ _. of_two 15 _ refl (omega arith) refl (omega arith) refl refl)
+    (λ _. of_three 10 _ refl (omega arith) refl (omega arith) refl refl refl)
+    (λ _. of_five 6 _ refl (omega arith) refl (omega arith) refl refl refl refl refl)
+    (λ _. of_six 5 _ refl (omega arith) refl (omega arith) refl refl refl refl refl refl)
+    (λ _. of_seven 4 _ refl (omega arith) refl (omega arith) refl refl refl refl refl refl refl)
     (λ few. absurd (omega (arith, few)))
 
 pub rows_one : (none : Unpacking) (r : ℕ) → r < 16 → InTable counts_one widths_one ROWS_ONE none r
 unfolding counts_one widths_one
 rows_one none =
-    let empty : InTable counts_one widths_one ROWS_ONE none 0 = λ few. of_none _ refl in
-    let bytes : InTable counts_one widths_one ROWS_ONE none 4 =
-    λ few. of_four 8 _ refl (omega arith) refl (omega arith) refl refl refl refl in
-    let pair : InTable counts_one widths_one ROWS_ONE none 8 =
-    λ few. of_two 16 _ refl (omega arith) refl (omega arith) refl refl in
-    sixteen (InTable counts_one widths_one ROWS_ONE none) empty empty empty empty bytes bytes bytes bytes
-    pair pair pair pair (λ few. absurd (omega (arith, few))) (λ few. absurd (omega (arith, few)))
+    sixteen (InTable counts_one widths_one ROWS_ONE none) (λ _. of_empty) (λ _. of_empty) (λ _. of_empty) (λ _. of_empty)
+    (λ _. of_bytes) (λ _. of_bytes) (λ _. of_bytes) (λ _. of_bytes)
+    (λ _. of_pair) (λ _. of_pair) (λ _. of_pair) (λ _. of_pair)
+    (λ few. absurd (omega (arith, few))) (λ few. absurd (omega (arith, few)))
     (λ few. absurd (omega (arith, few))) (λ few. absurd (omega (arith, few)))

@@ -1,5 +1,5 @@
 use Rattle.std.proofs.Common.{◌≡◌, ◌+◌, ◌-◌, ◌*◌, ◌/◌, ◌≤◌, ◌++◌, ◌∙◌, ℕ, ℤ, ◌+ℤ◌, take, pos}
-use Rattle.std.proofs.Common.{length, w32, FitsSigned, arith, rules, ap}
+use Rattle.std.proofs.Common.{length, w32, FitsSigned, arith, rules, refl, ap}
 use Rattle.std.specs.Prelude.{replicate}
 use Rattle.std.proofs.lemmas.Int.{to_z-of_z}
 use Rattle.std.proofs.lemmas.List.{length-take-le}
@@ -25,24 +25,8 @@ put_turns-last-requires-clause-near c =
     rw (padded ds count whole long c.requires.few (turns_more count) (turns_less count), to_z-of_z)
     (omega (arith, padded_span (take count ds) (whole - count), c.requires.near))
 
-pub returns-clause-goes_on : goal.returns-clause-goes_on
-returns-clause-goes_on c = λ more.
-    let ds = c.args.differences.now in
-    let count : ℕ = c.args.count in
-    let whole : ℕ = 8 * ((count + 7) / 8) in
-    let all : length ds ≡ 128 = search rules in
-    let long : length (take count ds) ≡ count = length-take-le count ds (omega (arith, all, c.requires.few)) in
-    let fits : FitsSigned w32 c.args.sum.last = search rules in
-    let fits_last : FitsSigned w32 c.put_turns-last.result = search rules in
-    let last : c.put_turns-last.result ≡ c.args.sum.last +ℤ total (take count ds ++ replicate (whole - count) (pos 0)) =
-    rw (padded ds count whole all c.requires.few (turns_more count) (turns_less count), to_z-of_z)
-    at c.put_turns-last.ensures.last in
-    let moved = last ∙ ap (λ (z : ℤ). c.args.sum.last +ℤ z) (padded_total (take count ds) (whole - count)) in
-    rw to_z-of_z (whole_goes_on c.args.samples count (take count ds) c.args.sum c.put_turns-last.result more long
-    c.requires.some (omega (arith, c.requires.left)) c.requires.near moved)
-
-pub returns-clause-kept : goal.returns-clause-kept
-returns-clause-kept c = λ more.
+pub returns : goal.returns
+returns c =
     let ds = c.args.differences.now in
     let out = c.args.out.now in
     let count : ℕ = c.args.count in
@@ -59,7 +43,15 @@ returns-clause-kept c = λ more.
     let part = length-chunk c.args.sum.met (length out - c.args.sum.met) out (omega (arith, inside)) in
     let room : count ≤ length c.put_turns-last.new.out =
     omega (arith, c.put_turns-last.ensures.places, part, c.requires.left, c.requires.places) in
-    rw to_z-of_z (whole_kept c.args.samples count (whole - count) (length out - c.args.sum.met) (take count ds)
-    c.args.sum out c.put_turns-last.new.out c.put_turns-last.result more long c.requires.some
-    (omega (arith, c.requires.left)) c.requires.near inside room (rw (cut, to_z-of_z) at c.put_turns-last.ensures.sums)
-    moved)
+    record {
+      goes_on = λ more.
+          rw to_z-of_z (whole_goes_on c.args.samples count (take count ds) c.args.sum c.put_turns-last.result more long
+          c.requires.some (omega (arith, c.requires.left)) c.requires.near moved);
+      kept = λ more.
+          rw to_z-of_z (whole_kept c.args.samples count (whole - count) (length out - c.args.sum.met) (take count ds)
+          c.args.sum out c.put_turns-last.new.out c.put_turns-last.result more long c.requires.some
+          (omega (arith, c.requires.left)) c.requires.near inside room
+          (rw (cut, to_z-of_z) at c.put_turns-last.ensures.sums) moved);
+      met = refl;
+      places = search rules;
+    }

@@ -1,12 +1,9 @@
 use Rattle.mseed_steim.specs.private.Lanes.{words, low_one}
-use Rattle.mseed_steim.proofs.LaneSums.{two_sums, more_sums}
+use Rattle.mseed_steim.proofs.LaneSums.{four_sums}
 use Rattle.mseed_steim.proofs.frame.low_of.Goals as goal
 
 pub returns : goal.returns
 unfolding low_one
-returns c = λ row A B C D l.
-    more_sums _ _ words _ _ _
-    (more_sums _ _ words _ _ _
-    (two_sums _ _ words _ _ _ (c.part_by-of_a.ensures A row l.first l.rows_are) (c.part_by-of_b.ensures B row l.second l.rows_are) c.plus.ensures)
-    (c.part_by-of_c.ensures C row l.third l.rows_are) c.plus-2.ensures)
-    (c.part_by-of_d.ensures D row l.fourth l.rows_are) c.plus-3.ensures
+returns c = λ row A B C D l. four_sums _ _ _ _ words _ _ _ _ _ _ _ (c.part_by-of_a.ensures A row l.first l.rows_are)
+    (c.part_by-of_b.ensures B row l.second l.rows_are) (c.part_by-of_c.ensures C row l.third l.rows_are)
+    (c.part_by-of_d.ensures D row l.fourth l.rows_are) c.plus.ensures c.plus-2.ensures c.plus-3.ensures
