@@ -7,7 +7,7 @@ ghost use Rattle.mseed_steim.specs.private.Lanes.{span, total};
 ghost use Rattle.mseed_steim.specs.private.Sums.{fold, met_in, sums};
 
 use crate::sum::Sum;
-use crate::unpack::ROOM;
+use crate::unpack::Room;
 use std::simd::prelude::*;
 
 /// How many differences are added up in one turn.
@@ -67,7 +67,7 @@ fn put_turns(differences: &[i32], last: i32, out: &mut [i32]) -> i32
 /// Differences that are all needed, while the limits of 32 bits are out of reach, and there is room for one turn more.
 #[inline(always)]
 pub(crate) fn put_whole(
-    differences: &mut [i32; ROOM],
+    differences: &mut Room,
     count: usize,
     samples: usize,
     sum: Sum,

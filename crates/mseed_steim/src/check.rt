@@ -16,7 +16,7 @@ use crate::data_words::read_word;
 use crate::fault::{Ends, ReadFault};
 use crate::form::{Form, Width, form_of, integer_at};
 use crate::scheme::Scheme;
-use crate::sum::Sum;
+use crate::sum::Walked;
 use crate::walk::{add_frames, find_lack};
 use mseed_record::RecordView;
 use mseed_time::Order;
@@ -45,7 +45,7 @@ pub(crate) fn ends_of_walk(
     scheme: Scheme,
     samples: usize,
     constants: Ends,
-    walked: Result<Sum, ReadFault>,
+    walked: Walked,
 ) -> Result<Ends, ReadFault>
     requires some { 0 < samples }
     requires last { constants.last ≡ last_constant payload.now }

@@ -17,21 +17,15 @@ use crate::frame::{FROM_1, FROM_4};
 use crate::group::{Group, group_of};
 use crate::lanes::Rows;
 use crate::scheme::Scheme;
-use crate::sum::{Sum, add_digit, add_near, all_met};
-use crate::unpack::{ROOM, unpack_frame};
+use crate::sum::{Sum, Walked, add_digit, add_near, all_met};
+use crate::unpack::{PLACES, Room, unpack_frame};
 
 /// No sum of a frame's differences is further from 0 than this, unless one of them has 30 or 32 bits.
 const REACH: u32 = 1 << 20;
 
 /// The differences of a group, one by one: as far as they are needed, and no sum leaves 32 bits.
 #[cold]
-fn put_each(
-    word: u32,
-    group: Group,
-    samples: usize,
-    sum: Sum,
-    out: &mut [i32],
-) -> Result<Sum, ReadFault>
+fn put_each(word: u32, group: Group, samples: usize, sum: Sum, out: &mut [i32]) -> Walked
     requires places { length out.old ≡ samples }
     requires met { sum.met ≤ samples }
     ensures goes_on { (more : List (Result ℤ BadWordAt))
@@ -58,13 +52,7 @@ fn put_each(
 }
 
 /// The differences of a word, as far as they are needed.
-fn put_word(
-    scheme: Scheme,
-    word: Word,
-    samples: usize,
-    sum: Sum,
-    out: &mut [i32],
-) -> Result<Sum, ReadFault>
+fn put_word(scheme: Scheme, word: Word, samples: usize, sum: Sum, out: &mut [i32]) -> Walked
     requires places { length out.old ≡ samples }
     requires met { sum.met ≤ samples }
     ensures goes_on { (rest : List DataWord)
@@ -85,13 +73,7 @@ fn put_word(
 
 /// The differences of some words, as far as they are needed.
 #[cold]
-fn put_all_words(
-    scheme: Scheme,
-    words: Words<'_>,
-    samples: usize,
-    sum: Sum,
-    out: &mut [i32],
-) -> Result<Sum, ReadFault>
+fn put_all(scheme: Scheme, words: Words<'_>, samples: usize, sum: Sum, out: &mut [i32]) -> Walked
     requires places { length out.old ≡ samples }
     requires met { sum.met ≤ samples }
     ensures goes_on { (rest : List DataWord)
@@ -144,7 +126,7 @@ fn put_at_once(
     begin: Rows,
     samples: usize,
     sum: Sum,
-    differences: &mut [i32; ROOM],
+    differences: &mut Room,
     out: &mut [i32],
 ) -> Option<Sum>
     requires places { length out.old ≡ samples }
@@ -183,9 +165,9 @@ fn put_first_frame(
     frame: &[u8; 64],
     samples: usize,
     first: i32,
-    differences: &mut [i32; ROOM],
+    differences: &mut Room,
     out: &mut [i32],
-) -> Result<Sum, ReadFault>
+) -> Walked
     requires inside { 64 ≤ length payload.now }
     requires prefix { frame.now ≡ take 64 payload.now }
     requires places { length out.old ≡ samples }
@@ -208,7 +190,7 @@ fn put_first_frame(
     };
     match put_at_once(scheme, frame, FROM_4, samples, sum, differences, out) {
         Some(sum) => Ok(sum),
-        None => put_all_words(scheme, Words::between(payload, 4, FRAME), samples, sum, out),
+        None => put_all(scheme, Words::between(payload, 4, FRAME), samples, sum, out),
     }
 }
 
@@ -221,7 +203,7 @@ fn put_frame_words(
     samples: usize,
     sum: Sum,
     out: &mut [i32],
-) -> Result<Sum, ReadFault>
+) -> Walked
     requires inside { 64 * (index + 1) ≤ length payload.now }
     requires places { length out.old ≡ samples }
     requires met { sum.met ≤ samples }
@@ -235,7 +217,7 @@ fn put_frame_words(
     ensures places { length out.new ≡ samples }
 {
     let words = Words::between(payload, FRAME * index, FRAME * (index + 1));
-    put_all_words(scheme, words, samples, sum, out)
+    put_all(scheme, words, samples, sum, out)
 }
 
 /// The differences of the frames behind the first one. They are added up at once, where that can't go wrong, and else
@@ -245,9 +227,9 @@ fn put_later_frames(
     payload: &[u8],
     samples: usize,
     sum: Sum,
-    differences: &mut [i32; ROOM],
+    differences: &mut Room,
     out: &mut [i32],
-) -> Result<Sum, ReadFault>
+) -> Walked
     requires framed { 64 ≤ length payload.now }
     requires places { length out.old ≡ samples }
     requires met { sum.met ≤ samples }
@@ -283,7 +265,7 @@ pub(crate) fn put_words(
     samples: usize,
     first: i32,
     out: &mut [i32],
-) -> Result<Sum, ReadFault>
+) -> Walked
     requires framed { 64 ≤ length payload.now }
     requires places { length out.old ≡ samples }
     ensures folded { result
@@ -293,7 +275,7 @@ pub(crate) fn put_words(
 {
     let (frames, _) = payload.as_chunks::<64>();
     let frame = &frames[0];
-    let mut room = [0; ROOM];
+    let mut room = [0; PLACES];
     match put_first_frame(scheme, payload, frame, samples, first, &mut room, out) {
         Ok(sum) => put_later_frames(scheme, payload, samples, sum, &mut room, out),
         Err(fault) => Err(fault),

@@ -17,8 +17,11 @@ pub(crate) struct Sum {
     pub(crate) last: i32,
 }
 
+/// The sum that a walk has come to, or what comes first in place of a sample.
+pub(crate) type Walked = Result<Sum, ReadFault>;
+
 /// One difference more. That of the first sample isn't used.
-pub(crate) fn add_difference(difference: i32, samples: usize, sum: Sum) -> Result<Sum, ReadFault>
+pub(crate) fn add_difference(difference: i32, samples: usize, sum: Sum) -> Walked
     requires { sum.met < samples }
     ensures goes_on { (more : List (Result ℤ BadWordAt)) → GoesOn samples sum (Ok difference ∷ more) more result }
     ensures met { IfOk result (λ next. next.met ≡ sum.met + 1) }
@@ -58,13 +61,7 @@ pub(crate) fn add_near(difference: i32, samples: usize, sum: Sum) -> Sum
 
 /// The next difference of a group in the low bits of a word.
 #[inline(always)]
-pub(crate) fn add_digit(
-    word: u32,
-    group: Group,
-    index: u32,
-    samples: usize,
-    sum: Sum,
-) -> Result<Sum, ReadFault>
+pub(crate) fn add_digit(word: u32, group: Group, index: u32, samples: usize, sum: Sum) -> Walked
     requires inside { index < group.count }
     requires left { sum.met < samples }
     ensures goes_on { (more : List (Result ℤ BadWordAt))
@@ -82,7 +79,7 @@ pub(crate) fn add_digit(
 
 /// The sum where no difference is left: short, unless all samples have been met.
 #[inline]
-pub(crate) fn all_met(samples: usize, sum: Sum) -> Result<Sum, ReadFault>
+pub(crate) fn all_met(samples: usize, sum: Sum) -> Walked
     ensures folded { result ≡ fold samples sum [] }
     ensures met { OnOk result (sum.met ≡ samples) }
 {
@@ -94,7 +91,7 @@ pub(crate) fn all_met(samples: usize, sum: Sum) -> Result<Sum, ReadFault>
 }
 
 /// The differences of a group in the low bits of a word, as far as they are needed.
-pub(crate) fn add_group(word: u32, group: Group, samples: usize, sum: Sum) -> Result<Sum, ReadFault>
+pub(crate) fn add_group(word: u32, group: Group, samples: usize, sum: Sum) -> Walked
     requires { sum.met ≤ samples }
     ensures goes_on { (more : List (Result ℤ BadWordAt))
         → GoesOn samples sum (map Ok (digits group.width word group.count) ++ more) more result }

@@ -29,7 +29,10 @@ pub(crate) const LANES: usize = 8;
 const LANES_ONE: usize = 4;
 
 /// Room for the differences of a frame, and the lanes behind the last of them.
-pub(crate) const ROOM: usize = 128;
+pub(crate) const PLACES: usize = 128;
+
+/// The differences of a frame in their room.
+pub(crate) type Room = [i32; PLACES];
 
 /// How the words of a row are unpacked.
 #[derive(Clone, Copy)]
@@ -144,7 +147,7 @@ fn digit_by(word: u32, lift: u32, fall: u32) -> i32
 
 /// The differences of a word, from a place on.
 #[inline(always)]
-fn spread(word: u32, by: &Unpacking, lanes: usize, at: usize, differences: &mut [i32; ROOM])
+fn spread(word: u32, by: &Unpacking, lanes: usize, at: usize, differences: &mut Room)
     requires low { by.now.fall < 32 }
     requires few { lanes ≤ 8 }
     requires room { at + 8 ≤ 128 }
@@ -218,7 +221,7 @@ fn unpack_five(
     rows: &[u64; 2],
     first: usize,
     met: usize,
-    differences: &mut [i32; ROOM],
+    differences: &mut Room,
 ) -> usize
     requires lanes { lanes ≤ 8 }
     requires inside { first + 5 ≤ 16 }
@@ -245,7 +248,7 @@ fn unpack_all(
     lanes: usize,
     bits: &[u32; 16],
     rows: &[u64; 2],
-    differences: &mut [i32; ROOM],
+    differences: &mut Room,
 ) -> usize
     requires lanes { lanes ≤ 8 }
     ensures few { result ≤ 120 }
@@ -262,12 +265,7 @@ fn unpack_all(
 /// The differences of a frame's words of these rows, in their order: how many there are. Words without the code 3 have
 /// no more of them in Steim-2 than in Steim-1.
 #[inline(always)]
-fn unpack_words(
-    scheme: Scheme,
-    frame: &[u8; 64],
-    rows: &[u64; 2],
-    differences: &mut [i32; ROOM],
-) -> usize
+fn unpack_words(scheme: Scheme, frame: &[u8; 64], rows: &[u64; 2], differences: &mut Room) -> usize
     ensures few { result ≤ 120 }
     ensures unpacked { (from : ℕ) → 0 < from
         → ((word : ℕ) → word < 16 → row_of rows.now word ≡ row_at frame.now from word)
@@ -283,12 +281,7 @@ fn unpack_words(
 /// The differences of a frame's words from word 1 or word 4 on, in their order: how many there are. None where a word
 /// is bad or has a difference of 30 or 32 bits.
 #[inline(always)]
-fn unpack_by(
-    scheme: Scheme,
-    frame: &[u8; 64],
-    begin: Rows,
-    differences: &mut [i32; ROOM],
-) -> Option<usize>
+fn unpack_by(scheme: Scheme, frame: &[u8; 64], begin: Rows, differences: &mut Room) -> Option<usize>
     requires { (from : ℕ) × Begins begin from }
     ensures { IfSome result (λ count. AreUnpacked scheme begin frame.now (take count differences.new) count) }
 {
@@ -305,7 +298,7 @@ pub(crate) fn unpack_frame(
     scheme: Scheme,
     frame: &[u8; 64],
     begin: Rows,
-    differences: &mut [i32; ROOM],
+    differences: &mut Room,
 ) -> Option<usize>
     requires { (from : ℕ) × Begins begin from }
     ensures { IfSome result (λ count. AreUnpacked scheme begin frame.now (take count differences.new) count) }

@@ -14,13 +14,13 @@ use crate::fault::ReadFault;
 use crate::frame::{FROM_1, FROM_4, Moved, move_of};
 use crate::group::group_of;
 use crate::scheme::Scheme;
-use crate::sum::{Sum, add_group, all_met};
+use crate::sum::{Sum, Walked, add_group, all_met};
 
 /// No sum of a frame's differences is further from 0 than this, unless one of them has 30 or 32 bits.
 const REACH: u32 = 1 << 20;
 
 /// The differences of a word, as far as they are needed.
-fn add_word(scheme: Scheme, word: Word, samples: usize, sum: Sum) -> Result<Sum, ReadFault>
+fn add_word(scheme: Scheme, word: Word, samples: usize, sum: Sum) -> Walked
     requires { sum.met ≤ samples }
     ensures goes_on { (rest : List DataWord)
         → GoesOn samples sum (items_of scheme (as_data word ∷ rest)) (items_of scheme rest) result }
@@ -37,7 +37,7 @@ fn add_word(scheme: Scheme, word: Word, samples: usize, sum: Sum) -> Result<Sum,
 
 /// The differences of some words, as far as they are needed.
 #[cold]
-fn add_words(scheme: Scheme, words: Words<'_>, samples: usize, sum: Sum) -> Result<Sum, ReadFault>
+fn add_words(scheme: Scheme, words: Words<'_>, samples: usize, sum: Sum) -> Walked
     requires { sum.met ≤ samples }
     ensures goes_on { (rest : List DataWord)
         → GoesOn samples sum (items_of scheme (words.entry ++ rest)) (items_of scheme rest) result }
@@ -85,7 +85,7 @@ fn add_first_frame(
     frame: &[u8; 64],
     samples: usize,
     first: i32,
-) -> Result<Sum, ReadFault>
+) -> Walked
     requires inside { 64 ≤ length payload.now }
     requires prefix { frame.now ≡ take 64 payload.now }
     ensures goes_on { (rest : List DataWord)
@@ -115,7 +115,7 @@ fn add_frame(
     index: usize,
     samples: usize,
     sum: Sum,
-) -> Result<Sum, ReadFault>
+) -> Walked
     requires inside { 64 * (index + 1) ≤ length payload.now }
     requires at { frame.now ≡ take 64 (drop (64 * index) payload.now) }
     requires met { sum.met ≤ samples }
@@ -135,12 +135,7 @@ fn add_frame(
 
 /// The sum of so many samples, of which this is the first, or what comes first in place of one. Frames are
 /// added up at once, where that can't go wrong, and else word by word.
-pub(crate) fn add_frames(
-    scheme: Scheme,
-    payload: &[u8],
-    samples: usize,
-    first: i32,
-) -> Result<Sum, ReadFault>
+pub(crate) fn add_frames(scheme: Scheme, payload: &[u8], samples: usize, first: i32) -> Walked
     requires { 64 ≤ length payload.now }
     ensures { result ≡ fold samples (record { met = 0; last = first }) (items_of scheme (data_words payload.now)) }
 {

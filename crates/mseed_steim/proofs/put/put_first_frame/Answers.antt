@@ -26,13 +26,13 @@ pub returns-in-None-clause-goes_on : goal.returns-in-None-clause-goes_on
 returns-in-None-clause-goes_on c = λ rest.
     let fits : FitsSigned w32 c.args.first = c.ranges.first in
     first_goes_on c.args.samples c.args.scheme c.args.payload.now _
-    (record { met = 0; last = c.args.first }) c.in-Ok.sum c.put_all_words.result c.first_word.ensures
-    (rw to_z-of_z at c.in-Ok.ensures.goes_on) rest (rw c.between.ensures at (c.put_all_words.ensures.goes_on rest))
+    (record { met = 0; last = c.args.first }) c.in-Ok.sum c.put_all.result c.first_word.ensures
+    (rw to_z-of_z at c.in-Ok.ensures.goes_on) rest (rw c.between.ensures at (c.put_all.ensures.goes_on rest))
 
 pub returns-in-None-clause-kept : goal.returns-in-None-clause-kept
 returns-in-None-clause-kept c = λ rest.
     let fits : FitsSigned w32 c.args.first = c.ranges.first in
     first_keeps c.args.samples c.args.scheme c.args.payload.now _
-    (record { met = 0; last = c.args.first }) c.in-Ok.sum c.args.out.now c.put_word.new.out c.put_all_words.new.out c.put_all_words.result
+    (record { met = 0; last = c.args.first }) c.in-Ok.sum c.args.out.now c.put_word.new.out c.put_all.new.out c.put_all.result
     c.first_word.ensures (rw to_z-of_z at c.in-Ok.ensures.kept) rest
-    (rw (c.in-None.ensures.none, c.between.ensures) at (c.put_all_words.ensures.kept rest))
+    (rw (c.in-None.ensures.none, c.between.ensures) at (c.put_all.ensures.kept rest))
