@@ -59,6 +59,11 @@ by_bytes f g F G h a b c d A B C D =
     at x less = all_four (eqb (f x 0 0 0) (g x 0 0 0)) (eqb (f 0 x 0 0) (g 0 x 0 0)) (eqb (f 0 0 x 0) (g 0 0 x 0))
         (eqb (f 0 0 0 x) (g 0 0 0 x)) (every_below (agree_at f g) 256 h x less)
 
+-- and one that is 0 for each byte alone is 0
+pub no_bytes : (f : ℕ → ℕ → ℕ → ℕ → ℕ) → Separate f → T (all_below (agree_at f (λ a b c d. 0)) 256)
+    → (a b c d : ℕ) → a < 256 → b < 256 → c < 256 → d < 256 → f a b c d ≡ 0
+no_bytes f F = by_bytes f (λ a b c d. 0) F (λ a b c d. omega arith)
+
 -- a digit, more by half its range
 raised : (w x : ℕ) → 0 < w → x < 2 ^ w → signed w x +ℤ pos (2 ^ (w - 1)) ≡ pos ((x + 2 ^ (w - 1)) % 2 ^ w)
 raised w x some less = ⊎_elim
@@ -81,7 +86,7 @@ abbrev pub raised_sum : ℕ → ℕ → ℕ → ℕ
 raised_sum w word zero = 0
 raised_sum w word (suc n) = (word / 2 ^ (w * n) % 2 ^ w + 2 ^ (w - 1)) % 2 ^ w + raised_sum w word n
 
-pub raised_total : (w word : ℕ) → 0 < w → (n : ℕ)
+raised_total : (w word : ℕ) → 0 < w → (n : ℕ)
     → pos (raised_sum w word n) ≡ total (digits w word n) +ℤ pos (n * 2 ^ (w - 1))
 unfolding digits
 raised_total w word some zero = omega (arith, ints)
@@ -91,13 +96,21 @@ raised_total w word some (suc n) =
     let more : suc n * 2 ^ (w - 1) ≡ 2 ^ (w - 1) + n * 2 ^ (w - 1) = omega arith in
     rw more (omega (arith, ints, one, later))
 
-pub raised_small : (w word n : ℕ) → raised_sum w word n ≤ n * 2 ^ w
+raised_small : (w word n : ℕ) → raised_sum w word n ≤ n * 2 ^ w
 raised_small w word zero = omega arith
 raised_small w word (suc n) =
     let one = mod-lt (word / 2 ^ (w * n) % 2 ^ w + 2 ^ (w - 1)) (pow_pos w) in
     let later = raised_small w word n in
     let more : suc n * 2 ^ w ≡ 2 ^ w + n * 2 ^ w = omega arith in
     omega (arith, one, later, more)
+
+-- so the sum of the digits tells that of the differences, and how far both go
+pub raised_tells : (w n word s : ℕ) → 0 < w → raised_sum w word n ≡ s
+    → (pos s ≡ total (digits w word n) +ℤ pos (n * 2 ^ (w - 1))) × (s ≤ n * 2 ^ w)
+    × (2 * (n * 2 ^ (w - 1)) ≡ n * 2 ^ w)
+raised_tells w n word s some e =
+    let half : 2 * (n * 2 ^ (w - 1)) ≡ n * 2 ^ w = rw (twice_half w some) (omega arith) in
+    (rw (← e) (raised_total w word some n), rw (← e) (raised_small w word n), half)
 
 -- 4 differences of 8 bits
 pub four_is : (a b c d : ℕ) → a < 256 → b < 256 → c < 256 → d < 256

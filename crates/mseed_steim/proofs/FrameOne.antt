@@ -14,9 +14,8 @@ use Rattle.mseed_steim.proofs.FrameSums.{part_at, row_small}
 use Rattle.std.proofs.Math.Facts.{to_z-neg}
 use Rattle.std.proofs.lemmas.Bool.{cases_lt}
 use Rattle.std.proofs.Common.{⊎_elim}
-use Rattle.mseed_steim.proofs.FrameBytes.{Separate, agree_at, all_below, by_bytes, raised_small, raised_sum}
-use Rattle.mseed_steim.proofs.FrameBytes.{raised_total, four_is, wide_is}
-use Rattle.mseed_steim.proofs.Words.{twice_half}
+use Rattle.mseed_steim.proofs.FrameBytes.{Separate, agree_at, all_below, by_bytes, no_bytes, raised_sum, raised_tells}
+use Rattle.mseed_steim.proofs.FrameBytes.{four_is, wide_is}
 
 -- the parts of a word
 abbrev pub whole_one : ℕ → ℕ → ℕ → ℕ → ℕ → ℕ
@@ -42,22 +41,16 @@ told_one : (row : ℕ) (sum : ℕ → ℕ → ℕ → ℕ → ℕ)
     → get_or counts_one row 0 * 2 ^ get_or widths_one row 0 ≤ 131072 → Separate (whole_one row) → Separate sum
     → T (all_below (agree_at (whole_one row) sum) 256) → AllTell_one row
 told_one row sum is low some high F G agree a b c d A B C D few =
-    let n : ℕ = get_or counts_one row 0 in
-    let w : ℕ = get_or widths_one row 0 in
     let e : whole_one row a b c d ≡ sum a b c d = by_bytes (whole_one row) sum F G agree a b c d A B C D in
-    let small = raised_small w (word_of a b c d) n in
-    let half : n * 2 ^ w ≡ 2 * (n * 2 ^ (w - 1)) = rw (twice_half w some) (omega arith) in (
-      rw (e, low, ← is a b c d A B C D) (raised_total w (word_of a b c d) some n),
-      omega (arith, e, is a b c d A B C D, small, high),
-      omega (arith, low, half, high),
-    )
+    let all = raised_tells (get_or widths_one row 0) (get_or counts_one row 0) (word_of a b c d) (sum a b c d) some
+    (is a b c d A B C D) in
+    (rw (e, low) all.0, omega (arith, e, all.1, high), omega (arith, low, all.2, high))
 
 none_told : (row : ℕ) → Separate (whole_one row) → T (all_below (agree_at (whole_one row) (λ a b c d. 0)) 256)
     → get_or counts_one row 0 ≡ 0 → least_one row ≡ 0 → AllTell_one row
 unfolding digits
 none_told row F agree none low a b c d A B C D few =
-    let e : whole_one row a b c d ≡ 0 =
-    by_bytes (whole_one row) (λ a b c d. 0) F (λ a b c d. refl) agree a b c d A B C D in
+    let e = no_bytes (whole_one row) F agree a b c d A B C D in
     (rw (e, none, low) refl, omega (arith, e), omega (arith, low))
 
 all_tell : (row : ℕ) → row < 16 → AllTell_one row

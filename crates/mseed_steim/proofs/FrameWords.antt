@@ -6,9 +6,8 @@ use Rattle.mseed_steim.specs.private.Lanes.{total, word_of}
 use Rattle.mseed_steim.specs.private.Lanes.{fine_two, ones_two, coarse_two, turned_a, turned_b, turned_c, turned_d}
 use Rattle.mseed_steim.specs.private.Lanes.{least_two, least_coarse_two, counts_two, widths_two}
 use Rattle.mseed_steim.proofs.Below.{sixteen}
-use Rattle.mseed_steim.proofs.FrameBytes.{Separate, agree_at, all_below, by_bytes, raised_small, raised_sum}
-use Rattle.mseed_steim.proofs.FrameBytes.{raised_total, four_is, two_is, three_is, five_is, six_is, seven_is}
-use Rattle.mseed_steim.proofs.Words.{twice_half}
+use Rattle.mseed_steim.proofs.FrameBytes.{Separate, agree_at, all_below, by_bytes, no_bytes, raised_sum, raised_tells}
+use Rattle.mseed_steim.proofs.FrameBytes.{four_is, two_is, three_is, five_is, six_is, seven_is}
 
 -- 128 times what the parts of a word count for
 abbrev pub whole : ℕ → ℕ → ℕ → ℕ → ℕ → ℕ
@@ -40,17 +39,15 @@ told : (row : ℕ) (sum : ℕ → ℕ → ℕ → ℕ → ℕ)
     → get_or counts_two row 0 * 2 ^ get_or widths_two row 0 ≤ 65536 → Separate (whole row) → Separate sum
     → T (all_below (agree_at (whole row) (λ a b c d. 128 * sum a b c d)) 256) → AllTell row
 told row sum is low some high F G agree a b c d A B C D few =
-    let n : ℕ = get_or counts_two row 0 in
-    let w : ℕ = get_or widths_two row 0 in
     let e : whole row a b c d ≡ 128 * sum a b c d =
     by_bytes (whole row) (λ a b c d. 128 * sum a b c d) F (λ a b c d. omega (arith, G a b c d)) agree a b c d A B C D in
     let f : whole row a b c d / 128 ≡ sum a b c d = ap (λ n. n / 128) e ∙ omega arith in
-    let small = raised_small w (word_of a b c d) n in
-    let half : n * 2 ^ w ≡ 2 * (n * 2 ^ (w - 1)) = rw (twice_half w some) (omega arith) in (
+    let all = raised_tells (get_or widths_two row 0) (get_or counts_two row 0) (word_of a b c d) (sum a b c d) some
+    (is a b c d A B C D) in (
       ap (λ n. n % 128) e ∙ omega arith,
-      rw (f, low, ← is a b c d A B C D) (raised_total w (word_of a b c d) some n),
-      omega (arith, f, is a b c d A B C D, small, high),
-      omega (arith, low, half, high),
+      rw (f, low) all.0,
+      omega (arith, f, all.1, high),
+      omega (arith, low, all.2, high),
     )
 
 -- a row of no differences
@@ -58,8 +55,7 @@ none_told : (row : ℕ) → Separate (whole row) → T (all_below (agree_at (who
     → get_or counts_two row 0 ≡ 0 → least row ≡ 0 → AllTell row
 unfolding digits
 none_told row F agree none low a b c d A B C D few =
-    let e : whole row a b c d ≡ 0 =
-    by_bytes (whole row) (λ a b c d. 0) F (λ a b c d. refl) agree a b c d A B C D in
+    let e = no_bytes (whole row) F agree a b c d A B C D in
     (ap (λ n. n % 128) e, rw (e, none, low) refl, omega (arith, e), omega (arith, low))
 
 all_tell : (row : ℕ) → row < 16 → AllTell row

@@ -230,8 +230,8 @@ fn put_later_frames(
     differences: &mut Room,
     out: &mut [i32],
 ) -> Walked
-    requires framed { 64 ≤ length payload.now }
     requires places { length out.old ≡ samples }
+    requires framed { 64 ≤ length payload.now }
     requires met { sum.met ≤ samples }
     ensures folded { result ≡ fold samples sum
         (items_of scheme (words_from payload.now 16 (word_count payload.now - 16))) }

@@ -1,5 +1,4 @@
 use Rattle.std.proofs.Common.{◌-◌, ◌∙◌, List, ap, sym, w32}
-use Rattle.std.proofs.Common.{FitsSigned}
 use Rattle.std.proofs.lemmas.Int.{to_z-of_z}
 use Rattle.mseed_steim.specs.Frames.{DataWord, words_from, word_count}
 use Rattle.mseed_steim.specs.private.Items.{items_of}
@@ -9,25 +8,20 @@ use Rattle.mseed_steim.proofs.put.put_words.Goals as goal
 
 pub returns-in-Err-clause-folded : goal.returns-in-Err-clause-folded
 returns-in-Err-clause-folded c =
-    let fits : FitsSigned w32 c.args.first = c.ranges.first in
-    let step = rw to_z-of_z at
+    let step = rw (to_z-of_z w32 c.args.first c.ranges.first) at
     (c.in-Err.ensures.goes_on (words_from c.args.payload.now 16 (word_count c.args.payload.now - 16))) in
     sym (ap (λ (ws : List DataWord). fold c.args.samples (record { met = 0; last = c.args.first })
     (items_of c.args.scheme ws)) (first_cut c.args.payload.now c.requires.framed) ∙ step)
 
-pub returns-in-Ok-clause-folded : goal.returns-in-Ok-clause-folded
-returns-in-Ok-clause-folded c =
-    let fits : FitsSigned w32 c.args.first = c.ranges.first in
-    let step = rw to_z-of_z at
-    (c.in-Ok.ensures.goes_on (words_from c.args.payload.now 16 (word_count c.args.payload.now - 16))) in
-    c.put_later_frames.ensures.folded
-    ∙ sym (ap (λ (ws : List DataWord). fold c.args.samples (record { met = 0; last = c.args.first })
-    (items_of c.args.scheme ws)) (first_cut c.args.payload.now c.requires.framed) ∙ step)
-
-pub returns-in-Ok-clause-kept : goal.returns-in-Ok-clause-kept
-returns-in-Ok-clause-kept c =
-    let fits : FitsSigned w32 c.args.first = c.ranges.first in
-    let kept = rw to_z-of_z at
-    (c.in-Ok.ensures.kept (words_from c.args.payload.now 16 (word_count c.args.payload.now - 16))) in
+pub returns-in-Ok : goal.returns-in-Ok
+returns-in-Ok c =
+    let rest = words_from c.args.payload.now 16 (word_count c.args.payload.now - 16) in
     let cut = first_cut c.args.payload.now c.requires.framed in
-    rw (kept, ← cut) at c.put_later_frames.ensures.kept
+    let step = rw (to_z-of_z w32 c.args.first c.ranges.first) at (c.in-Ok.ensures.goes_on rest) in
+    let kept = rw (to_z-of_z w32 c.args.first c.ranges.first) at (c.in-Ok.ensures.kept rest) in
+    record {
+      folded = c.put_later_frames.ensures.folded
+          ∙ sym (ap (λ (ws : List DataWord). fold c.args.samples (record { met = 0; last = c.args.first })
+          (items_of c.args.scheme ws)) cut ∙ step);
+      kept = rw (kept, ← cut) at c.put_later_frames.ensures.kept;
+    }
