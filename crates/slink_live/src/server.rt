@@ -214,6 +214,7 @@ impl Server {
     }
 
     /// Takes note that no record comes any more.
+    #[tactic(auto, using(crate::proofs::Steps::ended_sound, crate::proofs::Steps::few_records))]
     fn on_end<R: Ready>(&mut self, ready: &mut R) -> Result<(), InputFault>
         requires { IsSound self.old }
         ensures answers { AnswersFault self.old self.new (R.log ready.old) (R.log ready.new) result }
@@ -228,6 +229,7 @@ impl Server {
     }
 
     /// Takes note that the input failed.
+    #[tactic(auto, using(crate::proofs::Steps::ended_sound, crate::proofs::Steps::few_records))]
     fn on_failure<R: Ready>(&mut self, ready: &mut R) -> Result<(), InputFault>
         requires { IsSound self.old }
         ensures answers { AnswersFault self.old self.new (R.log ready.old) (R.log ready.new) result }
@@ -242,6 +244,7 @@ impl Server {
     }
 
     /// Reads the input no more, since the device was called too often, and says so.
+    #[tactic(auto, using(crate::proofs::Steps::ended_sound, crate::proofs::Steps::few_records))]
     fn give_up<R: Ready>(&mut self, ready: &mut R) -> InputFault
         requires { IsSound self.old }
         ensures answers { AnswersFault self.old self.new (R.log ready.old) (R.log ready.new) (Err result) }
