@@ -1,16 +1,25 @@
 -- A client over the stream of bytes that its link brought so far.
-use Rattle.std.specs.Prelude.{◌≡◌, ℕ, List, [], ◌∷◌, ◌++◌}
+use Rattle.std.specs.Prelude.{◌≡◌, ℕ, Bool, List, [], ◌∷◌, ◌++◌, Option}
+use Rattle.slink_wire.specs.Place.{Fields}
+use Rattle.slink_feed.specs.declared.grant.Mode.{Mode}
 use Rattle.slink_feed.specs.declared.dialogue.Event.{Event}
 use Rattle.slink_feed.specs.declared.dialogue.Event.TheVariants as events
 use Rattle.slink_feed.specs.declared.dialogue.Stage.{Stage}
 use Rattle.slink_feed.specs.declared.dialogue.Stage.TheVariants.{Unlinked, Station, Number, Packets, Ended}
 use Rattle.slink_feed.specs.Cutting.{IsBegun, IsWhole}
-use Rattle.slink_feed.specs.Dialogue.{Talk, Whole, read}
+use Rattle.slink_feed.specs.Dialogue.{Talk, Whole, read, wants_of}
 
 -- what a client has come to, and the bytes of a whole that is begun
 pub record Listening : Type 0 where
   pub talk : Talk
   pub kept : List ℕ
+
+-- a client of these places before its first link, which goes past holes or doesn't
+abbrev pub new_client : List (Fields × Option ℕ) → Mode → Bool → Listening
+new_client places mode holes = record {
+  talk = record { mode = mode; wants = wants_of places; stage = Unlinked; holes = holes };
+  kept = [];
+}
 
 -- A reply is awaited.
 abbrev pub AwaitsReply : Stage → Type 0

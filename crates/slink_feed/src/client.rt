@@ -8,9 +8,8 @@ ghost use Rattle.slink_feed.specs.private.Parts.{IsPacketPart, IsReplyPart};
 ghost use Rattle.slink_feed.specs.declared.dialogue.Ending.{Ending};
 ghost use Rattle.slink_feed.specs.declared.dialogue.Event.{Event};
 ghost use Rattle.slink_feed.specs.Dialogue.{AreNumbers, Talk, at_packet, bearer, event_of, next_at, says_place};
-ghost use Rattle.slink_feed.specs.Dialogue.{wants_of};
 ghost use Rattle.slink_feed.specs.Fetching.{turn_at};
-ghost use Rattle.slink_feed.specs.Listening.{AwaitsReply, Brings, IsLinked, Reads, telling};
+ghost use Rattle.slink_feed.specs.Listening.{AwaitsReply, Brings, IsLinked, Reads, new_client, telling};
 
 use crate::cutting::{PACKET, Part, take_packet, take_reply};
 use crate::dialogue::{Bytes, Dialogue, Ending, Event, Stage, Wanted};
@@ -47,14 +46,9 @@ impl Client {
     pub fn new(places: &[(Place, Option<u32>)], mode: Mode) -> Client
         requires count { length places.now ≤ 16 }
         requires numbers { AreNumbers places.now }
-        ensures talk { result.talk
-            ≡ record { mode = mode; wants = wants_of places.now; stage = Stage.Unlinked; holes = false } }
-        ensures kept { result.kept ≡ [] }
+        ensures { result ≡ new_client places.now mode false }
     {
-        Client {
-            dialogue: Dialogue::new(places, mode, false),
-            kept: ArrayVec::new(),
-        }
+        Client::of(places, mode, false)
     }
 
     /// A client as by [`Client::new`] that goes past holes: it takes a record too whose number is ahead of the one that
@@ -62,12 +56,19 @@ impl Client {
     pub fn past_holes(places: &[(Place, Option<u32>)], mode: Mode) -> Client
         requires count { length places.now ≤ 16 }
         requires numbers { AreNumbers places.now }
-        ensures talk { result.talk
-            ≡ record { mode = mode; wants = wants_of places.now; stage = Stage.Unlinked; holes = true } }
-        ensures kept { result.kept ≡ [] }
+        ensures { result ≡ new_client places.now mode true }
+    {
+        Client::of(places, mode, true)
+    }
+
+    /// A client that goes past holes, or doesn't.
+    fn of(places: &[(Place, Option<u32>)], mode: Mode, holes: bool) -> Client
+        requires count { length places.now ≤ 16 }
+        requires numbers { AreNumbers places.now }
+        ensures { result ≡ new_client places.now mode holes }
     {
         Client {
-            dialogue: Dialogue::new(places, mode, true),
+            dialogue: Dialogue::new(places, mode, holes),
             kept: ArrayVec::new(),
         }
     }
