@@ -40,6 +40,15 @@ pub record BytesRead (old : Listening) (bytes : List ℕ) (used : ℕ) (new : Li
   pub unlinked : old.talk.stage ≡ Unlinked → (used ≡ length bytes) × (event ≡ events.None) × (new ≡ old)
   pub ended : (ending : Ending) → old.talk.stage ≡ Ended ending → (used ≡ 0) × (event ≡ event_of ending) × (new ≡ old)
 
+pub bytes_read : (old new : Listening) (bytes : List ℕ) (used : ℕ) (event : Event)
+    → (IsLinked old.talk.stage → Brings old.talk (old.kept ++ take used bytes) new event)
+    → (event ≡ events.None → used ≡ length bytes)
+    → (old.talk.stage ≡ Unlinked → (used ≡ length bytes) × (event ≡ events.None) × (new ≡ old))
+    → ((ending : Ending) → old.talk.stage ≡ Ended ending → (used ≡ 0) × (event ≡ event_of ending) × (new ≡ old))
+    → BytesRead old bytes used new event
+bytes_read old new bytes used event brings all before behind =
+    record { brings = brings; all = all; unlinked = before; ended = behind }
+
 nothing_noted : (first_sent : Numbers) (ending : Ending) (t : Taking) → noted first_sent (event_of ending) t ≡ t
 nothing_noted first_sent endings.End t = refl
 nothing_noted first_sent (endings.Refused k) t = refl

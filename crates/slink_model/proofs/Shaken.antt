@@ -259,24 +259,6 @@ module _ (places : Places) (differ : Differ places) (codes_are : (k : ℕ) (p : 
         subst (IsSuited (next_at client.talk.wants k) (grant_at session.state.grants k)) (ap (of_place k) one ∙ none k)
         (f.suited k)
 
-    -- where a STATION is to be answered
-    place_talks : (t : Taking) (new : Listening) (bytes left : List ℕ) (e : Event) (w : Whole) (k : ℕ)
-        (l : LinkTalks places t.client session t.to_server (bytes ++ left)) → AreCalled places t.client.talk.wants
-        → t.client.talk.stage ≡ Station k
-        → session.state.phase ≡ Chosen k → IsAnswered l.taken t.to_server → l.items ≡ Accepted ∷ []
-        → IsWhole t.client.talk.stage (t.client.kept ++ bytes) w → read t.client.talk w ≡ (new.talk, e)
-        → new.kept ≡ [] → ClientTalks new (Way t new e) left
-    place_talks t new bytes left e w k l called stage phase reported one is h none =
-        let first : (says_number k t.client.talk ≡ (new.talk, e)) × (left ≡ []) =
-        first_read (Station k) t.client bytes left w (Reply (codes "OK")) Accepted [] (new.talk, e) stage
-        (l.flows.flow ∙ ap way_bytes one) accepted_whole is h in
-        let request : Request = numbered t.client.talk.mode (next_at t.client.talk.wants k) in
-        written_talks t new (Number k) request e left l.taken first.0 none first.1 tt tt called
-        (reply_suited t.client (bytes ++ left) l.items Accepted one (λ i. refl) l.flows) l.held
-        (asks_number k refl phase
-        (asks_more (request_line request) l.taken t.to_server
-        (number_line t.client.talk.mode (next_at t.client.talk.wants k)) reported) refl)
-
     -- where a DATA or FETCH is answered by `OK`
     next_talks : (t : Taking) (new : Listening) (left taken : List ℕ) (e : Event) (k : ℕ) (o : Option Wanted)
         → AreCalled places t.client.talk.wants → session.state.phase ≡ Granted k → IsAnswered taken t.to_server
@@ -299,34 +281,49 @@ module _ (places : Places) (differ : Differ places) (codes_are : (k : ℕ) (p : 
         (asks_more (request_line (requests.Station w.place)) taken t.to_server
         (station_line w.place fields.0 fields.1) reported) refl)
 
-    number_talks : (t : Taking) (new : Listening) (bytes left : List ℕ) (e : Event) (w : Whole) (k : ℕ)
-        (l : LinkTalks places t.client session t.to_server (bytes ++ left)) → AreCalled places t.client.talk.wants
-        → t.client.talk.stage ≡ Number k
-        → session.state.phase ≡ Granted k → IsAnswered l.taken t.to_server → l.items ≡ Accepted ∷ []
-        → IsWhole t.client.talk.stage (t.client.kept ++ bytes) w → read t.client.talk w ≡ (new.talk, e)
-        → new.kept ≡ [] → ClientTalks new (Way t new e) left
-    number_talks t new bytes left e w k l called stage phase reported one is h none =
-        let first : (says_place (k + 1) t.client.talk ≡ (new.talk, e)) × (left ≡ []) =
-        first_read (Number k) t.client bytes left w (Reply (codes "OK")) Accepted [] (new.talk, e) stage
-        (l.flows.flow ∙ ap way_bytes one) accepted_whole is h in
-        next_talks t new left l.taken e k (want_at t.client.talk.wants (k + 1)) called phase reported refl first.0
-        none first.1
-        (reply_suited t.client (bytes ++ left) l.items Accepted one (λ i. refl) l.flows) l.held
+    -- A client awaits a reply, and nothing else is on its way.
+    module _ (t : Taking) (new : Listening) (bytes left : List ℕ) (e : Event) (w : Whole) (k : ℕ)
+        (l : LinkTalks places t.client session t.to_server (bytes ++ left))
+        (called : AreCalled places t.client.talk.wants)
+      where
+        -- where a STATION is to be answered
+        place_talks : t.client.talk.stage ≡ Station k → session.state.phase ≡ Chosen k → IsAnswered l.taken t.to_server
+            → l.items ≡ Accepted ∷ [] → IsWhole t.client.talk.stage (t.client.kept ++ bytes) w
+            → read t.client.talk w ≡ (new.talk, e) → new.kept ≡ [] → ClientTalks new (Way t new e) left
+        place_talks stage phase reported one is h none =
+            let first : (says_number k t.client.talk ≡ (new.talk, e)) × (left ≡ []) =
+            first_read (Station k) t.client bytes left w (Reply (codes "OK")) Accepted [] (new.talk, e) stage
+            (l.flows.flow ∙ ap way_bytes one) accepted_whole is h in
+            let request : Request = numbered t.client.talk.mode (next_at t.client.talk.wants k) in
+            written_talks t new (Number k) request e left l.taken first.0 none first.1 tt tt called
+            (reply_suited t.client (bytes ++ left) l.items Accepted one (λ i. refl) l.flows) l.held
+            (asks_number k refl phase
+            (asks_more (request_line request) l.taken t.to_server
+            (number_line t.client.talk.mode (next_at t.client.talk.wants k)) reported) refl)
 
-    -- and where by `ERROR`
-    refused_talks : (t : Taking) (new : Listening) (bytes left : List ℕ) (e : Event) (w : Whole) (k : ℕ)
-        (l : LinkTalks places t.client session t.to_server (bytes ++ left)) → AreCalled places t.client.talk.wants
-        → t.client.talk.stage ≡ Number k
-        → IsAnswered l.taken t.to_server → l.items ≡ Refused ∷ []
-        → IsWhole t.client.talk.stage (t.client.kept ++ bytes) w → read t.client.talk w ≡ (new.talk, e)
-        → ClientTalks new (Way t new e) left
-    refused_talks t new bytes left e w k l called stage reported one is h =
-        let first : (ended (endings.Refused k) t.client.talk ≡ (new.talk, e)) × (left ≡ []) =
-        first_read (Number k) t.client bytes left w (Reply (codes "ERROR")) Refused [] (new.talk, e) stage
-        (l.flows.flow ∙ ap way_bytes one) refused_whole is h in
-        ended_talks t.client.talk new (endings.Refused k) (Way t new e) left
-        (sym (ap (λ (p : Talk × Event). p.0) first.0)) tt called
-        (ended_quiet t new (endings.Refused k) e first.0 (l.taken, λ awake. (l.held awake, reported)))
+        -- where a DATA or FETCH is
+        number_talks : t.client.talk.stage ≡ Number k → session.state.phase ≡ Granted k → IsAnswered l.taken t.to_server
+            → l.items ≡ Accepted ∷ [] → IsWhole t.client.talk.stage (t.client.kept ++ bytes) w
+            → read t.client.talk w ≡ (new.talk, e) → new.kept ≡ [] → ClientTalks new (Way t new e) left
+        number_talks stage phase reported one is h none =
+            let first : (says_place (k + 1) t.client.talk ≡ (new.talk, e)) × (left ≡ []) =
+            first_read (Number k) t.client bytes left w (Reply (codes "OK")) Accepted [] (new.talk, e) stage
+            (l.flows.flow ∙ ap way_bytes one) accepted_whole is h in
+            next_talks t new left l.taken e k (want_at t.client.talk.wants (k + 1)) called phase reported refl first.0
+            none first.1
+            (reply_suited t.client (bytes ++ left) l.items Accepted one (λ i. refl) l.flows) l.held
+
+        -- and where by `ERROR`
+        refused_talks : t.client.talk.stage ≡ Number k → IsAnswered l.taken t.to_server → l.items ≡ Refused ∷ []
+            → IsWhole t.client.talk.stage (t.client.kept ++ bytes) w → read t.client.talk w ≡ (new.talk, e)
+            → ClientTalks new (Way t new e) left
+        refused_talks stage reported one is h =
+            let first : (ended (endings.Refused k) t.client.talk ≡ (new.talk, e)) × (left ≡ []) =
+            first_read (Number k) t.client bytes left w (Reply (codes "ERROR")) Refused [] (new.talk, e) stage
+            (l.flows.flow ∙ ap way_bytes one) refused_whole is h in
+            ended_talks t.client.talk new (endings.Refused k) (Way t new e) left
+            (sym (ap (λ (p : Talk × Event). p.0) first.0)) tt called
+            (ended_quiet t new (endings.Refused k) e first.0 (l.taken, λ awake. (l.held awake, reported)))
 
     -- a packet comes
     packet_talks : (t : Taking) (new : Listening) (bytes left : List ℕ) (e : Event) (w : Whole) (k n : ℕ) (r : List ℕ)
