@@ -36,18 +36,15 @@ returns-in_err-push_next g c =
 
 pub records-smaller : goal.records-smaller
 records-smaller g c =
-    let views : List View = c.records.invariant.2.0 in
-    let filled = c.records.invariant.2.1 in
-    let more = rw c.in-Pushed.is at c.in_ok-push_next.ensures c.args.serving.now views c.requires.called filled
-    (number_of views c.records.invariant.2.2) in
+    let more = rw c.in-Pushed.is at c.in_ok-push_next.ensures c.args.serving.now c.records.invariant.2.0
+    c.requires.called c.records.invariant.2.1 (number_of c.records.invariant.2.0 c.records.invariant.2.2) in
     omega (arith, more.called, more.filled.handed.along.read.reads, more.filled.handed.along.read.few_reads)
 
 pub records-preserved : goal.records-preserved
 records-preserved g c =
     let views : List View = c.records.invariant.2.0 in
-    let filled = c.records.invariant.2.1 in
-    let more = rw c.in-Pushed.is at c.in_ok-push_next.ensures c.args.serving.now views c.requires.called filled
-    (number_of views c.records.invariant.2.2) in
+    let more = rw c.in-Pushed.is at c.in_ok-push_next.ensures c.args.serving.now views c.requires.called
+    c.records.invariant.2.1 (number_of views c.records.invariant.2.2) in
     let number : c.records.records + 1 ≡ length (views ++ more.view ∷ []) =
     omega (arith, c.records.invariant.2.2, length-append views (more.view ∷ [])) in (
       more.filled.handed.along,
