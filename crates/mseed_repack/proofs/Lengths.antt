@@ -1,9 +1,8 @@
 -- How many records each stretch of a channel has.
 use Rattle.std.proofs.Common.{◌≡◌, ◌≢◌, ℕ, zero, suc, ◌+◌, ◌<◌, ◌≤◌, List, [], ◌∷◌, ◌++◌, length, take, drop, get_or}
 use Rattle.std.proofs.Common.{map}
-use Rattle.std.proofs.Common.{refl, sym, ap, subst, ◌∙◌, arith, ⊎_elim, length-take-le}
-use Rattle.std.proofs.lemmas.Bool.{cases_lt}
-use Rattle.std.proofs.lemmas.List.{drop_all, drop_more, drop-drop, length-drop, length-map, take-append-drop, take_at}
+use Rattle.std.proofs.Common.{refl, sym, ap, subst, ◌∙◌, arith, length-take-le}
+use Rattle.std.proofs.lemmas.List.{drop_all, drop_more, drop-drop, length-map, take-append-drop, take_at}
 use Rattle.std.proofs.lemmas.List.{drop_at, map-append}
 use Rattle.mseed_record.specs.View.{View}
 use Rattle.mseed_record.specs.Viewing.{view_of}
@@ -58,17 +57,15 @@ pub lengths_whole : (ns : List ℕ) (rs : List RecordView) (from : ℕ) → leng
 lengths_whole ns rs from le are =
     subst (λ (qs : List RecordView). AreLengthsUpTo ns (map view_of rs) (map view_of qs)) (drop_all from rs le) are
 
--- Where records are left, so is the number of those of the next stretch.
+-- the next stretch has so many records as the next number says
 pub record IsNextLength (ns : List ℕ) (rs : List RecordView) (k from : ℕ) : Type 0 where
-  pub inside : k < length ns
   pub fits : get_or ns k 0 ≤ length (drop from rs)
   pub first : IsNextCut rs from (get_or ns k 0)
   pub rest : AreLengths (drop (k + 1) ns) (map view_of (drop (from + get_or ns k 0) rs))
 
-pub next_length : (ns : List ℕ) (rs : List RecordView) (k from : ℕ) → from < length rs
+pub next_length : (ns : List ℕ) (rs : List RecordView) (k from : ℕ) → k < length ns
     → AreLengths (drop k ns) (map view_of (drop from rs)) → IsNextLength ns rs k from
-next_length ns rs k from some are = ⊎_elim
-    (λ (inside : k < length ns).
+next_length ns rs k from inside are =
     let n : ℕ = get_or ns k 0 in
     let qs : List RecordView = drop from rs in
     let here : AreLengths (n ∷ drop (k + 1) ns) (map view_of qs) =
@@ -76,21 +73,18 @@ next_length ns rs k from some are = ⊎_elim
     let fits : n ≤ length qs = let size = length-map qs view_of in let le = here.0 in omega (arith, size, le) in
     let both = cut_in_two qs n fits in
     record {
-      inside = inside;
       fits = fits;
       first = subst (λ (us : List View). IsFirstStretch (map view_of qs) us (map view_of (drop n qs))) both.0
           (subst (λ (us : List View). IsFirstStretch (map view_of qs) (take n (map view_of qs)) us) both.1 here.1);
       rest = subst (λ (us : List View). AreLengths (drop (k + 1) ns) us)
           (both.1 ∙ ap (λ (ps : List RecordView). map view_of ps) (drop-drop n from rs)) here.2;
-    })
-    (λ (past : length ns ≤ k).
-    let none : map view_of (drop from rs) ≡ [] =
-    subst (λ (ms : List ℕ). AreLengths ms (map view_of (drop from rs))) (drop_all k ns past) are in
-    let size : length (map view_of (drop from rs)) ≡ 0 = ap (λ (vs : List View). length vs) none in
-    let long = length-map (drop from rs) view_of in
-    let left = length-drop from rs in
-    absurd (omega (arith, some, size, long, left)))
-    (cases_lt k (length ns))
+    }
+
+-- behind the last of the numbers no record is left
+pub none_behind : (ns : List ℕ) (rs : List RecordView) (k from : ℕ) → length ns ≤ k
+    → AreLengths (drop k ns) (map view_of (drop from rs)) → map view_of (drop from rs) ≡ []
+none_behind ns rs k from past are =
+    subst (λ (ms : List ℕ). AreLengths ms (map view_of (drop from rs))) (drop_all k ns past) are
 
 -- the stretch has a record
 pub some_length : (ns : List ℕ) (rs : List RecordView) (k from : ℕ) → IsNextLength ns rs k from

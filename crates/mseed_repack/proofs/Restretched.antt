@@ -15,7 +15,7 @@ use Rattle.mseed_pack.specs.Outcome.{EmittedAll, EmittedPrefix}
 use Rattle.mseed_pack.specs.declared.fault.PackFault.{PackFault}
 use Rattle.mseed_pack.specs.declared.options.Options.{Options}
 use Rattle.mseed_repack.specs.Repack.{Wrote}
-use Rattle.mseed_repack.specs.Restretch.{ArePackedOn, ChannelFits, ChannelMisfits, IsChannelPart}
+use Rattle.mseed_repack.specs.Restretch.{ArePackedOn, ChannelFits, ChannelMisfits, IsChannelPart, IsChannelText}
 use Rattle.mseed_repack.specs.Restretch.{IsNextStretch, IsNumberedOn, StretchFits, StretchMisfits, more, none}
 use Rattle.mseed_repack.specs.private.Restretching.{IsStretchPart, IsStretchText}
 use Rattle.mseed_repack.proofs.Cutting.{IsCut, IsNextCut, at_stretch, cut_next, each_more, inside_next}
@@ -62,6 +62,16 @@ fit_more o rs from number n h first le one =
       number_is = omega (arith, h.number_is, size);
       few = omega (arith, h.few, some);
     }
+
+-- all of them were cut
+pub all_fit : (o : Options) (rs : List RecordView) (from number : ℕ) → AllByRecursion IsSound (map view_of rs)
+    → IsFitSo o rs from number → map view_of (drop from rs) ≡ [] → ChannelFits o (map view_of rs)
+all_fit o rs from number sound h no_more = record {
+  sound = sound;
+  stretches = h.cut.done;
+  are = subst (λ (vs : List View). AreStretchesUpTo (map view_of rs) h.cut.done vs) no_more h.cut.cut;
+  fit = h.cut.each;
+}
 
 pub first_misfit : (o : Options) (rs : List RecordView) (from number n : ℕ) (fault : PackFault)
     → AllByRecursion IsSound (map view_of rs) → IsFitSo o rs from number → IsNextCut rs from n
@@ -136,6 +146,25 @@ packed_more o rs from n count next further first old new h cut le wrote on =
           ∙ ap (λ (xs : List ℕ). first.bytes ++ xs) (sym (concat-append h.records one.records));
       failures = omega (arith, h.failures, wrote.failed);
     }
+
+-- all of them are written
+pub all_packed : (o : Options) (rs : List RecordView) (from : ℕ) (next : Options) (first new : BytesWritten)
+    → IsPackedSo o rs from next first new → map view_of (drop from rs) ≡ []
+    → Wrote (IsChannelText o (map view_of rs)) 0 first new
+all_packed o rs from next first new h no_more = record {
+  text = concat h.records;
+  text_is = record {
+    records = h.records;
+    packed = record {
+      stretches = h.done;
+      are = subst (λ (vs : List View). AreStretchesUpTo (map view_of rs) h.done vs) no_more h.cut;
+      packed = h.packed;
+    };
+    text_is = refl;
+  };
+  bytes = h.bytes;
+  failed = omega (arith, h.failures);
+}
 
 pub part_packed : (o : Options) (rs : List RecordView) (from n : ℕ) (next : Options) (first old new : BytesWritten)
     → IsPackedSo o rs from next first old → IsNextCut rs from n

@@ -31,12 +31,9 @@ pub(crate) fn fit_stretches(
     ensures err { IfErr result (λ misfit.
         ChannelMisfits options.now misfit.number misfit.fault (map view_of records.now)) }
 {
-    let mut number = 0;
     let mut from = 0;
-    while from < records.len() {
-        let count = lengths[number];
-        number += 1;
-        let stretch = &records[from..][..count];
+    for (number, count) in lengths.iter().enumerate() {
+        let stretch = &records[from..][..*count];
         match fit_series(
             Row {
                 records: stretch,
@@ -48,11 +45,11 @@ pub(crate) fn fit_stretches(
         ) {
             Ok(()) => {}
             Err(fault) => return Err(Misfit {
-                number: number as u64,
+                number: number as u64 + 1,
                 fault,
             }),
         }
-        from += count;
+        from += *count;
     }
     Ok(())
 }

@@ -34,21 +34,17 @@ pub(crate) fn pack_stretches<W: Sink>(
         (W.written output.old) (W.written output.new)) }
 {
     let mut next = *options;
-    let mut number = 0;
     let mut from = 0;
-    while from < records.len() {
-        let count = lengths[number];
-        number += 1;
-        let stretch = &records[from..][..count];
+    for count in lengths {
         let row = Row {
-            records: stretch,
+            records: &records[from..][..*count],
             index: 0,
         };
         match pack_series(row, &next, samples, steps, packer, output) {
             Ok(written) => next = numbered_on(&next, written),
             Err(failed) => return Err(failed),
         }
-        from += count;
+        from += *count;
     }
     Ok(())
 }

@@ -6,22 +6,18 @@ use Rattle.mseed_audit.specs.Follows.{IsSound}
 use Rattle.mseed_repack.specs.private.Reading.{steps_of}
 use Rattle.mseed_repack.specs.Restretch.{StretchFits, StretchMisfits}
 use Rattle.mseed_repack.proofs.Cutting.{each_cut, inside_next, of_cut, room_cut, steps_cut}
-use Rattle.mseed_repack.proofs.Lengths.{next_length, some_length}
-use Rattle.mseed_repack.proofs.Restretched.{first_misfit, fit_more, fit_none}
+use Rattle.mseed_repack.proofs.Lengths.{next_length, none_behind, some_length}
+use Rattle.mseed_repack.proofs.Restretched.{all_fit, first_misfit, fit_more, fit_none}
 use Rattle.mseed_repack.proofs.fitting.fit_stretches.Goals as goal
 
-pub loop-from-init : goal.loop-from-init
-loop-from-init c = (fit_none c.args.options.now c.args.records.now, c.requires.lengths_are)
-
-pub bounds-lengths-number : goal.bounds-lengths-number
-bounds-lengths-number c = (next_length c.args.lengths.now c.args.records.now c.loop-from.number c.loop-from.from
-    c.loop-from-test.true c.loop-from.invariant.1).inside
+pub loop-number-init : goal.loop-number-init
+loop-number-init c = (fit_none c.args.options.now c.args.records.now, c.requires.lengths_are)
 
 pub fit_series-requires : goal.fit_series-requires
 fit_series-requires c κs =
     let rs = c.args.records.now in
-    let l = c.loop-from in
-    let next = next_length c.args.lengths.now rs l.number l.from c.loop-from-test.true l.invariant.1 in
+    let l = c.loop-number in
+    let next = next_length c.args.lengths.now rs l.number l.from c.loop-number-test.true l.invariant.1 in
     let n : ℕ = get_or c.args.lengths.now l.number 0 in
     let same = l.auto.samples in
     let room : steps_of (map view_of rs) ≤ length l.steps = omega (arith, c.requires.steps_fit, l.auto.steps) in (
@@ -41,8 +37,8 @@ fit_series-requires c κs =
 pub returns-in-Err-clause-err : goal.returns-in-Err-clause-err
 returns-in-Err-clause-err c =
     let rs = c.args.records.now in
-    let l = c.loop-from in
-    let next = next_length c.args.lengths.now rs l.number l.from c.loop-from-test.true l.invariant.1 in
+    let l = c.loop-number in
+    let next = next_length c.args.lengths.now rs l.number l.from c.loop-number-test.true l.invariant.1 in
     let n : ℕ = get_or c.args.lengths.now l.number 0 in
     first_misfit c.args.options.now rs l.from l.number n c.in-Err.fault c.requires.sound l.invariant.0 next.first
     (of_cut (λ (s : List View). StretchMisfits c.args.options.now c.in-Err.fault s) rs l.from n c.in-Err.ensures.err)
@@ -50,20 +46,26 @@ returns-in-Err-clause-err c =
 pub overflow_add-from : goal.overflow_add-from
 overflow_add-from c =
     let rs = c.args.records.now in
-    let l = c.loop-from in
-    let next = next_length c.args.lengths.now rs l.number l.from c.loop-from-test.true l.invariant.1 in
+    let l = c.loop-number in
+    let next = next_length c.args.lengths.now rs l.number l.from c.loop-number-test.true l.invariant.1 in
     let n : ℕ = get_or c.args.lengths.now l.number 0 in
     let inside : l.from + n ≤ length rs = inside_next rs l.from n l.invariant.0.cut.inside next.fits in
     let long = length-map rs view_of in
     omega (arith, inside, long, c.requires.few)
 
-pub loop-from-preserved : goal.loop-from-preserved
-loop-from-preserved c =
+pub loop-number-preserved : goal.loop-number-preserved
+loop-number-preserved c =
     let rs = c.args.records.now in
-    let l = c.loop-from in
-    let next = next_length c.args.lengths.now rs l.number l.from c.loop-from-test.true l.invariant.1 in
+    let l = c.loop-number in
+    let next = next_length c.args.lengths.now rs l.number l.from c.loop-number-test.true l.invariant.1 in
     let n : ℕ = get_or c.args.lengths.now l.number 0 in (
       fit_more c.args.options.now rs l.from l.number n l.invariant.0 next.first next.fits
           (of_cut (λ (s : List View). StretchFits c.args.options.now s) rs l.from n c.in-Ok.ensures.ok),
       next.rest,
     )
+
+pub returns-clause-ok : goal.returns-clause-ok
+returns-clause-ok c =
+    let l = c.loop-number in
+    all_fit c.args.options.now c.args.records.now l.from l.number c.requires.sound l.invariant.0
+    (none_behind c.args.lengths.now c.args.records.now l.number l.from c.loop-number-test.false l.invariant.1)

@@ -1,4 +1,4 @@
-use Rattle.std.proofs.Common.{ℕ, ◌+◌, ◌<◌, ◌≤◌, List, length, map, get_or, arith, refl, rules}
+use Rattle.std.proofs.Common.{ℕ, ◌+◌, ◌≤◌, List, length, map, get_or, arith, refl}
 use Rattle.std.proofs.lemmas.List.{length-map}
 use Rattle.mseed_record.specs.View.{View}
 use Rattle.mseed_record.specs.Viewing.{view_of}
@@ -8,40 +8,22 @@ use Rattle.mseed_repack.specs.Restretch.{StretchFits}
 use Rattle.mseed_repack.specs.private.Reading.{steps_of}
 use Rattle.mseed_repack.specs.private.Restretching.{IsStretchPart, IsStretchText}
 use Rattle.mseed_repack.proofs.Cutting.{cut_of, each_cut, inside_next, of_cut, room_cut, steps_cut}
-use Rattle.mseed_repack.proofs.Lengths.{next_length, some_length}
-use Rattle.mseed_repack.proofs.Restretched.{next_fits, packed_more, packed_none, part_packed}
+use Rattle.mseed_repack.proofs.Lengths.{next_length, none_behind, some_length}
+use Rattle.mseed_repack.proofs.Restretched.{all_packed, next_fits, packed_more, packed_none, part_packed}
 use Rattle.mseed_repack.proofs.numbering.pack_stretches.Goals as goal
 
-pub loop-from-init : goal.loop-from-init
-loop-from-init g c = (
+pub loop-count-init : goal.loop-count-init
+loop-count-init g c = (
   packed_none c.args.options.now c.args.records.now (g.W.Sink.written c.args.output.now) c.args.options.now.numbered,
   c.requires.cut.lengths_are,
 )
 
-pub bounds-lengths-number : goal.bounds-lengths-number
-bounds-lengths-number g c = (next_length c.args.lengths.now c.args.records.now c.loop-from.number c.loop-from.from
-    c.loop-from-test.true c.loop-from.invariant.1).inside
-
-pub offset_bounds-lengths-number : goal.offset_bounds-lengths-number
-offset_bounds-lengths-number g c =
-    let inside : c.loop-from.number < length c.args.lengths.now =
-    (next_length c.args.lengths.now c.args.records.now c.loop-from.number c.loop-from.from
-    c.loop-from-test.true c.loop-from.invariant.1).inside in
-    search rules
-
-pub overflow_add-number : goal.overflow_add-number
-overflow_add-number g c =
-    let inside : c.loop-from.number < length c.args.lengths.now =
-    (next_length c.args.lengths.now c.args.records.now c.loop-from.number c.loop-from.from
-    c.loop-from-test.true c.loop-from.invariant.1).inside in
-    search rules
-
 pub overflow_add-from : goal.overflow_add-from
 overflow_add-from g c =
     let rs = c.args.records.now in
-    let l = c.loop-from in
-    let next = next_length c.args.lengths.now rs l.number l.from c.loop-from-test.true l.invariant.1 in
-    let n : ℕ = get_or c.args.lengths.now l.number 0 in
+    let l = c.loop-count in
+    let next = next_length c.args.lengths.now rs l.count-index l.from c.loop-count-test.true l.invariant.1 in
+    let n : ℕ = get_or c.args.lengths.now l.count-index 0 in
     let inside : l.from + n ≤ length rs = inside_next rs l.from n l.invariant.0.inside next.fits in
     let long = length-map rs view_of in
     omega (arith, inside, long, c.requires.cut.few)
@@ -49,9 +31,9 @@ overflow_add-from g c =
 pub pack_series-requires : goal.pack_series-requires
 pack_series-requires g c κs =
     let rs = c.args.records.now in
-    let l = c.loop-from in
-    let n : ℕ = get_or c.args.lengths.now l.number 0 in
-    let next = next_length c.args.lengths.now rs l.number l.from c.loop-from-test.true l.invariant.1 in
+    let l = c.loop-count in
+    let n : ℕ = get_or c.args.lengths.now l.count-index 0 in
+    let next = next_length c.args.lengths.now rs l.count-index l.from c.loop-count-test.true l.invariant.1 in
     let same = l.auto.samples in
     let room : steps_of (map view_of rs) ≤ length l.steps = omega (arith, c.requires.cut.steps_fit, l.auto.steps) in (
       (refl, tt),
@@ -59,7 +41,7 @@ pack_series-requires g c κs =
         record {
           walks = record {
             led = tt;
-            some = some_length c.args.lengths.now rs l.number l.from next;
+            some = some_length c.args.lengths.now rs l.count-index l.from next;
             sound = each_cut IsSound rs l.from n c.requires.fits.sound;
           };
           samples_fit = room_cut rs l.from n (length c.args.samples.now) (length l.samples) l.invariant.0.done
@@ -75,21 +57,21 @@ pack_series-requires g c κs =
 pub returns-in-Err-clause-err : goal.returns-in-Err-clause-err
 returns-in-Err-clause-err g c =
     let rs = c.args.records.now in
-    let l = c.loop-from in
-    let n : ℕ = get_or c.args.lengths.now l.number 0 in
-    let next = next_length c.args.lengths.now rs l.number l.from c.loop-from-test.true l.invariant.1 in
+    let l = c.loop-count in
+    let n : ℕ = get_or c.args.lengths.now l.count-index 0 in
+    let next = next_length c.args.lengths.now rs l.count-index l.from c.loop-count-test.true l.invariant.1 in
     let old = g.W.Sink.written l.output in
     let new = g.W.Sink.written c.pack_series.new.output in
     part_packed c.args.options.now rs l.from n l.next (g.W.Sink.written c.args.output.now) old new l.invariant.0
     next.first
     (of_cut (λ (s : List View). Wrote (IsStretchPart l.next s) 1 old new) rs l.from n c.in-Err.ensures.err)
 
-pub loop-from-preserved : goal.loop-from-preserved
-loop-from-preserved g c =
+pub loop-count-preserved : goal.loop-count-preserved
+loop-count-preserved g c =
     let rs = c.args.records.now in
-    let l = c.loop-from in
-    let n : ℕ = get_or c.args.lengths.now l.number 0 in
-    let next = next_length c.args.lengths.now rs l.number l.from c.loop-from-test.true l.invariant.1 in
+    let l = c.loop-count in
+    let n : ℕ = get_or c.args.lengths.now l.count-index 0 in
+    let next = next_length c.args.lengths.now rs l.count-index l.from c.loop-count-test.true l.invariant.1 in
     let old = g.W.Sink.written l.output in
     let new = g.W.Sink.written c.pack_series.new.output in (
       packed_more c.args.options.now rs l.from n c.in-Ok.written l.next c.numbered_on-next.result
@@ -98,3 +80,10 @@ loop-from-preserved g c =
           c.in-Ok.ensures.ok) c.numbered_on-next.ensures,
       next.rest,
     )
+
+pub returns-clause-ok : goal.returns-clause-ok
+returns-clause-ok g c =
+    let l = c.loop-count in
+    all_packed c.args.options.now c.args.records.now l.from l.next (g.W.Sink.written c.args.output.now)
+    (g.W.Sink.written l.output) l.invariant.0
+    (none_behind c.args.lengths.now c.args.records.now l.count-index l.from c.loop-count-test.false l.invariant.1)
