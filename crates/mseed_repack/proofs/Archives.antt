@@ -11,13 +11,13 @@ use Rattle.mseed_audit.specs.Follows.{IsContinuous}
 use Rattle.mseed_audit.proofs.Behind.{views_are}
 use Rattle.mseed_pack.specs.declared.fault.PackFault.{PackFault}
 use Rattle.mseed_pack.specs.declared.options.Options.{Options}
-use Rattle.mseed_repack.specs.Repack.{ArePackedInto, CanBePacked, CantBePacked, Channel, IsFirst, IsPartPacked, Wrote}
-use Rattle.mseed_repack.specs.Repack.{records_in}
+use Rattle.mseed_repack.specs.Repack.{ArePackedInto, CanBePacked, CantBePacked, Channel, IsFirst, IsPackedInPart}
+use Rattle.mseed_repack.specs.Repack.{IsPartPacked, Wrote, records_in}
 use Rattle.mseed_repack.specs.Restretch.{StretchFits, StretchMisfits}
 use Rattle.mseed_repack.specs.private.Archives.{HasRoomForRecords, HasRoomForSeries, HasRoomForTrail, IsLed}
 use Rattle.mseed_repack.specs.private.Archives.{IsTrailOf, records_on}
 use Rattle.mseed_repack.specs.private.Reading.{CanBeRead, channel_in, samples_of, steps_of}
-use Rattle.mseed_repack.specs.private.Restretching.{IsStretchPart, IsStretchText}
+use Rattle.mseed_repack.specs.private.Restretching.{IsStretchText}
 use Rattle.mseed_repack.specs.declared.archive.Archive.{Archive}
 use Rattle.mseed_repack.specs.declared.archive.Trail.{Trail}
 use Rattle.mseed_repack.proofs.Judged.{written_at}
@@ -165,8 +165,8 @@ wrote_next o a k count t first old new lt w before one =
 pub wrote_part : (o : Options) (a : Archive) (k : ℕ) (t : Trail) (first old new : BytesWritten)
     → k < length a.channels.now → IsTrailOf a k t
     → Wrote (ArePackedInto o (map view_of a.views.now) (take k a.channels.now)) 0 first old
-    → Wrote (IsStretchPart o (records_on t)) 1 old new
+    → Wrote (IsPackedInPart o (records_on t)) 1 old new
     → Wrote (IsPartPacked o (map view_of a.views.now) a.channels.now) 1 first new
 wrote_part o a k t first old new lt w before one =
     part_of_next o (views_of a) a.channels.now k w.channel first old new lt before
-    (subst (λ (vs : List View). Wrote (IsStretchPart o vs) 1 old new) (at_index a k t w) one)
+    (subst (λ (vs : List View). Wrote (IsPackedInPart o vs) 1 old new) (at_index a k t w) one)

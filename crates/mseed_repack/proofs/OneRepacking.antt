@@ -35,6 +35,7 @@ use Rattle.mseed_pack.specs.declared.options.Options.{Options}
 use Rattle.mseed_pack.proofs.Prefixes.{either_bytes}
 use Rattle.mseed_repack.specs.OneRepacking.{ComeToOne, HasWrittenPrefix, HaveWrittenOne}
 use Rattle.mseed_repack.specs.Repack.{ArePackedInto, CanBePacked, CantBePacked, Channel, IsArchiveOf, IsFirst, IsFitFor}
+use Rattle.mseed_repack.specs.Repack.{IsPackedInPart}
 use Rattle.mseed_repack.specs.Repack.{IsPackedInto, IsPartPacked, IsRepacking, IsUnread, IsWhole, Wrote, none, more}
 use Rattle.mseed_repack.specs.Repack.{records_in}
 use Rattle.mseed_repack.specs.declared.fault.RepackFault.{RepackFault}
@@ -433,20 +434,18 @@ part_behind laws o views text (c ∷ cs) next back before trace records left tak
 text_prefix : Laws → (o : Options) (views : List View) (cs : List Channel) (text part : List ℕ)
     → ArePackedInto o views cs text → IsPartPacked o views cs part → Behind part text
 text_prefix laws o views cs text part all p =
-    let found : Behind (p.before ++ take p.taken (concat p.records)) text =
-    part_behind laws o views text p.prefix p.next p.back p.before p.trace p.records p.left p.taken p.series p.packing
-    (along o views p.prefix p.before p.packed)
+    let own = p.part in
+    let found : Behind (p.before ++ take own.taken (concat own.records)) text =
+    part_behind laws o views text p.prefix p.next p.back p.before own.trace own.records own.left own.taken own.series
+    own.packing (along o views p.prefix p.before p.packed)
     (subst (λ (xs : List Channel). Along o views xs text) p.parts (along o views cs text all)) in
-    subst (λ (xs : List ℕ). Behind xs text) (sym p.text_is) found
+    subst (λ (xs : List ℕ). Behind xs text) (sym (p.text_is ∙ ap (λ (xs : List ℕ). p.before ++ xs) own.text_is)) found
 
-written_prefix : Laws → (o : Options) (h : BytesRead) (views others : List View) (cs ds : List Channel)
-    (old new before after : BytesWritten) → IsFitFor o h views cs → IsFitFor o h others ds
-    → Wrote (ArePackedInto o views cs) 0 old new → Wrote (IsPartPacked o others ds) 1 before after
+written_prefix : Laws → (o : Options) (views : List View) (cs : List Channel) (old new before after : BytesWritten)
+    → Wrote (ArePackedInto o views cs) 0 old new → Wrote (IsPartPacked o views cs) 1 before after
     → HasWrittenPrefix old new before after
-written_prefix laws o h views others cs ds old new before after a b w v =
-    let all : ArePackedInto o others ds w.text = same_archive laws (λ vs xs. ArePackedInto o vs xs w.text) h views
-    others cs ds a.archive b.archive w.text_is in
-    let found : Behind v.text w.text = text_prefix laws o others ds w.text v.text all v.text_is in
+written_prefix laws o views cs old new before after w v =
+    let found : Behind v.text w.text = text_prefix laws o views cs w.text v.text w.text_is v.text_is in
     record {
       prefix = v.text;
       rest = found.0;
@@ -454,15 +453,12 @@ written_prefix laws o h views others cs ds old new before after a b w v =
       there = v.bytes;
     }
 
-written_one : Laws → (o : Options) (h : BytesRead) (views others : List View) (cs ds : List Channel)
-    (old new before after : BytesWritten) → IsFitFor o h views cs → IsFitFor o h others ds
-    → Wrote (ArePackedInto o views cs) 0 old new → Wrote (ArePackedInto o others ds) 0 before after
+written_one : Laws → (o : Options) (views : List View) (cs : List Channel) (old new before after : BytesWritten)
+    → Wrote (ArePackedInto o views cs) 0 old new → Wrote (ArePackedInto o views cs) 0 before after
     → HaveWrittenOne old new before after
-written_one laws o h views others cs ds old new before after a b w v =
-    let all : ArePackedInto o others ds w.text = same_archive laws (λ vs xs. ArePackedInto o vs xs w.text) h views
-    others cs ds a.archive b.archive w.text_is in
+written_one laws o views cs old new before after w v =
     let text : w.text ≡ v.text =
-    one_text laws o others ds w.text v.text (along o others ds w.text all) (along o others ds v.text v.text_is) in
+    one_text laws o views cs w.text v.text (along o views cs w.text w.text_is) (along o views cs v.text v.text_is) in
     record { text = v.text; here = w.bytes ∙ ap (λ (xs : List ℕ). old.bytes ++ xs) text; there = v.bytes }
 
 -- Of two parts of the text one is a prefix of the other.
@@ -478,50 +474,31 @@ clipped xs n = ⊎_elim (λ (less : n < length xs). (n, (omega (arith, less), re
     ))
     (cases_lt n (length xs))
 
--- a part of a channel's records
-record Part (o : Options) (views : List View) (key : List ℕ) : Type 0 where
-  trace : Trace
-  series : IsSeriesOf trace (records_in views key)
-  records : List (List ℕ)
-  left : List ℤ
-  packing : PacksUpTo trace o records left
-  bytes : List ℕ
-  taken : ℕ
-  bytes_are : bytes ≡ take taken (concat records)
-
 -- a part of a channel's records is one of the channel of the same key
-abbrev of_key : (o : Options) (views : List View) (key other : List ℕ) → key ≡ other → Part o views key
-    → Part o views other
-of_key o views key other same p = record {
-  trace = p.trace;
-  series = subst (λ (k : List ℕ). IsSeriesOf p.trace (records_in views k)) same p.series;
-  records = p.records;
-  left = p.left;
-  packing = p.packing;
-  bytes = p.bytes;
-  taken = p.taken;
-  bytes_are = p.bytes_are;
-}
+of_key : (o : Options) (views : List View) (key other own : List ℕ) → key ≡ other
+    → IsPackedInPart o (records_in views key) own → IsPackedInPart o (records_in views other) own
+of_key o views key other own same p = subst (λ (k : List ℕ). IsPackedInPart o (records_in views k) own) same p
 
-same_parts : Laws → (o : Options) (views : List View) (key : List ℕ) (p q : Part o views key) → Either p.bytes q.bytes
-same_parts laws o views key p q =
-    let same : q.trace ≡ p.trace = laws.series q.trace p.trace (records_in views key) q.series p.series in
+same_parts : Laws → (o : Options) (vs : List View) (own its : List ℕ) → IsPackedInPart o vs own
+    → IsPackedInPart o vs its → Either own its
+same_parts laws o vs own its p q =
+    let same : q.trace ≡ p.trace = laws.series q.trace p.trace vs q.series p.series in
     let prefixes : ArePrefixes p.records q.records =
     laws.prefixes p.trace o p.records q.records p.left q.left p.packing
     (subst (λ (t : Trace). PacksUpTo t o q.records q.left) same q.packing) in
     let i = clipped (concat p.records) p.taken in
     let j = clipped (concat q.records) q.taken in
-    subst (λ (xs : List ℕ). Either xs q.bytes) (sym (p.bytes_are ∙ i.1.1))
-    (subst (λ (xs : List ℕ). Either (take i.0 (concat p.records)) xs) (sym (q.bytes_are ∙ j.1.1))
+    subst (λ (xs : List ℕ). Either xs its) (sym (p.text_is ∙ i.1.1))
+    (subst (λ (xs : List ℕ). Either (take i.0 (concat p.records)) xs) (sym (q.text_is ∙ j.1.1))
     (either_bytes p.records q.records i.0 j.0 i.1.0 j.1.0 prefixes))
 
 -- a part of the first channel's records is a prefix of all, and of more
-first_part : Laws → (o : Options) (views : List View) (c : Channel) (cs : List Channel) (text tail : List ℕ)
-    (p : Part o views c.0) → Along o views (c ∷ cs) text → IsPrefixOf p.bytes (text ++ tail)
-first_part laws o views c cs text tail p a =
+first_part : Laws → (o : Options) (views : List View) (c : Channel) (cs : List Channel) (text tail own : List ℕ)
+    → IsPackedInPart o (records_in views c.0) own → Along o views (c ∷ cs) text → IsPrefixOf own (text ++ tail)
+first_part laws o views c cs text tail own p a =
     let found : Behind (take p.taken (concat p.records)) text =
     part_first laws o views text c cs p.trace p.records p.left p.taken p.series p.packing a in
-    subst (λ (xs : List ℕ). IsPrefixOf xs (text ++ tail)) (sym p.bytes_are) (
+    subst (λ (xs : List ℕ). IsPrefixOf xs (text ++ tail)) (sym p.text_is) (
       found.0 ++ tail,
       ap (λ (xs : List ℕ). xs ++ tail) found.1
           ∙ append_assoc (take p.taken (concat p.records)) found.0 tail,
@@ -532,65 +509,48 @@ behind_both prefix xs ys (inl f) = inl (f.0, ap (λ (zs : List ℕ). prefix ++ z
 behind_both prefix xs ys (inr f) = inr (f.0, ap (λ (zs : List ℕ). prefix ++ zs) f.1 ∙ sym (append_assoc prefix ys f.0))
 
 two_parts : Laws → (o : Options) (views : List View) (fs gs : List Channel) (x y : Channel) (xs ys : List Channel)
-    (t u : List ℕ) (p : Part o views x.0) (q : Part o views y.0) → Along o views fs t → Along o views gs u
-    → fs ++ x ∷ xs ≡ gs ++ y ∷ ys → Either (t ++ p.bytes) (u ++ q.bytes)
-two_parts laws o views [] [] x y xs ys t u p q a b e =
+    (t u own its : List ℕ) → IsPackedInPart o (records_in views x.0) own → IsPackedInPart o (records_in views y.0) its
+    → Along o views fs t → Along o views gs u → fs ++ x ∷ xs ≡ gs ++ y ∷ ys → Either (t ++ own) (u ++ its)
+two_parts laws o views [] [] x y xs ys t u own its p q a b e =
     let head : x ≡ y = cc (e) in
     let key : y.0 ≡ x.0 = ap (λ (c : Channel). c.0) (sym head) in
-    let other : Part o views x.0 = of_key o views y.0 x.0 key q in
-    subst (λ (xs : List ℕ). Either (xs ++ p.bytes) (u ++ q.bytes)) (sym a)
-    (subst (λ (xs : List ℕ). Either p.bytes (xs ++ q.bytes)) (sym b) (same_parts laws o views x.0 p other))
-two_parts laws o views [] (d ∷ gs) x y xs ys t u p q a b e =
+    subst (λ (xs : List ℕ). Either (xs ++ own) (u ++ its)) (sym a)
+    (subst (λ (xs : List ℕ). Either own (xs ++ its)) (sym b)
+    (same_parts laws o (records_in views x.0) own its p (of_key o views y.0 x.0 its key q)))
+two_parts laws o views [] (d ∷ gs) x y xs ys t u own its p q a b e =
     let head : x ≡ d = cc (e) in
     let key : x.0 ≡ d.0 = ap (λ (c : Channel). c.0) head in
-    let mine : Part o views d.0 = of_key o views x.0 d.0 key p in
-    subst (λ (xs : List ℕ). Either (xs ++ p.bytes) (u ++ q.bytes)) (sym a)
-    (inl (first_part laws o views d gs u q.bytes mine b))
-two_parts laws o views (c ∷ fs) [] x y xs ys t u p q a b e =
+    subst (λ (xs : List ℕ). Either (xs ++ own) (u ++ its)) (sym a)
+    (inl (first_part laws o views d gs u its own (of_key o views x.0 d.0 own key p) b))
+two_parts laws o views (c ∷ fs) [] x y xs ys t u own its p q a b e =
     let head : y ≡ c = cc (e) in
     let key : y.0 ≡ c.0 = ap (λ (d : Channel). d.0) head in
-    let other : Part o views c.0 = of_key o views y.0 c.0 key q in
-    subst (λ (xs : List ℕ). Either (t ++ p.bytes) (xs ++ q.bytes)) (sym b)
-    (inr (first_part laws o views c fs t p.bytes other a))
-two_parts laws o views (c ∷ fs) (d ∷ gs) x y xs ys t u p q (rs, (rest, a)) (qs, (left, b)) e =
+    subst (λ (xs : List ℕ). Either (t ++ own) (xs ++ its)) (sym b)
+    (inr (first_part laws o views c fs t own its (of_key o views y.0 c.0 its key q) a))
+two_parts laws o views (c ∷ fs) (d ∷ gs) x y xs ys t u own its p q (rs, (rest, a)) (qs, (left, b)) e =
     let head : c ≡ d = cc (e) in
     let tail : fs ++ x ∷ xs ≡ gs ++ y ∷ ys = cc (e) in
     let records : rs ≡ qs = one_records laws o views d.0 rs qs
     (subst (λ (x : Channel). IsPackedInto o views x.0 rs) head a.0) b.0 in
-    let later : Either (rest ++ p.bytes) (left ++ q.bytes) =
-    two_parts laws o views fs gs x y xs ys rest left p q a.2 b.2 tail in
-    let here : concat rs ++ (rest ++ p.bytes) ≡ t ++ p.bytes = sym (append_assoc (concat rs) rest p.bytes)
-    ∙ ap (λ (xs : List ℕ). xs ++ p.bytes) (sym a.1) in
-    let there : concat rs ++ (left ++ q.bytes) ≡ u ++ q.bytes =
-    ap (λ (xs : List (List ℕ)). concat xs ++ (left ++ q.bytes)) records ∙ sym (append_assoc (concat qs) left q.bytes)
-    ∙ ap (λ (xs : List ℕ). xs ++ q.bytes) (sym b.1) in
-    subst (λ (xs : List ℕ). Either xs (u ++ q.bytes)) here
-    (subst (λ (xs : List ℕ). Either (concat rs ++ (rest ++ p.bytes)) xs) there
-    (behind_both (concat rs) (rest ++ p.bytes) (left ++ q.bytes) later))
-
-part_of : (o : Options) (views : List View) (cs : List Channel) (text : List ℕ) (p : IsPartPacked o views cs text)
-    → Part o views p.next.0
-part_of o views cs text p =
-    record {
-      trace = p.trace;
-      series = p.series;
-      records = p.records;
-      left = p.left;
-      packing = p.packing;
-      bytes = take p.taken (concat p.records);
-      taken = p.taken;
-      bytes_are = refl;
-    }
+    let later : Either (rest ++ own) (left ++ its) =
+    two_parts laws o views fs gs x y xs ys rest left own its p q a.2 b.2 tail in
+    let here : concat rs ++ (rest ++ own) ≡ t ++ own =
+    sym (append_assoc (concat rs) rest own) ∙ ap (λ (xs : List ℕ). xs ++ own) (sym a.1) in
+    let there : concat rs ++ (left ++ its) ≡ u ++ its =
+    ap (λ (xs : List (List ℕ)). concat xs ++ (left ++ its)) records ∙ sym (append_assoc (concat qs) left its)
+    ∙ ap (λ (xs : List ℕ). xs ++ its) (sym b.1) in
+    subst (λ (xs : List ℕ). Either xs (u ++ its)) here
+    (subst (λ (xs : List ℕ). Either (concat rs ++ (rest ++ own)) xs) there
+    (behind_both (concat rs) (rest ++ own) (left ++ its) later))
 
 either_part : Laws → (o : Options) (views : List View) (cs : List Channel) (t u : List ℕ) → IsPartPacked o views cs t
     → IsPartPacked o views cs u → Either t u
-unfolding part_of
 either_part laws o views cs t u p q =
-    let found = two_parts laws o views p.prefix q.prefix p.next q.next p.back q.back p.before q.before
-    (part_of o views cs t p) (part_of o views cs u q) (along o views p.prefix p.before p.packed)
-    (along o views q.prefix q.before q.packed) (sym p.parts ∙ q.parts) in
+    let found = two_parts laws o views p.prefix q.prefix p.next q.next p.back q.back p.before q.before p.own q.own
+    p.part q.part (along o views p.prefix p.before p.packed) (along o views q.prefix q.before q.packed)
+    (sym p.parts ∙ q.parts) in
     subst (λ (xs : List ℕ). Either xs u) (sym p.text_is)
-    (subst (λ (xs : List ℕ). Either (p.before ++ take p.taken (concat p.records)) xs) (sym q.text_is) found)
+    (subst (λ (xs : List ℕ). Either (p.before ++ p.own) xs) (sym q.text_is) found)
 
 taken_prefixes : Laws → (o : Options) (h : BytesRead) (views others : List View) (cs ds : List Channel)
     (old new before after : BytesWritten) → IsFitFor o h views cs → IsFitFor o h others ds
@@ -663,7 +623,9 @@ beside laws o h (Broken key) old new before after p q =
 beside laws o h (Misfit key f) old new before after p q =
     absurd (never_misfit laws o h p.0 q.0 p.1.0 q.1.0 key f p.1.1.0.archive q.1.1.0 p.1.1.0.fit q.1.1.2)
 beside laws o h Write old new before after p q =
-    written_prefix laws o h p.0 q.0 p.1.0 q.1.0 old new before after p.1.1.0 q.1.1.0 p.1.1.1 q.1.1.1
+    let here = same_archive laws (λ vs xs. Wrote (ArePackedInto o vs xs) 0 old new) h p.0 q.0 p.1.0 q.1.0
+    p.1.1.0.archive q.1.1.0.archive p.1.1.1 in
+    written_prefix laws o q.0 q.1.0 old new before after here q.1.1.1
 beside laws o h Memory old new before after p q = tt
 
 one_fault : Laws → (o : Options) (h : BytesRead) (f g : RepackFault) (old new before after : BytesWritten)
@@ -721,7 +683,9 @@ pub one_repacking : Laws
     → IsRepacking o result h old new → IsRepacking o other h before after
     → ComeToOne result other old new before after
 one_repacking laws o h (Ok u) (Ok v) old new before after p q =
-    written_one laws o h p.0 q.0 p.1.0 q.1.0 old new before after p.1.1.0 q.1.1.0 p.1.1.1 q.1.1.1
+    let here = same_archive laws (λ vs xs. Wrote (ArePackedInto o vs xs) 0 old new) h p.0 q.0 p.1.0 q.1.0
+    p.1.1.0.archive q.1.1.0.archive p.1.1.1 in
+    written_one laws o q.0 q.1.0 old new before after here q.1.1.1
 one_repacking laws o h (Ok u) (Err g) old new before after p q = beside laws o h g old new before after p q
 one_repacking laws o h (Err f) (Ok v) old new before after p q = beside laws o h f before after old new q p
 one_repacking laws o h (Err f) (Err g) old new before after p q =

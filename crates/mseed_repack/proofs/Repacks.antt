@@ -27,9 +27,9 @@ use Rattle.mseed_audit.specs.Audit.{Held, IsAuditOf}
 use Rattle.mseed_audit.proofs.Behind.{end_of}
 use Rattle.mseed_audit.proofs.Maps.{same_back, same_itself}
 use Rattle.mseed_pack.specs.declared.options.Options.{Options}
-use Rattle.mseed_repack.specs.Repack.{Channel, AreContinuous, ArePackedInto, IsFirst, IsPartPacked, Wrote, more, none}
-use Rattle.mseed_repack.specs.Repack.{records_in}
-use Rattle.mseed_repack.specs.private.Restretching.{IsStretchPart, IsStretchText}
+use Rattle.mseed_repack.specs.Repack.{AreContinuous, ArePackedInto, Channel, IsFirst, IsPackedInPart, IsPartPacked}
+use Rattle.mseed_repack.specs.Repack.{Wrote, more, none, records_in}
+use Rattle.mseed_repack.specs.private.Restretching.{IsStretchText}
 
 -- a key that stands behind another is another
 apart : (x y : List ℕ) → slice_cmp nat_cmp x y ≡ Less → same_key y x ≡ false
@@ -110,7 +110,7 @@ packed_next o views cs i count d first old new lt before one =
 -- or a part of its records
 pub part_of_next : (o : Options) (views : List View) (cs : List Channel) (i : ℕ) (d : Channel)
     (first old new : BytesWritten) → i < length cs → Wrote (ArePackedInto o views (take i cs)) 0 first old
-    → Wrote (IsStretchPart o (records_in views (get_or cs i d).0)) 1 old new
+    → Wrote (IsPackedInPart o (records_in views (get_or cs i d).0)) 1 old new
     → Wrote (IsPartPacked o views cs) 1 first new
 part_of_next o views cs i d first old new lt before one =
     behind_text (IsPartPacked o views cs) before one (λ text own is its. record {
@@ -120,13 +120,9 @@ part_of_next o views cs i d first old new lt before one =
       parts = cut_at cs i d lt;
       before = text;
       packed = is;
-      trace = its.trace;
-      series = its.series;
-      records = its.further;
-      left = its.samples_left;
-      packing = its.packing;
-      taken = its.taken;
-      text_is = ap (λ (xs : List ℕ). text ++ xs) its.text_is;
+      own = own;
+      part = its;
+      text_is = refl;
     })
 
 -- a record behind all others

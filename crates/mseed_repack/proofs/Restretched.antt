@@ -14,10 +14,10 @@ use Rattle.mseed_stretches.specs.Stretches.{AreStretchesUpTo}
 use Rattle.mseed_pack.specs.Outcome.{EmittedAll, EmittedPrefix}
 use Rattle.mseed_pack.specs.declared.fault.PackFault.{PackFault}
 use Rattle.mseed_pack.specs.declared.options.Options.{Options}
-use Rattle.mseed_repack.specs.Repack.{Wrote}
+use Rattle.mseed_repack.specs.Repack.{IsPackedInPart, Wrote}
 use Rattle.mseed_repack.specs.Restretch.{ArePackedOn, ChannelFits, ChannelMisfits, IsChannelPart, IsChannelText}
 use Rattle.mseed_repack.specs.Restretch.{IsNextStretch, IsNumberedOn, StretchFits, StretchMisfits, more, none}
-use Rattle.mseed_repack.specs.private.Restretching.{IsStretchPart, IsStretchText}
+use Rattle.mseed_repack.specs.private.Restretching.{IsStretchText}
 use Rattle.mseed_repack.proofs.Cutting.{IsCut, IsNextCut, at_stretch, cut_next, each_more, inside_next}
 use Rattle.mseed_repack.proofs.Cutting.{some_cut}
 use Rattle.mseed_repack.proofs.Stretched.{fits_on, on_more, on_none}
@@ -168,11 +168,10 @@ all_packed o rs from next first new h no_more = record {
 
 pub part_packed : (o : Options) (rs : List RecordView) (from n : ℕ) (next : Options) (first old new : BytesWritten)
     → IsPackedSo o rs from next first old → IsNextCut rs from n
-    → Wrote (IsStretchPart next (map view_of (take n (drop from rs)))) 1 old new
+    → Wrote (IsPackedInPart next (map view_of (take n (drop from rs)))) 1 old new
     → Wrote (IsChannelPart o (map view_of rs)) 1 first new
 part_packed o rs from n next first old new h cut wrote =
     let s : List View = map view_of (take n (drop from rs)) in
-    let one = wrote.text_is in
     record {
       text = concat h.records ++ wrote.text;
       text_is = record {
@@ -181,15 +180,11 @@ part_packed o rs from n next first old new h cut wrote =
         next = next_stretch rs from n h.done h.cut cut;
         records = h.records;
         packed = h.packed;
-        trace = one.trace;
-        series = one.series;
         options = next;
         numbered = h.next_is;
-        further = one.further;
-        samples_left = one.samples_left;
-        packing = one.packing;
-        taken = one.taken;
-        text_is = ap (λ (xs : List ℕ). concat h.records ++ xs) one.text_is;
+        own = wrote.text;
+        part = wrote.text_is;
+        text_is = refl;
       };
       bytes = wrote.bytes ∙ ap (λ (xs : List ℕ). xs ++ wrote.text) h.bytes
           ∙ append_assoc first.bytes (concat h.records) wrote.text;
@@ -212,14 +207,14 @@ emitted_stretch o vs s count old new series emitted = record {
 }
 
 pub emitted_part : (o : Options) (vs : List View) (s : Trace) (taken : ℕ) (old new : BytesWritten) → IsSeriesOf s vs
-    → EmittedPrefix s o taken old new → Wrote (IsStretchPart o vs) 1 old new
+    → EmittedPrefix s o taken old new → Wrote (IsPackedInPart o vs) 1 old new
 emitted_part o vs s taken old new series emitted = record {
   text = take taken (concat (emitted.records ++ emitted.last ∷ []));
   text_is = record {
     trace = s;
     series = series;
-    further = emitted.records ++ emitted.last ∷ [];
-    samples_left = emitted.left;
+    records = emitted.records ++ emitted.last ∷ [];
+    left = emitted.left;
     packing = emitted.packing;
     taken = taken;
     text_is = refl;

@@ -13,7 +13,8 @@ use Rattle.mseed_pack.specs.declared.fault.PackFault.{PackFault}
 use Rattle.mseed_pack.specs.declared.fault.PackFault.TheVariants.{Empty, RateTooHigh, TimeOutOfRange, SampleTooLarge}
 use Rattle.mseed_pack.specs.declared.fault.PackFault.TheVariants.{DifferenceTooLarge, Write as WriteFailed}
 use Rattle.mseed_pack.specs.declared.options.Options.{Options}
-use Rattle.mseed_repack.specs.Repack.{Channel, Exists, IsArchiveOf, IsFirst, IsUnread, Wrote, input_fault, records_in}
+use Rattle.mseed_repack.specs.Repack.{Channel, Exists, IsArchiveOf, IsFirst, IsTextUpTo, IsUnread, Wrote, input_fault}
+use Rattle.mseed_repack.specs.Repack.{records_in}
 use Rattle.mseed_repack.specs.Restretch.{ChannelFits, ChannelMisfits, IsChannelPart, IsChannelText}
 use Rattle.mseed_repack.specs.declared.refusing.Left.{Left}
 use Rattle.mseed_repack.specs.declared.refusing.Left.TheVariants.{Nothing, Broken as LeftBroken, Misfit as LeftMisfit}
@@ -52,17 +53,10 @@ pub data AreStretched (o : Options) (views : List View) : List Channel → List 
       → IsChannelText o (records_in views c.0) own → AreStretched o views (cs ++ c ∷ []) (text ++ own)
 
 -- the records of the first channels, and of the next channel's a part
-pub record IsPartStretched (o : Options) (views : List View) (channels : List Channel) (text : List ℕ) : Type
-    0 where
-  pub prefix : List Channel
-  pub next : Channel
-  pub back : List Channel
-  pub parts : channels ≡ prefix ++ next ∷ back
-  pub before : List ℕ
-  pub packed : AreStretched o views prefix before
-  pub own : List ℕ
-  pub part : IsChannelPart o (records_in views next.0) own
-  pub text_is : text ≡ before ++ own
+abbrev pub IsPartStretched : Options → List View → List Channel → List ℕ → Type 0
+IsPartStretched o views channels text =
+    IsTextUpTo (λ cs before. AreStretched o views cs before) (λ c own. IsChannelPart o (records_in views c.0) own)
+    channels text
 
 -- a fault of the input, or refused memory
 abbrev pub stretches_fault : StreamFault → StretchesFault

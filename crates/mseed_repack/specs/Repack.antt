@@ -90,21 +90,34 @@ pub data ArePackedInto (o : Options) (views : List View) : List Channel → List
   more : (cs : List Channel) (c : Channel) (text : List ℕ) (records : List (List ℕ)) → ArePackedInto o views cs text
       → IsPackedInto o views c.0 records → ArePackedInto o views (cs ++ c ∷ []) (text ++ concat records)
 
--- the records of the first channels, and of the next channel's a part
-pub record IsPartPacked (o : Options) (views : List View) (channels : List Channel) (text : List ℕ) : Type 0 where
+-- the text is a part of the records that the records' series is packed into
+pub record IsPackedInPart (o : Options) (vs : List View) (text : List ℕ) : Type 0 where
+  pub trace : Trace
+  pub series : IsSeriesOf trace vs
+  pub records : List (List ℕ)
+  pub left : List ℤ
+  pub packing : PacksUpTo trace o records left
+  pub taken : ℕ
+  pub text_is : text ≡ take taken (concat records)
+
+-- the text of the first channels, and of the next channel's a part
+pub record IsTextUpTo (Whole : List Channel → List ℕ → Type 0) (Part : Channel → List ℕ → Type 0)
+    (channels : List Channel) (text : List ℕ) : Type 0 where
   pub prefix : List Channel
   pub next : Channel
   pub back : List Channel
   pub parts : channels ≡ prefix ++ next ∷ back
   pub before : List ℕ
-  pub packed : ArePackedInto o views prefix before
-  pub trace : Trace
-  pub series : IsSeriesOf trace (records_in views next.0)
-  pub records : List (List ℕ)
-  pub left : List ℤ
-  pub packing : PacksUpTo trace o records left
-  pub taken : ℕ
-  pub text_is : text ≡ before ++ take taken (concat records)
+  pub packed : Whole prefix before
+  pub own : List ℕ
+  pub part : Part next own
+  pub text_is : text ≡ before ++ own
+
+-- the same of the records that their series are packed into
+abbrev pub IsPartPacked : Options → List View → List Channel → List ℕ → Type 0
+IsPartPacked o views channels text =
+    IsTextUpTo (λ cs before. ArePackedInto o views cs before) (λ c own. IsPackedInPart o (records_in views c.0) own)
+    channels text
 
 -- What was read is a whole archive, and these are its channels, in the order of their keys.
 pub record IsArchiveOf (h : BytesRead) (views : List View) (channels : List Channel) : Type 0 where

@@ -1,5 +1,5 @@
 -- A channel that is packed anew by its stretches.
-use Rattle.std.specs.Prelude.{◌≡◌, ℕ, ◌+◌, ◌%◌, ℤ, List, [], ◌∷◌, ◌++◌, length, take, Result, Ok, Err}
+use Rattle.std.specs.Prelude.{◌≡◌, ℕ, ◌+◌, ◌%◌, List, [], ◌∷◌, ◌++◌, length, Result, Ok, Err}
 use Rattle.std.specs.List.{concat, AllByRecursion}
 use Rattle.mseed_record.specs.View.{View}
 use Rattle.mseed_stream.specs.Device.{BytesWritten}
@@ -7,10 +7,10 @@ use Rattle.mseed_audit.specs.Follows.{IsSound}
 use Rattle.mseed_audit.specs.Series.{Trace, IsSeriesOf}
 use Rattle.mseed_stretches.specs.Stretches.{AreStretches, AreStretchesUpTo, IsFirstStretch}
 use Rattle.mseed_pack.specs.Fitting.{Fits, IsMisfit}
-use Rattle.mseed_pack.specs.Packing.{IsPacking, PacksUpTo}
+use Rattle.mseed_pack.specs.Packing.{IsPacking}
 use Rattle.mseed_pack.specs.declared.fault.PackFault.{PackFault}
 use Rattle.mseed_pack.specs.declared.options.Options.{Options}
-use Rattle.mseed_repack.specs.Repack.{Wrote}
+use Rattle.mseed_repack.specs.Repack.{IsPackedInPart, Wrote}
 use Rattle.mseed_repack.specs.declared.channel_fault.ChannelFault.{ChannelFault}
 use Rattle.mseed_repack.specs.declared.channel_fault.ChannelFault.TheVariants.{Broken, Misfit, Write, Memory}
 
@@ -72,15 +72,11 @@ pub record IsChannelPart (o : Options) (vs : List View) (text : List ℕ) : Type
   pub next : IsNextStretch vs before stretch
   pub records : List (List ℕ)
   pub packed : ArePackedOn o before records
-  pub trace : Trace
-  pub series : IsSeriesOf trace stretch
   pub options : Options
   pub numbered : IsNumberedOn o (length records) options
-  pub further : List (List ℕ)
-  pub samples_left : List ℤ
-  pub packing : PacksUpTo trace options further samples_left
-  pub taken : ℕ
-  pub text_is : text ≡ concat records ++ take taken (concat further)
+  pub own : List ℕ
+  pub part : IsPackedInPart options stretch own
+  pub text_is : text ≡ concat records ++ own
 
 -- each of a channel's records is sound, and each of its stretches can be packed
 pub record ChannelFits (o : Options) (vs : List View) : Type 0 where

@@ -6,8 +6,8 @@ ghost use Rattle.mseed_audit.specs.Series.{IsSeriesOf};
 ghost use Rattle.mseed_pack.specs.Traces.{trace_of};
 ghost use Rattle.mseed_repack.specs.private.Outline.{with_samples};
 ghost use Rattle.mseed_repack.specs.private.Reading.{AreOf, CanBeRead, IsSoundWalk};
-ghost use Rattle.mseed_repack.specs.private.Restretching.{AreOfAny, IsBegunBy, IsStretchPart, IsStretchText};
-ghost use Rattle.mseed_repack.specs.Repack.{Wrote};
+ghost use Rattle.mseed_repack.specs.private.Restretching.{AreOfAny, IsBegunBy, IsStretchText};
+ghost use Rattle.mseed_repack.specs.Repack.{IsPackedInPart, Wrote};
 ghost use Rattle.mseed_repack.specs.Restretch.{StretchFits, StretchMisfits};
 
 use crate::outline::{is_held, outline_records};
@@ -82,7 +82,7 @@ pub(crate) fn pack_series<'a, R: Walk<'a>, W: Sink>(
     requires fits { StretchFits options.now (R.left records) }
     ensures ok { IfOk result (λ count. Wrote (IsStretchText options.now (R.left records) count) 0
         (W.written output.old) (W.written output.new)) }
-    ensures err { IfErr result (λ _. Wrote (IsStretchPart options.now (R.left records)) 1
+    ensures err { IfErr result (λ _. Wrote (IsPackedInPart options.now (R.left records)) 1
         (W.written output.old) (W.written output.new)) }
 {
     one_series();

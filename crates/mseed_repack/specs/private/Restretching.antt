@@ -7,11 +7,9 @@ use Rattle.mseed_record.specs.View.{View}
 use Rattle.mseed_record.specs.Viewing.{view_of}
 use Rattle.mseed_stream.specs.Device.{BytesWritten}
 use Rattle.mseed_audit.specs.Follows.{IsSound}
-use Rattle.mseed_audit.specs.Series.{Trace, IsSeriesOf}
 use Rattle.mseed_stretches.specs.Clocks.{IsStretchAt}
 use Rattle.mseed_stretches.specs.Stretches.{AreStretchesUpTo, IsFirstStretch}
 use Rattle.mseed_stretches.specs.declared.stretch.Stretch.{Stretch}
-use Rattle.mseed_pack.specs.Packing.{PacksUpTo}
 use Rattle.mseed_pack.specs.declared.options.Options.{Options}
 use Rattle.mseed_repack.specs.private.Archives.{HasRoomForRecords}
 use Rattle.mseed_repack.specs.private.Reading.{AreOf, samples_of, steps_of}
@@ -74,16 +72,6 @@ pub record IsStretchText (o : Options) (s : List View) (count : ℕ) (text : Lis
   pub packed : IsStretchPacked o s records
   pub count_is : count ≡ length records
   pub text_is : text ≡ concat records
-
--- the text is a part of them
-pub record IsStretchPart (o : Options) (s : List View) (text : List ℕ) : Type 0 where
-  pub trace : Trace
-  pub series : IsSeriesOf trace s
-  pub further : List (List ℕ)
-  pub samples_left : List ℤ
-  pub packing : PacksUpTo trace o further samples_left
-  pub taken : ℕ
-  pub text_is : text ≡ take taken (concat further)
 
 -- there is room for each stretch of each channel that fits
 abbrev pub AreRoomy : ℕ → List View → List Channel → List Standing → Type 0

@@ -3,10 +3,10 @@ use Rattle.std.proofs.lemmas.List.{length-map}
 use Rattle.mseed_record.specs.View.{View}
 use Rattle.mseed_record.specs.Viewing.{view_of}
 use Rattle.mseed_audit.specs.Follows.{IsSound}
-use Rattle.mseed_repack.specs.Repack.{Wrote}
+use Rattle.mseed_repack.specs.Repack.{IsPackedInPart, Wrote}
 use Rattle.mseed_repack.specs.Restretch.{StretchFits}
 use Rattle.mseed_repack.specs.private.Reading.{steps_of}
-use Rattle.mseed_repack.specs.private.Restretching.{IsStretchPart, IsStretchText}
+use Rattle.mseed_repack.specs.private.Restretching.{IsStretchText}
 use Rattle.mseed_repack.proofs.Cutting.{cut_of, each_cut, inside_next, of_cut, room_cut, steps_cut}
 use Rattle.mseed_repack.proofs.Lengths.{next_length, none_behind, some_length}
 use Rattle.mseed_repack.proofs.Restretched.{all_packed, next_fits, packed_more, packed_none, part_packed}
@@ -64,7 +64,7 @@ returns-in-Err-clause-err g c =
     let new = g.W.Sink.written c.pack_series.new.output in
     part_packed c.args.options.now rs l.from n l.next (g.W.Sink.written c.args.output.now) old new l.invariant.0
     next.first
-    (of_cut (λ (s : List View). Wrote (IsStretchPart l.next s) 1 old new) rs l.from n c.in-Err.ensures.err)
+    (of_cut (λ (s : List View). Wrote (IsPackedInPart l.next s) 1 old new) rs l.from n c.in-Err.ensures.err)
 
 pub loop-count-preserved : goal.loop-count-preserved
 loop-count-preserved g c =

@@ -2,7 +2,8 @@ use Rattle.std.proofs.Common.{[], arith}
 use Rattle.mseed_record.specs.Viewing.{view_of}
 use Rattle.mseed_audit.specs.Follows.{IsSound}
 use Rattle.mseed_repack.proofs.Outlines.{outline_is, outlined_more, outlined_none}
-use Rattle.mseed_repack.proofs.Walks.{AreOutlinedSo, gone_all, gone_more, gone_none, next_gone, next_of, samples_so_far, steps_so_far}
+use Rattle.mseed_repack.proofs.Walks.{AreOutlinedSo, gone_all, gone_more, gone_none, next_gone, next_of, samples_so_far}
+use Rattle.mseed_repack.proofs.Walks.{steps_so_far}
 use Rattle.mseed_repack.proofs.outline.outline_records.Goals as goal
 
 pub loop-view-init : goal.loop-view-init
@@ -30,8 +31,9 @@ loop-view-preserved g c =
     let e = c.outline_record-outline.ensures in
     let o = c.outline_record-outline.result in (
       c.in-Some.ensures.leads,
-      gone_more {Q = AreOutlinedSo o.samples o.steps o.nearness c.outline_record-outline.new.steps} h (λ key. outlined_more key h.gone (view_of c.in-Some.view) l.outline.samples l.outline.steps o.samples
-          o.steps l.outline.nearness o.nearness sound.samples l.steps c.outline_record-outline.new.steps (h.holds key)
+      gone_more {Q = AreOutlinedSo o.samples o.steps o.nearness c.outline_record-outline.new.steps} h (λ key.
+          outlined_more key h.gone (view_of c.in-Some.view) l.outline.samples l.outline.steps o.samples o.steps
+          l.outline.nearness o.nearness sound.samples l.steps c.outline_record-outline.new.steps (h.holds key)
           sound.whole e.samples e.steps e.steps_count e.nearness),
     )
 

@@ -2,7 +2,8 @@ use Rattle.std.proofs.Common.{◌≤◌, [], length, arith}
 use Rattle.mseed_record.specs.Viewing.{view_of}
 use Rattle.mseed_audit.specs.Follows.{IsSound}
 use Rattle.mseed_repack.proofs.ReadChannels.{read_more, read_none}
-use Rattle.mseed_repack.proofs.Walks.{AreReadSo, gone_all, gone_more, gone_none, next_gone, next_of, samples_so_far, steps_so_far}
+use Rattle.mseed_repack.proofs.Walks.{AreReadSo, gone_all, gone_more, gone_none, next_gone, next_of, samples_so_far}
+use Rattle.mseed_repack.proofs.Walks.{steps_so_far}
 use Rattle.mseed_repack.proofs.reading.read_records.Goals as goal
 
 pub loop-view-init : goal.loop-view-init
@@ -32,8 +33,9 @@ loop-view-preserved g c =
     let o = c.read_record-read.result in
     let new = c.read_record-read.new in (
       c.in-Some.ensures.leads,
-      gone_more {Q = AreReadSo o.samples o.steps new.samples new.steps} h (λ key. read_more key h.gone (view_of c.in-Some.view) l.read.samples l.read.steps o.samples o.steps
-          l.samples new.samples e.samples.0 l.steps new.steps inside (h.holds key) e.samples.1.0 e.samples.1.1 e.steps
+      gone_more {Q = AreReadSo o.samples o.steps new.samples new.steps} h (λ key.
+          read_more key h.gone (view_of c.in-Some.view) l.read.samples l.read.steps o.samples o.steps l.samples
+          new.samples e.samples.0 l.steps new.steps inside (h.holds key) e.samples.1.0 e.samples.1.1 e.steps
           e.samples_count e.steps_count),
     )
 

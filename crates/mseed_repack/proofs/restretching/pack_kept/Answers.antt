@@ -79,15 +79,13 @@ pack_if_fit-requires-clause-lengths g c = λ fit.
 
 pub returns-in-Err-clause-err : goal.returns-in-Err-clause-err
 returns-in-Err-clause-err g c =
-    part_step (get_or c.args.standings.now c.loop-number.number Fit)
-    (channel_at Fit c.loop-number-test.true c.requires.standings c.trail.ensures.at c.loop-number.invariant)
+    part_step _ (channel_at Fit c.loop-number-test.true c.requires.standings c.trail.ensures.at c.loop-number.invariant)
     (wrote_on (λ vs. IsPartIfFit c.args.options.now vs (get_or c.args.standings.now c.loop-number.number Fit)) 1
     c.trail.ensures c.in-Err.ensures.err)
 
 pub loop-number-preserved : goal.loop-number-preserved
 loop-number-preserved g c =
-    kept_step (get_or c.args.standings.now c.loop-number.number Fit)
-    (channel_at Fit c.loop-number-test.true c.requires.standings c.trail.ensures.at c.loop-number.invariant)
+    kept_step _ (channel_at Fit c.loop-number-test.true c.requires.standings c.trail.ensures.at c.loop-number.invariant)
     (wrote_on (λ vs. IsTextIfFit c.args.options.now vs (get_or c.args.standings.now c.loop-number.number Fit)) 0
     c.trail.ensures c.in-Ok.ensures.ok)
 
