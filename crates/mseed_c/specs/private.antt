@@ -2,3 +2,4 @@
 pub mod Filled
 pub mod Going
 pub mod Parts
+pub mod Told

@@ -1,14 +1,17 @@
 //! The audit of an archive that lies in memory.
-ghost use Rattle.std.specs.Prelude.{◌≡◌, ◌≢◌, length};
+ghost use Rattle.std.specs.Prelude.{◌≡◌, ◌≢◌, length, IfSome};
+ghost use Rattle.mseed_stream.specs.Calls.{ReadsOn, WritesOn};
+ghost use Rattle.mseed_stream.specs.Device.{nothing_read};
 ghost use Rattle.mseed_c.specs.Audited.{IsShown, SaysAudit, SaysEach, SaysPart, Stays, status_of, totals_of};
 ghost use Rattle.mseed_c.specs.Room.{overwritten};
+ghost use Rattle.mseed_c.specs.private.Told.{IsTold, says_of};
 
 use crate::codes::MEMORY;
 use crate::lent::Lent;
 use crate::room::overwrite;
 use mseed_audit::{Summary, audit, audit_each};
 use mseed_join::audit_part;
-use mseed_stream::Counted;
+use mseed_stream::{Counted, Sink, Source};
 use std::alloc::Global;
 
 /// What an audit tells in numbers.
@@ -25,6 +28,17 @@ pub struct Totals {
     pub length: usize,
 }
 
+/// A text about an archive.
+#[derive(Clone, Copy)]
+pub(crate) enum Text {
+    /// The audit.
+    Audit,
+    /// The same, behind a line for each record with a finding.
+    Each,
+    /// The archive's part.
+    Part,
+}
+
 /// The audit of an archive that lies in memory: the status of `mseed audit`, or 3 where memory was refused. The text is
 /// written into the room, as much of it as there is room for; how long the whole of it is, is reported.
 #[unsafe(no_mangle)]
@@ -37,12 +51,7 @@ pub extern "C" fn mseed_audit(
     ensures shown { result ≢ 3 → IsShown SaysAudit bytes.now room.old room.new totals.new result }
     ensures refused { result ≡ 3 → Stays room.old room.new totals.old totals.new }
 {
-    let mut source = Lent::new(bytes);
-    let mut sink = Counted::new(Vec::new(alloc));
-    match audit(alloc, &mut source, &mut sink) {
-        Ok(summary) => show(sink.get_ref(), &summary, room, totals),
-        Err(_) => MEMORY,
-    }
+    show_text(Text::Audit, alloc, bytes, room, totals)
 }
 
 /// The same with a line for each record with a finding before the text, as `mseed audit --each` writes it.
@@ -56,12 +65,7 @@ pub extern "C" fn mseed_audit_each(
     ensures shown { result ≢ 3 → IsShown SaysEach bytes.now room.old room.new totals.new result }
     ensures refused { result ≡ 3 → Stays room.old room.new totals.old totals.new }
 {
-    let mut source = Lent::new(bytes);
-    let mut sink = Counted::new(Vec::new(alloc));
-    match audit_each(alloc, &mut source, &mut sink) {
-        Ok(summary) => show(sink.get_ref(), &summary, room, totals),
-        Err(_) => MEMORY,
-    }
+    show_text(Text::Each, alloc, bytes, room, totals)
 }
 
 /// The same with the archive's part in place of the text, as `mseed audit --part` writes it.
@@ -75,11 +79,42 @@ pub extern "C" fn mseed_part(
     ensures shown { result ≢ 3 → IsShown SaysPart bytes.now room.old room.new totals.new result }
     ensures refused { result ≡ 3 → Stays room.old room.new totals.old totals.new }
 {
+    show_text(Text::Part, alloc, bytes, room, totals)
+}
+
+/// Writes a text about an archive that lies in memory into a room, tells its totals, and answers the status.
+fn show_text(text: Text, alloc: Global, bytes: &[u8], room: &mut [u8], totals: &mut Totals) -> u32
+    ensures shown { result ≢ 3 → IsShown (says_of text) bytes.now room.old room.new totals.new result }
+    ensures refused { result ≡ 3 → Stays room.old room.new totals.old totals.new }
+{
     let mut source = Lent::new(bytes);
     let mut sink = Counted::new(Vec::new(alloc));
-    match audit_part(alloc, &mut source, &mut sink) {
-        Ok(summary) => show(sink.get_ref(), &summary, room, totals),
-        Err(_) => MEMORY,
+    match write_text(text, alloc, &mut source, &mut sink) {
+        Some(summary) => show(sink.get_ref(), &summary, room, totals),
+        None => MEMORY,
+    }
+}
+
+/// Writes a text about the archive that a source tells, and answers its numbers; or none, where memory was refused or
+/// the output failed.
+fn write_text<R: Source, W: Sink>(
+    text: Text,
+    alloc: Global,
+    source: &mut R,
+    sink: &mut W,
+) -> Option<Summary>
+    requires { R.read source.old ≡ nothing_read }
+    ensures told { IfSome result (λ summary.
+        IsTold (says_of text) summary (R.read source.new) (W.written sink.old) (W.written sink.new)) }
+    ensures reads { ReadsOn (R.read source.old) (R.read source.new) (R.remaining source.old) (R.remaining source.new)
+        (R.beside source.old) (R.beside source.new) }
+    ensures writes { WritesOn (W.written sink.old) (W.written sink.new) (W.contents sink.old) (W.contents sink.new)
+        (W.beside sink.old) (W.beside sink.new) }
+{
+    match text {
+        Text::Audit => audit(alloc, source, sink).ok(),
+        Text::Each => audit_each(alloc, source, sink).ok(),
+        Text::Part => audit_part(alloc, source, sink).ok(),
     }
 }
 
