@@ -400,8 +400,9 @@ cut_alike feed old m n a b bytes more count stands g h same p q long short =
     let one : (a.session.state ≡ b.session.state)
     × (p.before.written.bytes ++ take p.count (reply_bytes p.reply) ≡ q.before.written.bytes ++ take q.count
     (reply_bytes q.reply)) =
-    cut_in_once feed m.session p.before.session q.before.session a.session b.session behind.stream bytes p.prefix p.piece
-    p.rest q.prefix q.piece q.rest m.written.bytes p.before.written.bytes q.before.written.bytes p.reply q.reply p.count
+    cut_in_once feed m.session p.before.session q.before.session a.session b.session behind.stream bytes p.prefix
+    p.piece p.rest q.prefix q.piece q.rest m.written.bytes p.before.written.bytes q.before.written.bytes p.reply q.reply
+    p.count
     q.count
     (λ _. behind.held) behind.fits (p.bytes_are ∙ append_assoc p.prefix p.piece p.rest) p.replies.serves
     p.takes p.written.part (sym same ∙ (q.bytes_are ∙ append_assoc q.prefix q.piece q.rest)) other q.takes
@@ -410,7 +411,8 @@ cut_alike feed old m n a b bytes more count stands g h same p q long short =
     record {
       state = one.0;
       bytes = p.written.bytes ∙ (one.1 ∙ sym q.written.bytes);
-      failures = p.written.failures ∙ (ap (λ n. n + 1) (p.replies.failures ∙ (behind.alike.failures ∙ sym q.replies.failures))
+      failures = p.written.failures ∙ (ap (λ n. n + 1) (p.replies.failures ∙ (behind.alike.failures
+          ∙ sym q.replies.failures))
           ∙ sym q.written.failures);
     }
 

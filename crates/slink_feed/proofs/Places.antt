@@ -1,5 +1,6 @@
 -- Which places the rings of a feed have.
-use Rattle.std.proofs.Common.{◌≡◌, ◌≢◌, ℕ, ◌+◌, ◌<◌, ◌≤◌, inl, inr, zero, suc, refl, sym, ap, subst, ◌∙◌, arith, add-one}
+use Rattle.std.proofs.Common.{◌≡◌, ◌≢◌, ℕ, ◌+◌, ◌<◌, ◌≤◌, inl, inr, zero, suc, refl, sym, ap, subst, ◌∙◌, arith}
+use Rattle.std.proofs.Common.{add-one}
 use Rattle.std.proofs.Common.{Bool, true, false, ◌&&◌, nat_eq, List, [], ◌∷◌, length, take, take_all, drop}
 use Rattle.std.proofs.Common.{drop_of_length-le, if◌then◌else◌, IsTrue, Option, Some, None}
 use Rattle.std.proofs.Common.{slice_get}

@@ -148,8 +148,8 @@ IsFetchFault faults.Read old new before after = (new ≡ old) × (after ≡ fail
 IsFetchFault (faults.Write count) old new before after = IsCutShort old new before after (faults.Write count)
 IsFetchFault (faults.Output count) old new before after = IsCutShort old new before after (faults.Output count)
 
--- What a call that takes a turn comes to: a turn, or what failed in it. The bytes that the client had kept read as what is
--- begun: so the turn tells what they read as with those of the link.
+-- What a call that takes a turn comes to: a turn, or what failed in it. The bytes that the client had kept read as what
+-- is begun: so the turn tells what they read as with those of the link.
 pub record TakesTurn (result : Result Turn LinkFault) (old new : Fetching) (before after : BytesRead) : Type 0 where
   pub ok : IfOk result (λ turn. Fetches old new before after turn)
   pub fault : IfErr result (λ fault. IsFetchFault fault old new before after)

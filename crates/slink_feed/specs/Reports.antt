@@ -38,8 +38,8 @@ pub record Reports (old new : Talk) (before after : Kept) : Type 0 where
   pub holes : new.holes ≡ old.holes
   pub handed_over : AreHandedOver records before after
 
--- A client reported records, each of which a teller reported before the output took it; and the teller noted whether the
--- output accepted some.
+-- A client reported records, each of which a teller reported before the output took it; and the teller noted whether
+-- the output accepted some.
 pub record TellsRecords (old new : Talk) (teller_old teller_new : Account)
     (output_old output_new errors_old errors_new : BytesWritten) : Type 0 where
   pub received : Notes teller_old.received teller_new.received output_old output_new

@@ -1,6 +1,5 @@
 //! One turn of a client with its link.
-ghost use Rattle.std.specs.Prelude.{◌≡◌, ◌≤◌, ◌<◌, ◌^◌, [], IfErr, IfOk, OnOk, length};
-ghost use Rattle.std.specs.Bool.{OnFalse, OnTrue};
+ghost use Rattle.std.specs.Prelude.{◌≡◌, ◌≤◌, ◌<◌, ◌^◌, IfErr, IfOk, OnOk, length};
 ghost use Rattle.mseed_stream.specs.Device.{BytesWritten};
 ghost use Rattle.slink_feed.specs.declared.dialogue.Event.{Event};
 ghost use Rattle.slink_feed.specs.Fetching.{Delivers, FailsAt, Notes, TakesTurn, fetching};

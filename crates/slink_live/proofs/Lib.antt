@@ -1,4 +1,3 @@
-pub mod Tells
 pub mod Borne
 pub mod Cuts
 pub mod Rings

@@ -1,13 +1,11 @@
 //! The input, cut into records, each of which goes into the ring of its place.
-ghost use Rattle.std.specs.Prelude.{◌≡◌, ◌+◌, ◌*◌, ◌^◌, ◌<◌, ◌≤◌, ◌++◌, [], ℕ, List, None, Some, IfErr, IfSome, OnErr};
-ghost use Rattle.std.specs.Prelude.{OnOk, length, slice_get};
+ghost use Rattle.std.specs.Prelude.{◌≡◌, ◌+◌, ◌*◌, ◌^◌, ◌<◌, ◌≤◌, ◌++◌, [], None, Some, IfErr, OnErr};
+ghost use Rattle.std.specs.Prelude.{OnOk, length};
 ghost use Rattle.std.specs.Bool.{OnFalse, OnTrue};
 ghost use Rattle.mseed_record.specs.declared.framer.Scan.{Scan};
 ghost use Rattle.mseed_record.specs.Record.{IsRecord};
 ghost use Rattle.mseed_record.specs.Scan.{Decides};
 ghost use Rattle.mseed_stream.specs.declared.fault.StreamFault.{StreamFault};
-ghost use Rattle.slink_wire.specs.Place.{Bears};
-ghost use Rattle.slink_feed.specs.Window.{Window};
 ghost use Rattle.slink_live.specs.Input.{places_of};
 ghost use Rattle.slink_live.specs.Served.{IsBelow};
 ghost use Rattle.slink_live.specs.private.Cutting.{Cuts, CutsOff, IsOfNone, IsPushed, IsRefused, LooksOn};

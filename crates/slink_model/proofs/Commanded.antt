@@ -1,5 +1,5 @@
 -- What answers leave of the grants of a session.
-use Rattle.std.proofs.Common.{◌≡◌, ℕ, ◌≤◌, inl, inr, refl, sym, ap, subst, ◌∙◌, List, Option, Some, None, slice_get}
+use Rattle.std.proofs.Common.{◌≡◌, ℕ, ◌≤◌, inl, inr, refl, sym, subst, List, Option, Some, None, slice_get}
 use Rattle.std.specs.Option.{option_and_then}
 use Rattle.slink_wire.specs.declared.command.Command.{Command}
 use Rattle.slink_wire.specs.declared.command.Command.TheVariants.{Hello, Station, SelectAll, Data, Fetch, End, Bye}
@@ -8,7 +8,6 @@ use Rattle.slink_wire.specs.declared.lines.What.{What}
 use Rattle.slink_wire.specs.declared.lines.What.TheVariants.{More, Line, TooLong}
 use Rattle.slink_wire.specs.declared.reply.Reply.{Reply}
 use Rattle.slink_wire.specs.declared.reply.Reply.TheVariants as replies
-use Rattle.slink_feed.specs.declared.grant.Grant.{Grant}
 use Rattle.slink_feed.specs.declared.grant.Mode.{Mode}
 use Rattle.slink_feed.specs.declared.grant.Mode.TheVariants as modes
 use Rattle.slink_feed.specs.declared.session.Phase.{Phase}
@@ -16,7 +15,7 @@ use Rattle.slink_feed.specs.declared.session.Phase.TheVariants.{Fresh, Chosen, G
 use Rattle.slink_feed.specs.Grant.{grant_of}
 use Rattle.slink_feed.specs.Rings.{station_at}
 use Rattle.slink_feed.specs.Serving.{IsAnswer}
-use Rattle.slink_feed.specs.Session.{Grants, IsBefore, State, answered_in, called, at, chosen, grant_at, granted}
+use Rattle.slink_feed.specs.Session.{IsBefore, State, answered_in, called, at, chosen, grant_at, granted}
 use Rattle.slink_feed.specs.Session.{in_chosen, in_fresh, in_granted, in_streaming, reply_at_next}
 use Rattle.slink_model.specs.Ties.{IsGranted, Leaves, dropped, given, same}
 use Rattle.slink_feed.specs.Window.{Window, oldest_of}

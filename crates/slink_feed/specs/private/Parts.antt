@@ -35,8 +35,8 @@ pub record IsDue (bytes : List ℕ) : Type 0 where
   pub end : Begins bytes 69 → length bytes ≤ 3
   pub head : Begins bytes 83 → 8 < length bytes → (n : ℕ) × HasHead bytes n
 
--- So many of these bytes went behind those that were kept, and this is what they have come to. Where they come to nothing
--- yet, all were taken.
+-- So many of these bytes went behind those that were kept, and this is what they have come to. Where they come to
+-- nothing yet, all were taken.
 pub record TakesUpTo (Comes : List ℕ → Part → Type 0) (old new bytes : List ℕ) (used : ℕ) (it : Part) : Type 0 where
   pub kept : new ≡ old ++ take used bytes
   pub part : Comes new it
