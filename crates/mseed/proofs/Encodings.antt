@@ -1,24 +1,15 @@
 -- An encoding and its code.
-use Rattle.std.proofs.Common.{◌≡◌, refl, arith}
-use Rattle.mseed_pack.specs.Options.{code_of}
+use Rattle.std.proofs.Common.{◌≡◌, ◌∙◌, ap, refl, sym, Option, Some, unwrap_or}
+use Rattle.mseed_pack.specs.Options.{code_of, encoding_of}
 use Rattle.mseed_pack.specs.declared.options.Encoding.{Encoding}
 use Rattle.mseed_pack.specs.declared.options.Encoding.TheVariants.{Int16, Int32, Steim1, Steim2}
 
+back : (e : Encoding) → encoding_of (code_of e) ≡ Some e
+back Int16 = refl
+back Int32 = refl
+back Steim1 = refl
+back Steim2 = refl
+
 -- a code is of one encoding
 pub one_encoding : (a b : Encoding) → code_of a ≡ code_of b → a ≡ b
-one_encoding Int16 Int16 e = refl
-one_encoding Int16 Int32 e = absurd (omega (arith, e))
-one_encoding Int16 Steim1 e = absurd (omega (arith, e))
-one_encoding Int16 Steim2 e = absurd (omega (arith, e))
-one_encoding Int32 Int16 e = absurd (omega (arith, e))
-one_encoding Int32 Int32 e = refl
-one_encoding Int32 Steim1 e = absurd (omega (arith, e))
-one_encoding Int32 Steim2 e = absurd (omega (arith, e))
-one_encoding Steim1 Int16 e = absurd (omega (arith, e))
-one_encoding Steim1 Int32 e = absurd (omega (arith, e))
-one_encoding Steim1 Steim1 e = refl
-one_encoding Steim1 Steim2 e = absurd (omega (arith, e))
-one_encoding Steim2 Int16 e = absurd (omega (arith, e))
-one_encoding Steim2 Int32 e = absurd (omega (arith, e))
-one_encoding Steim2 Steim1 e = absurd (omega (arith, e))
-one_encoding Steim2 Steim2 e = refl
+one_encoding a b e = ap (λ (o : Option Encoding). unwrap_or o a) (sym (back a) ∙ (ap encoding_of e ∙ back b))

@@ -26,7 +26,7 @@ fill_text Memory = codes "mseed: no memory\n"
 
 -- the feed, and the values that were requested
 pub record IsServePlan {A : Type 0} (serving : Serving) (feed : List Window) (plan : ServePlan A) : Type 0 where
-  pub address : plan.address ≡ serving.listener.address
+  pub address : plan.address ≡ serving.listener.host
   pub port : plan.port ≡ serving.listener.port
   pub connections : plan.connections ≡ serving.connections
   pub timeout : plan.timeout ≡ serving.listener.timeout

@@ -1,26 +1,39 @@
 -- What `run` comes to, by what is requested.
-use Rattle.std.specs.Prelude.{◌≡◌, ◌⊎◌, ℕ, Option, Result}
+use Rattle.std.specs.Prelude.{⊤, ◌≡◌, ◌⊎◌, ℕ, Option, Result}
+use Rattle.mseed_audit.specs.declared.each.EachFault.{EachFault}
 use Rattle.mseed_audit.specs.declared.summary.AuditFault.{AuditFault}
 use Rattle.mseed_audit.specs.declared.summary.Summary.{Summary}
-use Rattle.mseed_audit.specs.declared.each.EachFault.{EachFault}
+use Rattle.mseed_audit.specs.Each.{IsEachOutcome}
+use Rattle.mseed_audit.specs.Summary.{IsOutcome}
+use Rattle.mseed_join.specs.AuditPart.{IsPartOutcome, IsPartEachOutcome}
+use Rattle.mseed_join.specs.Joins.{IsJoinOutcome}
+use Rattle.mseed_join.specs.JoinsEach.{IsJoinEachOutcome}
+use Rattle.mseed_join.specs.declared.joining.Form.TheVariants as forms
+use Rattle.mseed_join.specs.declared.joining.Joined.{Joined}
+use Rattle.mseed_join.specs.declared.joining.JoinsFault.{JoinsFault}
+use Rattle.mseed_pack.specs.declared.options.Options.{Options}
+use Rattle.mseed_repack.specs.ByStretches.{IsRestretching}
+use Rattle.mseed_repack.specs.Repack.{IsRepacking}
+use Rattle.mseed_repack.specs.declared.fault.RepackFault.{RepackFault}
+use Rattle.mseed_repack.specs.declared.refusing.Left.{Left}
+use Rattle.mseed_repack.specs.declared.stretches_fault.StretchesFault.{StretchesFault}
 use Rattle.mseed_stream.specs.Device.{BytesRead, BytesWritten}
+use Rattle.mseed_stream.specs.Telling.{Tells}
 use Rattle.mseed_stream.specs.declared.fault.StreamFault.{StreamFault}
-use Rattle.mseed.specs.Done.{IsMemoryRun, IsRefusedRun, IsShowRun}
-use Rattle.mseed.specs.Joined.{IsJoinEachRun, IsJoinRun}
-use Rattle.mseed.specs.Outcome.{IsAuditRun, IsBadRun, IsEachRun, IsPartRun, IsPartEachRun}
-use Rattle.mseed.specs.Plans.{IsFetchRun, IsLiveRun, IsServeRun}
-use Rattle.mseed.specs.Repacked.{IsRepackRun}
-use Rattle.mseed.specs.Restretched.{IsStretchesRun}
-use Rattle.mseed_show.specs.declared.fault.ShowFault.{ShowFault}
-use Rattle.mseed.specs.declared.outcome.Run.{Run}
-use Rattle.mseed.specs.declared.outcome.Run.TheVariants as runs
 use Rattle.mseed_words.specs.declared.request.Request.{Request}
 use Rattle.mseed_words.specs.declared.request.Request.TheVariants.{Audit, AuditEach, AuditPart, AuditPartEach}
 use Rattle.mseed_words.specs.declared.request.Request.TheVariants.{Join, JoinEach, JoinPart, Show, Repack}
 use Rattle.mseed_words.specs.declared.request.Request.TheVariants.{RepackStretches, Serve, Live, Fetch}
-use Rattle.mseed_join.specs.declared.joining.Form.TheVariants as forms
-use Rattle.mseed_join.specs.declared.joining.Joined.{Joined}
-use Rattle.mseed_join.specs.declared.joining.JoinsFault.{JoinsFault}
+use Rattle.mseed.specs.Done.{EndsShow, bad_value}
+use Rattle.mseed.specs.Joined.{EndsJoin}
+use Rattle.mseed.specs.Outcome.{EndsAudit, EndsEach, no_memory}
+use Rattle.mseed.specs.Plans.{IsFetchRun, IsLiveRun, IsServeRun}
+use Rattle.mseed.specs.Repacked.{AreOptionsOf, EndsRepack}
+use Rattle.mseed.specs.Restretched.{EndsStretches}
+use Rattle.mseed_show.specs.Show.{IsShown}
+use Rattle.mseed_show.specs.declared.fault.ShowFault.{ShowFault}
+use Rattle.mseed.specs.declared.outcome.Run.{Run}
+use Rattle.mseed.specs.declared.outcome.Run.TheVariants as runs
 
 -- what was read of the input, and what the output and the errors accepted
 pub record Streams : Type 0 where
@@ -38,49 +51,67 @@ IsStatusAnd (runs.Serve plan) P = ⊥
 IsStatusAnd (runs.Live living) P = ⊥
 IsStatusAnd (runs.Fetch plan) P = ⊥
 
+-- the command is done: it came to an outcome, and ended by it
+abbrev pub HasDone : {A O : Type 0} → Run A → (O → Type 0) → (O → ℕ → BytesWritten → BytesWritten → Type 0)
+    → BytesWritten → BytesWritten → Type 0
+HasDone {A} {O} run Is Ends old new =
+    (outcome : O) × IsStatusAnd run (λ status. Is outcome × Ends outcome status old new)
+
+-- and what was reported before it ended
+abbrev pub HasReported : {A O : Type 0} → Run A → (O → BytesWritten → Type 0)
+    → (O → ℕ → BytesWritten → BytesWritten → Type 0) → BytesWritten → Type 0
+HasReported {A} {O} run Is Ends new =
+    (outcome : O) × ((reported : BytesWritten)
+    × IsStatusAnd run (λ status. Is outcome reported × Ends outcome status reported new))
+
+-- nothing was read or written
+abbrev pub IsIdle : Streams → Streams → Type 0
+IsIdle old new = (new.input ≡ old.input) × (new.output ≡ old.output)
+
 -- an audit, a joint, a listing and a packing are done; serving and fetching are planned
 abbrev pub HasCarriedOut : {A : Type 0} → Request → Run A → Streams → Streams → Type 0
-HasCarriedOut Audit run old new = (outcome : Result Summary AuditFault)
-    × IsStatusAnd run (λ status. IsAuditRun outcome status new.input old.output new.output old.errors new.errors)
-HasCarriedOut AuditEach run old new = (outcome : Result Summary EachFault)
-    × IsStatusAnd run (λ status. IsEachRun outcome status new.input old.output new.output old.errors new.errors)
-HasCarriedOut AuditPart run old new = (outcome : Result Summary AuditFault)
-    × IsStatusAnd run (λ status. IsPartRun outcome status new.input old.output new.output old.errors new.errors)
-HasCarriedOut AuditPartEach run old new = (outcome : Result Summary EachFault)
-    × IsStatusAnd run (λ status. IsPartEachRun outcome status new.input old.output new.output old.errors new.errors)
-HasCarriedOut (Join past_faults) run old new = (outcome : Result Joined JoinsFault) × IsStatusAnd run (λ status.
-    IsJoinRun forms.Audit past_faults outcome status new.input old.output new.output old.errors new.errors)
-HasCarriedOut (JoinEach past_faults) run old new = (outcome : Result Joined JoinsFault) × IsStatusAnd run (λ status.
-    IsJoinEachRun past_faults outcome status new.input old.output new.output old.errors new.errors)
-HasCarriedOut (JoinPart past_faults) run old new = (outcome : Result Joined JoinsFault) × IsStatusAnd run (λ status.
-    IsJoinRun forms.Part past_faults outcome status new.input old.output new.output old.errors new.errors)
-HasCarriedOut Show run old new = (outcome : Result (Option StreamFault) ShowFault)
-    × IsStatusAnd run (λ status. IsShowRun outcome status new.input old.output new.output old.errors new.errors)
-HasCarriedOut (Repack packing) run old new =
-    IsStatusAnd run (λ status. IsRepackRun packing status new.input old.output new.output old.errors new.errors)
-HasCarriedOut (RepackStretches packing leave) run old new =
-    IsStatusAnd run (λ status.
-    IsStretchesRun packing leave status new.input old.output new.output old.errors new.errors)
+HasCarriedOut Audit run old new = HasDone run (λ (outcome : Result Summary AuditFault).
+    IsOutcome outcome new.input old.output new.output) EndsAudit old.errors new.errors
+HasCarriedOut AuditEach run old new = HasDone run (λ (outcome : Result Summary EachFault).
+    IsEachOutcome outcome new.input old.output new.output) EndsEach old.errors new.errors
+HasCarriedOut AuditPart run old new = HasDone run (λ (outcome : Result Summary AuditFault).
+    IsPartOutcome outcome new.input old.output new.output) EndsAudit old.errors new.errors
+HasCarriedOut AuditPartEach run old new = HasDone run (λ (outcome : Result Summary EachFault).
+    IsPartEachOutcome outcome new.input old.output new.output) EndsEach old.errors new.errors
+HasCarriedOut (Join past_faults) run old new = HasReported run (λ (outcome : Result Joined JoinsFault) reported.
+    IsJoinOutcome forms.Audit past_faults outcome new.input old.output new.output old.errors reported) EndsJoin
+    new.errors
+HasCarriedOut (JoinEach past_faults) run old new = HasReported run (λ (outcome : Result Joined JoinsFault) reported.
+    IsJoinEachOutcome past_faults outcome new.input old.output new.output old.errors reported) EndsJoin new.errors
+HasCarriedOut (JoinPart past_faults) run old new = HasReported run (λ (outcome : Result Joined JoinsFault) reported.
+    IsJoinOutcome forms.Part past_faults outcome new.input old.output new.output old.errors reported) EndsJoin
+    new.errors
+HasCarriedOut Show run old new = HasDone run (λ (outcome : Result (Option StreamFault) ShowFault).
+    IsShown outcome new.input old.output new.output) EndsShow old.errors new.errors
+HasCarriedOut (Repack packing) run old new = (options : Options) × (AreOptionsOf packing options
+    × HasDone run (λ (outcome : Result ⊤ RepackFault). IsRepacking options outcome new.input old.output new.output)
+    EndsRepack old.errors new.errors)
+HasCarriedOut (RepackStretches packing leave) run old new = (options : Options) × (AreOptionsOf packing options
+    × HasReported run (λ (outcome : Result Left StretchesFault) reported.
+    IsRestretching options leave outcome new.input old.output new.output old.errors reported) EndsStretches new.errors)
 HasCarriedOut (Serve serving) run old new =
     IsServeRun serving run new.input old.errors new.errors × (new.output ≡ old.output)
-HasCarriedOut (Live living) run old new =
-    IsLiveRun living run × (new.input ≡ old.input) × (new.output ≡ old.output) × (new.errors ≡ old.errors)
-HasCarriedOut (Fetch fetching) run old new =
-    IsFetchRun fetching run × (new.input ≡ old.input) × (new.output ≡ old.output) × (new.errors ≡ old.errors)
+HasCarriedOut (Live living) run old new = IsLiveRun living run × IsIdle old new × (new.errors ≡ old.errors)
+HasCarriedOut (Fetch fetching) run old new = IsFetchRun fetching run × IsIdle old new × (new.errors ≡ old.errors)
 
 -- the words ask for nothing that there is
 abbrev pub HasRefusedRequest : {A : Type 0} → Run A → Streams → Streams → Type 0
-HasRefusedRequest run old new = IsStatusAnd run (λ status.
-    IsBadRun status old.input new.input old.output new.output old.errors new.errors)
+HasRefusedRequest run old new =
+    IsStatusAnd run (λ status. (status ≡ 3) × Tells bad_value old.errors new.errors) × IsIdle old new
 
 -- the words aren't those of a command line; the text on the errors is that of `clap`
 abbrev pub HasRefusedWords : {A : Type 0} → Run A → Streams → Streams → Type 0
-HasRefusedWords run old new = IsStatusAnd run (λ status. IsRefusedRun status old.input new.input old.output new.output)
+HasRefusedWords run old new = IsStatusAnd run (λ status. status ≡ 3) × IsIdle old new
 
 -- there was no memory for the words
 abbrev pub LacksMemory : {A : Type 0} → Run A → Streams → Streams → Type 0
-LacksMemory run old new = IsStatusAnd run (λ status.
-    IsMemoryRun status old.input new.input old.output new.output old.errors new.errors)
+LacksMemory run old new =
+    IsStatusAnd run (λ status. (status ≡ 2) × Tells no_memory old.errors new.errors) × IsIdle old new
 
 -- this came of it, unless there was no memory for the words
 abbrev pub UnlessMemoryLacks : {A : Type 0} → (Run A → Streams → Streams → Type 0) → Run A → Streams → Streams → Type 0

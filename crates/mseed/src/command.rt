@@ -1,16 +1,16 @@
 //! The command line.
-ghost use Rattle.std.specs.Prelude.{◌≡◌, ◌⊎◌, map, codes, nat_lt, if◌then◌else◌};
+ghost use Rattle.std.specs.Prelude.{◌≡◌, map, nat_lt, if◌then◌else◌};
 ghost use Rattle.mseed_stream.specs.Device.{nothing_read};
 ghost use Rattle.mseed_stream.specs.Telling.{Tells};
-ghost use Rattle.mseed.specs.Done.{TellsOfRefusal, TellsOfShow, show_status};
-ghost use Rattle.mseed.specs.Joined.{TellsOfJoin, join_status};
-ghost use Rattle.mseed.specs.Outcome.{TellsOfAudit, TellsOfEach, each_status, status_of};
-ghost use Rattle.mseed.specs.Live.{CanBeServed};
-ghost use Rattle.mseed.specs.Run.{HasCarriedOut, HasRefusedRequest, HasRefusedWords, UnlessMemoryLacks, streams};
-ghost use Rattle.mseed_words.specs.Words.{AsksFor, AsksForNothing, AreRefused, CanBeCalled};
-ghost use Rattle.mseed.specs.Repacked.{TellsOfRepack};
-ghost use Rattle.mseed.specs.Restretched.{TellsOfStretches};
+ghost use Rattle.mseed_words.specs.Words.{AreRefused, AsksFor, AsksForNothing, CanBeCalled};
 ghost use Rattle.mseed_words.specs.declared.request.Request.{Request};
+ghost use Rattle.mseed.specs.Done.{EndsRefused, EndsShow, bad_value};
+ghost use Rattle.mseed.specs.Joined.{EndsJoin};
+ghost use Rattle.mseed.specs.Live.{CanBeServed};
+ghost use Rattle.mseed.specs.Outcome.{EndsAudit, EndsEach, no_memory, write_failed};
+ghost use Rattle.mseed.specs.Repacked.{AreOptionsOf, EndsRepack};
+ghost use Rattle.mseed.specs.Restretched.{EndsStretches};
+ghost use Rattle.mseed.specs.Run.{HasCarriedOut, HasRefusedRequest, HasRefusedWords, UnlessMemoryLacks, streams};
 
 use crate::outcome::{BAD_COMMAND, BROKEN, DONE, FAULT, Run};
 use crate::planning::{plan_fetch, plan_serve};
@@ -21,7 +21,7 @@ use mseed_pack::Options;
 use mseed_repack::{Left, RepackFault, StretchesFault, repack, repack_stretches};
 use mseed_show::{ShowFault, show};
 use mseed_stream::{Sink, Source, StreamFault, tell};
-use mseed_words::{Packing, Refusal, Request, read};
+use mseed_words::{Packing, Refusal, Request};
 use std::alloc::{Allocator, Global};
 
 /// Carries out what the words of the command line ask for, those after the program's name.
@@ -60,7 +60,7 @@ pub fn run<R: Source, W: Sink, E: Sink>(
         (streams (R.read input.new) (W.written output.new) (E.written errors.new)) }
     ensures served { CanBeServed result }
 {
-    match read(alloc, words) {
+    match mseed_words::read(alloc, words) {
         Ok(request) => carry_out(alloc, request, input, output, errors),
         Err(refusal) => Run::Status(refuse(errors, &refusal)),
     }
@@ -118,8 +118,7 @@ pub fn carry_out<A: Allocator + Copy, R: Source, W: Sink, E: Sink>(
 
 /// Says why not all of an audit was written, and answers the exit status. A fault of the input is in the text.
 fn audited<E: Sink>(outcome: Result<Summary, AuditFault>, errors: &mut E) -> u8
-    ensures status { result ≡ status_of outcome }
-    ensures reported { TellsOfAudit outcome (E.written errors.old) (E.written errors.new) }
+    ensures { EndsAudit outcome result (E.written errors.old) (E.written errors.new) }
 {
     match outcome {
         Ok(summary) => verdict_status(summary.fault, summary.broken),
@@ -130,8 +129,7 @@ fn audited<E: Sink>(outcome: Result<Summary, AuditFault>, errors: &mut E) -> u8
 
 /// The same of an audit that tells each finding.
 fn audited_each<E: Sink>(outcome: Result<Summary, EachFault>, errors: &mut E) -> u8
-    ensures status { result ≡ each_status outcome }
-    ensures reported { TellsOfEach outcome (E.written errors.old) (E.written errors.new) }
+    ensures { EndsEach outcome result (E.written errors.old) (E.written errors.new) }
 {
     match outcome {
         Ok(summary) => verdict_status(summary.fault, summary.broken),
@@ -142,8 +140,7 @@ fn audited_each<E: Sink>(outcome: Result<Summary, EachFault>, errors: &mut E) ->
 
 /// Says why parts weren't joined, and answers the exit status.
 fn joined<E: Sink>(outcome: Result<Joined, JoinsFault>, errors: &mut E) -> u8
-    ensures status { result ≡ join_status outcome }
-    ensures reported { TellsOfJoin outcome (E.written errors.old) (E.written errors.new) }
+    ensures { EndsJoin outcome result (E.written errors.old) (E.written errors.new) }
 {
     match outcome {
         Ok(joined) => verdict_status(joined.fault, joined.broken),
@@ -166,8 +163,7 @@ fn verdict_status(fault: bool, broken: u64) -> u8
 
 /// Says why not all of a listing was written, and answers the exit status. A fault of the input is in the listing.
 fn shown<E: Sink>(outcome: Result<Option<StreamFault>, ShowFault>, errors: &mut E) -> u8
-    ensures status { result ≡ show_status outcome }
-    ensures reported { TellsOfShow outcome (E.written errors.old) (E.written errors.new) }
+    ensures { EndsShow outcome result (E.written errors.old) (E.written errors.new) }
 {
     match outcome {
         Ok(None) => DONE,
@@ -180,9 +176,7 @@ fn shown<E: Sink>(outcome: Result<Option<StreamFault>, ShowFault>, errors: &mut 
 /// The options of packing anew: sequence numbers begin at 1.
 fn options_of(packing: Packing) -> Options
     requires { CanBeCalled (Request.Repack packing) }
-    ensures exponent { result.exponent ≡ packing.exponent }
-    ensures encoding { result.encoding ≡ packing.encoding }
-    ensures sequence { result.first_sequence ≡ 1 }
+    ensures { AreOptionsOf packing result }
 {
     match Options::new(packing.exponent, packing.encoding.code(), 1) {
         Ok(options) => options,
@@ -192,7 +186,7 @@ fn options_of(packing: Packing) -> Options
 
 /// Says why an archive wasn't packed anew, and answers the exit status.
 fn repacked<E: Sink>(outcome: Result<(), RepackFault>, errors: &mut E) -> u8
-    ensures { TellsOfRepack outcome result (E.written errors.old) (E.written errors.new) }
+    ensures { EndsRepack outcome result (E.written errors.old) (E.written errors.new) }
 {
     match outcome {
         Ok(()) => DONE,
@@ -202,7 +196,7 @@ fn repacked<E: Sink>(outcome: Result<(), RepackFault>, errors: &mut E) -> u8
 
 /// Says why an archive wasn't packed anew by stretches, and answers the exit status: what was left out counts.
 fn restretched<E: Sink>(outcome: Result<Left, StretchesFault>, errors: &mut E) -> u8
-    ensures { TellsOfStretches outcome result (E.written errors.old) (E.written errors.new) }
+    ensures { EndsStretches outcome result (E.written errors.old) (E.written errors.new) }
 {
     match outcome {
         Ok(Left::Nothing) => DONE,
@@ -215,7 +209,7 @@ fn restretched<E: Sink>(outcome: Result<Left, StretchesFault>, errors: &mut E) -
 /// Says that the output failed.
 pub fn write_failed<E: Sink>(errors: &mut E) -> u8
     ensures status { result ≡ 2 }
-    ensures reported { Tells (codes "mseed: write failed\n") (E.written errors.old) (E.written errors.new) }
+    ensures reported { Tells write_failed (E.written errors.old) (E.written errors.new) }
 {
     tell(errors, b"mseed: write failed\n");
     FAULT
@@ -223,7 +217,7 @@ pub fn write_failed<E: Sink>(errors: &mut E) -> u8
 
 /// Says why the words of the command line request nothing, and answers the exit status.
 fn refuse<E: Sink>(errors: &mut E, refusal: &Refusal) -> u8
-    ensures { TellsOfRefusal refusal.now result (E.written errors.old) (E.written errors.new) }
+    ensures { EndsRefused refusal.now result (E.written errors.old) (E.written errors.new) }
 {
     match refusal {
         Refusal::Text(text) => {
@@ -238,7 +232,7 @@ fn refuse<E: Sink>(errors: &mut E, refusal: &Refusal) -> u8
 /// Says that the words of the command line ask for nothing that there is, or aren't UTF-8.
 pub fn refuse_words<E: Sink>(errors: &mut E) -> u8
     ensures status { result ≡ 3 }
-    ensures reported { Tells (codes "mseed: bad value\n") (E.written errors.old) (E.written errors.new) }
+    ensures reported { Tells bad_value (E.written errors.old) (E.written errors.new) }
 {
     tell(errors, b"mseed: bad value\n");
     BAD_COMMAND
@@ -247,7 +241,7 @@ pub fn refuse_words<E: Sink>(errors: &mut E) -> u8
 /// Says that memory was refused: to a command, or for the words of the command line.
 pub fn refuse_memory<E: Sink>(errors: &mut E) -> u8
     ensures status { result ≡ 2 }
-    ensures reported { Tells (codes "mseed: no memory\n") (E.written errors.old) (E.written errors.new) }
+    ensures reported { Tells no_memory (E.written errors.old) (E.written errors.new) }
 {
     tell(errors, b"mseed: no memory\n");
     FAULT

@@ -64,7 +64,7 @@ pub fn serve<N: Net + Clock, I: Read + AsRawFd + Drop, E: Sink>(
 /// Where links are taken, how many, and how long each may be silent.
 fn links_of(living: &Living) -> Plan {
     let listener = &living.serving.listener;
-    let address = Ipv4Addr::from(listener.address.octets);
+    let address = Ipv4Addr::from(listener.host.octets);
     let seconds = listener.timeout.seconds;
     Plan {
         address: SocketAddr::from((address, listener.port)),

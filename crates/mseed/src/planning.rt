@@ -29,7 +29,7 @@ pub fn plan_serve<A: Allocator + Copy, R: Source, E: Sink>(
     one_filling();
     match fill(alloc, serving, input) {
         Ok(feed) => Run::Serve(ServePlan {
-            address: serving.listener.address,
+            address: serving.listener.host,
             port: serving.listener.port,
             connections: serving.connections,
             timeout: serving.listener.timeout,

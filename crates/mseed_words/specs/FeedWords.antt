@@ -8,7 +8,7 @@ use Rattle.clap.specs.Walk.{Row, Text, first_of}
 use Rattle.slink_wire.specs.Place.{Fields, fields_of}
 use Rattle.slink_feed.specs.Fault.{IsCapacity}
 use Rattle.mseed_words.specs.Found.{asks, further_in, has_only}
-use Rattle.mseed_words.specs.Numbers.{counted_in, hexadecimal_in, number_in}
+use Rattle.mseed_words.specs.Numbers.{counted_in, counted_or, hexadecimal_in, number_in}
 use Rattle.mseed_words.specs.Places.{ArePlaces, Called, places_of}
 use Rattle.mseed_words.specs.declared.feed_words.Naming.{Naming}
 use Rattle.mseed_words.specs.declared.feed_words.Naming.TheVariants.{Plain, Numbered}
@@ -16,8 +16,7 @@ use Rattle.slink_links.specs.declared.host.Address.{Address}
 use Rattle.slink_links.specs.declared.host.Host.{Host}
 use Rattle.slink_links.specs.declared.host.Timeout.{Timeout}
 use Rattle.mseed_words.specs.Addresses.{IsTimeout, address_of, host_of, timeout_in}
-use Rattle.mseed_words.specs.declared.request.Listener.{Listener}
-use Rattle.mseed_words.specs.declared.request.Server.{Server}
+use Rattle.mseed_words.specs.declared.request.Endpoint.{Endpoint}
 use Rattle.mseed_words.specs.declared.request.Living.{Living}
 use Rattle.mseed_words.specs.declared.request.Serving.{Serving}
 use Rattle.mseed_words.specs.declared.request.Fetching.{Fetching}
@@ -71,11 +70,6 @@ abbrev pub port_in : Option Text → Option ℕ
 port_in None = None
 port_in (Some text) = counted_in 65535 text
 
--- how many connections or tries: one where none is given
-abbrev pub count_in : Option Text → Option ℕ
-count_in None = Some 1
-count_in (Some text) = counted_in 1000000 text
-
 -- a ring's capacity: from one record to a million
 abbrev pub capacity_by : ℕ → Option ℕ
 capacity_by n = if nat_le 1 n && nat_le n 1000000 then Some n else None
@@ -90,17 +84,15 @@ abbrev pub first_in : Option Text → Option ℕ
 first_in None = Some 0
 first_in (Some text) = hexadecimal_in text
 
+-- a machine, a port and a time-out, where each can be had
+abbrev pub endpoint_with : {H : Type 0} → Option H → Option ℕ → Option Timeout → Option (Endpoint H)
+endpoint_with (Some host) (Some port) (Some timeout) =
+    Some (record { host = host; port = port; timeout = timeout })
+endpoint_with _ _ _ = None
+
 -- what the options give, where each can be had
-abbrev pub listener_with : Option Address → Option ℕ → Option Timeout → Option Listener
-listener_with (Some address) (Some port) (Some timeout) =
-    Some (record { address = address; port = port; timeout = timeout })
-listener_with _ _ _ = None
-
-abbrev pub server_with : Option Host → Option ℕ → Option Timeout → Option Server
-server_with (Some host) (Some port) (Some timeout) = Some (record { host = host; port = port; timeout = timeout })
-server_with _ _ _ = None
-
-abbrev pub serving_with : Option Listener → Option ℕ → Option ℕ → Option ℕ → Option (List Called) → Option Serving
+abbrev pub serving_with : Option (Endpoint Address) → Option ℕ → Option ℕ → Option ℕ → Option (List Called)
+    → Option Serving
 serving_with (Some listener) (Some connections) (Some capacity) (Some first) (Some places) =
     Some (record {
       listener = listener;
@@ -111,80 +103,60 @@ serving_with (Some listener) (Some connections) (Some capacity) (Some first) (So
     })
 serving_with _ _ _ _ _ = None
 
-abbrev pub fetching_with : Option Server → Option ℕ → Option (List Called) → Bool → Bool → Option Fetching
+abbrev pub fetching_with : Option (Endpoint Host) → Option ℕ → Option (List Called) → Bool → Bool → Option Fetching
 fetching_with (Some server) (Some tries) (Some places) tell_next holes =
     Some (record { server = server; tries = tries; places = places; tell_next = tell_next; holes = holes })
 fetching_with _ _ _ _ _ = None
 
--- what `serve` takes besides its word
+-- what the commands of a feed take, each with these
+abbrev pub feed_names : List Text → List Text
+feed_names further =
+    codes "command" ∷ codes "place" ∷ codes "address" ∷ codes "port" ∷ codes "timeout" ∷ codes "station"
+    ∷ codes "network" ∷ further
+
 abbrev pub serve_names : List Text
-serve_names = codes "command" ∷ codes "place" ∷ codes "address" ∷ codes "port" ∷ codes "timeout" ∷ codes "station"
-    ∷ codes "network"
-    ∷ codes "capacity"
-    ∷ codes "first"
-    ∷ codes "connections" ∷ []
+serve_names = feed_names (codes "capacity" ∷ codes "first" ∷ codes "connections" ∷ [])
 
--- and with `--live`
 abbrev pub live_names : List Text
-live_names = codes "command" ∷ codes "place" ∷ codes "address" ∷ codes "port" ∷ codes "timeout" ∷ codes "station"
-    ∷ codes "network"
-    ∷ codes "capacity"
-    ∷ codes "first"
-    ∷ codes "live"
-    ∷ codes "clients" ∷ []
+live_names = feed_names (codes "capacity" ∷ codes "first" ∷ codes "live" ∷ codes "clients" ∷ [])
 
--- and `fetch`
 abbrev pub fetch_names : List Text
-fetch_names = codes "command" ∷ codes "place" ∷ codes "address" ∷ codes "port" ∷ codes "timeout" ∷ codes "station"
-    ∷ codes "network"
-    ∷ codes "from"
-    ∷ codes "tries"
-    ∷ codes "tell-next"
-    ∷ codes "holes" ∷ []
+fetch_names = feed_names (codes "from" ∷ codes "tries" ∷ codes "tell-next" ∷ codes "holes" ∷ [])
 
--- where connections are taken
-abbrev pub listener_of : List Row → Option Listener
-listener_of rows =
-    listener_with (address_of (first_of (codes "address") rows)) (port_in (first_of (codes "port") rows))
-    (timeout_in (first_of (codes "timeout") rows))
+-- a machine, with the port and the time-out that the options give
+abbrev pub endpoint_of : {H : Type 0} → Option H → List Row → Option (Endpoint H)
+endpoint_of host rows =
+    endpoint_with host (port_in (first_of (codes "port") rows)) (timeout_in (first_of (codes "timeout") rows))
 
--- whom to ask
-abbrev pub server_of : List Row → Option Server
-server_of rows =
-    server_with (host_of (first_of (codes "address") rows)) (port_in (first_of (codes "port") rows))
-    (timeout_in (first_of (codes "timeout") rows))
-
--- a feed to be served, whatever else is named: its places have no numbers of their own
+-- a feed to be served, whatever else is named: to one connection where no number is given; its places have no numbers
+-- of their own
 abbrev pub serving_in : List Row → Option Serving
 serving_in rows =
-    serving_with (listener_of rows) (count_in (first_of (codes "connections") rows))
+    serving_with (endpoint_of (address_of (first_of (codes "address") rows)) rows)
+    (counted_or 1 1000000 (first_of (codes "connections") rows))
     (capacity_in (first_of (codes "capacity") rows)) (first_in (first_of (codes "first") rows))
     (places_in Plain None rows)
 
 abbrev pub serving_of : List Row → Option Serving
 serving_of rows = if has_only serve_names rows then serving_in rows else None
 
--- how many clients at once: 64 where none is given
-abbrev pub clients_in : Option Text → Option ℕ
-clients_in None = Some 64
-clients_in (Some text) = counted_in 1024 text
-
 abbrev pub living_with : Option Serving → Option ℕ → Option Living
 living_with (Some serving) (Some clients) = Some (record { serving = serving; clients = clients })
 living_with _ _ = None
 
--- a feed to be served while its records come
+-- a feed to be served while its records come: to 64 clients at once where no number is given
 abbrev pub living_of : List Row → Option Living
 living_of rows =
     if has_only live_names rows
-    then living_with (serving_in rows) (clients_in (first_of (codes "clients") rows))
+    then living_with (serving_in rows) (counted_or 64 1024 (first_of (codes "clients") rows))
     else None
 
--- a feed to be fetched: `--from` is the number of the first place
+-- a feed to be fetched, by one try where no number is given: `--from` is the number of the first place
 abbrev pub fetching_of : List Row → Option Fetching
 fetching_of rows =
     if has_only fetch_names rows
-    then fetching_with (server_of rows) (count_in (first_of (codes "tries") rows))
+    then fetching_with (endpoint_of (host_of (first_of (codes "address") rows)) rows)
+    (counted_or 1 1000000 (first_of (codes "tries") rows))
     (places_in Numbered (first_of (codes "from") rows) rows) (asks (codes "tell-next") rows) (asks (codes "holes") rows)
     else None
 
@@ -197,17 +169,13 @@ abbrev pub IsCount : ℕ → Type 0
 IsCount count = (1 ≤ count) × (count ≤ 1000000)
 
 -- a port that there is, and a time of up to a day
-pub record IsListener (listener : Listener) : Type 0 where
-  pub port : IsPort listener.port
-  pub timeout : IsTimeout listener.timeout
-
-pub record IsServer (server : Server) : Type 0 where
-  pub port : IsPort server.port
-  pub timeout : IsTimeout server.timeout
+pub record IsEndpoint {H : Type 0} (endpoint : Endpoint H) : Type 0 where
+  pub port : IsPort endpoint.port
+  pub timeout : IsTimeout endpoint.timeout
 
 -- what a feed can be served by
 pub record CanServe (serving : Serving) : Type 0 where
-  pub listener : IsListener serving.listener
+  pub listener : IsEndpoint serving.listener
   pub connections : IsCount serving.connections
   pub capacity : IsCapacity serving.capacity
   pub first : serving.first < 2 ^ 24
@@ -224,6 +192,6 @@ pub record CanLive (living : Living) : Type 0 where
 
 -- what a feed can be fetched by
 pub record CanFetch (fetching : Fetching) : Type 0 where
-  pub server : IsServer fetching.server
+  pub server : IsEndpoint fetching.server
   pub tries : IsCount fetching.tries
   pub places : ArePlaces fetching.places

@@ -5,18 +5,17 @@ ghost use Rattle.clap.specs.Matches.{found_of};
 ghost use Rattle.clap.specs.Walk.{rows_of};
 ghost use Rattle.mseed_words.specs.Places.{ArePlaces, places_of};
 ghost use Rattle.mseed_words.specs.Addresses.{IsTimeout};
-ghost use Rattle.mseed_words.specs.FeedWords.{CanLive, IsClients, IsListener, IsServer, clients_in, listener_with};
-ghost use Rattle.mseed_words.specs.FeedWords.{living_of, living_with, server_with, serving_in};
-ghost use Rattle.mseed_words.specs.FeedWords.{CanFetch, CanServe, IsCount, IsPort, called_in, called_with, capacity_by};
-ghost use Rattle.mseed_words.specs.FeedWords.{capacity_in, count_in, fetching_of, fetching_with, first_in, numbered_in};
-ghost use Rattle.mseed_words.specs.FeedWords.{place_by, place_in, place_named, places_in, port_in, serving_of};
-ghost use Rattle.mseed_words.specs.FeedWords.{serving_with};
+ghost use Rattle.mseed_words.specs.FeedWords.{CanFetch, CanLive, CanServe, IsClients, IsCount, IsEndpoint, IsPort};
+ghost use Rattle.mseed_words.specs.FeedWords.{called_in, called_with, capacity_by, capacity_in, endpoint_of};
+ghost use Rattle.mseed_words.specs.FeedWords.{endpoint_with, fetching_of, fetching_with, first_in, living_of};
+ghost use Rattle.mseed_words.specs.FeedWords.{living_with, numbered_in, place_by, place_in, place_named, places_in};
+ghost use Rattle.mseed_words.specs.FeedWords.{port_in, serving_in, serving_of, serving_with};
 
 use crate::found::{asks, has_only, text_of};
 use crate::host_words::{address_of, host_of, timeout_in};
-use crate::numbers::{counted_in, hexadecimal_in, number_in};
+use crate::numbers::{counted_in, counted_or, hexadecimal_in, number_in};
 use crate::places::Places;
-use crate::request::{Fetching, Listener, Living, Server, Serving};
+use crate::request::{Endpoint, Fetching, Living, Serving};
 use clap::ArgMatches;
 use slink_links::{Address, Host, Timeout};
 use slink_wire::Place;
@@ -50,25 +49,22 @@ pub(crate) fn serving_of(matches: &ArgMatches<'_>) -> Option<Serving>
     serving_in(matches)
 }
 
-/// What is requested of serving by its options and places, whatever else is named.
+/// What is requested of serving by its options and places, whatever else is named: of one connection where no number
+/// is given.
 fn serving_in(matches: &ArgMatches<'_>) -> Option<Serving>
     ensures value { result ≡ serving_in (rows_of (found_of matches.now)) }
     ensures range { IfSome result CanServe }
 {
     serving_with(
-        listener_with(
-            address_of(text_of(matches, "address")),
-            port_in(text_of(matches, "port")),
-            timeout_in(text_of(matches, "timeout")),
-        ),
-        count_in(text_of(matches, "connections")),
+        endpoint_of(address_of(text_of(matches, "address")), matches),
+        counted_or(1, 1_000_000, text_of(matches, "connections")),
         capacity_in(text_of(matches, "capacity")),
         first_in(text_of(matches, "first")),
         places_in(Naming::Plain, None, matches),
     )
 }
 
-/// What is requested of serving while records come.
+/// What is requested of serving while records come: of 64 clients at once where no number is given.
 pub(crate) fn living_of(matches: &ArgMatches<'_>) -> Option<Living>
     ensures value { result ≡ living_of (rows_of (found_of matches.now)) }
     ensures range { IfSome result CanLive }
@@ -76,7 +72,10 @@ pub(crate) fn living_of(matches: &ArgMatches<'_>) -> Option<Living>
     if !has_only(matches, feed_names!("capacity", "first", "live", "clients")) {
         return None;
     }
-    living_with(serving_in(matches), clients_in(text_of(matches, "clients")))
+    living_with(
+        serving_in(matches),
+        counted_or(64, 1_024, text_of(matches, "clients")),
+    )
 }
 
 /// What is requested of serving while records come, where each value is one that there is.
@@ -92,47 +91,31 @@ fn living_with(serving: Option<Serving>, clients: Option<u32>) -> Option<Living>
     }
 }
 
-/// How many clients at once: 64 where none is given.
-fn clients_in(text: Option<&str>) -> Option<u32>
-    ensures value { result ≡ clients_in (option_map (λ t. t.now) text.entry) }
-    ensures range { IfSome result IsClients }
+/// A machine, with the port and the time-out that the options give, where all of them can be had.
+fn endpoint_of<H: Copy>(host: Option<H>, matches: &ArgMatches<'_>) -> Option<Endpoint<H>>
+    ensures value { result ≡ endpoint_of host (rows_of (found_of matches.now)) }
+    ensures range { IfSome result IsEndpoint }
 {
-    match text {
-        None => Some(64),
-        Some(text) => counted_in(1_024, text),
-    }
+    endpoint_with(
+        host,
+        port_in(text_of(matches, "port")),
+        timeout_in(text_of(matches, "timeout")),
+    )
 }
 
-/// Where connections are taken, if all of it is there.
-fn listener_with(
-    address: Option<Address>,
+/// A machine, a port and a time-out, where all of them can be had.
+fn endpoint_with<H: Copy>(
+    host: Option<H>,
     port: Option<u16>,
     timeout: Option<Timeout>,
-) -> Option<Listener>
+) -> Option<Endpoint<H>>
     requires port { IfSome port IsPort }
     requires timeout { IfSome timeout IsTimeout }
-    ensures value { result ≡ listener_with address port timeout }
-    ensures range { IfSome result IsListener }
-{
-    match (address, port, timeout) {
-        (Some(address), Some(port), Some(timeout)) => Some(Listener {
-            address,
-            port,
-            timeout,
-        }),
-        _ => None,
-    }
-}
-
-/// Whom to ask, if all of it is there.
-fn server_with(host: Option<Host>, port: Option<u16>, timeout: Option<Timeout>) -> Option<Server>
-    requires port { IfSome port IsPort }
-    requires timeout { IfSome timeout IsTimeout }
-    ensures value { result ≡ server_with host port timeout }
-    ensures range { IfSome result IsServer }
+    ensures value { result ≡ endpoint_with host port timeout }
+    ensures range { IfSome result IsEndpoint }
 {
     match (host, port, timeout) {
-        (Some(host), Some(port), Some(timeout)) => Some(Server {
+        (Some(host), Some(port), Some(timeout)) => Some(Endpoint {
             host,
             port,
             timeout,
@@ -143,13 +126,13 @@ fn server_with(host: Option<Host>, port: Option<u16>, timeout: Option<Timeout>) 
 
 /// Serving, where all that it wants is there.
 fn serving_with(
-    listener: Option<Listener>,
+    listener: Option<Endpoint<Address>>,
     connections: Option<u32>,
     capacity: Option<u32>,
     first: Option<u32>,
     places: Option<Places>,
 ) -> Option<Serving>
-    requires listener { IfSome listener IsListener }
+    requires listener { IfSome listener IsEndpoint }
     requires connections { IfSome connections IsCount }
     requires capacity { IfSome capacity IsCapacity }
     requires first { IfSome first (λ n. n < 2 ^ 24) }
@@ -171,7 +154,7 @@ fn serving_with(
     }
 }
 
-/// What is requested of fetching, by its options and places.
+/// What is requested of fetching, by its options and places: of one try where no number is given.
 pub(crate) fn fetching_of(matches: &ArgMatches<'_>) -> Option<Fetching>
     ensures value { result ≡ fetching_of (rows_of (found_of matches.now)) }
     ensures range { IfSome result CanFetch }
@@ -180,12 +163,8 @@ pub(crate) fn fetching_of(matches: &ArgMatches<'_>) -> Option<Fetching>
         return None;
     }
     fetching_with(
-        server_with(
-            host_of(text_of(matches, "address")),
-            port_in(text_of(matches, "port")),
-            timeout_in(text_of(matches, "timeout")),
-        ),
-        count_in(text_of(matches, "tries")),
+        endpoint_of(host_of(text_of(matches, "address")), matches),
+        counted_or(1, 1_000_000, text_of(matches, "tries")),
         places_in(Naming::Numbered, text_of(matches, "from"), matches),
         asks(matches, "tell-next"),
         asks(matches, "holes"),
@@ -194,13 +173,13 @@ pub(crate) fn fetching_of(matches: &ArgMatches<'_>) -> Option<Fetching>
 
 /// Fetching, where all that it wants is there.
 fn fetching_with(
-    server: Option<Server>,
+    server: Option<Endpoint<Host>>,
     tries: Option<u32>,
     places: Option<Places>,
     tell_next: bool,
     holes: bool,
 ) -> Option<Fetching>
-    requires server { IfSome server IsServer }
+    requires server { IfSome server IsEndpoint }
     requires tries { IfSome tries IsCount }
     requires places { IfSome places ArePlaces }
     ensures value { result ≡ fetching_with server tries places tell_next holes }
@@ -226,17 +205,6 @@ fn port_in(text: Option<&str>) -> Option<u16>
     match text {
         None => None,
         Some(text) => Some(counted_in(65_535, text)? as u16),
-    }
-}
-
-/// How many connections or tries: one where none is given.
-fn count_in(text: Option<&str>) -> Option<u32>
-    ensures value { result ≡ count_in (option_map (λ t. t.now) text.entry) }
-    ensures range { IfSome result IsCount }
-{
-    match text {
-        None => Some(1),
-        Some(text) => counted_in(1_000_000, text),
     }
 }
 
@@ -281,11 +249,8 @@ fn places_in(naming: Naming, from: Option<&str>, matches: &ArgMatches<'_>) -> Op
     ensures range { IfSome result ArePlaces }
 {
     let place = place_named(text_of(matches, "station"), text_of(matches, "network"));
-    let first = called_with(place, from);
-    match matches.get_raw("place") {
-        Some(words) => gather(naming, first, words),
-        None => gather(naming, first, &[]),
-    }
+    let further = matches.get_raw("place").unwrap_or(&[]);
+    gather(naming, called_with(place, from), further)
 }
 
 /// The first place and the further ones, unless one of them is bad or doubled, or they are more than sixteen.

@@ -14,5 +14,5 @@ mod words;
 
 pub use places::Places;
 pub use refusal::Refusal;
-pub use request::{Fetching, Listener, Living, Packing, Request, Server, Serving};
+pub use request::{Endpoint, Fetching, Living, Packing, Request, Serving};
 pub use words::read;

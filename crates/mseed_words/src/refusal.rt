@@ -1,7 +1,7 @@
 //! Why words request nothing.
 
 /// Why the words of a command line request nothing that can be done.
-#[derive(Drop)]
+#[derive(Debug, Drop)]
 pub enum Refusal {
     /// They aren't those of a command line, or they ask for the help or the version. This text is for the user.
     Text(String),

@@ -57,25 +57,14 @@ pub struct Packing {
     pub encoding: Encoding,
 }
 
-/// Where connections are taken.
+/// Where connections are taken, which is an [`Address`] of this machine, or whom to ask for them, which is a [`Host`].
 #[derive(Clone, Copy)]
-pub struct Listener {
-    /// The address of this machine.
-    pub address: Address,
+pub struct Endpoint<H> {
+    /// The machine.
+    pub host: H,
     /// The port there.
     pub port: u16,
-    /// How long a client may be silent that has something to say.
-    pub timeout: Timeout,
-}
-
-/// Whom to ask for connections.
-#[derive(Clone, Copy)]
-pub struct Server {
-    /// The address or the name of its machine.
-    pub host: Host,
-    /// The port there.
-    pub port: u16,
-    /// How long it may be silent.
+    /// How long the other side may be silent where it has something to say.
     pub timeout: Timeout,
 }
 
@@ -83,7 +72,7 @@ pub struct Server {
 #[derive(Drop)]
 pub struct Serving {
     /// Where connections are taken.
-    pub listener: Listener,
+    pub listener: Endpoint<Address>,
     /// So many connections are served, one after another.
     pub connections: u32,
     /// Each place's ring keeps so many records.
@@ -108,7 +97,7 @@ pub struct Living {
 #[derive(Drop)]
 pub struct Fetching {
     /// Whom to ask.
-    pub server: Server,
+    pub server: Endpoint<Host>,
     /// At most so many connections are tried.
     pub tries: u32,
     /// Whose records are requested, and from which number on.

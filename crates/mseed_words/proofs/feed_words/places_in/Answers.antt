@@ -1,4 +1,5 @@
-use Rattle.std.proofs.Common.{◌≡◌, ◌∷◌, [], List, Option, ap, codes, map, unwrap_or, ◌∙◌}
+use Rattle.std.proofs.Common.{◌≡◌, ◌∷◌, [], List, None, Option, Some, ap, codes, map, option_map, refl, unwrap_or, ◌∙◌}
+use Rattle.std.specs.Borrow.{Bor}
 use Rattle.clap.proofs.WalkLemmas.{raw_values-rows}
 use Rattle.clap.specs.Matches.{found_of}
 use Rattle.clap.specs.Walk.{Row, Text, first_of, rows_of}
@@ -19,6 +20,15 @@ first_is sta net from rows place first s n p f =
     ∙ (ap (λ (t : Option Text). place_named t net) s
     ∙ ap (λ (t : Option Text). place_named (first_of (codes "station") rows) t) n))
 
+-- the further places, where any are given
+abbrev texts_of : Bor (List (Bor Text)) → List Text
+texts_of words = map (λ (word : Bor Text). word.now) words.now
+
+further_is : (found : Option (Bor (List (Bor Text)))) (none : Bor (List (Bor Text))) → texts_of none ≡ []
+    → texts_of (unwrap_or found none) ≡ unwrap_or (option_map texts_of found) []
+further_is None none e = e
+further_is (Some words) none e = refl
+
 -- all places
 all_are : (naming : Naming) (from : Option Text) (rows : List Row) (first : Option Called) (further : List Text)
     → first ≡ called_with (place_named (first_of (codes "station") rows) (first_of (codes "network") rows)) from
@@ -30,20 +40,12 @@ all_are naming from rows first further f w =
     (called_with (place_named (first_of (codes "station") rows) (first_of (codes "network") rows)) from
     ∷ map (called_in naming) ws)) w
 
-pub returns-in-Some-clause-value : goal.returns-in-Some-clause-value
-returns-in-Some-clause-value c =
+pub returns-clause-value : goal.returns-clause-value
+returns-clause-value c =
     let rows : List Row = rows_of (found_of c.args.matches.now) in
-    let first = first_is _ _ _ rows c.place_named-place.result c.called_with-first.result c.text_of.ensures
-    c.text_of-2.ensures c.place_named-place.ensures c.called_with-first.ensures.value in
-    let further = ap (λ (o : Option (List Text)). unwrap_or o []) (c.in-Some.ensures
-    ∙ raw_values-rows (found_of c.args.matches.now) (codes "place")) in
-    c.gather.ensures.value ∙ all_are c.args.naming _ rows c.called_with-first.result _ first further
-
-pub returns-in-None-clause-value : goal.returns-in-None-clause-value
-returns-in-None-clause-value c =
-    let rows : List Row = rows_of (found_of c.args.matches.now) in
-    let first = first_is _ _ _ rows c.place_named-place.result c.called_with-first.result c.text_of.ensures
-    c.text_of-2.ensures c.place_named-place.ensures c.called_with-first.ensures.value in
-    let further = ap (λ (o : Option (List Text)). unwrap_or o []) (c.in-None.ensures
-    ∙ raw_values-rows (found_of c.args.matches.now) (codes "place")) in
-    c.gather-in-None.ensures.value ∙ all_are c.args.naming _ rows c.called_with-first.result _ first further
+    let first = first_is _ _ _ rows c.place_named-place.result c.called_with.result c.text_of.ensures
+    c.text_of-2.ensures c.place_named-place.ensures c.called_with.ensures.value in
+    let found = ap (λ (o : Option (List Text)). unwrap_or o [])
+    (c.get_raw.ensures ∙ raw_values-rows (found_of c.args.matches.now) (codes "place")) in
+    let further = ap texts_of c.unwrap_or-further.ensures ∙ (further_is c.get_raw.result _ refl ∙ found) in
+    c.gather.ensures.value ∙ all_are c.args.naming _ rows c.called_with.result _ first further
