@@ -3,7 +3,7 @@ use Rattle.std.proofs.Math.Seq.{drop-cons, take-suc-set, take-length}
 use Rattle.std.proofs.Math.ListN.{set}
 use Rattle.std.proofs.Common.{take, drop, get_or, append_assoc, append-nil, ◌≡◌, ℕ, ◌+◌, ◌<◌, ◌≤◌, ◌^◌, List, [], ◌∷◌}
 use Rattle.std.proofs.Common.{◌++◌, map, length, ℤ, pos, negsuc, ◌+ℤ◌, arith, refl, ap, sym, ◌∙◌, subst, false, true}
-use Rattle.std.proofs.Common.{Option, Some, None, Result, Ok, Err, OnOk, All, ⊎_elim, eqb, suc}
+use Rattle.std.proofs.Common.{Option, Some, None, Result, Ok, Err, All, ⊎_elim, eqb, suc}
 use Rattle.std.proofs.lemmas.Int.{ints}
 use Rattle.std.proofs.lemmas.Bool.{ne_eqb, eq-eqb, cases_lt}
 use Rattle.std.proofs.lemmas.Bool.Decides.{nat_tests}
@@ -213,8 +213,3 @@ pub all_kept : (n : ℕ) (s : Sum) (out : List ℤ) (items : List (Result ℤ Ba
 all_kept n s out items room e =
     let whole : take s.met out ≡ out = ap (λ (k : ℕ). take k out) (e ∙ sym room) ∙ take-length out in
     sym (ap (λ (xs : List ℤ). take s.met out ++ xs) (met_enough n s items e) ∙ append-nil (take s.met out) ∙ whole)
-
--- what follows from a fact about an answer that isn't a fault
-pub on_ok : (r : Result Sum ReadFault) (P Q : Type 0) → OnOk r P → (P → Q) → OnOk r Q
-on_ok (Ok sum) P Q p h = h p
-on_ok (Err fault) P Q p h = tt

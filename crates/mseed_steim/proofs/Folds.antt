@@ -1,6 +1,7 @@
 -- One item after another: how a walk goes on.
 use Rattle.std.proofs.Common.{◌≡◌, ◌≢◌, ℕ, ◌<◌, ◌^◌, List, [], ◌∷◌, ◌++◌, map, take, ◌∙◌, ℤ, pos, negsuc, ◌+ℤ◌}
-use Rattle.std.proofs.Common.{arith, refl, sym, ap, subst, eqb, false, true, Some, None, Result, Ok, Err, w32, FitsSigned}
+use Rattle.std.proofs.Common.{arith, refl, sym, ap, subst, eqb, false, true, Some, None, Result, Ok, Err, w32}
+use Rattle.std.proofs.Common.{FitsSigned}
 use Rattle.std.proofs.lemmas.Bool.{ne_eqb, eq-eqb, lt-ltb, le-ltb}
 use Rattle.mseed_steim.specs.declared.differences.BadWordAt.{BadWordAt}
 use Rattle.mseed_steim.specs.declared.fault.ReadFault.{ReadFault}
@@ -110,17 +111,6 @@ pub first_goes_on : (n : ℕ) (s : Scheme) (p : List ℕ) (w : DataWord) (a t : 
     → GoesOn n t (items_of s (words_from p 4 12 ++ rest)) (items_of s rest) r
     → GoesOn n a (items_of s (words_from p 3 13 ++ rest)) (items_of s rest) r
 first_goes_on n s p w a t r cut step rest =
-    goes_from n a t (items_of s (words_from p 3 13 ++ rest)) (items_of s (words_from p 4 12 ++ rest)) (items_of s rest) r
+    goes_from n a t (items_of s (words_from p 3 13 ++ rest)) (items_of s (words_from p 4 12 ++ rest)) (items_of s rest)
+    r
     (ap (λ (ws : List DataWord). fold n a (items_of s (ws ++ rest))) cut ∙ step (words_from p 4 12 ++ rest))
-
-pub first_keeps : (n : ℕ) (s : Scheme) (p : List ℕ) (w : DataWord) (a t : Sum) (before between after : List ℤ)
-    (r : Result Sum ReadFault) → words_from p 3 13 ≡ w ∷ words_from p 4 12
-    → ((rest : List DataWord) → take t.met between ++ met_in n t (items_of s rest)
-    ≡ take a.met before ++ met_in n a (items_of s (w ∷ rest))) → (rest : List DataWord)
-    → Keeps n t between (items_of s (words_from p 4 12 ++ rest)) (items_of s rest) after r
-    → Keeps n a before (items_of s (words_from p 3 13 ++ rest)) (items_of s rest) after r
-first_keeps n s p w a t before between after r cut step rest =
-    keeps_from n a t before between after (items_of s (words_from p 3 13 ++ rest))
-    (items_of s (words_from p 4 12 ++ rest)) (items_of s rest) r
-    (step (words_from p 4 12 ++ rest)
-    ∙ ap (λ (ws : List DataWord). take a.met before ++ met_in n a (items_of s (ws ++ rest))) (sym cut))

@@ -126,13 +126,16 @@ four_is a b c d A B C D =
 pub two_is : (a b c d : ℕ) → a < 256 → b < 256 → c < 256 → d < 256
     → raised_sum 15 (word_of a b c d) 2 ≡ 512 * ((a + 32) % 64) + 2 * b + c / 128 + 256 * ((c + 64) % 128) + d
 two_is a b c d A B C D =
-    let digit_1 : (word_of a b c d / 32768 % 32768 + 16384) % 32768 ≡ 512 * ((a + 32) % 64) + 2 * b + c / 128 = omega arith in
+    let digit_1 : (word_of a b c d / 32768 % 32768 + 16384) % 32768 ≡ 512 * ((a + 32) % 64) + 2 * b + c / 128 =
+    omega arith in
     let digit_0 : (word_of a b c d / 1 % 32768 + 16384) % 32768 ≡ 256 * ((c + 64) % 128) + d = omega arith in
     omega (arith, digit_1, digit_0)
 
 -- 3 differences of 10 bits
 pub three_is : (a b c d : ℕ) → a < 256 → b < 256 → c < 256 → d < 256
-    → raised_sum 10 (word_of a b c d) 3 ≡ 16 * ((a + 32) % 64) + b / 16 + 64 * ((b + 8) % 16) + c / 4 + 256 * ((c + 2) % 4) + d
+    → raised_sum 10 (word_of a b c d) 3 ≡ 16 * ((a + 32) % 64) + b / 16 + 64 * ((b + 8) % 16) + c / 4 + 256 * ((c + 2) %
+    4)
+    + d
 three_is a b c d A B C D =
     let digit_2 : (word_of a b c d / 1048576 % 1024 + 512) % 1024 ≡ 16 * ((a + 32) % 64) + b / 16 = omega arith in
     let digit_1 : (word_of a b c d / 1024 % 1024 + 512) % 1024 ≡ 64 * ((b + 8) % 16) + c / 4 = omega arith in
@@ -141,7 +144,8 @@ three_is a b c d A B C D =
 
 -- 5 differences of 6 bits
 pub five_is : (a b c d : ℕ) → a < 256 → b < 256 → c < 256 → d < 256
-    → raised_sum 6 (word_of a b c d) 5 ≡ (a + 32) % 64 + (b / 4 + 32) % 64 + 16 * ((b + 2) % 4) + c / 16 + 4 * ((c + 8) % 16) + d / 64 + (d + 32) % 64
+    → raised_sum 6 (word_of a b c d) 5 ≡ (a + 32) % 64 + (b / 4 + 32) % 64 + 16 * ((b + 2) % 4) + c / 16
+    + 4 * ((c + 8) % 16) + d / 64 + (d + 32) % 64
 five_is a b c d A B C D =
     let digit_4 : (word_of a b c d / 16777216 % 64 + 32) % 64 ≡ (a + 32) % 64 = omega arith in
     let digit_3 : (word_of a b c d / 262144 % 64 + 32) % 64 ≡ (b / 4 + 32) % 64 = omega arith in
@@ -152,7 +156,8 @@ five_is a b c d A B C D =
 
 -- 6 differences of 5 bits
 pub six_is : (a b c d : ℕ) → a < 256 → b < 256 → c < 256 → d < 256
-    → raised_sum 5 (word_of a b c d) 6 ≡ (a / 2 + 16) % 32 + 16 * ((a + 1) % 2) + b / 16 + 2 * ((b + 8) % 16) + c / 128 + (c / 4 + 16) % 32 + 8 * ((c + 2) % 4) + d / 32 + (d + 16) % 32
+    → raised_sum 5 (word_of a b c d) 6 ≡ (a / 2 + 16) % 32 + 16 * ((a + 1) % 2) + b / 16 + 2 * ((b + 8) % 16) + c / 128
+    + (c / 4 + 16) % 32 + 8 * ((c + 2) % 4) + d / 32 + (d + 16) % 32
 six_is a b c d A B C D =
     let digit_5 : (word_of a b c d / 33554432 % 32 + 16) % 32 ≡ (a / 2 + 16) % 32 = omega arith in
     let digit_4 : (word_of a b c d / 1048576 % 32 + 16) % 32 ≡ 16 * ((a + 1) % 2) + b / 16 = omega arith in
@@ -164,7 +169,9 @@ six_is a b c d A B C D =
 
 -- 7 differences of 4 bits
 pub seven_is : (a b c d : ℕ) → a < 256 → b < 256 → c < 256 → d < 256
-    → raised_sum 4 (word_of a b c d) 7 ≡ (a + 8) % 16 + (b / 16 + 8) % 16 + (b + 8) % 16 + (c / 16 + 8) % 16 + (c + 8) % 16 + (d / 16 + 8) % 16 + (d + 8) % 16
+    → raised_sum 4 (word_of a b c d) 7 ≡ (a + 8) % 16 + (b / 16 + 8) % 16 + (b + 8) % 16 + (c / 16 + 8) % 16 + (c + 8) %
+    16
+    + (d / 16 + 8) % 16 + (d + 8) % 16
 seven_is a b c d A B C D =
     let digit_6 : (word_of a b c d / 16777216 % 16 + 8) % 16 ≡ (a + 8) % 16 = omega arith in
     let digit_5 : (word_of a b c d / 1048576 % 16 + 8) % 16 ≡ (b / 16 + 8) % 16 = omega arith in

@@ -1,6 +1,7 @@
 -- A frame's words in lanes are the payload's data words, and a row of lanes is the group of the word.
 use Rattle.std.proofs.Common.{◌≡◌, ◌≢◌, ℕ, zero, suc, ◌+◌, ◌-◌, ◌*◌, ◌/◌, ◌%◌, ◌^◌, ◌<◌, ◌≤◌, List, [], ◌∷◌, ◌++◌}
-use Rattle.std.proofs.Common.{length, map, take, drop, get_or, ℤ, pos, ◌+ℤ◌, refl, sym, ap, ◌∙◌, append_assoc, length-append}
+use Rattle.std.proofs.Common.{length, map, take, drop, get_or, ℤ, pos, ◌+ℤ◌, refl, sym, ap, ◌∙◌, append_assoc}
+use Rattle.std.proofs.Common.{length-append}
 use Rattle.std.proofs.Common.{arith, inl, inr, subst, Some, Ok, Result}
 use Rattle.std.specs.List.{range_with_len}
 use Rattle.std.proofs.lemmas.Int.{ints}
@@ -189,7 +190,8 @@ moves s counts widths p f begin k from m begins reads count by near = λ few.
     let low = begins_low begin from begins in
     let none = λ (j : ℕ) (less : j < from). none_at counts widths f from j (reads.empty j less) in
     let counted = behind (count_at counts f from) begin from begins reads.empty in
-    let spans = behind (λ w. span (group_at counts widths f from w)) begin from begins (λ j less. ap span (none j less)) in
+    let spans = behind (λ w. span (group_at counts widths f from w)) begin from begins (λ j less. ap span (none j less))
+    in
     let totals = behind_z (λ w. total (group_at counts widths f from w)) begin from begins
     (λ j less. ap total (none j less)) in
     let all = found s counts widths p f k from reads (16 - from) from low.0 (omega arith) (omega (arith, low.1))

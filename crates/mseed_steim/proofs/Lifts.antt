@@ -64,7 +64,8 @@ of_pair = of_two 16 PAIR refl (omega arith) refl (omega arith) refl refl
 pub rows_two : (none : Unpacking) (r : ℕ) → r < 16 → InTable counts_two widths_two ROWS_TWO none r
 unfolding counts_two widths_two
 rows_two none =
-    sixteen (InTable counts_two widths_two ROWS_TWO none) (λ _. of_empty) (λ _. of_empty) (λ _. of_empty) (λ _. of_empty)
+    sixteen (InTable counts_two widths_two ROWS_TWO none) (λ _. of_empty) (λ _. of_empty) (λ _. of_empty)
+    (λ _. of_empty)
     (λ _. of_bytes) (λ _. of_bytes) (λ _. of_bytes) (λ _. of_bytes)
     (λ few. absurd (omega (arith, few))) (λ few. absurd (omega (arith, few)))
     (λ _. of_two 15 _ refl (omega arith) refl (omega arith) refl refl)
@@ -77,7 +78,8 @@ rows_two none =
 pub rows_one : (none : Unpacking) (r : ℕ) → r < 16 → InTable counts_one widths_one ROWS_ONE none r
 unfolding counts_one widths_one
 rows_one none =
-    sixteen (InTable counts_one widths_one ROWS_ONE none) (λ _. of_empty) (λ _. of_empty) (λ _. of_empty) (λ _. of_empty)
+    sixteen (InTable counts_one widths_one ROWS_ONE none) (λ _. of_empty) (λ _. of_empty) (λ _. of_empty)
+    (λ _. of_empty)
     (λ _. of_bytes) (λ _. of_bytes) (λ _. of_bytes) (λ _. of_bytes)
     (λ _. of_pair) (λ _. of_pair) (λ _. of_pair) (λ _. of_pair)
     (λ few. absurd (omega (arith, few))) (λ few. absurd (omega (arith, few)))

@@ -2,7 +2,7 @@
 use Rattle.std.specs.Simd.{first_chunks}
 use Rattle.std.proofs.Common.{◌≡◌, ◌≢◌, ◌⊎◌, ⊎_elim, take, drop, get_or, ◌*◌, ◌∙◌, inl, inr, ℕ, zero, suc, ◌+◌, ◌%◌}
 use Rattle.std.proofs.Common.{◌-◌, ◌/◌, ◌<◌, ◌≤◌, List, [], ◌∷◌, ◌++◌, map, length, ℤ, arith, refl, ap}
-use Rattle.std.proofs.Common.{Option, Some, None, Ok, Err}
+use Rattle.std.proofs.Common.{sym, Option, Some, None, Ok, Err}
 use Rattle.std.proofs.lemmas.Bool.{ne_eqb, cases_lt}
 use Rattle.std.proofs.lemmas.List.{drop-drop}
 use Rattle.mseed_steim.specs.declared.scheme.Scheme.{Scheme}
@@ -94,3 +94,12 @@ frame_cut p k inside =
     let count : 16 + (word_count p - 16 * (k + 1)) ≡ word_count p - 16 * k = omega (arith, inside) in
     let place : 16 * k + 16 ≡ 16 * (k + 1) = omega arith in
     rw (count, place) at (words_cut p (16 * k) 16 (word_count p - 16 * (k + 1)))
+
+-- the data words of the first frame behind the first of them
+pub behind_first : (p : List ℕ) (w : DataWord) (ws : List DataWord) → words_from p 3 13 ≡ w ∷ ws
+    → ws ≡ words_from p 4 12
+behind_first p w ws e =
+    let some : 3 % 16 ≢ 0 = λ e. omega arith in
+    let step = words_step p 3 12 some in
+    let same : w ∷ ws ≡ data_word p 3 ∷ words_from p 4 12 = sym e ∙ step in
+    cc

@@ -11,13 +11,13 @@ ghost use Rattle.mseed_steim.specs.private.Reads.{as_data};
 ghost use Rattle.mseed_steim.specs.private.Sums.{GoesOn, Keeps, fold, met_in};
 
 use crate::adding::{TURN, put_whole};
-use crate::data_words::{FRAME, Word, Words, first_word};
+use crate::data_words::{FRAME, Word, Words};
 use crate::fault::ReadFault;
 use crate::frame::{FROM_1, FROM_4};
 use crate::group::{Group, group_of};
 use crate::lanes::Rows;
 use crate::scheme::Scheme;
-use crate::sum::{Sum, Walked, add_digit, add_near, all_met};
+use crate::sum::{Sum, Walked, add_digit, add_near};
 use crate::unpack::{PLACES, Room, unpack_frame};
 
 /// No sum of a frame's differences is further from 0 than this, unless one of them has 30 or 32 bits.
@@ -184,13 +184,17 @@ fn put_first_frame(
         met: 0,
         last: first,
     };
-    let sum = match put_word(scheme, first_word(payload), samples, none, out) {
+    let mut words = Words::between(payload, 3, FRAME);
+    let Some(word) = words.next() else {
+        return Ok(none);
+    };
+    let sum = match put_word(scheme, word, samples, none, out) {
         Ok(sum) => sum,
         Err(fault) => return Err(fault),
     };
     match put_at_once(scheme, frame, FROM_4, samples, sum, differences, out) {
         Some(sum) => Ok(sum),
-        None => put_all(scheme, Words::between(payload, 4, FRAME), samples, sum, out),
+        None => put_all(scheme, words, samples, sum, out),
     }
 }
 
@@ -254,7 +258,11 @@ fn put_later_frames(
             Err(fault) => return Err(fault),
         }
     }
-    all_met(samples, sum)
+    if sum.met == samples {
+        Ok(sum)
+    } else {
+        Err(ReadFault::Short(sum.met))
+    }
 }
 
 /// The sum of so many samples, of which this is the first, each put in its place, or what comes first in place

@@ -1,7 +1,7 @@
 //! Differences that are added up, word by word.
 
 ghost use Rattle.std.specs.Prelude.{◌≡◌, ◌+◌, ◌-◌, ◌^◌, ◌≤◌, ◌<◌, List, [], ◌∷◌, ◌++◌, map, ℤ, ◌+ℤ◌, nat_abs, Result};
-ghost use Rattle.std.specs.Prelude.{Ok, IfOk, OnOk};
+ghost use Rattle.std.specs.Prelude.{Ok, IfOk};
 ghost use Rattle.mseed_steim.specs.declared.differences.BadWordAt.{BadWordAt};
 ghost use Rattle.mseed_steim.specs.private.Digits.{digits};
 ghost use Rattle.mseed_steim.specs.private.Sums.{GoesOn, fold, met_in};
@@ -80,8 +80,7 @@ pub(crate) fn add_digit(word: u32, group: Group, index: u32, samples: usize, sum
 /// The sum where no difference is left: short, unless all samples have been met.
 #[inline]
 pub(crate) fn all_met(samples: usize, sum: Sum) -> Walked
-    ensures folded { result ≡ fold samples sum [] }
-    ensures met { OnOk result (sum.met ≡ samples) }
+    ensures { result ≡ fold samples sum [] }
 {
     if sum.met == samples {
         Ok(sum)

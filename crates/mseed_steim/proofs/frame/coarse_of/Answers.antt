@@ -5,4 +5,5 @@ use Rattle.mseed_steim.proofs.frame.coarse_of.Goals as goal
 pub returns : goal.returns
 unfolding coarse_two
 returns c = λ b d row A B C D l.
-    two_sums _ _ words _ _ _ (c.part_by-of_a.ensures A row l.first l.rows_are) (c.part_by-of_c.ensures C row l.third l.rows_are) c.plus.ensures
+    two_sums _ _ words _ _ _ (c.part_by-of_a.ensures A row l.first l.rows_are) (c.part_by-of_c.ensures C row l.third
+    l.rows_are) c.plus.ensures

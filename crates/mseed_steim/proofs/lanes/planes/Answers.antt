@@ -5,4 +5,10 @@ use Rattle.mseed_steim.proofs.lanes.planes.Goals as goal
 
 pub returns : goal.returns
 unfolding words
-returns c = rw (spelled c.args.frame.now (omega arith)) (record { first = refl; second = refl; third = refl; fourth = refl })
+returns c = rw (spelled c.args.frame.now (omega arith)) (record {
+  first = refl;
+  second = refl;
+  third = refl;
+  fourth =
+      refl;
+})

@@ -3,8 +3,8 @@ use Rattle.mseed_steim.specs.Frames.{DataWord, words_from, word_count}
 use Rattle.mseed_steim.specs.private.Items.{items_of}
 use Rattle.mseed_steim.specs.private.Sums.{fold, met_in}
 use Rattle.mseed_steim.proofs.Walking.{frame_cut, words_none, words_skip, no_items, frame_at}
-use Rattle.mseed_steim.proofs.Folds.{fold_enough}
-use Rattle.mseed_steim.proofs.Folded.{all_kept, on_ok}
+use Rattle.mseed_steim.proofs.Folds.{fold_enough, fold_short}
+use Rattle.mseed_steim.proofs.Folded.{all_kept}
 use Rattle.mseed_steim.proofs.put.put_later_frames.Goals.{Else-sum-samples}
 use Rattle.mseed_steim.proofs.put.put_later_frames.Goals as goal
 
@@ -78,15 +78,20 @@ loop-index-preserved c =
           ∙ c.loop-index.invariant.kept;
     }
 
-pub returns-clause-folded : goal.returns-clause-folded
-returns-clause-folded c =
+pub returns-then-sum-samples-2-clause-folded : goal.returns-then-sum-samples-2-clause-folded
+returns-then-sum-samples-2-clause-folded c =
+    sym (c.loop-index.invariant.same ∙ fold_enough c.args.samples c.loop-index.sum _ c.if-sum-samples-2.true)
+
+pub returns-then-sum-samples-2-clause-kept : goal.returns-then-sum-samples-2-clause-kept
+returns-then-sum-samples-2-clause-kept c =
+    all_kept c.args.samples c.loop-index.sum c.loop-index.out _ c.loop-index.invariant.places c.if-sum-samples-2.true
+    ∙ c.loop-index.invariant.kept
+
+pub returns-else-sum-samples-2-clause-folded : goal.returns-else-sum-samples-2-clause-folded
+returns-else-sum-samples-2-clause-folded c =
     let over : word_count c.args.payload.now - 16 * c.loop-index.index ≡ 0 = omega arith in
     let none = no_items c.args.scheme (words_from c.args.payload.now (16 * c.loop-index.index)
     (word_count c.args.payload.now - 16 * c.loop-index.index))
     (rw over (words_none c.args.payload.now (16 * c.loop-index.index))) in
-    c.all_met.ensures.folded ∙ sym (rw none at c.loop-index.invariant.same)
-
-pub returns-clause-kept : goal.returns-clause-kept
-returns-clause-kept c = on_ok c.all_met.result _ _ c.all_met.ensures.met (λ e.
-    all_kept c.args.samples c.loop-index.sum c.loop-index.out _ c.loop-index.invariant.places e
-    ∙ c.loop-index.invariant.kept)
+    sym (c.loop-index.invariant.same
+    ∙ (rw none (fold_short c.args.samples c.loop-index.sum (λ e. c.if-sum-samples-2.false e))))

@@ -19,4 +19,5 @@ pub returns-in-None-clause-goes_on : goal.returns-in-None-clause-goes_on
 returns-in-None-clause-goes_on c = λ rest.
     first_goes_on c.args.samples c.args.scheme c.args.payload.now _
     (record { met = 0; last = c.args.first }) c.in-Ok.sum c.add_words.result c.first_word.ensures
-    (rw (to_z-of_z w32 c.args.first c.ranges.first) at c.in-Ok.ensures.goes_on) rest (rw c.between.ensures at (c.add_words.ensures.goes_on rest))
+    (rw (to_z-of_z w32 c.args.first c.ranges.first) at c.in-Ok.ensures.goes_on) rest (rw c.between.ensures at
+    (c.add_words.ensures.goes_on rest))

@@ -63,4 +63,4 @@ returns c =
     let none = no_items c.args.scheme (words_from c.args.payload.now (16 * c.loop-index.index)
     (word_count c.args.payload.now - 16 * c.loop-index.index))
     (rw over (words_none c.args.payload.now (16 * c.loop-index.index))) in
-    c.all_met.ensures.folded ∙ sym (rw none at same)
+    c.all_met.ensures ∙ sym (rw none at same)
