@@ -301,19 +301,18 @@ read_fault_spelled : (bytes : List ℕ) (y : ReadFault × List ℕ) → read_fau
     → IsRead read_text HasReadFault bytes y
 unfolding read_fault_at
 read_fault_spelled bytes y e =
-    let P : Type 0 = IsRead read_text HasReadFault bytes y in
     let word = word_spelled read_text HasReadFault in
     let counted = counted_spelled read_text HasReadFault in
-    else_then P _ _ y e (word (codes "blockette100") Blockette100 refl tt bytes y) (λ e2.
-    else_then P _ _ y e2 (word (codes "littlesteim") LittleSteim refl tt bytes y) (λ e3.
-    else_then P _ _ y e3 (word (codes "dataoffset") DataOffset refl tt bytes y) (λ e4.
-    else_then P _ _ y e4 (counted (codes "encoding ") (2 ^ 8 - 1) (λ n. Encoding n) (omega arith) (λ n. refl)
+    else_then _ _ _ y e (word (codes "blockette100") Blockette100 refl tt bytes y) (λ e2.
+    else_then _ _ _ y e2 (word (codes "littlesteim") LittleSteim refl tt bytes y) (λ e3.
+    else_then _ _ _ y e3 (word (codes "dataoffset") DataOffset refl tt bytes y) (λ e4.
+    else_then _ _ _ y e4 (counted (codes "encoding ") (2 ^ 8 - 1) (λ n. Encoding n) (omega arith) (λ n. refl)
     (λ n l. omega (arith, l)) bytes y) (λ e5.
-    else_then P _ _ y e5 (counted (codes "short ") (2 ^ 63 - 1) (λ n. Short n) (omega arith) (λ n. refl)
+    else_then _ _ _ y e5 (counted (codes "short ") (2 ^ 63 - 1) (λ n. Short n) (omega arith) (λ n. refl)
     (λ n l. omega (arith, l)) bytes y) (λ e6.
-    else_then P _ _ y e6 (counted (codes "overflow ") (2 ^ 63 - 1) (λ n. Overflow n) (omega arith) (λ n. refl)
+    else_then _ _ _ y e6 (counted (codes "overflow ") (2 ^ 63 - 1) (λ n. Overflow n) (omega arith) (λ n. refl)
     (λ n l. omega (arith, l)) bytes y) (λ e7.
-    else_then P _ _ y e7 (bad_word_spelled bytes y) (last_differs_spelled bytes y)))))))
+    else_then _ _ _ y e7 (bad_word_spelled bytes y) (last_differs_spelled bytes y)))))))
 
 timed_spelled : (bytes : List ℕ) (y : Why × List ℕ) → timed_at bytes ≡ Some y → IsRead why_text HasWhy bytes y
 timed_spelled bytes y e =
@@ -334,17 +333,16 @@ unread_spelled bytes y e =
 why_spelled : (bytes : List ℕ) (y : Why × List ℕ) → why_at bytes ≡ Some y → IsRead why_text HasWhy bytes y
 unfolding why_at
 why_spelled bytes y e =
-    let P : Type 0 = IsRead why_text HasWhy bytes y in
     let word = word_spelled why_text HasWhy in
     let counted = counted_spelled why_text HasWhy in
-    else_then P _ _ y e (counted (codes "gap ") (2 ^ 128 - 1) (λ n. Gap n) (omega arith) (λ n. refl)
+    else_then _ _ _ y e (counted (codes "gap ") (2 ^ 128 - 1) (λ n. Gap n) (omega arith) (λ n. refl)
     (λ n l. omega (arith, l)) bytes y) (λ e2.
-    else_then P _ _ y e2 (counted (codes "overlap ") (2 ^ 128 - 1) (λ n. Overlap n) (omega arith) (λ n. refl)
+    else_then _ _ _ y e2 (counted (codes "overlap ") (2 ^ 128 - 1) (λ n. Overlap n) (omega arith) (λ n. refl)
     (λ n l. omega (arith, l)) bytes y) (λ e3.
-    else_then P _ _ y e3 (word (codes "ratechange") RateChange refl tt bytes y) (λ e4.
-    else_then P _ _ y e4 (word (codes "leap") UnknownLeap refl tt bytes y) (λ e5.
-    else_then P _ _ y e5 (timed_spelled bytes y) (λ e6.
-    else_then P _ _ y e6 (word (codes "norate") Rate refl tt bytes y) (unread_spelled bytes y))))))
+    else_then _ _ _ y e3 (word (codes "ratechange") RateChange refl tt bytes y) (λ e4.
+    else_then _ _ _ y e4 (word (codes "leap") UnknownLeap refl tt bytes y) (λ e5.
+    else_then _ _ _ y e5 (timed_spelled bytes y) (λ e6.
+    else_then _ _ _ y e6 (word (codes "norate") Rate refl tt bytes y) (unread_spelled bytes y))))))
 
 first_spelled : (bytes : List ℕ) (y : Finding × List ℕ) → first_at bytes ≡ Some y
     → (bytes ≡ first_then y.0 y.1) × HasFinding y.0
@@ -478,15 +476,14 @@ frame_fault_spelled : (bytes : List ℕ) (y : FrameFault × List ℕ) → frame_
     → IsRead frame_words HasFrameFault bytes y
 unfolding frame_fault_at
 frame_fault_spelled bytes y e =
-    let P : Type 0 = IsRead frame_words HasFrameFault bytes y in
     let word = word_spelled frame_words HasFrameFault in
-    else_then P _ _ y e (word (codes "notdata") NotData refl tt bytes y) (λ e2.
-    else_then P _ _ y e2 (word (codes "order") NoOrder refl tt bytes y) (λ e3.
-    else_then P _ _ y e3 (word (codes "chain") Chain refl tt bytes y) (λ e4.
-    else_then P _ _ y e4 (word (codes "no1000") No1000 refl tt bytes y) (λ e5.
-    else_then P _ _ y e5 (counted_spelled frame_words HasFrameFault (codes "length ") (2 ^ 8 - 1) (λ n. Length n)
+    else_then _ _ _ y e (word (codes "notdata") NotData refl tt bytes y) (λ e2.
+    else_then _ _ _ y e2 (word (codes "order") NoOrder refl tt bytes y) (λ e3.
+    else_then _ _ _ y e3 (word (codes "chain") Chain refl tt bytes y) (λ e4.
+    else_then _ _ _ y e4 (word (codes "no1000") No1000 refl tt bytes y) (λ e5.
+    else_then _ _ _ y e5 (counted_spelled frame_words HasFrameFault (codes "length ") (2 ^ 8 - 1) (λ n. Length n)
     (omega arith) (λ n. refl) (λ n l. omega (arith, l)) bytes y) (λ e6.
-    else_then P _ _ y e6 (word (codes "outside") Outside refl tt bytes y)
+    else_then _ _ _ y e6 (word (codes "outside") Outside refl tt bytes y)
     (word (codes "version3") Version3 refl tt bytes y))))))
 
 framed_spelled : (offset : ℕ) (bytes : List ℕ) (y : StreamFault × List ℕ)
