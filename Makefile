@@ -25,8 +25,8 @@ NAME := mseed-$(VERSION)
 MANUAL := $(DESTDIR)$(PREFIX)/share/man/man1
 KIT = $(patsubst %/,%,$(dir $(shell rt doc)))
 LIB := crates/mseed_c/out/lib
-# Crates that the program calls, of which none stands on another; those with the longest way down come first.
-SIDES := mseed_repack mseed_join mseed_words slink_live_tcp mseed_show
+# The ways to the program: crates that it calls, proved one after another; the longest way comes first.
+WAYS := mseed_repack mseed_join+mseed_show slink_live_tcp+mseed_words
 PYTHON_DIR ?= $(PREFIX)/lib/python3/dist-packages
 
 .PHONY: audit bench build dist drawing edits feed-bench help install install-lib interop lib packages \
@@ -48,17 +48,19 @@ repack: build
 	echo "status $$status"
 
 # Proves every crate that the program stands on, builds it, and runs it once: what isn't proved isn't built. The first
-# time, crates that don't stand on one another are proved side by side, in copies, and each gives way to those before
-# it: the toolchain shares what was proved on one machine, where it may write beside itself.
+# time, the ways to it are proved side by side, each in a copy, and each gives way to those before it: the toolchain
+# shares what was proved on one machine, where it may write beside itself.
 build:
 	@echo 'Proving and building: about 20 minutes the first time.'
-	@room=$$(mktemp -d); trap 'rm -rf "$$room"' EXIT; way=0; \
+	@room=$$(mktemp -d); trap 'rm -rf "$$room"' EXIT; place=0; \
 	if [ ! -e $(MSEED) ] && [ -w $(KIT)/.. ]; then \
-	    for crate in $(SIDES); do \
-	        mkdir "$$room/$$crate"; \
-	        tar --create --exclude=out crates crates.txt HANDLES | tar --extract --directory="$$room/$$crate"; \
-	        (cd "$$room/$$crate/crates/$$crate" && nice -n $$way rt check > check.log 2>&1) & \
-	        way=$$((way + 2)); \
+	    for way in $(WAYS); do \
+	        mkdir "$$room/$$way"; \
+	        tar --create --exclude=out crates crates.txt HANDLES | tar --extract --directory="$$room/$$way"; \
+	        for crate in $$(echo "$$way" | tr + ' '); do \
+	            (cd "$$room/$$way/crates/$$crate" && nice -n $$place rt check > check.log 2>&1); \
+	        done & \
+	        place=$$((place + 2)); \
 	    done; \
 	    wait; \
 	fi; \
