@@ -25,8 +25,6 @@ NAME := mseed-$(VERSION)
 MANUAL := $(DESTDIR)$(PREFIX)/share/man/man1
 KIT = $(patsubst %/,%,$(dir $(shell rt doc)))
 LIB := crates/mseed_c/out/lib
-# The ways to the program: crates that it calls, proved one after another; the longest way comes first.
-WAYS := mseed_repack mseed_join+mseed_show slink_live_tcp+mseed_words
 PYTHON_DIR ?= $(PREFIX)/lib/python3/dist-packages
 
 .PHONY: audit bench build dist drawing edits feed-bench help install install-lib interop lib packages \
@@ -47,30 +45,19 @@ repack: build
 	if [ $$status = 0 ]; then mv "$(OUT).part" "$(OUT)" && echo 'Packed into $(OUT).'; else rm -f "$(OUT).part"; fi; \
 	echo "status $$status"
 
-# Proves every crate that the program stands on, builds it, and runs it once: what isn't proved isn't built. The first
-# time, the ways to it are proved side by side, each in a copy, and each gives way to those before it: the toolchain
-# shares what was proved on one machine, where it may write beside itself.
+# Proves every crate that the program stands on, builds it, and runs it once: what isn't proved isn't built. What isn't
+# proved yet is proved side by side first.
 build:
 	@echo 'Proving and building: about 20 minutes the first time.'
-	@room=$$(mktemp -d); trap 'rm -rf "$$room"' EXIT; place=0; \
-	if [ ! -e $(MSEED) ] && [ -w $(KIT)/.. ]; then \
-	    for way in $(WAYS); do \
-	        mkdir "$$room/$$way"; \
-	        tar --create --exclude=out crates crates.txt HANDLES | tar --extract --directory="$$room/$$way"; \
-	        for crate in $$(echo "$$way" | tr + ' '); do \
-	            (cd "$$room/$$way/crates/$$crate" && nice -n $$place rt check > check.log 2>&1); \
-	        done & \
-	        place=$$((place + 2)); \
-	    done; \
-	    wait; \
-	fi; \
-	cd crates/mseed && rt run -- audit < /dev/null > out.log 2>&1 || { cat out.log; exit 1; }
+	@python3 crates/prove.py mseed
+	@cd crates/mseed && rt run -- audit < /dev/null > out.log 2>&1 || { cat out.log; exit 1; }
 	@rm -f crates/mseed/out.log
 	@echo 'Proved and built.'
 
 # The archive holds the toolchain's part of the C library too, so that a program links with one file. Of the shared
 # library only the calls that include/mseed.h declares are seen.
 lib:
+	@python3 crates/prove.py mseed_c
 	@cd crates/mseed_c && rt lib > lib.log 2>&1 || { cat lib.log; exit 1; }
 	@rm -f crates/mseed_c/lib.log
 	@rm -rf $(LIB) && install -d $(LIB)

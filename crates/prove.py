@@ -1,0 +1,93 @@
+#!/usr/bin/env python3
+"""Proves and builds the libraries that a crate stands on, side by side.
+
+    prove.py CRATE
+
+`rt` proves the libraries of a crate one after another, and locks all those below the one that it works on. Here each
+is proved once those below it are, in a room of its own: with links to its sources and to what those below it were built
+to. What comes of it is moved to its folder `out`, where `rt run` and `rt lib` find it. The libraries on the longest way
+to the crate come first, and those that are proved at the same time share the processors. What is built already is left
+as it is. What can't be proved is left to `rt`, which then says why.
+"""
+
+from __future__ import annotations
+
+import os
+import shutil
+import subprocess
+import sys
+import tempfile
+from concurrent.futures import FIRST_COMPLETED, Future, ThreadPoolExecutor, wait
+from pathlib import Path
+
+CRATES = Path(__file__).resolve().parent
+ROOT = CRATES.parent
+SOURCES = ["src", "specs", "proofs"]
+# What those above need of a library.
+BUILT = Path("out") / "rlib"
+# So many libraries at the same time.
+MOST = 3
+
+
+def lines() -> dict[str, str]:
+    """The line of each crate in crates.txt."""
+    text = (ROOT / "crates.txt").read_text(encoding="utf-8")
+    return {line.partition(":")[0].split()[0]: line for line in text.splitlines() if ":" in line and line[0] != "#"}
+
+
+def below(crate: str) -> set[str]:
+    """The crates of the repository that one stands on."""
+    used = [word for word in lines()[crate].partition(":")[2].split() if word in lines()]
+    return {at for word in used for at in [word, *below(word)]}
+
+
+def size(crate: str) -> int:
+    """The bytes of its sources, by which it takes longer or shorter."""
+    return sum(file.stat().st_size for part in SOURCES for file in (CRATES / crate / part).rglob("*") if file.is_file())
+
+
+def is_proved(crate: str, on: set[str], jobs: int) -> bool:
+    """Proves and builds a library, and says whether it is proved."""
+    out = CRATES / crate / "out"
+    out.mkdir(exist_ok=True)
+    with tempfile.TemporaryDirectory(dir=out) as name:
+        room = Path(name)
+        os.link(ROOT / "HANDLES", room / "HANDLES")
+        (room / "crates.txt").write_text("".join(f"{lines()[at]}\n" for at in [crate, *on]), encoding="utf-8")
+        for at in [crate, *on]:
+            for part in [*SOURCES, *([] if at == crate else [BUILT])]:
+                shutil.copytree(CRATES / at / part, room / "crates" / at / part, copy_function=os.link)
+        made = room / "crates" / crate
+        ran = subprocess.run(["rt", "lib", "--jobs", str(jobs)], cwd=made, check=False, stdout=subprocess.DEVNULL,
+                             stderr=subprocess.DEVNULL)
+        for part in (made / "out").glob("*") if ran.returncode == 0 else []:
+            shutil.rmtree(out / part.name, ignore_errors=True)
+            part.rename(out / part.name)
+    return ran.returncode == 0
+
+
+def main() -> None:
+    """Proves what isn't built, until no more can be."""
+    on = {crate: below(crate) for crate in below(sys.argv[1])}
+    sizes = {crate: size(crate) for crate in on}
+    ways = {}
+    for crate in sorted(on, key=lambda crate: -len(on[crate])):
+        ways[crate] = sizes[crate] + max((way for at, way in ways.items() if crate in on[at]), default=0)
+    left = [crate for crate in sorted(on, key=ways.get, reverse=True) if not (CRATES / crate / BUILT / "stamp").exists()]
+    running: dict[Future, str] = {}
+    with ThreadPoolExecutor(MOST) as pool:
+        while left or running:
+            waited = {*left, *running.values()}
+            ready = [crate for crate in left if not on[crate] & waited][:MOST - len(running)]
+            for crate in ready:
+                left.remove(crate)
+                jobs = max(1, (os.cpu_count() or 1) // (len(ready) + len(running)))
+                running[pool.submit(is_proved, crate, on[crate], jobs)] = crate
+            for ended in wait(running, return_when=FIRST_COMPLETED).done:
+                crate = running.pop(ended)
+                if not ended.result():
+                    left = [at for at in left if crate not in on[at]]
+
+
+if __name__ == "__main__":
+    main()
