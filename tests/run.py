@@ -89,8 +89,12 @@ def main() -> int:
         return 0
     began = time.monotonic()
     count = gate() if given.gate else Count()
+    chosen = given.names or names()
     if is_built():
-        count.add(run_all(given.names or names(), max(1, given.jobs), given.verbose))
+        # So that nothing is proved beside the rows.
+        if any(name.startswith("library") for name in chosen):
+            library.library()
+        count.add(run_all(chosen, max(1, given.jobs), given.verbose))
     else:
         print(f"FAILED {PROGRAM}: no program")
         count.failed += 1

@@ -2,10 +2,10 @@
 
 from __future__ import annotations
 
-import contextlib
 import fcntl
 import os
 import shutil
+import signal
 import subprocess
 import time
 from pathlib import Path
@@ -22,9 +22,9 @@ HEADERS = ROOT / "include"
 PACKAGE = ROOT / "python"
 
 WANTS = "the library: make lib"
-# The seconds that a build may take here: its proofs are mostly those that earlier checks kept. Where one wasn't there in
-# time, or failed, none is tried for an hour.
-MOST = 600
+# The seconds that a build may take here, all proofs included. Where one wasn't there in time, or failed, none is tried
+# for an hour.
+MOST = 2400
 LATE = ROOT / "tests" / "out" / "library.late"
 
 # Debian's own Python, for which Debian packs NumPy.
@@ -42,12 +42,20 @@ def library() -> Optional[Path]:
     with (made / "library.lock").open("w") as lock:
         fcntl.flock(lock, fcntl.LOCK_EX)
         if not (LIBRARY / SHARED).exists() and not is_late():
-            with contextlib.suppress(subprocess.TimeoutExpired):
-                subprocess.run(["make", "--silent", "lib"], cwd=ROOT, check=False, timeout=MOST,
-                               stdout=subprocess.DEVNULL, stderr=subprocess.DEVNULL)
+            build()
             if not (LIBRARY / SHARED).exists():
                 LATE.touch()
     return LIBRARY if (LIBRARY / SHARED).exists() else None
+
+
+def build() -> None:
+    """Builds it, unless that takes too long: whatever was started is over then."""
+    with subprocess.Popen(["make", "--silent", "lib"], cwd=ROOT, start_new_session=True, stdout=subprocess.DEVNULL,
+                          stderr=subprocess.DEVNULL) as run:
+        try:
+            run.wait(MOST)
+        except subprocess.TimeoutExpired:
+            os.killpg(run.pid, signal.SIGKILL)
 
 
 def is_late() -> bool:
