@@ -38,6 +38,8 @@ CLAUSES = re.compile(r"\b[Cc]lauses? ((?:`\w+`(?:, and |, | and )?)+)")
 # Behind the path of a call: its clauses.
 LISTED = re.compile(r" \(`[^`]+`\) \(((?:`\w+`(?:, )?)+)\)")
 FILE = re.compile(r"\.(md|py|sh|rt|antt|edit|c|h|1|mseed|svg|txt)$")
+# The line of a toolchain. Those of one logic prove the same.
+TOOLCHAIN = re.compile(r"rattle-kit-\w+ (logic \w+)")
 
 
 class Judged(NamedTuple):
@@ -215,8 +217,11 @@ class Page:
             return f"mseed {others[0]}" in self.texts
         if first == "python3" and others:
             return self.has_file(others[0])
-        if first in ["grep", "tail"] or text in OTHERS or text == rt("version").strip():
+        if first in ["grep", "tail"] or text in OTHERS:
             return True
+        toolchain = TOOLCHAIN.fullmatch(text)
+        if toolchain:
+            return toolchain[1] in rt("version")
         if re.fullmatch(r"[A-Z]+", text) and self.has_file(text):
             return True
         words = [word for word in text.split() if not re.fullmatch(r"<.*>|[0-9]+", word)]

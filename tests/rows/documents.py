@@ -59,6 +59,7 @@ WRONG = [
     "`mseed nothing`",
     "`rt nothing-at-all`",
     "`no words of a program <number>`",
+    "`rattle-kit-13b logic 0123456789abcdef`",
 ]
 RIGHT = [
     "`Cutter::offset`, `Cutter::next`, clause `called`",
