@@ -6,23 +6,13 @@ ghost use Rattle.mseed_stream.specs.Cutting.{IsAlong};
 ghost use Rattle.mseed_stream.specs.Device.{nothing_read};
 
 use super::devices::{NEVER, Pieces};
+use crate::records::FIRST;
 use linked_list_allocator::LocalHeap;
 use mseed_stream::{Buffered, Counted, Cutter, Source, StreamFault, split, split_in};
 use std::alloc::{AllocError, Allocator, Global};
 use std::io;
 use std::io::BufReader;
 use std::process::Abort;
-
-/// The header of a record of 48 32-bit integers from the first instant of 2024, and its blockettes.
-static HEAD: [u8; 64] = [
-    48, 48, 48, 48, 48, 49, 68, 32, // the sequence number, the quality and the reserved byte
-    83, 84, 65, 32, 32, 32, 32, 66, 72, 90, 88, 88, // station, location, channel and network
-    7, 232, 0, 1, 0, 0, 0, 0, 0, 0, // the start
-    0, 48, 0, 20, 0, 1, // the samples, the factor and the multiplier
-    0, 0, 0, 2, 0, 0, 0, 0, 0, 64, 0, 48, // flags, blockettes, correction, and where things stand
-    3, 232, 0, 56, 3, 1, 8, 0, // blockette 1000
-    3, 233, 0, 0, 0, 0, 0, 0, // blockette 1001
-];
 
 /// Where blockette 1000 has the length exponent.
 const EXPONENT: usize = 54;
@@ -107,10 +97,10 @@ fn answers<R: Source>(alloc: Global, source: &mut R) -> [Answer; 4]
 
 /// Appends a record of 2^exponent bytes, with zeros for its integers.
 fn push_record(rt: &impl Abort, bytes: &mut Vec<u8>, exponent: u8) {
-    let mut head = HEAD;
+    let mut head = FIRST;
     head[EXPONENT] = exponent;
     let end = bytes.len().saturating_add(1 << (exponent % 21));
-    bytes.extend_from_slice(&head).expect(rt, "memory");
+    bytes.extend_from_slice(&head[..64]).expect(rt, "memory");
     bytes.resize(end, 0).expect(rt, "memory");
 }
 

@@ -4,21 +4,10 @@ ghost use Rattle.std.specs.Prelude.{◌<◌};
 ghost use Rattle.mseed_record.specs.Viewing.{view_of};
 ghost use Rattle.mseed_steim.specs.Reading.{count_of};
 
-use crate::records::put;
+use crate::records::{FIRST, put};
 use mseed_record::RecordView;
 use mseed_steim::{Ends, ReadFault, check_samples, ends_of, fill_samples, read_samples};
 use std::alloc::Global;
-
-/// A header of 64 bytes for a record of 2^8, with the blockettes 1000 and 1001.
-static HEADER: [u8; 64] = [
-    48, 48, 48, 48, 48, 49, 68, 32, // the sequence number, the quality and the reserved byte
-    83, 84, 65, 32, 32, 32, 32, 66, 72, 90, 88, 88, // station, location, channel and network
-    7, 232, 0, 1, 0, 0, 0, 0, 0, 0, // the start
-    0, 0, 0, 20, 0, 1, // the samples, the factor and the multiplier
-    0, 0, 0, 2, 0, 0, 0, 0, 0, 64, 0, 48, // flags, blockettes, correction, and where things stand
-    3, 232, 0, 56, 0, 1, 8, 0, // blockette 1000
-    3, 233, 0, 0, 0, 0, 0, 0, // blockette 1001
-];
 
 /// The parts of a record that its samples hang on.
 #[derive(Clone, Copy)]
@@ -56,11 +45,12 @@ fn put_words(bytes: &mut [u8; 256], offset: usize, words: &[u32]) {
 /// The record of a row, zeros behind the words of each frame.
 pub fn record(row: &Row) -> [u8; 256] {
     let mut bytes = [0; 256];
-    put(&mut bytes, 0, &HEADER);
+    put(&mut bytes, 0, &FIRST[..64]);
     bytes[31] = row.samples;
     bytes[45] = row.data;
     bytes[52] = row.encoding;
     bytes[53] = row.word_order;
+    bytes[54] = 8;
     let mut frame = usize::from(row.data).max(64);
     for words in row.frames {
         put_words(&mut bytes, frame, words);
