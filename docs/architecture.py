@@ -56,7 +56,7 @@ WAYS = {
         ("mseed_stream", "read_all, split"),
         ("mseed_audit", "Audit"),
         ("mseed_steim", "fill_samples"),
-        ("mseed_pack", "fit_view, pack_fitting"),
+        ("mseed_pack", "fit_view, Packer"),
         ("mseed_stream", "write_all_of"),
     ],
     "serve and fetch: its records become packets, and records again": [

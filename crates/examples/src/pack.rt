@@ -8,7 +8,7 @@ ghost use Rattle.mseed_pack.specs.Traces.{trace_of};
 use mseed_audit::Series;
 use mseed_pack::{
     BadOption, Encoding, Options, PackFault, Packer, SeriesView, a_packing_exists, fit, fit_view,
-    pack, pack_fitting, pack_into, pack_view,
+    pack, pack_into, pack_view,
 };
 use mseed_record::Codes;
 use mseed_stream::{Counted, Sink};
@@ -65,19 +65,6 @@ pub fn pack_samples<W: Sink>(
 
 /// Packs two series where both fit, so that nothing is written unless all can be.
 pub fn pack_both<W: Sink>(
-    one: &Series,
-    other: &Series,
-    options: &Options,
-    sink: &mut W,
-) -> Result<bool, PackFault> {
-    let (one, other) = (SeriesView::of(one), SeriesView::of(other));
-    fit_view(&one, options)?;
-    fit_view(&other, options)?;
-    Ok(pack_fitting(&one, options, sink).is_ok() && pack_fitting(&other, options, sink).is_ok())
-}
-
-/// The same in one room, which is cleared once.
-pub fn pack_in_one_room<W: Sink>(
     one: &Series,
     other: &Series,
     options: &Options,

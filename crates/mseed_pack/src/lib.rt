@@ -27,5 +27,5 @@ pub use law::{
 };
 pub use lent::pack_into;
 pub use options::{BadOption, Encoding, Options};
-pub use packing::{Packer, pack, pack_fitting, pack_view};
+pub use packing::{Packer, pack, pack_view};
 pub use series_view::SeriesView;

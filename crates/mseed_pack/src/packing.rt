@@ -101,34 +101,11 @@ fn pack_if_fit<W: Sink>(
     if let Err(fault) = fit_view(series, options) {
         return Err(fault);
     }
-    match pack_fitting(series, options, sink) {
+    let mut packer = Packer::new();
+    match packer.pack_fitting(series, options, sink) {
         Ok(count) => Ok(count),
         Err(taken) => Err(PackFault::Write(taken)),
     }
-}
-
-/// [`pack_view`] of a series that is known to fit, as [`fit_view`] says: nothing of it is checked again. The numbers of
-/// samples before its leap seconds rise strictly, from 1 to at most the number of samples.
-///
-/// # Errors
-///
-/// How many bytes the sink accepted before it failed.
-pub fn pack_fitting<W: Sink>(
-    series: &SeriesView,
-    options: &Options,
-    sink: &mut W,
-) -> Result<u64, u128>
-    requires fits { Fits (trace_of series.now) options.now }
-    requires steps { AreSteps (length series.now.samples.now) series.now.steps.now }
-    ensures ok { IfOk result (λ count.
-        EmittedAll (trace_of series.now) options.now count (W.written sink.old) (W.written sink.new)) }
-    ensures err { IfErr result (λ taken.
-        EmittedPrefix (trace_of series.now) options.now taken (W.written sink.old) (W.written sink.new)) }
-    ensures writes { WritesOn (W.written sink.old) (W.written sink.new) (W.contents sink.old) (W.contents sink.new)
-        (W.beside sink.old) (W.beside sink.new) }
-{
-    let mut packer = Packer::new();
-    packer.pack_fitting(series, options, sink)
 }
 
 /// The room that packing works in, for one series after another: it is cleared once.
@@ -147,7 +124,9 @@ impl Packer {
         }
     }
 
-    /// [`pack_fitting`] in this room, whatever was packed in it before.
+    /// [`pack_view`] of a series that is known to fit, as [`fit_view`] says: nothing of it is checked again. The numbers
+    /// of samples before its leap seconds rise strictly, from 1 to at most the number of samples. Whatever was packed in
+    /// this room before is forgotten.
     ///
     /// # Errors
     ///
