@@ -266,7 +266,8 @@ fn put_later_frames(
 }
 
 /// The sum of so many samples, of which this is the first, each put in its place, or what comes first in place
-/// of one.
+/// of one. Within its caller, the loop over frames would lack registers.
+#[inline(never)]
 pub(crate) fn put_words(
     payload: &[u8],
     scheme: Scheme,

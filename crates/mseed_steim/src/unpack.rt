@@ -43,8 +43,9 @@ struct Unpacking {
     fall: u32,
     /// How many differences there are.
     count: usize,
-    /// Makes it 64 bytes, so that a row is found by a shift.
-    spare: [u64; 2],
+    /// Makes it 64 bytes, so that a row is found by a shift, and begins it at a multiple of 16, so that no half of the
+    /// lifts lies across two lines of the cache.
+    spare: u128,
 }
 
 /// A row of so many differences.
@@ -54,7 +55,7 @@ macro_rules! row {
             lifts: $lifts,
             fall: 32 - $width,
             count: $count,
-            spare: [0, 0],
+            spare: 0,
         }
     };
 }
