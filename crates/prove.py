@@ -12,10 +12,10 @@ as it is. What can't be proved is left to `rt`, which then says why.
 
 from __future__ import annotations
 
+import argparse
 import os
 import shutil
 import subprocess
-import sys
 import tempfile
 from concurrent.futures import FIRST_COMPLETED, Future, ThreadPoolExecutor, wait
 from pathlib import Path
@@ -68,7 +68,10 @@ def is_proved(crate: str, on: set[str], jobs: int) -> bool:
 
 def main() -> None:
     """Proves what isn't built, until no more can be."""
-    on = {crate: below(crate) for crate in below(sys.argv[1])}
+    words = argparse.ArgumentParser(description="Proves and builds the libraries that a crate stands on, side by side.",
+                                    epilog="Example: crates/prove.py mseed")
+    words.add_argument("crate", choices=sorted(lines()), metavar="CRATE", help="a crate of crates.txt")
+    on = {crate: below(crate) for crate in below(words.parse_args().crate)}
     sizes = {crate: size(crate) for crate in on}
     ways = {}
     for crate in sorted(on, key=lambda crate: -len(on[crate])):
