@@ -266,8 +266,7 @@ fn put_later_frames(
 }
 
 /// The sum of so many samples, of which this is the first, each put in its place, or what comes first in place
-/// of one. Within its caller, the loop over frames would lack registers.
-#[inline(never)]
+/// of one.
 pub(crate) fn put_words(
     payload: &[u8],
     scheme: Scheme,

@@ -63,6 +63,7 @@ fn fill_integers(
 }
 
 /// Fills in a record's samples.
+#[inline(always)]
 fn fill_record(view: &RecordView<'_>, out: &mut [i32]) -> Result<(), ReadFault>
     requires some { 0 < count_of (view_of view.now) }
     requires room { length out.old ≡ count_of (view_of view.now) }
@@ -86,6 +87,8 @@ fn fill_record(view: &RecordView<'_>, out: &mut [i32]) -> Result<(), ReadFault>
 ///
 /// The first reason, in the order of [`ReadFault`], why the record has no such reading. What the places hold is
 /// then open.
+// Within its caller, the loop over frames would lack registers.
+#[inline(never)]
 pub fn fill_samples(view: &RecordView<'_>, out: &mut [i32]) -> Result<(), ReadFault>
     requires some { 0 < count_of (view_of view.now) }
     requires places { length out.old ≡ count_of (view_of view.now) }
