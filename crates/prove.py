@@ -56,7 +56,8 @@ def is_proved(crate: str, on: set[str], jobs: int) -> bool:
         (room / "crates.txt").write_text("".join(f"{lines()[at]}\n" for at in [crate, *on]), encoding="utf-8")
         for at in [crate, *on]:
             for part in [*SOURCES, *([] if at == crate else [BUILT])]:
-                shutil.copytree(CRATES / at / part, room / "crates" / at / part, copy_function=os.link)
+                if (CRATES / at / part).is_dir():
+                    shutil.copytree(CRATES / at / part, room / "crates" / at / part, copy_function=os.link)
         made = room / "crates" / crate
         ran = subprocess.run(["rt", "lib", "--jobs", str(jobs)], cwd=made, check=False, stdout=subprocess.DEVNULL,
                              stderr=subprocess.DEVNULL)
