@@ -77,7 +77,8 @@ def main() -> None:
     ways = {}
     for crate in sorted(on, key=lambda crate: -len(on[crate])):
         ways[crate] = sizes[crate] + max((way for at, way in ways.items() if crate in on[at]), default=0)
-    left = [crate for crate in sorted(on, key=ways.get, reverse=True) if not (CRATES / crate / BUILT / "stamp").exists()]
+    longest = sorted(on, key=ways.get, reverse=True)
+    left = [crate for crate in longest if not (CRATES / crate / BUILT / "stamp").exists()]
     running: dict[Future, str] = {}
     with ThreadPoolExecutor(MOST) as pool:
         while left or running:

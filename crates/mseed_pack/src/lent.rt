@@ -14,9 +14,9 @@ use crate::window::Window;
 /// The bytes of the longest record.
 const LONGEST: usize = 4096;
 
-/// [`Packer::pack_fitting`](crate::Packer::pack_fitting) into a room, which takes as many bytes of the records as it has, and answers
-/// how many records there are. What lies behind them stays as it was. The numbers of samples before its leap seconds
-/// rise strictly, from 1 to at most the number of samples.
+/// [`Packer::pack_fitting`](crate::Packer::pack_fitting) into a room, which takes as many bytes of the records as it
+/// has, and answers how many records there are. What lies behind them stays as it was. The numbers of samples before
+/// its leap seconds rise strictly, from 1 to at most the number of samples.
 pub fn pack_into(series: &SeriesView, options: &Options, room: &mut [u8]) -> u64
     requires fits { Fits (trace_of series.now) options.now }
     requires steps { AreSteps (length series.now.samples.now) series.now.steps.now }

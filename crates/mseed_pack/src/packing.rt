@@ -124,9 +124,9 @@ impl Packer {
         }
     }
 
-    /// [`pack_view`] of a series that is known to fit, as [`fit_view`] says: nothing of it is checked again. The numbers
-    /// of samples before its leap seconds rise strictly, from 1 to at most the number of samples. Whatever was packed in
-    /// this room before is forgotten.
+    /// [`pack_view`] of a series that is known to fit, as [`fit_view`] says: nothing of it is checked again. The
+    /// numbers of samples before its leap seconds rise strictly, from 1 to at most the number of samples. Whatever was
+    /// packed in this room before is forgotten.
     ///
     /// # Errors
     ///
