@@ -50,7 +50,7 @@ repack: build
 build:
 	@echo 'Proving and building: about 20 minutes the first time.'
 	@python3 crates/prove.py mseed
-	@cd crates/mseed && rt run -- audit < /dev/null > out.log 2>&1 || { cat out.log; exit 1; }
+	@cd crates/mseed && rt run --jobs 2 -- audit < /dev/null > out.log 2>&1 || { cat out.log; exit 1; }
 	@rm -f crates/mseed/out.log
 	@echo 'Proved and built.'
 
