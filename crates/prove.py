@@ -6,8 +6,8 @@
 `rt` proves the libraries of a crate one after another, and locks all those below the one that it works on. Here each
 is proved once those below it are, in a room of its own: with links to its sources and to what those below it were built
 to. What comes of it is moved to its folder `out`, where `rt run` and `rt lib` find it. The libraries on the longest way
-to the crate come first, and those that are proved at the same time share the processors. What is built already is left
-as it is. What can't be proved is left to `rt`, which then says why.
+to the crate come first, and take the processors that no other wants. What is built already is left as it is. What can't
+be proved is left to `rt`, which then says why.
 """
 
 from __future__ import annotations
@@ -25,8 +25,9 @@ ROOT = CRATES.parent
 SOURCES = ["src", "specs", "proofs"]
 # What those above need of a library.
 BUILT = Path("out") / "rlib"
-# So many libraries at the same time.
+# So many libraries at the same time, and so many processes for one.
 MOST = 3
+PROCESSES = 4
 
 
 def lines() -> dict[str, str]:
@@ -79,17 +80,18 @@ def main() -> None:
         ways[crate] = sizes[crate] + max((way for at, way in ways.items() if crate in on[at]), default=0)
     longest = sorted(on, key=ways.get, reverse=True)
     left = [crate for crate in longest if not (CRATES / crate / BUILT / "stamp").exists()]
-    running: dict[Future, str] = {}
+    running: dict[Future, tuple[str, int]] = {}
     with ThreadPoolExecutor(MOST) as pool:
         while left or running:
-            waited = {*left, *running.values()}
-            ready = [crate for crate in left if not on[crate] & waited][:MOST - len(running)]
-            for crate in ready:
+            waited = {*left, *(crate for crate, _ in running.values())}
+            idle = (os.cpu_count() or 1) - sum(jobs for _, jobs in running.values())
+            ready = [crate for crate in left if not on[crate] & waited][:min(MOST - len(running), idle)]
+            for place, crate in enumerate(ready):
+                jobs = min(PROCESSES, idle - len(ready) + 1) if place == 0 else 1
                 left.remove(crate)
-                jobs = max(1, (os.cpu_count() or 1) // (len(ready) + len(running)))
-                running[pool.submit(is_proved, crate, on[crate], jobs)] = crate
+                running[pool.submit(is_proved, crate, on[crate], jobs)] = crate, jobs
             for ended in wait(running, return_when=FIRST_COMPLETED).done:
-                crate = running.pop(ended)
+                crate, _ = running.pop(ended)
                 if not ended.result():
                     left = [at for at in left if crate not in on[at]]
 
