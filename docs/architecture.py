@@ -40,8 +40,8 @@ CRATES = {
     "mseed": (2, "the command"),
 }
 
-# Crates of tests and examples, on which nothing stands.
-LEFT_OUT = ["examples", "mseed_tests", "slink_tests"]
+# Crates of tests, examples and benchmarks, on which nothing stands.
+LEFT_OUT = ["examples", "mseed_bench", "mseed_tests", "slink_tests"]
 
 # Each step of a way: the crate, and its calls.
 WAYS = {

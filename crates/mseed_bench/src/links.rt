@@ -1,0 +1,202 @@
+//! Links in memory, which a server serves.
+ghost use Rattle.std.specs.Prelude.{◌≡◌, ◌≢◌, ◌≤◌, [], length, IfSome};
+
+use crate::digest::Digest;
+use crate::failure::Failure;
+use slink_live::{Event, Log, Ready, Wishes};
+use std::alloc::Global;
+
+/// An input and links in memory. All links dial before the input comes; what a link accepts goes into a digest.
+#[derive(Drop)]
+pub(crate) struct Links<'a> {
+    input: &'a [u8],
+    // So many links dial, and so many have.
+    most: usize,
+    dialled: usize,
+    // What the links have to say, from the first of `fast` on and from the first of the others on.
+    fast: usize,
+    requests: [&'a [u8]; 2],
+    // So many bytes a link accepts at a time.
+    bite: usize,
+    // How many bytes each has said, and what is wanted of it.
+    said: Vec<usize>,
+    wishes: Vec<Wishes>,
+    // The slot that is looked at first, and whether the input has ended.
+    first: usize,
+    is_ended: bool,
+    is_over: bool,
+    digest: Digest,
+    log: Log,
+}
+
+/// Nothing is wanted.
+const IDLE: Wishes = Wishes {
+    reads: false,
+    writes: false,
+    is_streaming: false,
+};
+
+impl<'a> Links<'a> {
+    /// So many links, the first of which say one thing, and the others another.
+    pub(crate) fn new(
+        alloc: Global,
+        input: &'a [u8],
+        (fast, most): (usize, usize),
+        requests: [&'a [u8]; 2],
+        bite: usize,
+    ) -> Result<Links<'a>, Failure> {
+        let mut said = Vec::new(alloc);
+        said.resize(most, 0)?;
+        let mut wishes = Vec::new(alloc);
+        wishes.resize(most, IDLE)?;
+        Ok(Links {
+            input,
+            most,
+            dialled: 0,
+            fast,
+            requests,
+            bite,
+            said,
+            wishes,
+            first: 0,
+            is_ended: false,
+            is_over: false,
+            digest: Digest::new(),
+            log: Log::new(),
+        })
+    }
+
+    /// The digest of all that the links accepted.
+    pub(crate) fn value(&self) -> u64 {
+        self.digest.value()
+    }
+
+    /// What the link in a slot has still to say.
+    fn left(&self, slot: usize) -> &'a [u8] {
+        let request = if slot < self.fast {
+            self.requests[0]
+        } else {
+            self.requests[1]
+        };
+        let said = self.said.get(slot).copied().unwrap_or(0);
+        request.get(said..).unwrap_or(&[])
+    }
+
+    /// What a link is ready for, from the one that was last on.
+    fn next_event(&mut self) -> Option<Event>
+        ensures event { IfSome result (λ event. event ≢ Event.Nothing) }
+        ensures log { self.new.log ≡ self.old.log }
+        ensures over { self.new.is_over ≡ self.old.is_over }
+    {
+        let (slot, event) = self.ready_slot()?;
+        self.first = slot;
+        Some(event)
+    }
+
+    /// The first slot from the one that was last on whose link is ready, and for what.
+    fn ready_slot(&self) -> Option<(usize, Event)>
+        ensures { IfSome result (λ x. x.1 ≢ Event.Nothing) }
+    {
+        for slot in self.first..self.most {
+            if let Some(event) = self.event_of(slot) {
+                return Some((slot, event));
+            }
+        }
+        for slot in 0..self.first {
+            if let Some(event) = self.event_of(slot) {
+                return Some((slot, event));
+            }
+        }
+        None
+    }
+
+    /// What the link in a slot is ready for.
+    fn event_of(&self, slot: usize) -> Option<Event>
+        ensures { IfSome result (λ event. event ≢ Event.Nothing) }
+    {
+        let wishes = self.wishes.get(slot).copied().unwrap_or(IDLE);
+        if wishes.writes {
+            return Some(Event::Writable(slot));
+        }
+        if wishes.reads && !self.left(slot).is_empty() {
+            return Some(Event::Readable(slot));
+        }
+        None
+    }
+}
+
+impl Ready for Links<'_> {
+    ghost log = { λ s. s.log.all };
+
+    ghost is_over = { λ s. s.is_over };
+
+    fn next(&mut self) -> Event {
+        if self.dialled < self.most {
+            return Event::Dialled;
+        }
+        if let Some(event) = self.next_event() {
+            return event;
+        }
+        if !self.input.is_empty() {
+            return Event::Input;
+        }
+        if !self.is_ended {
+            self.is_ended = true;
+            return Event::InputEnded;
+        }
+        self.is_over = true;
+        Event::Nothing
+    }
+
+    fn read_input(&mut self, buf: &mut [u8]) -> usize {
+        let count = self.input.len().min(buf.len());
+        let (given, rest) = self.input.split_at(count);
+        buf[..count].copy_from_slice(given);
+        self.input = rest;
+        self.log.input(given);
+        count
+    }
+
+    fn leave_input(&mut self) {}
+
+    fn accept(&mut self, slot: usize) -> bool {
+        self.dialled = self.dialled.saturating_add(1);
+        self.log.opened(slot);
+        true
+    }
+
+    fn read(&mut self, slot: usize, buf: &mut [u8]) -> usize {
+        let left = self.left(slot);
+        let count = left.len().min(buf.len());
+        buf[..count].copy_from_slice(&left[..count]);
+        if let Some(said) = self.said.get_mut(slot) {
+            *said = said.saturating_add(count);
+        }
+        self.log.received(slot, &buf[..count]);
+        count
+    }
+
+    fn write(&mut self, slot: usize, bytes: &[u8]) -> usize {
+        let count = bytes.len().min(self.bite);
+        self.digest.number(slot as u64);
+        self.digest.bytes(&bytes[..count]);
+        self.log.emitted(slot, &bytes[..count]);
+        count
+    }
+
+    fn close(&mut self, slot: usize) {
+        if let Some(wishes) = self.wishes.get_mut(slot) {
+            *wishes = IDLE;
+        }
+        self.digest.number(slot as u64);
+        self.log.gone(slot);
+    }
+
+    fn wants(&mut self, slot: usize, wishes: Wishes) {
+        if let Some(place) = self.wishes.get_mut(slot) {
+            *place = wishes;
+        }
+    }
+
+    fn wants_links(&mut self, _wanted: bool) {}
+}
