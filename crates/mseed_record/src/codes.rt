@@ -1,12 +1,16 @@
 //! What a channel is called.
-ghost use Rattle.std.specs.Prelude.{◌≡◌, ◌≤◌, length, slice_range};
+ghost use Rattle.std.specs.Prelude.{◌≡◌, ◌≤◌, ◌<◌, ℕ, Some, drop, length, refl, slice_index_or, slice_range, take};
+ghost use Rattle.std.specs.Cmp.Lexicographic.{nat_list_cmp_total, slice_cmp, texts_po, texts_ties};
+ghost use Rattle.std.specs.Ordering.{nat_cmp};
+ghost use Rattle.std.specs.Slice.Scan.{big_endian};
 ghost use Rattle.mseed_record.specs.Header.{key_at};
 
+use std::cmp::Ordering;
 use std::marker::Model;
 
 /// The codes of a channel: its key, 12 bytes, which orders channels by network, then station, location
 /// and channel.
-#[derive(Clone, Copy, Debug, PartialEq, Eq, PartialOrd, Ord)]
+#[derive(Clone, Copy, Debug, PartialEq, Eq)]
 pub struct Codes {
     key: [u8; 12],
 }
@@ -19,6 +23,32 @@ impl Model for Codes {
     ghost view = { λ c. c.key };
 
     ghost inverse = { λ bytes. record { key = bytes } };
+}
+
+impl PartialOrd for Codes {
+    ghost partial_cmp = { λ a b. Some (slice_cmp nat_cmp a b) };
+
+    ghost laws = { texts_po };
+
+    fn partial_cmp(&self, other: &Codes) -> Option<Ordering> {
+        Some(self.cmp(other))
+    }
+}
+
+impl Ord for Codes {
+    ghost cmp = { λ a b. slice_cmp nat_cmp a b };
+
+    ghost total = { nat_list_cmp_total };
+
+    ghost matches_partial_cmp = { λ a b. refl };
+
+    ghost matches_eq = { λ a b. texts_ties a b };
+
+    fn cmp(&self, other: &Codes) -> Ordering {
+        let (front, back) = words_of(self.key);
+        let (other_front, other_back) = words_of(other.key);
+        front.cmp(&other_front).then(back.cmp(&other_back))
+    }
 }
 
 impl Codes {
@@ -63,6 +93,19 @@ impl Codes {
     {
         &self.key[9..]
     }
+}
+
+/// A key as two numbers, of its first eight bytes and of its last four. They compare as keys do.
+fn words_of(key: [u8; 12]) -> (u64, u32)
+    ensures front { result.0 ≡ big_endian 0 (take 8 key) }
+    ensures back { result.1 ≡ big_endian 0 (drop 8 key) }
+    ensures octets { (i : ℕ) → slice_index_or key i 0 < 256 }
+{
+    let [a, b, c, d, e, f, g, h, i, j, k, l] = key;
+    (
+        u64::from_be_bytes([a, b, c, d, e, f, g, h]),
+        u32::from_be_bytes([i, j, k, l]),
+    )
 }
 
 /// The codes in a header.

@@ -1,0 +1,124 @@
+-- Keys compare as the numbers that their bytes spell.
+use Rattle.std.proofs.Common.{
+  ◌≡◌,
+  ◌≢◌,
+  ◌<◌,
+  ◌≤◌,
+  ◌+◌,
+  ◌*◌,
+  ◌∙◌,
+  ◌++◌,
+  ℕ,
+  List,
+  [],
+  ◌∷◌,
+  length,
+  refl,
+  sym,
+  ap,
+  arith,
+  zero,
+  suc,
+  take,
+  drop,
+  slice_index_or,
+}
+use Rattle.std.specs.List.{AllByRecursion}
+use Rattle.std.specs.Cmp.{nat_cmp_is, ranks}
+use Rattle.std.specs.Cmp.Lexicographic.{slice_cmp}
+use Rattle.std.specs.Ordering.{MatchOrdering, nat_cmp, ordering_then}
+use Rattle.std.specs.Slice.Scan.{big_endian}
+use Rattle.std.specs.declared.cmp.Ordering.{Ordering}
+use Rattle.std.specs.declared.cmp.Ordering.TheVariants.{Less, Equal, Greater}
+
+-- three, one behind another
+then_then : (a b c : Ordering) → ordering_then (ordering_then a b) c ≡ ordering_then a (ordering_then b c)
+then_then Less b c = refl
+then_then Equal b c = refl
+then_then Greater b c = refl
+
+then_equal : (a : Ordering) → a ≡ ordering_then a Equal
+then_equal Less = refl
+then_equal Equal = refl
+then_equal Greater = refl
+
+-- a further byte counts where what is before it is the same
+byte_rank : (m n x y : ℕ) (o p : Ordering) → x < 256 → y < 256 → MatchOrdering o (m < n) (m ≡ n) (n < m)
+    → MatchOrdering p (x < y) (x ≡ y) (y < x)
+    → MatchOrdering (ordering_then o p) (m * 256 + x < n * 256 + y) (m * 256 + x ≡ n * 256 + y) (n * 256 + y < m * 256 + x)
+byte_rank m n x y Less p a b h k = omega arith
+byte_rank m n x y Greater p a b h k = omega arith
+byte_rank m n x y Equal Less a b h k = omega arith
+byte_rank m n x y Equal Equal a b h k = omega arith
+byte_rank m n x y Equal Greater a b h k = omega arith
+
+byte_behind : (m n x y : ℕ) → x < 256 → y < 256
+    → nat_cmp (m * 256 + x) (n * 256 + y) ≡ ordering_then (nat_cmp m n) (nat_cmp x y)
+byte_behind m n x y a b =
+    sym (nat_cmp_is (m * 256 + x) (n * 256 + y) (ordering_then (nat_cmp m n) (nat_cmp x y))
+    (byte_rank m n x y (nat_cmp m n) (nat_cmp x y) a b (ranks m n) (ranks x y)))
+
+-- lists of as many bytes compare as what they spell
+pub spelled_cmp : (xs ys : List ℕ) (m n : ℕ) → length xs ≡ length ys → AllByRecursion (λ b. b < 256) xs
+    → AllByRecursion (λ b. b < 256) ys
+    → nat_cmp (big_endian m xs) (big_endian n ys) ≡ ordering_then (nat_cmp m n) (slice_cmp nat_cmp xs ys)
+spelled_cmp [] [] m n l p q = then_equal (nat_cmp m n)
+spelled_cmp [] (y ∷ ys) m n l p q = absurd (omega (arith, l))
+spelled_cmp (x ∷ xs) [] m n l p q = absurd (omega (arith, l))
+spelled_cmp (x ∷ xs) (y ∷ ys) m n l p q =
+    spelled_cmp xs ys (m * 256 + x) (n * 256 + y) (omega (arith, l)) p.1 q.1
+    ∙ ap (λ (o : Ordering). ordering_then o (slice_cmp nat_cmp xs ys)) (byte_behind m n x y p.0 q.0)
+    ∙ then_then (nat_cmp m n) (nat_cmp x y) (slice_cmp nat_cmp xs ys)
+
+-- what lies behind the first n counts where those are the same
+pub cmp_behind : (n : ℕ) (xs ys : List ℕ) → n ≤ length xs → n ≤ length ys
+    → slice_cmp nat_cmp xs ys
+    ≡ ordering_then (slice_cmp nat_cmp (take n xs) (take n ys)) (slice_cmp nat_cmp (drop n xs) (drop n ys))
+cmp_behind zero xs ys h k = refl
+cmp_behind (suc n) [] ys h k = absurd (omega (arith, h))
+cmp_behind (suc n) (x ∷ xs) [] h k = absurd (omega (arith, k))
+cmp_behind (suc n) (x ∷ xs) (y ∷ ys) h k =
+    ap (λ (o : Ordering). ordering_then (nat_cmp x y) o) (cmp_behind n xs ys (omega (arith, h)) (omega (arith, k)))
+    ∙ sym (then_then (nat_cmp x y) (slice_cmp nat_cmp (take n xs) (take n ys))
+    (slice_cmp nat_cmp (drop n xs) (drop n ys)))
+
+each_octet : (xs : List ℕ) → ((i : ℕ) → slice_index_or xs i 0 < 256) → AllByRecursion (λ b. b < 256) xs
+each_octet [] h = tt
+each_octet (x ∷ xs) h = (h 0, each_octet xs (λ i. h (suc i)))
+
+front_octets : (n : ℕ) (xs : List ℕ) → AllByRecursion (λ b. b < 256) xs → AllByRecursion (λ b. b < 256) (take n xs)
+front_octets zero xs h = tt
+front_octets (suc n) [] h = tt
+front_octets (suc n) (x ∷ xs) h = (h.0, front_octets n xs h.1)
+
+back_octets : (n : ℕ) (xs : List ℕ) → AllByRecursion (λ b. b < 256) xs → AllByRecursion (λ b. b < 256) (drop n xs)
+back_octets zero xs h = h
+back_octets (suc n) [] h = tt
+back_octets (suc n) (x ∷ xs) h = back_octets n xs h.1
+
+front_long : (n : ℕ) (xs ys : List ℕ) → length xs ≡ length ys → length (take n xs) ≡ length (take n ys)
+front_long zero xs ys l = refl
+front_long (suc n) [] [] l = refl
+front_long (suc n) [] (y ∷ ys) l = absurd (omega (arith, l))
+front_long (suc n) (x ∷ xs) [] l = absurd (omega (arith, l))
+front_long (suc n) (x ∷ xs) (y ∷ ys) l = ap suc (front_long n xs ys (omega (arith, l)))
+
+back_long : (n : ℕ) (xs ys : List ℕ) → length xs ≡ length ys → length (drop n xs) ≡ length (drop n ys)
+back_long zero xs ys l = l
+back_long (suc n) [] [] l = refl
+back_long (suc n) [] (y ∷ ys) l = absurd (omega (arith, l))
+back_long (suc n) (x ∷ xs) [] l = absurd (omega (arith, l))
+back_long (suc n) (x ∷ xs) (y ∷ ys) l = back_long n xs ys (omega (arith, l))
+
+-- keys compare as the numbers of their first n bytes, and then as those of the others
+pub keys_cmp : (n : ℕ) (xs ys : List ℕ) → n ≤ length xs → length xs ≡ length ys
+    → ((i : ℕ) → slice_index_or xs i 0 < 256) → ((i : ℕ) → slice_index_or ys i 0 < 256)
+    → ordering_then (nat_cmp (big_endian 0 (take n xs)) (big_endian 0 (take n ys)))
+    (nat_cmp (big_endian 0 (drop n xs)) (big_endian 0 (drop n ys))) ≡ slice_cmp nat_cmp xs ys
+keys_cmp n xs ys h l p q =
+    let a = each_octet xs p in
+    let b = each_octet ys q in
+    let front = spelled_cmp (take n xs) (take n ys) 0 0 (front_long n xs ys l) (front_octets n xs a)
+    (front_octets n ys b) in
+    let back = spelled_cmp (drop n xs) (drop n ys) 0 0 (back_long n xs ys l) (back_octets n xs a) (back_octets n ys b) in
+    (λ i. ordering_then (front i) (back i)) ∙ sym (cmp_behind n xs ys h (omega (arith, h, l)))
