@@ -114,7 +114,7 @@ fn channel_with(
             Some(channel)
         }
         Some(mut channel) => {
-            channel.add(view, number, offset);
+            channel.add(view, number, offset, None);
             Some(channel)
         }
     }

@@ -1,15 +1,16 @@
 //! The audit of records as they come, and the verdicts that it ends with.
-ghost use Rattle.std.specs.Prelude.{◌≡◌, ◌≢◌, ◌↔◌, ◌⊎◌, ◌<◌, ◌+◌, ◌^◌, List, [], ◌∷◌, ◌++◌, OnOk, OnErr, IfOk, IsOk};
-ghost use Rattle.std.specs.Prelude.{ℕ, IsTrue, None, false};
+ghost use Rattle.std.specs.Prelude.{◌≡◌, ◌≢◌, ◌↔◌, ◌⊎◌, ◌<◌, ◌+◌, ◌^◌, List, [], ◌∷◌, ◌++◌, OnOk, OnErr, IfOk, IfErr, IsOk};
+ghost use Rattle.std.specs.Prelude.{ℕ, IsTrue, None};
 ghost use Rattle.mseed_record.specs.Header.{key_at};
 ghost use Rattle.mseed_record.specs.Viewing.{view_of};
 ghost use Rattle.mseed_steim.specs.Reading.{count_of};
 ghost use Rattle.mseed_audit.specs.Audit.{AreChannels};
 ghost use Rattle.mseed_audit.specs.Channels.{Added, numbered, records_of};
+ghost use Rattle.mseed_audit.specs.private.Kept.{IsLearnt};
 ghost use Rattle.mseed_audit.specs.Reported.{IsFoundBehind};
 ghost use Rattle.mseed_audit.specs.Verdict.{AreVerdicts};
 
-use crate::channel::Channel;
+use crate::channel::{Channel, Lead};
 use crate::finding::Why;
 use crate::law::continuous_exactly;
 use crate::roster::Roster;
@@ -118,32 +119,34 @@ impl<A: Allocator + Copy> Audit<A> {
         ensures memory { (count_of (view_of view.now) ≡ 0)
             ⊎ HoldsKey self.old (key_at (view_of view.now).bytes) → IsOk result }
     {
-        if self.add_sound(view) {
-            return Ok(());
-        }
-        match self.add_judged(view, offset) {
-            Ok(_) => Ok(()),
-            Err(Memory) => Err(Memory),
+        match self.add_sound(view) {
+            Ok(()) => Ok(()),
+            Err(lead) => match self.add_learnt(view, offset, lead) {
+                Ok(_) => Ok(()),
+                Err(Memory) => Err(Memory),
+            },
         }
     }
 
-    /// Adds a record as `add` does, if nothing is found of it and its channel isn't new. Answers whether it was added;
-    /// else the audit is as it was.
+    /// Adds a record as `add` does, if nothing is found of it and its channel isn't new.
+    ///
+    /// # Errors
+    ///
+    /// What was learnt of it, where it wasn't added: the audit is then as it was.
     #[inline(always)]
-    pub(crate) fn add_sound(&mut self, view: &RecordView) -> bool
+    pub(crate) fn add_sound(&mut self, view: &RecordView) -> Result<(), Option<Lead>>
         requires { self.old.added < 2 ^ 40 }
-        ensures adds { IsTrue result → (added : List Added) (offset : ℕ) → IsAuditOf self.old added
-            → IsAuditOf self.new (added ++ record { view = view_of view.now; offset = offset } ∷ []) }
-        ensures sound { IsTrue result → (added : List Added) → IsAuditOf self.old added
-            → IsFoundBehind (numbered 1 added) (view_of view.now) None }
-        ensures number { IsTrue result → self.new.added ≡ self.old.added + 1 }
-        ensures unchanged { result ≡ false → self.new ≡ self.old }
+        ensures adds { OnOk result ((added : List Added) (offset : ℕ) → IsAuditOf self.old added
+            → IsAuditOf self.new (added ++ record { view = view_of view.now; offset = offset } ∷ [])) }
+        ensures sound { OnOk result ((added : List Added) → IsAuditOf self.old added
+            → IsFoundBehind (numbered 1 added) (view_of view.now) None) }
+        ensures number { OnOk result (self.new.added ≡ self.old.added + 1) }
+        ensures unchanged { OnErr result (self.new ≡ self.old) }
+        ensures learnt { IfErr result (λ lead. IsLearnt lead (view_of view.now)) }
     {
-        if !self.roster.add_sound(view) {
-            return false;
-        }
+        self.roster.add_sound(view)?;
         self.added += 1;
-        true
+        Ok(())
     }
 
     /// Adds a record as `add` does, and answers what is found of it: of a silent one, nothing.
@@ -151,8 +154,6 @@ impl<A: Allocator + Copy> Audit<A> {
     /// # Errors
     ///
     /// `Memory` as `add`.
-    #[cold]
-    #[inline(never)]
     pub fn add_judged(&mut self, view: &RecordView, offset: u64) -> Result<Option<Why>, Memory>
         requires { self.old.added < 2 ^ 40 }
         ensures adds { (added : List Added) → IsAuditOf self.old added
@@ -164,8 +165,31 @@ impl<A: Allocator + Copy> Audit<A> {
         ensures memory { (count_of (view_of view.now) ≡ 0)
             ⊎ HoldsKey self.old (key_at (view_of view.now).bytes) → IsOk result }
     {
+        self.add_learnt(view, offset, None)
+    }
+
+    /// [`Audit::add_judged`] of a record of which this was learnt.
+    #[cold]
+    #[inline(never)]
+    pub(crate) fn add_learnt(
+        &mut self,
+        view: &RecordView,
+        offset: u64,
+        lead: Option<Lead>,
+    ) -> Result<Option<Why>, Memory>
+        requires few { self.old.added < 2 ^ 40 }
+        requires learnt { IsLearnt lead (view_of view.now) }
+        ensures adds { (added : List Added) → IsAuditOf self.old added
+            → OnOk result (IsAuditOf self.new (added ++ record { view = view_of view.now; offset = offset } ∷ [])) }
+        ensures found { (added : List Added) → IsAuditOf self.old added
+            → IfOk result (λ why. IsFoundBehind (numbered 1 added) (view_of view.now) why) }
+        ensures number { OnOk result (self.new.added ≡ self.old.added + 1) }
+        ensures unchanged { OnErr result (self.new ≡ self.old) }
+        ensures memory { (count_of (view_of view.now) ≡ 0)
+            ⊎ HoldsKey self.old (key_at (view_of view.now).bytes) → IsOk result }
+    {
         let number = self.added + 1;
-        let why = self.roster.add(view, number, offset)?;
+        let why = self.roster.add(view, number, offset, lead)?;
         self.added = number;
         Ok(why)
     }

@@ -1,19 +1,19 @@
 //! What is kept of a channel while its records come.
 ghost use Rattle.std.specs.Prelude.{◌≡◌, ◌<◌, ◌≤◌, ◌+◌, ◌^◌, ℕ, List, [], ◌∷◌, ◌++◌, Option, Some};
-ghost use Rattle.std.specs.Prelude.{IfSome, IsTrue, false};
+ghost use Rattle.std.specs.Prelude.{IfOk, IfErr, OnOk, OnErr, None};
 ghost use Rattle.mseed_record.specs.View.{View};
 ghost use Rattle.mseed_record.specs.Viewing.{view_of};
 ghost use Rattle.mseed_steim.specs.Reading.{count_of};
-ghost use Rattle.mseed_audit.specs.Judging.{IsFound};
+ghost use Rattle.mseed_audit.specs.Judging.{IsFound, known_rate};
 ghost use Rattle.mseed_audit.specs.Audit.{IsTailOf, count_in, head_in, tail_in, verdict_of};
-ghost use Rattle.mseed_audit.specs.private.Kept.{IsTailBefore, end_in, why_in, with_end, with_finding};
+ghost use Rattle.mseed_audit.specs.private.Kept.{IsLead, IsLearnt, IsTailBefore, end_in, why_in, with_end, with_finding};
 ghost use Rattle.mseed_audit.specs.Reported.{last_of};
 
 use crate::finding::{Finding, Why};
 use crate::tail::Tail;
 use crate::verdict::Verdict;
 use mseed_record::RecordView;
-use mseed_steim::check_samples;
+use mseed_steim::{ReadFault, check_samples};
 use mseed_time::{Micros, Ratio};
 
 /// How a channel begins whose first record has no finding of its own.
@@ -63,6 +63,14 @@ pub struct Channel {
     pub findings: Findings,
 }
 
+/// What was learnt of a record whose time and rate are known.
+#[derive(Clone, Copy)]
+pub(crate) struct Lead {
+    tail: Tail,
+    // What is wrong with its samples, if something is.
+    fault: Option<ReadFault>,
+}
+
 /// What is found of a record, and its end.
 #[derive(Clone, Copy)]
 enum Judged {
@@ -84,7 +92,7 @@ impl Channel {
         ensures bounded { IsBounded 1 result.0 }
         ensures found { IsFound None (view_of view.now) result.1 }
     {
-        let (findings, why) = match judge(None, view) {
+        let (findings, why) = match judge(None, view, None) {
             Judged::Sound(tail) => {
                 let head = Head {
                     number,
@@ -117,31 +125,40 @@ impl Channel {
         (channel, why)
     }
 
-    /// One more record of the channel, if nothing is found of it. Answers whether it was added; else the channel is as
-    /// it was.
+    /// One more record of the channel, if nothing is found of it.
+    ///
+    /// # Errors
+    ///
+    /// What was learnt of it, where it wasn't added: the channel is then as it was.
     #[inline(always)]
-    pub(crate) fn add_sound(&mut self, view: &RecordView) -> bool
+    pub(crate) fn add_sound(&mut self, view: &RecordView) -> Result<(), Option<Lead>>
         requires some { 0 < count_of (view_of view.now) }
         requires bounded { IsBounded (2 ^ 40) self.old }
-        ensures stands { IsTrue result → (ps : List Placed) (offset number : ℕ) → Stands self.old ps
-            → Stands self.new (ps ++ record { view = view_of view.now; offset = offset; number = number } ∷ []) }
-        ensures sound { IsTrue result → (ps : List Placed) → Stands self.old ps
-            → IsFound (last_of None ps) (view_of view.now) None }
-        ensures bounded { IsTrue result → (n : ℕ) → IsBounded n self.old → IsBounded (n + 1) self.new }
-        ensures unchanged { result ≡ false → self.new ≡ self.old }
+        ensures stands { OnOk result ((ps : List Placed) (offset number : ℕ) → Stands self.old ps
+            → Stands self.new (ps ++ record { view = view_of view.now; offset = offset; number = number } ∷ [])) }
+        ensures sound { OnOk result ((ps : List Placed) → Stands self.old ps
+            → IsFound (last_of None ps) (view_of view.now) None) }
+        ensures bounded { OnOk result ((n : ℕ) → IsBounded n self.old → IsBounded (n + 1) self.new) }
+        ensures unchanged { OnErr result (self.new ≡ self.old) }
+        ensures learnt { IfErr result (λ lead. IsLearnt lead (view_of view.now)) }
     {
-        let Some(end) = sound_end(self.findings.tail(), view) else {
-            return false;
-        };
+        let end = sound_end(self.findings.tail(), view)?;
         self.records += 1;
         self.samples += u64::from(end.samples);
         self.findings.end_with(end);
-        true
+        Ok(())
     }
 
-    /// One more record of the channel. Answers what is found of it.
-    pub(crate) fn add(&mut self, view: &RecordView, number: u64, offset: u64) -> Option<Why>
+    /// One more record of the channel, of which this was learnt. Answers what is found of it.
+    pub(crate) fn add(
+        &mut self,
+        view: &RecordView,
+        number: u64,
+        offset: u64,
+        lead: Option<Lead>,
+    ) -> Option<Why>
         requires some { 0 < count_of (view_of view.now) }
+        requires learnt { IsLearnt lead (view_of view.now) }
         requires bounded { IsBounded (2 ^ 40) self.old }
         ensures stands { (ps : List Placed) → Stands self.old ps
             → Stands self.new (ps ++ record { view = view_of view.now; offset = offset; number = number } ∷ []) }
@@ -150,7 +167,7 @@ impl Channel {
     {
         self.records += 1;
         self.samples += u64::from(view.samples());
-        match judge(self.findings.tail(), view) {
+        match judge(self.findings.tail(), view, lead) {
             Judged::Sound(tail) => {
                 self.findings.end_with(tail);
                 None
@@ -255,46 +272,83 @@ impl Judged {
     }
 }
 
-/// The end of a record of which nothing is found, by the end of the channel's record before it. Where there is none,
-/// nothing is found.
+/// What is learnt of a record by itself.
+///
+/// # Errors
+///
+/// Why its time or its rate isn't known: no sample is read then.
 #[inline(always)]
-fn sound_end(before: Option<Tail>, view: &RecordView) -> Option<Tail>
+fn look_at(view: &RecordView) -> Result<Lead, Why>
     requires { 0 < count_of (view_of view.now) }
-    ensures tail { IfSome result (λ tail. IsTailOf (Some tail) (view_of view.now)) }
-    ensures sound { IfSome result (λ tail. (b : Option View) → IsTailBefore before b
-        → IsFound b (view_of view.now) None) }
-{
-    let Ok(tail) = Tail::of(view) else {
-        return None;
-    };
-    let Ok(_) = check_samples(view) else {
-        return None;
-    };
-    if tail.follows(before) {
-        Some(tail)
-    } else {
-        None
-    }
-}
-
-/// What is found of a record, by the end of the channel's record before it, and the record's own end.
-#[inline(always)]
-fn judge(before: Option<Tail>, view: &RecordView) -> Judged
-    requires { 0 < count_of (view_of view.now) }
-    ensures tail { IsTailOf (end_in result) (view_of view.now) }
-    ensures why { (b : Option View) → IsTailBefore before b → IsFound b (view_of view.now) (why_in result) }
+    ensures lead { IfOk result (λ lead. IsLead lead (view_of view.now)) }
+    ensures unknown { IfErr result (λ _. known_rate (view_of view.now) ≡ None) }
+    ensures why { IfErr result (λ why. (before : Option View) → IsFound before (view_of view.now) (Some why)) }
 {
     let tail = match Tail::of(view) {
         Ok(tail) => tail,
-        Err(why) => return Judged::Faulty(why, None),
+        Err(why) => return Err(why),
     };
-    let (start, rate) = (tail.start, tail.rate);
-    let why = match check_samples(view) {
-        Ok(_) => match before {
-            Some(before) => before.break_to(start, rate),
-            None => None,
+    let fault = match check_samples(view) {
+        Ok(_) => None,
+        Err(fault) => Some(fault),
+    };
+    Ok(Lead { tail, fault })
+}
+
+/// The end of a record of which nothing is found, by the end of the channel's record before it.
+///
+/// # Errors
+///
+/// What was learnt of the record, where something is found of it.
+#[inline(always)]
+fn sound_end(before: Option<Tail>, view: &RecordView) -> Result<Tail, Option<Lead>>
+    requires { 0 < count_of (view_of view.now) }
+    ensures tail { IfOk result (λ tail. IsTailOf (Some tail) (view_of view.now)) }
+    ensures sound { IfOk result (λ tail. (b : Option View) → IsTailBefore before b
+        → IsFound b (view_of view.now) None) }
+    ensures learnt { IfErr result (λ lead. IsLearnt lead (view_of view.now)) }
+{
+    let Ok(lead) = look_at(view) else {
+        return Err(None);
+    };
+    match lead.fault {
+        None if lead.tail.follows(before) => Ok(lead.tail),
+        _ => Err(Some(lead)),
+    }
+}
+
+/// What is found of a record of which this was learnt, by the end of the channel's record before it, and the record's
+/// own end.
+#[inline(always)]
+fn judge(before: Option<Tail>, view: &RecordView, lead: Option<Lead>) -> Judged
+    requires some { 0 < count_of (view_of view.now) }
+    requires learnt { IsLearnt lead (view_of view.now) }
+    ensures tail { IsTailOf (end_in result) (view_of view.now) }
+    ensures why { (b : Option View) → IsTailBefore before b → IsFound b (view_of view.now) (why_in result) }
+{
+    match lead {
+        Some(lead) => lead.judged(before),
+        None => match look_at(view) {
+            Ok(lead) => lead.judged(before),
+            Err(why) => Judged::Faulty(why, None),
         },
-        Err(fault) => Some(Why::Read(fault)),
-    };
-    Judged::with_end(why, tail)
+    }
+}
+
+impl Lead {
+    /// What is found of the record, by the end of the channel's record before it.
+    fn judged(&self, before: Option<Tail>) -> Judged
+        ensures tail { (v : View) → IsLead self.now v → IsTailOf (end_in result) v }
+        ensures why { (v : View) (b : Option View) → IsLead self.now v → IsTailBefore before b
+            → IsFound b v (why_in result) }
+    {
+        let why = match self.fault {
+            Some(fault) => Some(Why::Read(fault)),
+            None => match before {
+                Some(before) => before.break_to(self.tail.start, self.tail.rate),
+                None => None,
+            },
+        };
+        Judged::with_end(why, self.tail)
+    }
 }

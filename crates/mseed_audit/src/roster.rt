@@ -1,6 +1,6 @@
 //! What is kept of each channel while records come.
 ghost use Rattle.std.specs.Prelude.{◌≡◌, ◌↔◌, ◌⊎◌, ◌+◌, ◌<◌, ◌^◌, List, ℕ, [], ◌∷◌, ◌++◌, OnOk};
-ghost use Rattle.std.specs.Prelude.{OnErr, IfOk, IsOk, false};
+ghost use Rattle.std.specs.Prelude.{OnErr, IfOk, IfErr, IsOk};
 ghost use Rattle.std.specs.Prelude.{IsSome, IsTrue, Option, Some, None};
 ghost use Rattle.mseed_record.specs.Header.{key_at};
 ghost use Rattle.mseed_record.specs.Viewing.{view_of};
@@ -14,11 +14,11 @@ ghost use Rattle.mseed_audit.specs.Channels.{Placed, same_key, with_record};
 ghost use Rattle.mseed_audit.specs.Audit.{Stands, StandsAt, verdict_of};
 ghost use Rattle.mseed_audit.specs.Judging.{IsFound};
 ghost use Rattle.mseed_audit.specs.declared.channel.Channel.{Channel};
-ghost use Rattle.mseed_audit.specs.private.Kept.{AreBounded, IsBounded, place_of};
+ghost use Rattle.mseed_audit.specs.private.Kept.{AreBounded, IsBounded, IsLearnt, place_of};
 ghost use Rattle.mseed_audit.specs.Reported.{IsFoundOf};
 
 use crate::audits::Memory;
-use crate::channel::Channel;
+use crate::channel::{Channel, Lead};
 use crate::finding::Why;
 use crate::verdict::Verdict;
 use mseed_record::{Codes, RecordView};
@@ -82,30 +82,36 @@ impl<A: Allocator + Copy> Roster<A> {
     }
 
     /// Adds a record to its channel, if the channel is there and nothing is found of the record, or if it is a silent
-    /// one. Answers whether it was added; else the roster is as it was.
+    /// one.
+    ///
+    /// # Errors
+    ///
+    /// What was learnt of it, where it wasn't added: the roster is then as it was.
     #[inline(always)]
-    pub(crate) fn add_sound(&mut self, view: &RecordView) -> bool
+    pub(crate) fn add_sound(&mut self, view: &RecordView) -> Result<(), Option<Lead>>
         requires { AreBounded (2 ^ 40) self.old }
-        ensures stands { IsTrue result → (key : List ℕ) (ps : List Placed) (offset number : ℕ)
+        ensures stands { OnOk result ((key : List ℕ) (ps : List Placed) (offset number : ℕ)
             → StandsAt (lookup (same_key key) self.old) ps → StandsAt (lookup (same_key key) self.new)
-            (with_record key ps (record { view = view_of view.now; offset = offset; number = number })) }
-        ensures sound { IsTrue result → (ps : List Placed)
+            (with_record key ps (record { view = view_of view.now; offset = offset; number = number }))) }
+        ensures sound { OnOk result ((ps : List Placed)
             → StandsAt (lookup (same_key (key_at (view_of view.now).bytes)) self.old) ps
-            → IsFoundOf ps (view_of view.now) None }
-        ensures bounded { IsTrue result → (n : ℕ) → AreBounded n self.old → AreBounded (n + 1) self.new }
-        ensures unchanged { result ≡ false → self.new ≡ self.old }
+            → IsFoundOf ps (view_of view.now) None) }
+        ensures bounded { OnOk result ((n : ℕ) → AreBounded n self.old → AreBounded (n + 1) self.new) }
+        ensures unchanged { OnErr result (self.new ≡ self.old) }
+        ensures learnt { IfErr result (λ lead. IsLearnt lead (view_of view.now)) }
     {
         if view.samples() == 0 {
-            return true;
+            return Ok(());
         }
-        match self.find(view.codes()) {
-            Some(index) => self.channels[index].1.add_sound(view),
-            None => false,
-        }
+        let Some(index) = self.find(view.codes()) else {
+            return Err(None);
+        };
+        self.channels[index].1.add_sound(view)?;
+        Ok(())
     }
 
-    /// Adds a record to its channel, which may be new, and answers what is found of it. Nothing is kept of a silent
-    /// one, and nothing is found of it.
+    /// Adds a record, of which this was learnt, to its channel, which may be new, and answers what is found of it.
+    /// Nothing is kept of a silent one, and nothing is found of it.
     ///
     /// # Errors
     ///
@@ -115,8 +121,10 @@ impl<A: Allocator + Copy> Roster<A> {
         view: &RecordView,
         number: u64,
         offset: u64,
+        lead: Option<Lead>,
     ) -> Result<Option<Why>, Memory>
-        requires { AreBounded (2 ^ 40) self.old }
+        requires bounded { AreBounded (2 ^ 40) self.old }
+        requires learnt { IsLearnt lead (view_of view.now) }
         ensures stands { (key : List ℕ) (ps : List Placed) → StandsAt (lookup (same_key key) self.old) ps
             → OnOk result (StandsAt (lookup (same_key key) self.new)
             (with_record key ps (record { view = view_of view.now; offset = offset; number = number }))) }
@@ -133,7 +141,7 @@ impl<A: Allocator + Copy> Roster<A> {
         }
         let codes = view.codes();
         match self.find(codes) {
-            Some(index) => Ok(self.channels[index].1.add(view, number, offset)),
+            Some(index) => Ok(self.channels[index].1.add(view, number, offset, lead)),
             None => Ok(self.begin(codes, view, number, offset)?),
         }
     }

@@ -204,10 +204,11 @@ fn add_reported<A: Allocator + Copy>(
     ensures { OnOk result (IsAddedAlso lines audit.old audit.new
         (record { view = view_of view.now; offset = offset }) text.old.items text.new.items) }
 {
-    if audit.add_sound(view) {
-        return Ok(());
-    }
-    let why = audit.add_judged(view, offset)?;
+    let lead = match audit.add_sound(view) {
+        Ok(()) => return Ok(()),
+        Err(lead) => lead,
+    };
+    let why = audit.add_learnt(view, offset, lead)?;
     match lines {
         Lines::OfVerdicts => Ok(()),
         Lines::OfRecords => push_reported(text, view, audit.added(), offset, why),

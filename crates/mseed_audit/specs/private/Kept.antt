@@ -1,5 +1,5 @@
 -- Words of what is kept of a channel: no public contract is stated by them.
-use Rattle.std.specs.Prelude.{⊤, ◌≡◌, ◌<◌, ◌≤◌, ◌+◌, ◌*◌, ℕ, suc, Bool, cond, List, [], ◌∷◌, length, Option, Some, None}
+use Rattle.std.specs.Prelude.{⊤, ◌≡◌, ◌<◌, ◌≤◌, ◌+◌, ◌*◌, ℕ, ℤ, suc, Bool, cond, List, [], ◌∷◌, length, Option, Some, None}
 use Rattle.std.specs.List.{All}
 use Rattle.std.specs.Map.{lookup, values_of}
 use Rattle.std.specs.Option.{option_map}
@@ -11,8 +11,11 @@ use Rattle.mseed_record.specs.View.{View}
 use Rattle.mseed_audit.specs.declared.channel.Channel.{Channel}
 use Rattle.mseed_audit.specs.declared.channel.Findings.{Findings}
 use Rattle.mseed_audit.specs.declared.channel.Findings.TheVariants.{Nothing, Counted}
+use Rattle.mseed_steim.specs.declared.fault.ReadFault.{ReadFault}
+use Rattle.mseed_steim.specs.Reading.{IsFault, IsWhole}
 use Rattle.mseed_audit.specs.declared.channel.Judged.{Judged}
 use Rattle.mseed_audit.specs.declared.channel.Judged.TheVariants.{Sound, Faulty}
+use Rattle.mseed_audit.specs.declared.channel.Lead.{Lead}
 use Rattle.mseed_audit.specs.declared.finding.Finding.{Finding}
 use Rattle.mseed_audit.specs.declared.finding.Why.{Why}
 use Rattle.mseed_audit.specs.declared.roster.Place.{Place}
@@ -31,6 +34,21 @@ why_in (Faulty why tail) = Some why
 abbrev pub end_in : Judged → Option Tail
 end_in (Sound tail) = Some tail
 end_in (Faulty why tail) = tail
+
+-- what is wrong with a record's samples, if something is
+abbrev pub IsReadTo : View → Option ReadFault → Type 0
+IsReadTo v None = (samples : List ℤ) × IsWhole v samples
+IsReadTo v (Some fault) = IsFault v fault
+
+-- what was learnt of a record whose time and rate are known
+pub record IsLead (lead : Lead) (v : View) : Type 0 where
+  pub tail : IsTail lead.tail v
+  pub read : IsReadTo v lead.fault
+
+-- the same, where something was learnt
+abbrev pub IsLearnt : Option Lead → View → Type 0
+IsLearnt None v = ⊤
+IsLearnt (Some lead) v = IsLead lead v
 
 -- what is kept of the channel's record before another, where there is one whose time and rate are known
 abbrev pub IsTailBefore : Option Tail → Option View → Type 0

@@ -6,20 +6,18 @@ use Rattle.mseed_audit.specs.private.Gathered.{IsAddedAlso}
 use Rattle.mseed_audit.proofs.Telling.{added_lined, added_sound, added_unlined}
 use Rattle.mseed_audit.proofs.summary.add_reported.Goals as goal
 
-pub returns-then-add_sound : goal.returns-then-add_sound
-returns-then-add_sound g c =
+pub returns-in-Ok : goal.returns-in-Ok
+returns-in-Ok g c =
     let a : Added = record { view = view_of c.args.view.now; offset = c.args.offset } in
-    let sound = c.if-add_sound.true in
     added_sound c.args.lines c.args.audit.now c.add_sound.new.self a c.args.text.now.items
-    (c.add_sound.ensures.number sound) (λ added is. c.add_sound.ensures.adds sound added c.args.offset is)
-    (c.add_sound.ensures.sound sound)
+    c.in-Ok.ensures.number (λ added is. c.in-Ok.ensures.adds added c.args.offset is) c.in-Ok.ensures.sound
 
 pub returns-in-OfRecords : goal.returns-in-OfRecords
 returns-in-OfRecords g c =
     let a : Added = record { view = view_of c.args.view.now; offset = c.args.offset } in
-    subst (λ (h : Held). OnOk c.push_reported.result (IsAddedAlso c.args.lines h c.add_judged.new.self a
-    c.args.text.now.items c.push_reported.new.text.items)) (c.add_sound.ensures.unchanged c.if-add_sound.false)
-    (added_lined c.push_reported.result c.args.lines c.add_sound.new.self c.add_judged.new.self a c.added.result
+    subst (λ (h : Held). OnOk c.push_reported.result (IsAddedAlso c.args.lines h c.add_learnt.new.self a
+    c.args.text.now.items c.push_reported.new.text.items)) c.in-Err.ensures.unchanged
+    (added_lined c.push_reported.result c.args.lines c.add_sound.new.self c.add_learnt.new.self a c.added.result
     c.in_ok-why.why c.args.text.now.items c.push_reported.new.text.items c.in-OfRecords.is
     (c.added.ensures ∙ c.in_ok-why.ensures.number) c.in_ok-why.ensures.number c.in_ok-why.ensures.adds
     c.in_ok-why.ensures.found c.push_reported.ensures)
@@ -27,7 +25,7 @@ returns-in-OfRecords g c =
 pub returns-in-OfVerdicts : goal.returns-in-OfVerdicts
 returns-in-OfVerdicts g c =
     let a : Added = record { view = view_of c.args.view.now; offset = c.args.offset } in
-    subst (λ (h : Held). IsAddedAlso c.args.lines h c.add_judged.new.self a c.args.text.now.items
-    c.args.text.now.items) (c.add_sound.ensures.unchanged c.if-add_sound.false)
-    (added_unlined c.args.lines c.add_sound.new.self c.add_judged.new.self a c.in_ok-why.why c.args.text.now.items
+    subst (λ (h : Held). IsAddedAlso c.args.lines h c.add_learnt.new.self a c.args.text.now.items
+    c.args.text.now.items) c.in-Err.ensures.unchanged
+    (added_unlined c.args.lines c.add_sound.new.self c.add_learnt.new.self a c.in_ok-why.why c.args.text.now.items
     c.in-OfVerdicts.is c.in_ok-why.ensures.number c.in_ok-why.ensures.adds c.in_ok-why.ensures.found)

@@ -27,7 +27,7 @@ index_mut-requires g c =
 pub add-requires-clause-bounded : goal.add-requires-clause-bounded
 add-requires-clause-bounded g c =
     let there = is_there c.codes-codes.result _ _ _ _ c.self.view_is c.find.ensures.stays c.in-Some.ensures.place in
-    there_bounded (2 ^ 40) _ _ _ _ _ there c.index_mut.ensures.value c.requires
+    there_bounded (2 ^ 40) _ _ _ _ _ there c.index_mut.ensures.value c.requires.bounded
 
 pub invariant_of-self : goal.invariant_of-self
 invariant_of-self g c =

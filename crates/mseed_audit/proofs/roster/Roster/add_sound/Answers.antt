@@ -21,20 +21,25 @@ invariant_of-self g c =
     let there = is_there c.codes.result _ _ _ _ c.self.view_is c.find.ensures.stays c.in-Some.ensures.place in
     there_places _ _ _ _ _ _ _ _ there c.index_mut.ensures.value c.self.invariant
 
-pub returns-in-Some-clause-stands : goal.returns-in-Some-clause-stands
-returns-in-Some-clause-stands g c = λ sound key ps offset number s.
+pub invariant_of-self-2 : goal.invariant_of-self-2
+invariant_of-self-2 g c =
+    let there = is_there c.codes.result _ _ _ _ c.self.view_is c.find.ensures.stays c.in-Some.ensures.place in
+    there_places _ _ _ _ _ _ _ _ there c.index_mut.ensures.value c.self.invariant
+
+pub returns-clause-stands : goal.returns-clause-stands
+returns-clause-stands g c = λ key ps offset number s.
     let there = is_there c.codes.result _ _ _ _ c.self.view_is c.find.ensures.stays c.in-Some.ensures.place in
     there_stands _ _ _ _ _ _ (record { view = view_of c.args.view.now; offset = offset; number = number })
     there c.index_mut.ensures.value c.codes.ensures (search rules)
-    (λ qs stands. c.add_sound.ensures.stands sound qs offset number stands) key ps s
+    (λ qs stands. c.in_ok-add_sound.ensures.stands qs offset number stands) key ps s
 
-pub returns-in-Some-clause-bounded : goal.returns-in-Some-clause-bounded
-returns-in-Some-clause-bounded g c = λ sound n all.
+pub returns-clause-bounded : goal.returns-clause-bounded
+returns-clause-bounded g c = λ n all.
     let there = is_there c.codes.result _ _ _ _ c.self.view_is c.find.ensures.stays c.in-Some.ensures.place in
-    there_more n _ _ _ _ _ _ there c.index_mut.ensures.value (c.add_sound.ensures.bounded sound n) all
+    there_more n _ _ _ _ _ _ there c.index_mut.ensures.value (c.in_ok-add_sound.ensures.bounded n) all
 
-pub returns-in-Some-clause-sound : goal.returns-in-Some-clause-sound
-returns-in-Some-clause-sound g c = λ sound ps s.
+pub returns-clause-sound : goal.returns-clause-sound
+returns-clause-sound g c = λ ps s.
     let there = is_there c.codes.result _ _ _ _ c.self.view_is c.find.ensures.stays c.in-Some.ensures.place in
     there_found _ _ _ _ _ (view_of c.args.view.now) None ps there c.index_mut.ensures.value c.codes.ensures
-    (search rules) (c.add_sound.ensures.sound sound) s
+    (search rules) c.in_ok-add_sound.ensures.sound s

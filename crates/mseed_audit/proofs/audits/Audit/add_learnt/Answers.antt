@@ -4,7 +4,7 @@ use Rattle.mseed_record.specs.Viewing.{view_of}
 use Rattle.mseed_audit.specs.Audit.{Held, IsAuditOf}
 use Rattle.mseed_audit.specs.Channels.{records_of}
 use Rattle.mseed_audit.proofs.More.{audit_more}
-use Rattle.mseed_audit.proofs.audits.Audit.add_judged.Goals as goal
+use Rattle.mseed_audit.proofs.audits.Audit.add_learnt.Goals as goal
 
 pub invariant_of-self-2 : goal.invariant_of-self-2
 invariant_of-self-2 g c = c.add.ensures.bounded c.self.inside.added c.self.invariant
