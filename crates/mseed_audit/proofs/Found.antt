@@ -12,7 +12,8 @@ use Rattle.mseed_audit.specs.Audit.{Stands, StandsAt}
 use Rattle.mseed_audit.specs.Channels.{Placed, same_key, with_record}
 use Rattle.mseed_audit.specs.Judging.{IsFound}
 use Rattle.mseed_audit.specs.Reported.{IsFoundOf, last_of}
-use Rattle.mseed_audit.specs.private.Kept.{AreBounded, ArePlaces, IsBounded, IsPlace, place_of}
+use Rattle.mseed_audit.specs.private.Kept.{AreApart, AreBounded, ArePlaces, IsBounded, IsPlace, place_of}
+use Rattle.mseed_audit.proofs.Apart.{apart_set}
 use Rattle.mseed_audit.proofs.Lasts.{found_kept}
 use Rattle.mseed_audit.proofs.Rosters.{bounded_at, found_at, place_set, place_within, places_set, set_bounded}
 use Rattle.mseed_audit.proofs.Rosters.{set_found, set_stands}
@@ -61,14 +62,17 @@ there_more n code es old i e after there at more all =
 -- each channel stays where it stood
 pub there_places : {Room : Type 0} (places : List (List ℕ × ℕ)) (last : Option Place) (code : List ℕ)
     (es old : List (List ℕ × Channel)) (i : ℕ) (e : List ℕ × Channel) (after : Channel) → IsThere code es old i
-    → e ≡ get_or es i e → ArePlaces places es × Room × IsPlace last es
+    → e ≡ get_or es i e → ArePlaces places es × Room × IsPlace last es × AreApart es
     → ArePlaces places (set es i (e.0, after)) × Room × IsPlace last (set es i (e.0, after))
+    × AreApart (set es i (e.0, after))
 there_places places last code es old i e after there at is = (
   there_set code es old i e after (λ (fs : List (List ℕ × Channel)). ArePlaces places fs) there at
       (places_set places (same_key code) es after is.0),
   is.1,
   there_set code es old i e after (λ (fs : List (List ℕ × Channel)). IsPlace last fs) there at
       (place_set last (same_key code) es after is.2),
+  there_set code es old i e after (λ (fs : List (List ℕ × Channel)). AreApart fs) there at
+      (apart_set (same_key code) es after is.3),
 )
 
 -- what is kept of each channel

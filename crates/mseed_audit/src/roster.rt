@@ -1,7 +1,7 @@
 //! What is kept of each channel while records come.
 ghost use Rattle.std.specs.Prelude.{◌≡◌, ◌↔◌, ◌⊎◌, ◌+◌, ◌<◌, ◌^◌, List, ℕ, [], ◌∷◌, ◌++◌, OnOk};
 ghost use Rattle.std.specs.Prelude.{OnErr, IfOk, IfErr, IsOk};
-ghost use Rattle.std.specs.Prelude.{IsSome, IsTrue, Option, Some, None};
+ghost use Rattle.std.specs.Prelude.{IfSome, IsSome, IsTrue, Option, Some, None};
 ghost use Rattle.mseed_record.specs.Header.{key_at};
 ghost use Rattle.mseed_record.specs.Viewing.{view_of};
 ghost use Rattle.mseed_steim.specs.Reading.{count_of};
@@ -34,7 +34,7 @@ pub(crate) struct Place {
 }
 
 /// What is kept of each channel, in the order in which they came. A record of the channel that came last is added
-/// without a search, and each other by one.
+/// without a search, and so is one of the channel that came first behind that one; each other by a search.
 ///
 /// Contracts see a roster as the list of its channels, each with its key.
 #[derive(Drop)]
@@ -51,14 +51,14 @@ pub(crate) struct Roster<A: Allocator = Global> {
 impl<A: Allocator> Model for Roster<A> {
     ghost use Rattle.std.specs.Prelude.{List, ℕ};
     ghost use Rattle.mseed_audit.specs.declared.channel.Channel.{Channel};
-    ghost use Rattle.mseed_audit.specs.private.Kept.{ArePlaces, HasRoom, IsPlace};
+    ghost use Rattle.mseed_audit.specs.private.Kept.{AreApart, ArePlaces, HasRoom, IsPlace};
 
     ghost Value = { List (List ℕ × Channel) };
 
     ghost view = { λ r. r.channels.items };
 
     ghost invariant = { λ r. ArePlaces r.places.entries r.channels.items × HasRoom r.places.entries r.verdicts
-        × IsPlace r.last r.channels.items };
+        × IsPlace r.last r.channels.items × AreApart r.channels.items };
 }
 
 impl<A: Allocator + Copy> Roster<A> {
@@ -177,8 +177,25 @@ impl<A: Allocator + Copy> Roster<A> {
             if last.codes == codes {
                 return Some(last.index);
             }
+            if let Some(index) = self.behind(last.index, codes) {
+                self.last = Some(Place { codes, index });
+                return Some(index);
+            }
         }
         self.search(codes)
+    }
+
+    /// Where a channel stands, if it came first behind the one at an index, or first of all where that one came last.
+    #[inline(always)]
+    fn behind(&self, index: usize, codes: Codes) -> Option<usize>
+        ensures { IfSome result (λ i. place_of (same_key codes) self.now ≡ Some i) }
+    {
+        let next = index.saturating_add(1);
+        let next = if next < self.channels.len() { next } else { 0 };
+        match self.channels.get(next) {
+            Some((key, _)) if *key == codes => Some(next),
+            _ => None,
+        }
     }
 
     /// The same by a search of the map.

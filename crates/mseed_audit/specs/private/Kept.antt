@@ -91,6 +91,11 @@ pub record ArePlaces (places : List (List ℕ × ℕ)) (channels : List (List �
   pub each : (key : List ℕ) → lookup (same_key key) places ≡ place_of (same_key key) channels
   pub within : All (λ i. i < length channels) (values_of places)
 
+-- no two of the channels have the same key
+abbrev pub AreApart : List (List ℕ × Channel) → Type 0
+AreApart [] = ⊤
+AreApart (e ∷ es) = (place_of (same_key e.0) es ≡ None) × AreApart es
+
 -- a channel stands there
 abbrev pub IsPlace : Option Place → List (List ℕ × Channel) → Type 0
 IsPlace None channels = ⊤

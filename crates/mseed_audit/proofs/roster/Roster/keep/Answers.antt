@@ -6,7 +6,8 @@ use Rattle.std.specs.List.{All}
 use Rattle.std.specs.Map.{lookup, values_of}
 use Rattle.mseed_audit.specs.declared.channel.Channel.{Channel}
 use Rattle.mseed_audit.specs.Channels.{same_key}
-use Rattle.mseed_audit.specs.private.Kept.{ArePlaces, place_of}
+use Rattle.mseed_audit.specs.private.Kept.{AreApart, ArePlaces, place_of}
+use Rattle.mseed_audit.proofs.Apart.{apart_push}
 use Rattle.mseed_audit.proofs.Maps.{same_itself}
 use Rattle.mseed_audit.proofs.Rosters.{no_place, place_behind, places_more, all_below}
 use Rattle.mseed_audit.proofs.roster.Roster.keep.Goals as goal
@@ -43,4 +44,6 @@ invariant_of-self-2 g c =
       subst (λ (fs : List (List ℕ × Channel)). ArePlaces after fs) (sym items) are,
       search rules,
       subst (λ (fs : List (List ℕ × Channel)). place_of (same_key code) fs ≡ Some c.len-index.result) (sym items) place,
+      subst (λ (fs : List (List ℕ × Channel)). AreApart fs) (sym items)
+          (apart_push old (code, c.args.channel) c.self.invariant.3 (no_place (same_key code) old none)),
     )
