@@ -6,9 +6,9 @@ ghost use Rattle.slink_feed.specs.Window.{Shows};
 use mseed_stream::{Duplex, Sink};
 use slink_feed::{
     Bytes, Client, Event, Feed, FeedFault, LinkFault, Mode, Ring, RingFault, Room, Sent, Session,
-    Teller, Turn, fetch_turn, fetch_turn_in, fetch_turn_telling, serve_turn,
+    Teller, Turn, Unsent, fetch_turn, fetch_turn_in, fetch_turn_telling, serve_turn,
 };
-use slink_wire::{Place, Reply};
+use slink_wire::{Packet, Place, Reply};
 use std::alloc::Global;
 
 /// A ring of the last 1,000 records of a place, of which the first has the number 0.
@@ -85,6 +85,20 @@ pub fn next_packet(session: &mut Session, feed: &Feed) -> Option<[u8; 520]>
     match session.packet(feed, 0) {
         Sent::Packet(packet) => Some(packet),
         Sent::Wait | Sent::Done | Sent::Overrun | Sent::Closed => None,
+    }
+}
+
+/// Makes the next packet of the first place where it is to lie, if one is due.
+pub fn put_next_packet(session: &mut Session, feed: &Feed, room: &mut [u8; 520]) -> bool
+    requires some { 0 < length feed.now }
+    requires fits { Fits feed.now session.old.state }
+{
+    match session.next_record(feed, 0) {
+        Ok((number, record)) => {
+            Packet::put(room, number, record);
+            true
+        }
+        Err(Unsent::Wait | Unsent::Done | Unsent::Overrun | Unsent::Closed) => false,
     }
 }
 

@@ -16,6 +16,8 @@ use Rattle.slink_feed.specs.declared.session.Phase.{Phase}
 use Rattle.slink_feed.specs.declared.session.Phase.TheVariants.{Fresh, Chosen, Granted, Streaming, Closed}
 use Rattle.slink_feed.specs.declared.session.Sent.{Sent}
 use Rattle.slink_feed.specs.declared.session.Sent.TheVariants as Sents
+use Rattle.slink_feed.specs.declared.session.Unsent.{Unsent}
+use Rattle.slink_feed.specs.declared.session.Unsent.TheVariants as Unsents
 use Rattle.slink_feed.specs.Grant.{grant_of, is_fetch}
 use Rattle.slink_feed.specs.Rings.{station_at}
 use Rattle.slink_feed.specs.Window.{Window, record_at}
@@ -173,6 +175,13 @@ sent_bytes Sents.Done = codes "END"
 sent_bytes Sents.Wait = []
 sent_bytes Sents.Overrun = []
 sent_bytes Sents.Closed = []
+
+-- what is sent where no record is
+abbrev pub sent_without : Unsent → Sent
+sent_without Unsents.Wait = Sents.Wait
+sent_without Unsents.Done = Sents.Done
+sent_without Unsents.Overrun = Sents.Overrun
+sent_without Unsents.Closed = Sents.Closed
 
 -- before records are sent
 abbrev pub IsBefore : Phase → Type 0

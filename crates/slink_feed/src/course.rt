@@ -1,5 +1,5 @@
 //! Where a session stands: which commands it answers how, and which packets it sends.
-ghost use Rattle.std.specs.Prelude.{◌≡◌, ◌≢◌, ◌⊎◌, ◌≤◌, ◌<◌, List, ℕ, None, IfNone, IfSome};
+ghost use Rattle.std.specs.Prelude.{◌≡◌, ◌≢◌, ◌⊎◌, ◌≤◌, ◌<◌, List, ℕ, None, IfErr, IfNone, IfOk, IfSome};
 ghost use Rattle.std.specs.Prelude.{◌^◌, Some, length, replicate, slice_get};
 ghost use Rattle.std.specs.Bool.{OnFalse, OnTrue};
 ghost use Rattle.std.specs.Option.{ForSome};
@@ -10,12 +10,13 @@ ghost use Rattle.slink_feed.specs.declared.session.Sent.{Sent};
 ghost use Rattle.slink_feed.specs.Serving.{IsAnswer};
 ghost use Rattle.slink_feed.specs.Session.{AreReached, Fits, all_done, answered, called, at, at_next, chosen, ended};
 ghost use Rattle.slink_feed.specs.Session.{grant_at, in_chosen, in_fresh, in_granted, in_streaming, is_done, sent};
+ghost use Rattle.slink_feed.specs.Session.{sent_without};
 ghost use Rattle.slink_feed.specs.Window.{record_at};
 
 use crate::feed::Feed;
 use crate::grant::{Grant, Mode, first_granted};
 use crate::ring::SPAN;
-use crate::session::{Phase, Sent};
+use crate::session::{Phase, Sent, Unsent};
 use slink_wire::{Command, Packet, Reply, What};
 use std::alloc::Allocator;
 use std::marker::Model;
@@ -77,35 +78,67 @@ impl Course {
         ensures few { (bytes : List ℕ) → result ≡ Sent.Packet bytes
             → ForSome (slice_get feed.now k) (λ w. length w.records ≤ 1000000) }
     {
-        match self.phase {
-            Phase::Fresh | Phase::Chosen(_) | Phase::Granted(_) => Sent::Wait,
-            Phase::Streaming => match self.grant_of(k) {
-                Some(grant) => self.packet_from(feed, k, grant),
-                None => Sent::Wait,
-            },
-            Phase::Closed => Sent::Closed,
+        match self.next_record(feed, k) {
+            Ok((number, bytes)) => Sent::Packet(Packet::write(number, bytes)),
+            Err(unsent) => unsent.sent(),
         }
     }
 
-    /// The packet at a grant's position.
-    fn packet_from<A: Allocator>(&mut self, feed: &Feed<A>, k: usize, grant: Grant) -> Sent
+    /// The record of the next packet of the place at an index of the feed, with its number modulo 2^24.
+    ///
+    /// # Errors
+    ///
+    /// Why no record is sent.
+    pub(crate) fn next_record<'f, A: Allocator>(
+        &mut self,
+        feed: &'f Feed<A>,
+        k: usize,
+    ) -> Result<(u32, &'f [u8; 512]), Unsent>
+        requires in_range { k < length feed.now }
+        requires fits { Fits feed.now self.old }
+        ensures sent { IfOk result (λ r. sent feed.now self.old k
+            ≡ (self.new, Sent.Packet (packet_bytes r.0 r.1.now))) }
+        ensures unsent { IfErr result (λ e. sent feed.now self.old k ≡ (self.new, sent_without e)) }
+        ensures number { IfOk result (λ r. r.0 < 2 ^ 24) }
+        ensures fits { Fits feed.now self.new }
+        ensures few { IfOk result (λ _. ForSome (slice_get feed.now k) (λ w. length w.records ≤ 1000000)) }
+    {
+        match self.phase {
+            Phase::Fresh | Phase::Chosen(_) | Phase::Granted(_) => Err(Unsent::Wait),
+            Phase::Streaming => match self.grant_of(k) {
+                Some(grant) => self.next_from(feed, k, grant),
+                None => Err(Unsent::Wait),
+            },
+            Phase::Closed => Err(Unsent::Closed),
+        }
+    }
+
+    /// The record at a grant's position, or why none is sent.
+    fn next_from<'f, A: Allocator>(
+        &mut self,
+        feed: &'f Feed<A>,
+        k: usize,
+        grant: Grant,
+    ) -> Result<(u32, &'f [u8; 512]), Unsent>
         requires in_range { k < length feed.now }
         requires phase { self.old.phase ≡ Phase.Streaming }
         requires granted { grant_at self.old.grants k ≡ Some grant }
         requires fits { AreReached feed.now self.old.grants }
-        ensures sent { sent feed.now self.old k ≡ (self.new, result) }
+        ensures sent { IfOk result (λ r. sent feed.now self.old k
+            ≡ (self.new, Sent.Packet (packet_bytes r.0 r.1.now))) }
+        ensures unsent { IfErr result (λ e. sent feed.now self.old k ≡ (self.new, sent_without e)) }
+        ensures number { IfOk result (λ r. r.0 < 2 ^ 24) }
         ensures fits { Fits feed.now self.new }
-        ensures few { (bytes : List ℕ) → result ≡ Sent.Packet bytes
-            → ForSome (slice_get feed.now k) (λ w. length w.records ≤ 1000000) }
+        ensures few { IfOk result (λ _. ForSome (slice_get feed.now k) (λ w. length w.records ≤ 1000000)) }
     {
         if grant.position == feed.ring(k).next() {
-            return self.at_next(feed);
+            return Err(self.at_next(feed));
         }
         match self.record_from(feed, k, grant) {
-            Some((number, bytes)) => Sent::Packet(Packet::write(number, bytes)),
+            Some(record) => Ok(record),
             None => {
                 self.phase = Phase::Closed;
-                Sent::Overrun
+                Err(Unsent::Overrun)
             }
         }
     }
@@ -168,17 +201,16 @@ impl Course {
     }
 
     /// Closes where all that was granted is fetched.
-    fn at_next<A: Allocator>(&mut self, feed: &Feed<A>) -> Sent
-        ensures sent { at_next (all_done feed.now self.old.grants) self.old ≡ (self.new, result) }
+    fn at_next<A: Allocator>(&mut self, feed: &Feed<A>) -> Unsent
+        ensures sent { at_next (all_done feed.now self.old.grants) self.old ≡ (self.new, sent_without result) }
         ensures grants { self.new.grants ≡ self.old.grants }
         ensures phase { (self.new.phase ≡ self.old.phase) ⊎ (self.new.phase ≡ Phase.Closed) }
-        ensures none { (bytes : List ℕ) → result ≢ Sent.Packet bytes }
     {
         if !self.is_done(feed) {
-            return Sent::Wait;
+            return Unsent::Wait;
         }
         self.phase = Phase::Closed;
-        Sent::Done
+        Unsent::Done
     }
 
     /// Whether all that was granted is fetched.

@@ -31,6 +31,6 @@ pub use law::{
 pub use reported::wants_move_by_records;
 pub use ring::{Ring, RingFault};
 pub use serving::serve_turn;
-pub use session::{Phase, Sent, Session};
+pub use session::{Phase, Sent, Session, Unsent};
 pub use teller::Teller;
 pub use turn::{LinkFault, Turn};

@@ -1,6 +1,6 @@
 //! The session that serves one connection.
 ghost use Rattle.std.specs.Prelude.{◌≡◌, ◌≢◌, ◌≤◌, ◌<◌, ◌++◌, List, ℕ, [], None, length, option_map, replicate};
-ghost use Rattle.std.specs.Prelude.{◌^◌, IfNone, IfSome, slice_get, take};
+ghost use Rattle.std.specs.Prelude.{◌^◌, IfErr, IfNone, IfOk, IfSome, slice_get, take};
 ghost use Rattle.std.specs.Bool.{OnFalse, OnTrue};
 ghost use Rattle.std.specs.Option.{ForSome};
 ghost use Rattle.slink_wire.specs.Lines.{IsHeld, TellsNothing};
@@ -9,7 +9,7 @@ ghost use Rattle.slink_feed.specs.declared.grant.Grant.{Grant};
 ghost use Rattle.slink_feed.specs.Window.{Window};
 ghost use Rattle.slink_feed.specs.Running.{Stands};
 ghost use Rattle.slink_feed.specs.Serving.{Answers, TakesWhole};
-ghost use Rattle.slink_feed.specs.Session.{Fits, at, grant_at, sent, sent_bytes};
+ghost use Rattle.slink_feed.specs.Session.{Fits, at, grant_at, sent, sent_bytes, sent_without};
 
 use crate::course::Course;
 use crate::feed::Feed;
@@ -45,6 +45,33 @@ pub enum Sent {
     Overrun,
     /// The session was closed already.
     Closed,
+}
+
+/// Why no record is sent when a packet of a place is requested.
+#[derive(Clone, Copy, Debug, PartialEq, Eq)]
+pub enum Unsent {
+    /// There is none now.
+    Wait,
+    /// All that was requested was sent: the session is closed, and `END` is to be sent.
+    Done,
+    /// The next record has left the ring: the session is closed.
+    Overrun,
+    /// The session was closed already.
+    Closed,
+}
+
+impl Unsent {
+    /// What a session sends in its place.
+    pub(crate) fn sent(self) -> Sent
+        ensures { result ≡ sent_without self }
+    {
+        match self {
+            Unsent::Wait => Sent::Wait,
+            Unsent::Done => Sent::Done,
+            Unsent::Overrun => Sent::Overrun,
+            Unsent::Closed => Sent::Closed,
+        }
+    }
 }
 
 impl Sent {
@@ -141,6 +168,32 @@ impl Session {
             → ForSome (slice_get feed.now k) (λ w. length w.records ≤ 1000000) }
     {
         self.course.packet(feed, k)
+    }
+
+    /// The record of the next packet of the place at an index of the feed, with its number modulo 2^24: the session goes
+    /// on as by [`Session::packet`], and the ring lends the record, so that its packet can be made where it is to lie.
+    ///
+    /// It is lent the same feed at every call, whose rings keep their indices.
+    ///
+    /// # Errors
+    ///
+    /// Why no record is sent.
+    pub fn next_record<'f, A: Allocator>(
+        &mut self,
+        feed: &'f Feed<A>,
+        k: usize,
+    ) -> Result<(u32, &'f [u8; 512]), Unsent>
+        requires in_range { k < length feed.now }
+        requires fits { Fits feed.now self.old.state }
+        ensures sent { IfOk result (λ r. sent feed.now self.old.state k
+            ≡ (self.new.state, Sent.Packet (packet_bytes r.0 r.1.now))) }
+        ensures unsent { IfErr result (λ e. sent feed.now self.old.state k ≡ (self.new.state, sent_without e)) }
+        ensures number { IfOk result (λ r. r.0 < 2 ^ 24) }
+        ensures held { self.new.held ≡ self.old.held }
+        ensures fits { Fits feed.now self.new.state }
+        ensures stands { Stands self.new }
+    {
+        self.course.next_record(feed, k)
     }
 
     /// The record that is sent now of the place at an index of the feed, with its number modulo 2^24, lent by the ring.

@@ -7,7 +7,6 @@ returns-then-not-is_done g c = record {
   sent = ap (λ b. at_next b c.args.self.now) (sym c.is_done.ensures ∙ c.if-not-is_done.true);
   grants = refl;
   phase = inl refl;
-  none = λ bytes e. cc;
 }
 
 pub returns : goal.returns
@@ -16,5 +15,4 @@ returns g c = record {
       ∙ ap (λ (s : State). at_next true s) (sym c.self.view_is);
   grants = ap (λ (s : State). s.grants) c.self.view_is;
   phase = inr refl;
-  none = λ bytes e. cc;
 }

@@ -1,15 +1,15 @@
-use Rattle.std.proofs.Common.{arith}
-use Rattle.std.proofs.lemmas.Grind.{common_steps}
+use Rattle.std.proofs.Common.{◌≡◌, ◌≢◌, ℕ, List, ◌∙◌, sym}
+use Rattle.slink_feed.specs.declared.session.Sent.TheVariants.{Packet}
+use Rattle.slink_feed.specs.declared.session.Unsent.{Unsent}
+use Rattle.slink_feed.specs.declared.session.Unsent.TheVariants as Unsents
+use Rattle.slink_feed.specs.Session.{sent_without}
 use Rattle.slink_feed.proofs.course.Course.packet.Goals as goal
 
-pub returns-in-Some-clause-sent : goal.returns-in-Some-clause-sent
-returns-in-Some-clause-sent g c = c.packet_from.ensures.sent
+no_packet : (unsent : Unsent) (bytes : List ℕ) → sent_without unsent ≢ Packet bytes
+no_packet Unsents.Wait bytes e = cc e
+no_packet Unsents.Done bytes e = cc e
+no_packet Unsents.Overrun bytes e = cc e
+no_packet Unsents.Closed bytes e = cc e
 
-pub returns-in-Fresh : goal.returns-in-Fresh
-returns-in-Fresh g c = grind (arith, common_steps)
-
-pub returns-in-Some-clause-fits : goal.returns-in-Some-clause-fits
-returns-in-Some-clause-fits g c = c.packet_from.ensures.fits
-
-pub returns-in-Some-clause-few : goal.returns-in-Some-clause-few
-returns-in-Some-clause-few g c = c.packet_from.ensures.few
+pub returns-in-Err-clause-few : goal.returns-in-Err-clause-few
+returns-in-Err-clause-few g c bytes e = absurd (no_packet c.in-Err.unsent bytes (sym c.sent.ensures ∙ e))

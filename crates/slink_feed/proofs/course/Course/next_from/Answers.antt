@@ -1,10 +1,10 @@
 use Rattle.std.proofs.Common.{◌∙◌, None, ap, inl, inr, subst, sym}
 use Rattle.slink_feed.specs.Session.{AreReached, IsChosenOf, State, packet_at}
 use Rattle.slink_feed.proofs.Reached.{sent_at_next, sent_by_record}
-use Rattle.slink_feed.proofs.course.Course.packet_from.Goals as goal
+use Rattle.slink_feed.proofs.course.Course.next_from.Goals as goal
 
-pub returns-then-grant-next-clause-sent : goal.returns-then-grant-next-clause-sent
-returns-then-grant-next-clause-sent g c =
+pub returns-then-grant-next-clause-unsent : goal.returns-then-grant-next-clause-unsent
+returns-then-grant-next-clause-unsent g c =
     sent_at_next c.args.feed.now c.args.self.now c.args.k c.args.grant c.ring.result.now c.next.result
     c.requires.phase c.requires.granted c.ring.ensures.ring c.next.ensures.value c.if-grant-next.true
     ∙ c.at_next.ensures.sent
@@ -18,17 +18,20 @@ returns-then-grant-next-clause-fits g c = (
   subst (AreReached c.args.feed.now) (sym c.at_next.ensures.grants) c.requires.fits,
 )
 
-pub returns-then-grant-next-clause-few : goal.returns-then-grant-next-clause-few
-returns-then-grant-next-clause-few g c bytes e = absurd (c.at_next.ensures.none bytes e)
+pub returns-in-Some-clause-sent : goal.returns-in-Some-clause-sent
+returns-in-Some-clause-sent g c = c.in-Some.ensures.sent
+
+pub returns-in-Some-clause-number : goal.returns-in-Some-clause-number
+returns-in-Some-clause-number g c = c.in-Some.ensures.number
 
 pub returns-in-Some-clause-fits : goal.returns-in-Some-clause-fits
 returns-in-Some-clause-fits g c = c.in-Some.ensures.fits
 
 pub returns-in-Some-clause-few : goal.returns-in-Some-clause-few
-returns-in-Some-clause-few g c bytes e = c.in-Some.ensures.few
+returns-in-Some-clause-few g c = c.in-Some.ensures.few
 
-pub returns-in-None-clause-sent : goal.returns-in-None-clause-sent
-returns-in-None-clause-sent g c =
+pub returns-in-None-clause-unsent : goal.returns-in-None-clause-unsent
+returns-in-None-clause-unsent g c =
     sent_by_record c.args.feed.now c.args.self.now c.args.k c.args.grant c.ring.result.now None c.requires.phase
     c.requires.granted c.ring.ensures.ring
     (sym (c.in-None.ensures.gone c.ring.result.now c.ring.ensures.ring))
