@@ -1,3 +1,4 @@
 pub mod Cutting
 pub mod Calling
 pub mod Keeping
+pub mod Waiting

@@ -6,6 +6,7 @@ mod intake;
 mod law;
 mod link;
 mod log;
+mod pending;
 mod ready;
 mod server;
 

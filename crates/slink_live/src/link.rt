@@ -2,19 +2,13 @@
 ghost use Rattle.std.specs.Prelude.{◌≡◌, ◌+◌, ◌*◌, ◌<◌, ◌≤◌, [], ◌++◌, drop, length, List};
 ghost use Rattle.std.specs.Bool.{OnTrue};
 ghost use Rattle.slink_feed.specs.Serving.{Serves};
-ghost use Rattle.slink_feed.specs.Session.{Fits, sent_bytes};
+ghost use Rattle.slink_feed.specs.Session.{Fits, sent_bytes, sent_without};
 ghost use Rattle.slink_feed.specs.Window.{Window};
 ghost use Rattle.slink_live.specs.Story.{Asks, IsNew};
 
-use arrayvec::ArrayVec;
-use slink_feed::{Feed, Sent, Session};
+use crate::pending::{PACKET, Pending, ROOM};
+use slink_feed::{Feed, Session, Unsent};
 use std::marker::Model;
-
-/// The most bytes that wait to be written: twelve packets.
-const ROOM: usize = 6_240;
-
-/// So many bytes has a packet.
-const PACKET: usize = 520;
 
 /// No reply has more bytes.
 const REPLY: usize = 35;
@@ -29,11 +23,11 @@ const ASKS: u32 = 208;
 #[derive(Drop)]
 pub(crate) struct Link {
     session: Session,
-    pending: ArrayVec<u8, 6240>,
     // The place that is next.
     place: usize,
     // The session is closed.
     is_over: bool,
+    pending: Pending,
 }
 
 impl Model for Link {
@@ -41,19 +35,7 @@ impl Model for Link {
 
     ghost Value = { LinkState };
 
-    ghost view = { λ l. link_state l.session l.pending.items };
-}
-
-/// The bytes that are to be written for what a session sends.
-fn bytes_of(sent: &Sent) -> &[u8]
-    ensures bytes { result.now ≡ sent_bytes sent.now }
-    ensures few { length result.now ≤ 520 }
-{
-    match sent {
-        Sent::Packet(bytes) => bytes,
-        Sent::Done => b"END",
-        Sent::Wait | Sent::Overrun | Sent::Closed => b"",
-    }
+    ghost view = { λ l. link_state l.session l.pending.bytes };
 }
 
 impl Link {
@@ -65,9 +47,9 @@ impl Link {
     {
         Link {
             session: Session::new(),
-            pending: ArrayVec::new(),
             place: 0,
             is_over: false,
+            pending: Pending::new(),
         }
     }
 
@@ -137,10 +119,7 @@ impl Link {
         requires { length self.old.pending + length bytes.now ≤ 6240 }
         ensures { self.new ≡ record self.old { pending = self.old.pending ++ bytes.now } }
     {
-        match self.pending.try_extend_from_slice(bytes) {
-            Ok(()) => {}
-            Err(_) => unreachable!(),
-        }
+        self.pending.say(bytes);
     }
 
     /// Asks the session for packets, round and round of the places, as many as there is room for.
@@ -176,10 +155,25 @@ impl Link {
             0
         };
         self.place = k + 1;
-        let sent = self.session.packet(feed, k);
-        self.say(bytes_of(&sent));
-        self.is_over = matches!(&sent, Sent::Done | Sent::Overrun | Sent::Closed);
-        sent != Sent::Wait
+        match self.session.next_record(feed, k) {
+            Ok((number, record)) => {
+                self.pending.say_packet(number, record);
+                true
+            }
+            Err(unsent) => self.end_by(unsent),
+        }
+    }
+
+    /// Says what a session does that sends no record, and answers whether it is over.
+    fn end_by(&mut self, unsent: Unsent) -> bool
+        requires { length self.old.pending + 520 ≤ 6240 }
+        ensures { self.new ≡ record self.old { pending = self.old.pending ++ sent_bytes (sent_without unsent) } }
+    {
+        if unsent == Unsent::Done {
+            self.say(b"END");
+        }
+        self.is_over = unsent != Unsent::Wait;
+        self.is_over
     }
 
     /// So many bytes were taken by the link.
@@ -187,11 +181,6 @@ impl Link {
         requires { count ≤ length self.old.pending }
         ensures { self.new ≡ record self.old { pending = drop count self.old.pending } }
     {
-        let mut rest = ArrayVec::new();
-        match rest.try_extend_from_slice(&self.pending.as_slice()[count..]) {
-            Ok(()) => {}
-            Err(_) => unreachable!(),
-        }
-        self.pending = rest;
+        self.pending.taken(count);
     }
 }

@@ -56,23 +56,23 @@ loop-start-preserved c =
       answers = c.take-used.ensures.answers;
       closed = λ shut. ((c.take-used.ensures.closed shut).1, (c.take-used.ensures.closed shut).2);
     } in
-    let before : Leads feed s bytes way start c.self.inside.session c.self.inside.pending.items =
+    let before : Leads feed s bytes way start c.self.inside.session c.self.inside.pending.bytes =
     subst (λ (x : LinkState). Leads feed s bytes way start x.session x.pending) (sym c.self.view_is)
     c.loop-start.invariant.leads in
     let after : Leads feed s bytes way (start + used) c.take-used.new.self
-    (c.self.inside.pending.items ++ reply_bytes reply) =
-    leads_on feed s c.self.inside.session c.take-used.new.self bytes way c.self.inside.pending.items start used reply
+    (c.self.inside.pending.bytes ++ reply_bytes reply) =
+    leads_on feed s c.self.inside.session c.take-used.new.self bytes way c.self.inside.pending.bytes start used reply
     before takes in
-    let produced : length c.say.new.self.pending ≡ length c.self.inside.pending.items + length c.bytes.result.now =
+    let produced : length c.say.new.self.pending ≡ length c.self.inside.pending.bytes + length c.bytes.result.now =
     ap (λ (x : LinkState). length x.pending) c.say.ensures
-    ∙ length-append c.self.inside.pending.items c.bytes.result.now in
+    ∙ length-append c.self.inside.pending.bytes c.bytes.result.now in
     let short : length c.bytes.result.now ≤ 35 =
     subst (λ (x : List ℕ). length x ≤ 35) (sym c.bytes.ensures) (reply_short reply) in
     record {
       within = omega (arith, long, c.take-used.ensures.bound, c.loop-start-test.true);
       leads = subst (λ (x : LinkState). Leads feed s bytes way (start + used) x.session x.pending) (sym c.say.ensures)
           (subst (λ (b : List ℕ). Leads feed s bytes way (start + used) c.take-used.new.self
-          (c.self.inside.pending.items ++ b)) (sym c.bytes.ensures) after);
+          (c.self.inside.pending.bytes ++ b)) (sym c.bytes.ensures) after);
       fits = subst (λ (x : LinkState). Fits feed x.session.state) (sym c.say.ensures) c.take-used.ensures.fits;
       room = omega (
         arith,

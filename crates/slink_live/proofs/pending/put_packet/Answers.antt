@@ -1,0 +1,9 @@
+use Rattle.std.proofs.Common.{◌+◌, ◌-◌, ◌++◌, ◌∙◌, ap, arith, take}
+use Rattle.std.proofs.lemmas.Slice.{take-put_mid}
+use Rattle.slink_live.proofs.pending.put_packet.Goals as goal
+
+pub returns : goal.returns
+returns c =
+    take-put_mid c.args.place (c.args.place + 520 - c.args.place) c.args.room.now c.fill_packet.new.room
+    (c.args.place + 520) (omega (arith, c.fill_packet.ensures.size)) (omega arith)
+    ∙ ap (λ bytes. take c.args.place c.args.room.now ++ bytes) c.fill_packet.ensures.value

@@ -1,0 +1,144 @@
+//! Bytes that wait to be written to a link.
+ghost use Rattle.std.specs.Prelude.{◌≡◌, ◌+◌, ◌^◌, ◌<◌, ◌≤◌, [], ◌++◌, drop, length, take};
+ghost use Rattle.slink_wire.specs.Packet.{packet_bytes};
+
+use slink_wire::Packet;
+use std::marker::Model;
+
+/// The most bytes that wait to be written: twelve packets.
+pub(crate) const ROOM: usize = 6_240;
+
+/// So many bytes has a packet.
+pub(crate) const PACKET: usize = 520;
+
+/// Bytes that wait to be written, in order. What is taken of them leaves its place free, and what is left moves there
+/// only when there is no room behind it.
+#[derive(Drop)]
+pub(crate) struct Pending {
+    // The bytes before this place were taken.
+    begin: usize,
+    // From here on there is room.
+    end: usize,
+    bytes: [u8; ROOM],
+}
+
+impl Model for Pending {
+    ghost use Rattle.std.specs.Prelude.{◌≤◌, ◌-◌, drop, take};
+    ghost use Rattle.slink_live.specs.private.Waiting.{Waiting};
+
+    ghost Value = { Waiting };
+
+    ghost view = { λ p. record { bytes = drop p.begin (take p.end p.bytes); room = 6240 - p.end } };
+
+    ghost invariant = { λ p. (p.begin ≤ p.end) × (p.end ≤ 6240) };
+}
+
+/// Puts bytes at a place.
+fn put_bytes(room: &mut [u8; ROOM], place: usize, bytes: &[u8])
+    requires { place + length bytes.now ≤ 6240 }
+    ensures { take (place + length bytes.now) room.new ≡ take place room.old ++ bytes.now }
+{
+    room[place..place + bytes.len()].copy_from_slice(bytes);
+}
+
+/// Puts the packet of a record into room of its size.
+fn fill_packet(room: &mut [u8], number: u32, bytes: &[u8; 512])
+    requires room { length room.old ≡ 520 }
+    requires number { number < 2 ^ 24 }
+    ensures value { room.new ≡ packet_bytes number bytes.now }
+    ensures size { length room.new ≡ 520 }
+{
+    match room.as_mut_array() {
+        Some(packet) => Packet::put(packet, number, bytes),
+        None => unreachable!(),
+    }
+}
+
+/// Puts the packet of a record at a place.
+fn put_packet(room: &mut [u8; ROOM], place: usize, number: u32, bytes: &[u8; 512])
+    requires room { place + 520 ≤ 6240 }
+    requires number { number < 2 ^ 24 }
+    ensures { take (place + 520) room.new ≡ take place room.old ++ packet_bytes number bytes.now }
+{
+    fill_packet(&mut room[place..place + PACKET], number, bytes);
+}
+
+impl Pending {
+    /// No bytes.
+    pub(crate) fn new() -> Pending
+        ensures { result.bytes ≡ [] }
+    {
+        Pending {
+            begin: 0,
+            end: 0,
+            bytes: [0; ROOM],
+        }
+    }
+
+    /// All of them.
+    pub(crate) fn as_slice(&self) -> &[u8]
+        ensures value { result.now ≡ self.now.bytes }
+        ensures most { length result.now ≤ 6240 }
+    {
+        &self.bytes[self.begin..self.end]
+    }
+
+    /// How many there are.
+    pub(crate) fn len(&self) -> usize
+        ensures value { result ≡ length self.now.bytes }
+        ensures most { result ≤ 6240 }
+    {
+        self.end - self.begin
+    }
+
+    /// Whether there are none.
+    pub(crate) fn is_empty(&self) -> bool {
+        self.begin == self.end
+    }
+
+    /// Appends bytes.
+    pub(crate) fn say(&mut self, bytes: &[u8])
+        requires { length self.old.bytes + length bytes.now ≤ 6240 }
+        ensures { self.new.bytes ≡ self.old.bytes ++ bytes.now }
+    {
+        self.make_room(bytes.len());
+        put_bytes(&mut self.bytes, self.end, bytes);
+        self.end += bytes.len();
+    }
+
+    /// Appends the packet of a record.
+    pub(crate) fn say_packet(&mut self, number: u32, bytes: &[u8; 512])
+        requires room { length self.old.bytes + 520 ≤ 6240 }
+        requires number { number < 2 ^ 24 }
+        ensures { self.new.bytes ≡ self.old.bytes ++ packet_bytes number bytes.now }
+    {
+        self.make_room(PACKET);
+        put_packet(&mut self.bytes, self.end, number, bytes);
+        self.end += PACKET;
+    }
+
+    /// Makes room for so many bytes: where there is too little, moves what is left to the front.
+    fn make_room(&mut self, count: usize)
+        requires { length self.old.bytes + count ≤ 6240 }
+        ensures bytes { self.new.bytes ≡ self.old.bytes }
+        ensures room { count ≤ self.new.room }
+    {
+        if count > ROOM - self.end {
+            self.bytes.copy_within(self.begin..self.end, 0);
+            self.end -= self.begin;
+            self.begin = 0;
+        }
+    }
+
+    /// Drops the first of them, which were taken.
+    pub(crate) fn taken(&mut self, count: usize)
+        requires { count ≤ length self.old.bytes }
+        ensures { self.new.bytes ≡ drop count self.old.bytes }
+    {
+        self.begin += count;
+        if self.begin == self.end {
+            self.begin = 0;
+            self.end = 0;
+        }
+    }
+}
