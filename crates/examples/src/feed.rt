@@ -102,6 +102,11 @@ pub fn put_next_packet(session: &mut Session, feed: &Feed, room: &mut [u8; 520])
     }
 }
 
+/// Whether it is in vain to call a session for packets now.
+pub fn has_nothing_to_send(session: &Session, feed: &Feed) -> bool {
+    session.is_waiting(feed)
+}
+
 /// Whether a session was granted records of the first place.
 pub fn is_granted(session: &Session) -> bool {
     session.position(0).is_some()

@@ -29,6 +29,7 @@ pub mod Stretched
 pub mod Stands
 pub mod Telling
 pub mod Tellings
+pub mod Waits
 pub mod Wanting
 pub mod Wholes
 pub mod Closing

@@ -183,6 +183,10 @@ sent_without Unsents.Done = Sents.Done
 sent_without Unsents.Overrun = Sents.Overrun
 sent_without Unsents.Closed = Sents.Closed
 
+-- Nothing is sent of any place now.
+abbrev pub IsWaiting : List Window → State → Type 0
+IsWaiting feed s = (k : ℕ) → k < length feed → sent feed s k ≡ (s, Sents.Wait)
+
 -- before records are sent
 abbrev pub IsBefore : Phase → Type 0
 IsBefore Fresh = Unit {0}

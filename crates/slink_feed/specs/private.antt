@@ -3,3 +3,4 @@ pub mod Delivery
 pub mod Parts
 pub mod Replying
 pub mod Lines
+pub mod Waiting

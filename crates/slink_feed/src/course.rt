@@ -10,8 +10,9 @@ ghost use Rattle.slink_feed.specs.declared.session.Sent.{Sent};
 ghost use Rattle.slink_feed.specs.Serving.{IsAnswer};
 ghost use Rattle.slink_feed.specs.Session.{AreReached, Fits, all_done, answered, called, at, at_next, chosen, ended};
 ghost use Rattle.slink_feed.specs.Session.{grant_at, in_chosen, in_fresh, in_granted, in_streaming, is_done, sent};
-ghost use Rattle.slink_feed.specs.Session.{sent_without};
+ghost use Rattle.slink_feed.specs.Session.{IsWaiting, sent_without};
 ghost use Rattle.slink_feed.specs.Window.{record_at};
+ghost use Rattle.slink_feed.specs.private.Waiting.{IsAtNext};
 
 use crate::feed::Feed;
 use crate::grant::{Grant, Mode, first_granted};
@@ -197,6 +198,45 @@ impl Course {
                 Some(((grant.position % SPAN) as u32, bytes))
             }
             None => None,
+        }
+    }
+
+    /// Whether nothing is sent of any place now, as far as one look at each shows.
+    pub(crate) fn is_waiting<A: Allocator>(&self, feed: &Feed<A>) -> bool
+        ensures { OnTrue result (IsWaiting feed.now self.now) }
+    {
+        match self.phase {
+            Phase::Fresh | Phase::Chosen(_) | Phase::Granted(_) => true,
+            Phase::Streaming => self.is_up_to_date(feed),
+            Phase::Closed => false,
+        }
+    }
+
+    /// Whether each place that has a grant has all its records, and one of them waits for more.
+    fn is_up_to_date<A: Allocator>(&self, feed: &Feed<A>) -> bool
+        requires { self.now.phase ≡ Phase.Streaming }
+        ensures { OnTrue result (IsWaiting feed.now self.now) }
+    {
+        let mut is_open = false;
+        for k in 0..feed.len() {
+            if !self.is_at_next(feed, k) {
+                return false;
+            }
+            if !self.is_place_done(feed, k) {
+                is_open = true;
+            }
+        }
+        is_open
+    }
+
+    /// Whether a place has no grant, or one at its ring's next record.
+    fn is_at_next<A: Allocator>(&self, feed: &Feed<A>, k: usize) -> bool
+        requires { k < length feed.now }
+        ensures { OnTrue result (IsAtNext feed.now self.now.grants k) }
+    {
+        match self.grant_of(k) {
+            Some(grant) => grant.position == feed.ring(k).next(),
+            None => true,
         }
     }
 

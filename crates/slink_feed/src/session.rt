@@ -9,7 +9,7 @@ ghost use Rattle.slink_feed.specs.declared.grant.Grant.{Grant};
 ghost use Rattle.slink_feed.specs.Window.{Window};
 ghost use Rattle.slink_feed.specs.Running.{Stands};
 ghost use Rattle.slink_feed.specs.Serving.{Answers, TakesWhole};
-ghost use Rattle.slink_feed.specs.Session.{Fits, at, grant_at, sent, sent_bytes, sent_without};
+ghost use Rattle.slink_feed.specs.Session.{Fits, IsWaiting, at, grant_at, sent, sent_bytes, sent_without};
 
 use crate::course::Course;
 use crate::feed::Feed;
@@ -194,6 +194,15 @@ impl Session {
         ensures stands { Stands self.new }
     {
         self.course.next_record(feed, k)
+    }
+
+    /// Whether nothing is sent of any place now, as far as one look at each shows: then a call for any would be in vain.
+    ///
+    /// It is lent the same feed at every call, whose rings keep their indices.
+    pub fn is_waiting<A: Allocator>(&self, feed: &Feed<A>) -> bool
+        ensures { OnTrue result (IsWaiting feed.now self.now.state) }
+    {
+        self.course.is_waiting(feed)
     }
 
     /// The record that is sent now of the place at an index of the feed, with its number modulo 2^24, lent by the ring.
