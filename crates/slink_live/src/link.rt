@@ -128,6 +128,9 @@ impl Link {
         ensures asks { Asks feed.now self.old.session self.old.pending self.new.session self.new.pending }
         ensures fits { Fits feed.now self.new.session.state }
     {
+        if self.session.is_waiting(feed) {
+            return;
+        }
         let mut waits = 0;
         for ask in 0..ASKS {
             if waits >= feed.len() || self.is_over || self.pending.len() > ROOM - PACKET {

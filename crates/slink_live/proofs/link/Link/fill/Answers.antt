@@ -12,3 +12,6 @@ loop-ask-preserved c = record {
       c.ask.ensures.asks;
   fits = c.ask.ensures.fits;
 }
+
+pub returns-then-is_waiting-clause-asks : goal.returns-then-is_waiting-clause-asks
+returns-then-is_waiting-clause-asks c = none_called
