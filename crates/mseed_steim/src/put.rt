@@ -24,7 +24,7 @@ use crate::unpack::{PLACES, Room, unpack_frame};
 const REACH: u32 = 1 << 20;
 
 /// The differences of a group, one by one: as far as they are needed, and no sum leaves 32 bits.
-#[cold]
+#[inline(always)]
 fn put_each(word: u32, group: Group, samples: usize, sum: Sum, out: &mut [i32]) -> Walked
     requires places { length out.old ≡ samples }
     requires met { sum.met ≤ samples }
@@ -52,6 +52,7 @@ fn put_each(word: u32, group: Group, samples: usize, sum: Sum, out: &mut [i32]) 
 }
 
 /// The differences of a word, as far as they are needed.
+#[inline(always)]
 fn put_word(scheme: Scheme, word: Word, samples: usize, sum: Sum, out: &mut [i32]) -> Walked
     requires places { length out.old ≡ samples }
     requires met { sum.met ≤ samples }

@@ -13,8 +13,8 @@ use crate::word::read_digit;
 /// How many samples have been met, and the last of them; before the first, the payload's constant for it.
 #[derive(Clone, Copy)]
 pub(crate) struct Sum {
-    pub(crate) met: usize,
     pub(crate) last: i32,
+    pub(crate) met: usize,
 }
 
 /// The sum that a walk has come to, or what comes first in place of a sample.
