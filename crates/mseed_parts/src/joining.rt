@@ -29,6 +29,7 @@ pub(crate) fn sum(a: u64, b: u64) -> Result<u64, TooLarge>
     }
 }
 
+#[inline(always)]
 fn moved_head(head: &Head, records: u64, bytes: u64) -> Result<Head, TooLarge>
     ensures value { IfOk result (λ h. h ≡ moved_head records bytes head.now) }
     ensures fits { IsOk result ↔ (records + head.now.number < 2 ^ 63) × (bytes + head.now.offset < 2 ^ 63) }
@@ -41,6 +42,7 @@ fn moved_head(head: &Head, records: u64, bytes: u64) -> Result<Head, TooLarge>
     })
 }
 
+#[inline(always)]
 fn moved_some(head: Option<Head>, records: u64, bytes: u64) -> Result<Option<Head>, TooLarge>
     ensures value { IfOk result (λ h. h ≡ option_map (moved_head records bytes) head) }
     ensures fits { IsOk result ↔ HeadFits records bytes head }
@@ -51,6 +53,7 @@ fn moved_some(head: Option<Head>, records: u64, bytes: u64) -> Result<Option<Hea
     }
 }
 
+#[inline(always)]
 fn moved_findings(findings: &Findings, records: u64, bytes: u64) -> Result<Findings, TooLarge>
     ensures value { IfOk result (λ f. f ≡ moved_findings records bytes findings.now) }
     ensures fits { IsOk result
@@ -80,6 +83,7 @@ fn moved_findings(findings: &Findings, records: u64, bytes: u64) -> Result<Findi
 }
 
 /// The same channel, behind so many more records and bytes.
+#[inline(always)]
 pub(crate) fn moved(channel: &Channel, records: u64, bytes: u64) -> Result<Channel, TooLarge>
     ensures value { IfOk result (λ c. c ≡ moved_channel records bytes channel.now) }
     ensures fits { IsOk result ↔ Moves records bytes channel.now }
@@ -92,6 +96,7 @@ pub(crate) fn moved(channel: &Channel, records: u64, bytes: u64) -> Result<Chann
 }
 
 /// The findings of further records, with what is found before them, of a channel of which nothing was found.
+#[inline(always)]
 fn with_first(head: Head, further: &Findings, border: Option<Finding>) -> Result<Findings, TooLarge>
     ensures value { (t : Tail) → IfOk result (λ f. f ≡ findings_with (Nothing head t) further.now border) }
     ensures fits { (t : Tail) → (IsOk result ↔ CountFits (findings_with (Nothing head t) further.now border)) }
@@ -122,6 +127,7 @@ fn with_first(head: Head, further: &Findings, border: Option<Finding>) -> Result
 }
 
 /// The findings of both, with what is found between them.
+#[inline(always)]
 fn with(
     findings: &Findings,
     further: &Findings,
@@ -160,6 +166,7 @@ fn size_of(border: Option<Finding>) -> u64
 }
 
 /// The channel with its further records behind, and what is found between them.
+#[inline(always)]
 pub(crate) fn behind(
     channel: &Channel,
     further: &Channel,

@@ -189,6 +189,7 @@ impl<A: Allocator + Copy> Part<A> {
 }
 
 /// Puts further records behind a channel, and answers what is found between the two.
+#[inline(always)]
 fn put_behind(kept: &mut Channel, further: &Channel) -> Result<Option<Finding>, JoinFault>
     ensures value { OnOk result (kept.new ≡ channel_behind kept.old further.now) }
     ensures border { IfOk result
