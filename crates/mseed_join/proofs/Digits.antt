@@ -7,7 +7,8 @@ use Rattle.std.specs.Fmt.{signed_decimal}
 use Rattle.std.specs.Cmp.Lexicographic.{pointwise, same_text}
 use Rattle.std.proofs.lemmas.Bool.Decides.{nat_tests}
 use Rattle.std.proofs.lemmas.Fmt.{decimal_digit, decimal_step_wide, decimal_by_steps_wide}
-use Rattle.std.proofs.lemmas.List.{take-append-drop}
+use Rattle.std.proofs.lemmas.List.{take-append-drop, drop_more, drop_all}
+use Rattle.std.proofs.Math.Nat.{pow-le-pow_right, pow-succ'}
 use Rattle.mseed_join.specs.private.Reading.{◌>>=◌, after, is_digit, more_at, within, number_at, negated, integer_at}
 
 -- no digit follows
@@ -43,7 +44,7 @@ digit_is b l h = grind (arith, nat_tests)
 is_low : (b : ℕ) → is_digit b ≡ true → 48 ≤ b
 is_low b e = grind (arith, nat_tests)
 
-is_high : (b : ℕ) → is_digit b ≡ true → b ≤ 57
+pub is_high : (b : ℕ) → is_digit b ≡ true → b ≤ 57
 is_high b e = grind (arith, nat_tests)
 
 -- the first digit isn't 0, and from it on the digits are those of the number
@@ -215,6 +216,34 @@ passes n d most (b ∷ bs) all l e is big same =
     ap (λ (xs : List ℕ). more_at n xs) same ∙ one_more n b bs e in
     let first : (more_at n all).0 ≡ (more_at (10 * n + (b - 48)) bs).0 = ap (λ (x : ℕ × List ℕ). x.0) read in
     omega (arith, first, grows (10 * n + (b - 48)) bs, big, is)
+
+-- ---- digits that fit for sure
+-- so many digits, and room for one more
+pub has_room : (n count few : ℕ) → n < 10 ^ (count + 1) → count < few → few ≤ 18 → n < 10 ^ 18
+has_room n count few small less l =
+    let few_digits : count + 1 ≤ 18 = omega (arith, less, l) in
+    let some : 0 < 10 = omega arith in
+    let most : 10 ^ (count + 1) ≤ 10 ^ 18 = pow-le-pow_right some few_digits in
+    omega (arith, small, most)
+
+pub stays_small : (n count digit : ℕ) → n < 10 ^ (count + 1) → digit < 10
+    → 10 * n + digit < 10 ^ (count + 1 + 1)
+stays_small n count digit small l =
+    let next : count + 1 + 1 ≡ suc (count + 1) = omega arith in
+    let power : 10 ^ (count + 1 + 1) ≡ 10 * 10 ^ (count + 1) =
+    ap (λ (k : ℕ). 10 ^ k) next ∙ pow-succ' 10 (count + 1) in
+    omega (arith, small, l, power)
+
+pub read_on : (n count : ℕ) (bytes : List ℕ) → count < length bytes → is_digit (get_or bytes count 0) ≡ true
+    → more_at (10 * n + (get_or bytes count 0 - 48)) (drop (count + 1) bytes) ≡ more_at n (drop count bytes)
+read_on n count bytes l e =
+    sym (ap (λ (xs : List ℕ). more_at n xs) (drop_more bytes count 0 l)
+    ∙ one_more n (get_or bytes count 0) (drop (count + 1) bytes) e)
+
+-- no byte more
+pub read_all : (n count : ℕ) (bytes : List ℕ) → length bytes ≤ count → more_at n (drop count bytes) ≡ (n, drop count bytes)
+read_all n count bytes l =
+    subst (λ (xs : List ℕ). more_at n xs ≡ (n, xs)) (sym (drop_all count bytes l)) refl
 
 -- the first digit of a number
 pub record Begins (n : ℕ) : Type 0 where

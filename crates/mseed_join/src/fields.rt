@@ -10,6 +10,7 @@ use mseed_record::Leap;
 use mseed_time::{Micros, Ratio};
 
 /// A rate, and the bytes behind it.
+#[inline(always)]
 #[tactic(auto, unfolding(crate::specs::private::Reading::ratio_at))]
 fn ratio_at(bytes: &[u8]) -> Option<(Ratio, &[u8])>
     ensures { option_map (λ x. (x.0, x.1.now)) result ≡ ratio_at bytes.now }
@@ -24,6 +25,7 @@ fn ratio_at(bytes: &[u8]) -> Option<(Ratio, &[u8])>
 }
 
 /// A record's start, and the bytes behind it.
+#[inline(always)]
 fn start_at(bytes: &[u8]) -> Option<(Micros, &[u8])>
     ensures { option_map (λ x. (x.0, x.1.now)) result ≡ start_at bytes.now }
 {

@@ -1,8 +1,12 @@
 //! Words and numbers at the start of a text.
-ghost use Rattle.std.specs.Prelude.{◌≡◌, ◌+◌, ◌-◌, ◌*◌, ◌≤◌, ◌<◌, ◌^◌, ℕ, IfSome, IfNone, nat_le, pos, neg_ℤ};
-ghost use Rattle.std.specs.Prelude.{◌≤ℤ◌};
+ghost use Rattle.std.specs.Prelude.{◌≡◌, ◌≢◌, ◌+◌, ◌-◌, ◌*◌, ◌≤◌, ◌<◌, ◌^◌, ℕ, IfSome, IfNone, nat_le, pos, neg_ℤ};
+ghost use Rattle.std.specs.Prelude.{◌≤ℤ◌, drop, length};
 ghost use Rattle.std.specs.Option.{option_map};
 ghost use Rattle.mseed_join.specs.private.Reading.{after, behind_at, number_at, integer_at, more_at, is_digit};
+ghost use Rattle.mseed_join.specs.private.Reading.{within};
+
+/// So many digits behind a first fit for sure.
+const FEW: usize = 18;
 
 /// No number of a part is larger, but the microseconds of a gap or an overlap.
 pub(crate) const LIMIT: u64 = 0x7fff_ffff_ffff_ffff;
@@ -26,11 +30,65 @@ pub(crate) fn behind_at<'a>(word: &[u8], largest: u64, bytes: &'a [u8]) -> Optio
 }
 
 /// A number that is at most so large, without leading zeros, and the bytes behind it.
+#[inline(always)]
+#[tactic(auto, unfolding(crate::specs::private::Reading::number_at))]
 pub(crate) fn number_at(largest: u64, bytes: &[u8]) -> Option<(u64, &[u8])>
     ensures value { option_map (λ x. (x.0, x.1.now)) result ≡ number_at largest bytes.now }
     ensures bounded { IfSome result (λ x. x.0 ≤ largest) }
 {
-    spelled_at(largest, bytes)
+    match bytes {
+        [] => None,
+        [first, rest @ ..] => {
+            if *first == b'0' {
+                return Some((0, rest));
+            }
+            if !is_digit(*first) {
+                return None;
+            }
+            let (number, count) = few_more_at(u64::from(*first - b'0'), rest);
+            let rest = &rest[count..];
+            if count == FEW {
+                return long_at(largest, number, rest);
+            }
+            if number <= largest {
+                Some((number, rest))
+            } else {
+                None
+            }
+        }
+    }
+}
+
+/// What up to 18 further digits make of a number of one digit, and how many they are.
+#[inline(always)]
+fn few_more_at(first: u64, bytes: &[u8]) -> (u64, usize)
+    requires { first < 10 }
+    ensures within { result.1 ≤ length bytes.now }
+    ensures value { more_at result.0 (drop result.1 bytes.now) ≡ more_at first bytes.now }
+    ensures whole { result.1 ≢ 18
+        → more_at result.0 (drop result.1 bytes.now) ≡ (result.0, drop result.1 bytes.now) }
+{
+    let few = bytes.len().min(FEW);
+    let mut number = first;
+    let mut count = 0;
+    while count < few {
+        let byte = bytes[count];
+        if !is_digit(byte) {
+            return (number, count);
+        }
+        number = 10 * number + u64::from(byte - b'0');
+        count += 1;
+    }
+    (number, count)
+}
+
+/// A number that begins with these nineteen digits, if it is at most so large, and the bytes behind it.
+#[cold]
+fn long_at(largest: u64, number: u64, bytes: &[u8]) -> Option<(u64, &[u8])>
+    ensures value { option_map (λ x. (x.0, x.1.now)) result ≡ within largest (more_at number bytes.now) }
+    ensures bounded { IfSome result (λ x. x.0 ≤ largest) }
+{
+    further_at(largest, number, bytes)
 }
 
 /// As [`number_at`], of a number that may be larger.
@@ -99,6 +157,7 @@ impl Spelled for u128 {
     }
 }
 
+#[inline(always)]
 fn is_digit(byte: u8) -> bool
     ensures { result ≡ is_digit byte }
 {
@@ -121,17 +180,27 @@ fn spelled_at<N: Spelled>(largest: N, bytes: &[u8]) -> Option<(N, &[u8])>
             if !is_digit(*first) {
                 return None;
             }
-            match more_at(N::of(*first - b'0'), rest) {
-                Some((number, rest)) => {
-                    if number.is_within(largest) {
-                        Some((number, rest))
-                    } else {
-                        None
-                    }
-                }
-                None => None,
+            further_at(largest, N::of(*first - b'0'), rest)
+        }
+    }
+}
+
+/// The number with its further digits, if it is at most so large, and the bytes behind it.
+fn further_at<N: Spelled>(largest: N, number: N, bytes: &[u8]) -> Option<(N, &[u8])>
+    requires { N.value largest < N.limit }
+    ensures value { option_map (λ x. (N.value x.0, x.1.now)) result
+        ≡ within (N.value largest) (more_at (N.value number) bytes.now) }
+    ensures bounded { IfSome result (λ x. N.value x.0 ≤ N.value largest) }
+{
+    match more_at(number, bytes) {
+        Some((number, rest)) => {
+            if number.is_within(largest) {
+                Some((number, rest))
+            } else {
+                None
             }
         }
+        None => None,
     }
 }
 
@@ -162,6 +231,7 @@ fn more_at<N: Spelled>(number: N, bytes: &[u8]) -> Option<(N, &[u8])>
 }
 
 /// A number that is at most so large, or `-` and one that isn't 0 and at most so large, and the bytes behind it.
+#[inline(always)]
 #[tactic(auto, unfolding(crate::specs::private::Reading::integer_at))]
 pub(crate) fn integer_at(below: u64, above: u64, bytes: &[u8]) -> Option<(i64, &[u8])>
     requires below { below ≤ 2 ^ 63 }
