@@ -37,3 +37,4 @@ pub mod Sums
 pub mod Taken
 pub mod Together
 pub mod Verdicts
+pub mod Words

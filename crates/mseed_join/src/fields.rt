@@ -37,6 +37,7 @@ fn start_at(bytes: &[u8]) -> Option<(Micros, &[u8])>
 }
 
 /// The leap seconds that a record bears, and the bytes behind them.
+#[inline(always)]
 #[tactic(auto, unfolding(crate::specs::private::Reading::leap_at))]
 fn leap_at(bytes: &[u8]) -> Option<(Leap, &[u8])>
     ensures { option_map (λ x. (x.0, x.1.now)) result ≡ leap_at bytes.now }
@@ -55,6 +56,7 @@ fn leap_at(bytes: &[u8]) -> Option<(Leap, &[u8])>
 }
 
 /// How a channel begins, and the bytes behind it.
+#[inline(always)]
 #[tactic(auto, unfolding(crate::specs::private::Reading::some_head_at))]
 fn some_head_at(bytes: &[u8]) -> Option<(Head, &[u8])>
     ensures { option_map (λ x. (x.0, x.1.now)) result ≡ some_head_at bytes.now }
@@ -81,6 +83,7 @@ fn some_head_at(bytes: &[u8]) -> Option<(Head, &[u8])>
 }
 
 /// How a channel begins, or `none`, and the bytes behind it.
+#[inline(always)]
 #[tactic(auto, unfolding(crate::specs::private::Reading::head_at))]
 pub(crate) fn head_at(bytes: &[u8]) -> Option<(Option<Head>, &[u8])>
     ensures { option_map (λ x. (x.0, x.1.now)) result ≡ head_at bytes.now }
@@ -95,6 +98,7 @@ pub(crate) fn head_at(bytes: &[u8]) -> Option<(Option<Head>, &[u8])>
 }
 
 /// How a channel ends, and the bytes behind it.
+#[inline(always)]
 #[tactic(auto, unfolding(crate::specs::private::Reading::some_tail_at))]
 fn some_tail_at(bytes: &[u8]) -> Option<(Tail, &[u8])>
     ensures { option_map (λ x. (x.0, x.1.now)) result ≡ some_tail_at bytes.now }
@@ -124,6 +128,7 @@ fn some_tail_at(bytes: &[u8]) -> Option<(Tail, &[u8])>
 }
 
 /// How a channel ends, or `none`, and the bytes behind it.
+#[inline(always)]
 #[tactic(auto, unfolding(crate::specs::private::Reading::tail_at))]
 pub(crate) fn tail_at(bytes: &[u8]) -> Option<(Option<Tail>, &[u8])>
     ensures { option_map (λ x. (x.0, x.1.now)) result ≡ tail_at bytes.now }

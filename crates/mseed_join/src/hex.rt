@@ -7,6 +7,7 @@ ghost use Rattle.mseed_join.specs.private.Reading.{byte_at, key_at, nibble_of};
 use mseed_record::Codes;
 
 /// A key, and the bytes behind it.
+#[inline(always)]
 pub(crate) fn key_at(bytes: &[u8]) -> Option<(Codes, &[u8])>
     ensures { option_map (λ x. (x.0, x.1.now)) result ≡ key_at bytes.now }
 {
@@ -21,6 +22,7 @@ pub(crate) fn key_at(bytes: &[u8]) -> Option<(Codes, &[u8])>
 }
 
 /// A byte by its two digits, and the bytes behind it.
+#[inline(always)]
 fn byte_at(bytes: &[u8]) -> Option<(u8, &[u8])>
     ensures { option_map (λ x. (x.0, x.1.now)) result ≡ byte_at bytes.now }
 {
@@ -35,6 +37,7 @@ fn byte_at(bytes: &[u8]) -> Option<(u8, &[u8])>
 }
 
 /// The value of a digit of 0-9A-F.
+#[inline(always)]
 fn nibble_of(digit: u8) -> Option<u8>
     ensures value { result ≡ nibble_of digit }
     ensures small { IfSome result (λ n. n < 16) }

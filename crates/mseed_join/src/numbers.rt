@@ -11,12 +11,23 @@ const FEW: usize = 18;
 /// No number of a part is larger, but the microseconds of a gap or an overlap.
 pub(crate) const LIMIT: u64 = 0x7fff_ffff_ffff_ffff;
 
-/// The bytes behind a word, if they begin with it.
+/// The bytes behind a word, if they begin with it. The words are short and known where they are looked for: there the
+/// loop comes out as a comparison with each letter.
 #[inline(always)]
 pub(crate) fn after<'a>(word: &[u8], bytes: &'a [u8]) -> Option<&'a [u8]>
     ensures { option_map (λ rest. rest.now) result ≡ after word.now bytes.now }
 {
-    bytes.strip_prefix(word)
+    if bytes.len() < word.len() {
+        return None;
+    }
+    let mut count = 0;
+    while count < word.len() {
+        if bytes[count] != word[count] {
+            return None;
+        }
+        count += 1;
+    }
+    Some(&bytes[word.len()..])
 }
 
 /// The number behind a word, which is at most so large.

@@ -32,6 +32,7 @@ fn first_at(bytes: &[u8]) -> Option<(Finding, &[u8])>
 }
 
 /// What is found of a channel, by the number of its findings, and the bytes behind it.
+#[inline(always)]
 #[tactic(auto, unfolding(crate::specs::private::Reading::counted_findings_at))]
 fn counted_findings_at(
     count: u64,
@@ -60,6 +61,7 @@ fn counted_findings_at(
 }
 
 /// How a channel begins and ends, and what is found of it, and the bytes behind it.
+#[inline(always)]
 #[tactic(auto, unfolding(crate::specs::private::Reading::findings_at))]
 fn findings_at(bytes: &[u8]) -> Option<(Findings, &[u8])>
     ensures { option_map (λ x. (x.0, x.1.now)) result ≡ findings_at bytes.now }
@@ -77,6 +79,7 @@ fn findings_at(bytes: &[u8]) -> Option<(Findings, &[u8])>
 }
 
 /// Whether a line ends here.
+#[inline(always)]
 fn ends(bytes: &[u8]) -> bool
     ensures { result ≡ ends bytes.now }
 {
@@ -84,6 +87,7 @@ fn ends(bytes: &[u8]) -> bool
 }
 
 /// A channel and its key, from its line; nothing where it is no such line.
+#[inline(always)]
 #[tactic(auto, unfolding(crate::specs::private::Reading::channel_at))]
 pub(crate) fn channel_at(line: &[u8]) -> Option<(Codes, Channel)>
     ensures { result ≡ channel_at line.now }
