@@ -1,11 +1,15 @@
 -- Where the first line of some bytes ends, and lines one behind another.
-use Rattle.std.proofs.Common.{◌≡◌, ℕ, ◌+◌, ◌<◌, ◌≤◌, min, suc, List, [], ◌∷◌, ◌++◌, length, take, get_or}
+use Rattle.std.proofs.Common.{◌≡◌, ℕ, ◌+◌, ◌<◌, ◌≤◌, min, suc, List, [], ◌∷◌, ◌++◌, length, take, drop, get_or}
 use Rattle.std.proofs.Common.{Some, None, Bool, true, false, not, cond, ◌==◌, sym, ap, subst, ◌∙◌, arith}
-use Rattle.std.proofs.Common.{inl, inr, append_assoc, length-take}
+use Rattle.std.proofs.Common.{inl, inr, append_assoc, length-take, length-drop, map, replicate, w8, ◌-◌, ◌%◌, ◌≢◌}
 use Rattle.std.specs.List.{position_or_len, position}
 use Rattle.std.proofs.Math.Numerals.{one-add}
-use Rattle.std.proofs.lemmas.List.{take_all, take_more, take-take}
-use Rattle.std.proofs.lemmas.List.Sums.{passes_at_first}
+use Rattle.std.proofs.lemmas.List.{take_all, take_more, take-take, take-append-drop}
+use Rattle.std.proofs.lemmas.List.Sums.{passes_at_first, prefix_len-le-length}
+use Rattle.std.proofs.lemmas.Simd.{length-chunk, bitmask_splat, leading_from_mask_l, trailing_mask_l}
+use lib.Lanes.{zip2, mask_l, top}
+use lib.Count.{count_trailing_zeros}
+use Rattle.std.proofs.Math.Seq.{take-add}
 use Rattle.std.proofs.lemmas.Bool.Decides.{leb_tells, eqb_tells}
 use Rattle.mseed_join.specs.Joined.{AreLines, HasNoEnd, none, one}
 use Rattle.mseed_join.specs.private.LineReading.{IsWholeLine, IsLineAhead}
@@ -57,6 +61,108 @@ end_found bytes k some = elim (leb_tells (suc (first_end bytes)) (length bytes))
   | inr behind ↦ absurd (let e : None ≡ Some k =
       ap (λ t. cond t (Some (first_end bytes)) None) (sym behind.0) ∙ some in cc e)
 ]
+
+-- an LF behind bytes that have none
+first_behind : (before rest : List ℕ) → HasNoEnd before → first_end (before ++ rest) ≡ length before + first_end rest
+first_behind [] rest _ = omega arith
+first_behind (b ∷ bs) rest lacks = elim (eqb_tells b 10) [
+  | inl same ↦ absurd (lacks.0 same.1)
+  | inr other ↦
+      ap (λ (t : Bool). cond (not t) (1 + first_end (bs ++ rest)) 0) other.0
+      ∙ omega (arith, first_behind bs rest lacks.1)
+]
+
+pub no_end_in_both : (before more : List ℕ) → HasNoEnd before → HasNoEnd more → HasNoEnd (before ++ more)
+no_end_in_both [] more _ lacks = lacks
+no_end_in_both (b ∷ bs) more lacks lacks_more = (lacks.0, no_end_in_both bs more lacks.1 lacks_more)
+
+-- as far on as the first LF of the sixteen bytes at a place
+pub no_end_farther : (bytes : List ℕ) (at place : ℕ) → at + 16 ≤ length bytes → HasNoEnd (take at bytes)
+    → place ≡ first_end (take 16 (drop at bytes)) → (place ≤ 16) × HasNoEnd (take (at + place) bytes)
+no_end_farther bytes at place within lacks found =
+    let long : length (take 16 (drop at bytes)) ≡ 16 = length-chunk at 16 bytes within in
+    let few : place ≤ 16 =
+    omega (arith, found, long, prefix_len-le-length (λ b. not (b == 10)) (take 16 (drop at bytes))) in
+    let more : HasNoEnd (take place (drop at bytes)) =
+    subst HasNoEnd (take-take place 16 (drop at bytes) few)
+    (subst (λ (n : ℕ). HasNoEnd (take n (take 16 (drop at bytes)))) (sym found) (none_before (take 16 (drop at bytes)))) in (
+      few,
+      subst HasNoEnd (sym (take-add at place bytes)) (no_end_in_both _ _ lacks more),
+    )
+
+-- the first LF, looked for behind bytes that have none
+pub first_is_behind : (bytes : List ℕ) (at : ℕ) → at ≤ length bytes → HasNoEnd (take at bytes)
+    → first_end bytes ≡ at + first_end (drop at bytes)
+first_is_behind bytes at within lacks =
+    ap first_end (sym (take-append-drop at bytes))
+    ∙ first_behind (take at bytes) (drop at bytes) lacks
+    ∙ ap (λ (n : ℕ). n + first_end (drop at bytes)) (omega (arith, length-take at bytes))
+
+rest_is : (bytes : List ℕ) (at : ℕ) → take (length bytes - at) (drop at bytes) ≡ drop at bytes
+rest_is bytes at = take_all (length bytes - at) (drop at bytes) (omega (arith, length-drop at bytes))
+
+found_is : (bytes : List ℕ) (k : ℕ) → position (λ b. b == 10) bytes ≡ Some k
+    → (first_end bytes ≡ k) × (k < length bytes)
+found_is bytes k some = elim (leb_tells (suc (first_end bytes)) (length bytes)) [
+  | inl within ↦
+      let e : Some (first_end bytes) ≡ Some k =
+      ap (λ t. cond t (Some (first_end bytes)) None) (sym within.0) ∙ some in
+      let same : first_end bytes ≡ k = cc e in
+      (same, omega (arith, same, within.1))
+  | inr behind ↦ absurd (let e : None ≡ Some k =
+      ap (λ t. cond t (Some (first_end bytes)) None) (sym behind.0) ∙ some in cc e)
+]
+
+pub found_behind : (bytes : List ℕ) (at k : ℕ) → at ≤ length bytes → HasNoEnd (take at bytes)
+    → position (λ b. b == 10) (take (length bytes - at) (drop at bytes)) ≡ Some k
+    → Some (at + k) ≡ position (λ b. b == 10) bytes
+found_behind bytes at k within lacks some =
+    let there = found_is (drop at bytes) k
+    (subst (λ (xs : List ℕ). position (λ b. b == 10) xs ≡ Some k) (rest_is bytes at) some) in
+    let whole : first_end bytes ≡ at + k = omega (arith, first_is_behind bytes at within lacks, there.0) in
+    elim (leb_tells (suc (first_end bytes)) (length bytes)) [
+      | inl inside ↦ ap Some (sym whole) ∙ ap (λ t. cond t (Some (first_end bytes)) None) (sym inside.0)
+      | inr past ↦ absurd (omega (arith, past.1, whole, there.1, length-drop at bytes))
+    ]
+
+pub nowhere_behind : (bytes : List ℕ) (at : ℕ) → at ≤ length bytes → HasNoEnd (take at bytes)
+    → position (λ b. b == 10) (take (length bytes - at) (drop at bytes)) ≡ None
+    → None ≡ position (λ b. b == 10) bytes
+nowhere_behind bytes at within lacks nowhere =
+    elim (leb_tells (suc (first_end bytes)) (length bytes)) [
+      | inl there ↦ elim (leb_tells (suc (first_end (drop at bytes))) (length (drop at bytes))) [
+        | inl inside ↦ absurd (let e : Some (first_end (drop at bytes)) ≡ None =
+            ap (λ t. cond t (Some (first_end (drop at bytes))) None) (sym inside.0)
+            ∙ subst (λ (xs : List ℕ). position (λ b. b == 10) xs ≡ None) (rest_is bytes at) nowhere in cc e)
+        | inr behind ↦ absurd
+            (omega (arith, there.1, behind.1, first_is_behind bytes at within lacks, length-drop at bytes))
+      ]
+      | inr past ↦ ap (λ t. cond t (Some (first_end bytes)) None) (sym past.0)
+    ]
+
+-- what a vector's comparison with LF tells
+abbrev ends_mask : List ℕ → ℕ
+ends_mask lanes =
+    mask_l (map (top 7) (zip2 (λ a b. cond (a == b) 255 0) lanes (replicate 16 10))) % 18446744073709551616
+
+mask_is : (bytes : List ℕ) (at : ℕ) → at + 16 ≤ length bytes
+    → ends_mask (take 16 (drop at bytes)) ≡ mask_l (map (λ b. b == 10) (take 16 (drop at bytes)))
+mask_is bytes at within =
+    bitmask_splat w8 (λ a b. a == b) (take 16 (drop at bytes)) 16 10 (length-chunk at 16 bytes within) (omega arith)
+
+pub lanes_without_end : (bytes : List ℕ) (at : ℕ) → at + 16 ≤ length bytes → ends_mask (take 16 (drop at bytes)) ≡ 0
+    → 16 ≡ first_end (take 16 (drop at bytes))
+lanes_without_end bytes at within empty = sym (
+    leading_from_mask_l (λ b. b == 10) (take 16 (drop at bytes)) (sym (mask_is bytes at within) ∙ empty)
+    ∙ length-chunk at 16 bytes within
+    )
+
+pub lanes_with_end : (bytes : List ℕ) (at : ℕ) → at + 16 ≤ length bytes → ends_mask (take 16 (drop at bytes)) ≢ 0
+    → count_trailing_zeros 64 (ends_mask (take 16 (drop at bytes))) ≡ first_end (take 16 (drop at bytes))
+lanes_with_end bytes at within some =
+    ap (count_trailing_zeros 64) (mask_is bytes at within)
+    ∙ trailing_mask_l (λ b. b == 10) 64 (take 16 (drop at bytes))
+    (omega (arith, length-chunk at 16 bytes within)) (omega (arith, mask_is bytes at within, some))
 
 -- among the first 512 bytes
 pub line_found : (bytes : List ℕ) (n k : ℕ) → n ≡ min (length bytes) 512

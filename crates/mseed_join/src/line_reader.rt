@@ -1,6 +1,7 @@
 //! Lines of what a source tells.
 ghost use Rattle.std.specs.Prelude.{◌≡◌, ◌==◌, ◌+◌, ◌-◌, ◌*◌, ◌^◌, ◌<◌, ◌≤◌, ◌++◌, [], length, take, drop, false, true};
 ghost use Rattle.std.specs.Prelude.{IfOk, OnOk, IfErr, IfSome, IfNone, IsTrue, Ok, position};
+ghost use Rattle.std.specs.List.{position_or_len};
 ghost use Rattle.std.specs.Io.KnownBytes.{ReadConsumes};
 ghost use Rattle.mseed_stream.specs.Calls.{ReadsOn};
 ghost use Rattle.mseed_stream.specs.Device.{BytesRead, read_also};
@@ -13,6 +14,7 @@ use mseed_audit::Memory;
 use mseed_stream::{Failed, Source, StreamFault};
 use std::alloc::Allocator;
 use std::marker::Model;
+use std::simd::prelude::*;
 
 /// At most so many reads of one input.
 const TURNS: u64 = 1 << 40;
@@ -22,6 +24,9 @@ const ROOM: usize = 1 << 16;
 
 /// No line has more bytes, its LF included.
 const LONGEST: usize = 512;
+
+/// So many bytes are compared at once.
+const LANES: usize = 16;
 
 /// What lies ahead of a reader of lines.
 #[derive(Clone, Copy)]
@@ -264,7 +269,49 @@ fn size_of_line(held: &[u8]) -> Option<usize>
 fn place_of_end(bytes: &[u8]) -> Option<usize>
     ensures { result ≡ position (λ b. b == 10) bytes.now }
 {
+    let passed = pass_lanes(bytes);
+    match place_one_by_one(&bytes[passed..]) {
+        Some(place) => Some(passed + place),
+        None => None,
+    }
+}
+
+/// The place of the first LF of a few bytes.
+fn place_one_by_one(bytes: &[u8]) -> Option<usize>
+    ensures { result ≡ position (λ b. b == 10) bytes.now }
+{
     bytes.iter().position(|b| *b == b'\n')
+}
+
+/// How many bytes from the start are told to hold no LF: all before the first, or all but the last fifteen at most.
+#[tactic(auto, using(crate::proofs::LineEnds::no_end_farther))]
+fn pass_lanes(bytes: &[u8]) -> usize
+    ensures within { result ≤ length bytes.now }
+    ensures lacks { HasNoEnd (take result bytes.now) }
+{
+    let mut at = 0;
+    while LANES <= bytes.len() - at {
+        let place = place_in_lanes(bytes, at);
+        if place < LANES {
+            return at + place;
+        }
+        at += LANES;
+    }
+    at
+}
+
+/// The place of the first LF among the sixteen bytes from `at` on, or 16 where none is one.
+fn place_in_lanes(bytes: &[u8], at: usize) -> usize
+    requires { at + 16 ≤ length bytes.now }
+    ensures { result ≡ position_or_len (λ b. b == 10) (take 16 (drop at bytes.now)) }
+{
+    let ends = u8x16::from_slice(&bytes[at..])
+        .simd_eq(u8x16::splat(b'\n'))
+        .to_bitmask();
+    if ends == 0 {
+        return LANES;
+    }
+    ends.trailing_zeros() as usize
 }
 
 /// Reads once, into the bytes from `end` on.
