@@ -334,7 +334,7 @@ fn is_behind(last: Option<Codes>, codes: Codes) -> bool
     ensures { IsTrue result ↔ IsBehindKey last codes }
 {
     match last {
-        Some(last) => match last.key().as_slice().cmp(codes.key().as_slice()) {
+        Some(last) => match last.cmp(&codes) {
             Ordering::Less => true,
             _ => false,
         },
