@@ -63,7 +63,7 @@ fn audit_in_turns(
         let mut source = Buffered::new(reader);
         let mut sink = Counted::new(Vec::new(alloc));
         match audit(alloc, &mut source, &mut sink) {
-            Ok(summary) => digest.number(summary.broken),
+            Ok(summary) => digest.summary(&summary),
             Err(_) => return Err(Failure::Memory),
         }
         digest.bytes(sink.get_ref());

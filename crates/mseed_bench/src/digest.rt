@@ -1,5 +1,7 @@
 //! A digest of what comes of a job.
 
+use mseed_audit::Summary;
+
 /// A number that no change of what comes of a job leaves as it is, but by chance: the order counts too.
 #[derive(Drop)]
 pub(crate) struct Digest {
@@ -56,6 +58,14 @@ impl Digest {
         }
         self.number(u64::from(sum) << 32 | u64::from(weighted));
         self.number(samples.len() as u64);
+    }
+
+    /// Takes in what an audit comes to.
+    pub(crate) fn summary(&mut self, summary: &Summary) {
+        self.number(summary.records);
+        self.number(summary.channels);
+        self.number(summary.broken);
+        self.number(u64::from(summary.fault));
     }
 
     /// The number.

@@ -156,10 +156,14 @@ fn join_in_turns(
         let mut sink = Counted::new(Vec::new(alloc));
         let mut reported = Counted::new(Vec::new(alloc));
         match join(alloc, form, false, &mut source, &mut sink, &mut reported) {
-            Ok(joined) => digest.number(joined.broken),
+            Ok(joined) => {
+                digest.number(joined.broken);
+                digest.number(u64::from(joined.fault));
+            }
             Err(_) => return Err(Failure::Refused),
         }
         digest.bytes(sink.get_ref());
+        digest.bytes(reported.get_ref());
     }
     Ok(())
 }

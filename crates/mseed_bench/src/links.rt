@@ -179,6 +179,7 @@ impl Ready for Links<'_> {
     fn write(&mut self, slot: usize, bytes: &[u8]) -> usize {
         let count = bytes.len().min(self.bite);
         self.digest.number(slot as u64);
+        self.digest.number(bytes.len() as u64);
         self.digest.bytes(&bytes[..count]);
         self.log.emitted(slot, &bytes[..count]);
         count

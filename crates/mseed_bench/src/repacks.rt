@@ -7,7 +7,7 @@ use crate::failure::Failure;
 use crate::noise::Noise;
 use crate::scale::Scale;
 use crate::shape::{dealt, redate, with_gaps};
-use mseed_repack::{repack, repack_stretches};
+use mseed_repack::{Left, repack, repack_stretches};
 use mseed_stream::{Buffered, Counted};
 use std::alloc::Global;
 use std::io::BufReader;
@@ -54,7 +54,7 @@ fn repack_in_turns(
 ) -> Result<(), Failure> {
     let options = form.options()?;
     for turn in 0..turns {
-        // Another form of the same archive has other years too.
+        // Another encoding of the same archive has another network.
         redate(
             archive,
             512,
@@ -94,9 +94,20 @@ fn restretch_in_turns(
         let mut sink = Counted::new(Vec::new(alloc));
         let mut errors = Counted::new(Vec::new(alloc));
         match repack_stretches(alloc, &options, false, &mut source, &mut sink, &mut errors) {
-            Ok(_) => digest.bytes(sink.get_ref()),
+            Ok(left) => digest.number(left_out(left)),
             Err(_) => return Err(Failure::Refused),
         }
+        digest.bytes(sink.get_ref());
+        digest.bytes(errors.get_ref());
     }
     Ok(())
+}
+
+/// A number for what was left out.
+fn left_out(left: Left) -> u64 {
+    match left {
+        Left::Nothing => 0,
+        Left::Broken => 1,
+        Left::Misfit => 2,
+    }
 }

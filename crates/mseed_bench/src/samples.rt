@@ -9,7 +9,7 @@ use crate::failure::Failure;
 use crate::noise::Noise;
 use crate::scale::Scale;
 use crate::shape::{dealt, redate};
-use mseed_audit::series;
+use mseed_audit::{Series, series};
 use mseed_record::RecordView;
 use mseed_steim::fill_samples;
 use mseed_stream::{Buffered, Cutter, Source, split};
@@ -61,11 +61,21 @@ fn read_series(
             return Err(Failure::Refused);
         };
         match series(alloc, &views, &first.codes()) {
-            Ok(series) => digest.samples(series.samples()),
+            Ok(series) => take_in(&series, digest),
             Err(_) => return Err(Failure::Refused),
         }
     }
     Ok(())
+}
+
+/// Takes a series in.
+fn take_in(series: &Series, digest: &mut Digest) {
+    digest.bytes(series.codes().key());
+    digest.bytes(&series.start().get().to_le_bytes());
+    digest.number(u64::from(series.rate().num()));
+    digest.number(u64::from(series.rate().den()));
+    digest.samples(series.samples());
+    digest.number(series.steps().len() as u64);
 }
 
 /// Reads an archive record by record so often, each time with other networks and years.

@@ -65,7 +65,7 @@ fn find(alloc: Global, archive: &[u8], digest: &mut Digest) -> Result<(), Failur
     let mut source = Buffered::new(reader);
     let mut sink = Counted::new(Vec::new(alloc));
     match audit_each(alloc, &mut source, &mut sink) {
-        Ok(summary) => digest.number(summary.broken),
+        Ok(summary) => digest.summary(&summary),
         Err(_) => return Err(Failure::Memory),
     }
     digest.bytes(sink.get_ref());
@@ -80,7 +80,7 @@ fn list(alloc: Global, archive: &[u8], digest: &mut Digest) -> Result<(), Failur
     let mut source = Buffered::new(reader);
     let mut sink = Counted::new(Vec::new(alloc));
     match show(alloc, &mut source, &mut sink) {
-        Ok(_) => {}
+        Ok(fault) => digest.number(u64::from(fault.is_some())),
         Err(_) => return Err(Failure::Memory),
     }
     digest.bytes(sink.get_ref());
