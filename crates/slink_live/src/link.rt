@@ -128,7 +128,7 @@ impl Link {
         ensures asks { Asks feed.now self.old.session self.old.pending self.new.session self.new.pending }
         ensures fits { Fits feed.now self.new.session.state }
     {
-        if self.session.is_waiting(feed) {
+        if self.pending.len() <= ROOM - PACKET && self.session.is_waiting(feed) {
             return;
         }
         let mut waits = 0;
