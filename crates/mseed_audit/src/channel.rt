@@ -6,7 +6,8 @@ ghost use Rattle.mseed_record.specs.Viewing.{view_of};
 ghost use Rattle.mseed_steim.specs.Reading.{count_of};
 ghost use Rattle.mseed_audit.specs.Judging.{IsFound, known_rate};
 ghost use Rattle.mseed_audit.specs.Audit.{IsTailOf, count_in, head_in, tail_in, verdict_of};
-ghost use Rattle.mseed_audit.specs.private.Kept.{IsLead, IsLearnt, IsTailBefore, end_in, why_in, with_end, with_finding};
+ghost use Rattle.mseed_audit.specs.private.Kept.{IsLead, IsLearnt, IsTailBefore, end_in, why_in, with_end};
+ghost use Rattle.mseed_audit.specs.private.Kept.{with_finding};
 ghost use Rattle.mseed_audit.specs.Reported.{last_of};
 
 use crate::finding::{Finding, Why};

@@ -241,7 +241,8 @@ read_on n count bytes l e =
     ∙ one_more n (get_or bytes count 0) (drop (count + 1) bytes) e)
 
 -- no byte more
-pub read_all : (n count : ℕ) (bytes : List ℕ) → length bytes ≤ count → more_at n (drop count bytes) ≡ (n, drop count bytes)
+pub read_all : (n count : ℕ) (bytes : List ℕ) → length bytes ≤ count
+    → more_at n (drop count bytes) ≡ (n, drop count bytes)
 read_all n count bytes l =
     subst (λ (xs : List ℕ). more_at n xs ≡ (n, xs)) (sym (drop_all count bytes l)) refl
 

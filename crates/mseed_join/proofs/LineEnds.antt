@@ -85,7 +85,8 @@ no_end_farther bytes at place within lacks found =
     omega (arith, found, long, prefix_len-le-length (λ b. not (b == 10)) (take 16 (drop at bytes))) in
     let more : HasNoEnd (take place (drop at bytes)) =
     subst HasNoEnd (take-take place 16 (drop at bytes) few)
-    (subst (λ (n : ℕ). HasNoEnd (take n (take 16 (drop at bytes)))) (sym found) (none_before (take 16 (drop at bytes)))) in (
+    (subst (λ (n : ℕ). HasNoEnd (take n (take 16 (drop at bytes)))) (sym found)
+    (none_before (take 16 (drop at bytes)))) in (
       few,
       subst HasNoEnd (sym (take-add at place bytes)) (no_end_in_both _ _ lacks more),
     )

@@ -26,8 +26,8 @@ word_longer word bytes l = word_lacks word bytes (λ is.
     let same : length (take (length word) bytes) ≡ length word = ap (λ (xs : List ℕ). length xs) is in
     omega (arith, size, same, l))
 
-pub letter_differs : (word bytes : List ℕ) (count : ℕ) → count < length word → get_or bytes count 0 ≢ get_or word count 0
-    → None ≡ after word bytes
+pub letter_differs : (word bytes : List ℕ) (count : ℕ) → count < length word
+    → get_or bytes count 0 ≢ get_or word count 0 → None ≡ after word bytes
 letter_differs word bytes count l other = word_lacks word bytes (λ is. other
     (sym (get_or-take (length word) bytes count 0 l) ∙ ap (λ (xs : List ℕ). get_or xs count 0) is))
 

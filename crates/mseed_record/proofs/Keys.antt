@@ -45,7 +45,8 @@ then_equal Greater = refl
 -- a further byte counts where what is before it is the same
 byte_rank : (m n x y : ℕ) (o p : Ordering) → x < 256 → y < 256 → MatchOrdering o (m < n) (m ≡ n) (n < m)
     → MatchOrdering p (x < y) (x ≡ y) (y < x)
-    → MatchOrdering (ordering_then o p) (m * 256 + x < n * 256 + y) (m * 256 + x ≡ n * 256 + y) (n * 256 + y < m * 256 + x)
+    → MatchOrdering (ordering_then o p) (m * 256 + x < n * 256 + y) (m * 256 + x ≡ n * 256 + y)
+    (n * 256 + y < m * 256 + x)
 byte_rank m n x y Less p a b h k = omega arith
 byte_rank m n x y Greater p a b h k = omega arith
 byte_rank m n x y Equal Less a b h k = omega arith
@@ -120,5 +121,6 @@ keys_cmp n xs ys h l p q =
     let b = each_octet ys q in
     let front = spelled_cmp (take n xs) (take n ys) 0 0 (front_long n xs ys l) (front_octets n xs a)
     (front_octets n ys b) in
-    let back = spelled_cmp (drop n xs) (drop n ys) 0 0 (back_long n xs ys l) (back_octets n xs a) (back_octets n ys b) in
+    let back = spelled_cmp (drop n xs) (drop n ys) 0 0 (back_long n xs ys l) (back_octets n xs a)
+    (back_octets n ys b) in
     (λ i. ordering_then (front i) (back i)) ∙ sym (cmp_behind n xs ys h (omega (arith, h, l)))

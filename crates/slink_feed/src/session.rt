@@ -170,8 +170,9 @@ impl Session {
         self.course.packet(feed, k)
     }
 
-    /// The record of the next packet of the place at an index of the feed, with its number modulo 2^24: the session goes
-    /// on as by [`Session::packet`], and the ring lends the record, so that its packet can be made where it is to lie.
+    /// The record of the next packet of the place at an index of the feed, with its number modulo 2^24: the session
+    /// goes on as by [`Session::packet`], and the ring lends the record, so that its packet can be made where it is to
+    /// lie.
     ///
     /// It is lent the same feed at every call, whose rings keep their indices.
     ///
@@ -196,7 +197,8 @@ impl Session {
         self.course.next_record(feed, k)
     }
 
-    /// Whether nothing is sent of any place now, as far as one look at each shows: then a call for any would be in vain.
+    /// Whether nothing is sent of any place now, as far as one look at each shows: then a call for any would be in
+    /// vain.
     ///
     /// It is lent the same feed at every call, whose rings keep their indices.
     pub fn is_waiting<A: Allocator>(&self, feed: &Feed<A>) -> bool
