@@ -1,8 +1,11 @@
 -- What holds of each number below a bound.
 use Rattle.std.proofs.Common.{ℕ, ◌<◌, below_none, below_more}
 
+pub one : (P : ℕ → Type 0) → P 0 → (i : ℕ) → i < 1 → P i
+one P a = below_more P 0 (below_none P) a
+
 pub two : (P : ℕ → Type 0) → P 0 → P 1 → (i : ℕ) → i < 2 → P i
-two P a b = below_more P 1 (below_more P 0 (below_none P) a) b
+two P a b = below_more P 1 (one P a) b
 
 pub three : (P : ℕ → Type 0) → P 0 → P 1 → P 2 → (i : ℕ) → i < 3 → P i
 three P a b c = below_more P 2 (two P a b) c

@@ -18,6 +18,8 @@ use Rattle.mseed_steim.specs.Frames.{DataWord, data_word, word_at, code_at, word
 use Rattle.mseed_steim.specs.private.Items.{items_of}
 use Rattle.mseed_steim.specs.private.Lanes.{total, span, sum_z, words, word_at as lanes_word_at, row_at, Begins}
 use Rattle.mseed_steim.specs.private.Lanes.{counts_two, widths_two, counts_one, widths_one, counts_of, widths_of}
+use Rattle.mseed_steim.specs.private.Lanes.{all_counts_two, all_widths_two, all_counts_one, all_widths_one}
+use Rattle.mseed_steim.specs.private.Lanes.{all_counts, all_widths}
 use Rattle.mseed_steim.proofs.Below.{four}
 use Rattle.mseed_steim.proofs.FrameNear.{frame_near}
 use Rattle.mseed_steim.proofs.Spelled.{length-digits}
@@ -55,6 +57,27 @@ rows_one c word h small few = four (λ n. (t : ℕ) → t < 4 → Row One counts
     (four (Row One counts_one widths_one 3 word)
     (λ _ few. absurd (omega (arith, few))) (λ _ few. absurd (omega (arith, few)))
     (λ _ few. absurd (omega (arith, few))) (λ _ few. absurd (omega (arith, few))))
+    c h (word / 2 ^ 30) (omega arith) refl few
+
+-- the same where words with a difference of 30 or 32 bits count too
+rows_all_two : Rows Two all_counts_two all_widths_two
+unfolding all_counts_two all_widths_two differences_of digits
+rows_all_two c word h small few = four (λ n. (t : ℕ) → t < 4 → Row Two all_counts_two all_widths_two n word t)
+    (four (Row Two all_counts_two all_widths_two 0 word) (λ _ _. refl) (λ _ _. refl) (λ _ _. refl) (λ _ _. refl))
+    (four (Row Two all_counts_two all_widths_two 1 word) (λ _ _. refl) (λ _ _. refl) (λ _ _. refl) (λ _ _. refl))
+    (four (Row Two all_counts_two all_widths_two 2 word)
+    (λ _ few. absurd (omega (arith, few))) (λ e _. rw e refl) (λ e _. rw e refl) (λ e _. rw e refl))
+    (four (Row Two all_counts_two all_widths_two 3 word) (λ e _. rw e refl) (λ e _. rw e refl)
+    (λ e _. rw e refl) (λ _ few. absurd (omega (arith, few))))
+    c h (word / 2 ^ 30) (omega arith) refl few
+
+rows_all_one : Rows One all_counts_one all_widths_one
+unfolding all_counts_one all_widths_one differences_of digits
+rows_all_one c word h small few = four (λ n. (t : ℕ) → t < 4 → Row One all_counts_one all_widths_one n word t)
+    (four (Row One all_counts_one all_widths_one 0 word) (λ _ _. refl) (λ _ _. refl) (λ _ _. refl) (λ _ _. refl))
+    (four (Row One all_counts_one all_widths_one 1 word) (λ _ _. refl) (λ _ _. refl) (λ _ _. refl) (λ _ _. refl))
+    (four (Row One all_counts_one all_widths_one 2 word) (λ _ _. refl) (λ _ _. refl) (λ _ _. refl) (λ _ _. refl))
+    (four (Row One all_counts_one all_widths_one 3 word) (λ _ _. refl) (λ _ _. refl) (λ _ _. refl) (λ _ _. refl))
     c h (word / 2 ^ 30) (omega arith) refl few
 
 -- ---- the bytes of a frame of a payload
@@ -239,6 +262,19 @@ pub reads_as : (s : Scheme) (p f : List ℕ) (k from : ℕ) → f ≡ take 64 (d
     → ((i : ℕ) → get_or f i 0 < 256) → Reads s (counts_of s) (widths_of s) p f k from
 reads_as One p f k from = reads_by One _ _ p f k from rows_one zeros_one
 reads_as Two p f k from = reads_by Two _ _ p f k from rows_two zeros_two
+
+zeros_all_two : (r : ℕ) → r < 4 → get_or all_counts_two r 0 ≡ 0
+unfolding all_counts_two
+zeros_all_two = four (λ r. get_or all_counts_two r 0 ≡ 0) refl refl refl refl
+
+zeros_all_one : (r : ℕ) → r < 4 → get_or all_counts_one r 0 ≡ 0
+unfolding all_counts_one
+zeros_all_one = four (λ r. get_or all_counts_one r 0 ≡ 0) refl refl refl refl
+
+pub reads_all : (s : Scheme) (p f : List ℕ) (k from : ℕ) → f ≡ take 64 (drop (64 * k) p)
+    → ((i : ℕ) → get_or f i 0 < 256) → Reads s (all_counts s) (all_widths s) p f k from
+reads_all One p f k from = reads_by One _ _ p f k from rows_all_one zeros_all_one
+reads_all Two p f k from = reads_by Two _ _ p f k from rows_all_two zeros_all_two
 
 -- what is counted and added up of the frame is what its words move by
 pub moved_by : (s : Scheme) (p f begin : List ℕ) (k from : ℕ) (m : Moved) → Begins begin from

@@ -1,5 +1,5 @@
 -- How far a frame's differences go.
-use Rattle.std.proofs.Common.{◌≡◌, ℕ, zero, suc, ◌+◌, ◌-◌, ◌*◌, ◌/◌, ◌%◌, ◌^◌, ◌<◌, ◌≤◌, List, [], ◌∷◌, length, map}
+use Rattle.std.proofs.Common.{refl, ◌≡◌, ℕ, zero, suc, ◌+◌, ◌-◌, ◌*◌, ◌/◌, ◌%◌, ◌^◌, ◌<◌, ◌≤◌, List, [], ◌∷◌, length, map}
 use Rattle.std.proofs.Common.{get_or, subst, arith, ⊎_elim, pos, negsuc, nat_abs}
 use Rattle.std.proofs.Common.{if◌then◌else◌, nat_lt}
 use Rattle.std.proofs.lemmas.Bool.{cases_lt, lt-ltb, le-ltb}
@@ -12,6 +12,9 @@ use Rattle.mseed_steim.specs.declared.scheme.Scheme.{Scheme}
 use Rattle.mseed_steim.specs.declared.scheme.Scheme.TheVariants.{One, Two}
 use Rattle.mseed_steim.specs.private.Lanes.{words, word_at, row_at, counts_two, widths_two, counts_one, widths_one}
 use Rattle.mseed_steim.specs.private.Lanes.{counts_of, widths_of, spanned}
+use Rattle.mseed_steim.specs.private.Lanes.{all_counts_two, all_widths_two, all_counts_one, all_widths_one}
+use Rattle.mseed_steim.specs.private.Lanes.{all_counts, all_widths}
+use Rattle.mseed_steim.specs.private.Unpacked.{differences_at}
 use Rattle.mseed_steim.proofs.Below.{sixteen}
 use Rattle.mseed_steim.proofs.LaneSums.{long_words}
 use Rattle.mseed_steim.proofs.Words.{twice_half}
@@ -91,3 +94,34 @@ frame_near s f from h few =
     subst (λ n. sum_l (map (spanned s f from) words) ≤ 65536 * n) long_words
     (all_near (λ w. get_or (counts_of s) (row_at f from w) 0) (spanned s f from)
     (λ w. near_row s (word_at f w) (row_at f from w) (row_small f from h w)) words few)
+
+-- ---- rows without a difference of 30 or 32 bits
+abbrev Alike : Scheme → ℕ → Type 0
+Alike s row = get_or (counts_of s) row 0 < 128 → (get_or (all_counts s) row 0 ≡ get_or (counts_of s) row 0)
+    × (get_or (all_widths s) row 0 ≡ get_or (widths_of s) row 0)
+
+pub alike : (s : Scheme) (row : ℕ) → row < 16 → Alike s row
+unfolding counts_two widths_two counts_one widths_one all_counts_two all_widths_two all_counts_one all_widths_one
+alike One = sixteen (Alike One) (λ _. (refl, refl)) (λ _. (refl, refl)) (λ _. (refl, refl)) (λ _. (refl, refl))
+    (λ _. (refl, refl)) (λ _. (refl, refl)) (λ _. (refl, refl)) (λ _. (refl, refl)) (λ _. (refl, refl))
+    (λ _. (refl, refl)) (λ _. (refl, refl)) (λ _. (refl, refl)) (λ few. absurd (omega (arith, few)))
+    (λ few. absurd (omega (arith, few))) (λ few. absurd (omega (arith, few))) (λ few. absurd (omega (arith, few)))
+alike Two = sixteen (Alike Two) (λ _. (refl, refl)) (λ _. (refl, refl)) (λ _. (refl, refl)) (λ _. (refl, refl))
+    (λ _. (refl, refl)) (λ _. (refl, refl)) (λ _. (refl, refl)) (λ _. (refl, refl))
+    (λ few. absurd (omega (arith, few))) (λ few. absurd (omega (arith, few))) (λ _. (refl, refl))
+    (λ _. (refl, refl)) (λ _. (refl, refl)) (λ _. (refl, refl)) (λ _. (refl, refl))
+    (λ few. absurd (omega (arith, few)))
+
+near_at : (s : Scheme) (f : List ℕ) (from : ℕ) → ((k : ℕ) → get_or f k 0 < 256) → (w : ℕ)
+    → get_or (counts_of s) (row_at f from w) 0 < 128 → span (differences_at s f from w) ≤ 65536
+near_at s f from h w few =
+    let same = alike s (row_at f from w) (row_small f from h w) few in
+    rw (same.0, same.1) (near_row s (word_at f w) (row_at f from w) (row_small f from h w) few)
+
+pub unpacked_near : (s : Scheme) (f : List ℕ) (from : ℕ) → ((k : ℕ) → get_or f k 0 < 256)
+    → sum_l (map (λ w. get_or (counts_of s) (row_at f from w) 0) words) < 128
+    → sum_l (map (λ w. span (differences_at s f from w)) words) ≤ 1048576
+unpacked_near s f from h few =
+    subst (λ n. sum_l (map (λ w. span (differences_at s f from w)) words) ≤ 65536 * n) long_words
+    (all_near (λ w. get_or (counts_of s) (row_at f from w) 0) (λ w. span (differences_at s f from w))
+    (near_at s f from h) words few)

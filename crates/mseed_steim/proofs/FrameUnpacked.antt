@@ -13,15 +13,15 @@ use Rattle.mseed_steim.specs.declared.unpack.Unpacking.{Unpacking}
 use Rattle.mseed_steim.specs.private.Digits.{differences_of}
 use Rattle.mseed_steim.specs.Frames.{DataWord, data_word, word_at, code_at, words_from}
 use Rattle.mseed_steim.specs.private.Items.{items_of}
-use Rattle.mseed_steim.specs.private.Lanes.{span, words, row_at, Begins, code_from, counts_one, counts_two}
+use Rattle.mseed_steim.specs.private.Lanes.{span, words, row_at, Begins, code_from, all_counts_one, all_counts_two}
 use Rattle.mseed_steim.specs.private.Lanes.{word_at as lanes_word_at}
-use Rattle.mseed_steim.specs.private.Lanes.{counts_of, widths_of, differences_at}
-use Rattle.mseed_steim.specs.private.Unpacked.{AreNarrow, FitIn, Unpacks, lanes_of, unpacked}
+use Rattle.mseed_steim.specs.private.Lanes.{counts_of, all_counts, all_widths}
+use Rattle.mseed_steim.specs.private.Unpacked.{AreGood, FitIn, Unpacks, differences_at, lanes_of, unpacked}
 use Rattle.mseed_steim.proofs.Below.{sixteen}
 use Rattle.mseed_steim.proofs.Walking.{words_none, words_step, items_group}
-use Rattle.mseed_steim.proofs.FrameItems.{Reads, reads_as, none_at, span-append}
+use Rattle.mseed_steim.proofs.FrameItems.{Reads, reads_all, none_at, span-append}
 use Rattle.mseed_steim.proofs.LaneDigits.{at_word, one_of_sum}
-use Rattle.mseed_steim.proofs.FrameNear.{frame_near}
+use Rattle.mseed_steim.proofs.FrameNear.{alike, unpacked_near}
 use Rattle.mseed_steim.proofs.FrameSums.{row_small}
 
 -- one word more
@@ -40,14 +40,14 @@ unpacked_more s f from j (suc n) =
     (differences_at s f from (j + suc n))))
 
 -- what the words from one on spell
-spelled : (s : Scheme) (p f : List ℕ) (k from : ℕ) → Reads s (counts_of s) (widths_of s) p f k from
-    → AreNarrow s f from → (n j : ℕ) → 0 < j → from ≤ j → j + n ≡ 16
+spelled : (s : Scheme) (p f : List ℕ) (k from : ℕ) → Reads s (all_counts s) (all_widths s) p f k from
+    → AreGood s f from → (n j : ℕ) → 0 < j → from ≤ j → j + n ≡ 16
     → (rest : List DataWord) → items_of s (words_from p (16 * k + j) n ++ rest) ≡ map Ok (unpacked s f from j n)
     ++ items_of s rest
 unfolding unpacked
-spelled s p f k from reads narrow zero j some behind end rest = rw (words_none p (16 * k + j)) refl
-spelled s p f k from reads narrow (suc n) j some behind end rest =
-    let later = spelled s p f k from reads narrow n (j + 1) (omega arith) (omega arith) (omega arith) rest in
+spelled s p f k from reads good zero j some behind end rest = rw (words_none p (16 * k + j)) refl
+spelled s p f k from reads good (suc n) j some behind end rest =
+    let later = spelled s p f k from reads good n (j + 1) (omega arith) (omega arith) (omega arith) rest in
     let data_place : (16 * k + j) % 16 ≢ 0 = λ e. omega arith in
     let next : 16 * k + j + 1 ≡ 16 * k + (j + 1) = omega arith in
     let group : List ℤ = differences_at s f from j in
@@ -55,7 +55,7 @@ spelled s p f k from reads narrow (suc n) j some behind end rest =
     let cut : words_from p (16 * k + j) (suc n) ≡ data_word p (16 * k + j) ∷ words_from p (16 * k + (j + 1)) n =
     rw (← next) (words_step p (16 * k + j) n data_place) in
     let one : differences_of s (code_at p (16 * k + j)) (word_at p (16 * k + j)) ≡ Some group =
-    reads.word j (omega arith) behind (narrow j (omega arith)) in
+    reads.word j (omega arith) behind (good j (omega arith)) in
     items_group s (words_from p (16 * k + j) (suc n) ++ rest) (words_from p (16 * k + (j + 1)) n ++ rest)
     (data_word p (16 * k + j)) group (ap (λ (ws : List DataWord). ws ++ rest) cut) one
     ∙ ap (λ (xs : List (Result ℤ BadWordAt)). map Ok group ++ xs) later
@@ -63,25 +63,25 @@ spelled s p f k from reads narrow (suc n) j some behind end rest =
     ∙ ap (λ (xs : List (Result ℤ BadWordAt)). xs ++ items_of s rest) (sym (map-append Ok group others))
 
 -- no word before the first has any
-behind_4 : (s : Scheme) (p f : List ℕ) (k : ℕ) → Reads s (counts_of s) (widths_of s) p f k 4
+behind_4 : (s : Scheme) (p f : List ℕ) (k : ℕ) → Reads s (all_counts s) (all_widths s) p f k 4
     → unpacked s f 4 1 15 ≡ unpacked s f 4 4 12
 unfolding unpacked
 behind_4 s p f k reads =
-    let n1 = none_at (counts_of s) (widths_of s) f 4 1 (reads.empty 1 (omega arith)) in
-    let n2 = none_at (counts_of s) (widths_of s) f 4 2 (reads.empty 2 (omega arith)) in
-    let n3 = none_at (counts_of s) (widths_of s) f 4 3 (reads.empty 3 (omega arith)) in
+    let n1 = none_at (all_counts s) (all_widths s) f 4 1 (reads.empty 1 (omega arith)) in
+    let n2 = none_at (all_counts s) (all_widths s) f 4 2 (reads.empty 2 (omega arith)) in
+    let n3 = none_at (all_counts s) (all_widths s) f 4 3 (reads.empty 3 (omega arith)) in
     rw (n1, n2, n3) refl
 
 -- what the words of the frame spell
 pub all_spelled : (s : Scheme) (p f begin : List ℕ) (k from : ℕ) → Begins begin from → f ≡ take 64 (drop (64 * k) p)
-    → ((i : ℕ) → get_or f i 0 < 256) → AreNarrow s f from
+    → ((i : ℕ) → get_or f i 0 < 256) → AreGood s f from
     → (rest : List DataWord) → items_of s (words_from p (16 * k + from) (16 - from) ++ rest)
     ≡ map Ok (unpacked s f from 1 15) ++ items_of s rest
 all_spelled s p f begin k from (inl h) e octets =
-    rw h.0 (λ narrow. spelled s p f k 1 (reads_as s p f k 1 e octets) narrow 15 1 (omega arith) (omega arith) refl)
-all_spelled s p f begin k from (inr h) e octets = rw h.0 (λ narrow.
-    let reads = reads_as s p f k 4 e octets in
-    rw (behind_4 s p f k reads) (spelled s p f k 4 reads narrow 12 4 (omega arith) (omega arith) refl))
+    rw h.0 (λ good. spelled s p f k 1 (reads_all s p f k 1 e octets) good 15 1 (omega arith) (omega arith) refl)
+all_spelled s p f begin k from (inr h) e octets = rw h.0 (λ good.
+    let reads = reads_all s p f k 4 e octets in
+    rw (behind_4 s p f k reads) (spelled s p f k 4 reads good 12 4 (omega arith) (omega arith) refl))
 
 -- how far they go in all
 span_unpacked : (s : Scheme) (f : List ℕ) (from n j : ℕ)
@@ -99,7 +99,11 @@ near_sum s f from most = let all = span_unpacked s f from 15 1 in omega (arith, 
 
 pub all_near : (s : Scheme) (f : List ℕ) (from : ℕ) → ((i : ℕ) → get_or f i 0 < 256)
     → sum_l (map (λ w. get_or (counts_of s) (row_at f from w) 0) words) < 128 → span (unpacked s f from 1 15) ≤ 2 ^ 20
-all_near s f from octets few = near_sum s f from (frame_near s f from octets few)
+all_near s f from octets few = near_sum s f from (unpacked_near s f from octets few)
+
+pub begins_some : (begin : List ℕ) (from : ℕ) → Begins begin from → 0 < from
+begins_some begin from (inl h) = omega (arith, h.0)
+begins_some begin from (inr h) = omega (arith, h.0)
 
 pub lanes_few : (s : Scheme) → lanes_of s ≤ 8
 lanes_few One = omega arith
@@ -111,23 +115,23 @@ by_own_count count width by u = subst (λ (n : ℕ). Unpacks n width by) (sym u.
 
 -- the lanes that are taken for a word are enough
 pub lanes_enough : (s : Scheme) (f : List ℕ) (from lanes word : ℕ) (by : Unpacking) → word < 16 → by.count ≤ lanes_of s
-    → by.count ≡ get_or (counts_of s) (row_at f from word) 0 → FitIn s f from lanes → by.count ≤ lanes
+    → by.count ≡ get_or (all_counts s) (row_at f from word) 0 → FitIn s f from lanes → by.count ≤ lanes
 lanes_enough s f from lanes word by inside few same (inl all) = omega (arith, few, all)
 lanes_enough s f from lanes word by inside few same (inr fit) = let h = fit word inside in omega (arith, same, h)
 
 -- words without the code 3 have four differences at the most
-few_by_row : (s : Scheme) (row : ℕ) → row < 16 → row < 12 → get_or (counts_of s) row 0 < 128
-    → get_or (counts_of s) row 0 ≤ 4
-unfolding counts_one counts_two
-few_by_row One = sixteen (λ row. row < 12 → get_or counts_one row 0 < 128 → get_or counts_one row 0 ≤ 4)
+few_by_row : (s : Scheme) (row : ℕ) → row < 16 → row < 12 → get_or (all_counts s) row 0 < 128
+    → get_or (all_counts s) row 0 ≤ 4
+unfolding all_counts_one all_counts_two
+few_by_row One = sixteen (λ row. row < 12 → get_or all_counts_one row 0 < 128 → get_or all_counts_one row 0 ≤ 4)
     (λ _ _. omega arith) (λ _ _. omega arith) (λ _ _. omega arith) (λ _ _. omega arith) (λ _ _. omega arith)
     (λ _ _. omega arith) (λ _ _. omega arith) (λ _ _. omega arith) (λ _ _. omega arith) (λ _ _. omega arith)
     (λ _ _. omega arith) (λ _ _. omega arith) (λ h _. absurd (omega (arith, h))) (λ h _. absurd (omega (arith, h)))
     (λ h _. absurd (omega (arith, h))) (λ h _. absurd (omega (arith, h)))
-few_by_row Two = sixteen (λ row. row < 12 → get_or counts_two row 0 < 128 → get_or counts_two row 0 ≤ 4)
+few_by_row Two = sixteen (λ row. row < 12 → get_or all_counts_two row 0 < 128 → get_or all_counts_two row 0 ≤ 4)
     (λ _ _. omega arith) (λ _ _. omega arith) (λ _ _. omega arith) (λ _ _. omega arith) (λ _ _. omega arith)
     (λ _ _. omega arith) (λ _ _. omega arith) (λ _ _. omega arith) (λ _ h. absurd (omega (arith, h)))
-    (λ _ h. absurd (omega (arith, h))) (λ _ _. omega arith) (λ _ _. omega arith) (λ h _. absurd (omega (arith, h)))
+    (λ _ _. omega arith) (λ _ _. omega arith) (λ _ _. omega arith) (λ h _. absurd (omega (arith, h)))
     (λ h _. absurd (omega (arith, h))) (λ h _. absurd (omega (arith, h))) (λ h _. absurd (omega (arith, h)))
 
 no_3 : (f : List ℕ) (from word : ℕ) → 0 < from
@@ -142,20 +146,29 @@ no_3 f from word some other less = ⊎_elim
     below_3 n h = omega (arith, h)
 
 pub no_more_than_4 : (s : Scheme) (f : List ℕ) (from : ℕ) → ((i : ℕ) → get_or f i 0 < 256) → 0 < from
-    → ((j : ℕ) → 0 < j → j < 16 → lanes_word_at f 0 / 2 ^ (30 - 2 * j) % 4 ≢ 3) → AreNarrow s f from → FitIn s f from 4
-no_more_than_4 s f from octets some other narrow = inr (λ word less.
+    → ((j : ℕ) → 0 < j → j < 16 → lanes_word_at f 0 / 2 ^ (30 - 2 * j) % 4 ≢ 3) → AreGood s f from → FitIn s f from 4
+no_more_than_4 s f from octets some other good = inr (λ word less.
     let code = no_3 f from word some other less in
     let top : lanes_word_at f word / 2 ^ 30 < 4 =
     omega (arith, octets (4 * word + 0), octets (4 * word + 1), octets (4 * word + 2), octets (4 * word + 3)) in
-    few_by_row s (row_at f from word) (row_small f from octets word) (omega (arith, code, top)) (narrow word less))
+    few_by_row s (row_at f from word) (row_small f from octets word) (omega (arith, code, top)) (good word less))
 
--- where the words have few differences in all, none is bad or has a wide one
-pub all_narrow : (s : Scheme) (f : List ℕ) (from : ℕ)
-    → sum_l (map (λ w. get_or (counts_of s) (row_at f from w) 0) words) < 128 → AreNarrow s f from
-all_narrow s f from few word less =
+-- where the words have few differences in all, none is bad
+pub all_good : (s : Scheme) (f : List ℕ) (from : ℕ)
+    → sum_l (map (λ w. get_or (all_counts s) (row_at f from w) 0) words) < 128 → AreGood s f from
+all_good s f from few word less =
+    let one = one_of_sum (map (λ w. get_or (all_counts s) (row_at f from w) 0) words) word in
+    let at = at_word (λ w. get_or (all_counts s) (row_at f from w) 0) word less in
+    omega (arith, one, at, few)
+
+-- nor where none has one of 30 or 32 bits
+pub narrow_good : (s : Scheme) (f : List ℕ) (from : ℕ) → ((i : ℕ) → get_or f i 0 < 256)
+    → sum_l (map (λ w. get_or (counts_of s) (row_at f from w) 0) words) < 128 → AreGood s f from
+narrow_good s f from octets few word less =
     let one = one_of_sum (map (λ w. get_or (counts_of s) (row_at f from w) 0) words) word in
     let at = at_word (λ w. get_or (counts_of s) (row_at f from w) 0) word less in
-    omega (arith, one, at, few)
+    let same = alike s (row_at f from word) (row_small f from octets word) (omega (arith, one, at, few)) in
+    omega (arith, one, at, few, same.0)
 
 -- the words in two parts
 unpacked_cut : (s : Scheme) (f : List ℕ) (from n m j : ℕ)

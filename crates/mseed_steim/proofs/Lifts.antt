@@ -1,10 +1,10 @@
 -- How the words of a row are unpacked: the tables hold the powers.
 use Rattle.std.proofs.Common.{◌≡◌, ℕ, ◌-◌, ◌*◌, ◌^◌, ◌<◌, ◌≤◌, List, get_or, refl, arith}
 use Rattle.mseed_steim.specs.declared.unpack.Unpacking.{Unpacking}
-use Rattle.mseed_steim.specs.declared.unpack.TheConstants.{BYTES, NONE, PAIR, ROWS_ONE, ROWS_TWO}
-use Rattle.mseed_steim.specs.private.Lanes.{counts_one, counts_two, widths_one, widths_two}
+use Rattle.mseed_steim.specs.declared.unpack.TheConstants.{BYTES, NONE, PAIR, WHOLE, ROWS_ONE, ROWS_TWO}
+use Rattle.mseed_steim.specs.private.Lanes.{all_counts_one, all_counts_two, all_widths_one, all_widths_two}
 use Rattle.mseed_steim.specs.private.Unpacked.{Unpacks}
-use Rattle.mseed_steim.proofs.Below.{two, three, four, five, six, seven, sixteen}
+use Rattle.mseed_steim.proofs.Below.{one, two, three, four, five, six, seven, sixteen}
 
 abbrev Lift : ℕ → ℕ → Unpacking → ℕ → Type 0
 Lift count width by i = get_or by.lifts i 0 ≡ 2 ^ (32 - width * (count - i))
@@ -22,6 +22,10 @@ of_row : (count width : ℕ) (by : Unpacking) → by.count ≡ count → width *
     → ((i : ℕ) → i < count → Lift count width by i) → Unpacks count width by
 of_row count width by e fits fall positive lifts =
     record { as_many = e; fits = fits; fall = λ some. fall; positive = λ some. positive; lifts = lifts }
+
+of_one : (w : ℕ) (by : Unpacking) → by.count ≡ 1 → w * 1 ≤ 32 → by.fall ≡ 32 - w → 0 < w → Lift 1 w by 0
+    → Unpacks 1 w by
+of_one w by e fits fall positive a = of_row 1 w by e fits fall positive (one (Lift 1 w by) a)
 
 of_two : (w : ℕ) (by : Unpacking) → by.count ≡ 2 → w * 2 ≤ 32 → by.fall ≡ 32 - w → 0 < w → Lift 2 w by 0
     → Lift 2 w by 1 → Unpacks 2 w by
@@ -61,13 +65,16 @@ of_bytes = of_four 8 BYTES refl (omega arith) refl (omega arith) refl refl refl 
 of_pair : Unpacks 2 16 PAIR
 of_pair = of_two 16 PAIR refl (omega arith) refl (omega arith) refl refl
 
-pub rows_two : (none : Unpacking) (r : ℕ) → r < 16 → InTable counts_two widths_two ROWS_TWO none r
-unfolding counts_two widths_two
+of_whole : Unpacks 1 32 WHOLE
+of_whole = of_one 32 WHOLE refl (omega arith) refl (omega arith) refl
+
+pub rows_two : (none : Unpacking) (r : ℕ) → r < 16 → InTable all_counts_two all_widths_two ROWS_TWO none r
+unfolding all_counts_two all_widths_two
 rows_two none =
-    sixteen (InTable counts_two widths_two ROWS_TWO none) (λ _. of_empty) (λ _. of_empty) (λ _. of_empty)
+    sixteen (InTable all_counts_two all_widths_two ROWS_TWO none) (λ _. of_empty) (λ _. of_empty) (λ _. of_empty)
     (λ _. of_empty)
     (λ _. of_bytes) (λ _. of_bytes) (λ _. of_bytes) (λ _. of_bytes)
-    (λ few. absurd (omega (arith, few))) (λ few. absurd (omega (arith, few)))
+    (λ few. absurd (omega (arith, few))) (λ _. of_one 30 _ refl (omega arith) refl (omega arith) refl)
     (λ _. of_two 15 _ refl (omega arith) refl (omega arith) refl refl)
     (λ _. of_three 10 _ refl (omega arith) refl (omega arith) refl refl refl)
     (λ _. of_five 6 _ refl (omega arith) refl (omega arith) refl refl refl refl refl)
@@ -75,12 +82,11 @@ rows_two none =
     (λ _. of_seven 4 _ refl (omega arith) refl (omega arith) refl refl refl refl refl refl refl)
     (λ few. absurd (omega (arith, few)))
 
-pub rows_one : (none : Unpacking) (r : ℕ) → r < 16 → InTable counts_one widths_one ROWS_ONE none r
-unfolding counts_one widths_one
+pub rows_one : (none : Unpacking) (r : ℕ) → r < 16 → InTable all_counts_one all_widths_one ROWS_ONE none r
+unfolding all_counts_one all_widths_one
 rows_one none =
-    sixteen (InTable counts_one widths_one ROWS_ONE none) (λ _. of_empty) (λ _. of_empty) (λ _. of_empty)
+    sixteen (InTable all_counts_one all_widths_one ROWS_ONE none) (λ _. of_empty) (λ _. of_empty) (λ _. of_empty)
     (λ _. of_empty)
     (λ _. of_bytes) (λ _. of_bytes) (λ _. of_bytes) (λ _. of_bytes)
     (λ _. of_pair) (λ _. of_pair) (λ _. of_pair) (λ _. of_pair)
-    (λ few. absurd (omega (arith, few))) (λ few. absurd (omega (arith, few)))
-    (λ few. absurd (omega (arith, few))) (λ few. absurd (omega (arith, few)))
+    (λ _. of_whole) (λ _. of_whole) (λ _. of_whole) (λ _. of_whole)

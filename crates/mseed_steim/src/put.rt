@@ -18,7 +18,7 @@ use crate::group::{Group, group_of};
 use crate::lanes::Rows;
 use crate::scheme::Scheme;
 use crate::sum::{Sum, Walked, add_digit, add_near};
-use crate::unpack::{PLACES, Room, unpack_frame};
+use crate::unpack::{PLACES, Room, unpack_frame, unpack_wide};
 
 /// No sum of a frame's differences is further from 0 than this, unless one of them has 30 or 32 bits.
 const REACH: u32 = 1 << 20;
@@ -118,6 +118,67 @@ fn put_some(differences: &[i32], samples: usize, sum: Sum, out: &mut [i32]) -> S
     sum
 }
 
+/// Differences that are all needed, as far as no sum leaves 32 bits.
+#[inline(always)]
+fn put_checked(differences: &[i32], samples: usize, sum: Sum, out: &mut [i32]) -> Walked
+    requires places { length out.old ≡ samples }
+    requires some { 0 < sum.met }
+    requires left { sum.met + length differences.now ≤ samples }
+    ensures goes_on { (more : List (Result ℤ BadWordAt))
+        → GoesOn samples sum (map Ok differences.now ++ more) more result }
+    ensures kept { (more : List (Result ℤ BadWordAt))
+        → Keeps samples sum out.old (map Ok differences.now ++ more) more out.new result }
+    ensures met { IfOk result (λ next. next.met ≤ samples) }
+    ensures places { length out.new ≡ samples }
+{
+    let mut last = sum.last;
+    for i in 0..differences.len() {
+        let Some(next) = last.checked_add(differences[i]) else {
+            return Err(ReadFault::Overflow(sum.met + i));
+        };
+        out[sum.met + i] = next;
+        last = next;
+    }
+    Ok(Sum {
+        met: sum.met + differences.len(),
+        last,
+    })
+}
+
+/// The differences of a frame of which some have 30 or 32 bits. None where its words have to be looked at: where not
+/// all are needed, none was met before, or a word is bad.
+#[cold]
+fn put_wide(
+    scheme: Scheme,
+    frame: &[u8; 64],
+    begin: Rows,
+    samples: usize,
+    sum: Sum,
+    differences: &mut Room,
+    out: &mut [i32],
+) -> Option<Walked>
+    requires places { length out.old ≡ samples }
+    requires met { sum.met ≤ samples }
+    requires begins { (from : ℕ) × Begins begin from }
+    ensures goes_on { IfSome result (λ walked. (p : List ℕ) (k from : ℕ) (rest : List DataWord) → Begins begin from
+        → frame.now ≡ take 64 (drop (64 * k) p)
+        → GoesOn samples sum (items_of scheme (words_from p (16 * k + from) (16 - from) ++ rest))
+        (items_of scheme rest) walked) }
+    ensures kept { IfSome result (λ walked. (p : List ℕ) (k from : ℕ) (rest : List DataWord) → Begins begin from
+        → frame.now ≡ take 64 (drop (64 * k) p)
+        → Keeps samples sum out.old (items_of scheme (words_from p (16 * k + from) (16 - from) ++ rest))
+        (items_of scheme rest) out.new walked) }
+    ensures met { IfSome result (λ walked. IfOk walked (λ next. next.met ≤ samples)) }
+    ensures places { length out.new ≡ samples }
+    ensures none { IfNone result (out.new ≡ out.old) }
+{
+    let count = unpack_wide(scheme, frame, begin, differences)?;
+    if sum.met == 0 || samples - sum.met < count {
+        return None;
+    }
+    Some(put_checked(&differences[..count], samples, sum, out))
+}
+
 /// The differences of a frame at once. None where its words have to be looked at: where not all are needed, none was
 /// met before, a word is bad or its differences wide, or the limits of 32 bits are within reach.
 #[inline(always)]
@@ -193,23 +254,29 @@ fn put_first_frame(
         Ok(sum) => sum,
         Err(fault) => return Err(fault),
     };
-    match put_at_once(scheme, frame, FROM_4, samples, sum, differences, out) {
-        Some(sum) => Ok(sum),
+    if let Some(sum) = put_at_once(scheme, frame, FROM_4, samples, sum, differences, out) {
+        return Ok(sum);
+    }
+    match put_wide(scheme, frame, FROM_4, samples, sum, differences, out) {
+        Some(walked) => walked,
         None => put_all(scheme, words, samples, sum, out),
     }
 }
 
-/// The differences of a later frame, word by word, as far as they are needed.
+/// The differences of a later frame that aren't added up at once, as far as they are needed.
 #[cold]
-fn put_frame_words(
+fn put_frame(
     scheme: Scheme,
     payload: &[u8],
+    frame: &[u8; 64],
     index: usize,
     samples: usize,
     sum: Sum,
+    differences: &mut Room,
     out: &mut [i32],
 ) -> Walked
     requires inside { 64 * (index + 1) ≤ length payload.now }
+    requires at { frame.now ≡ take 64 (drop (64 * index) payload.now) }
     requires places { length out.old ≡ samples }
     requires met { sum.met ≤ samples }
     ensures goes_on { (rest : List DataWord)
@@ -221,8 +288,13 @@ fn put_frame_words(
     ensures met { IfOk result (λ next. next.met ≤ samples) }
     ensures places { length out.new ≡ samples }
 {
-    let words = Words::between(payload, FRAME * index, FRAME * (index + 1));
-    put_all(scheme, words, samples, sum, out)
+    match put_wide(scheme, frame, FROM_1, samples, sum, differences, out) {
+        Some(walked) => walked,
+        None => {
+            let words = Words::between(payload, FRAME * index, FRAME * (index + 1));
+            put_all(scheme, words, samples, sum, out)
+        }
+    }
 }
 
 /// The differences of the frames behind the first one. They are added up at once, where that can't go wrong, and else
@@ -254,7 +326,7 @@ fn put_later_frames(
             sum = next;
             continue;
         }
-        match put_frame_words(scheme, payload, index, samples, sum, out) {
+        match put_frame(scheme, payload, frame, index, samples, sum, differences, out) {
             Ok(next) => sum = next,
             Err(fault) => return Err(fault),
         }

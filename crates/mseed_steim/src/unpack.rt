@@ -7,14 +7,14 @@
 
 ghost use Rattle.std.specs.Prelude.{◌≡◌, ◌<◌, ◌≤◌, ◌+◌, ◌-◌, ◌*◌, ◌^◌, ℕ, List, [], ◌∷◌, ◌++◌, ℤ, Ok, IfSome, map};
 ghost use Rattle.std.specs.Prelude.{take, drop, slice_index, slice_index_or};
-ghost use Rattle.std.specs.Simd.Lanes.{sum_l};
+ghost use Rattle.std.specs.Simd.Lanes.{Each1, sum_l};
 ghost use Rattle.mseed_steim.specs.private.Digits.{digit_at, digits};
 ghost use Rattle.mseed_steim.specs.Frames.{DataWord, words_from};
 ghost use Rattle.mseed_steim.specs.private.Items.{items_of};
 ghost use Rattle.mseed_steim.specs.private.Lanes.{Begins, row_at, span, word_at, word_of, words};
-ghost use Rattle.mseed_steim.specs.private.Lanes.{counts_of, widths_of};
-ghost use Rattle.mseed_steim.specs.private.Unpacked.{AreNarrow, FitIn, Unpacks, lanes_of, row_of, unpacked};
-ghost use Rattle.mseed_steim.specs.private.Unpacked.{AreUnpacked};
+ghost use Rattle.mseed_steim.specs.private.Lanes.{all_counts, all_widths, counts_of};
+ghost use Rattle.mseed_steim.specs.private.Unpacked.{AreGood, FitIn, Unpacks, lanes_of, row_of, unpacked};
+ghost use Rattle.mseed_steim.specs.private.Unpacked.{AreNarrow, AreUnpacked};
 
 use crate::ends::has_no_code_3;
 use crate::frame::{COUNT_ONE, COUNT_TWO};
@@ -60,7 +60,7 @@ macro_rules! row {
     };
 }
 
-/// Words with no differences, and those that aren't unpacked: they are bad, or have one of 30 or 32 bits.
+/// Words with no differences, and bad ones, which aren't unpacked.
 const NONE: Unpacking = row!(0, 8, [0, 0, 0, 0, 0, 0, 0, 0]);
 
 const BYTES: Unpacking = row!(4, 8, [1, 0x100, 0x1_0000, 0x100_0000, 0, 0, 0, 0]);
@@ -76,7 +76,7 @@ static ROWS_TWO: [Unpacking; 16] = [
     BYTES,
     BYTES,
     NONE,
-    NONE,
+    row!(1, 30, [4, 0, 0, 0, 0, 0, 0, 0]),
     row!(2, 15, [4, 0x2_0000, 0, 0, 0, 0, 0, 0]),
     row!(3, 10, [4, 0x1000, 0x40_0000, 0, 0, 0, 0, 0]),
     row!(5, 6, [4, 0x100, 0x4000, 0x10_0000, 0x400_0000, 0, 0, 0]),
@@ -104,11 +104,18 @@ static ROWS_TWO: [Unpacking; 16] = [
 
 const PAIR: Unpacking = row!(2, 16, [1, 0x1_0000, 0, 0, 0, 0, 0, 0]);
 
+const WHOLE: Unpacking = row!(1, 32, [1, 0, 0, 0, 0, 0, 0, 0]);
+
 /// By code and top bits, in Steim-1.
 static ROWS_ONE: [Unpacking; 16] = [
-    NONE, NONE, NONE, NONE, BYTES, BYTES, BYTES, BYTES, PAIR, PAIR, PAIR, PAIR, NONE, NONE, NONE,
-    NONE,
+    NONE, NONE, NONE, NONE, BYTES, BYTES, BYTES, BYTES, PAIR, PAIR, PAIR, PAIR, WHOLE, WHOLE, WHOLE,
+    WHOLE,
 ];
+
+/// How many differences a word of a row has, those of 30 or 32 bits too; 128 where it is bad.
+const ALL_TWO: Rows = [0, 0, 0, 0, 4, 4, 4, 4, 128, 1, 2, 3, 5, 6, 7, 128];
+
+const ALL_ONE: Rows = [0, 0, 0, 0, 4, 4, 4, 4, 2, 2, 2, 2, 1, 1, 1, 1];
 
 /// How a word of a row is unpacked.
 #[inline(always)]
@@ -116,8 +123,8 @@ fn unpacking_of(scheme: Scheme, row: usize) -> &'static Unpacking
     requires { row < 16 }
     ensures few { result.now.count ≤ lanes_of scheme }
     ensures low { result.now.fall < 32 }
-    ensures row { slice_index (counts_of scheme) row < 128
-        → Unpacks (slice_index (counts_of scheme) row) (slice_index (widths_of scheme) row) result.now }
+    ensures row { slice_index (all_counts scheme) row < 128
+        → Unpacks (slice_index (all_counts scheme) row) (slice_index (all_widths scheme) row) result.now }
 {
     match scheme {
         Scheme::One => &ROWS_ONE[row],
@@ -160,22 +167,40 @@ fn spread(word: u32, by: &Unpacking, lanes: usize, at: usize, differences: &mut 
     }
 }
 
-/// The rows of a frame's words, eight in each half, and how many differences these have: 128 or more where a word is
-/// bad or has one of 30 or 32 bits.
+/// The rows of a frame's words.
 #[inline(always)]
-fn rows_in(scheme: Scheme, frame: &[u8; 64], begin: Rows) -> ([u64; 2], u32)
-    ensures rows { (from word : ℕ) → Begins begin from → word < 16
-        → row_of result.0 word ≡ row_at frame.now from word }
-    ensures count { (from : ℕ) → Begins begin from
-        → result.1 ≡ sum_l (map (λ w. slice_index (counts_of scheme) (row_at frame.now from w)) words) }
+fn rows_in(frame: &[u8; 64], begin: Rows) -> u8x16
+    ensures small { Each1 (λ r. r < 16) result }
+    ensures rows { (from : ℕ) → Begins begin from → result ≡ map (row_at frame.now from) words }
 {
     let (tops, _, _, _) = planes(frame);
-    let rows = rows_of(frame, tops, begin);
-    let count = match scheme {
+    rows_of(frame, tops, begin)
+}
+
+/// How many differences words of these rows have: 128 or more where one is bad or has one of 30 or 32 bits.
+#[inline(always)]
+fn count_narrow(scheme: Scheme, rows: u8x16) -> u32
+    requires { Each1 (λ r. r < 16) rows }
+    ensures { (row : ℕ → ℕ) → rows ≡ map row words
+        → result ≡ sum_l (map (λ w. slice_index (counts_of scheme) (row w)) words) }
+{
+    match scheme {
         Scheme::One => counted(rows, COUNT_ONE),
         Scheme::Two => counted(rows, COUNT_TWO),
-    };
-    (u64x2::from_le_bytes(rows).to_array(), count)
+    }
+}
+
+/// The same with those of 30 and 32 bits: 128 or more where a word is bad.
+#[inline(always)]
+fn count_all(scheme: Scheme, rows: u8x16) -> u32
+    requires { Each1 (λ r. r < 16) rows }
+    ensures { (row : ℕ → ℕ) → rows ≡ map row words
+        → result ≡ sum_l (map (λ w. slice_index (all_counts scheme) (row w)) words) }
+{
+    match scheme {
+        Scheme::One => counted(rows, ALL_ONE),
+        Scheme::Two => counted(rows, ALL_TWO),
+    }
 }
 
 /// The row of a word.
@@ -230,7 +255,7 @@ fn unpack_five(
     ensures few { result ≤ met + 40 }
     ensures unpacked { (frame : List ℕ) (from : ℕ) → bits.now ≡ map (word_at frame) words
         → ((word : ℕ) → word < 16 → row_of rows.now word ≡ row_at frame from word)
-        → AreNarrow scheme frame from → FitIn scheme frame from lanes
+        → AreGood scheme frame from → FitIn scheme frame from lanes
         → take result differences.new ≡ take met differences.old ++ unpacked scheme frame from first 5 }
 {
     let mut met = met;
@@ -255,7 +280,7 @@ fn unpack_all(
     ensures few { result ≤ 120 }
     ensures unpacked { (frame : List ℕ) (from : ℕ) → bits.now ≡ map (word_at frame) words
         → ((word : ℕ) → word < 16 → row_of rows.now word ≡ row_at frame from word)
-        → AreNarrow scheme frame from → FitIn scheme frame from lanes
+        → AreGood scheme frame from → FitIn scheme frame from lanes
         → take result differences.new ≡ unpacked scheme frame from 1 15 }
 {
     let met = unpack_five(scheme, lanes, bits, rows, 1, 0, differences);
@@ -266,31 +291,37 @@ fn unpack_all(
 /// The differences of a frame's words of these rows, in their order: how many there are. Words without the code 3 have
 /// no more of them in Steim-2 than in Steim-1.
 #[inline(always)]
-fn unpack_words(scheme: Scheme, frame: &[u8; 64], rows: &[u64; 2], differences: &mut Room) -> usize
+fn unpack_words(scheme: Scheme, frame: &[u8; 64], rows: u8x16, differences: &mut Room) -> usize
+    requires { Each1 (λ r. r < 16) rows }
     ensures few { result ≤ 120 }
-    ensures unpacked { (from : ℕ) → 0 < from
-        → ((word : ℕ) → word < 16 → row_of rows.now word ≡ row_at frame.now from word)
-        → AreNarrow scheme frame.now from → take result differences.new ≡ unpacked scheme frame.now from 1 15 }
+    ensures unpacked { (from : ℕ) → 0 < from → rows ≡ map (row_at frame.now from) words
+        → AreGood scheme frame.now from → take result differences.new ≡ unpacked scheme frame.now from 1 15 }
 {
     let bits = words_of(frame);
+    let rows = u64x2::from_le_bytes(rows).to_array();
     if has_no_code_3(bits[0]) {
-        return unpack_all(scheme, LANES_ONE, &bits, rows, differences);
+        return unpack_all(scheme, LANES_ONE, &bits, &rows, differences);
     }
-    unpack_all(scheme, lanes_of(scheme), &bits, rows, differences)
+    unpack_all(scheme, lanes_of(scheme), &bits, &rows, differences)
 }
 
 /// The differences of a frame's words from word 1 or word 4 on, in their order: how many there are. None where a word
 /// is bad or has a difference of 30 or 32 bits.
 #[inline(always)]
-fn unpack_by(scheme: Scheme, frame: &[u8; 64], begin: Rows, differences: &mut Room) -> Option<usize>
+fn unpack_narrow(
+    scheme: Scheme,
+    frame: &[u8; 64],
+    begin: Rows,
+    differences: &mut Room,
+) -> Option<usize>
     requires { (from : ℕ) × Begins begin from }
-    ensures { IfSome result (λ count. AreUnpacked scheme begin frame.now (take count differences.new) count) }
+    ensures { IfSome result (λ count. AreNarrow scheme begin frame.now (take count differences.new) count) }
 {
-    let (rows, count) = rows_in(scheme, frame, begin);
-    if count >= 128 {
+    let rows = rows_in(frame, begin);
+    if count_narrow(scheme, rows) >= 128 {
         return None;
     }
-    Some(unpack_words(scheme, frame, &rows, differences))
+    Some(unpack_words(scheme, frame, rows, differences))
 }
 
 /// The same, by a body for each scheme, with its own table and lanes.
@@ -302,10 +333,27 @@ pub(crate) fn unpack_frame(
     differences: &mut Room,
 ) -> Option<usize>
     requires { (from : ℕ) × Begins begin from }
-    ensures { IfSome result (λ count. AreUnpacked scheme begin frame.now (take count differences.new) count) }
+    ensures { IfSome result (λ count. AreNarrow scheme begin frame.now (take count differences.new) count) }
 {
     match scheme {
-        Scheme::One => unpack_by(Scheme::One, frame, begin, differences),
-        Scheme::Two => unpack_by(Scheme::Two, frame, begin, differences),
+        Scheme::One => unpack_narrow(Scheme::One, frame, begin, differences),
+        Scheme::Two => unpack_narrow(Scheme::Two, frame, begin, differences),
     }
+}
+
+/// The same where some may have 30 or 32 bits. None where a word is bad.
+pub(crate) fn unpack_wide(
+    scheme: Scheme,
+    frame: &[u8; 64],
+    begin: Rows,
+    differences: &mut Room,
+) -> Option<usize>
+    requires { (from : ℕ) × Begins begin from }
+    ensures { IfSome result (λ count. AreUnpacked scheme begin frame.now (take count differences.new) count) }
+{
+    let rows = rows_in(frame, begin);
+    if count_all(scheme, rows) >= 128 {
+        return None;
+    }
+    Some(unpack_words(scheme, frame, rows, differences))
 }

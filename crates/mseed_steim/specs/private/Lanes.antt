@@ -150,6 +150,27 @@ abbrev pub widths_of : Scheme → List ℕ
 widths_of One = widths_one
 widths_of Two = widths_two
 
+-- The same where words with a difference of 30 or 32 bits count too: 128 where a word is bad.
+unfoldable pub all_counts_two : List ℕ
+all_counts_two = 0 ∷ 0 ∷ 0 ∷ 0 ∷ 4 ∷ 4 ∷ 4 ∷ 4 ∷ 128 ∷ 1 ∷ 2 ∷ 3 ∷ 5 ∷ 6 ∷ 7 ∷ 128 ∷ []
+
+unfoldable pub all_widths_two : List ℕ
+all_widths_two = 0 ∷ 0 ∷ 0 ∷ 0 ∷ 8 ∷ 8 ∷ 8 ∷ 8 ∷ 0 ∷ 30 ∷ 15 ∷ 10 ∷ 6 ∷ 5 ∷ 4 ∷ 0 ∷ []
+
+unfoldable pub all_counts_one : List ℕ
+all_counts_one = 0 ∷ 0 ∷ 0 ∷ 0 ∷ 4 ∷ 4 ∷ 4 ∷ 4 ∷ 2 ∷ 2 ∷ 2 ∷ 2 ∷ 1 ∷ 1 ∷ 1 ∷ 1 ∷ []
+
+unfoldable pub all_widths_one : List ℕ
+all_widths_one = 0 ∷ 0 ∷ 0 ∷ 0 ∷ 8 ∷ 8 ∷ 8 ∷ 8 ∷ 16 ∷ 16 ∷ 16 ∷ 16 ∷ 32 ∷ 32 ∷ 32 ∷ 32 ∷ []
+
+abbrev pub all_counts : Scheme → List ℕ
+all_counts One = all_counts_one
+all_counts Two = all_counts_two
+
+abbrev pub all_widths : Scheme → List ℕ
+all_widths One = all_widths_one
+all_widths Two = all_widths_two
+
 -- the differences of a word by its row
 abbrev pub differences_at : Scheme → List ℕ → ℕ → ℕ → List ℤ
 differences_at scheme frame from word =

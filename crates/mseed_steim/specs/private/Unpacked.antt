@@ -6,7 +6,8 @@ use Rattle.mseed_steim.specs.declared.scheme.Scheme.TheVariants.{One, Two}
 use Rattle.mseed_steim.specs.declared.unpack.Unpacking.{Unpacking}
 use Rattle.mseed_steim.specs.Frames.{DataWord, words_from}
 use Rattle.mseed_steim.specs.private.Items.{items_of}
-use Rattle.mseed_steim.specs.private.Lanes.{Begins, row_at, counts_of, differences_at, span}
+use Rattle.mseed_steim.specs.private.Digits.{digits}
+use Rattle.mseed_steim.specs.private.Lanes.{Begins, row_at, word_at, all_counts, all_widths, span}
 
 -- no fewer than the differences of a word, as far as they have at most 16 bits
 abbrev pub lanes_of : Scheme → ℕ
@@ -26,15 +27,21 @@ pub record Unpacks (count width : ℕ) (by : Unpacking) : Type 0 where
   pub positive : 0 < count → 0 < width
   pub lifts : (i : ℕ) → i < count → slice_index_or by.lifts i 0 ≡ 2 ^ (32 - width * (count - i))
 
--- no word is bad or has a difference of 30 or 32 bits
-abbrev pub AreNarrow : Scheme → List ℕ → ℕ → Type 0
-AreNarrow scheme frame from = (word : ℕ) → word < 16 → slice_index (counts_of scheme) (row_at frame from word) < 128
+-- no word is bad
+abbrev pub AreGood : Scheme → List ℕ → ℕ → Type 0
+AreGood scheme frame from = (word : ℕ) → word < 16 → slice_index (all_counts scheme) (row_at frame from word) < 128
 
 -- no word has more differences than lanes are taken for it
 abbrev pub FitIn : Scheme → List ℕ → ℕ → ℕ → Type 0
 FitIn scheme frame from lanes =
     (lanes_of scheme ≤ lanes)
-    ⊎ ((word : ℕ) → word < 16 → slice_index (counts_of scheme) (row_at frame from word) ≤ lanes)
+    ⊎ ((word : ℕ) → word < 16 → slice_index (all_counts scheme) (row_at frame from word) ≤ lanes)
+
+-- the differences of a word by its row
+abbrev pub differences_at : Scheme → List ℕ → ℕ → ℕ → List ℤ
+differences_at scheme frame from word =
+    digits (slice_index (all_widths scheme) (row_at frame from word)) (word_at frame word)
+    (slice_index (all_counts scheme) (row_at frame from word))
 
 -- the differences of n words, one after another
 unfoldable pub unpacked : Scheme → List ℕ → ℕ → ℕ → ℕ → List ℤ
@@ -47,4 +54,8 @@ pub record AreUnpacked (scheme : Scheme) (begin frame : List ℕ) (differences :
   pub few : count ≤ 120
   pub items : (p : List ℕ) (k from : ℕ) (rest : List DataWord) → Begins begin from → frame ≡ take 64 (drop (64 * k) p)
       → items_of scheme (words_from p (16 * k + from) (16 - from) ++ rest) ≡ map Ok differences ++ items_of scheme rest
+
+-- the same, where none of them has 30 or 32 bits
+pub record AreNarrow (scheme : Scheme) (begin frame : List ℕ) (differences : List ℤ) (count : ℕ) : Type 0 where
+  pub unpacked : AreUnpacked scheme begin frame differences count
   pub near : span differences ≤ 2 ^ 20

@@ -62,9 +62,27 @@ returns-in-None-clause-goes_on c = λ rest.
 pub returns-in-None-clause-kept : goal.returns-in-None-clause-kept
 returns-in-None-clause-kept c = λ rest.
     let at = (goal.at.returns-in-None-clause-kept c).In-Ok in
-    let kept = rw c.in-None.ensures.none at c.put_all.ensures.kept in
+    let kept = rw (c.in-None.ensures.none, c.in_default-put_at_once.ensures.none) at c.put_all.ensures.kept in
     keeps_from c.args.samples (record { met = 0; last = c.args.first }) c.in-Ok.sum c.args.out.now c.put_word.new.out _
     _ _ (items_of c.args.scheme rest) c.put_all.result (first_kept at rest) (kept rest)
 
+pub returns-in-Some-put_wide-clause-goes_on : goal.returns-in-Some-put_wide-clause-goes_on
+returns-in-Some-put_wide-clause-goes_on c = λ rest.
+    let at = (goal.at.returns-in-Some-put_wide-clause-goes_on c).In-Ok in
+    let wide = c.in-Some-put_wide.ensures.goes_on c.args.payload.now 0 4 rest (inr (refl, refl)) c.requires.prefix in
+    goes_from c.args.samples (record { met = 0; last = c.args.first }) c.in-Ok.sum _ _ (items_of c.args.scheme rest)
+    c.in-Some-put_wide.walked (first at rest) (rw (← behind at) at wide)
+
+pub returns-in-Some-put_wide-clause-kept : goal.returns-in-Some-put_wide-clause-kept
+returns-in-Some-put_wide-clause-kept c = λ rest.
+    let at = (goal.at.returns-in-Some-put_wide-clause-kept c).In-Ok in
+    let wide = c.in-Some-put_wide.ensures.kept c.args.payload.now 0 4 rest (inr (refl, refl)) c.requires.prefix in
+    let kept = rw (c.in_default-put_at_once.ensures.none, ← behind at) at wide in
+    keeps_from c.args.samples (record { met = 0; last = c.args.first }) c.in-Ok.sum c.args.out.now c.put_word.new.out _
+    _ _ (items_of c.args.scheme rest) c.in-Some-put_wide.walked (first_kept at rest) kept
+
 pub put_at_once-requires-clause-begins : goal.put_at_once-requires-clause-begins
 put_at_once-requires-clause-begins c = (4, inr (refl, refl))
+
+pub put_wide-requires-clause-begins : goal.put_wide-requires-clause-begins
+put_wide-requires-clause-begins c = (4, inr (refl, refl))

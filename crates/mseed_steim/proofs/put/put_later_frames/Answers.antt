@@ -20,6 +20,12 @@ returns-then-sum-samples-clause-kept c =
 pub put_at_once-requires-clause-begins : goal.put_at_once-requires-clause-begins
 put_at_once-requires-clause-begins c = (1, inl (refl, refl))
 
+pub put_frame-requires-clause-at : goal.put_frame-requires-clause-at
+put_frame-requires-clause-at c =
+    let inside : c.loop-index.index < length c.args.payload.now / 64 = omega arith in
+    rw c.as_chunks.ensures.front (frame_at (length c.args.payload.now / 64) c.args.payload.now c.loop-index.index
+    inside)
+
 -- the first word of a frame, its codes, is no data word
 skip : (c : Else-sum-samples)
     → words_from c.args.payload.now (16 * c.loop-index.index) (word_count c.args.payload.now - 16 * c.loop-index.index)

@@ -2,8 +2,8 @@ use Rattle.std.proofs.Common.{◌≡◌, ◌<◌, ◌≤◌, ◌+◌, ◌++◌, 
 use Rattle.std.proofs.Common.{append_assoc}
 use Rattle.mseed_steim.specs.private.Digits.{digits}
 use Rattle.mseed_steim.specs.private.Lanes.{row_at, word_at}
-use Rattle.mseed_steim.specs.private.Lanes.{differences_at, widths_of}
-use Rattle.mseed_steim.specs.private.Unpacked.{lanes_of, unpacked}
+use Rattle.mseed_steim.specs.private.Lanes.{all_widths}
+use Rattle.mseed_steim.specs.private.Unpacked.{differences_at, lanes_of, unpacked}
 use Rattle.mseed_steim.proofs.FrameUnpacked.{by_own_count, lanes_enough, lanes_few, unpacked_more}
 use Rattle.mseed_steim.proofs.LaneDigits.{at_word}
 use Rattle.mseed_steim.proofs.unpack.unpack_five.Goals as goal
@@ -33,7 +33,7 @@ loop-index-preserved c =
           let row : c.row_in.result ≡ row_at f from place = c.row_in.ensures ∙ rows place inside in
           let known = rw row at c.unpacking_of-by.ensures.row in
           let u = known (narrow place inside) in
-          let width : ℕ = get_or (widths_of s) (row_at f from place) 0 in
+          let width : ℕ = get_or (all_widths s) (row_at f from place) 0 in
           let bits : ℕ = get_or c.args.bits.now place 0 in
           let word : bits ≡ word_at f place =
           ap (λ (ws : List ℕ). get_or ws place 0) ws ∙ at_word (word_at f) place inside in

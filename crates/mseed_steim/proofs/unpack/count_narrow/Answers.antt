@@ -1,0 +1,10 @@
+use Rattle.mseed_steim.specs.private.Lanes.{counts_one, counts_two}
+use Rattle.mseed_steim.proofs.unpack.count_narrow.Goals as goal
+
+pub returns-in-One : goal.returns-in-One
+unfolding counts_one
+returns-in-One c = rw c.in-One.is c.counted.ensures
+
+pub returns-in-Two : goal.returns-in-Two
+unfolding counts_two
+returns-in-Two c = rw c.in-Two.is c.counted-in-Two.ensures
