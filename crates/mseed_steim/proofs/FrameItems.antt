@@ -11,12 +11,13 @@ use lib.Lanes.{sum_l}
 use Rattle.mseed_steim.specs.declared.scheme.Scheme.{Scheme}
 use Rattle.mseed_steim.specs.declared.scheme.Scheme.TheVariants.{One, Two}
 use Rattle.mseed_steim.specs.declared.differences.BadWordAt.{BadWordAt}
-use Rattle.mseed_steim.specs.declared.frame.Moved.{Moved}
-use Rattle.mseed_steim.specs.private.Moves.{Adds, MovesBy}
+use Rattle.mseed_steim.specs.declared.frame.Lanes.{Lanes}
+use Rattle.mseed_steim.specs.private.Moves.{Adds, MovesBy, Tells}
 use Rattle.mseed_steim.specs.private.Digits.{digits, differences_of}
 use Rattle.mseed_steim.specs.Frames.{DataWord, data_word, word_at, code_at, words_from}
 use Rattle.mseed_steim.specs.private.Items.{items_of}
 use Rattle.mseed_steim.specs.private.Lanes.{total, span, sum_z, words, word_at as lanes_word_at, row_at, Begins}
+use Rattle.mseed_steim.specs.private.Lanes.{moved}
 use Rattle.mseed_steim.specs.private.Lanes.{counts_two, widths_two, counts_one, widths_one, counts_of, widths_of}
 use Rattle.mseed_steim.specs.private.Lanes.{all_counts_two, all_widths_two, all_counts_one, all_widths_one}
 use Rattle.mseed_steim.specs.private.Lanes.{all_counts, all_widths}
@@ -102,7 +103,7 @@ code_is p f k j e h =
     rw (head, place, word_is p f k 0 e (omega arith)) refl
 
 -- ---- sums of lists
-total-append : (xs ys : List ℤ) → total (xs ++ ys) ≡ total xs +ℤ total ys
+pub total-append : (xs ys : List ℤ) → total (xs ++ ys) ≡ total xs +ℤ total ys
 total-append [] ys = omega (arith, ints)
 total-append (x ∷ xs) ys = let later = total-append xs ys in omega (arith, ints, later)
 
@@ -203,13 +204,13 @@ begins_low : (begin : List ℕ) (from : ℕ) → Begins begin from → (0 < from
 begins_low begin from (inl h) = rw h.0 (omega arith, omega arith)
 begins_low begin from (inr h) = rw h.0 (omega arith, omega arith)
 
-moves : (s : Scheme) (counts widths p f begin : List ℕ) (k from : ℕ) (m : Moved) → Begins begin from
+moves : (s : Scheme) (counts widths p f begin : List ℕ) (k from count : ℕ) (by : ℤ) → Begins begin from
     → Reads s counts widths p f k from
-    → m.count ≡ sum_l (map (count_at counts f from) words)
-    → (m.count < 128 → m.by ≡ sum_z (map (λ w. total (group_at counts widths f from w)) words))
-    → (m.count < 128 → sum_l (map (λ w. span (group_at counts widths f from w)) words) ≤ 2 ^ 20)
-    → MovesBy s (words_from p (16 * k + from) (16 - from)) m
-moves s counts widths p f begin k from m begins reads count by near = λ few.
+    → count ≡ sum_l (map (count_at counts f from) words)
+    → by ≡ sum_z (map (λ w. total (group_at counts widths f from w)) words)
+    → sum_l (map (λ w. span (group_at counts widths f from w)) words) ≤ 2 ^ 20 → count < 128
+    → MovesBy s (words_from p (16 * k + from) (16 - from)) count by (2 ^ 20)
+moves s counts widths p f begin k from count by begins reads count_is by_is near few =
     let low = begins_low begin from begins in
     let none = λ (j : ℕ) (less : j < from). none_at counts widths f from j (reads.empty j less) in
     let counted = behind (count_at counts f from) begin from begins reads.empty in
@@ -218,13 +219,13 @@ moves s counts widths p f begin k from m begins reads count by near = λ few.
     let totals = behind_z (λ w. total (group_at counts widths f from w)) begin from begins
     (λ j less. ap total (none j less)) in
     let all = found s counts widths p f k from reads (16 - from) from low.0 (omega arith) (omega (arith, low.1))
-    (omega (arith, few, count, counted)) in (
+    (omega (arith, few, count_is, counted)) in (
       all.ds,
       (
         record {
-          count = all.count ∙ sym (count ∙ counted);
-          by = all.by ∙ sym (by few ∙ totals);
-          near = omega (arith, all.near, spans, near few);
+          count_is = all.count ∙ sym (count_is ∙ counted);
+          by_is = all.by ∙ sym (by_is ∙ totals);
+          near = omega (arith, all.near, spans, near);
         },
         all.items,
       ),
@@ -277,9 +278,15 @@ reads_all One p f k from = reads_by One _ _ p f k from rows_all_one zeros_all_on
 reads_all Two p f k from = reads_by Two _ _ p f k from rows_all_two zeros_all_two
 
 -- what is counted and added up of the frame is what its words move by
-pub moved_by : (s : Scheme) (p f begin : List ℕ) (k from : ℕ) (m : Moved) → Begins begin from
-    → f ≡ take 64 (drop (64 * k) p) → ((i : ℕ) → get_or f i 0 < 256) → Adds s f from m
-    → MovesBy s (words_from p (16 * k + from) (16 - from)) m
-moved_by s p f begin k from m begins e h a =
-    moves s (counts_of s) (widths_of s) p f begin k from m begins (reads_as s p f k from e h) a.count a.by
-    (λ few. frame_near s f from h (subst (λ (n : ℕ). n < 128) a.count few))
+pub told_by : (s : Scheme) (p f begin : List ℕ) (k from : ℕ) (lanes : Lanes) → Begins begin from
+    → f ≡ take 64 (drop (64 * k) p) → ((i : ℕ) → get_or f i 0 < 256) → Adds s f from lanes
+    → Tells s (words_from p (16 * k + from) (16 - from)) lanes
+told_by s p f begin k from lanes begins e h a = λ few.
+    let near = frame_near s f from h (subst (λ (n : ℕ). n < 128) a.count few) in (
+      sum_z (map (moved s f from) words),
+      (
+        a.by few,
+        moves s (counts_of s) (widths_of s) p f begin k from lanes.count _ begins (reads_as s p f k from e h) a.count
+            refl near few,
+      ),
+    )

@@ -9,7 +9,7 @@ use Rattle.mseed_steim.specs.private.Lanes.{total, word_of}
 use Rattle.mseed_steim.specs.private.Lanes.{words, sum_z, byte_at, row_at, low_one, high_one, flipped, flipped_low}
 use Rattle.mseed_steim.specs.private.Lanes.{least_one, counts_one, widths_one, moved}
 use Rattle.mseed_steim.proofs.Below.{sixteen}
-use Rattle.mseed_steim.proofs.LaneSums.{long_words}
+use Rattle.mseed_steim.specs.private.Moves.{Raises}
 use Rattle.mseed_steim.proofs.FrameSums.{part_at, row_small}
 use Rattle.std.proofs.Math.Facts.{to_z-neg}
 use Rattle.std.proofs.lemmas.Bool.{cases_lt}
@@ -89,30 +89,13 @@ reported_all_one count whole least moved h (w ∷ ws) lt =
     )
 
 -- what the lanes come to, modulo 2^32
-pub lanes_come_one : (low high least LO HI t8 p1 t9 m r : ℕ)
+pub lanes_come_one : (low high least LO HI t8 p1 t9 m s : ℕ)
     → low % 4294967296 ≡ LO % 4294967296 → high % 4294967296 ≡ HI % 4294967296
     → t8 % 4294967296 ≡ 256 * high % 4294967296 → p1 % 4294967296 ≡ (low + t8) % 4294967296
-    → t9 % 4294967296 ≡ 512 * least % 4294967296 → (m + t9) % 4294967296 ≡ p1 % 4294967296 → r ≡ m % 4294967296
-    → (r + 512 * least) % 4294967296 ≡ (LO + 256 * HI) % 4294967296
-lanes_come_one low high least LO HI t8 p1 t9 m r e1 e2 e3 e4 e5 e6 e7 = omega (arith, e1, e2, e3, e4, e5, e6, e7)
-
-read_back : (r W L : ℕ) (T : ℤ) → (r + L) % 4294967296 ≡ W % 4294967296 → r < 4294967296 → W ≤ 2097152 → L ≤ 1048576
-    → pos W ≡ T +ℤ pos L → to_z w32 r ≡ T
-read_back r W L T e lt w l f = ⊎_elim
-    (λ (less : W < L).
-    let k : ℕ = L - W - 1 in
-    let is : r ≡ 4294967296 - suc k = omega (arith, e, lt, w, l, less) in
-    ap (λ n. to_z w32 n) is ∙ to_z-neg w32 k (omega (arith, l, less)) ∙ below W L T less f)
-    (λ (more : L ≤ W).
-    let is : r ≡ W - L = omega (arith, e, lt, w, l, more) in
-    ap (λ n. to_z w32 n) is ∙ to_z_pos w32 (W - L) (omega (arith, w)) ∙ above W L T more f)
-    (cases_lt W L)
-  where
-    below : (W L : ℕ) (T : ℤ) → W < L → pos W ≡ T +ℤ pos L → negsuc (L - W - 1) ≡ T
-    below W L T less f = omega (arith, ints, less, f)
-
-    above : (W L : ℕ) (T : ℤ) → L ≤ W → pos W ≡ T +ℤ pos L → pos (W - L) ≡ T
-    above W L T more f = omega (arith, ints, more, f)
+    → t9 % 4294967296 ≡ 512 * least % 4294967296 → (m + t9) % 4294967296 ≡ p1 % 4294967296
+    → s % 4294967296 ≡ 128 * m % 4294967296
+    → (s + 128 * (512 * least)) % 4294967296 ≡ 128 * (LO + 256 * HI) % 4294967296
+lanes_come_one low high least LO HI t8 p1 t9 m s e1 e2 e3 e4 e5 e6 e7 = omega (arith, e1, e2, e3, e4, e5, e6, e7)
 
 sums_256 : (o f : ℕ → ℕ) (ws : List ℕ)
     → sum_l (map (λ w. o w + 256 * f w) ws) ≡ sum_l (map o ws) + 256 * sum_l (map f ws)
@@ -133,14 +116,14 @@ reported_one f from h w =
     tells_one (byte_at f 0 w) (byte_at f 1 w) (byte_at f 2 w) (byte_at f 3 w) (h (4 * w + 0)) (h (4 * w + 1))
     (h (4 * w + 2)) (h (4 * w + 3)) (row_at f from w) (row_small f from h w)
 
-pub frame_sum_one : (f : List ℕ) (from : ℕ) → ((k : ℕ) → get_or f k 0 < 256) → (r le LO HI : ℕ)
-    → (r + 512 * le) % 4294967296 ≡ (LO + 256 * HI) % 4294967296 → r < 4294967296
+pub frame_raised_one : (f : List ℕ) (from : ℕ) → ((k : ℕ) → get_or f k 0 < 256) → (x le LO HI : ℕ)
+    → (x + 128 * (512 * le)) % 4294967296 ≡ 128 * (LO + 256 * HI) % 4294967296
     → LO ≡ sum_l (map (part_at low_one flipped flipped_low flipped flipped_low f from) words)
     → HI ≡ sum_l (map (part_at high_one flipped flipped_low flipped flipped_low f from) words)
     → le ≡ sum_l (map (λ w. least_one (row_at f from w)) words)
     → sum_l (map (λ w. get_or counts_one (row_at f from w) 0) words) < 128
-    → to_z w32 r ≡ sum_z (map (moved One f from) words)
-frame_sum_one f from h r le LO HI come small lo hi l few =
+    → Raises x (sum_z (map (moved One f from) words))
+frame_raised_one f from h x le LO HI come lo hi l few =
     let all = reported_all_one (λ w. get_or counts_one (row_at f from w) 0) (whole_at_one f from)
     (λ w. 512 * least_one (row_at f from w)) (moved One f from) (reported_one f from h) words few in
     let W : ℕ = sum_l (map (whole_at_one f from) words) in
@@ -149,8 +132,5 @@ frame_sum_one f from h r le LO HI come small lo hi l few =
     rw (lo, hi) (sym (sums_256 (part_at low_one flipped flipped_low flipped flipped_low f from)
     (part_at high_one flipped flipped_low flipped flipped_low f from) words)) in
     let is_l : 512 * le ≡ L = rw l (sym (sums_512 (λ w. least_one (row_at f from w)) words)) in
-    let e : (r + L) % 4294967296 ≡ W % 4294967296 =
-    ap (λ n. (r + n) % 4294967296) (sym is_l) ∙ come ∙ ap (λ n. n % 4294967296) is_w in
-    let bound_w : W ≤ 2097152 = subst (λ n. W ≤ 131072 * n) long_words all.1 in
-    let bound_l : L ≤ 1048576 = subst (λ n. L ≤ 65536 * n) long_words all.2 in
-    read_back r W L (sum_z (map (moved One f from) words)) e small bound_w bound_l all.0
+    (W, (L, (all.0, ap (λ n. (x + 128 * n) % 4294967296) (sym is_l) ∙ come
+    ∙ ap (λ n. 128 * n % 4294967296) is_w)))

@@ -10,7 +10,7 @@ use Rattle.mseed_steim.specs.private.Lanes.{word_of}
 use Rattle.mseed_steim.specs.private.Lanes.{words, sum_z, byte_at, word_at, row_at, moved, counts_two, ones_two}
 use Rattle.mseed_steim.specs.private.Lanes.{fine_two, coarse_two, turned_a, turned_b, turned_c, turned_d, least_two}
 use Rattle.mseed_steim.specs.private.Lanes.{least_coarse_two}
-use Rattle.mseed_steim.proofs.LaneSums.{long_words}
+use Rattle.mseed_steim.specs.private.Moves.{Raises}
 use Rattle.mseed_steim.proofs.FrameWords.{tells, whole, least}
 
 abbrev pub Reported : (ℕ → ℕ) → (ℕ → ℕ) → (ℕ → ℕ) → (ℕ → ℤ) → ℕ → Type 0
@@ -42,24 +42,15 @@ reported_all count whole least moved h (w ∷ ws) lt =
     )
 
 -- what the lanes come to, modulo 2^32
-pub lanes_come : (ones fine coarse least far ON FI CO t7 p1 m1 t15 p2 t10 m2 r : ℕ)
+pub lanes_come : (ones fine coarse least far ON FI CO t7 p1 m1 t15 p2 t10 m2 : ℕ)
     → ones % 4294967296 ≡ ON % 4294967296 → fine % 4294967296 ≡ FI % 4294967296 → coarse % 4294967296 ≡ CO % 4294967296
     → (m1 + far) % 4294967296 ≡ coarse % 4294967296 → t15 % 4294967296 ≡ 32768 * m1 % 4294967296
     → t7 % 4294967296 ≡ 128 * ones % 4294967296 → p1 % 4294967296 ≡ (t7 + fine) % 4294967296
     → p2 % 4294967296 ≡ (p1 + t15) % 4294967296
-    → t10 % 4294967296 ≡ 1024 * least % 4294967296 → (m2 + t10) % 4294967296 ≡ p2 % 4294967296 → r ≡ m2 % 4294967296
-    → (r + 128 * (8 * least + 256 * far)) % 4294967296 ≡ (128 * ON + FI + 32768 * CO) % 4294967296
-lanes_come ones fine coarse least far ON FI CO t7 p1 m1 t15 p2 t10 m2 r e1 e2 e3 e4 e5 e6 e7 e8 e9 e10 e11 =
-    omega (arith, e1, e2, e3, e4, e5, e6, e7, e8, e9, e10, e11)
-
--- 2^20 more than the sum of the differences
-pub raised : (r W L : ℕ) → (r + 128 * L) % 4294967296 ≡ W % 4294967296 → r < 4294967296 → W % 128 ≡ 0
-    → W / 128 ≤ 1048576 → L ≤ 524288
-    → (r + 134217728) % 4294967296 / 128 + L ≡ W / 128 + 1048576
-raised r W L e lt even w l = omega (arith, e, lt, even, w, l)
-
-pub lowered : (n Y L : ℕ) (T : ℤ) → n + L ≡ Y + 1048576 → pos Y ≡ T +ℤ pos L → pos n -ℤ pos 1048576 ≡ T
-lowered n Y L T e f = omega (arith, ints, e, f)
+    → t10 % 4294967296 ≡ 1024 * least % 4294967296 → (m2 + t10) % 4294967296 ≡ p2 % 4294967296
+    → (m2 + 128 * (8 * least + 256 * far)) % 4294967296 ≡ (128 * ON + FI + 32768 * CO) % 4294967296
+lanes_come ones fine coarse least far ON FI CO t7 p1 m1 t15 p2 t10 m2 e1 e2 e3 e4 e5 e6 e7 e8 e9 e10 =
+    omega (arith, e1, e2, e3, e4, e5, e6, e7, e8, e9, e10)
 
 three_sums : (o f c : ℕ → ℕ) (ws : List ℕ)
     → sum_l (map (λ w. 128 * o w + f w + 32768 * c w) ws) ≡ 128 * sum_l (map o ws) + sum_l (map f ws) + 32768 * sum_l
@@ -103,21 +94,21 @@ reported f from h w =
     tells (byte_at f 0 w) (byte_at f 1 w) (byte_at f 2 w) (byte_at f 3 w) (h (4 * w + 0)) (h (4 * w + 1))
     (h (4 * w + 2)) (h (4 * w + 3)) (row_at f from w) (row_small f from h w)
 
-pub cast_back : (n : ℕ) → n < 33554432 → to_z w32 (of_z w32 (to_z w32 n -ℤ pos 1048576)) ≡ pos n -ℤ pos 1048576
-cast_back n lt = ap (λ z. to_z w32 (of_z w32 (z -ℤ pos 1048576))) (to_z_pos w32 n (omega arith))
-    ∙ to_z-of_z w32 (pos n -ℤ pos 1048576) (search rules)
+whole_raised : (x W L : ℕ) → (x + 128 * L) % 4294967296 ≡ W % 4294967296 → W % 128 ≡ 0
+    → (x + 128 * L) % 4294967296 ≡ 128 * (W / 128) % 4294967296
+whole_raised x W L e even = let same : W ≡ 128 * (W / 128) = omega (arith, even) in
+    e ∙ ap (λ n. n % 4294967296) same
 
-pub frame_sum : (f : List ℕ) (from : ℕ) → ((k : ℕ) → get_or f k 0 < 256) → (r le far ON FI CO : ℕ)
-    → (r + 128 * (8 * le + 256 * far)) % 4294967296 ≡ (128 * ON + FI + 32768 * CO) % 4294967296 → r < 4294967296
+pub frame_raised : (f : List ℕ) (from : ℕ) → ((k : ℕ) → get_or f k 0 < 256) → (x le far ON FI CO : ℕ)
+    → (x + 128 * (8 * le + 256 * far)) % 4294967296 ≡ (128 * ON + FI + 32768 * CO) % 4294967296
     → ON ≡ sum_l (map (part_at ones_two turned_a turned_b turned_c turned_d f from) words)
     → FI ≡ sum_l (map (part_at fine_two turned_a turned_b turned_c turned_d f from) words)
     → CO ≡ sum_l (map (part_at coarse_two turned_a turned_b turned_c turned_d f from) words)
     → le ≡ sum_l (map (λ w. least_two (row_at f from w)) words)
     → far ≡ sum_l (map (λ w. least_coarse_two (row_at f from w)) words)
     → sum_l (map (λ w. get_or counts_two (row_at f from w) 0) words) < 128
-    → to_z w32 (of_z w32 (to_z w32 ((r + 134217728) % 4294967296 / 128) -ℤ pos 1048576))
-    ≡ sum_z (map (moved Two f from) words)
-frame_sum f from h r le far ON FI CO come small on fi co l c few =
+    → Raises x (sum_z (map (moved Two f from) words))
+frame_raised f from h x le far ON FI CO come on fi co l c few =
     let all = reported_all (λ w. get_or counts_two (row_at f from w) 0) (whole_at f from) (λ w. least (row_at f from w))
     (moved Two f from) (reported f from h) words few in
     let W : ℕ = sum_l (map (whole_at f from) words) in
@@ -130,13 +121,6 @@ frame_sum f from h r le far ON FI CO come small on fi co l c few =
     let is_l : 8 * le + 256 * far ≡ L =
     rw (l, c) (sym (least_sums (λ w. least_two (row_at f from w)) (λ w. least_coarse_two (row_at f from w))
     words)) in
-    let e : (r + 128 * L) % 4294967296 ≡ W % 4294967296 =
-    ap (λ n. (r + 128 * n) % 4294967296) (sym is_l) ∙ come ∙ ap (λ n. n % 4294967296) is_w in
-    let bound_w : W / 128 ≤ 1048576 = subst (λ n. W / 128 ≤ 65536 * n) long_words all.2 in
-    let bound_l : L ≤ 524288 = subst (λ n. L ≤ 32768 * n) long_words all.3 in
-    let n : ℕ = (r + 134217728) % 4294967296 / 128 in
-    cast_back n (under r)
-    ∙ lowered n (W / 128) L (sum_z (map (moved Two f from) words)) (raised r W L e small all.0 bound_w bound_l) all.1
-  where
-    under : (r : ℕ) → (r + 134217728) % 4294967296 / 128 < 33554432
-    under r = omega arith
+    let e : (x + 128 * L) % 4294967296 ≡ W % 4294967296 =
+    ap (λ n. (x + 128 * n) % 4294967296) (sym is_l) ∙ come ∙ ap (λ n. n % 4294967296) is_w in
+    (W / 128, (L, (all.1, whole_raised x W L e all.0)))

@@ -25,6 +25,7 @@ pub mod Far
 pub mod FrameNear
 pub mod Near
 pub mod FrameItems
+pub mod Raised
 pub mod RowHalves
 pub mod Rows
 pub mod Widths

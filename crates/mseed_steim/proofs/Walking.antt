@@ -80,6 +80,10 @@ frame_at (suc n) p (suc i) h =
     let place : 64 + 64 * i ≡ 64 * suc i = omega arith in
     later ∙ (rw (drop-drop, place) refl)
 
+pub length-first_chunks : (n : ℕ) (p : List ℕ) → length (first_chunks 64 n p) ≡ n
+length-first_chunks zero p = refl
+length-first_chunks (suc n) p = ap suc (length-first_chunks n (drop 64 p))
+
 -- the data words of the first frame, and those behind it
 pub first_cut : (p : List ℕ) → 64 ≤ length p → data_words p ≡ words_from p 3 13 ++ words_from p 16 (word_count p - 16)
 first_cut p framed =

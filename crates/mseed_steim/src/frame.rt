@@ -1,12 +1,12 @@
 //! What the differences of a frame add up to, all sixteen words at once.
 
-ghost use Rattle.std.specs.Prelude.{◌≡◌, ◌<◌, ◌+◌, ◌-◌, ◌*◌, ℕ, List, take, drop};
-ghost use Rattle.std.specs.Simd.Lanes.{Each1};
+ghost use Rattle.std.specs.Prelude.{◌≡◌, ◌<◌, ◌≤◌, ◌+◌, ◌-◌, ◌*◌, ◌^◌, ℕ, ℤ, List, IfSome, length, nat_abs, take, drop};
+ghost use Rattle.std.specs.Simd.Lanes.{Each1, sum_l};
 ghost use Rattle.mseed_steim.specs.declared.scheme.Scheme.TheVariants.{One, Two};
 ghost use Rattle.mseed_steim.specs.private.Lanes.{AddsUp, AreLanes, Begins, row_at, turned_at};
 ghost use Rattle.mseed_steim.specs.private.Lanes.{fine_two, ones_two, coarse_two, low_one, high_one};
 ghost use Rattle.mseed_steim.specs.Frames.{words_from};
-ghost use Rattle.mseed_steim.specs.private.Moves.{Adds, MovesBy};
+ghost use Rattle.mseed_steim.specs.private.Moves.{Adds, AreFrames, MovesBy, Raises, Tells};
 
 use crate::lanes::{
     Rows, counted, minus, part, part_by, planes, plus, rows_of, shifted, sum_of, tally, turn,
@@ -14,14 +14,34 @@ use crate::lanes::{
 use crate::scheme::Scheme;
 use std::simd::prelude::*;
 
-/// What the differences of a frame are in all.
+/// What the differences of a frame are in all, in lanes.
+#[derive(Clone, Copy)]
+pub(crate) struct Lanes {
+    /// How many there are; 128 and more where a word is bad or too wide.
+    count: u32,
+    /// The lanes come to 128 times their sum.
+    by: u32x4,
+}
+
+/// What some differences are in all.
 #[derive(Clone, Copy)]
 pub(crate) struct Moved {
-    /// How many there are; 128 and more where a word is bad or too wide.
+    /// How many there are.
     pub(crate) count: u32,
     /// Their sum.
     pub(crate) by: i32,
 }
+
+/// What the differences of the first of some frames are in all.
+#[derive(Clone, Copy)]
+pub(crate) struct Run {
+    /// How many frames these are.
+    pub(crate) frames: usize,
+    pub(crate) moved: Moved,
+}
+
+/// No more frames are added up at once.
+pub(crate) const RUN: usize = 15;
 
 /// A table of 4x8 at rows 4 to 7, and of the groups of Steim-2.
 macro_rules! rows_two {
@@ -137,7 +157,7 @@ fn coarse_of(a: u8x16, c: u8x16, rows: u8x16) -> u32x4
 
 /// The differences of a Steim-2 frame.
 #[inline(always)]
-pub(crate) fn frame_two(frame: &[u8; 64], begin: Rows) -> Moved
+fn frame_two(frame: &[u8; 64], begin: Rows) -> Lanes
     ensures { (from : ℕ) → Begins begin from → Adds Two frame.now from result }
 {
     // the top bit of each difference turned over, so that it stands for what it is more than the least
@@ -156,12 +176,9 @@ pub(crate) fn frame_two(frame: &[u8; 64], begin: Rows) -> Moved
     // all of them 128-fold, so that what is divided is one number, and comes out even
     let coarse = shifted(minus(coarse, least_coarse), 15);
     let raised = plus(plus(shifted(ones, 7), fine), coarse);
-    let sum = sum_of(minus(raised, shifted(least, 10)));
-    // 2^20 more than the sum, which is no less than 0
-    let more = sum.wrapping_add(1 << 27) >> 7;
-    Moved {
+    Lanes {
         count: counted(rows, COUNT_TWO),
-        by: more as i32 - (1 << 20),
+        by: minus(raised, shifted(least, 10)),
     }
 }
 
@@ -201,7 +218,7 @@ fn high_of(a: u8x16, c: u8x16, rows: u8x16) -> u32x4
 
 /// The differences of a Steim-1 frame.
 #[inline(always)]
-pub(crate) fn frame_one(frame: &[u8; 64], begin: Rows) -> Moved
+fn frame_one(frame: &[u8; 64], begin: Rows) -> Lanes
     ensures { (from : ℕ) → Begins begin from → Adds One frame.now from result }
 {
     let (upper, lower) = (rows_one!(128, 128), rows_one!(128, 0));
@@ -210,20 +227,94 @@ pub(crate) fn frame_one(frame: &[u8; 64], begin: Rows) -> Moved
     let high = high_of(a, c, rows);
     let least = tally(rows, rows_one!(1, 128));
     let raised = plus(low, shifted(high, 8));
-    let sum = sum_of(minus(raised, shifted(least, 9)));
-    Moved {
+    Lanes {
         count: counted(rows, COUNT_ONE),
-        by: sum.cast_signed(),
+        by: shifted(minus(raised, shifted(least, 9)), 7),
     }
 }
 
 /// The differences of a frame's words from word 1 or word 4 on, by its scheme.
-pub(crate) fn move_of(scheme: Scheme, frame: &[u8; 64], begin: Rows) -> Moved
+#[inline(always)]
+fn lanes_of(scheme: Scheme, frame: &[u8; 64], begin: Rows) -> Lanes
     ensures { (p : List ℕ) (k from : ℕ) → Begins begin from → frame.now ≡ take 64 (drop (64 * k) p)
-        → MovesBy scheme (words_from p (16 * k + from) (16 - from)) result }
+        → Tells scheme (words_from p (16 * k + from) (16 - from)) result }
 {
     match scheme {
         Scheme::One => frame_one(frame, begin),
         Scheme::Two => frame_two(frame, begin),
+    }
+}
+
+/// The number of which lanes come to 128 times.
+#[inline(always)]
+fn lowered(by: u32x4) -> i32
+    ensures { (number : ℤ) → nat_abs number < 2 ^ 24 → Raises (sum_l by) number → result ≡ number }
+{
+    // 2^24 more than the number, which is no less than 0
+    let more = sum_of(by).wrapping_add(1 << 31) >> 7;
+    more as i32 - (1 << 24)
+}
+
+/// The differences of a frame's words from word 1 or word 4 on. None where a word is bad or has one of 30 or 32 bits.
+pub(crate) fn move_of(scheme: Scheme, frame: &[u8; 64], begin: Rows) -> Option<Moved>
+    ensures { IfSome result (λ moved. (p : List ℕ) (k from : ℕ) → Begins begin from
+        → frame.now ≡ take 64 (drop (64 * k) p)
+        → MovesBy scheme (words_from p (16 * k + from) (16 - from)) moved.count moved.by (2 ^ 20)) }
+{
+    let lanes = lanes_of(scheme, frame, begin);
+    if lanes.count >= 128 {
+        return None;
+    }
+    Some(Moved {
+        count: lanes.count,
+        by: lowered(lanes.by),
+    })
+}
+
+/// The differences of frames: of the first of them, up to one with a word that is bad or has one of 30 or 32 bits.
+#[inline(always)]
+fn run_of(scheme: Scheme, frames: &[[u8; 64]]) -> Run
+    requires { length frames.now ≤ 15 }
+    ensures inside { result.frames ≤ length frames.now }
+    ensures moves { (p : List ℕ) (k : ℕ) → AreFrames frames.now p k
+        → MovesBy scheme (words_from p (16 * k) (16 * result.frames)) result.moved.count result.moved.by
+        (2 ^ 20 * result.frames) }
+{
+    let mut count = 0;
+    let mut by = u32x4::splat(0);
+    for index in 0..frames.len() {
+        let lanes = lanes_of(scheme, &frames[index], FROM_1);
+        if lanes.count >= 128 {
+            return Run {
+                frames: index,
+                moved: Moved {
+                    count,
+                    by: lowered(by),
+                },
+            };
+        }
+        count += lanes.count;
+        by = plus(by, lanes.by);
+    }
+    Run {
+        frames: frames.len(),
+        moved: Moved {
+            count,
+            by: lowered(by),
+        },
+    }
+}
+
+/// The same, by a body for each scheme.
+pub(crate) fn moves_of(scheme: Scheme, frames: &[[u8; 64]]) -> Run
+    requires { length frames.now ≤ 15 }
+    ensures inside { result.frames ≤ length frames.now }
+    ensures moves { (p : List ℕ) (k : ℕ) → AreFrames frames.now p k
+        → MovesBy scheme (words_from p (16 * k) (16 * result.frames)) result.moved.count result.moved.by
+        (2 ^ 20 * result.frames) }
+{
+    match scheme {
+        Scheme::One => run_of(Scheme::One, frames),
+        Scheme::Two => run_of(Scheme::Two, frames),
     }
 }

@@ -1,7 +1,7 @@
 //! Differences that are added up, word by word.
 
 ghost use Rattle.std.specs.Prelude.{◌≡◌, ◌+◌, ◌-◌, ◌^◌, ◌≤◌, ◌<◌, List, [], ◌∷◌, ◌++◌, map, ℤ, ◌+ℤ◌, nat_abs, Result};
-ghost use Rattle.std.specs.Prelude.{Ok, IfOk};
+ghost use Rattle.std.specs.Prelude.{Ok, IfOk, length};
 ghost use Rattle.mseed_steim.specs.declared.differences.BadWordAt.{BadWordAt};
 ghost use Rattle.mseed_steim.specs.private.Digits.{digits};
 ghost use Rattle.mseed_steim.specs.private.Sums.{GoesOn, fold, met_in};
@@ -57,6 +57,28 @@ pub(crate) fn add_near(difference: i32, samples: usize, sum: Sum) -> Sum
         met: sum.met + 1,
         last: sum.last.wrapping_add(difference),
     }
+}
+
+/// Differences that are all needed, as far as no sum leaves 32 bits.
+#[inline(always)]
+pub(crate) fn add_checked(differences: &[i32], samples: usize, sum: Sum) -> Walked
+    requires some { 0 < sum.met }
+    requires left { sum.met + length differences.now ≤ samples }
+    ensures goes_on { (more : List (Result ℤ BadWordAt))
+        → GoesOn samples sum (map Ok differences.now ++ more) more result }
+    ensures met { IfOk result (λ next. next.met ≤ samples) }
+{
+    let mut last = sum.last;
+    for i in 0..differences.len() {
+        let Some(next) = last.checked_add(differences[i]) else {
+            return Err(ReadFault::Overflow(sum.met + i));
+        };
+        last = next;
+    }
+    Ok(Sum {
+        met: sum.met + differences.len(),
+        last,
+    })
 }
 
 /// The next difference of a group in the low bits of a word.

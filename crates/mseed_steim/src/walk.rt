@@ -1,20 +1,23 @@
 //! Walks over a payload's frames.
 
-ghost use Rattle.std.specs.Prelude.{◌≡◌, ◌≤◌, ◌<◌, ◌+◌, ◌*◌, List, ◌∷◌, ◌++◌, ℤ, Result, Ok, IfOk, IfSome, map, take};
-ghost use Rattle.std.specs.Prelude.{drop, length};
+ghost use Rattle.std.specs.Prelude.{◌≡◌, ◌≤◌, ◌<◌, ◌+◌, ◌-◌, ◌*◌, ◌^◌, ℕ, List, ◌∷◌, ◌++◌, ℤ, Result, Ok, IfOk, IfSome};
+ghost use Rattle.std.specs.Prelude.{drop, length, map, take};
 ghost use Rattle.mseed_steim.specs.declared.differences.BadWordAt.{BadWordAt};
-ghost use Rattle.mseed_steim.specs.Frames.{DataWord, data_words, words_from};
+ghost use Rattle.mseed_steim.specs.Frames.{DataWord, data_words, words_from, word_count};
 ghost use Rattle.mseed_steim.specs.private.Items.{items_of};
+ghost use Rattle.mseed_steim.specs.private.Lanes.{Begins};
 ghost use Rattle.mseed_steim.specs.private.Moves.{Moves};
 ghost use Rattle.mseed_steim.specs.private.Reads.{as_data};
 ghost use Rattle.mseed_steim.specs.private.Sums.{GoesOn, fold, lack};
 
 use crate::data_words::{FRAME, Word, Words, first_word};
 use crate::fault::ReadFault;
-use crate::frame::{FROM_1, FROM_4, Moved, move_of};
+use crate::frame::{FROM_1, FROM_4, Moved, RUN, move_of, moves_of};
 use crate::group::group_of;
+use crate::lanes::Rows;
 use crate::scheme::Scheme;
-use crate::sum::{Sum, Walked, add_group, all_met};
+use crate::sum::{Sum, Walked, add_checked, add_group, all_met};
+use crate::unpack::{PLACES, unpack_wide};
 
 /// No sum of a frame's differences is further from 0 than this, unless one of them has 30 or 32 bits.
 const REACH: u32 = 1 << 20;
@@ -53,22 +56,20 @@ fn add_words(scheme: Scheme, words: Words<'_>, samples: usize, sum: Sum) -> Walk
     Ok(sum)
 }
 
-/// The sum once all of a frame's differences are added. None where the words have to be looked at: where not
-/// all are needed, none was met before, a word is bad or its differences wide, or the limits of 32 bits are
-/// within reach.
+/// The sum once differences are added, none of whose sums is further from 0 than `reach`. None where they have to be
+/// looked at one by one: where not all are needed, none was met before, or the limits of 32 bits are within reach.
 #[inline(always)]
-fn add_at_once(moved: Moved, samples: usize, sum: Sum) -> Option<Sum>
-    requires { sum.met ≤ samples }
-    ensures few { IfSome result (λ _. moved.count < 128) }
-    ensures goes_on { IfSome result (λ next. (ds : List ℤ) (more : List (Result ℤ BadWordAt)) → Moves moved ds
-        → fold samples sum (map Ok ds ++ more) ≡ fold samples next more) }
+fn add_at_once(moved: Moved, reach: u32, samples: usize, sum: Sum) -> Option<Sum>
+    requires met { sum.met ≤ samples }
+    requires small { reach ≤ 2 ^ 31 }
+    ensures goes_on { IfSome result (λ next. (ds : List ℤ) (more : List (Result ℤ BadWordAt))
+        → Moves moved.count moved.by reach ds → fold samples sum (map Ok ds ++ more) ≡ fold samples next more) }
     ensures met { IfSome result (λ next. next.met ≤ samples) }
 {
     let count = moved.count as usize;
     if sum.met == 0
-        || moved.count >= 128
         || samples - sum.met < count
-        || sum.last.unsigned_abs() >= (1 << 31) - REACH
+        || sum.last.unsigned_abs() >= (1 << 31) - reach
     {
         return None;
     }
@@ -76,6 +77,55 @@ fn add_at_once(moved: Moved, samples: usize, sum: Sum) -> Option<Sum>
         met: sum.met + count,
         last: sum.last.wrapping_add(moved.by),
     })
+}
+
+/// The differences of a frame at once. None where its words have to be looked at: where not all are needed, none was met
+/// before, a word is bad or its differences wide, or the limits of 32 bits are within reach.
+#[inline(always)]
+fn add_narrow(
+    scheme: Scheme,
+    frame: &[u8; 64],
+    begin: Rows,
+    samples: usize,
+    sum: Sum,
+) -> Option<Sum>
+    requires { sum.met ≤ samples }
+    ensures goes_on { IfSome result (λ next. (p : List ℕ) (k from : ℕ) (rest : List DataWord) → Begins begin from
+        → frame.now ≡ take 64 (drop (64 * k) p)
+        → fold samples sum (items_of scheme (words_from p (16 * k + from) (16 - from) ++ rest))
+        ≡ fold samples next (items_of scheme rest)) }
+    ensures met { IfSome result (λ next. next.met ≤ samples) }
+{
+    match move_of(scheme, frame, begin) {
+        Some(moved) => add_at_once(moved, REACH, samples, sum),
+        None => None,
+    }
+}
+
+/// The differences of a frame of which some have 30 or 32 bits. None where its words have to be looked at: where not
+/// all are needed, none was met before, or a word is bad.
+#[cold]
+fn add_wide(
+    scheme: Scheme,
+    frame: &[u8; 64],
+    begin: Rows,
+    samples: usize,
+    sum: Sum,
+) -> Option<Walked>
+    requires met { sum.met ≤ samples }
+    requires begins { (from : ℕ) × Begins begin from }
+    ensures goes_on { IfSome result (λ walked. (p : List ℕ) (k from : ℕ) (rest : List DataWord) → Begins begin from
+        → frame.now ≡ take 64 (drop (64 * k) p)
+        → GoesOn samples sum (items_of scheme (words_from p (16 * k + from) (16 - from) ++ rest))
+        (items_of scheme rest) walked) }
+    ensures met { IfSome result (λ walked. IfOk walked (λ next. next.met ≤ samples)) }
+{
+    let mut differences = [0; PLACES];
+    let count = unpack_wide(scheme, frame, begin, &mut differences)?;
+    if sum.met == 0 || samples - sum.met < count {
+        return None;
+    }
+    Some(add_checked(&differences[..count], samples, sum))
 }
 
 /// The differences of the first frame, as far as they are needed.
@@ -101,9 +151,39 @@ fn add_first_frame(
         Ok(sum) => sum,
         Err(fault) => return Err(fault),
     };
-    match add_at_once(move_of(scheme, frame, FROM_4), samples, sum) {
-        Some(sum) => Ok(sum),
+    if let Some(next) = add_narrow(scheme, frame, FROM_4, samples, sum) {
+        return Ok(next);
+    }
+    match add_wide(scheme, frame, FROM_4, samples, sum) {
+        Some(walked) => walked,
         None => add_words(scheme, Words::between(payload, 4, FRAME), samples, sum),
+    }
+}
+
+/// The differences of a later frame that aren't added up at once, as far as they are needed.
+#[cold]
+fn add_other(
+    scheme: Scheme,
+    payload: &[u8],
+    frame: &[u8; 64],
+    index: usize,
+    samples: usize,
+    sum: Sum,
+) -> Walked
+    requires inside { 64 * (index + 1) ≤ length payload.now }
+    requires at { frame.now ≡ take 64 (drop (64 * index) payload.now) }
+    requires met { sum.met ≤ samples }
+    ensures goes_on { (rest : List DataWord)
+        → GoesOn samples sum
+        (items_of scheme (words_from payload.now (16 * index) 16 ++ rest)) (items_of scheme rest) result }
+    ensures met { IfOk result (λ next. next.met ≤ samples) }
+{
+    match add_wide(scheme, frame, FROM_1, samples, sum) {
+        Some(walked) => walked,
+        None => {
+            let words = Words::between(payload, FRAME * index, FRAME * (index + 1));
+            add_words(scheme, words, samples, sum)
+        }
     }
 }
 
@@ -124,27 +204,23 @@ fn add_frame(
         (items_of scheme (words_from payload.now (16 * index) 16 ++ rest)) (items_of scheme rest) result }
     ensures met { IfOk result (λ next. next.met ≤ samples) }
 {
-    match add_at_once(move_of(scheme, frame, FROM_1), samples, sum) {
+    match add_narrow(scheme, frame, FROM_1, samples, sum) {
         Some(sum) => Ok(sum),
-        None => {
-            let words = Words::between(payload, FRAME * index, FRAME * (index + 1));
-            add_words(scheme, words, samples, sum)
-        }
+        None => add_other(scheme, payload, frame, index, samples, sum),
     }
 }
 
-/// The sum of so many samples, of which this is the first, or what comes first in place of one. Frames are
-/// added up at once, where that can't go wrong, and else word by word.
-pub(crate) fn add_frames(scheme: Scheme, payload: &[u8], samples: usize, first: i32) -> Walked
-    requires { 64 ≤ length payload.now }
-    ensures { result ≡ fold samples (record { met = 0; last = first }) (items_of scheme (data_words payload.now)) }
+/// The sum of so many samples, once the frames from one on are added, one at a time, or what comes first in place of one.
+#[cold]
+fn add_each(scheme: Scheme, payload: &[u8], from: usize, samples: usize, sum: Sum) -> Walked
+    requires later { 0 < from }
+    requires met { sum.met ≤ samples }
+    ensures { result ≡ fold samples sum
+        (items_of scheme (words_from payload.now (16 * from) (word_count payload.now - 16 * from))) }
 {
     let (frames, _) = payload.as_chunks::<64>();
-    let mut sum = match add_first_frame(scheme, payload, &frames[0], samples, first) {
-        Ok(sum) => sum,
-        Err(fault) => return Err(fault),
-    };
-    for index in 1..frames.len() {
+    let mut sum = sum;
+    for index in from..frames.len() {
         if sum.met == samples {
             return Ok(sum);
         }
@@ -154,6 +230,50 @@ pub(crate) fn add_frames(scheme: Scheme, payload: &[u8], samples: usize, first: 
         }
     }
     all_met(samples, sum)
+}
+
+/// The same from the second frame on, some frames at a time, where that can't go wrong.
+fn add_runs(scheme: Scheme, payload: &[u8], samples: usize, sum: Sum) -> Walked
+    requires { sum.met ≤ samples }
+    ensures { result ≡ fold samples sum
+        (items_of scheme (words_from payload.now 16 (word_count payload.now - 16))) }
+{
+    let (frames, _) = payload.as_chunks::<64>();
+    let mut sum = sum;
+    let mut next = 1;
+    while next < frames.len() {
+        if sum.met == samples {
+            return Ok(sum);
+        }
+        let run = moves_of(scheme, &frames[next..frames.len().min(next + RUN)]);
+        if run.frames == 0 {
+            match add_other(scheme, payload, &frames[next], next, samples, sum) {
+                Ok(more) => sum = more,
+                Err(fault) => return Err(fault),
+            }
+            next += 1;
+        } else {
+            match add_at_once(run.moved, REACH * run.frames as u32, samples, sum) {
+                Some(more) => sum = more,
+                None => return add_each(scheme, payload, next, samples, sum),
+            }
+            next += run.frames;
+        }
+    }
+    all_met(samples, sum)
+}
+
+/// The sum of so many samples, of which this is the first, or what comes first in place of one. Frames are
+/// added up at once, where that can't go wrong, and else word by word.
+pub(crate) fn add_frames(scheme: Scheme, payload: &[u8], samples: usize, first: i32) -> Walked
+    requires { 64 ≤ length payload.now }
+    ensures { result ≡ fold samples (record { met = 0; last = first }) (items_of scheme (data_words payload.now)) }
+{
+    let (frames, _) = payload.as_chunks::<64>();
+    match add_first_frame(scheme, payload, &frames[0], samples, first) {
+        Ok(sum) => add_runs(scheme, payload, samples, sum),
+        Err(fault) => Err(fault),
+    }
 }
 
 /// What comes first in place of one of so many differences, where any does, whatever they add up to.

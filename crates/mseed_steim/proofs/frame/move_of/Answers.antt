@@ -1,11 +1,16 @@
-use Rattle.mseed_steim.specs.declared.scheme.Scheme.TheVariants.{One, Two}
-use Rattle.mseed_steim.proofs.FrameItems.{moved_by}
+use Rattle.std.proofs.Common.{◌≡◌, ◌<◌, ◌^◌, ℤ, nat_abs, arith, rules, sym, subst, w32, FitsSigned}
+use Rattle.std.proofs.lemmas.Int.{to_z-of_z}
+use Rattle.mseed_steim.specs.Frames.{words_from}
+use Rattle.mseed_steim.specs.private.Moves.{MovesBy}
+use Rattle.mseed_steim.proofs.Far.{total_near}
 use Rattle.mseed_steim.proofs.frame.move_of.Goals as goal
 
-pub returns-in-One : goal.returns-in-One
-returns-in-One c = rw c.in-One.is (λ p k from begins e.
-    moved_by One p c.args.frame.now c.args.begin k from _ begins e c.fits-frame (c.frame_one.ensures from begins))
-
-pub returns-in-Two : goal.returns-in-Two
-returns-in-Two c = rw c.in-Two.is (λ p k from begins e.
-    moved_by Two p c.args.frame.now c.args.begin k from _ begins e c.fits-frame (c.frame_two.ensures from begins))
+pub returns : goal.returns
+returns c = λ p k from begins e.
+    let told = c.lanes_of-lanes.ensures p k from begins e (omega arith) in
+    let moves = told.1.1 in
+    let all = total_near moves.0 in
+    let near : nat_abs told.0 < 2 ^ 24 = rw (← moves.1.0.by_is) (omega (arith, all, moves.1.0.near)) in
+    let fits : FitsSigned w32 c.lowered.result = search rules in
+    let same = c.lowered.ensures told.0 near told.1.0 in
+    rw (to_z-of_z, same) moves

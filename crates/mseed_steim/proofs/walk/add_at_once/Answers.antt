@@ -9,12 +9,12 @@ returns-clause-goes_on c = λ ds more m.
     let last : FitsSigned w32 c.args.sum.last = search rules in
     let by : FitsSigned w32 c.args.moved.by = search rules in
     let abs = rw to_z-of_z at c.unsigned_abs.ensures.value in
-    let room : c.args.sum.met + length ds ≤ c.args.samples = omega (arith, m.count) in
+    let room : c.args.sum.met + length ds ≤ c.args.samples = omega (arith, m.count_is) in
     let far : nat_abs c.args.sum.last + span ds < 2 ^ 31 = omega (arith, abs, m.near) in
     let all = total_near ds in
     let sum : nat_abs (c.args.sum.last +ℤ c.args.moved.by) < 2 ^ 31 =
-    rw (← m.by) (omega (arith, abs_sum c.args.sum.last (total ds), all, far)) in
+    rw (← m.by_is) (omega (arith, abs_sum c.args.sum.last (total ds), all, far)) in
     let wrapped = wrapping_add_is w32 c.args.sum.last c.args.moved.by last by
     ∙ int_wrap_fits w32 (c.args.sum.last +ℤ c.args.moved.by)
     (near_signed (c.args.sum.last +ℤ c.args.moved.by) sum) in
-    rw (wrapped, ← m.count, ← m.by) ((goes_far c.args.samples ds c.args.sum more (omega arith) room far).0)
+    rw (wrapped, ← m.count_is, ← m.by_is) ((goes_far c.args.samples ds c.args.sum more (omega arith) room far).0)

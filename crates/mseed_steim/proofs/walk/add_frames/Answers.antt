@@ -1,10 +1,9 @@
-use Rattle.std.proofs.Common.{◌≡◌, ◌-◌, ◌*◌, ◌/◌, ◌<◌, ◌∙◌, List, length, ap, sym, arith, w32, FitsSigned}
+use Rattle.std.proofs.Common.{◌-◌, ◌∙◌, List, ap, sym, w32, FitsSigned}
 use Rattle.std.proofs.lemmas.Int.{to_z-of_z}
 use Rattle.mseed_steim.specs.Frames.{DataWord, words_from, word_count}
 use Rattle.mseed_steim.specs.private.Items.{items_of}
 use Rattle.mseed_steim.specs.private.Sums.{fold}
-use Rattle.mseed_steim.proofs.Walking.{first_cut, frame_cut, words_none, no_items, frame_at}
-use Rattle.mseed_steim.proofs.Folds.{fold_enough}
+use Rattle.mseed_steim.proofs.Walking.{first_cut}
 use Rattle.mseed_steim.proofs.walk.add_frames.Goals as goal
 
 pub returns-in-Err : goal.returns-in-Err
@@ -15,52 +14,11 @@ returns-in-Err c =
     sym (ap (λ (ws : List DataWord). fold c.args.samples (record { met = 0; last = c.args.first })
     (items_of c.args.scheme ws)) (first_cut c.args.payload.now c.requires) ∙ step)
 
-pub loop-index-init : goal.loop-index-init
-loop-index-init c =
+pub returns-in-Ok : goal.returns-in-Ok
+returns-in-Ok c =
     let fits : FitsSigned w32 c.args.first = c.ranges.first in
     let step = rw to_z-of_z at
     (c.in-Ok.ensures.goes_on (words_from c.args.payload.now 16 (word_count c.args.payload.now - 16))) in
-    record {
-      met = c.in-Ok.ensures.met;
-      same = rw to_z-of_z (ap (λ (ws : List DataWord). fold c.args.samples (record { met = 0; last = c.args.first })
-          (items_of c.args.scheme ws)) (first_cut c.args.payload.now c.requires) ∙ step);
-    }
-
-pub returns-then-sum-samples : goal.returns-then-sum-samples
-returns-then-sum-samples c =
-    let fits : FitsSigned w32 c.args.first = c.ranges.first in
-    let same = rw to_z-of_z at c.loop-index.invariant.same in
-    sym (same ∙ fold_enough c.args.samples c.loop-index.sum _ c.if-sum-samples.true)
-
-pub add_frame-requires-clause-at : goal.add_frame-requires-clause-at
-add_frame-requires-clause-at c =
-    let inside : c.loop-index.index < length c.args.payload.now / 64 = omega arith in
-    rw c.as_chunks.ensures.front (frame_at (length c.args.payload.now / 64) c.args.payload.now c.loop-index.index
-    inside)
-
-pub returns-in-Err-add_frame : goal.returns-in-Err-add_frame
-returns-in-Err-add_frame c =
-    let fits : FitsSigned w32 c.args.first = c.ranges.first in
-    let same = rw to_z-of_z at c.loop-index.invariant.same in
-    sym (same ∙ ap (λ (ws : List DataWord). fold c.args.samples c.loop-index.sum (items_of c.args.scheme ws))
-    (frame_cut c.args.payload.now c.loop-index.index (omega arith))
-    ∙ c.in-Err-add_frame.ensures.goes_on _)
-
-pub loop-index-preserved : goal.loop-index-preserved
-loop-index-preserved c = record {
-  met = c.in-Ok-add_frame.ensures.met;
-  same = c.loop-index.invariant.same
-      ∙ ap (λ (ws : List DataWord). fold c.args.samples c.loop-index.sum (items_of c.args.scheme ws))
-      (frame_cut c.args.payload.now c.loop-index.index (omega arith))
-      ∙ c.in-Ok-add_frame.ensures.goes_on _;
-}
-
-pub returns : goal.returns
-returns c =
-    let fits : FitsSigned w32 c.args.first = c.ranges.first in
-    let same = rw to_z-of_z at c.loop-index.invariant.same in
-    let over : word_count c.args.payload.now - 16 * c.loop-index.index ≡ 0 = omega arith in
-    let none = no_items c.args.scheme (words_from c.args.payload.now (16 * c.loop-index.index)
-    (word_count c.args.payload.now - 16 * c.loop-index.index))
-    (rw over (words_none c.args.payload.now (16 * c.loop-index.index))) in
-    c.all_met.ensures ∙ sym (rw none at same)
+    c.add_runs.ensures
+    ∙ sym (ap (λ (ws : List DataWord). fold c.args.samples (record { met = 0; last = c.args.first })
+    (items_of c.args.scheme ws)) (first_cut c.args.payload.now c.requires) ∙ step)

@@ -1,0 +1,63 @@
+-- Numbers that are told 128-fold, modulo 2^32, and differences that follow upon others.
+use Rattle.std.proofs.Common.{◌≡◌, ℕ, ◌+◌, ◌-◌, ◌*◌, ◌/◌, ◌%◌, ◌^◌, ◌<◌, ◌≤◌, List, [], ◌++◌, map, length, ℤ, pos, negsuc}
+use Rattle.std.proofs.Common.{◌+ℤ◌, ◌-ℤ◌, nat_abs, refl, sym, ap, ◌∙◌, arith, Ok, Result, append_assoc, length-append}
+use Rattle.std.proofs.lemmas.Int.{ints}
+use Rattle.std.proofs.lemmas.List.{map-append}
+use Rattle.mseed_steim.specs.declared.scheme.Scheme.{Scheme}
+use Rattle.mseed_steim.specs.declared.differences.BadWordAt.{BadWordAt}
+use Rattle.mseed_steim.specs.Frames.{DataWord}
+use Rattle.mseed_steim.specs.private.Items.{items_of}
+use Rattle.mseed_steim.specs.private.Lanes.{total, span}
+use Rattle.mseed_steim.specs.private.Moves.{MovesBy, Raises}
+use Rattle.mseed_steim.proofs.FrameItems.{span-append, total-append}
+
+pub raised_none : Raises 0 (pos 0)
+raised_none = (0, (0, (omega (arith, ints), refl)))
+
+pub raised_plus : (x y z : ℕ) (s t : ℤ) → Raises x s → Raises y t → z % 4294967296 ≡ (x + y) % 4294967296
+    → Raises z (s +ℤ t)
+raised_plus x y z s t a b e =
+    (a.0 + b.0, (a.1.0 + b.1.0, (omega (arith, ints, a.1.1.0, b.1.1.0), omega (arith, a.1.1.1, b.1.1.1, e))))
+
+-- what is 2^31 more, modulo 2^32, is 128 times what is 2^24 more
+shifted_up : (x r w l : ℕ) → (x + 128 * l) % 4294967296 ≡ 128 * w % 4294967296 → r ≡ x % 4294967296
+    → w < l + 16777216 → l < w + 16777216 → (r + 2147483648) % 4294967296 / 128 + l ≡ w + 16777216
+shifted_up x r w l e is high low = omega (arith, e, is, high, low)
+
+within : (w l : ℕ) (t : ℤ) → pos w ≡ t +ℤ pos l → nat_abs t < 16777216 → (w < l + 16777216) × (l < w + 16777216)
+within w l (pos n) e h = (omega (arith, ints, e, h), omega (arith, ints, e, h))
+within w l (negsuc n) e h = (omega (arith, ints, e, h), omega (arith, ints, e, h))
+
+let_down : (n w l : ℕ) (t : ℤ) → n + l ≡ w + 16777216 → pos w ≡ t +ℤ pos l → pos n -ℤ pos 16777216 ≡ t
+let_down n w l t e f = omega (arith, ints, e, f)
+
+pub lowered : (x r : ℕ) (t : ℤ) → Raises x t → r ≡ x % 4294967296 → nat_abs t < 16777216
+    → pos ((r + 2147483648) % 4294967296 / 128) -ℤ pos 16777216 ≡ t
+lowered x r t a is near =
+    let inside = within a.0 a.1.0 t a.1.1.0 near in
+    let_down ((r + 2147483648) % 4294967296 / 128) a.0 a.1.0 t (shifted_up x r a.0 a.1.0 a.1.1.1 is inside.0 inside.1)
+    a.1.1.0
+
+-- words, and those behind them
+pub moves_none : (s : Scheme) → MovesBy s [] 0 (pos 0) 0
+moves_none s = ([], (record { count_is = refl; by_is = refl; near = omega arith }, λ rest. refl))
+
+pub moves_more : (s : Scheme) (before behind : List DataWord) (c d : ℕ) (by more : ℤ) (far near : ℕ)
+    → MovesBy s before c by far → MovesBy s behind d more near
+    → MovesBy s (before ++ behind) (c + d) (by +ℤ more) (far + near)
+moves_more s before behind c d by more far near a b = (
+  a.0 ++ b.0,
+  (
+    record {
+      count_is = length-append a.0 b.0 ∙ omega (arith, a.1.0.count_is, b.1.0.count_is);
+      by_is = total-append a.0 b.0 ∙ omega (arith, ints, a.1.0.by_is, b.1.0.by_is);
+      near = let both = span-append a.0 b.0 in omega (arith, both, a.1.0.near, b.1.0.near);
+    },
+    λ rest.
+        ap (λ (ws : List DataWord). items_of s ws) (append_assoc before behind rest)
+        ∙ a.1.1 (behind ++ rest)
+        ∙ ap (λ (items : List (Result ℤ BadWordAt)). map Ok a.0 ++ items) (b.1.1 rest)
+        ∙ sym (append_assoc (map Ok a.0) (map Ok b.0) (items_of s rest))
+        ∙ ap (λ (items : List (Result ℤ BadWordAt)). items ++ items_of s rest) (sym (map-append Ok a.0 b.0)),
+  ),
+)

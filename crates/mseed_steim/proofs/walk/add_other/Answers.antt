@@ -1,0 +1,23 @@
+use Rattle.std.proofs.Common.{◌≡◌, ◌+◌, ◌-◌, ◌*◌, ◌++◌, List, arith, sym, inl, refl, subst}
+use Rattle.mseed_steim.specs.Frames.{DataWord, words_from}
+use Rattle.mseed_steim.specs.private.Items.{items_of}
+use Rattle.mseed_steim.specs.private.Sums.{GoesOn}
+use Rattle.mseed_steim.proofs.Walking.{words_skip}
+use Rattle.mseed_steim.proofs.walk.add_other.Goals as goal
+
+pub add_wide-requires-clause-begins : goal.add_wide-requires-clause-begins
+add_wide-requires-clause-begins c = (1, inl (refl, refl))
+
+pub returns-in-Some-clause-goes_on : goal.returns-in-Some-clause-goes_on
+returns-in-Some-clause-goes_on c = λ rest.
+    let skip : words_from c.args.payload.now (16 * c.args.index) 16 ≡ words_from c.args.payload.now
+    (16 * c.args.index + 1) 15 = words_skip c.args.payload.now (16 * c.args.index) 15 (omega arith) in
+    subst (λ (ws : List DataWord). GoesOn c.args.samples c.args.sum (items_of c.args.scheme (ws ++ rest))
+    (items_of c.args.scheme rest) c.in-Some.walked) (sym skip)
+    (c.in-Some.ensures.goes_on c.args.payload.now c.args.index 1 rest (inl (refl, refl)) c.requires.at)
+
+pub returns-in-None-clause-goes_on : goal.returns-in-None-clause-goes_on
+returns-in-None-clause-goes_on c =
+    let count : 16 * (c.args.index + 1) - 16 * c.args.index ≡ 16 = omega arith in
+    let words = rw count at c.between-words.ensures in
+    rw words at c.add_words.ensures.goes_on
