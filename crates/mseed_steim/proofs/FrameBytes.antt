@@ -1,7 +1,6 @@
 -- What a byte's parts count for.
 use Rattle.std.proofs.Common.{◌≡◌, ℕ, zero, suc, ◌+◌, ◌-◌, ◌*◌, ◌/◌, ◌%◌, ◌^◌, ◌<◌, ◌≤◌, Bool, true, ◌&&◌, eqb, T}
-use Rattle.std.proofs.Common.{bit_and}
-use Rattle.std.proofs.Common.{bit_xor, ap, subst, ◌∙◌, inl, inr, arith, eqb→eq, ⊎_elim, pos, ◌+ℤ◌}
+use Rattle.std.proofs.Common.{ap, subst, ◌∙◌, inl, inr, arith, eqb→eq, ⊎_elim, pos, ◌+ℤ◌}
 use Rattle.std.proofs.lemmas.Int.{ints}
 use Rattle.std.proofs.lemmas.Bool.{cases_lt, lt-ltb, le-ltb}
 use Rattle.std.proofs.lemmas.Nat.{pow_pos}

@@ -1,7 +1,7 @@
 -- Steim-1: what a word's parts add up to, by its row, and a frame's words.
-use Rattle.std.proofs.Common.{to_z, w32, negsuc, ◌≡◌, ℕ, suc, ◌+◌, ◌-◌, ◌*◌, ◌/◌, ◌%◌, ◌<◌, ◌≤◌, List, [], ◌∷◌, length}
-use Rattle.std.proofs.Common.{T, ◌^◌, map, get_or, refl, sym, ap, subst, ◌∙◌, arith, ℤ, pos, ◌+ℤ◌}
-use Rattle.std.proofs.lemmas.Int.{ints, to_z_pos}
+use Rattle.std.proofs.Common.{◌≡◌, ℕ, ◌+◌, ◌-◌, ◌*◌, ◌%◌, ◌<◌, ◌≤◌, List, [], ◌∷◌, length}
+use Rattle.std.proofs.Common.{T, ◌^◌, map, get_or, refl, sym, ap, ◌∙◌, arith, ℤ, pos, ◌+ℤ◌}
+use Rattle.std.proofs.lemmas.Int.{ints}
 use lib.Lanes.{sum_l}
 use Rattle.mseed_steim.specs.declared.scheme.Scheme.TheVariants.{One}
 use Rattle.mseed_steim.specs.private.Digits.{digits}
@@ -11,9 +11,6 @@ use Rattle.mseed_steim.specs.private.Lanes.{least_one, counts_one, widths_one, m
 use Rattle.mseed_steim.proofs.Below.{sixteen}
 use Rattle.mseed_steim.specs.private.Moves.{Raises}
 use Rattle.mseed_steim.proofs.FrameSums.{part_at, row_small}
-use Rattle.std.proofs.Math.Facts.{to_z-neg}
-use Rattle.std.proofs.lemmas.Bool.{cases_lt}
-use Rattle.std.proofs.Common.{⊎_elim}
 use Rattle.mseed_steim.proofs.FrameBytes.{Separate, agree_at, all_below, by_bytes, no_bytes, raised_sum, raised_tells}
 use Rattle.mseed_steim.proofs.FrameBytes.{four_is, wide_is}
 
@@ -131,6 +128,14 @@ frame_raised_one f from h x le LO HI come lo hi l few =
     let is_w : LO + 256 * HI ≡ W =
     rw (lo, hi) (sym (sums_256 (part_at low_one flipped flipped_low flipped flipped_low f from)
     (part_at high_one flipped flipped_low flipped flipped_low f from) words)) in
-    let is_l : 512 * le ≡ L = rw l (sym (sums_512 (λ w. least_one (row_at f from w)) words)) in
-    (W, (L, (all.0, ap (λ n. (x + 128 * n) % 4294967296) (sym is_l) ∙ come
-    ∙ ap (λ n. 128 * n % 4294967296) is_w)))
+    let is_l : 512 * le ≡ L = rw l (sym (sums_512 (λ w. least_one (row_at f from w)) words)) in (
+      W,
+      (
+        L,
+        (
+          all.0,
+          ap (λ n. (x + 128 * n) % 4294967296) (sym is_l) ∙ come
+              ∙ ap (λ n. 128 * n % 4294967296) is_w,
+        ),
+      ),
+    )

@@ -1,10 +1,9 @@
 -- What a frame's words add up to.
-use Rattle.std.proofs.Common.{to_z, of_z, ◌≡◌, ◌-◌, ◌^◌, Bool, true, false, if◌then◌else◌, nat_lt, w32, rules, ℕ, ◌+◌}
-use Rattle.std.proofs.Common.{◌*◌, ◌/◌, ◌%◌, ◌<◌, ◌≤◌, List, [], ◌∷◌, length, map, get_or, refl, sym, ap, subst, ◌∙◌}
-use Rattle.std.proofs.Common.{arith, ℤ, pos, ◌+ℤ◌, ◌-ℤ◌}
+use Rattle.std.proofs.Common.{◌≡◌, ◌-◌, ◌^◌, Bool, true, false, if◌then◌else◌, nat_lt, ℕ, ◌+◌}
+use Rattle.std.proofs.Common.{◌*◌, ◌/◌, ◌%◌, ◌<◌, ◌≤◌, List, [], ◌∷◌, length, map, get_or, refl, sym, ap, ◌∙◌}
+use Rattle.std.proofs.Common.{arith, ℤ, pos, ◌+ℤ◌}
 use Rattle.std.proofs.lemmas.Int.{ints}
 use lib.Lanes.{sum_l}
-use Rattle.std.proofs.lemmas.Int.{to_z_pos, to_z-of_z}
 use Rattle.mseed_steim.specs.declared.scheme.Scheme.TheVariants.{Two}
 use Rattle.mseed_steim.specs.private.Lanes.{word_of}
 use Rattle.mseed_steim.specs.private.Lanes.{words, sum_z, byte_at, word_at, row_at, moved, counts_two, ones_two}

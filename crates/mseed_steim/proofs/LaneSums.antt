@@ -1,6 +1,6 @@
 -- Sums of lanes, modulo 2^32.
 use Rattle.std.proofs.Common.{◌≡◌, ℕ, zero, suc, ◌+◌, ◌-◌, ◌*◌, ◌%◌, ◌^◌, ◌<◌, ◌≤◌, List, [], ◌∷◌, length, map, get_or}
-use Rattle.std.proofs.Common.{bit_and, bit_xor, refl, sym, ap, ◌∙◌, arith, Fits, w32}
+use Rattle.std.proofs.Common.{refl, sym, ap, ◌∙◌, arith, Fits, w32}
 use Rattle.std.proofs.lemmas.Simd.{pick_l_whole, zip2_of_maps, map-map, sum_dots}
 use Rattle.std.specs.List.{range_with_len}
 use lib.Lanes.{all_below, zip2, sum_l, fold_l, dots, Each1}

@@ -1,5 +1,5 @@
 -- Numbers that are told 128-fold, modulo 2^32, and differences that follow upon others.
-use Rattle.std.proofs.Common.{◌≡◌, ℕ, ◌+◌, ◌-◌, ◌*◌, ◌/◌, ◌%◌, ◌^◌, ◌<◌, ◌≤◌, List, [], ◌++◌, map, length, ℤ, pos, negsuc}
+use Rattle.std.proofs.Common.{◌≡◌, ℕ, ◌+◌, ◌*◌, ◌/◌, ◌%◌, ◌<◌, List, [], ◌++◌, map, ℤ, pos, negsuc}
 use Rattle.std.proofs.Common.{◌+ℤ◌, ◌-ℤ◌, nat_abs, refl, sym, ap, ◌∙◌, arith, Ok, Result, append_assoc, length-append}
 use Rattle.std.proofs.lemmas.Int.{ints}
 use Rattle.std.proofs.lemmas.List.{map-append}
@@ -7,7 +7,6 @@ use Rattle.mseed_steim.specs.declared.scheme.Scheme.{Scheme}
 use Rattle.mseed_steim.specs.declared.differences.BadWordAt.{BadWordAt}
 use Rattle.mseed_steim.specs.Frames.{DataWord}
 use Rattle.mseed_steim.specs.private.Items.{items_of}
-use Rattle.mseed_steim.specs.private.Lanes.{total, span}
 use Rattle.mseed_steim.specs.private.Moves.{MovesBy, Raises}
 use Rattle.mseed_steim.proofs.FrameItems.{span-append, total-append}
 

@@ -271,11 +271,13 @@ pub(crate) fn move_of(scheme: Scheme, frame: &[u8; 64], begin: Rows) -> Option<M
     })
 }
 
-/// The differences of frames: of the first of them, up to one with a word that is bad or has one of 30 or 32 bits.
+/// The differences of frames, at most so many: of the first of them, up to one with a word that is bad or has one of 30
+/// or 32 bits.
 #[inline(always)]
-fn run_of(scheme: Scheme, frames: &[[u8; 64]]) -> Run
+fn run_of(scheme: Scheme, frames: &[[u8; 64]], most: usize) -> Run
     requires { length frames.now ≤ 15 }
     ensures inside { result.frames ≤ length frames.now }
+    ensures few { result.moved.count ≤ most }
     ensures moves { (p : List ℕ) (k : ℕ) → AreFrames frames.now p k
         → MovesBy scheme (words_from p (16 * k) (16 * result.frames)) result.moved.count result.moved.by
         (2 ^ 20 * result.frames) }
@@ -284,7 +286,7 @@ fn run_of(scheme: Scheme, frames: &[[u8; 64]]) -> Run
     let mut by = u32x4::splat(0);
     for index in 0..frames.len() {
         let lanes = lanes_of(scheme, &frames[index], FROM_1);
-        if lanes.count >= 128 {
+        if lanes.count >= 128 || most - (count as usize) < lanes.count as usize {
             return Run {
                 frames: index,
                 moved: Moved {
@@ -306,15 +308,16 @@ fn run_of(scheme: Scheme, frames: &[[u8; 64]]) -> Run
 }
 
 /// The same, by a body for each scheme.
-pub(crate) fn moves_of(scheme: Scheme, frames: &[[u8; 64]]) -> Run
+pub(crate) fn moves_of(scheme: Scheme, frames: &[[u8; 64]], most: usize) -> Run
     requires { length frames.now ≤ 15 }
     ensures inside { result.frames ≤ length frames.now }
+    ensures few { result.moved.count ≤ most }
     ensures moves { (p : List ℕ) (k : ℕ) → AreFrames frames.now p k
         → MovesBy scheme (words_from p (16 * k) (16 * result.frames)) result.moved.count result.moved.by
         (2 ^ 20 * result.frames) }
 {
     match scheme {
-        Scheme::One => run_of(Scheme::One, frames),
-        Scheme::Two => run_of(Scheme::Two, frames),
+        Scheme::One => run_of(Scheme::One, frames, most),
+        Scheme::Two => run_of(Scheme::Two, frames, most),
     }
 }

@@ -17,7 +17,7 @@ use crate::frame::{FROM_1, FROM_4};
 use crate::group::{Group, group_of};
 use crate::lanes::Rows;
 use crate::scheme::Scheme;
-use crate::sum::{Sum, Walked, add_digit, add_near};
+use crate::sum::{Sum, Walked, add_digit, add_near, reach_of};
 use crate::unpack::{PLACES, Room, unpack_frame, unpack_wide};
 
 /// No sum of a frame's differences is further from 0 than this, unless one of them has 30 or 32 bits.
@@ -145,6 +145,55 @@ fn put_checked(differences: &[i32], samples: usize, sum: Sum, out: &mut [i32]) -
     })
 }
 
+/// Differences that are all needed, while the limits of 32 bits are out of reach: in lanes, where there is room for a
+/// turn more.
+#[inline(always)]
+fn put_near(differences: &mut Room, count: usize, samples: usize, sum: Sum, out: &mut [i32]) -> Sum
+    requires few { count ≤ 120 }
+    requires places { length out.old ≡ samples }
+    requires some { 0 < sum.met }
+    requires left { sum.met + count ≤ samples }
+    requires near { nat_abs sum.last + span (take count differences.old) < 2 ^ 31 }
+    ensures goes_on { (more : List (Result ℤ BadWordAt))
+        → fold samples sum (map Ok (take count differences.old) ++ more) ≡ fold samples result more }
+    ensures kept { (more : List (Result ℤ BadWordAt))
+        → take result.met out.new ++ met_in samples result more
+        ≡ take sum.met out.old ++ met_in samples sum (map Ok (take count differences.old) ++ more) }
+    ensures met { result.met ≡ sum.met + count }
+    ensures places { length out.new ≡ samples }
+{
+    if samples - sum.met < count + TURN {
+        put_some(&differences[..count], samples, sum, out)
+    } else {
+        put_whole(differences, count, samples, sum, out)
+    }
+}
+
+/// Differences that are all needed, of any width, as far as no sum leaves 32 bits.
+fn put_unpacked(
+    differences: &mut Room,
+    count: usize,
+    samples: usize,
+    sum: Sum,
+    out: &mut [i32],
+) -> Walked
+    requires few { count ≤ 120 }
+    requires places { length out.old ≡ samples }
+    requires some { 0 < sum.met }
+    requires left { sum.met + count ≤ samples }
+    ensures goes_on { (more : List (Result ℤ BadWordAt))
+        → GoesOn samples sum (map Ok (take count differences.old) ++ more) more result }
+    ensures kept { (more : List (Result ℤ BadWordAt))
+        → Keeps samples sum out.old (map Ok (take count differences.old) ++ more) more out.new result }
+    ensures met { IfOk result (λ next. next.met ≤ samples) }
+    ensures places { length out.new ≡ samples }
+{
+    if reach_of(&differences[..count]) < (1 << 31) - u64::from(sum.last.unsigned_abs()) {
+        return Ok(put_near(differences, count, samples, sum, out));
+    }
+    put_checked(&differences[..count], samples, sum, out)
+}
+
 /// The differences of a frame of which some have 30 or 32 bits. None where its words have to be looked at: where not
 /// all are needed, none was met before, or a word is bad.
 #[cold]
@@ -172,11 +221,14 @@ fn put_wide(
     ensures places { length out.new ≡ samples }
     ensures none { IfNone result (out.new ≡ out.old) }
 {
-    let count = unpack_wide(scheme, frame, begin, differences)?;
-    if sum.met == 0 || samples - sum.met < count {
+    if sum.met == 0 {
         return None;
     }
-    Some(put_checked(&differences[..count], samples, sum, out))
+    let count = unpack_wide(scheme, frame, begin, differences)?;
+    if samples - sum.met < count {
+        return None;
+    }
+    Some(put_unpacked(differences, count, samples, sum, out))
 }
 
 /// The differences of a frame at once. None where its words have to be looked at: where not all are needed, none was
@@ -214,10 +266,7 @@ fn put_at_once(
     if samples - sum.met < count {
         return None;
     }
-    if samples - sum.met < count + TURN {
-        return Some(put_some(&differences[..count], samples, sum, out));
-    }
-    Some(put_whole(differences, count, samples, sum, out))
+    Some(put_near(differences, count, samples, sum, out))
 }
 
 /// The differences of the first frame, as far as they are needed.
@@ -326,7 +375,16 @@ fn put_later_frames(
             sum = next;
             continue;
         }
-        match put_frame(scheme, payload, frame, index, samples, sum, differences, out) {
+        match put_frame(
+            scheme,
+            payload,
+            frame,
+            index,
+            samples,
+            sum,
+            differences,
+            out,
+        ) {
             Ok(next) => sum = next,
             Err(fault) => return Err(fault),
         }

@@ -4,6 +4,7 @@ ghost use Rattle.std.specs.Prelude.{◌≡◌, ◌+◌, ◌-◌, ◌^◌, ◌≤
 ghost use Rattle.std.specs.Prelude.{Ok, IfOk, length};
 ghost use Rattle.mseed_steim.specs.declared.differences.BadWordAt.{BadWordAt};
 ghost use Rattle.mseed_steim.specs.private.Digits.{digits};
+ghost use Rattle.mseed_steim.specs.private.Lanes.{span};
 ghost use Rattle.mseed_steim.specs.private.Sums.{GoesOn, fold, met_in};
 
 use crate::fault::ReadFault;
@@ -57,6 +58,37 @@ pub(crate) fn add_near(difference: i32, samples: usize, sum: Sum) -> Sum
         met: sum.met + 1,
         last: sum.last.wrapping_add(difference),
     }
+}
+
+/// What no sum of differences is further from 0 than: as many times the greatest of them, whatever their signs, as
+/// there are.
+#[inline(always)]
+pub(crate) fn reach_of(differences: &[i32]) -> u64
+    requires { length differences.now ≤ 120 }
+    ensures { span differences.now ≤ result }
+{
+    let mut most = 0;
+    for i in 0..differences.len() {
+        most = most.max(differences[i].unsigned_abs());
+    }
+    differences.len() as u64 * u64::from(most)
+}
+
+/// Differences that are all needed, while the limits of 32 bits are out of reach.
+#[inline(always)]
+pub(crate) fn add_some(differences: &[i32], samples: usize, sum: Sum) -> Sum
+    requires some { 0 < sum.met }
+    requires left { sum.met + length differences.now ≤ samples }
+    requires near { nat_abs sum.last + span differences.now < 2 ^ 31 }
+    ensures goes_on { (more : List (Result ℤ BadWordAt))
+        → fold samples sum (map Ok differences.now ++ more) ≡ fold samples result more }
+    ensures met { result.met ≤ samples }
+{
+    let mut sum = sum;
+    for i in 0..differences.len() {
+        sum = add_near(differences[i], samples, sum);
+    }
+    sum
 }
 
 /// Differences that are all needed, as far as no sum leaves 32 bits.

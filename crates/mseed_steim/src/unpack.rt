@@ -108,8 +108,8 @@ const WHOLE: Unpacking = row!(1, 32, [1, 0, 0, 0, 0, 0, 0, 0]);
 
 /// By code and top bits, in Steim-1.
 static ROWS_ONE: [Unpacking; 16] = [
-    NONE, NONE, NONE, NONE, BYTES, BYTES, BYTES, BYTES, PAIR, PAIR, PAIR, PAIR, WHOLE, WHOLE, WHOLE,
-    WHOLE,
+    NONE, NONE, NONE, NONE, BYTES, BYTES, BYTES, BYTES, PAIR, PAIR, PAIR, PAIR, WHOLE, WHOLE,
+    WHOLE, WHOLE,
 ];
 
 /// How many differences a word of a row has, those of 30 or 32 bits too; 128 where it is bad.
@@ -342,7 +342,8 @@ pub(crate) fn unpack_frame(
 }
 
 /// The same where some may have 30 or 32 bits. None where a word is bad.
-pub(crate) fn unpack_wide(
+#[inline(always)]
+fn unpack_all_widths(
     scheme: Scheme,
     frame: &[u8; 64],
     begin: Rows,
@@ -356,4 +357,21 @@ pub(crate) fn unpack_wide(
         return None;
     }
     Some(unpack_words(scheme, frame, rows, differences))
+}
+
+/// The same, by a body for each scheme.
+#[cold]
+pub(crate) fn unpack_wide(
+    scheme: Scheme,
+    frame: &[u8; 64],
+    begin: Rows,
+    differences: &mut Room,
+) -> Option<usize>
+    requires { (from : ℕ) × Begins begin from }
+    ensures { IfSome result (λ count. AreUnpacked scheme begin frame.now (take count differences.new) count) }
+{
+    match scheme {
+        Scheme::One => unpack_all_widths(Scheme::One, frame, begin, differences),
+        Scheme::Two => unpack_all_widths(Scheme::Two, frame, begin, differences),
+    }
 }

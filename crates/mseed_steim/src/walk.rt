@@ -16,7 +16,7 @@ use crate::frame::{FROM_1, FROM_4, Moved, RUN, move_of, moves_of};
 use crate::group::group_of;
 use crate::lanes::Rows;
 use crate::scheme::Scheme;
-use crate::sum::{Sum, Walked, add_checked, add_group, all_met};
+use crate::sum::{Sum, Walked, add_checked, add_group, add_some, all_met, reach_of};
 use crate::unpack::{PLACES, unpack_wide};
 
 /// No sum of a frame's differences is further from 0 than this, unless one of them has 30 or 32 bits.
@@ -67,10 +67,7 @@ fn add_at_once(moved: Moved, reach: u32, samples: usize, sum: Sum) -> Option<Sum
     ensures met { IfSome result (λ next. next.met ≤ samples) }
 {
     let count = moved.count as usize;
-    if sum.met == 0
-        || samples - sum.met < count
-        || sum.last.unsigned_abs() >= (1 << 31) - reach
-    {
+    if sum.met == 0 || samples - sum.met < count || sum.last.unsigned_abs() >= (1 << 31) - reach {
         return None;
     }
     Some(Sum {
@@ -102,6 +99,21 @@ fn add_narrow(
     }
 }
 
+/// Differences that are all needed, of any width, as far as no sum leaves 32 bits.
+fn add_unpacked(differences: &[i32], samples: usize, sum: Sum) -> Walked
+    requires few { length differences.now ≤ 120 }
+    requires some { 0 < sum.met }
+    requires left { sum.met + length differences.now ≤ samples }
+    ensures goes_on { (more : List (Result ℤ BadWordAt))
+        → GoesOn samples sum (map Ok differences.now ++ more) more result }
+    ensures met { IfOk result (λ next. next.met ≤ samples) }
+{
+    if reach_of(differences) < (1 << 31) - u64::from(sum.last.unsigned_abs()) {
+        return Ok(add_some(differences, samples, sum));
+    }
+    add_checked(differences, samples, sum)
+}
+
 /// The differences of a frame of which some have 30 or 32 bits. None where its words have to be looked at: where not
 /// all are needed, none was met before, or a word is bad.
 #[cold]
@@ -125,7 +137,7 @@ fn add_wide(
     if sum.met == 0 || samples - sum.met < count {
         return None;
     }
-    Some(add_checked(&differences[..count], samples, sum))
+    Some(add_unpacked(&differences[..count], samples, sum))
 }
 
 /// The differences of the first frame, as far as they are needed.
@@ -245,7 +257,8 @@ fn add_runs(scheme: Scheme, payload: &[u8], samples: usize, sum: Sum) -> Walked
         if sum.met == samples {
             return Ok(sum);
         }
-        let run = moves_of(scheme, &frames[next..frames.len().min(next + RUN)]);
+        let some = &frames[next..frames.len().min(next + RUN)];
+        let run = moves_of(scheme, some, samples - sum.met);
         if run.frames == 0 {
             match add_other(scheme, payload, &frames[next], next, samples, sum) {
                 Ok(more) => sum = more,

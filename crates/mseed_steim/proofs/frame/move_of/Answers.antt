@@ -1,7 +1,5 @@
-use Rattle.std.proofs.Common.{◌≡◌, ◌<◌, ◌^◌, ℤ, nat_abs, arith, rules, sym, subst, w32, FitsSigned}
+use Rattle.std.proofs.Common.{◌<◌, ◌^◌, nat_abs, arith, rules, w32, FitsSigned}
 use Rattle.std.proofs.lemmas.Int.{to_z-of_z}
-use Rattle.mseed_steim.specs.Frames.{words_from}
-use Rattle.mseed_steim.specs.private.Moves.{MovesBy}
 use Rattle.mseed_steim.proofs.Far.{total_near}
 use Rattle.mseed_steim.proofs.frame.move_of.Goals as goal
 

@@ -1,8 +1,7 @@
-use Rattle.std.proofs.Common.{◌≡◌, ◌<◌, ◌≤◌, ◌+◌, ◌*◌, ◌^◌, ◌++◌, ◌∙◌, ◌+ℤ◌, ℕ, ℤ, List, pos, nat_abs, length, arith, rules, ap}
-use Rattle.std.proofs.Common.{sym, subst, inl, refl, w32, FitsSigned}
+use Rattle.std.proofs.Common.{◌≡◌, ◌<◌, ◌+◌, ◌*◌, ◌^◌, ◌++◌, ◌∙◌, ◌+ℤ◌, ℕ, List, pos, nat_abs, length, arith, rules, ap}
+use Rattle.std.proofs.Common.{inl, refl, w32, FitsSigned}
 use Rattle.std.proofs.lemmas.Int.{to_z-of_z}
 use Rattle.mseed_steim.specs.Frames.{DataWord, words_from}
-use Rattle.mseed_steim.specs.private.Moves.{MovesBy}
 use Rattle.mseed_steim.proofs.Far.{total_near}
 use Rattle.mseed_steim.proofs.Raised.{moves_more, moves_none, raised_none, raised_plus}
 use Rattle.mseed_steim.proofs.Walking.{words_cut, words_none, words_skip}
@@ -11,6 +10,7 @@ use Rattle.mseed_steim.proofs.frame.run_of.Goals as goal
 pub loop-index-init : goal.loop-index-init
 loop-index-init c = record {
   few = omega arith;
+  most = omega arith;
   lanes = refl;
   so_far = λ p k frames. (pos 0, (raised_none, rw (words_none p (16 * k)) (moves_none c.args.scheme)));
 }
@@ -30,13 +30,13 @@ loop-index-preserved c =
     let i = c.loop-index.index in
     record {
       few = omega (arith, c.loop-index.invariant.few);
+      most = omega arith;
       lanes = search rules;
       so_far = λ p k frames.
           let before = c.loop-index.invariant.so_far p k frames in
           let told = c.lanes_of-lanes.ensures p (k + i) 1 (inl (refl, refl)) (frames i c.loop-index-test.true)
           (omega arith) in
-          let reach : 2 ^ 20 * i + 2 ^ 20 ≡ 2 ^ 20 * (i + 1) = omega arith in
-          (
+          let reach : 2 ^ 20 * i + 2 ^ 20 ≡ 2 ^ 20 * (i + 1) = omega arith in (
             before.0 +ℤ told.0,
             (
               raised_plus _ _ _ before.0 told.0 before.1.0 told.1.0 c.plus-by.ensures,

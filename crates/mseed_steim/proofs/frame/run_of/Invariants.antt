@@ -7,6 +7,7 @@ use Rattle.mseed_steim.proofs.frame.run_of.Given as goal
 abbrev pub invariant-loop-index : goal.invariant-loop-index
 invariant-loop-index l = record {
   few : l.count ≤ 128 * l.index;
+  most : l.count ≤ l.most;
   lanes : length l.by ≡ 4;
   so_far : (p : List ℕ) (k : ℕ) → AreFrames l.frames p k
       → (by : ℤ) × (Raises (sum_l l.by) by × MovesBy l.scheme (words_from p (16 * k) (16 * l.index)) l.count by

@@ -7,13 +7,13 @@ use Rattle.mseed_steim.proofs.put.put_wide.Goals as goal
 pub returns-clause-goes_on : goal.returns-clause-goes_on
 returns-clause-goes_on c = λ p k from rest begins e.
     subst (λ (items : List (Result ℤ BadWordAt)). GoesOn c.args.samples c.args.sum items
-    (items_of c.args.scheme rest) c.put_checked.result)
+    (items_of c.args.scheme rest) c.put_unpacked.result)
     (sym (c.in_ok-count.ensures.items p k from rest begins e))
-    (c.put_checked.ensures.goes_on (items_of c.args.scheme rest))
+    (c.put_unpacked.ensures.goes_on (items_of c.args.scheme rest))
 
 pub returns-clause-kept : goal.returns-clause-kept
 returns-clause-kept c = λ p k from rest begins e.
     subst (λ (items : List (Result ℤ BadWordAt)). Keeps c.args.samples c.args.sum c.args.out.now items
-    (items_of c.args.scheme rest) c.put_checked.new.out c.put_checked.result)
+    (items_of c.args.scheme rest) c.put_unpacked.new.out c.put_unpacked.result)
     (sym (c.in_ok-count.ensures.items p k from rest begins e))
-    (c.put_checked.ensures.kept (items_of c.args.scheme rest))
+    (c.put_unpacked.ensures.kept (items_of c.args.scheme rest))

@@ -1,7 +1,7 @@
 use Rattle.std.proofs.Common.{◌<◌, ℕ, subst, arith}
 use Rattle.mseed_steim.specs.private.Lanes.{row_at}
 use Rattle.mseed_steim.proofs.FrameUnpacked.{all_spelled, all_good, begins_some}
-use Rattle.mseed_steim.proofs.unpack.unpack_wide.Goals as goal
+use Rattle.mseed_steim.proofs.unpack.unpack_all_widths.Goals as goal
 
 pub returns : goal.returns
 returns c = record {

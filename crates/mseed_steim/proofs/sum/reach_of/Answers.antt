@@ -1,0 +1,39 @@
+use Rattle.std.proofs.Common.{◌≡◌, ◌+◌, ◌*◌, ◌≤◌, ℕ, nat_abs, get_or, length, arith, pos, rules, w32, FitsSigned}
+use Rattle.std.proofs.lemmas.Int.{to_z-of_z}
+use Rattle.std.proofs.Math.Nat.{mul-le-mul_left, mul-le-mul_right}
+use Rattle.mseed_steim.proofs.Far.{span_step}
+use Rattle.mseed_steim.proofs.Folded.{no_more}
+use Rattle.mseed_steim.proofs.Fullest.{max_is}
+use Rattle.mseed_steim.proofs.sum.reach_of.Goals as goal
+
+-- one more
+more : (i m n d all later : ℕ) → all ≤ i * m + (d + later) → d ≤ n → i * m ≤ i * n → all ≤ (i + 1) * n + later
+more i m n d all later h high many =
+    let next : (i + 1) * n ≡ i * n + n = omega arith in
+    omega (arith, h, high, many, next)
+
+pub loop-i-preserved : goal.loop-i-preserved
+loop-i-preserved c =
+    let i = c.loop-i.i in
+    let d = get_or c.args.differences.now i (pos 0) in
+    let fits : FitsSigned w32 d = search rules in
+    let size : c.unsigned_abs.result ≡ nat_abs d = rw to_z-of_z at c.unsigned_abs.ensures.value in
+    let most = max_is c.loop-i.most c.unsigned_abs.result c.max-most.result c.max-most.ensures in
+    let step = span_step c.args.differences.now i (pos 0) c.loop-i-test.true in
+    record {
+      most = c.max-most.type_inv;
+      so_far = more i c.loop-i.most c.max-most.result (nat_abs d) _ _ (omega (arith, c.loop-i.invariant.so_far, step))
+          (omega (arith, size, most.1)) (mul-le-mul_left i most.0);
+    }
+
+pub overflow_mul-result : goal.overflow_mul-result
+overflow_mul-result c =
+    let many = mul-le-mul_right c.from.result c.requires in
+    record { fits = omega (arith, many, c.from.ensures, c.loop-i.invariant.most) }
+
+pub returns : goal.returns
+returns c =
+    let all : c.loop-i.i ≡ length c.args.differences.now = omega arith in
+    let none = no_more c.args.differences.now in
+    let so_far = rw (all, none) at c.loop-i.invariant.so_far in
+    rw c.from.ensures (omega (arith, so_far))
