@@ -178,19 +178,25 @@ behind : (g : ℕ → ℕ) (begin : List ℕ) (from : ℕ) → Begins begin from
     → sum_l (map g words) ≡ sum_l (map g (range_with_len from (16 - from)))
 unfolding words
 behind g begin from (inl h) none = rw h.0 (omega (arith, none 0 (omega (arith, h.0))))
-behind g begin from (inr h) none = rw h.0 (omega (
+behind g begin from (inr (inl h)) none = rw h.0 (omega (
   arith,
   none 0 (omega (arith, h.0)),
   none 1 (omega (arith, h.0)),
   none 2 (omega (arith, h.0)),
   none 3 (omega (arith, h.0)),
 ))
+behind g begin from (inr (inr h)) none = rw h.0 (omega (
+  arith,
+  none 0 (omega (arith, h.0)),
+  none 1 (omega (arith, h.0)),
+  none 2 (omega (arith, h.0)),
+))
 
 behind_z : (g : ℕ → ℤ) (begin : List ℕ) (from : ℕ) → Begins begin from → ((j : ℕ) → j < from → g j ≡ pos 0)
     → sum_z (map g words) ≡ sum_z (map g (range_with_len from (16 - from)))
 unfolding words
 behind_z g begin from (inl h) none = rw h.0 (omega (arith, ints, none 0 (omega (arith, h.0))))
-behind_z g begin from (inr h) none = rw h.0 (omega (
+behind_z g begin from (inr (inl h)) none = rw h.0 (omega (
   arith,
   ints,
   none 0 (omega (arith, h.0)),
@@ -199,10 +205,18 @@ behind_z g begin from (inr h) none = rw h.0 (omega (
   none 2 (omega (arith, h.0)),
   none 3 (omega (arith, h.0)),
 ))
+behind_z g begin from (inr (inr h)) none = rw h.0 (omega (
+  arith,
+  ints,
+  none 0 (omega (arith, h.0)),
+  none 1 (omega (arith, h.0)),
+  none 2 (omega (arith, h.0)),
+))
 
-begins_low : (begin : List ℕ) (from : ℕ) → Begins begin from → (0 < from) × (from ≤ 16)
+pub begins_low : (begin : List ℕ) (from : ℕ) → Begins begin from → (0 < from) × (from ≤ 16)
 begins_low begin from (inl h) = rw h.0 (omega arith, omega arith)
-begins_low begin from (inr h) = rw h.0 (omega arith, omega arith)
+begins_low begin from (inr (inl h)) = rw h.0 (omega arith, omega arith)
+begins_low begin from (inr (inr h)) = rw h.0 (omega arith, omega arith)
 
 moves : (s : Scheme) (counts widths p f begin : List ℕ) (k from count : ℕ) (by : ℤ) → Begins begin from
     → Reads s counts widths p f k from

@@ -125,3 +125,18 @@ pub rows_first : (f : List ℕ) → ((k : ℕ) → get_or f k 0 < 256)
     ≡ map (row_at f 4) words
 unfolding words
 rows_first f h = cons (no_code f h 0) (cons (no_code f h 1) (cons (no_code f h 2) (cons (no_code f h 3) (behind f h))))
+
+pub rows_third : (f : List ℕ) → ((k : ℕ) → get_or f k 0 < 256)
+    → (lane 0 (get_or f 0 0) (get_or f 0 0) ∷ lane 0 (get_or f 0 0) (get_or f 4 0) ∷ lane 0 (get_or f 0 0)
+    (get_or f 8 0) ∷ lane 3 (get_or f 0 0) (get_or f 12 0) ∷ four_lanes f 1 (four_lanes f 2 (four_lanes f 3 [])))
+    ≡ map (row_at f 3) words
+unfolding words
+rows_third f h =
+    let x = get_or f 0 0 in
+    let first = h 0 in
+    let second = h 1 in
+    let third = h 2 in
+    let fourth = h 3 in
+    cons (no_code f h 0) (cons (no_code f h 1) (cons (no_code f h 2)
+    (cons (lane_is 3 x (get_or f 12 0) (x % 4) (code_3 x (h 0)) (omega arith) (h 12) (word_at f 0 / 16777216 % 4)
+    (word_at f 3) (omega arith) (top f h 3)) (behind f h))))

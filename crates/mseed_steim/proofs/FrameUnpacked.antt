@@ -72,6 +72,14 @@ behind_4 s p f k reads =
     let n3 = none_at (all_counts s) (all_widths s) f 4 3 (reads.empty 3 (omega arith)) in
     rw (n1, n2, n3) refl
 
+behind_3 : (s : Scheme) (p f : List ℕ) (k : ℕ) → Reads s (all_counts s) (all_widths s) p f k 3
+    → unpacked s f 3 1 15 ≡ unpacked s f 3 3 13
+unfolding unpacked
+behind_3 s p f k reads =
+    let n1 = none_at (all_counts s) (all_widths s) f 3 1 (reads.empty 1 (omega arith)) in
+    let n2 = none_at (all_counts s) (all_widths s) f 3 2 (reads.empty 2 (omega arith)) in
+    rw (n1, n2) refl
+
 -- what the words of the frame spell
 pub all_spelled : (s : Scheme) (p f begin : List ℕ) (k from : ℕ) → Begins begin from → f ≡ take 64 (drop (64 * k) p)
     → ((i : ℕ) → get_or f i 0 < 256) → AreGood s f from
@@ -79,9 +87,12 @@ pub all_spelled : (s : Scheme) (p f begin : List ℕ) (k from : ℕ) → Begins 
     ≡ map Ok (unpacked s f from 1 15) ++ items_of s rest
 all_spelled s p f begin k from (inl h) e octets =
     rw h.0 (λ good. spelled s p f k 1 (reads_all s p f k 1 e octets) good 15 1 (omega arith) (omega arith) refl)
-all_spelled s p f begin k from (inr h) e octets = rw h.0 (λ good.
+all_spelled s p f begin k from (inr (inl h)) e octets = rw h.0 (λ good.
     let reads = reads_all s p f k 4 e octets in
     rw (behind_4 s p f k reads) (spelled s p f k 4 reads good 12 4 (omega arith) (omega arith) refl))
+all_spelled s p f begin k from (inr (inr h)) e octets = rw h.0 (λ good.
+    let reads = reads_all s p f k 3 e octets in
+    rw (behind_3 s p f k reads) (spelled s p f k 3 reads good 13 3 (omega arith) (omega arith) refl))
 
 -- how far they go in all
 span_unpacked : (s : Scheme) (f : List ℕ) (from n j : ℕ)
@@ -103,7 +114,8 @@ all_near s f from octets few = near_sum s f from (unpacked_near s f from octets 
 
 pub begins_some : (begin : List ℕ) (from : ℕ) → Begins begin from → 0 < from
 begins_some begin from (inl h) = omega (arith, h.0)
-begins_some begin from (inr h) = omega (arith, h.0)
+begins_some begin from (inr (inl h)) = omega (arith, h.0)
+begins_some begin from (inr (inr h)) = omega (arith, h.0)
 
 pub lanes_few : (s : Scheme) → lanes_of s ≤ 8
 lanes_few One = omega arith

@@ -26,6 +26,7 @@ pub mod FrameNear
 pub mod Near
 pub mod FrameItems
 pub mod Raised
+pub mod FirstRun
 pub mod RowHalves
 pub mod Rows
 pub mod Widths

@@ -80,6 +80,16 @@ frame_at (suc n) p (suc i) h =
     let place : 64 + 64 * i ≡ 64 * suc i = omega arith in
     later ∙ (rw (drop-drop, place) refl)
 
+pub take_most : {A : Type 0} (m : ℕ) (xs : List A) → length (take m xs) ≤ m
+take_most zero xs = omega arith
+take_most (suc m) [] = omega arith
+take_most (suc m) (x ∷ xs) = let later = take_most m xs in omega (arith, later)
+
+pub take_shorter : {A : Type 0} (m : ℕ) (xs : List A) → length (take m xs) ≤ length xs
+take_shorter zero xs = omega arith
+take_shorter (suc m) [] = omega arith
+take_shorter (suc m) (x ∷ xs) = let later = take_shorter m xs in omega (arith, later)
+
 pub length-first_chunks : (n : ℕ) (p : List ℕ) → length (first_chunks 64 n p) ≡ n
 length-first_chunks zero p = refl
 length-first_chunks (suc n) p = ap suc (length-first_chunks n (drop 64 p))

@@ -58,6 +58,11 @@ pub(crate) const FROM_4: Rows = [
     0, 0, 0, 0, 0xC0, 0x30, 0x0C, 0x03, 0xC0, 0x30, 0x0C, 0x03, 0xC0, 0x30, 0x0C, 0x03,
 ];
 
+/// The bits of the codes from word 3 on.
+pub(crate) const FROM_3: Rows = [
+    0, 0, 0, 0x03, 0xC0, 0x30, 0x0C, 0x03, 0xC0, 0x30, 0x0C, 0x03, 0xC0, 0x30, 0x0C, 0x03,
+];
+
 /// The bits of the codes from word 1 on.
 pub(crate) const FROM_1: Rows = [
     0, 0x30, 0x0C, 0x03, 0xC0, 0x30, 0x0C, 0x03, 0xC0, 0x30, 0x0C, 0x03, 0xC0, 0x30, 0x0C, 0x03,
@@ -271,21 +276,30 @@ pub(crate) fn move_of(scheme: Scheme, frame: &[u8; 64], begin: Rows) -> Option<M
     })
 }
 
-/// The differences of frames, at most so many: of the first of them, up to one with a word that is bad or has one of 30
-/// or 32 bits.
+/// The bits of the codes of a frame in a run, of which the first frame has others.
 #[inline(always)]
-fn run_of(scheme: Scheme, frames: &[[u8; 64]], most: usize) -> Run
+fn begin_at(index: usize, first: Rows) -> Rows
+    ensures first { index ≡ 0 → result ≡ first }
+    ensures later { 0 < index → Begins result 1 }
+{
+    if index == 0 { first } else { FROM_1 }
+}
+
+/// The differences of frames from a word of the first one on, at most so many: of the first frames, up to one with a word
+/// that is bad or has one of 30 or 32 bits.
+#[inline(always)]
+fn run_of(scheme: Scheme, frames: &[[u8; 64]], begin: Rows, most: usize) -> Run
     requires { length frames.now ≤ 15 }
     ensures inside { result.frames ≤ length frames.now }
     ensures few { result.moved.count ≤ most }
-    ensures moves { (p : List ℕ) (k : ℕ) → AreFrames frames.now p k
-        → MovesBy scheme (words_from p (16 * k) (16 * result.frames)) result.moved.count result.moved.by
+    ensures moves { (p : List ℕ) (k from : ℕ) → Begins begin from → AreFrames frames.now p k
+        → MovesBy scheme (words_from p (16 * k + from) (16 * result.frames - from)) result.moved.count result.moved.by
         (2 ^ 20 * result.frames) }
 {
     let mut count = 0;
     let mut by = u32x4::splat(0);
     for index in 0..frames.len() {
-        let lanes = lanes_of(scheme, &frames[index], FROM_1);
+        let lanes = lanes_of(scheme, &frames[index], begin_at(index, begin));
         if lanes.count >= 128 || most - (count as usize) < lanes.count as usize {
             return Run {
                 frames: index,
@@ -308,16 +322,16 @@ fn run_of(scheme: Scheme, frames: &[[u8; 64]], most: usize) -> Run
 }
 
 /// The same, by a body for each scheme.
-pub(crate) fn moves_of(scheme: Scheme, frames: &[[u8; 64]], most: usize) -> Run
+pub(crate) fn moves_of(scheme: Scheme, frames: &[[u8; 64]], begin: Rows, most: usize) -> Run
     requires { length frames.now ≤ 15 }
     ensures inside { result.frames ≤ length frames.now }
     ensures few { result.moved.count ≤ most }
-    ensures moves { (p : List ℕ) (k : ℕ) → AreFrames frames.now p k
-        → MovesBy scheme (words_from p (16 * k) (16 * result.frames)) result.moved.count result.moved.by
+    ensures moves { (p : List ℕ) (k from : ℕ) → Begins begin from → AreFrames frames.now p k
+        → MovesBy scheme (words_from p (16 * k + from) (16 * result.frames - from)) result.moved.count result.moved.by
         (2 ^ 20 * result.frames) }
 {
     match scheme {
-        Scheme::One => run_of(Scheme::One, frames, most),
-        Scheme::Two => run_of(Scheme::Two, frames, most),
+        Scheme::One => run_of(Scheme::One, frames, begin, most),
+        Scheme::Two => run_of(Scheme::Two, frames, begin, most),
     }
 }

@@ -6,18 +6,19 @@ ghost use Rattle.mseed_steim.specs.declared.differences.BadWordAt.{BadWordAt};
 ghost use Rattle.mseed_steim.specs.Frames.{DataWord, data_words, words_from, word_count};
 ghost use Rattle.mseed_steim.specs.private.Items.{items_of};
 ghost use Rattle.mseed_steim.specs.private.Lanes.{Begins};
-ghost use Rattle.mseed_steim.specs.private.Moves.{Moves};
+ghost use Rattle.mseed_steim.specs.private.Moves.{AreFrames, Moves};
 ghost use Rattle.mseed_steim.specs.private.Reads.{as_data};
 ghost use Rattle.mseed_steim.specs.private.Sums.{GoesOn, fold, lack};
 
 use crate::data_words::{FRAME, Word, Words, first_word};
 use crate::fault::ReadFault;
-use crate::frame::{FROM_1, FROM_4, Moved, RUN, move_of, moves_of};
+use crate::frame::{FROM_1, FROM_3, FROM_4, Moved, RUN, move_of, moves_of};
 use crate::group::group_of;
 use crate::lanes::Rows;
 use crate::scheme::Scheme;
 use crate::sum::{Sum, Walked, add_checked, add_group, add_some, all_met, reach_of};
 use crate::unpack::{PLACES, unpack_wide};
+use crate::word::read_digit;
 
 /// No sum of a frame's differences is further from 0 than this, unless one of them has 30 or 32 bits.
 const REACH: u32 = 1 << 20;
@@ -244,21 +245,23 @@ fn add_each(scheme: Scheme, payload: &[u8], from: usize, samples: usize, sum: Su
     all_met(samples, sum)
 }
 
-/// The same from the second frame on, some frames at a time, where that can't go wrong.
-fn add_runs(scheme: Scheme, payload: &[u8], samples: usize, sum: Sum) -> Walked
-    requires { sum.met ≤ samples }
+/// The same, some frames at a time, where that can't go wrong.
+fn add_runs(scheme: Scheme, payload: &[u8], from: usize, samples: usize, sum: Sum) -> Walked
+    requires later { 0 < from }
+    requires inside { 64 * from ≤ length payload.now }
+    requires met { sum.met ≤ samples }
     ensures { result ≡ fold samples sum
-        (items_of scheme (words_from payload.now 16 (word_count payload.now - 16))) }
+        (items_of scheme (words_from payload.now (16 * from) (word_count payload.now - 16 * from))) }
 {
     let (frames, _) = payload.as_chunks::<64>();
     let mut sum = sum;
-    let mut next = 1;
+    let mut next = from;
     while next < frames.len() {
         if sum.met == samples {
             return Ok(sum);
         }
         let some = &frames[next..frames.len().min(next + RUN)];
-        let run = moves_of(scheme, some, samples - sum.met);
+        let run = moves_of(scheme, some, FROM_1, samples - sum.met);
         if run.frames == 0 {
             match add_other(scheme, payload, &frames[next], next, samples, sum) {
                 Ok(more) => sum = more,
@@ -276,6 +279,55 @@ fn add_runs(scheme: Scheme, payload: &[u8], samples: usize, sum: Sum) -> Walked
     all_met(samples, sum)
 }
 
+/// The first difference of a word, where it has one.
+#[inline(always)]
+fn first_difference(scheme: Scheme, word: Word) -> Option<i32>
+    ensures { IfSome result (λ d. (ws : List DataWord)
+        → (more : List (Result ℤ BadWordAt)) × (items_of scheme (as_data word ∷ ws) ≡ Ok d ∷ more)) }
+{
+    let group = group_of(scheme, word.code, word.bits)?;
+    if group.count == 0 {
+        return None;
+    }
+    Some(read_digit(word.bits, group.width, group.count - 1))
+}
+
+/// The first frames at once, and how many these are. The first difference isn't used: it is taken off the sum. None
+/// where the first frame has to be looked at.
+#[inline(always)]
+fn add_first_run(
+    scheme: Scheme,
+    payload: &[u8],
+    frames: &[[u8; 64]],
+    samples: usize,
+    first: i32,
+) -> Option<(usize, Sum)>
+    requires inside { 64 ≤ length payload.now }
+    requires frames { AreFrames frames.now payload.now 0 }
+    ensures some { IfSome result (λ r. (0 < r.0) × (r.0 ≤ length frames.now)) }
+    ensures goes_on { IfSome result (λ r. (rest : List DataWord)
+        → fold samples (record { met = 0; last = first })
+        (items_of scheme (words_from payload.now 3 (16 * r.0 - 3) ++ rest))
+        ≡ fold samples r.1 (items_of scheme rest)) }
+    ensures met { IfSome result (λ r. (r.1).met ≤ samples) }
+{
+    let difference = first_difference(scheme, first_word(payload))?;
+    let run = moves_of(scheme, &frames[..frames.len().min(RUN)], FROM_3, samples);
+    if run.frames == 0 || run.moved.count == 0 {
+        return None;
+    }
+    let others = Moved {
+        count: run.moved.count - 1,
+        by: run.moved.by - difference,
+    };
+    let begun = Sum {
+        met: 1,
+        last: first,
+    };
+    let sum = add_at_once(others, REACH * run.frames as u32, samples, begun)?;
+    Some((run.frames, sum))
+}
+
 /// The sum of so many samples, of which this is the first, or what comes first in place of one. Frames are
 /// added up at once, where that can't go wrong, and else word by word.
 pub(crate) fn add_frames(scheme: Scheme, payload: &[u8], samples: usize, first: i32) -> Walked
@@ -283,8 +335,11 @@ pub(crate) fn add_frames(scheme: Scheme, payload: &[u8], samples: usize, first: 
     ensures { result ≡ fold samples (record { met = 0; last = first }) (items_of scheme (data_words payload.now)) }
 {
     let (frames, _) = payload.as_chunks::<64>();
+    if let Some((from, sum)) = add_first_run(scheme, payload, frames, samples, first) {
+        return add_runs(scheme, payload, from, samples, sum);
+    }
     match add_first_frame(scheme, payload, &frames[0], samples, first) {
-        Ok(sum) => add_runs(scheme, payload, samples, sum),
+        Ok(sum) => add_runs(scheme, payload, 1, samples, sum),
         Err(fault) => Err(fault),
     }
 }

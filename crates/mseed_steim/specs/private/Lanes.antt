@@ -43,11 +43,12 @@ code_from frame from word = if nat_lt word from then 0 else code_at frame word
 abbrev pub row_at : List ℕ → ℕ → ℕ → ℕ
 row_at frame from word = 4 * code_from frame from word + word_at frame word / 2 ^ 30
 
--- which bits of the codes count, by the word that is the first to be added: word 1, or word 4
+-- which bits of the codes count, by the word that is the first to be added: word 1, word 4 or word 3
 abbrev pub Begins : List ℕ → ℕ → Type 0
 Begins begin from =
     ((from ≡ 1) × (begin ≡ 0 ∷ 48 ∷ 12 ∷ 3 ∷ 192 ∷ 48 ∷ 12 ∷ 3 ∷ 192 ∷ 48 ∷ 12 ∷ 3 ∷ 192 ∷ 48 ∷ 12 ∷ 3 ∷ []))
-    ⊎ ((from ≡ 4) × (begin ≡ 0 ∷ 0 ∷ 0 ∷ 0 ∷ 192 ∷ 48 ∷ 12 ∷ 3 ∷ 192 ∷ 48 ∷ 12 ∷ 3 ∷ 192 ∷ 48 ∷ 12 ∷ 3 ∷ []))
+    ⊎ (((from ≡ 4) × (begin ≡ 0 ∷ 0 ∷ 0 ∷ 0 ∷ 192 ∷ 48 ∷ 12 ∷ 3 ∷ 192 ∷ 48 ∷ 12 ∷ 3 ∷ 192 ∷ 48 ∷ 12 ∷ 3 ∷ []))
+    ⊎ ((from ≡ 3) × (begin ≡ 0 ∷ 0 ∷ 0 ∷ 3 ∷ 192 ∷ 48 ∷ 12 ∷ 3 ∷ 192 ∷ 48 ∷ 12 ∷ 3 ∷ 192 ∷ 48 ∷ 12 ∷ 3 ∷ [])))
 
 -- the numbers of a table that holds the groups of Steim-2 alone
 abbrev pub table_two : ℕ → ℕ → ℕ → ℕ → ℕ → ℕ → List ℕ

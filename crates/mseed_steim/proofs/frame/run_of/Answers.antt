@@ -1,8 +1,11 @@
-use Rattle.std.proofs.Common.{◌≡◌, ◌<◌, ◌+◌, ◌*◌, ◌^◌, ◌++◌, ◌∙◌, ◌+ℤ◌, ℕ, List, pos, nat_abs, length, arith, rules, ap}
-use Rattle.std.proofs.Common.{inl, refl, w32, FitsSigned}
+use Rattle.std.proofs.Common.{◌≡◌, ◌<◌, ◌≤◌, ◌+◌, ◌-◌, ◌*◌, ◌^◌, ◌++◌, ◌∙◌, ◌+ℤ◌, ℕ, List, pos, nat_abs, length}
+use Rattle.std.proofs.Common.{arith, rules, ap, sym, subst, refl, ⊎_elim, w32, FitsSigned}
+use Rattle.std.proofs.lemmas.Bool.{cases_lt}
 use Rattle.std.proofs.lemmas.Int.{to_z-of_z}
 use Rattle.mseed_steim.specs.Frames.{DataWord, words_from}
+use Rattle.mseed_steim.specs.private.Lanes.{Begins}
 use Rattle.mseed_steim.proofs.Far.{total_near}
+use Rattle.mseed_steim.proofs.FrameItems.{begins_low}
 use Rattle.mseed_steim.proofs.Raised.{moves_more, moves_none, raised_none, raised_plus}
 use Rattle.mseed_steim.proofs.Walking.{words_cut, words_none, words_skip}
 use Rattle.mseed_steim.proofs.frame.run_of.Goals as goal
@@ -12,43 +15,69 @@ loop-index-init c = record {
   few = omega arith;
   most = omega arith;
   lanes = refl;
-  so_far = λ p k frames. (pos 0, (raised_none, rw (words_none p (16 * k)) (moves_none c.args.scheme)));
+  so_far = λ p k from begins frames.
+      let none : 0 - from ≡ 0 = omega arith in
+      (pos 0, (raised_none, rw (none, words_none p (16 * k + from)) (moves_none c.args.scheme)));
 }
 
--- the words of one frame more
-one_more : (p : List ℕ) (k i : ℕ) → words_from p (16 * k) (16 * (i + 1))
-    ≡ words_from p (16 * k) (16 * i) ++ words_from p (16 * (k + i) + 1) 15
-one_more p k i =
-    let count : 16 * i + 16 ≡ 16 * (i + 1) = omega arith in
-    let place : 16 * k + 16 * i ≡ 16 * (k + i) = omega arith in
-    let cut = rw (count, place) at (words_cut p (16 * k) (16 * i) 16) in
-    cut ∙ ap (λ (ws : List DataWord). words_from p (16 * k) (16 * i) ++ ws)
+-- the words of one frame more, which is the first or behind others
+one_more : (p : List ℕ) (k from i : ℕ) → 0 < i → from ≤ 16 → words_from p (16 * k + from) (16 * (i + 1) - from)
+    ≡ words_from p (16 * k + from) (16 * i - from) ++ words_from p (16 * (k + i) + 1) 15
+one_more p k from i some low =
+    let count : 16 * i - from + 16 ≡ 16 * (i + 1) - from = omega (arith, some, low) in
+    let place : 16 * k + from + (16 * i - from) ≡ 16 * (k + i) = omega (arith, some, low) in
+    let cut = rw (count, place) at (words_cut p (16 * k + from) (16 * i - from) 16) in
+    cut ∙ ap (λ (ws : List DataWord). words_from p (16 * k + from) (16 * i - from) ++ ws)
     (words_skip p (16 * (k + i)) 15 (omega arith))
+
+first_more : (p : List ℕ) (k from i : ℕ) → i ≡ 0 → words_from p (16 * k + from) (16 * (i + 1) - from)
+    ≡ words_from p (16 * k + from) (16 * i - from) ++ words_from p (16 * (k + i) + from) (16 - from)
+first_more p k from i e =
+    let none : 16 * i - from ≡ 0 = omega (arith, e) in
+    let one : 16 * (i + 1) - from ≡ 16 - from = omega (arith, e) in
+    let place : 16 * (k + i) + from ≡ 16 * k + from = omega (arith, e) in
+    rw (none, one, place, words_none p (16 * k + from)) refl
 
 pub loop-index-preserved : goal.loop-index-preserved
 loop-index-preserved c =
     let i = c.loop-index.index in
+    let s = c.args.scheme in
+    let reach : 2 ^ 20 * i + 2 ^ 20 ≡ 2 ^ 20 * (i + 1) = omega arith in
     record {
       few = omega (arith, c.loop-index.invariant.few);
       most = omega arith;
       lanes = search rules;
-      so_far = λ p k frames.
-          let before = c.loop-index.invariant.so_far p k frames in
-          let told = c.lanes_of-lanes.ensures p (k + i) 1 (inl (refl, refl)) (frames i c.loop-index-test.true)
-          (omega arith) in
-          let reach : 2 ^ 20 * i + 2 ^ 20 ≡ 2 ^ 20 * (i + 1) = omega arith in (
+      so_far = λ p k from begins frames.
+          let before = c.loop-index.invariant.so_far p k from begins frames in
+          let here = frames i c.loop-index-test.true in
+          ⊎_elim
+          (λ (some : 0 < i).
+          let low = begins_low c.args.begin from begins in
+          let told = c.lanes_of-lanes.ensures p (k + i) 1 (c.begin_at.ensures.later some) here (omega arith) in (
             before.0 +ℤ told.0,
             (
               raised_plus _ _ _ before.0 told.0 before.1.0 told.1.0 c.plus-by.ensures,
-              rw (one_more p k i) (rw reach at (moves_more c.args.scheme _ _ _ _ before.0 told.0 _ _ before.1.1
+              rw (one_more p k from i some low.1) (rw reach at (moves_more s _ _ _ _ before.0 told.0 _ _ before.1.1
                   told.1.1)),
             ),
-          );
+          ))
+          (λ (none : i ≤ 0).
+          let at : i ≡ 0 = omega (arith, none) in
+          let same = subst (λ (b : List ℕ). Begins b from) (sym (c.begin_at.ensures.first at)) begins in
+          let told = c.lanes_of-lanes.ensures p (k + i) from same here (omega arith) in (
+            before.0 +ℤ told.0,
+            (
+              raised_plus _ _ _ before.0 told.0 before.1.0 told.1.0 c.plus-by.ensures,
+              rw (first_more p k from i at) (rw reach at (moves_more s _ _ _ _ before.0 told.0 _ _ before.1.1
+                  told.1.1)),
+            ),
+          ))
+          (cases_lt 0 i);
     }
 
 pub returns-then-lanes-ge128-clause-moves : goal.returns-then-lanes-ge128-clause-moves
-returns-then-lanes-ge128-clause-moves c = λ p k frames.
-    let so_far = c.loop-index.invariant.so_far p k frames in
+returns-then-lanes-ge128-clause-moves c = λ p k from begins frames.
+    let so_far = c.loop-index.invariant.so_far p k from begins frames in
     let all = total_near so_far.1.1.0 in
     let near : nat_abs so_far.0 < 2 ^ 24 =
     rw (← so_far.1.1.1.0.by_is) (omega (arith, all, so_far.1.1.1.0.near, c.requires, c.loop-index-test.true)) in
@@ -57,8 +86,8 @@ returns-then-lanes-ge128-clause-moves c = λ p k frames.
     rw (to_z-of_z, same) so_far.1.1
 
 pub returns-clause-moves : goal.returns-clause-moves
-returns-clause-moves c = λ p k frames.
-    let so_far = c.loop-index.invariant.so_far p k frames in
+returns-clause-moves c = λ p k from begins frames.
+    let so_far = c.loop-index.invariant.so_far p k from begins frames in
     let all = total_near so_far.1.1.0 in
     let whole : c.loop-index.index ≡ length c.args.frames.now =
     omega (arith, c.loop-index-test.false, c.loop-index.auto.index-end) in

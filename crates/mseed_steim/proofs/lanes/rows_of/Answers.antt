@@ -1,7 +1,7 @@
 use Rattle.std.proofs.Common.{ℕ, arith, get_or, inl, inr, ◌<◌}
 use Rattle.mseed_steim.specs.private.Lanes.{words}
 use Rattle.mseed_steim.proofs.LaneSums.{spelled}
-use Rattle.mseed_steim.proofs.FrameRows.{rows_later, rows_first}
+use Rattle.mseed_steim.proofs.FrameRows.{rows_later, rows_first, rows_third}
 use Rattle.mseed_steim.proofs.lanes.rows_of.Goals as goal
 
 pub returns-clause-value : goal.returns-clause-value
@@ -10,5 +10,6 @@ returns-clause-value c = λ from begins.
     let small : (k : ℕ) → get_or c.args.frame.now k 0 < 256 = c.fits-frame in
     rw (c.low-2.ensures.value, c.look_up-codes.ensures.value, c.low.ensures.value) (elim begins [
       | inl h ↦ rw (h.0, h.1, c.requires, spelled c.args.frame.now (omega arith)) (rows_later c.args.frame.now small)
-      | inr h ↦ rw (h.0, h.1, c.requires, spelled c.args.frame.now (omega arith)) (rows_first c.args.frame.now small)
+      | inr (inl h) ↦ rw (h.0, h.1, c.requires, spelled c.args.frame.now (omega arith)) (rows_first c.args.frame.now small)
+      | inr (inr h) ↦ rw (h.0, h.1, c.requires, spelled c.args.frame.now (omega arith)) (rows_third c.args.frame.now small)
     ])

@@ -1,4 +1,4 @@
-use Rattle.std.proofs.Common.{◌≡◌, ◌∷◌, ◌++◌, ◌∙◌, List, take, ap, sym, refl, inr, w32, FitsSigned}
+use Rattle.std.proofs.Common.{◌≡◌, ◌∷◌, ◌++◌, ◌∙◌, List, take, ap, sym, refl, inl, inr, w32, FitsSigned}
 use Rattle.std.proofs.lemmas.Int.{to_z-of_z}
 use Rattle.mseed_steim.specs.Frames.{DataWord, words_from}
 use Rattle.mseed_steim.specs.private.Items.{items_of}
@@ -43,12 +43,12 @@ returns-in-Some-put_at_once-clause-goes_on c = λ rest.
     let at = (goal.at.returns-in-Some-put_at_once-clause-goes_on c).In-Ok in
     first at rest
     ∙ ap (λ (ws : List DataWord). fold c.args.samples c.in-Ok.sum (items_of c.args.scheme (ws ++ rest))) (behind at)
-    ∙ c.in-Some-put_at_once.ensures.goes_on c.args.payload.now 0 4 rest (inr (refl, refl)) c.requires.prefix
+    ∙ c.in-Some-put_at_once.ensures.goes_on c.args.payload.now 0 4 rest (inr (inl (refl, refl))) c.requires.prefix
 
 pub returns-in-Some-put_at_once-clause-kept : goal.returns-in-Some-put_at_once-clause-kept
 returns-in-Some-put_at_once-clause-kept c = λ rest.
     let at = (goal.at.returns-in-Some-put_at_once-clause-kept c).In-Ok in
-    c.in-Some-put_at_once.ensures.kept c.args.payload.now 0 4 rest (inr (refl, refl)) c.requires.prefix
+    c.in-Some-put_at_once.ensures.kept c.args.payload.now 0 4 rest (inr (inl (refl, refl))) c.requires.prefix
     ∙ ap (λ (ws : List DataWord). take c.in-Ok.sum.met c.put_word.new.out ++ met_in c.args.samples c.in-Ok.sum
     (items_of c.args.scheme (ws ++ rest))) (sym (behind at))
     ∙ first_kept at rest
@@ -69,20 +69,20 @@ returns-in-None-clause-kept c = λ rest.
 pub returns-in-Some-put_wide-clause-goes_on : goal.returns-in-Some-put_wide-clause-goes_on
 returns-in-Some-put_wide-clause-goes_on c = λ rest.
     let at = (goal.at.returns-in-Some-put_wide-clause-goes_on c).In-Ok in
-    let wide = c.in-Some-put_wide.ensures.goes_on c.args.payload.now 0 4 rest (inr (refl, refl)) c.requires.prefix in
+    let wide = c.in-Some-put_wide.ensures.goes_on c.args.payload.now 0 4 rest (inr (inl (refl, refl))) c.requires.prefix in
     goes_from c.args.samples (record { met = 0; last = c.args.first }) c.in-Ok.sum _ _ (items_of c.args.scheme rest)
     c.in-Some-put_wide.walked (first at rest) (rw (← behind at) at wide)
 
 pub returns-in-Some-put_wide-clause-kept : goal.returns-in-Some-put_wide-clause-kept
 returns-in-Some-put_wide-clause-kept c = λ rest.
     let at = (goal.at.returns-in-Some-put_wide-clause-kept c).In-Ok in
-    let wide = c.in-Some-put_wide.ensures.kept c.args.payload.now 0 4 rest (inr (refl, refl)) c.requires.prefix in
+    let wide = c.in-Some-put_wide.ensures.kept c.args.payload.now 0 4 rest (inr (inl (refl, refl))) c.requires.prefix in
     let kept = rw (c.in_default-put_at_once.ensures.none, ← behind at) at wide in
     keeps_from c.args.samples (record { met = 0; last = c.args.first }) c.in-Ok.sum c.args.out.now c.put_word.new.out _
     _ _ (items_of c.args.scheme rest) c.in-Some-put_wide.walked (first_kept at rest) kept
 
 pub put_at_once-requires-clause-begins : goal.put_at_once-requires-clause-begins
-put_at_once-requires-clause-begins c = (4, inr (refl, refl))
+put_at_once-requires-clause-begins c = (4, inr (inl (refl, refl)))
 
 pub put_wide-requires-clause-begins : goal.put_wide-requires-clause-begins
-put_wide-requires-clause-begins c = (4, inr (refl, refl))
+put_wide-requires-clause-begins c = (4, inr (inl (refl, refl)))

@@ -1,5 +1,5 @@
-use Rattle.std.proofs.Common.{◌≡◌, ℕ, zero, suc, ◌+◌, ◌-◌, ◌*◌, ◌/◌, ◌<◌, ◌≤◌, [], ◌∷◌, ◌++◌, ◌∙◌, List, ℤ, Result, length, take, drop}
-use Rattle.std.proofs.Common.{ap, sym, arith}
+use Rattle.std.proofs.Common.{◌≡◌, ℕ, suc, ◌+◌, ◌-◌, ◌*◌, ◌/◌, ◌<◌, ◌≤◌, [], ◌++◌, ◌∙◌, List, ℤ, Result, length, take, drop}
+use Rattle.std.proofs.Common.{ap, sym, arith, inl, refl}
 use Rattle.std.specs.Simd.{first_chunks}
 use Rattle.std.proofs.lemmas.List.{get_or-take, get_or-drop}
 use Rattle.mseed_steim.specs.declared.differences.BadWordAt.{BadWordAt}
@@ -7,7 +7,8 @@ use Rattle.mseed_steim.specs.Frames.{DataWord, words_from, word_count}
 use Rattle.mseed_steim.specs.private.Items.{items_of}
 use Rattle.mseed_steim.specs.private.Sums.{fold}
 use Rattle.mseed_steim.specs.private.Moves.{AreFrames}
-use Rattle.mseed_steim.proofs.Walking.{frame_cut, words_cut, words_none, no_items, frame_at, length-first_chunks}
+use Rattle.mseed_steim.proofs.Walking.{frame_cut, words_cut, words_none, words_skip, no_items, frame_at, length-first_chunks}
+use Rattle.mseed_steim.proofs.Walking.{take_most}
 use Rattle.mseed_steim.proofs.Folds.{fold_enough}
 use Rattle.mseed_steim.proofs.walk.add_runs.Goals as goal
 
@@ -41,11 +42,6 @@ loop-next-preserved-then-run-eq0 c = record {
 pub returns-in-None : goal.returns-in-None
 returns-in-None c = c.add_each.ensures ∙ sym c.loop-next.invariant.same
 
-take_most : {A : Type 0} (m : ℕ) (xs : List A) → length (take m xs) ≤ m
-take_most zero xs = omega arith
-take_most (suc m) [] = omega arith
-take_most (suc m) (x ∷ xs) = let later = take_most m xs in omega (arith, later)
-
 -- frames from one on are frames of the payload
 behind : (n k m : ℕ) (p : List ℕ) → k + m ≤ n → AreFrames (take m (drop k (first_chunks 64 n p))) p k
 behind n k m p inside i less =
@@ -63,6 +59,12 @@ some_cut p k n inside =
     let place : 16 * k + 16 * n ≡ 16 * (k + n) = omega arith in
     rw (count, place) at (words_cut p (16 * k) (16 * n) (word_count p - 16 * (k + n)))
 
+-- the first word of a frame, its codes, is no data word
+some_skip : (p : List ℕ) (k n : ℕ) → 0 < n → words_from p (16 * k) (16 * n) ≡ words_from p (16 * k + 1) (16 * n - 1)
+some_skip p k n some =
+    let more : suc (16 * n - 1) ≡ 16 * n = omega (arith, some) in
+    rw more at (words_skip p (16 * k) (16 * n - 1) (omega arith))
+
 pub loop-next-preserved : goal.loop-next-preserved
 loop-next-preserved c =
     let s = c.args.scheme in
@@ -74,8 +76,8 @@ loop-next-preserved c =
     let long = length-first_chunks (length p / 64) p in
     let all : length c.as_chunks.result.0.now ≡ length p / 64 = rw c.as_chunks.ensures.front long in
     let inside : next + m ≤ length p / 64 = omega (arith, least, all, c.loop-next-test.true) in
-    let found = c.moves_of-run.ensures.moves p next (rw c.as_chunks.ensures.front (behind (length p / 64) next m p
-    inside)) in
+    let found = c.moves_of-run.ensures.moves p next 1 (inl (refl, refl)) (rw c.as_chunks.ensures.front
+    (behind (length p / 64) next m p inside)) in
     let most = take_most m (drop next c.as_chunks.result.0.now) in
     let few : next + n ≤ length p / 64 = omega (arith, inside, most, c.moves_of-run.ensures.inside) in
     let rest = words_from p (16 * (next + n)) (word_count p - 16 * (next + n)) in
@@ -84,6 +86,8 @@ loop-next-preserved c =
       met = c.in-Some.ensures.met;
       same = c.loop-next.invariant.same
           ∙ ap (λ (ws : List DataWord). fold c.args.samples c.loop-next.sum (items_of s ws)) (some_cut p next n few)
+          ∙ ap (λ (ws : List DataWord). fold c.args.samples c.loop-next.sum (items_of s (ws ++ rest)))
+          (some_skip p next n (omega arith))
           ∙ ap (λ (items : List (Result ℤ BadWordAt)). fold c.args.samples c.loop-next.sum items) (found.1.1 rest)
           ∙ c.in-Some.ensures.goes_on found.0 (items_of s rest) (record {
             count_is = found.1.0.count_is;

@@ -8,7 +8,8 @@ abbrev pub invariant-loop-next : goal.invariant-loop-next
 invariant-loop-next l = record {
   some : 0 < l.next;
   met : l.sum.met ≤ l.samples;
-  same : fold l.samples l.fn.sum (items_of l.scheme (words_from l.payload 16 (word_count l.payload - 16)))
+  same : fold l.samples l.fn.sum (items_of l.scheme
+      (words_from l.payload (16 * l.fn.from) (word_count l.payload - 16 * l.fn.from)))
       ≡ fold l.samples l.sum (items_of l.scheme
       (words_from l.payload (16 * l.next) (word_count l.payload - 16 * l.next)));
 }

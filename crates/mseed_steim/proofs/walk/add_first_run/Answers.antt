@@ -1,0 +1,68 @@
+use Rattle.std.proofs.Common.{◌<◌, ◌≤◌, ◌*◌, ◌^◌, ◌++◌, ◌∙◌, List, ℤ, ◌-ℤ◌, map, Ok, Result}
+use Rattle.std.proofs.Common.{ℕ, [], take, ap, refl, inr, arith, rules, w32, FitsSigned}
+use Rattle.std.proofs.lemmas.List.{get_or-take}
+use Rattle.std.proofs.lemmas.Int.{to_z-of_z}
+use Rattle.mseed_steim.specs.declared.differences.BadWordAt.{BadWordAt}
+use Rattle.mseed_steim.specs.declared.sum.Sum.{Sum}
+use Rattle.mseed_steim.specs.private.Items.{items_of}
+use Rattle.mseed_steim.specs.private.Moves.{AreFrames}
+use Rattle.mseed_steim.specs.private.Reads.{as_data}
+use Rattle.mseed_steim.specs.private.Sums.{fold}
+use Rattle.mseed_steim.proofs.FirstRun.{found, others, others_fit}
+use Rattle.mseed_steim.proofs.Folds.{fold_first}
+use Rattle.mseed_steim.proofs.Walking.{take_most, take_shorter}
+use Rattle.mseed_steim.proofs.walk.add_first_run.Goals as goal
+
+-- the first of some frames
+prefix : (frames : List (List ℕ)) (p : List ℕ) (m : ℕ) → AreFrames frames p 0 → AreFrames (take m frames) p 0
+prefix frames p m are i less =
+    let most = take_most m frames in
+    let few : i < m = omega (arith, less, most) in
+    let long = take_shorter m frames in
+    get_or-take m frames i [] few ∙ are i (omega (arith, less, long))
+
+pub overflow_sub-others-2 : goal.overflow_sub-others-2
+overflow_sub-others-2 c =
+    let all = found c.args.scheme c.args.payload.now c.moves_of-run.result.frames
+    c.moves_of-run.result.moved.count (2 ^ 20 * c.moves_of-run.result.frames) c.moves_of-run.result.moved.by
+    c.in_ok-difference.difference (as_data c.first_word.result) c.first_word.ensures c.in_ok-difference.ensures
+    (omega arith) (c.moves_of-run.ensures.moves c.args.payload.now 0 3 (inr (inr (refl, refl)))
+    (prefix c.args.frames.now c.args.payload.now c.min.result c.requires.frames)) in
+    let least = c.min.ensures in
+    let most = take_most c.min.result c.args.frames.now in
+    let by : FitsSigned w32 c.moves_of-run.result.moved.by = search rules in
+    let difference : FitsSigned w32 c.in_ok-difference.difference = search rules in
+    rw (to_z-of_z, to_z-of_z) (others_fit c.moves_of-run.result.moved.count (2 ^ 20 * c.moves_of-run.result.frames)
+    c.moves_of-run.result.moved.by c.in_ok-difference.difference all.0 all.1.0
+    (omega (arith, least, most, c.moves_of-run.ensures.inside)))
+
+pub returns-clause-goes_on : goal.returns-clause-goes_on
+returns-clause-goes_on c = λ rest.
+    let all = found c.args.scheme c.args.payload.now c.moves_of-run.result.frames
+    c.moves_of-run.result.moved.count (2 ^ 20 * c.moves_of-run.result.frames) c.moves_of-run.result.moved.by
+    c.in_ok-difference.difference (as_data c.first_word.result) c.first_word.ensures c.in_ok-difference.ensures
+    (omega arith) (c.moves_of-run.ensures.moves c.args.payload.now 0 3 (inr (inr (refl, refl)))
+    (prefix c.args.frames.now c.args.payload.now c.min.result c.requires.frames)) in
+    let least = c.min.ensures in
+    let most = take_most c.min.result c.args.frames.now in
+    let few : 2 ^ 20 * c.moves_of-run.result.frames ≤ 15728640 =
+    omega (arith, least, most, c.moves_of-run.ensures.inside) in
+    let start : FitsSigned w32 c.args.first = c.ranges.first in
+    let by : FitsSigned w32 c.moves_of-run.result.moved.by = search rules in
+    let difference : FitsSigned w32 c.in_ok-difference.difference = search rules in
+    let fit : FitsSigned w32 (c.moves_of-run.result.moved.by -ℤ c.in_ok-difference.difference) =
+    others_fit c.moves_of-run.result.moved.count (2 ^ 20 * c.moves_of-run.result.frames)
+    c.moves_of-run.result.moved.by c.in_ok-difference.difference all.0 all.1.0 few in
+    let first : Sum = record { met = 0; last = c.args.first } in
+    let less : 0 < c.args.samples = omega (arith, c.moves_of-run.ensures.few) in
+    let goes_on = rw (
+      to_z-of_z w32 c.moves_of-run.result.moved.by by,
+      to_z-of_z w32 c.in_ok-difference.difference difference,
+      to_z-of_z w32 (c.moves_of-run.result.moved.by -ℤ c.in_ok-difference.difference) fit,
+      to_z-of_z w32 c.args.first start,
+    ) at (c.in_ok-sum.ensures.goes_on all.0 (items_of c.args.scheme rest)) in
+    ap (λ (items : List (Result ℤ BadWordAt)). fold c.args.samples first items) (all.1.1 rest)
+    ∙ fold_first c.args.samples first c.in_ok-difference.difference
+    (map Ok all.0 ++ items_of c.args.scheme rest) less refl
+    ∙ goes_on (others c.moves_of-run.result.moved.count (2 ^ 20 * c.moves_of-run.result.frames)
+    c.moves_of-run.result.moved.by c.in_ok-difference.difference all.0 all.1.0)
