@@ -160,8 +160,8 @@ impl Line {
         ensures text { self.new ≡ self.old ++ padded_decimal 4 number }
         ensures len { length self.new ≡ length self.old + 4 }
     {
-        let (high, low) = (pair(number / 100), pair(number % 100));
-        self.put(&[high[0], high[1], low[0], low[1]]);
+        self.put(&pair(number / 100));
+        self.put(&pair(number % 100));
     }
 }
 

@@ -1,5 +1,5 @@
 use Rattle.std.proofs.Common.{arith, rules}
-use Rattle.mseed_show.proofs.Decimals.{put_four}
+use Rattle.mseed_audit.proofs.Decimals.{put_four}
 use Rattle.mseed_show.proofs.line.Line.put_eight_at_most.Goals as goal
 
 pub returns-else-count-lt10000-clause-text : goal.returns-else-count-lt10000-clause-text

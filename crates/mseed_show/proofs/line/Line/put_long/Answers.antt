@@ -1,5 +1,4 @@
-use Rattle.std.proofs.Common.{arith}
-use Rattle.mseed_show.proofs.Decimals.{put_eight}
+use Rattle.mseed_audit.proofs.Decimals.{put_eight}
 use Rattle.mseed_show.proofs.line.Line.put_long.Goals as goal
 
 pub returns-clause-text : goal.returns-clause-text
