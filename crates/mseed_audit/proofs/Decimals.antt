@@ -72,7 +72,8 @@ four_and_four n =
     cc (a, b, c, d, e, f, g, h)
 
 -- the first digits of a number, and its last eight
-decimal_eight_more : (n : ℕ) → 10 ^ 8 ≤ n → n < 2 ^ 64 → decimal n ≡ decimal (n / 10 ^ 8) ++ padded_decimal 8 (n % 10 ^ 8)
+decimal_eight_more : (n : ℕ) → 10 ^ 8 ≤ n → n < 2 ^ 64
+    → decimal n ≡ decimal (n / 10 ^ 8) ++ padded_decimal 8 (n % 10 ^ 8)
 decimal_eight_more n many fits =
     let a : n / 10000 / 10000 ≡ n / 10 ^ 8 = omega arith in
     let b : n / 10000 % 10000 ≡ n % 10 ^ 8 / 10000 = omega arith in

@@ -1,9 +1,9 @@
 //! A line that is built without the heap.
-ghost use Rattle.std.specs.Prelude.{◌≡◌, ◌≤◌, ◌<◌, ◌+◌, ◌^◌, [], ◌++◌, length, codes, decimal};
+ghost use Rattle.std.specs.Prelude.{◌≡◌, ◌≤◌, ◌<◌, ◌+◌, ◌^◌, [], ◌++◌, length, codes, decimal, map, take};
 ghost use Rattle.std.specs.Fmt.{signed_decimal};
 ghost use Rattle.mseed_time.specs.Text.{padded_decimal};
 ghost use Rattle.mseed_audit.specs.Pieces.{piece_text, pieces_text};
-ghost use Rattle.mseed_audit.specs.Text.{code_text, name_text, fault_line, frame_words};
+ghost use Rattle.mseed_audit.specs.Text.{code_text, name_text, fault_line, frame_words, printed};
 
 use crate::name::{printed, trimmed};
 use crate::pieces::Piece::{self, Count, Words};
@@ -139,7 +139,7 @@ fn frame_words_of(fault: &FrameFault) -> Line
 }
 
 /// The most bytes of a draft.
-const ROOM: usize = 256;
+const ROOM: usize = 192;
 
 /// The two digits of each number below 100, one number behind another.
 static DIGITS: [u8; 200] = *b"\
@@ -162,7 +162,7 @@ impl Model for Draft {
 
     ghost view = { λ l. take l.len l.bytes };
 
-    ghost invariant = { λ l. l.len ≤ 256 };
+    ghost invariant = { λ l. l.len ≤ 192 };
 }
 
 impl Draft {
@@ -188,7 +188,7 @@ impl Draft {
     /// Puts bytes behind it.
     #[inline(always)]
     pub(crate) fn put(&mut self, bytes: &[u8])
-        requires { length self.old + length bytes.now ≤ 256 }
+        requires { length self.old + length bytes.now ≤ 192 }
         ensures text { self.new ≡ self.old ++ bytes.now }
         ensures len { length self.new ≡ length self.old + length bytes.now }
     {
@@ -197,10 +197,39 @@ impl Draft {
         self.len = end;
     }
 
+    /// Puts a channel's name behind it, as [`name_of`] gives it.
+    #[inline(always)]
+    pub(crate) fn put_name(&mut self, codes: &Codes)
+        requires { length self.old + 15 ≤ 192 }
+        ensures text { self.new ≡ self.old ++ name_text codes.now }
+        ensures most { length self.new ≤ length self.old + 15 }
+    {
+        self.put_code(codes.network());
+        self.put(b"_");
+        self.put_code(codes.station());
+        self.put(b"_");
+        self.put_code(codes.location());
+        self.put(b"_");
+        self.put_code(codes.channel());
+    }
+
+    /// Puts a code without its trailing spaces and NULs. Those are written too, behind the end, so that the number of
+    /// writes is known.
+    #[inline(always)]
+    fn put_code(&mut self, code: &[u8])
+        requires { length self.old + length code.now ≤ 192 }
+        ensures text { self.new ≡ self.old ++ code_text code.now }
+        ensures most { length self.new ≤ length self.old + length code.now }
+    {
+        let begin = self.len;
+        write_printed(&mut self.bytes, begin, code);
+        self.len = begin + trimmed(code).len();
+    }
+
     /// Puts the decimal digits of a number behind it.
     #[inline(always)]
     pub(crate) fn put_count(&mut self, count: u64)
-        requires { length self.old + 20 ≤ 256 }
+        requires { length self.old + 20 ≤ 192 }
         ensures text { self.new ≡ self.old ++ decimal count }
         ensures most { length self.new ≤ length self.old + 20 }
     {
@@ -213,7 +242,7 @@ impl Draft {
 
     /// Puts the digits of a number that may be larger.
     pub(crate) fn put_wide(&mut self, count: u128)
-        requires { length self.old + 39 ≤ 256 }
+        requires { length self.old + 39 ≤ 192 }
         ensures text { self.new ≡ self.old ++ decimal count }
         ensures most { length self.new ≤ length self.old + 39 }
     {
@@ -225,7 +254,7 @@ impl Draft {
 
     /// Puts those of a number with `-` before them where it is negative.
     pub(crate) fn put_signed(&mut self, number: i32)
-        requires { length self.old + 11 ≤ 256 }
+        requires { length self.old + 11 ≤ 192 }
         ensures text { self.new ≡ self.old ++ signed_decimal number }
         ensures most { length self.new ≤ length self.old + 11 }
     {
@@ -236,7 +265,7 @@ impl Draft {
     #[inline(never)]
     fn put_long(&mut self, count: u64)
         requires many { 10 ^ 8 ≤ count }
-        requires room { length self.old + 20 ≤ 256 }
+        requires room { length self.old + 20 ≤ 192 }
         ensures text { self.new ≡ self.old ++ decimal count }
         ensures most { length self.new ≤ length self.old + 20 }
     {
@@ -247,7 +276,7 @@ impl Draft {
     /// Puts the digits of a number that has twelve at most.
     fn put_twelve_at_most(&mut self, count: u64)
         requires few { count < 10 ^ 12 }
-        requires room { length self.old + 12 ≤ 256 }
+        requires room { length self.old + 12 ≤ 192 }
         ensures text { self.new ≡ self.old ++ decimal count }
         ensures most { length self.new ≤ length self.old + 12 }
     {
@@ -263,7 +292,7 @@ impl Draft {
     #[inline(always)]
     fn put_eight_at_most(&mut self, count: u32)
         requires few { count < 10 ^ 8 }
-        requires room { length self.old + 8 ≤ 256 }
+        requires room { length self.old + 8 ≤ 192 }
         ensures text { self.new ≡ self.old ++ decimal count }
         ensures most { length self.new ≤ length self.old + 8 }
     {
@@ -278,7 +307,7 @@ impl Draft {
     /// Puts the last eight digits of a longer number.
     fn put_last_eight(&mut self, number: u32)
         requires few { number < 10 ^ 8 }
-        requires room { length self.old + 8 ≤ 256 }
+        requires room { length self.old + 8 ≤ 192 }
         ensures text { self.new ≡ self.old ++ padded_decimal 8 number }
         ensures len { length self.new ≡ length self.old + 8 }
     {
@@ -290,7 +319,7 @@ impl Draft {
     #[inline(always)]
     fn put_four_at_most(&mut self, count: u32)
         requires few { count < 10000 }
-        requires room { length self.old + 4 ≤ 256 }
+        requires room { length self.old + 4 ≤ 192 }
         ensures text { self.new ≡ self.old ++ decimal count }
         ensures most { length self.new ≤ length self.old + 4 }
     {
@@ -311,12 +340,23 @@ impl Draft {
     #[inline(always)]
     fn put_last_four(&mut self, number: u32)
         requires few { number < 10000 }
-        requires room { length self.old + 4 ≤ 256 }
+        requires room { length self.old + 4 ≤ 192 }
         ensures text { self.new ≡ self.old ++ padded_decimal 4 number }
         ensures len { length self.new ≡ length self.old + 4 }
     {
         self.put(&pair(number / 100));
         self.put(&pair(number % 100));
+    }
+}
+
+/// Writes the bytes of a code at a place, each as it is printed.
+#[inline(always)]
+fn write_printed(room: &mut [u8; ROOM], place: usize, code: &[u8])
+    requires { place + length code.now ≤ 192 }
+    ensures { take (place + length code.now) room.new ≡ take place room.old ++ map printed code.now }
+{
+    for index in 0..code.len() {
+        room[place + index] = printed(code[index]);
     }
 }
 

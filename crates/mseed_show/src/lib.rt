@@ -5,6 +5,7 @@ mod fault;
 mod line;
 mod lines;
 mod listing;
+mod name;
 
 pub use fault::ShowFault;
 pub use listing::show;

@@ -1,7 +1,10 @@
 //! A line of a listing, built in place.
-ghost use Rattle.std.specs.Prelude.{◌≡◌, ◌≤◌, ◌<◌, ◌+◌, ◌^◌, [], ◌++◌, decimal, length};
+ghost use Rattle.std.specs.Prelude.{◌≡◌, ◌≤◌, ◌<◌, ◌+◌, ◌^◌, [], ◌++◌, decimal, length, map, take};
+ghost use Rattle.mseed_audit.specs.Text.{code_text, name_text, printed};
 ghost use Rattle.mseed_time.specs.Text.{padded_decimal};
 
+use crate::name::{printed, trimmed};
+use mseed_record::Codes;
 use std::marker::Model;
 
 /// The most bytes of a line.
@@ -61,6 +64,35 @@ impl Line {
         let end = self.len + bytes.len();
         self.bytes[self.len..end].copy_from_slice(bytes);
         self.len = end;
+    }
+
+    /// Puts a channel's name behind it, as `mseed_audit::push_name` adds it.
+    #[inline(always)]
+    pub(crate) fn put_name(&mut self, codes: &Codes)
+        requires { length self.old + 15 ≤ 256 }
+        ensures text { self.new ≡ self.old ++ name_text codes.now }
+        ensures most { length self.new ≤ length self.old + 15 }
+    {
+        self.put_code(codes.network());
+        self.put(b"_");
+        self.put_code(codes.station());
+        self.put(b"_");
+        self.put_code(codes.location());
+        self.put(b"_");
+        self.put_code(codes.channel());
+    }
+
+    /// Puts a code without its trailing spaces and NULs. Those are written too, behind the end, so that the number of
+    /// writes is known.
+    #[inline(always)]
+    fn put_code(&mut self, code: &[u8])
+        requires { length self.old + length code.now ≤ 256 }
+        ensures text { self.new ≡ self.old ++ code_text code.now }
+        ensures most { length self.new ≤ length self.old + length code.now }
+    {
+        let begin = self.len;
+        write_printed(&mut self.bytes, begin, code);
+        self.len = begin + trimmed(code).len();
     }
 
     /// Puts the decimal digits of a number behind it.
@@ -162,6 +194,17 @@ impl Line {
     {
         self.put(&pair(number / 100));
         self.put(&pair(number % 100));
+    }
+}
+
+/// Writes the bytes of a code at a place, each as it is printed.
+#[inline(always)]
+fn write_printed(room: &mut [u8; ROOM], place: usize, code: &[u8])
+    requires { place + length code.now ≤ 256 }
+    ensures { take (place + length code.now) room.new ≡ take place room.old ++ map printed code.now }
+{
+    for index in 0..code.len() {
+        room[place + index] = printed(code[index]);
     }
 }
 

@@ -6,7 +6,6 @@ ghost use Rattle.mseed_show.specs.Listing.{count_line};
 ghost use Rattle.mseed_show.specs.Listing.{start_text, rate_text, time_fault_words, order_word, last_words};
 
 use crate::line::Line;
-use mseed_audit::name_of;
 use mseed_record::RecordView;
 use mseed_time::{NoRate, Order, TimeFault, show_time};
 use std::alloc::{AllocError, Allocator};
@@ -15,7 +14,7 @@ use std::alloc::{AllocError, Allocator};
 ///
 /// # Errors
 ///
-/// `AllocError` where an allocation was refused. The text is as it was then.
+/// `AllocError` where an allocation was refused. A part of it may have been added then.
 pub fn push_record_line<A: Allocator>(
     text: &mut Vec<u8, A>,
     offset: u64,
@@ -35,7 +34,7 @@ pub fn push_record_line<A: Allocator>(
 ///
 /// # Errors
 ///
-/// `AllocError` where an allocation was refused. The text is as it was then.
+/// `AllocError` where an allocation was refused. A part of it may have been added then.
 pub fn push_count_line<A: Allocator>(text: &mut Vec<u8, A>, records: u64) -> Result<(), AllocError>
     ensures { OnOk result (text.new.items ≡ text.old.items ++ count_line records) }
 {
@@ -55,7 +54,7 @@ fn put_offset(line: &mut Line, offset: u64, view: &RecordView)
 {
     line.put_count(offset);
     line.put(b" ");
-    line.put(&name_of(&view.codes()));
+    line.put_name(&view.codes());
 }
 
 /// Puts a record's quality, length and number of samples.
