@@ -10,8 +10,9 @@ ghost use Rattle.mseed_audit.specs.Reported.{reported_at};
 ghost use Rattle.mseed_record.specs.Viewing.{view_of};
 
 use crate::audits::Memory;
+use crate::draft::Draft;
 use crate::finding::{Finding, Why};
-use crate::line::{Draft, fault_line_of};
+use crate::line::fault_line_of;
 use crate::pieces::Piece::{Count, Words};
 use crate::pieces::push_pieces;
 use crate::verdict::Verdict;
@@ -78,7 +79,7 @@ pub fn push_verdict_line<A: Allocator>(
 /// Puts the line of a channel.
 #[inline(always)]
 fn put_verdict_line(line: &mut Draft, codes: &Codes, verdict: &Verdict)
-    requires { length line.old + 165 ≤ 192 }
+    requires { length line.old + 165 ≤ 256 }
     ensures { line.new ≡ line.old ++ verdict_line codes.now verdict.now }
 {
     line.put_name(codes);
@@ -96,7 +97,7 @@ fn put_verdict_line(line: &mut Draft, codes: &Codes, verdict: &Verdict)
 /// Puts what follows the name of a continuous channel.
 #[inline(always)]
 fn put_continuous(line: &mut Draft, start: Micros, rate: Ratio, records: u64, samples: u64)
-    requires { length line.old + 144 ≤ 192 }
+    requires { length line.old + 144 ≤ 256 }
     ensures { line.new ≡ line.old ++ continuous_words start rate records samples }
 {
     line.put(b" continuous ");
@@ -115,7 +116,7 @@ fn put_continuous(line: &mut Draft, start: Micros, rate: Ratio, records: u64, sa
 /// Puts what follows the name of a broken channel.
 #[inline(always)]
 fn put_broken(line: &mut Draft, first: &Finding, count: u64)
-    requires { length line.old + 150 ≤ 192 }
+    requires { length line.old + 150 ≤ 256 }
     ensures { line.new ≡ line.old ++ broken_words first.now count }
 {
     line.put(b" broken findings ");
@@ -173,7 +174,7 @@ fn push_reported_line<A: Allocator>(
 /// Puts the line of a record with a finding.
 #[inline(always)]
 fn put_reported_line(line: &mut Draft, view: &RecordView, finding: &Finding)
-    requires { length line.old + 148 ≤ 192 }
+    requires { length line.old + 148 ≤ 256 }
     ensures { line.new ≡ line.old ++ reported_line (record { view = view_of view.now; finding = finding.now }) }
 {
     line.put_count(finding.offset);
@@ -206,7 +207,7 @@ pub fn push_start<A: Allocator>(text: &mut Vec<u8, A>, view: &RecordView) -> Res
 /// Puts a record's start, or the field that is out of its range.
 #[inline(always)]
 fn put_start(line: &mut Draft, view: &RecordView)
-    requires { length line.old + 26 ≤ 192 }
+    requires { length line.old + 26 ≤ 256 }
     ensures text { line.new ≡ line.old ++ start_text (view_of view.now) }
     ensures most { length line.new ≤ length line.old + 26 }
 {
@@ -221,7 +222,7 @@ fn put_start(line: &mut Draft, view: &RecordView)
 
 /// Puts the word for a field of a time.
 fn put_word(line: &mut Draft, fault: TimeFault)
-    requires { length line.old + 8 ≤ 192 }
+    requires { length line.old + 8 ≤ 256 }
     ensures text { line.new ≡ line.old ++ fault_word fault }
     ensures most { length line.new ≤ length line.old + 8 }
 {
@@ -287,7 +288,7 @@ pub fn push_why<A: Allocator>(text: &mut Vec<u8, A>, why: &Why) -> Result<(), Al
 
 /// Puts the words of a finding.
 fn put_why(line: &mut Draft, why: &Why)
-    requires { length line.old + 49 ≤ 192 }
+    requires { length line.old + 49 ≤ 256 }
     ensures text { line.new ≡ line.old ++ why_text why.now }
     ensures most { length line.new ≤ length line.old + 49 }
 {
@@ -313,7 +314,7 @@ fn put_why(line: &mut Draft, why: &Why)
 
 /// Puts the words of samples that can't be read.
 fn put_read_fault(line: &mut Draft, fault: &ReadFault)
-    requires { length line.old + 49 ≤ 192 }
+    requires { length line.old + 49 ≤ 256 }
     ensures text { line.new ≡ line.old ++ read_text fault.now }
     ensures most { length line.new ≤ length line.old + 49 }
 {
@@ -346,7 +347,7 @@ fn put_read_fault(line: &mut Draft, fault: &ReadFault)
 
 /// Puts the words of samples that don't end on their constant.
 fn put_last_differs(line: &mut Draft, found: i32, constant: i32)
-    requires { length line.old + 35 ≤ 192 }
+    requires { length line.old + 35 ≤ 256 }
     ensures text { line.new ≡ line.old ++ read_text (LastDiffers found constant) }
     ensures most { length line.new ≤ length line.old + 35 }
 {

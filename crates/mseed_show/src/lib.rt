@@ -2,10 +2,8 @@
 #![tactic(auto)]
 
 mod fault;
-mod line;
 mod lines;
 mod listing;
-mod name;
 
 pub use fault::ShowFault;
 pub use listing::show;

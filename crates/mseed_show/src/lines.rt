@@ -5,7 +5,7 @@ ghost use Rattle.mseed_show.specs.Listing.{record_line, offset_words, size_words
 ghost use Rattle.mseed_show.specs.Listing.{count_line};
 ghost use Rattle.mseed_show.specs.Listing.{start_text, rate_text, time_fault_words, order_word, last_words};
 
-use crate::line::Line;
+use mseed_audit::Draft;
 use mseed_record::RecordView;
 use mseed_time::{NoRate, Order, TimeFault, show_time};
 use std::alloc::{AllocError, Allocator};
@@ -22,7 +22,7 @@ pub fn push_record_line<A: Allocator>(
 ) -> Result<(), AllocError>
     ensures { OnOk result (text.new.items ≡ text.old.items ++ record_line offset (view_of view.now)) }
 {
-    let mut line = Line::new();
+    let mut line = Draft::new();
     put_offset(&mut line, offset, view);
     put_size(&mut line, view);
     put_times(&mut line, view);
@@ -38,7 +38,7 @@ pub fn push_record_line<A: Allocator>(
 pub fn push_count_line<A: Allocator>(text: &mut Vec<u8, A>, records: u64) -> Result<(), AllocError>
     ensures { OnOk result (text.new.items ≡ text.old.items ++ count_line records) }
 {
-    let mut line = Line::new();
+    let mut line = Draft::new();
     line.put(b"records ");
     line.put_count(records);
     line.put(b"\n");
@@ -47,7 +47,7 @@ pub fn push_count_line<A: Allocator>(text: &mut Vec<u8, A>, records: u64) -> Res
 
 /// Puts where a record begins, and its channel's name.
 #[inline(always)]
-fn put_offset(line: &mut Line, offset: u64, view: &RecordView)
+fn put_offset(line: &mut Draft, offset: u64, view: &RecordView)
     requires { length line.old + 36 ≤ 256 }
     ensures text { line.new ≡ line.old ++ offset_words offset (view_of view.now) }
     ensures most { length line.new ≤ length line.old + 36 }
@@ -59,7 +59,7 @@ fn put_offset(line: &mut Line, offset: u64, view: &RecordView)
 
 /// Puts a record's quality, length and number of samples.
 #[inline(always)]
-fn put_size(line: &mut Line, view: &RecordView)
+fn put_size(line: &mut Draft, view: &RecordView)
     requires { length line.old + 59 ≤ 256 }
     ensures text { line.new ≡ line.old ++ size_words (view_of view.now) }
     ensures most { length line.new ≤ length line.old + 59 }
@@ -73,7 +73,7 @@ fn put_size(line: &mut Line, view: &RecordView)
 
 /// Puts a record's start and rate.
 #[inline(always)]
-fn put_times(line: &mut Line, view: &RecordView)
+fn put_times(line: &mut Draft, view: &RecordView)
     requires { length line.old + 80 ≤ 256 }
     ensures text { line.new ≡ line.old ++ time_words (view_of view.now) }
     ensures most { length line.new ≤ length line.old + 80 }
@@ -84,7 +84,7 @@ fn put_times(line: &mut Line, view: &RecordView)
 
 /// Puts a record's start, or the field that is out of its range.
 #[inline(always)]
-fn put_start(line: &mut Line, view: &RecordView)
+fn put_start(line: &mut Draft, view: &RecordView)
     requires { length line.old + 33 ≤ 256 }
     ensures text { line.new ≡ line.old ++ codes " start " ++ start_text (view_of view.now) }
     ensures most { length line.new ≤ length line.old + 33 }
@@ -98,7 +98,7 @@ fn put_start(line: &mut Line, view: &RecordView)
 
 /// Puts a record's rate.
 #[inline(always)]
-fn put_rate(line: &mut Line, view: &RecordView)
+fn put_rate(line: &mut Draft, view: &RecordView)
     requires { length line.old + 47 ≤ 256 }
     ensures text { line.new ≡ line.old ++ codes " rate " ++ rate_text (view_of view.now) }
     ensures most { length line.new ≤ length line.old + 47 }
@@ -116,7 +116,7 @@ fn put_rate(line: &mut Line, view: &RecordView)
 
 /// Puts how a record's payload is encoded, and whether a blockette 100 gives another rate.
 #[inline(always)]
-fn put_payload(line: &mut Line, view: &RecordView)
+fn put_payload(line: &mut Draft, view: &RecordView)
     requires { length line.old + 51 ≤ 256 }
     ensures { line.new ≡ line.old ++ payload_words (view_of view.now) }
 {
@@ -127,7 +127,7 @@ fn put_payload(line: &mut Line, view: &RecordView)
 
 /// Puts a payload's order, and the end of a line. The words' length is known where they stand.
 #[inline(always)]
-fn put_last(line: &mut Line, order: Order, has_rate_blockette: bool)
+fn put_last(line: &mut Draft, order: Order, has_rate_blockette: bool)
     requires { length line.old + 21 ≤ 256 }
     ensures { line.new ≡ line.old ++ (order_word order ++ last_words has_rate_blockette) }
 {

@@ -1,6 +1,6 @@
 use Rattle.std.proofs.Common.{arith, rules}
 use Rattle.mseed_audit.proofs.Decimals.{put_four}
-use Rattle.mseed_audit.proofs.line.Draft.put_eight_at_most.Goals as goal
+use Rattle.mseed_audit.proofs.draft.Draft.put_eight_at_most.Goals as goal
 
 pub returns-else-count-lt10000-clause-text : goal.returns-else-count-lt10000-clause-text
 returns-else-count-lt10000-clause-text c =

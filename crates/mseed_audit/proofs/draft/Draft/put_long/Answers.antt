@@ -1,5 +1,5 @@
 use Rattle.mseed_audit.proofs.Decimals.{put_eight}
-use Rattle.mseed_audit.proofs.line.Draft.put_long.Goals as goal
+use Rattle.mseed_audit.proofs.draft.Draft.put_long.Goals as goal
 
 pub returns-clause-text : goal.returns-clause-text
 returns-clause-text c =

@@ -2,7 +2,7 @@ use Rattle.std.proofs.Common.{◌≤◌, ◌+◌, ◌++◌, ◌∙◌, List, ℕ
 use Rattle.std.proofs.lemmas.List.{length-take-le}
 use Rattle.mseed_audit.specs.Text.{code_text}
 use Rattle.mseed_audit.proofs.Lines.{code_kept, kept_fits}
-use Rattle.mseed_show.proofs.line.Line.put_code.Goals as goal
+use Rattle.mseed_audit.proofs.draft.Draft.put_code.Goals as goal
 
 pub invariant_of-self : goal.invariant_of-self
 invariant_of-self c =

@@ -1,13 +1,15 @@
-//! A line of a listing, built in place.
-ghost use Rattle.std.specs.Prelude.{◌≡◌, ◌≤◌, ◌<◌, ◌+◌, ◌^◌, [], ◌++◌, decimal, length, map, take};
-ghost use Rattle.mseed_audit.specs.Text.{code_text, name_text, printed};
+//! A line that is built in place, and added to a text at once.
+ghost use Rattle.std.specs.Prelude.{◌≡◌, ◌≤◌, ◌<◌, ◌+◌, ◌^◌, [], ◌++◌, length, decimal, map, take};
+ghost use Rattle.std.specs.Fmt.{signed_decimal};
 ghost use Rattle.mseed_time.specs.Text.{padded_decimal};
+ghost use Rattle.mseed_audit.specs.Text.{code_text, name_text, printed};
 
 use crate::name::{printed, trimmed};
+use itoa::Buffer;
 use mseed_record::Codes;
 use std::marker::Model;
 
-/// The most bytes of a line.
+/// The most bytes of a draft.
 const ROOM: usize = 256;
 
 /// The two digits of each number below 100, one number behind another.
@@ -17,14 +19,16 @@ static DIGITS: [u8; 200] = *b"\
     50515253545556575859606162636465666768697071727374\
     75767778798081828384858687888990919293949596979899";
 
-/// A line as far as it is built. It is added to a text at once.
+/// A line of up to 256 bytes, as far as it is built. It takes no memory, and is added to a text at once.
+///
+/// Contracts see a draft as its bytes.
 #[derive(Drop)]
-pub(crate) struct Line {
+pub struct Draft {
     bytes: [u8; ROOM],
     len: usize,
 }
 
-impl Model for Line {
+impl Model for Draft {
     ghost use Rattle.std.specs.Prelude.{◌≤◌, ℕ, List, take};
 
     ghost Value = { List ℕ };
@@ -34,13 +38,13 @@ impl Model for Line {
     ghost invariant = { λ l. l.len ≤ 256 };
 }
 
-impl Line {
+impl Draft {
     /// An empty line.
     #[inline(always)]
-    pub(crate) fn new() -> Line
+    pub fn new() -> Draft
         ensures { result ≡ [] }
     {
-        Line {
+        Draft {
             bytes: [0; ROOM],
             len: 0,
         }
@@ -48,16 +52,16 @@ impl Line {
 
     /// Its bytes.
     #[inline(always)]
-    pub(crate) fn as_slice(&self) -> &[u8]
+    pub fn as_slice(&self) -> &[u8]
         ensures { result.now ≡ self.now }
     {
         &self.bytes[..self.len]
     }
 
-    /// Puts bytes behind it.
+    /// Puts bytes behind it, which have room there.
     #[inline(always)]
-    pub(crate) fn put(&mut self, bytes: &[u8])
-        requires { length self.old + length bytes.now ≤ 256 }
+    pub fn put(&mut self, bytes: &[u8])
+        requires room { length self.old + length bytes.now ≤ 256 }
         ensures text { self.new ≡ self.old ++ bytes.now }
         ensures len { length self.new ≡ length self.old + length bytes.now }
     {
@@ -66,10 +70,10 @@ impl Line {
         self.len = end;
     }
 
-    /// Puts a channel's name behind it, as `mseed_audit::push_name` adds it.
+    /// Puts a channel's name behind it, as [`name_of`](crate::name_of) gives it: at most 15 bytes.
     #[inline(always)]
-    pub(crate) fn put_name(&mut self, codes: &Codes)
-        requires { length self.old + 15 ≤ 256 }
+    pub fn put_name(&mut self, codes: &Codes)
+        requires room { length self.old + 15 ≤ 256 }
         ensures text { self.new ≡ self.old ++ name_text codes.now }
         ensures most { length self.new ≤ length self.old + 15 }
     {
@@ -95,10 +99,10 @@ impl Line {
         self.len = begin + trimmed(code).len();
     }
 
-    /// Puts the decimal digits of a number behind it.
+    /// Puts the decimal digits of a number behind it: at most 20.
     #[inline(always)]
-    pub(crate) fn put_count(&mut self, count: u64)
-        requires { length self.old + 20 ≤ 256 }
+    pub fn put_count(&mut self, count: u64)
+        requires room { length self.old + 20 ≤ 256 }
         ensures text { self.new ≡ self.old ++ decimal count }
         ensures most { length self.new ≤ length self.old + 20 }
     {
@@ -107,6 +111,27 @@ impl Line {
         } else {
             self.put_long(count);
         }
+    }
+
+    /// Puts the digits of a number that may be larger.
+    pub(crate) fn put_wide(&mut self, count: u128)
+        requires { length self.old + 39 ≤ 256 }
+        ensures text { self.new ≡ self.old ++ decimal count }
+        ensures most { length self.new ≤ length self.old + 39 }
+    {
+        match u64::try_from(count) {
+            Ok(count) => self.put_count(count),
+            Err(_) => self.put(Buffer::new().format(count).as_bytes()),
+        }
+    }
+
+    /// Puts those of a number with `-` before them where it is negative.
+    pub(crate) fn put_signed(&mut self, number: i32)
+        requires { length self.old + 11 ≤ 256 }
+        ensures text { self.new ≡ self.old ++ signed_decimal number }
+        ensures most { length self.new ≤ length self.old + 11 }
+    {
+        self.put(Buffer::new().format(number).as_bytes());
     }
 
     /// Puts the digits of a number that has more than eight.

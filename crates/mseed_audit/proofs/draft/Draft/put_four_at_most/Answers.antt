@@ -1,7 +1,7 @@
 use Rattle.std.proofs.Common.{◌++◌, ◌∙◌, ℕ, List, ap, sym, rules}
 use Rattle.std.proofs.lemmas.Fmt.{decimal_digit}
 use Rattle.mseed_audit.proofs.Decimals.{decimal_two, decimal_three, decimal_four}
-use Rattle.mseed_show.proofs.line.Line.put_four_at_most.Goals as goal
+use Rattle.mseed_audit.proofs.draft.Draft.put_four_at_most.Goals as goal
 
 pub returns-then-count-lt10-clause-text : goal.returns-then-count-lt10-clause-text
 returns-then-count-lt10-clause-text c =

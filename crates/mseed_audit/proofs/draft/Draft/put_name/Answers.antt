@@ -1,7 +1,7 @@
 use Rattle.std.proofs.Common.{◌≡◌, ◌++◌, ◌∙◌, List, ℕ, append_assoc, arith, codes, slice_range}
 use Rattle.mseed_audit.specs.Text.{code_text}
 use Rattle.mseed_audit.proofs.Lines.{code_fits}
-use Rattle.mseed_audit.proofs.line.Draft.put_name.Goals as goal
+use Rattle.mseed_audit.proofs.draft.Draft.put_name.Goals as goal
 
 -- what was put, one behind another
 joined : (line network gap station location channel : List ℕ)

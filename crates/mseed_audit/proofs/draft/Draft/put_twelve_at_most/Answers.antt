@@ -1,6 +1,6 @@
 use Rattle.std.proofs.Common.{arith, rules}
 use Rattle.mseed_audit.proofs.Decimals.{put_eight}
-use Rattle.mseed_show.proofs.line.Line.put_twelve_at_most.Goals as goal
+use Rattle.mseed_audit.proofs.draft.Draft.put_twelve_at_most.Goals as goal
 
 pub returns-else-count-lt100000000-clause-text : goal.returns-else-count-lt100000000-clause-text
 returns-else-count-lt100000000-clause-text c =
