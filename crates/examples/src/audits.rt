@@ -4,9 +4,9 @@ ghost use Rattle.mseed_stream.specs.Device.{nothing_read};
 ghost use Rattle.mseed_audit.specs.Text.{fault_line, why_text};
 
 use mseed_audit::{
-    Audit, AuditFault, BadStep, Channel, EachFault, Line, Memory, NotContinuous, Piece, Series,
-    Verdict, Why, audit, audit_each, fault_line_of, gather, gather_each, is_of, line_of, name_of,
-    push_count, push_fault_line, push_name, push_pieces, push_start, push_total_line,
+    Audit, AuditFault, BadStep, Channel, Draft, EachFault, Line, Memory, NotContinuous, Piece,
+    Series, Verdict, Why, audit, audit_each, fault_line_of, gather, gather_each, is_of, line_of,
+    name_of, push_count, push_fault_line, push_name, push_pieces, push_start, push_total_line,
     push_verdict_line, push_why, series,
 };
 use mseed_record::{Codes, RecordView};
@@ -225,4 +225,13 @@ pub fn short_line() -> Line {
 /// How many bytes the line of a stream's fault has.
 pub fn fault_length(fault: &StreamFault) -> usize {
     fault_line_of(fault).len()
+}
+
+/// How long the name of a channel and a number behind it are; no memory is requested.
+pub fn width_of(codes: &Codes, records: u64) -> usize {
+    let mut draft = Draft::new();
+    draft.put_name(codes);
+    draft.put(b" ");
+    draft.put_count(records);
+    draft.as_slice().len()
 }

@@ -6,6 +6,7 @@ pub mod Between
 pub mod Continuity
 pub mod Counts
 pub mod Kept
+pub mod Decimals
 pub mod Finished
 pub mod Found
 pub mod Gathers

@@ -1,8 +1,9 @@
 -- Lines that are built without the heap: how long their pieces are.
 use Rattle.std.proofs.Common.{◌≡◌, ℕ, zero, suc, Bool, true, false, if◌then◌else◌, ◌+◌, ◌<◌, ◌≤◌, ◌^◌, ◌++◌, List, []}
-use Rattle.std.proofs.Common.{◌∷◌, length, map, ◌-◌, take, drop, get_or, ap, arith, decimal}
-use Rattle.std.proofs.lemmas.List.{length-append, length-map, length-take}
+use Rattle.std.proofs.Common.{◌∷◌, length, map, ◌-◌, take, drop, get_or, ap, arith, decimal, refl, sym, ◌∙◌}
+use Rattle.std.proofs.lemmas.List.{length-append, length-map, length-take, length-take-le, take-map, take-take}
 use Rattle.std.proofs.lemmas.Fmt.{length-decimal-le}
+use Rattle.std.proofs.Math.Seq.{take-append-add}
 use Rattle.std.specs.List.{list_all, slice_range}
 use Rattle.mseed_record.specs.Header.{is_blank}
 use Rattle.mseed_audit.specs.declared.pieces.Piece.{Piece}
@@ -77,3 +78,33 @@ pub codes_fit : (key network station location : List ℕ) → network ≡ slice_
     → location ≡ slice_range key 7 9 → length network + length station + length location ≤ 9
 codes_fit key network station location n s l =
     omega (arith, code_fits key network 0 2 n, code_fits key station 2 7 s, code_fits key location 7 9 l)
+
+-- what a code keeps are its first bytes
+front_if : (b : Bool) (c : ℕ) (cs more : List ℕ) → more ≡ take (length more) cs
+    → (if b then [] else c ∷ more) ≡ take (length (if b then [] else c ∷ more)) (c ∷ cs)
+front_if true c cs more e = refl
+front_if false c cs more e = ap (λ (xs : List ℕ). c ∷ xs) e
+
+trimmed_front : (code : List ℕ) → trimmed code ≡ take (length (trimmed code)) code
+trimmed_front [] = refl
+trimmed_front (c ∷ cs) = front_if (list_all is_blank (c ∷ cs)) c cs (trimmed cs) (trimmed_front cs)
+
+-- a code that was written whole, and of which what it keeps is taken
+pub code_kept : (old new code cut : List ℕ) (place : ℕ) → place ≤ length old → cut ≡ trimmed code
+    → take (place + length code) new ≡ take place old ++ map printed code
+    → take (place + length cut) new ≡ take place old ++ map printed (trimmed code)
+code_kept old new code cut place within is written =
+    let front : List ℕ = take place old in
+    let size : length front ≡ place = length-take-le place old within in
+    let fits : length cut ≤ length code = omega (arith, ap length is, trimmed_fits code) in
+    sym (take-take (place + length cut) (place + length code) new (omega (arith, fits)))
+    ∙ ap (λ (xs : List ℕ). take (place + length cut) xs) written
+    ∙ ap (λ (n : ℕ). take (n + length cut) (front ++ map printed code)) (sym size)
+    ∙ take-append-add front (map printed code) (length cut)
+    ∙ ap (λ (xs : List ℕ). front ++ xs) (take-map printed (length cut) code
+    ∙ ap (λ (n : ℕ). map printed (take n code)) (ap length is)
+    ∙ ap (map printed) (sym (trimmed_front code)))
+
+-- it is no longer than its bytes
+pub kept_fits : (code cut : List ℕ) → cut ≡ trimmed code → length cut ≤ length code
+kept_fits code cut is = omega (arith, ap length is, trimmed_fits code)

@@ -1,5 +1,7 @@
 //! The lines of an audit's text.
-ghost use Rattle.std.specs.Prelude.{◌≡◌, ◌++◌, OnOk};
+ghost use Rattle.std.specs.Prelude.{◌≡◌, ◌≤◌, ◌+◌, ◌++◌, OnOk, length};
+ghost use Rattle.mseed_time.specs.Text.{fault_word};
+ghost use Rattle.mseed_steim.specs.declared.fault.ReadFault.TheVariants.{LastDiffers};
 ghost use Rattle.mseed_stream.specs.Device.{IsPrefixOf};
 ghost use Rattle.mseed_audit.specs.Text.{audit_text, verdict_lines, verdict_line, continuous_words};
 ghost use Rattle.mseed_audit.specs.Text.{broken_words, total_line, why_text, read_text};
@@ -8,16 +10,16 @@ ghost use Rattle.mseed_audit.specs.Reported.{reported_at};
 ghost use Rattle.mseed_record.specs.Viewing.{view_of};
 
 use crate::audits::Memory;
+use crate::draft::Draft;
 use crate::finding::{Finding, Why};
-use crate::line::{fault_line_of, name_of};
-use crate::name::push_name;
-use crate::pieces::Piece::{Count, Signed, Wide, Words};
+use crate::line::fault_line_of;
+use crate::pieces::Piece::{Count, Words};
 use crate::pieces::push_pieces;
 use crate::verdict::Verdict;
 use mseed_record::{Codes, RecordView};
 use mseed_steim::ReadFault;
 use mseed_stream::StreamFault;
-use mseed_time::{Micros, Ratio, show_time};
+use mseed_time::{Micros, Ratio, TimeFault, show_time};
 use std::alloc::{AllocError, Allocator};
 
 /// Adds the text of an audit: a line for each verdict, the numbers of records and of channels, and the line of
@@ -61,7 +63,6 @@ fn push_verdicts<A: Allocator>(
 ///
 /// `AllocError` where memory is refused. What was there stays, and a part of the line may have been added
 /// behind it.
-#[tactic(auto, using(crate::proofs::Prefixes::prefix_trans))]
 pub fn push_verdict_line<A: Allocator>(
     text: &mut Vec<u8, A>,
     codes: &Codes,
@@ -70,72 +71,63 @@ pub fn push_verdict_line<A: Allocator>(
     ensures ok { OnOk result (text.new.items ≡ text.old.items ++ verdict_line codes.now verdict.now) }
     ensures prefix { IsPrefixOf text.old.items text.new.items }
 {
-    push_name(text, codes)?;
+    let mut line = Draft::new();
+    put_verdict_line(&mut line, codes, verdict);
+    text.extend_from_slice(line.as_slice())
+}
+
+/// Puts the line of a channel.
+#[inline(always)]
+fn put_verdict_line(line: &mut Draft, codes: &Codes, verdict: &Verdict)
+    requires { length line.old + 165 ≤ 256 }
+    ensures { line.new ≡ line.old ++ verdict_line codes.now verdict.now }
+{
+    line.put_name(codes);
     match verdict {
         Verdict::Continuous {
             start,
             rate,
             records,
             samples,
-        } => push_continuous(text, *start, *rate, *records, *samples),
-        Verdict::Broken { first, count } => push_broken(text, first, *count),
+        } => put_continuous(line, *start, *rate, *records, *samples),
+        Verdict::Broken { first, count } => put_broken(line, first, *count),
     }
 }
 
-/// Adds what follows the name of a continuous channel.
-fn push_continuous<A: Allocator>(
-    text: &mut Vec<u8, A>,
-    start: Micros,
-    rate: Ratio,
-    records: u64,
-    samples: u64,
-) -> Result<(), AllocError>
-    ensures ok { OnOk result (text.new.items
-        ≡ text.old.items ++ continuous_words start rate records samples) }
-    ensures prefix { IsPrefixOf text.old.items text.new.items }
+/// Puts what follows the name of a continuous channel.
+#[inline(always)]
+fn put_continuous(line: &mut Draft, start: Micros, rate: Ratio, records: u64, samples: u64)
+    requires { length line.old + 144 ≤ 256 }
+    ensures { line.new ≡ line.old ++ continuous_words start rate records samples }
 {
-    push_pieces(
-        text,
-        &[
-            Words(b" continuous "),
-            Words(&show_time(start)),
-            Words(b" rate "),
-            Count(u64::from(rate.num())),
-            Words(b"/"),
-            Count(u64::from(rate.den())),
-            Words(b" records "),
-            Count(records),
-            Words(b" samples "),
-            Count(samples),
-            Words(b"\n"),
-        ],
-    )
+    line.put(b" continuous ");
+    line.put(&show_time(start));
+    line.put(b" rate ");
+    line.put_count(u64::from(rate.num()));
+    line.put(b"/");
+    line.put_count(u64::from(rate.den()));
+    line.put(b" records ");
+    line.put_count(records);
+    line.put(b" samples ");
+    line.put_count(samples);
+    line.put(b"\n");
 }
 
-/// Adds what follows the name of a broken channel.
-#[tactic(auto, using(crate::proofs::Prefixes::prefix_trans))]
-fn push_broken<A: Allocator>(
-    text: &mut Vec<u8, A>,
-    first: &Finding,
-    count: u64,
-) -> Result<(), AllocError>
-    ensures ok { OnOk result (text.new.items ≡ text.old.items ++ broken_words first.now count) }
-    ensures prefix { IsPrefixOf text.old.items text.new.items }
+/// Puts what follows the name of a broken channel.
+#[inline(always)]
+fn put_broken(line: &mut Draft, first: &Finding, count: u64)
+    requires { length line.old + 150 ≤ 256 }
+    ensures { line.new ≡ line.old ++ broken_words first.now count }
 {
-    push_pieces(
-        text,
-        &[
-            Words(b" broken findings "),
-            Count(count),
-            Words(b" first record "),
-            Count(first.number),
-            Words(b" offset "),
-            Count(first.offset),
-            Words(b" "),
-        ],
-    )?;
-    push_why(text, &first.why)?;
-    push_pieces(text, &[Words(b"\n")])
+    line.put(b" broken findings ");
+    line.put_count(count);
+    line.put(b" first record ");
+    line.put_count(first.number);
+    line.put(b" offset ");
+    line.put_count(first.offset);
+    line.put(b" ");
+    put_why(line, &first.why);
+    line.put(b"\n");
 }
 
 /// Adds the line of a record, if something is found of it. Where memory is refused, a part of it may have been added.
@@ -174,21 +166,27 @@ fn push_reported_line<A: Allocator>(
     ensures { OnOk result (text.new.items
         ≡ text.old.items ++ reported_line (record { view = view_of view.now; finding = finding.now })) }
 {
-    push_pieces(
-        text,
-        &[
-            Count(finding.offset),
-            Words(b" "),
-            Words(&name_of(&view.codes())),
-            Words(b" record "),
-            Count(finding.number),
-            Words(b" start "),
-        ],
-    )?;
-    push_start(text, view)?;
-    push_pieces(text, &[Words(b" ")])?;
-    push_why(text, &finding.why)?;
-    push_pieces(text, &[Words(b"\n")])
+    let mut line = Draft::new();
+    put_reported_line(&mut line, view, finding);
+    text.extend_from_slice(line.as_slice())
+}
+
+/// Puts the line of a record with a finding.
+#[inline(always)]
+fn put_reported_line(line: &mut Draft, view: &RecordView, finding: &Finding)
+    requires { length line.old + 148 ≤ 256 }
+    ensures { line.new ≡ line.old ++ reported_line (record { view = view_of view.now; finding = finding.now }) }
+{
+    line.put_count(finding.offset);
+    line.put(b" ");
+    line.put_name(&view.codes());
+    line.put(b" record ");
+    line.put_count(finding.number);
+    line.put(b" start ");
+    put_start(line, view);
+    line.put(b" ");
+    put_why(line, &finding.why);
+    line.put(b"\n");
 }
 
 /// Adds a record's start, or `fault` and the first field of it that is out of its range.
@@ -201,10 +199,34 @@ pub fn push_start<A: Allocator>(text: &mut Vec<u8, A>, view: &RecordView) -> Res
     ensures ok { OnOk result (text.new.items ≡ text.old.items ++ start_text (view_of view.now)) }
     ensures prefix { IsPrefixOf text.old.items text.new.items }
 {
+    let mut line = Draft::new();
+    put_start(&mut line, view);
+    text.extend_from_slice(line.as_slice())
+}
+
+/// Puts a record's start, or the field that is out of its range.
+#[inline(always)]
+fn put_start(line: &mut Draft, view: &RecordView)
+    requires { length line.old + 26 ≤ 256 }
+    ensures text { line.new ≡ line.old ++ start_text (view_of view.now) }
+    ensures most { length line.new ≤ length line.old + 26 }
+{
     match view.start() {
-        Ok(start) => push_pieces(text, &[Words(&show_time(start))]),
-        Err(fault) => push_pieces(text, &[Words(b"fault "), Words(fault.word().as_bytes())]),
+        Ok(start) => line.put(&show_time(start)),
+        Err(fault) => {
+            line.put(b"fault ");
+            put_word(line, fault);
+        }
     }
+}
+
+/// Puts the word for a field of a time.
+fn put_word(line: &mut Draft, fault: TimeFault)
+    requires { length line.old + 8 ≤ 256 }
+    ensures text { line.new ≡ line.old ++ fault_word fault }
+    ensures most { length line.new ≤ length line.old + 8 }
+{
+    line.put(fault.word().as_bytes());
 }
 
 /// Adds the line that tells how many records there were, and of how many channels.
@@ -259,53 +281,78 @@ pub fn push_why<A: Allocator>(text: &mut Vec<u8, A>, why: &Why) -> Result<(), Al
     ensures ok { OnOk result (text.new.items ≡ text.old.items ++ why_text why.now) }
     ensures prefix { IsPrefixOf text.old.items text.new.items }
 {
+    let mut line = Draft::new();
+    put_why(&mut line, why);
+    text.extend_from_slice(line.as_slice())
+}
+
+/// Puts the words of a finding.
+fn put_why(line: &mut Draft, why: &Why)
+    requires { length line.old + 49 ≤ 256 }
+    ensures text { line.new ≡ line.old ++ why_text why.now }
+    ensures most { length line.new ≤ length line.old + 49 }
+{
     match why {
         Why::Time(fault) => {
-            push_pieces(text, &[Words(b"time "), Words(fault.word().as_bytes())])
+            line.put(b"time ");
+            put_word(line, *fault);
         }
-        Why::Rate => push_pieces(text, &[Words(b"norate")]),
-        Why::Read(fault) => push_read_fault(text, fault),
-        Why::RateChange => push_pieces(text, &[Words(b"ratechange")]),
-        Why::Leap => push_pieces(text, &[Words(b"leap")]),
-        Why::Gap(micros) => push_pieces(text, &[Words(b"gap "), Wide(*micros)]),
-        Why::Overlap(micros) => push_pieces(text, &[Words(b"overlap "), Wide(*micros)]),
+        Why::Rate => line.put(b"norate"),
+        Why::Read(fault) => put_read_fault(line, fault),
+        Why::RateChange => line.put(b"ratechange"),
+        Why::Leap => line.put(b"leap"),
+        Why::Gap(micros) => {
+            line.put(b"gap ");
+            line.put_wide(*micros);
+        }
+        Why::Overlap(micros) => {
+            line.put(b"overlap ");
+            line.put_wide(*micros);
+        }
     }
 }
 
-/// Adds the words of samples that can't be read.
-fn push_read_fault<A: Allocator>(text: &mut Vec<u8, A>, fault: &ReadFault) -> Result<(), AllocError>
-    ensures ok { OnOk result (text.new.items ≡ text.old.items ++ read_text fault.now) }
-    ensures prefix { IsPrefixOf text.old.items text.new.items }
+/// Puts the words of samples that can't be read.
+fn put_read_fault(line: &mut Draft, fault: &ReadFault)
+    requires { length line.old + 49 ≤ 256 }
+    ensures text { line.new ≡ line.old ++ read_text fault.now }
+    ensures most { length line.new ≤ length line.old + 49 }
 {
     match fault {
-        ReadFault::Blockette100 => push_pieces(text, &[Words(b"blockette100")]),
+        ReadFault::Blockette100 => line.put(b"blockette100"),
         ReadFault::Encoding(code) => {
-            push_pieces(text, &[Words(b"encoding "), Count(u64::from(*code))])
+            line.put(b"encoding ");
+            line.put_count(u64::from(*code));
         }
-        ReadFault::LittleSteim => push_pieces(text, &[Words(b"littlesteim")]),
-        ReadFault::DataOffset => push_pieces(text, &[Words(b"dataoffset")]),
-        ReadFault::Short(found) => push_pieces(text, &[Words(b"short "), Count(*found as u64)]),
-        ReadFault::BadWord(frame, word) => push_pieces(
-            text,
-            &[
-                Words(b"badword "),
-                Count(*frame as u64),
-                Words(b" "),
-                Count(*word as u64),
-            ],
-        ),
+        ReadFault::LittleSteim => line.put(b"littlesteim"),
+        ReadFault::DataOffset => line.put(b"dataoffset"),
+        ReadFault::Short(found) => {
+            line.put(b"short ");
+            line.put_count(*found as u64);
+        }
+        ReadFault::BadWord(frame, word) => {
+            line.put(b"badword ");
+            line.put_count(*frame as u64);
+            line.put(b" ");
+            line.put_count(*word as u64);
+        }
         ReadFault::Overflow(index) => {
-            push_pieces(text, &[Words(b"overflow "), Count(*index as u64)])
+            line.put(b"overflow ");
+            line.put_count(*index as u64);
         }
-        ReadFault::LastDiffers(found, constant) => push_pieces(
-            text,
-            &[
-                Words(b"lastdiffers "),
-                Signed(*found),
-                Words(b" "),
-                Signed(*constant),
-            ],
-        ),
-        ReadFault::Memory => Ok(()),
+        ReadFault::LastDiffers(found, constant) => put_last_differs(line, *found, *constant),
+        ReadFault::Memory => {}
     }
+}
+
+/// Puts the words of samples that don't end on their constant.
+fn put_last_differs(line: &mut Draft, found: i32, constant: i32)
+    requires { length line.old + 35 ≤ 256 }
+    ensures text { line.new ≡ line.old ++ read_text (LastDiffers found constant) }
+    ensures most { length line.new ≤ length line.old + 35 }
+{
+    line.put(b"lastdiffers ");
+    line.put_signed(found);
+    line.put(b" ");
+    line.put_signed(constant);
 }

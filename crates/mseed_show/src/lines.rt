@@ -1,11 +1,11 @@
 //! The lines of a listing.
-ghost use Rattle.std.specs.Prelude.{◌≡◌, ◌++◌, OnOk, codes, decimal};
+ghost use Rattle.std.specs.Prelude.{◌≡◌, ◌≤◌, ◌+◌, ◌++◌, OnOk, codes, length};
 ghost use Rattle.mseed_record.specs.Viewing.{view_of};
 ghost use Rattle.mseed_show.specs.Listing.{record_line, offset_words, size_words, time_words, payload_words};
 ghost use Rattle.mseed_show.specs.Listing.{count_line};
 ghost use Rattle.mseed_show.specs.Listing.{start_text, rate_text, time_fault_words, order_word, last_words};
 
-use mseed_audit::{push_count, push_name};
+use mseed_audit::Draft;
 use mseed_record::RecordView;
 use mseed_time::{NoRate, Order, TimeFault, show_time};
 use std::alloc::{AllocError, Allocator};
@@ -22,10 +22,12 @@ pub fn push_record_line<A: Allocator>(
 ) -> Result<(), AllocError>
     ensures { OnOk result (text.new.items ≡ text.old.items ++ record_line offset (view_of view.now)) }
 {
-    push_offset(text, offset, view)?;
-    push_size(text, view)?;
-    push_times(text, view)?;
-    push_payload(text, view)
+    let mut line = Draft::new();
+    put_offset(&mut line, offset, view);
+    put_size(&mut line, view);
+    put_times(&mut line, view);
+    put_payload(&mut line, view);
+    text.extend_from_slice(line.as_slice())
 }
 
 /// Adds the line that counts the records.
@@ -36,108 +38,114 @@ pub fn push_record_line<A: Allocator>(
 pub fn push_count_line<A: Allocator>(text: &mut Vec<u8, A>, records: u64) -> Result<(), AllocError>
     ensures { OnOk result (text.new.items ≡ text.old.items ++ count_line records) }
 {
-    push_counted(text, b"records ", records)?;
-    text.extend_from_slice(b"\n")
+    let mut line = Draft::new();
+    line.put(b"records ");
+    line.put_count(records);
+    line.put(b"\n");
+    text.extend_from_slice(line.as_slice())
 }
 
-/// Adds where a record begins, and its channel's name.
-fn push_offset<A: Allocator>(
-    text: &mut Vec<u8, A>,
-    offset: u64,
-    view: &RecordView,
-) -> Result<(), AllocError>
-    ensures { OnOk result (text.new.items ≡ text.old.items ++ offset_words offset (view_of view.now)) }
+/// Puts where a record begins, and its channel's name.
+#[inline(always)]
+fn put_offset(line: &mut Draft, offset: u64, view: &RecordView)
+    requires { length line.old + 36 ≤ 256 }
+    ensures text { line.new ≡ line.old ++ offset_words offset (view_of view.now) }
+    ensures most { length line.new ≤ length line.old + 36 }
 {
-    push_count(text, offset)?;
-    text.extend_from_slice(b" ")?;
-    push_name(text, &view.codes())
+    line.put_count(offset);
+    line.put(b" ");
+    line.put_name(&view.codes());
 }
 
-/// Adds a record's quality, length and number of samples.
-fn push_size<A: Allocator>(text: &mut Vec<u8, A>, view: &RecordView) -> Result<(), AllocError>
-    ensures { OnOk result (text.new.items ≡ text.old.items ++ size_words (view_of view.now)) }
+/// Puts a record's quality, length and number of samples.
+#[inline(always)]
+fn put_size(line: &mut Draft, view: &RecordView)
+    requires { length line.old + 59 ≤ 256 }
+    ensures text { line.new ≡ line.old ++ size_words (view_of view.now) }
+    ensures most { length line.new ≤ length line.old + 59 }
 {
-    text.extend_from_slice(&[b' ', view.quality()])?;
-    push_counted(text, b" length ", view.bytes().len() as u64)?;
-    push_counted(text, b" samples ", u64::from(view.samples()))
+    line.put(&[b' ', view.quality()]);
+    line.put(b" length ");
+    line.put_count(view.bytes().len() as u64);
+    line.put(b" samples ");
+    line.put_count(u64::from(view.samples()));
 }
 
-/// Adds a record's start and rate.
-fn push_times<A: Allocator>(text: &mut Vec<u8, A>, view: &RecordView) -> Result<(), AllocError>
-    ensures { OnOk result (text.new.items ≡ text.old.items ++ time_words (view_of view.now)) }
+/// Puts a record's start and rate.
+#[inline(always)]
+fn put_times(line: &mut Draft, view: &RecordView)
+    requires { length line.old + 80 ≤ 256 }
+    ensures text { line.new ≡ line.old ++ time_words (view_of view.now) }
+    ensures most { length line.new ≤ length line.old + 80 }
 {
-    push_start(text, view)?;
-    push_rate(text, view)
+    put_start(line, view);
+    put_rate(line, view);
 }
 
-/// Adds a record's start, or the field that is out of its range.
-fn push_start<A: Allocator>(text: &mut Vec<u8, A>, view: &RecordView) -> Result<(), AllocError>
-    ensures { OnOk result (text.new.items ≡ text.old.items ++ codes " start " ++ start_text (view_of view.now)) }
+/// Puts a record's start, or the field that is out of its range.
+#[inline(always)]
+fn put_start(line: &mut Draft, view: &RecordView)
+    requires { length line.old + 33 ≤ 256 }
+    ensures text { line.new ≡ line.old ++ codes " start " ++ start_text (view_of view.now) }
+    ensures most { length line.new ≤ length line.old + 33 }
 {
-    text.extend_from_slice(b" start ")?;
+    line.put(b" start ");
     match view.start() {
-        Ok(start) => text.extend_from_slice(&show_time(start)),
-        Err(fault) => text.extend_from_slice(time_fault_words(fault)),
+        Ok(start) => line.put(&show_time(start)),
+        Err(fault) => line.put(time_fault_words(fault)),
     }
 }
 
-/// Adds a record's rate.
-fn push_rate<A: Allocator>(text: &mut Vec<u8, A>, view: &RecordView) -> Result<(), AllocError>
-    ensures { OnOk result (text.new.items ≡ text.old.items ++ codes " rate " ++ rate_text (view_of view.now)) }
+/// Puts a record's rate.
+#[inline(always)]
+fn put_rate(line: &mut Draft, view: &RecordView)
+    requires { length line.old + 47 ≤ 256 }
+    ensures text { line.new ≡ line.old ++ codes " rate " ++ rate_text (view_of view.now) }
+    ensures most { length line.new ≤ length line.old + 47 }
 {
-    text.extend_from_slice(b" rate ")?;
+    line.put(b" rate ");
     match view.rate() {
         Ok(rate) => {
-            push_count(text, u64::from(rate.num()))?;
-            push_counted(text, b"/", u64::from(rate.den()))
+            line.put_count(u64::from(rate.num()));
+            line.put(b"/");
+            line.put_count(u64::from(rate.den()));
         }
-        Err(NoRate) => text.extend_from_slice(b"none"),
+        Err(NoRate) => line.put(b"none"),
     }
 }
 
-/// Adds how a record's payload is encoded, and whether a blockette 100 gives another rate.
-fn push_payload<A: Allocator>(text: &mut Vec<u8, A>, view: &RecordView) -> Result<(), AllocError>
-    ensures { OnOk result (text.new.items ≡ text.old.items ++ payload_words (view_of view.now)) }
+/// Puts how a record's payload is encoded, and whether a blockette 100 gives another rate.
+#[inline(always)]
+fn put_payload(line: &mut Draft, view: &RecordView)
+    requires { length line.old + 51 ≤ 256 }
+    ensures { line.new ≡ line.old ++ payload_words (view_of view.now) }
 {
-    push_counted(text, b" encoding ", u64::from(view.encoding()))?;
-    push_last(text, view.payload_order(), view.has_rate_blockette())
+    line.put(b" encoding ");
+    line.put_count(u64::from(view.encoding()));
+    put_last(line, view.payload_order(), view.has_rate_blockette());
 }
 
-/// Adds a payload's order, and the end of a line. The words' length is known where they stand.
-fn push_last<A: Allocator>(
-    text: &mut Vec<u8, A>,
-    order: Order,
-    has_rate_blockette: bool,
-) -> Result<(), AllocError>
-    ensures { OnOk result (text.new.items ≡ text.old.items ++ (order_word order ++ last_words has_rate_blockette)) }
+/// Puts a payload's order, and the end of a line. The words' length is known where they stand.
+#[inline(always)]
+fn put_last(line: &mut Draft, order: Order, has_rate_blockette: bool)
+    requires { length line.old + 21 ≤ 256 }
+    ensures { line.new ≡ line.old ++ (order_word order ++ last_words has_rate_blockette) }
 {
     match (order, has_rate_blockette) {
-        (Order::Big, false) => text.extend_from_slice(b" big\n"),
-        (Order::Little, false) => text.extend_from_slice(b" little\n"),
-        (Order::Big, true) => text.extend_from_slice(b" big blockette100\n"),
+        (Order::Big, false) => line.put(b" big\n"),
+        (Order::Little, false) => line.put(b" little\n"),
+        (Order::Big, true) => line.put(b" big blockette100\n"),
         (Order::Little, true) => {
-            text.extend_from_slice(b" little")?;
-            text.extend_from_slice(b" blockette100\n")
+            line.put(b" little");
+            line.put(b" blockette100\n");
         }
     }
-}
-
-/// Adds words and the digits of a number. The words' length is known where this stands.
-#[inline(always)]
-fn push_counted<A: Allocator>(
-    text: &mut Vec<u8, A>,
-    words: &[u8],
-    count: u64,
-) -> Result<(), AllocError>
-    ensures { OnOk result (text.new.items ≡ text.old.items ++ (words.now ++ decimal count)) }
-{
-    text.extend_from_slice(words)?;
-    push_count(text, count)
 }
 
 /// The words of a start that is refused.
 fn time_fault_words(fault: TimeFault) -> &'static [u8]
-    ensures { result.now ≡ time_fault_words fault }
+    ensures words { result.now ≡ time_fault_words fault }
+    ensures most { length result.now ≤ 14 }
 {
     match fault {
         TimeFault::Year => b"fault year",

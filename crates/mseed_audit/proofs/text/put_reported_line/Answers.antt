@@ -1,0 +1,30 @@
+use Rattle.std.proofs.Common.{◌≡◌, ◌++◌, ◌∙◌, List, ℕ, append_assoc, codes, decimal}
+use Rattle.mseed_record.specs.Header.{key_at}
+use Rattle.mseed_record.specs.View.{View}
+use Rattle.mseed_record.specs.Viewing.{view_of}
+use Rattle.mseed_audit.specs.declared.finding.Finding.{Finding}
+use Rattle.mseed_audit.specs.Text.{name_text, start_text, why_text}
+use Rattle.mseed_audit.proofs.text.put_reported_line.Goals as goal
+
+-- what was put, one behind another
+joined : (line offset space name record-word number start-word start gap why end : List ℕ)
+    → (((((((((line ++ offset) ++ space) ++ name) ++ record-word) ++ number) ++ start-word) ++ start) ++ gap) ++ why)
+    ++ end
+    ≡ line ++ (offset ++ space ++ name ++ record-word ++ number ++ start-word ++ start ++ gap ++ why ++ end)
+joined line offset space name record-word number start-word start gap why end = simp append_assoc
+
+pub returns : goal.returns
+returns c =
+    let v : View = view_of c.args.view.now in
+    let f : Finding = c.args.finding.now in
+    let a2 = rw c.put_count.ensures.text at c.put.ensures.text in
+    let a3 = rw (a2, c.codes.ensures) at c.put_name.ensures.text in
+    let a4 = rw a3 at c.put-2.ensures.text in
+    let a5 = rw a4 at c.put_count-2.ensures.text in
+    let a6 = rw a5 at c.put-3.ensures.text in
+    let a7 = rw a6 at c.put_start.ensures.text in
+    let a8 = rw a7 at c.put-4.ensures.text in
+    let a9 = rw a8 at c.put_why.ensures.text in
+    let a10 = rw a9 at c.put-5.ensures.text in
+    a10 ∙ joined c.args.line.now (decimal f.offset) (codes " ") (name_text (key_at v.bytes)) (codes " record ")
+    (decimal f.number) (codes " start ") (start_text v) (codes " ") (why_text f.why) (codes "\n")
