@@ -246,6 +246,25 @@ pub read_all : (n count : ℕ) (bytes : List ℕ) → length bytes ≤ count
 read_all n count bytes l =
     subst (λ (xs : List ℕ). more_at n xs ≡ (n, xs)) (sym (drop_all count bytes l)) refl
 
+-- the next byte, if there is one, is no digit
+pub no_more : (n count : ℕ) (bytes : List ℕ) → (count < length bytes → is_digit (get_or bytes count 0) ≡ false)
+    → more_at n (drop count bytes) ≡ (n, drop count bytes)
+no_more n zero [] ends = refl
+no_more n zero (b ∷ bs) ends = more_ends n (b ∷ bs) (ends (omega arith))
+no_more n (suc count) [] ends = refl
+no_more n (suc count) (b ∷ bs) ends = no_more n count bs (λ l. ends (omega (arith, l)))
+
+-- so many digits, and four more
+pub four_small : (n more count : ℕ) → n < 10 ^ (count + 1) → more < 10 ^ 4 * (n + 1) → more < 10 ^ (count + 4 + 1)
+four_small n more count small less =
+    let next : count + 4 + 1 ≡ suc (suc (suc (suc (count + 1)))) = omega arith in
+    let power : 10 ^ (count + 4 + 1) ≡ 10 * (10 * (10 * (10 * 10 ^ (count + 1)))) =
+    ap (λ (k : ℕ). 10 ^ k) next ∙ pow-succ' 10 (suc (suc (suc (count + 1))))
+    ∙ ap (λ (m : ℕ). 10 * m) (pow-succ' 10 (suc (suc (count + 1))))
+    ∙ ap (λ (m : ℕ). 10 * (10 * m)) (pow-succ' 10 (suc (count + 1)))
+    ∙ ap (λ (m : ℕ). 10 * (10 * (10 * m))) (pow-succ' 10 (count + 1)) in
+    omega (arith, small, less, power)
+
 -- the first digit of a number
 pub record Begins (n : ℕ) : Type 0 where
   pub first : ℕ
