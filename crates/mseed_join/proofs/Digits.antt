@@ -254,16 +254,36 @@ no_more n zero (b ∷ bs) ends = more_ends n (b ∷ bs) (ends (omega arith))
 no_more n (suc count) [] ends = refl
 no_more n (suc count) (b ∷ bs) ends = no_more n count bs (λ l. ends (omega (arith, l)))
 
--- so many digits, and four more
-pub four_small : (n more count : ℕ) → n < 10 ^ (count + 1) → more < 10 ^ 4 * (n + 1) → more < 10 ^ (count + 4 + 1)
-four_small n more count small less =
-    let next : count + 4 + 1 ≡ suc (suc (suc (suc (count + 1)))) = omega arith in
-    let power : 10 ^ (count + 4 + 1) ≡ 10 * (10 * (10 * (10 * 10 ^ (count + 1)))) =
-    ap (λ (k : ℕ). 10 ^ k) next ∙ pow-succ' 10 (suc (suc (suc (count + 1))))
-    ∙ ap (λ (m : ℕ). 10 * m) (pow-succ' 10 (suc (suc (count + 1))))
-    ∙ ap (λ (m : ℕ). 10 * (10 * m)) (pow-succ' 10 (suc (count + 1)))
-    ∙ ap (λ (m : ℕ). 10 * (10 * (10 * m))) (pow-succ' 10 (count + 1)) in
-    omega (arith, small, less, power)
+-- so many digits, and room for one more
+pub has_one : (n count : ℕ) → n < 10 ^ (count + 1) → count + 1 ≤ 16 → n < 10 ^ 16
+has_one n count small l =
+    let some : 0 < 10 = omega arith in
+    let most : 10 ^ (count + 1) ≤ 10 ^ 16 = pow-le-pow_right some l in
+    omega (arith, small, most)
+
+pub has_two : (n count digit : ℕ) → n < 10 ^ (count + 1) → digit < 10 → count + 2 ≤ 16 → 10 * n + digit < 10 ^ 16
+has_two n count digit small d l =
+    has_one (10 * n + digit) (count + 1) (stays_small n count digit small d) (omega (arith, l))
+
+-- a digit more that was read
+pub one_read : (n more count : ℕ) (bytes : List ℕ) → count < length bytes → is_digit (get_or bytes count 0) ≡ true
+    → more ≡ 10 * n + (get_or bytes count 0 - 48)
+    → more_at more (drop (count + 1) bytes) ≡ more_at n (drop count bytes)
+one_read n more count bytes l e is =
+    ap (λ (m : ℕ). more_at m (drop (count + 1) bytes)) is ∙ read_on n count bytes l e
+
+-- a number whose first digit isn't 0, with further digits
+pub number_on : (largest n count first : ℕ) (bytes tail : List ℕ) → 1 ≤ length bytes → (get_or bytes 0 0 ≡ 48 → ⊥)
+    → is_digit (get_or bytes 0 0) ≡ true → tail ≡ drop 1 bytes → first ≡ get_or bytes 0 0 - 48
+    → more_at n (drop count tail) ≡ more_at first tail
+    → number_at largest bytes ≡ within largest (more_at n (drop (count + 1) bytes))
+number_on largest n count first [] tail some other digit behind is more = absurd (omega (arith, some))
+number_on largest n count first (b ∷ bs) tail some other digit behind is more =
+    let next : suc count ≡ count + 1 = omega arith in
+    number_from largest b bs (omega (arith, is_low b digit, other)) (is_high b digit)
+    ∙ ap (λ (x : ℕ × List ℕ). within largest x)
+    ((λ i. more_at (sym is i) (sym behind i)) ∙ sym more ∙ ap (λ (xs : List ℕ). more_at n (drop count xs)) behind
+    ∙ ap (λ (k : ℕ). more_at n (drop k (b ∷ bs))) next)
 
 -- the first digit of a number
 pub record Begins (n : ℕ) : Type 0 where

@@ -45,25 +45,45 @@ pub(crate) fn number_at(largest: u64, bytes: &[u8]) -> Option<(u64, &[u8])>
     ensures value { option_map (λ x. (x.0, x.1.now)) result ≡ number_at largest bytes.now }
     ensures bounded { IfSome result (λ x. x.0 ≤ largest) }
 {
+    let (number, count) = leading_at(bytes);
+    if count == 0 {
+        return None;
+    }
+    let rest = &bytes[count..];
+    if count > FEW {
+        return long_at(largest, number, rest);
+    }
+    if number <= largest {
+        Some((number, rest))
+    } else {
+        None
+    }
+}
+
+/// What the first digits make, and how many they are: none where no number begins here, one where it is 0, and 17 where
+/// it may go on.
+#[inline(never)]
+#[tactic(auto, unfolding(crate::specs::private::Reading::number_at))]
+fn leading_at(bytes: &[u8]) -> (u64, usize)
+    ensures within { result.1 ≤ length bytes.now }
+    ensures few { result.1 ≤ 17 }
+    ensures none { result.1 ≡ 0 → (largest : ℕ) → number_at largest bytes.now ≡ None }
+    ensures value { 0 < result.1 → result.1 < 17 → (largest : ℕ)
+        → number_at largest bytes.now ≡ within largest (result.0, drop result.1 bytes.now) }
+    ensures long { result.1 ≡ 17 → (largest : ℕ)
+        → number_at largest bytes.now ≡ within largest (more_at result.0 (drop result.1 bytes.now)) }
+{
     match bytes {
-        [] => None,
+        [] => (0, 0),
         [first, rest @ ..] => {
             if *first == b'0' {
-                return Some((0, rest));
+                return (0, 1);
             }
             if !is_digit(*first) {
-                return None;
+                return (0, 0);
             }
             let (number, count) = few_more_at(u64::from(*first - b'0'), rest);
-            let rest = &rest[count..];
-            if count == FEW {
-                return long_at(largest, number, rest);
-            }
-            if number <= largest {
-                Some((number, rest))
-            } else {
-                None
-            }
+            (number, count + 1)
         }
     }
 }
@@ -73,6 +93,7 @@ pub(crate) fn number_at(largest: u64, bytes: &[u8]) -> Option<(u64, &[u8])>
 fn few_more_at(first: u64, bytes: &[u8]) -> (u64, usize)
     requires { first < 10 }
     ensures within { result.1 ≤ length bytes.now }
+    ensures few { result.1 ≤ 16 }
     ensures value { more_at result.0 (drop result.1 bytes.now) ≡ more_at first bytes.now }
     ensures whole { result.1 ≢ 16
         → more_at result.0 (drop result.1 bytes.now) ≡ (result.0, drop result.1 bytes.now) }
@@ -81,30 +102,56 @@ fn few_more_at(first: u64, bytes: &[u8]) -> (u64, usize)
     let mut number = first;
     let mut count = 0;
     while 4 <= digits - count {
-        number = with_four(number, bytes, count);
+        number = with_two(with_two(number, bytes, count), bytes, count + 2);
         count += 4;
     }
-    while count < digits {
-        number = 10 * number + u64::from(bytes[count] - b'0');
-        count += 1;
-    }
-    (number, count)
+    (with_rest(number, bytes, count, digits), digits)
 }
 
-/// A number with four more digits.
+/// A number with up to three more digits.
 #[inline(always)]
-fn with_four(number: u64, bytes: &[u8], count: usize) -> u64
-    requires small { number < 10 ^ 13 }
-    requires within { count + 4 ≤ length bytes.now }
-    requires digits { (k : ℕ) → k < count + 4 → is_digit (get_or bytes.now k 0) ≡ true }
-    ensures small { result < 10 ^ 4 * (number + 1) }
-    ensures value { more_at result (drop (count + 4) bytes.now) ≡ more_at number (drop count bytes.now) }
+fn with_rest(number: u64, bytes: &[u8], count: usize, digits: usize) -> u64
+    requires small { number < 10 ^ (count + 1) }
+    requires few { digits ≤ 16 }
+    requires within { digits ≤ length bytes.now }
+    requires digits { (k : ℕ) → k < digits → is_digit (get_or bytes.now k 0) ≡ true }
+    requires before { count ≤ digits }
+    requires near { digits < count + 4 }
+    ensures { more_at result (drop digits bytes.now) ≡ more_at number (drop count bytes.now) }
 {
-    let mut more = number;
-    more = 10 * more + u64::from(bytes[count] - b'0');
-    more = 10 * more + u64::from(bytes[count + 1] - b'0');
-    more = 10 * more + u64::from(bytes[count + 2] - b'0');
-    10 * more + u64::from(bytes[count + 3] - b'0')
+    let left = digits - count;
+    if left == 0 {
+        number
+    } else if left == 1 {
+        with_digit(number, bytes[count])
+    } else if left == 2 {
+        with_two(number, bytes, count)
+    } else {
+        with_digit(with_two(number, bytes, count), bytes[count + 2])
+    }
+}
+
+/// A number with two more digits.
+#[inline(always)]
+fn with_two(number: u64, bytes: &[u8], count: usize) -> u64
+    requires small { number < 10 ^ (count + 1) }
+    requires few { count + 2 ≤ 16 }
+    requires within { count + 2 ≤ length bytes.now }
+    requires digits { (k : ℕ) → k < count + 2 → is_digit (get_or bytes.now k 0) ≡ true }
+    ensures small { result < 10 ^ (count + 2 + 1) }
+    ensures value { more_at result (drop (count + 2) bytes.now) ≡ more_at number (drop count bytes.now) }
+{
+    with_digit(with_digit(number, bytes[count]), bytes[count + 1])
+}
+
+/// A number with one more digit.
+#[inline(always)]
+fn with_digit(number: u64, digit: u8) -> u64
+    requires small { number < 10 ^ 16 }
+    requires digit { is_digit digit ≡ true }
+    ensures { result ≡ 10 * number + (digit - 48) }
+{
+    10 * number + u64::from(digit) - u64::from(b'0')
 }
 
 /// How many bytes are digits before the first that isn't one, or 16 where so many are.

@@ -9,11 +9,3 @@ invariant-loop-count l =
 
 abbrev pub decreases-loop-count : goal.decreases-loop-count
 decreases-loop-count l = l.digits - l.count
-
-abbrev pub invariant-loop-count-2 : goal.invariant-loop-count-2
-invariant-loop-count-2 l =
-    (l.count ≤ l.digits) × (l.number < 10 ^ (l.count + 1))
-    × (more_at l.number (drop l.count l.bytes) ≡ more_at l.first l.bytes)
-
-abbrev pub decreases-loop-count-2 : goal.decreases-loop-count-2
-decreases-loop-count-2 l = l.digits - l.count
