@@ -175,7 +175,7 @@ fn digits_ahead(bytes: &[u8]) -> usize
 }
 
 /// The same of fewer bytes.
-#[inline(never)]
+#[inline(always)]
 fn digits_one_by_one(bytes: &[u8]) -> usize
     requires { length bytes.now < 16 }
     ensures within { result ≤ length bytes.now }

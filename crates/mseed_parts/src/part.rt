@@ -7,7 +7,7 @@ ghost use Rattle.mseed_audit.specs.Audit.{head_in, tail_in};
 ghost use Rattle.mseed_parts.specs.Parts.{IsPartOf, IsJoint, Fits, FitsAt, CountsFit, kept_of, one_channel};
 ghost use Rattle.mseed_parts.specs.Parts.{counts_alone, HasNewChannel, IsAscending, IsSmall};
 
-use crate::joining::{behind, counts_fit, moved, sum};
+use crate::joining::{add_behind, counts_fit, moved, sum};
 use crate::kept::Kept;
 use mseed_audit::{Channel, Finding, Memory, one_finding};
 use mseed_record::Codes;
@@ -88,6 +88,7 @@ impl<A: Allocator + Copy> Part<A> {
     ///
     /// `Limit` where a number would pass 2^63 - 1, `Memory` where the channel is new and there was no room for it. The
     /// part is then as it was.
+    #[inline(never)]
     pub fn add_channel(
         &mut self,
         codes: Codes,
@@ -213,11 +214,8 @@ fn put_behind(kept: &mut Channel, further: &Channel) -> Result<Option<Finding>, 
     ensures fault { IfErr result (λ fault. fault ≡ JoinFault.Limit) }
     ensures unchanged { OnErr result (kept.new ≡ kept.old) }
 {
-    match behind(kept, further) {
-        Ok((joined, border)) => {
-            *kept = joined;
-            Ok(border)
-        }
+    match add_behind(kept, further) {
+        Ok(border) => Ok(border),
         Err(_) => Err(JoinFault::Limit),
     }
 }
