@@ -23,9 +23,10 @@ pub(crate) fn sum(a: u64, b: u64) -> Result<u64, TooLarge>
     ensures value { IfOk result (λ n. n ≡ a + b) }
     ensures fits { IsOk result ↔ a + b < 2 ^ 63 }
 {
-    match a.checked_add(b) {
-        Some(n) => { if n <= LARGEST { Ok(n) } else { Err(TooLarge) } }
-        None => Err(TooLarge),
+    if a <= LARGEST && b <= LARGEST - a {
+        Ok(a + b)
+    } else {
+        Err(TooLarge)
     }
 }
 
