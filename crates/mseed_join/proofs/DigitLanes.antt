@@ -68,7 +68,8 @@ module _ (above less : ℕ → ℕ → ℕ) (bytes : List ℕ) (room : 16 ≤ le
   -- each of the sixteen
   pub all_digits : others ≡ 0 → (k : ℕ) → k < 16 → is_digit (get_or bytes k 0) ≡ true
   all_digits none k l =
-      digit_at k (none_from_empty_mask is_other bytes 0 16 0 room (sym mask_is ∙ none) k (omega arith) (omega (arith, l)))
+      digit_at k
+      (none_from_empty_mask is_other bytes 0 16 0 room (sym mask_is ∙ none) k (omega arith) (omega (arith, l)))
 
   -- or those before the first that isn't one
   module _ (some : others ≢ 0) where

@@ -7,7 +7,7 @@ use Rattle.std.specs.Fmt.{signed_decimal}
 use Rattle.std.specs.Cmp.Lexicographic.{pointwise, same_text}
 use Rattle.std.proofs.lemmas.Bool.Decides.{nat_tests}
 use Rattle.std.proofs.lemmas.Fmt.{decimal_digit, decimal_step_wide, decimal_by_steps_wide}
-use Rattle.std.proofs.lemmas.List.{take-append-drop, drop_more, drop_all}
+use Rattle.std.proofs.lemmas.List.{take-append-drop, drop_more}
 use Rattle.std.proofs.Math.Nat.{pow-le-pow_right, pow-succ'}
 use Rattle.mseed_join.specs.private.Reading.{◌>>=◌, after, is_digit, more_at, within, number_at, negated, integer_at}
 
@@ -218,14 +218,6 @@ passes n d most (b ∷ bs) all l e is big same =
     omega (arith, first, grows (10 * n + (b - 48)) bs, big, is)
 
 -- ---- digits that fit for sure
--- so many digits, and room for one more
-pub has_room : (n count few : ℕ) → n < 10 ^ (count + 1) → count < few → few ≤ 18 → n < 10 ^ 18
-has_room n count few small less l =
-    let few_digits : count + 1 ≤ 18 = omega (arith, less, l) in
-    let some : 0 < 10 = omega arith in
-    let most : 10 ^ (count + 1) ≤ 10 ^ 18 = pow-le-pow_right some few_digits in
-    omega (arith, small, most)
-
 pub stays_small : (n count digit : ℕ) → n < 10 ^ (count + 1) → digit < 10
     → 10 * n + digit < 10 ^ (count + 1 + 1)
 stays_small n count digit small l =
@@ -240,20 +232,6 @@ read_on n count bytes l e =
     sym (ap (λ (xs : List ℕ). more_at n xs) (drop_more bytes count 0 l)
     ∙ one_more n (get_or bytes count 0) (drop (count + 1) bytes) e)
 
--- no byte more
-pub read_all : (n count : ℕ) (bytes : List ℕ) → length bytes ≤ count
-    → more_at n (drop count bytes) ≡ (n, drop count bytes)
-read_all n count bytes l =
-    subst (λ (xs : List ℕ). more_at n xs ≡ (n, xs)) (sym (drop_all count bytes l)) refl
-
--- the next byte, if there is one, is no digit
-pub no_more : (n count : ℕ) (bytes : List ℕ) → (count < length bytes → is_digit (get_or bytes count 0) ≡ false)
-    → more_at n (drop count bytes) ≡ (n, drop count bytes)
-no_more n zero [] ends = refl
-no_more n zero (b ∷ bs) ends = more_ends n (b ∷ bs) (ends (omega arith))
-no_more n (suc count) [] ends = refl
-no_more n (suc count) (b ∷ bs) ends = no_more n count bs (λ l. ends (omega (arith, l)))
-
 -- so many digits, and room for one more
 pub has_one : (n count : ℕ) → n < 10 ^ (count + 1) → count + 1 ≤ 16 → n < 10 ^ 16
 has_one n count small l =
@@ -264,13 +242,6 @@ has_one n count small l =
 pub has_two : (n count digit : ℕ) → n < 10 ^ (count + 1) → digit < 10 → count + 2 ≤ 16 → 10 * n + digit < 10 ^ 16
 has_two n count digit small d l =
     has_one (10 * n + digit) (count + 1) (stays_small n count digit small d) (omega (arith, l))
-
--- a digit more that was read
-pub one_read : (n more count : ℕ) (bytes : List ℕ) → count < length bytes → is_digit (get_or bytes count 0) ≡ true
-    → more ≡ 10 * n + (get_or bytes count 0 - 48)
-    → more_at more (drop (count + 1) bytes) ≡ more_at n (drop count bytes)
-one_read n more count bytes l e is =
-    ap (λ (m : ℕ). more_at m (drop (count + 1) bytes)) is ∙ read_on n count bytes l e
 
 -- a number whose first digit isn't 0, with further digits
 pub number_on : (largest n count first : ℕ) (bytes tail : List ℕ) → 1 ≤ length bytes → (get_or bytes 0 0 ≡ 48 → ⊥)

@@ -5,8 +5,8 @@ use Rattle.std.proofs.Common.{sym, ap, arith, nat_eq}
 use Rattle.std.proofs.lemmas.Bool.{agree_below, agree_below_at}
 use Rattle.std.proofs.lemmas.Bool.Decides.{nat_tests}
 use Rattle.std.proofs.lemmas.List.{length-map}
-use Rattle.std.proofs.lemmas.Simd.{chunk-fits, get_or-chunk, length-chunk, map-map, mask_l-mod, zip2_of_maps, zip2_splat}
-use Rattle.std.proofs.lemmas.Simd.{zip2_splat_left}
+use Rattle.std.proofs.lemmas.Simd.{chunk-fits, get_or-chunk, length-chunk, map-map, mask_l-mod, zip2_of_maps}
+use Rattle.std.proofs.lemmas.Simd.{zip2_splat, zip2_splat_left}
 use borrow.Rule.Simd.Lanes.{act2}
 use borrow.Table.Row.{s_int}
 use lib.Lanes.{Each1, chunk, mask_l, sel_l, top, zip2}

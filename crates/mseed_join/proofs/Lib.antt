@@ -40,4 +40,3 @@ pub mod Sums
 pub mod Taken
 pub mod Together
 pub mod Verdicts
-pub mod Words

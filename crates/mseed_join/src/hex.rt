@@ -1,6 +1,6 @@
 //! The twelve bytes of a key, and their digits.
-ghost use Rattle.std.specs.Prelude.{◌≡◌, ◌≤◌, ◌<◌, ◌+◌, ◌*◌, ℕ, List, suc, [], ◌∷◌, ◌++◌, drop, get_or, length, map, take, IfSome};
-ghost use Rattle.std.specs.Prelude.{IfNone, None, Some};
+ghost use Rattle.std.specs.Prelude.{◌≡◌, ◌≤◌, ◌<◌, ◌+◌, ◌*◌, ℕ, List, suc, [], ◌∷◌, ◌++◌, drop, get_or, length, map};
+ghost use Rattle.std.specs.Prelude.{take, IfSome, IfNone, None, Some};
 ghost use Rattle.std.specs.Option.{option_map};
 ghost use Rattle.mseed_join.specs.Lines.{hex_digit};
 ghost use Rattle.mseed_join.specs.private.Reading.{bytes_at, key_at, nibble_of};

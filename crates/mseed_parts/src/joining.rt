@@ -168,10 +168,7 @@ fn size_of(border: Option<Finding>) -> u64
 /// Puts further records behind a channel, and answers what is found between the two. Where a count would pass the
 /// limit, the channel is then as it was.
 #[inline(always)]
-pub(crate) fn add_behind(
-    kept: &mut Channel,
-    further: &Channel,
-) -> Result<Option<Finding>, TooLarge>
+pub(crate) fn add_behind(kept: &mut Channel, further: &Channel) -> Result<Option<Finding>, TooLarge>
     ensures value { OnOk result (kept.new ≡ channel_behind kept.old further.now) }
     ensures border { IfOk result
         (λ found. found ≡ border_of (tail_in kept.old.findings) (head_in further.now.findings)) }

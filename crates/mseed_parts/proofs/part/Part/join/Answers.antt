@@ -21,7 +21,8 @@ loop-codes-init g c =
     subst (λ (rest : Entries). InTurn c.args.self c.args.other.now c.args.self rest) (sym are)
     (turns_begin c.args.self c.args.other.now
     (subst (λ (fs : Entries). IsAscending fs) are (by_key_ascends ps es c.other.invariant.0))) in (
-      subst (λ (qs : List (List ℕ × ℕ)). InTurn c.args.self c.args.other.now c.args.self (by_key qs es)) (sym all) begun,
+      subst (λ (qs : List (List ℕ × ℕ)). InTurn c.args.self c.args.other.now c.args.self (by_key qs es)) (sym all)
+          begun,
       subst (λ (qs : List (List ℕ × ℕ)). All (λ i. i < length es) (values_of qs)) (sym all)
           c.other.invariant.0.places.within,
     )
