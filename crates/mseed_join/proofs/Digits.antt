@@ -7,7 +7,7 @@ use Rattle.std.specs.Fmt.{signed_decimal}
 use Rattle.std.specs.Cmp.Lexicographic.{pointwise, same_text}
 use Rattle.std.proofs.lemmas.Bool.Decides.{nat_tests}
 use Rattle.std.proofs.lemmas.Fmt.{decimal_digit, decimal_step_wide, decimal_by_steps_wide}
-use Rattle.std.proofs.lemmas.List.{take-append-drop, drop_more, drop_all}
+use Rattle.std.proofs.lemmas.List.{take-append-drop, drop_more}
 use Rattle.std.proofs.Math.Nat.{pow-le-pow_right, pow-succ'}
 use Rattle.mseed_join.specs.private.Reading.{◌>>=◌, after, is_digit, more_at, within, number_at, negated, integer_at}
 
@@ -218,14 +218,6 @@ passes n d most (b ∷ bs) all l e is big same =
     omega (arith, first, grows (10 * n + (b - 48)) bs, big, is)
 
 -- ---- digits that fit for sure
--- so many digits, and room for one more
-pub has_room : (n count few : ℕ) → n < 10 ^ (count + 1) → count < few → few ≤ 18 → n < 10 ^ 18
-has_room n count few small less l =
-    let few_digits : count + 1 ≤ 18 = omega (arith, less, l) in
-    let some : 0 < 10 = omega arith in
-    let most : 10 ^ (count + 1) ≤ 10 ^ 18 = pow-le-pow_right some few_digits in
-    omega (arith, small, most)
-
 pub stays_small : (n count digit : ℕ) → n < 10 ^ (count + 1) → digit < 10
     → 10 * n + digit < 10 ^ (count + 1 + 1)
 stays_small n count digit small l =
@@ -240,11 +232,29 @@ read_on n count bytes l e =
     sym (ap (λ (xs : List ℕ). more_at n xs) (drop_more bytes count 0 l)
     ∙ one_more n (get_or bytes count 0) (drop (count + 1) bytes) e)
 
--- no byte more
-pub read_all : (n count : ℕ) (bytes : List ℕ) → length bytes ≤ count
-    → more_at n (drop count bytes) ≡ (n, drop count bytes)
-read_all n count bytes l =
-    subst (λ (xs : List ℕ). more_at n xs ≡ (n, xs)) (sym (drop_all count bytes l)) refl
+-- so many digits, and room for one more
+pub has_one : (n count : ℕ) → n < 10 ^ (count + 1) → count + 1 ≤ 16 → n < 10 ^ 16
+has_one n count small l =
+    let some : 0 < 10 = omega arith in
+    let most : 10 ^ (count + 1) ≤ 10 ^ 16 = pow-le-pow_right some l in
+    omega (arith, small, most)
+
+pub has_two : (n count digit : ℕ) → n < 10 ^ (count + 1) → digit < 10 → count + 2 ≤ 16 → 10 * n + digit < 10 ^ 16
+has_two n count digit small d l =
+    has_one (10 * n + digit) (count + 1) (stays_small n count digit small d) (omega (arith, l))
+
+-- a number whose first digit isn't 0, with further digits
+pub number_on : (largest n count first : ℕ) (bytes tail : List ℕ) → 1 ≤ length bytes → (get_or bytes 0 0 ≡ 48 → ⊥)
+    → is_digit (get_or bytes 0 0) ≡ true → tail ≡ drop 1 bytes → first ≡ get_or bytes 0 0 - 48
+    → more_at n (drop count tail) ≡ more_at first tail
+    → number_at largest bytes ≡ within largest (more_at n (drop (count + 1) bytes))
+number_on largest n count first [] tail some other digit behind is more = absurd (omega (arith, some))
+number_on largest n count first (b ∷ bs) tail some other digit behind is more =
+    let next : suc count ≡ count + 1 = omega arith in
+    number_from largest b bs (omega (arith, is_low b digit, other)) (is_high b digit)
+    ∙ ap (λ (x : ℕ × List ℕ). within largest x)
+    ((λ i. more_at (sym is i) (sym behind i)) ∙ sym more ∙ ap (λ (xs : List ℕ). more_at n (drop count xs)) behind
+    ∙ ap (λ (k : ℕ). more_at n (drop k (b ∷ bs))) next)
 
 -- the first digit of a number
 pub record Begins (n : ℕ) : Type 0 where

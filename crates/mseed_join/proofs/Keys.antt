@@ -1,10 +1,10 @@
 -- Keys: their digits.
 use Rattle.std.proofs.Common.{◌≡◌, ℕ, zero, suc, ◌+◌, ◌-◌, ◌*◌, ◌/◌, ◌%◌, ◌^◌, ◌<◌, ◌≤◌, ◌&&◌, nat_le, nat_lt, List, []}
-use Rattle.std.proofs.Common.{◌∷◌, ◌++◌, Bool, true, false, cond, Option, Some, None, length, get_or, take, set, refl}
+use Rattle.std.proofs.Common.{◌∷◌, ◌++◌, Bool, true, false, cond, Option, Some, None, length, get_or, take, refl}
 use Rattle.std.proofs.Common.{sym, ap, ◌∙◌, subst, arith, append_assoc, append-nil}
 use Rattle.std.specs.List.{AllByRecursion}
 use Rattle.std.proofs.lemmas.Bool.Decides.{nat_tests}
-use Rattle.std.proofs.lemmas.List.{take_more, take_more_set}
+use Rattle.std.proofs.lemmas.List.{take_more}
 use Rattle.mseed_join.specs.Lines.{hex_digit, key_text}
 use Rattle.mseed_join.specs.private.Reading.{◌>>=◌, is_digit, nibble_of, byte_at, bytes_at, key_at}
 use Rattle.mseed_join.proofs.Digits.{some_is}
@@ -147,17 +147,6 @@ key_spelled bytes x e =
       long = ap (λ (k : List ℕ). length k) m.all ∙ m.long;
       small = subst AreBytes (sym m.all) m.small;
     }
-
--- one turn of reading a key
-pub key_more : (index byte : ℕ) (key bytes rest others : List ℕ) → index < 12 → length key ≡ 12
-    → byte_at rest ≡ Some (byte, others)
-    → bytes_at (12 - index) (take index key) rest ≡ bytes_at 12 [] bytes
-    → bytes_at (12 - (index + 1)) (take (index + 1) (set key index byte)) others ≡ bytes_at 12 [] bytes
-key_more index byte key bytes rest others l long e before =
-    let left : 12 - index ≡ suc (12 - (index + 1)) = omega (arith, l) in
-    ap (λ (xs : List ℕ). bytes_at (12 - (index + 1)) xs others) (take_more_set key index byte (omega (arith, l, long)))
-    ∙ sym (ap (λ (o : Option (ℕ × List ℕ)). o >>= λ x. bytes_at (12 - (index + 1)) (take index key ++ x.0 ∷ []) x.1) e)
-    ∙ ap (λ (n : ℕ). bytes_at n (take index key) rest) (sym left) ∙ before
 
 -- ---- writing
 key_snoc : (key : List ℕ) (b : ℕ)

@@ -8,6 +8,9 @@ pub mod Clean
 pub mod CutParts
 pub mod Cuts
 pub mod Digits
+pub mod DigitLanes
+pub mod HexLanes
+pub mod HexPairs
 pub mod Each
 pub mod Ended
 pub mod Faults
@@ -37,4 +40,3 @@ pub mod Sums
 pub mod Taken
 pub mod Together
 pub mod Verdicts
-pub mod Words

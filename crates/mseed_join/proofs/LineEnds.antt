@@ -76,17 +76,17 @@ pub no_end_in_both : (before more : List ℕ) → HasNoEnd before → HasNoEnd m
 no_end_in_both [] more _ lacks = lacks
 no_end_in_both (b ∷ bs) more lacks lacks_more = (lacks.0, no_end_in_both bs more lacks.1 lacks_more)
 
--- as far on as the first LF of the sixteen bytes at a place
-pub no_end_farther : (bytes : List ℕ) (at place : ℕ) → at + 16 ≤ length bytes → HasNoEnd (take at bytes)
-    → place ≡ first_end (take 16 (drop at bytes)) → (place ≤ 16) × HasNoEnd (take (at + place) bytes)
+-- as far on as the first LF of the thirty-two bytes at a place
+pub no_end_farther : (bytes : List ℕ) (at place : ℕ) → at + 32 ≤ length bytes → HasNoEnd (take at bytes)
+    → place ≡ first_end (take 32 (drop at bytes)) → (place ≤ 32) × HasNoEnd (take (at + place) bytes)
 no_end_farther bytes at place within lacks found =
-    let long : length (take 16 (drop at bytes)) ≡ 16 = length-chunk at 16 bytes within in
-    let few : place ≤ 16 =
-    omega (arith, found, long, prefix_len-le-length (λ b. not (b == 10)) (take 16 (drop at bytes))) in
+    let long : length (take 32 (drop at bytes)) ≡ 32 = length-chunk at 32 bytes within in
+    let few : place ≤ 32 =
+    omega (arith, found, long, prefix_len-le-length (λ b. not (b == 10)) (take 32 (drop at bytes))) in
     let more : HasNoEnd (take place (drop at bytes)) =
-    subst HasNoEnd (take-take place 16 (drop at bytes) few)
-    (subst (λ (n : ℕ). HasNoEnd (take n (take 16 (drop at bytes)))) (sym found)
-    (none_before (take 16 (drop at bytes)))) in (
+    subst HasNoEnd (take-take place 32 (drop at bytes) few)
+    (subst (λ (n : ℕ). HasNoEnd (take n (take 32 (drop at bytes)))) (sym found)
+    (none_before (take 32 (drop at bytes)))) in (
       few,
       subst HasNoEnd (sym (take-add at place bytes)) (no_end_in_both _ _ lacks more),
     )
@@ -144,26 +144,26 @@ nowhere_behind bytes at within lacks nowhere =
 -- what a vector's comparison with LF tells
 abbrev ends_mask : List ℕ → ℕ
 ends_mask lanes =
-    mask_l (map (top 7) (zip2 (λ a b. cond (a == b) 255 0) lanes (replicate 16 10))) % 18446744073709551616
+    mask_l (map (top 7) (zip2 (λ a b. cond (a == b) 255 0) lanes (replicate 32 10))) % 18446744073709551616
 
-mask_is : (bytes : List ℕ) (at : ℕ) → at + 16 ≤ length bytes
-    → ends_mask (take 16 (drop at bytes)) ≡ mask_l (map (λ b. b == 10) (take 16 (drop at bytes)))
+mask_is : (bytes : List ℕ) (at : ℕ) → at + 32 ≤ length bytes
+    → ends_mask (take 32 (drop at bytes)) ≡ mask_l (map (λ b. b == 10) (take 32 (drop at bytes)))
 mask_is bytes at within =
-    bitmask_splat w8 (λ a b. a == b) (take 16 (drop at bytes)) 16 10 (length-chunk at 16 bytes within) (omega arith)
+    bitmask_splat w8 (λ a b. a == b) (take 32 (drop at bytes)) 32 10 (length-chunk at 32 bytes within) (omega arith)
 
-pub lanes_without_end : (bytes : List ℕ) (at : ℕ) → at + 16 ≤ length bytes → ends_mask (take 16 (drop at bytes)) ≡ 0
-    → 16 ≡ first_end (take 16 (drop at bytes))
+pub lanes_without_end : (bytes : List ℕ) (at : ℕ) → at + 32 ≤ length bytes → ends_mask (take 32 (drop at bytes)) ≡ 0
+    → 32 ≡ first_end (take 32 (drop at bytes))
 lanes_without_end bytes at within empty = sym (
-    leading_from_mask_l (λ b. b == 10) (take 16 (drop at bytes)) (sym (mask_is bytes at within) ∙ empty)
-    ∙ length-chunk at 16 bytes within
+    leading_from_mask_l (λ b. b == 10) (take 32 (drop at bytes)) (sym (mask_is bytes at within) ∙ empty)
+    ∙ length-chunk at 32 bytes within
     )
 
-pub lanes_with_end : (bytes : List ℕ) (at : ℕ) → at + 16 ≤ length bytes → ends_mask (take 16 (drop at bytes)) ≢ 0
-    → count_trailing_zeros 64 (ends_mask (take 16 (drop at bytes))) ≡ first_end (take 16 (drop at bytes))
+pub lanes_with_end : (bytes : List ℕ) (at : ℕ) → at + 32 ≤ length bytes → ends_mask (take 32 (drop at bytes)) ≢ 0
+    → count_trailing_zeros 64 (ends_mask (take 32 (drop at bytes))) ≡ first_end (take 32 (drop at bytes))
 lanes_with_end bytes at within some =
     ap (count_trailing_zeros 64) (mask_is bytes at within)
-    ∙ trailing_mask_l (λ b. b == 10) 64 (take 16 (drop at bytes))
-    (omega (arith, length-chunk at 16 bytes within)) (omega (arith, mask_is bytes at within, some))
+    ∙ trailing_mask_l (λ b. b == 10) 64 (take 32 (drop at bytes))
+    (omega (arith, length-chunk at 32 bytes within)) (omega (arith, mask_is bytes at within, some))
 
 -- among the first 512 bytes
 pub line_found : (bytes : List ℕ) (n k : ℕ) → n ≡ min (length bytes) 512

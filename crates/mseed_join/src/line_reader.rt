@@ -26,7 +26,7 @@ const ROOM: usize = 1 << 16;
 const LONGEST: usize = 512;
 
 /// So many bytes are compared at once.
-const LANES: usize = 16;
+const LANES: usize = 32;
 
 /// What lies ahead of a reader of lines.
 #[derive(Clone, Copy)]
@@ -283,7 +283,7 @@ fn place_one_by_one(bytes: &[u8]) -> Option<usize>
     bytes.iter().position(|b| *b == b'\n')
 }
 
-/// How many bytes from the start are told to hold no LF: all before the first, or all but the last fifteen at most.
+/// How many bytes from the start are told to hold no LF: all before the first, or all but the last thirty-one at most.
 #[tactic(auto, using(crate::proofs::LineEnds::no_end_farther))]
 fn pass_lanes(bytes: &[u8]) -> usize
     ensures within { result ≤ length bytes.now }
@@ -300,13 +300,13 @@ fn pass_lanes(bytes: &[u8]) -> usize
     at
 }
 
-/// The place of the first LF among the sixteen bytes from `at` on, or 16 where none is one.
+/// The place of the first LF among the thirty-two bytes from `at` on, or 32 where none is one.
 fn place_in_lanes(bytes: &[u8], at: usize) -> usize
-    requires { at + 16 ≤ length bytes.now }
-    ensures { result ≡ position_or_len (λ b. b == 10) (take 16 (drop at bytes.now)) }
+    requires { at + 32 ≤ length bytes.now }
+    ensures { result ≡ position_or_len (λ b. b == 10) (take 32 (drop at bytes.now)) }
 {
-    let ends = u8x16::from_slice(&bytes[at..])
-        .simd_eq(u8x16::splat(b'\n'))
+    let ends = u8x32::from_slice(&bytes[at..])
+        .simd_eq(u8x32::splat(b'\n'))
         .to_bitmask();
     if ends == 0 {
         return LANES;

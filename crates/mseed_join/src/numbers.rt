@@ -1,38 +1,36 @@
 //! Words and numbers at the start of a text.
 ghost use Rattle.std.specs.Prelude.{◌≡◌, ◌≢◌, ◌+◌, ◌-◌, ◌*◌, ◌≤◌, ◌<◌, ◌^◌, ℕ, IfSome, IfNone, nat_le, pos, neg_ℤ};
-ghost use Rattle.std.specs.Prelude.{◌≤ℤ◌, drop, length};
+ghost use Rattle.std.specs.Prelude.{◌≤ℤ◌, drop, get_or, length, true, false};
 ghost use Rattle.std.specs.Option.{option_map};
 ghost use Rattle.mseed_join.specs.private.Reading.{after, behind_at, number_at, integer_at, more_at, is_digit};
 ghost use Rattle.mseed_join.specs.private.Reading.{within};
 
-/// So many digits behind a first fit for sure.
-const FEW: usize = 18;
+use std::simd::prelude::*;
+
+/// So many digits behind a first fit for sure, and are looked for at once.
+const FEW: usize = 16;
 
 /// No number of a part is larger, but the microseconds of a gap or an overlap.
 pub(crate) const LIMIT: u64 = 0x7fff_ffff_ffff_ffff;
 
-/// The bytes behind a word, if they begin with it. The words are short and known where they are looked for: there the
-/// loop comes out as a comparison with each letter.
+/// The bytes behind a word, if they begin with it.
 #[inline(always)]
-pub(crate) fn after<'a>(word: &[u8], bytes: &'a [u8]) -> Option<&'a [u8]>
+pub(crate) fn after<'a, const N: usize>(word: &[u8; N], bytes: &'a [u8]) -> Option<&'a [u8]>
     ensures { option_map (λ rest. rest.now) result ≡ after word.now bytes.now }
 {
-    if bytes.len() < word.len() {
-        return None;
+    match bytes.split_first_chunk::<N>() {
+        Some((first, rest)) if *first == *word => Some(rest),
+        _ => None,
     }
-    let mut count = 0;
-    while count < word.len() {
-        if bytes[count] != word[count] {
-            return None;
-        }
-        count += 1;
-    }
-    Some(&bytes[word.len()..])
 }
 
 /// The number behind a word, which is at most so large.
 #[inline(always)]
-pub(crate) fn behind_at<'a>(word: &[u8], largest: u64, bytes: &'a [u8]) -> Option<(u64, &'a [u8])>
+pub(crate) fn behind_at<'a, const N: usize>(
+    word: &[u8; N],
+    largest: u64,
+    bytes: &'a [u8],
+) -> Option<(u64, &'a [u8])>
     ensures value { option_map (λ x. (x.0, x.1.now)) result ≡ behind_at word.now largest bytes.now }
     ensures bounded { IfSome result (λ x. x.0 ≤ largest) }
 {
@@ -47,53 +45,151 @@ pub(crate) fn number_at(largest: u64, bytes: &[u8]) -> Option<(u64, &[u8])>
     ensures value { option_map (λ x. (x.0, x.1.now)) result ≡ number_at largest bytes.now }
     ensures bounded { IfSome result (λ x. x.0 ≤ largest) }
 {
+    let (number, count) = leading_at(bytes);
+    if count == 0 {
+        return None;
+    }
+    let rest = &bytes[count..];
+    if count > FEW {
+        return long_at(largest, number, rest);
+    }
+    if number <= largest {
+        Some((number, rest))
+    } else {
+        None
+    }
+}
+
+/// What the first digits make, and how many they are: none where no number begins here, one where it is 0, and 17 where
+/// it may go on.
+#[inline(never)]
+#[tactic(auto, unfolding(crate::specs::private::Reading::number_at))]
+fn leading_at(bytes: &[u8]) -> (u64, usize)
+    ensures within { result.1 ≤ length bytes.now }
+    ensures few { result.1 ≤ 17 }
+    ensures none { result.1 ≡ 0 → (largest : ℕ) → number_at largest bytes.now ≡ None }
+    ensures value { 0 < result.1 → result.1 < 17 → (largest : ℕ)
+        → number_at largest bytes.now ≡ within largest (result.0, drop result.1 bytes.now) }
+    ensures long { result.1 ≡ 17 → (largest : ℕ)
+        → number_at largest bytes.now ≡ within largest (more_at result.0 (drop result.1 bytes.now)) }
+{
     match bytes {
-        [] => None,
+        [] => (0, 0),
         [first, rest @ ..] => {
             if *first == b'0' {
-                return Some((0, rest));
+                return (0, 1);
             }
             if !is_digit(*first) {
-                return None;
+                return (0, 0);
             }
             let (number, count) = few_more_at(u64::from(*first - b'0'), rest);
-            let rest = &rest[count..];
-            if count == FEW {
-                return long_at(largest, number, rest);
-            }
-            if number <= largest {
-                Some((number, rest))
-            } else {
-                None
-            }
+            (number, count + 1)
         }
     }
 }
 
-/// What up to 18 further digits make of a number of one digit, and how many they are.
+/// What up to 16 further digits make of a number of one digit, and how many they are.
 #[inline(always)]
 fn few_more_at(first: u64, bytes: &[u8]) -> (u64, usize)
     requires { first < 10 }
     ensures within { result.1 ≤ length bytes.now }
+    ensures few { result.1 ≤ 16 }
     ensures value { more_at result.0 (drop result.1 bytes.now) ≡ more_at first bytes.now }
-    ensures whole { result.1 ≢ 18
+    ensures whole { result.1 ≢ 16
         → more_at result.0 (drop result.1 bytes.now) ≡ (result.0, drop result.1 bytes.now) }
 {
-    let few = bytes.len().min(FEW);
+    let digits = digits_ahead(bytes);
     let mut number = first;
     let mut count = 0;
-    while count < few {
-        let byte = bytes[count];
-        if !is_digit(byte) {
-            return (number, count);
-        }
-        number = 10 * number + u64::from(byte - b'0');
-        count += 1;
+    while 4 <= digits - count {
+        number = with_two(with_two(number, bytes, count), bytes, count + 2);
+        count += 4;
     }
-    (number, count)
+    (with_rest(number, bytes, count, digits), digits)
 }
 
-/// A number that begins with these nineteen digits, if it is at most so large, and the bytes behind it.
+/// A number with up to three more digits.
+#[inline(always)]
+fn with_rest(number: u64, bytes: &[u8], count: usize, digits: usize) -> u64
+    requires small { number < 10 ^ (count + 1) }
+    requires few { digits ≤ 16 }
+    requires within { digits ≤ length bytes.now }
+    requires digits { (k : ℕ) → k < digits → is_digit (get_or bytes.now k 0) ≡ true }
+    requires before { count ≤ digits }
+    requires near { digits < count + 4 }
+    ensures { more_at result (drop digits bytes.now) ≡ more_at number (drop count bytes.now) }
+{
+    let left = digits - count;
+    if left == 0 {
+        number
+    } else if left == 1 {
+        with_digit(number, bytes[count])
+    } else if left == 2 {
+        with_two(number, bytes, count)
+    } else {
+        with_digit(with_two(number, bytes, count), bytes[count + 2])
+    }
+}
+
+/// A number with two more digits.
+#[inline(always)]
+fn with_two(number: u64, bytes: &[u8], count: usize) -> u64
+    requires small { number < 10 ^ (count + 1) }
+    requires few { count + 2 ≤ 16 }
+    requires within { count + 2 ≤ length bytes.now }
+    requires digits { (k : ℕ) → k < count + 2 → is_digit (get_or bytes.now k 0) ≡ true }
+    ensures small { result < 10 ^ (count + 2 + 1) }
+    ensures value { more_at result (drop (count + 2) bytes.now) ≡ more_at number (drop count bytes.now) }
+{
+    with_digit(with_digit(number, bytes[count]), bytes[count + 1])
+}
+
+/// A number with one more digit.
+#[inline(always)]
+fn with_digit(number: u64, digit: u8) -> u64
+    requires small { number < 10 ^ 16 }
+    requires digit { is_digit digit ≡ true }
+    ensures { result ≡ 10 * number + (digit - 48) }
+{
+    10 * number + u64::from(digit) - u64::from(b'0')
+}
+
+/// How many bytes are digits before the first that isn't one, or 16 where so many are.
+#[inline(always)]
+fn digits_ahead(bytes: &[u8]) -> usize
+    ensures within { result ≤ length bytes.now }
+    ensures few { result ≤ 16 }
+    ensures digits { (k : ℕ) → k < result → is_digit (get_or bytes.now k 0) ≡ true }
+    ensures ends { result ≢ 16 → result < length bytes.now → is_digit (get_or bytes.now result 0) ≡ false }
+{
+    if bytes.len() < FEW {
+        return digits_one_by_one(bytes);
+    }
+    let others = (u8x16::from_slice(bytes) - u8x16::splat(b'0'))
+        .simd_gt(u8x16::splat(9))
+        .to_bitmask();
+    if others == 0 {
+        return FEW;
+    }
+    others.trailing_zeros() as usize
+}
+
+/// The same of fewer bytes.
+#[inline(always)]
+fn digits_one_by_one(bytes: &[u8]) -> usize
+    requires { length bytes.now < 16 }
+    ensures within { result ≤ length bytes.now }
+    ensures digits { (k : ℕ) → k < result → is_digit (get_or bytes.now k 0) ≡ true }
+    ensures ends { result < length bytes.now → is_digit (get_or bytes.now result 0) ≡ false }
+{
+    let mut count = 0;
+    while count < bytes.len() && is_digit(bytes[count]) {
+        count += 1;
+    }
+    count
+}
+
+/// A number that begins with these seventeen digits, if it is at most so large, and the bytes behind it.
 #[cold]
 fn long_at(largest: u64, number: u64, bytes: &[u8]) -> Option<(u64, &[u8])>
     ensures value { option_map (λ x. (x.0, x.1.now)) result ≡ within largest (more_at number bytes.now) }

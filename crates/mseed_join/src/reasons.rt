@@ -102,7 +102,7 @@ fn timed_at(bytes: &[u8]) -> Option<(Why, &[u8])>
 }
 
 /// So many microseconds behind a word, and the bytes behind them.
-fn micros_at<'a>(word: &[u8], bytes: &'a [u8]) -> Option<(u128, &'a [u8])>
+fn micros_at<'a, const N: usize>(word: &[u8; N], bytes: &'a [u8]) -> Option<(u128, &'a [u8])>
     ensures { option_map (λ x. (x.0, x.1.now)) result ≡ behind_at word.now (2 ^ 128 - 1) bytes.now }
 {
     let rest = after(word, bytes)?;

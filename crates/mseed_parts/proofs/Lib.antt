@@ -3,6 +3,7 @@ pub mod Associative
 pub mod Behind
 pub mod Extended
 pub mod Joined
+pub mod Keeping
 pub mod Merging
 pub mod Moving
 pub mod Noticing

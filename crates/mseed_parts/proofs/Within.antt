@@ -2,12 +2,8 @@
 use Rattle.std.proofs.Common.{◌≡◌, ◌↔◌, ◌<◌, ◌+◌, ◌^◌, ℕ, List, Option, Some, None, Result, Ok, Err, refl, sym, subst}
 use Rattle.std.proofs.Common.{arith}
 use Rattle.std.specs.Prelude.{⊤, IfSome, OnOk, OnErr, IsOk}
-use Rattle.std.specs.Map.{set_value}
 use Rattle.std.specs.Option.{option_map}
-use Rattle.std.proofs.lemmas.Map.Views.{All-values-set_value, All-values-insert_entry, IfSome-lookup_from_All}
-use Rattle.std.specs.BTreeMap.{insert_entry}
-use Rattle.std.specs.Ordering.{nat_cmp}
-use Rattle.std.specs.Cmp.Lexicographic.{slice_cmp}
+use Rattle.std.proofs.lemmas.Map.Views.{IfSome-lookup_from_All}
 use Rattle.mseed_audit.specs.declared.finding.Finding.{Finding}
 use Rattle.mseed_audit.specs.declared.finding.Why.{Why}
 use Rattle.mseed_audit.specs.Channels.{same_key}
@@ -20,7 +16,7 @@ use Rattle.mseed_parts.specs.declared.part.JoinFault.{JoinFault}
 use Rattle.mseed_parts.specs.Joining.{moved_head, moved_findings, moved_channel, border_why, found_at, border_of}
 use Rattle.mseed_parts.specs.Joining.{findings_with, channel_behind}
 use Rattle.mseed_audit.specs.Audit.{head_in, tail_in}
-use Rattle.mseed_parts.specs.Parts.{HeadFits, FirstFits, Moves, CountsFit, IsWithin, AreWithin, kept_of}
+use Rattle.mseed_parts.specs.Parts.{HeadFits, FirstFits, Moves, CountFits, CountsFit, IsWithin, AreWithin, kept_of}
 use Rattle.mseed_parts.proofs.Adding.{Entries}
 use Rattle.mseed_parts.proofs.Behind.{head_with}
 
@@ -79,14 +75,12 @@ within_there key es c is all =
     subst (λ (o : Option Channel). IfSome o (λ (x : Channel). IsWithin x)) (sym is)
     (IfSome-lookup_from_All (λ (x : Channel). IsWithin x) (same_key key) es all)
 
--- a channel that is there, in its place
-pub set_within : (d e : ℕ) (key : List ℕ) (es fs : Entries) (c o m after : Channel)
+-- a channel that is there, with what is joined to it
+pub after_within : (d e : ℕ) (key : List ℕ) (es : Entries) (c o m after : Channel)
     (r : Result (Option Finding) JoinFault) → Some c ≡ kept_of key es → AreWithin es → Moves d e o
     → m ≡ moved_channel d e o → IsOk r ↔ CountsFit (channel_behind c m) → OnOk r (after ≡ channel_behind c m)
-    → OnErr r (after ≡ c) → fs ≡ set_value (same_key key) es after → AreWithin fs
-set_within d e key es fs c o m after r there all moves is fits ok err e' =
-    subst (λ (gs : Entries). AreWithin gs) (sym e')
-    (All-values-set_value (same_key key) (λ (x : Channel). IsWithin x) es after all (by r fits ok err))
+    → OnErr r (after ≡ c) → IsWithin after
+after_within d e key es c o m after r there all moves is fits ok err = by r fits ok err
   where
     before : IsWithin c
     before = within_there key es c there all
@@ -100,11 +94,16 @@ set_within d e key es fs c o m after r there all moves is fits ok err e' =
     by (Err fault) f g h = subst (λ (x : Channel). IsWithin x) (sym h) before
 
 -- a new one
-pub new_within : (d e : ℕ) (key : List ℕ) (es old fs : Entries) (o m : Channel) → old ≡ es → AreWithin es
-    → Moves d e o → m ≡ moved_channel d e o → CountsFit m → fs ≡ insert_entry (slice_cmp nat_cmp) old key m
-    → AreWithin fs
-new_within d e key es old fs o m same all moves is counts e' =
-    let here : IsWithin m = (counts, subst (λ (x : Channel). Moves 0 0 x) (sym is) (moved_fits d e o.findings moves)) in
-    let there : AreWithin old = subst (λ (gs : Entries). AreWithin gs) (sym same) all in
-    subst (λ (gs : Entries). AreWithin gs) (sym e')
-    (All-values-insert_entry (slice_cmp nat_cmp) key m (λ (x : Channel). IsWithin x) old there here)
+pub new_within : (d e : ℕ) (o m : Channel) → Moves d e o → m ≡ moved_channel d e o → CountsFit m → IsWithin m
+new_within d e o m moves is counts =
+    (counts, subst (λ (x : Channel). Moves 0 0 x) (sym is) (moved_fits d e o.findings moves))
+
+count_before : (d e : ℕ) (f : Findings) → CountFits (moved_findings d e f) → CountFits f
+count_before d e (Nothing head tail) fits = tt
+count_before d e (Counted count first head tail) fits = fits
+
+-- what goes up keeps its counts
+pub counts_before : (d e : ℕ) (o m : Channel) → m ≡ moved_channel d e o → CountsFit m → CountsFit o
+counts_before d e o m is counts =
+    let moved : CountsFit (moved_channel d e o) = subst (λ (x : Channel). CountsFit x) is counts in
+    (moved.0, moved.1, count_before d e o.findings moved.2)

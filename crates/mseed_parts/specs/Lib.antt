@@ -2,3 +2,4 @@ pub mod Borders
 pub mod Joining
 pub mod Notices
 pub mod Parts
+pub mod private

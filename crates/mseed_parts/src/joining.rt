@@ -1,5 +1,5 @@
 //! How what is kept of a channel is joined with what is kept of its further records.
-ghost use Rattle.std.specs.Prelude.{◌≡◌, ◌↔◌, ◌<◌, ◌+◌, ◌^◌, length, IsOk, IfOk, IsTrue};
+ghost use Rattle.std.specs.Prelude.{◌≡◌, ◌↔◌, ◌<◌, ◌+◌, ◌^◌, length, IsOk, IfOk, IsTrue, OnErr, OnOk};
 ghost use Rattle.std.specs.Option.{option_map, option_to_list};
 ghost use Rattle.mseed_audit.specs.declared.channel.Findings.TheVariants.{Nothing};
 ghost use Rattle.mseed_parts.specs.Joining.{moved_head, moved_findings, moved_channel};
@@ -23,9 +23,10 @@ pub(crate) fn sum(a: u64, b: u64) -> Result<u64, TooLarge>
     ensures value { IfOk result (λ n. n ≡ a + b) }
     ensures fits { IsOk result ↔ a + b < 2 ^ 63 }
 {
-    match a.checked_add(b) {
-        Some(n) => { if n <= LARGEST { Ok(n) } else { Err(TooLarge) } }
-        None => Err(TooLarge),
+    if a <= LARGEST && b <= LARGEST - a {
+        Ok(a + b)
+    } else {
+        Err(TooLarge)
     }
 }
 
@@ -126,36 +127,35 @@ fn with_first(head: Head, further: &Findings, border: Option<Finding>) -> Result
     }
 }
 
-/// The findings of both, with what is found between them.
+/// Puts the findings of further records, and what is found before them, behind those of a channel.
 #[inline(always)]
-fn with(
-    findings: &Findings,
+fn put_findings(
+    kept: &mut Findings,
     further: &Findings,
     border: Option<Finding>,
-) -> Result<Findings, TooLarge>
-    ensures value { IfOk result (λ f. f ≡ findings_with findings.now further.now border) }
-    ensures fits { IsOk result ↔ CountFits (findings_with findings.now further.now border) }
+) -> Result<(), TooLarge>
+    ensures value { OnOk result (kept.new ≡ findings_with kept.old further.now border) }
+    ensures fits { IsOk result ↔ CountFits (findings_with kept.old further.now border) }
+    ensures unchanged { OnErr result (kept.new ≡ kept.old) }
 {
-    match *findings {
-        Findings::Nothing { head, .. } => with_first(head, further, border),
-        Findings::Counted {
-            count,
-            first,
-            head,
-            ..
-        } => {
+    match kept {
+        Findings::Nothing { head, tail } => match (*further, border) {
+            (Findings::Nothing { tail: next, .. }, None) => *tail = next,
+            _ => match with_first(*head, further, border) {
+                Ok(joined) => *kept = joined,
+                Err(_) => return Err(TooLarge),
+            },
+        },
+        Findings::Counted { count, tail, .. } => {
             let more = match *further {
                 Findings::Nothing { .. } => 0,
                 Findings::Counted { count, .. } => count,
             };
-            Ok(Findings::Counted {
-                count: sum(count, sum(size_of(border), more)?)?,
-                first,
-                head,
-                tail: further.tail(),
-            })
+            *count = sum(*count, sum(size_of(border), more)?)?;
+            *tail = further.tail();
         }
     }
+    Ok(())
 }
 
 /// How many findings there are between two records.
@@ -165,23 +165,23 @@ fn size_of(border: Option<Finding>) -> u64
     if border.is_some() { 1 } else { 0 }
 }
 
-/// The channel with its further records behind, and what is found between them.
+/// Puts further records behind a channel, and answers what is found between the two. Where a count would pass the
+/// limit, the channel is then as it was.
 #[inline(always)]
-pub(crate) fn behind(
-    channel: &Channel,
-    further: &Channel,
-) -> Result<(Channel, Option<Finding>), TooLarge>
-    ensures value { IfOk result (λ x. x.0 ≡ channel_behind channel.now further.now) }
-    ensures border { IfOk result (λ x. x.1 ≡ border_of (tail_in channel.now.findings) (head_in further.now.findings)) }
-    ensures fits { IsOk result ↔ CountsFit (channel_behind channel.now further.now) }
+pub(crate) fn add_behind(kept: &mut Channel, further: &Channel) -> Result<Option<Finding>, TooLarge>
+    ensures value { OnOk result (kept.new ≡ channel_behind kept.old further.now) }
+    ensures border { IfOk result
+        (λ found. found ≡ border_of (tail_in kept.old.findings) (head_in further.now.findings)) }
+    ensures fits { IsOk result ↔ CountsFit (channel_behind kept.old further.now) }
+    ensures unchanged { OnErr result (kept.new ≡ kept.old) }
 {
-    let border = border_of(channel.findings.tail(), further.findings.head());
-    let joined = Channel {
-        records: sum(channel.records, further.records)?,
-        samples: sum(channel.samples, further.samples)?,
-        findings: with(&channel.findings, &further.findings, border)?,
-    };
-    Ok((joined, border))
+    let border = border_of(kept.findings.tail(), further.findings.head());
+    let records = sum(kept.records, further.records)?;
+    let samples = sum(kept.samples, further.samples)?;
+    put_findings(&mut kept.findings, &further.findings, border)?;
+    kept.records = records;
+    kept.samples = samples;
+    Ok(border)
 }
 
 /// Whether no count of a channel passes the limit.

@@ -3,6 +3,7 @@
 
 mod border;
 mod joining;
+mod kept;
 mod law;
 mod part;
 

@@ -7,11 +7,11 @@ ghost use Rattle.mseed_audit.specs.Audit.{head_in, tail_in};
 ghost use Rattle.mseed_parts.specs.Parts.{IsPartOf, IsJoint, Fits, FitsAt, CountsFit, kept_of, one_channel};
 ghost use Rattle.mseed_parts.specs.Parts.{counts_alone, HasNewChannel, IsAscending, IsSmall};
 
-use crate::joining::{behind, counts_fit, moved, sum};
+use crate::joining::{add_behind, counts_fit, moved, sum};
+use crate::kept::Kept;
 use mseed_audit::{Channel, Finding, Memory, one_finding};
 use mseed_record::Codes;
 use std::alloc::{Allocator, Global};
-use std::collections::BTreeMap;
 use std::marker::Model;
 
 /// Why parts weren't joined.
@@ -29,20 +29,26 @@ pub enum JoinFault {
 /// Contracts see a part as what is `Held`, and say by `IsPartOf` of which records it is the part.
 #[derive(Drop)]
 pub struct Part<A: Allocator = Global> {
-    pub(crate) channels: BTreeMap<Codes, Channel, A>,
+    kept: Kept<A>,
     records: u64,
     bytes: u64,
 }
 
 impl<A: Allocator> Model for Part<A> {
-    ghost use Rattle.mseed_parts.specs.Parts.{Held, IsAscending, IsSmall};
+    ghost use Rattle.std.specs.Prelude.{◌<◌, ◌^◌};
+    ghost use Rattle.mseed_parts.specs.Parts.{Held};
+    ghost use Rattle.mseed_parts.specs.private.Kept.{AreKept, by_key};
 
     ghost Value = { Held };
 
-    ghost view = { λ p. record { channels = p.channels.entries; records = p.records; bytes = p.bytes } };
+    ghost view = { λ p. record {
+      channels = by_key p.kept.places.entries p.kept.channels.items;
+      records = p.records;
+      bytes = p.bytes;
+    } };
 
-    ghost invariant = { λ p. IsAscending p.channels.entries
-        × IsSmall (record { channels = p.channels.entries; records = p.records; bytes = p.bytes }) };
+    ghost invariant = { λ p. AreKept p.kept.places.entries p.kept.channels.items × (p.records < 2 ^ 63)
+        × (p.bytes < 2 ^ 63) };
 }
 
 impl<A: Allocator + Copy> Part<A> {
@@ -51,13 +57,14 @@ impl<A: Allocator + Copy> Part<A> {
         ensures of_none { IsPartOf result [] }
     {
         Part {
-            channels: BTreeMap::new(alloc),
+            kept: Kept::new(alloc),
             records: 0,
             bytes: 0,
         }
     }
 
     /// How many records there are, silent ones too.
+    #[tactic(auto, using(crate::proofs::Keeping::by_key_ascends, crate::proofs::Keeping::by_key_within))]
     pub fn records(&self) -> u64
         ensures value { result ≡ self.now.records }
         // The channels ascend by their keys, and no number passes the limit.
@@ -81,6 +88,7 @@ impl<A: Allocator + Copy> Part<A> {
     ///
     /// `Limit` where a number would pass 2^63 - 1, `Memory` where the channel is new and there was no room for it. The
     /// part is then as it was.
+    #[inline(never)]
     pub fn add_channel(
         &mut self,
         codes: Codes,
@@ -100,15 +108,16 @@ impl<A: Allocator + Copy> Part<A> {
             Ok(further) => further,
             Err(_) => return Err(JoinFault::Limit),
         };
-        if let Some(kept) = self.channels.get_mut(&codes) {
-            return put_behind(kept, &further);
+        if let Some(index) = self.kept.find(codes) {
+            self.kept.last = index;
+            return put_behind(&mut self.kept.channels[index].1, &further);
         }
         if !counts_fit(&further) {
             return Err(JoinFault::Limit);
         }
-        match self.channels.insert(codes, further) {
-            Ok(_) => {}
-            Err(_) => return Err(JoinFault::Memory),
+        match self.kept.keep(codes, further) {
+            Ok(()) => {}
+            Err(Memory) => return Err(JoinFault::Memory),
         }
         Ok(None)
     }
@@ -118,6 +127,7 @@ impl<A: Allocator + Copy> Part<A> {
     /// # Errors
     ///
     /// `Limit` where a count would pass 2^63 - 1. The part is then as it was.
+    #[tactic(auto, using(crate::proofs::Keeping::by_key_ascends))]
     pub fn add_counts(&mut self, records: u64, bytes: u64) -> Result<(), JoinFault>
         ensures joined { OnOk result (IsJoint self.old (counts_alone records bytes) self.new) }
         ensures fits { OnOk result (Fits self.old (counts_alone records bytes)) }
@@ -153,8 +163,9 @@ impl<A: Allocator + Copy> Part<A> {
     {
         one_finding();
         let mut joint = self;
-        for (codes, channel) in other.channels.iter() {
-            match joint.add_channel(*codes, channel) {
+        let kept = &other.kept;
+        for (codes, index) in kept.places.iter() {
+            match joint.add_channel(*codes, &kept.channels[*index].1) {
                 Ok(_) => {}
                 Err(fault) => return Err(fault),
             }
@@ -173,13 +184,18 @@ impl<A: Allocator + Copy> Part<A> {
     pub fn into_channels(self, alloc: A) -> Result<Vec<(Codes, Channel), A>, Memory>
         ensures { IfOk result (λ channels. channels.items ≡ self.channels) }
     {
-        let Part { channels: kept, .. } = self;
-        let mut channels = match Vec::with_capacity(alloc, kept.len()) {
+        let Part { kept, .. } = self;
+        let Kept {
+            channels: held,
+            places,
+            ..
+        } = kept;
+        let mut channels = match Vec::with_capacity(alloc, places.len()) {
             Ok(channels) => channels,
             Err(_) => return Err(Memory),
         };
-        for (codes, channel) in kept {
-            match channels.push((codes, channel)) {
+        for (codes, index) in places {
+            match channels.push((codes, held[index].1)) {
                 Ok(()) => {}
                 Err(_) => unreachable!(),
             }
@@ -198,11 +214,8 @@ fn put_behind(kept: &mut Channel, further: &Channel) -> Result<Option<Finding>, 
     ensures fault { IfErr result (λ fault. fault ≡ JoinFault.Limit) }
     ensures unchanged { OnErr result (kept.new ≡ kept.old) }
 {
-    match behind(kept, further) {
-        Ok((joined, border)) => {
-            *kept = joined;
-            Ok(border)
-        }
+    match add_behind(kept, further) {
+        Ok(border) => Ok(border),
         Err(_) => Err(JoinFault::Limit),
     }
 }

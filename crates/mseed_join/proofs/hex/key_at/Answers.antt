@@ -1,14 +1,41 @@
-use Rattle.std.proofs.Common.{◌≡◌, ◌∙◌, length, Some, rules}
-use Rattle.std.proofs.lemmas.List.{length-set}
-use Rattle.mseed_join.specs.private.Reading.{byte_at}
-use Rattle.mseed_join.proofs.Keys.{key_more}
+use Rattle.std.proofs.Common.{◌≡◌, ◌∙◌, ℕ, List, [], ◌++◌, Some, drop, length, sym, ap, arith, rules}
+use Rattle.std.specs.Option.{option_map}
+use Rattle.mseed_join.specs.private.Reading.{bytes_at}
+use Rattle.mseed_join.proofs.HexPairs.{behind, eight_read, four_whole, key_read, too_few}
 use Rattle.mseed_join.proofs.hex.key_at.Goals as goal
 
-pub loop-index-preserved : goal.loop-index-preserved
-loop-index-preserved c =
-    let long : length c.loop-index.key ≡ 12 = c.loop-index.invariant.0 in
-    let read : byte_at c.loop-index.rest.now ≡ Some (c.in_ok-byte.byte, c.in_ok-byte.others.now) = search rules in (
-      length-set c.loop-index.key c.loop-index.index c.in_ok-byte.byte ∙ long,
-      key_more c.loop-index.index c.in_ok-byte.byte c.loop-index.key c.args.bytes.now c.loop-index.rest.now
-          c.in_ok-byte.others.now c.loop-index-test.true long read c.loop-index.invariant.1,
-    )
+pub returns-then-bytes-lt-DIGITS : goal.returns-then-bytes-lt-DIGITS
+returns-then-bytes-lt-DIGITS c =
+    sym (too_few 12 [] c.args.bytes.now (omega (arith, c.if-bytes-lt-DIGITS.true)))
+
+pub returns-in_err-a : goal.returns-in_err-a
+returns-in_err-a c =
+    ap (option_map (λ x. (x.0, x.1.now))) c.from_residual.ensures ∙ sym (c.in_err-a.ensures.none 8 [])
+
+pub returns-in_err-e : goal.returns-in_err-e
+returns-in_err-e c =
+    ap (option_map (λ x. (x.0, x.1.now))) c.from_residual-in_err-e.ensures
+    ∙ sym (c.in_ok-a.ensures.some 8 []
+    ∙ ap (λ (xs : List ℕ). bytes_at 8 c.in_ok-a.field-0 xs) (sym (behind c.args.bytes.now 8))
+    ∙ c.in_err-e.ensures.none 4 c.in_ok-a.field-0)
+
+pub returns-in_err-i : goal.returns-in_err-i
+returns-in_err-i c =
+    let two : List ℕ = c.in_ok-a.field-0 ++ c.in_ok-e.field-0 in
+    ap (option_map (λ x. (x.0, x.1.now))) c.from_residual-in_err-i.ensures
+    ∙ sym (eight_read c.args.bytes.now c.in_ok-a.field-0 c.in_ok-e.field-0 c.in_ok-a.ensures.some
+    c.in_ok-e.ensures.some
+    ∙ ap (λ (xs : List ℕ). bytes_at 4 two xs) (sym (behind c.args.bytes.now 16))
+    ∙ c.in_err-i.ensures.none 0 two)
+
+pub returns : goal.returns
+returns c =
+    let x : List ℕ = c.in_ok-a.field-0 in
+    let y : List ℕ = c.in_ok-e.field-0 in
+    let z : List ℕ = c.in_ok-i.field-0 in
+    let a : length x ≡ 4 = search rules in
+    let b : length y ≡ 4 = search rules in
+    let d : length z ≡ 4 = search rules in
+    (λ i. Some (c.of_key.ensures i, behind c.args.bytes.now 24 i))
+    ∙ sym (key_read c.args.bytes.now x y z c.in_ok-a.ensures.some c.in_ok-e.ensures.some c.in_ok-i.ensures.some
+    ∙ (λ i. Some ((four_whole x a i ++ four_whole y b i) ++ four_whole z d i, drop 24 c.args.bytes.now)))

@@ -1,0 +1,22 @@
+use Rattle.std.proofs.Common.{◌≡◌, ◌<◌, Some, List, ℕ, length, get_or, refl, sym, ap, ◌∙◌, subst, rules}
+use Rattle.std.specs.Cmp.Lexicographic.{same_text}
+use Rattle.std.specs.List.{slice_get}
+use Rattle.std.proofs.lemmas.Option.{slice_get_read}
+use Rattle.mseed_audit.specs.declared.channel.Channel.{Channel}
+use Rattle.mseed_audit.specs.Channels.{same_key}
+use Rattle.mseed_audit.specs.private.Kept.{AreApart, place_of}
+use Rattle.mseed_audit.proofs.Apart.{apart_place}
+use Rattle.mseed_parts.proofs.kept.Kept.behind.Goals as goal
+
+pub returns-in-Some : goal.returns-in-Some
+returns-in-Some g c =
+    let es : List (List ℕ × Channel) = c.deref.result.now in
+    let e : List ℕ × Channel = c.in-Some.field-0.now in
+    let next : ℕ = c.if-next-len.next in
+    let within : next < length es = search rules in
+    let at : e ≡ get_or es next e = search rules in
+    let there : slice_get es next ≡ Some e = slice_get_read es (length es) next e refl within at in
+    let apart : AreApart es = subst (λ (fs : List (List ℕ × Channel)). AreApart fs) (sym c.deref.ensures.value)
+    c.requires.apart in
+    let place = apart_place c.args.codes es next e apart there (same_text e.0 c.args.codes c.if-eq.ensures) in
+    ap (λ (fs : List (List ℕ × Channel)). place_of (same_key c.args.codes) fs) (sym c.deref.ensures.value) ∙ place
