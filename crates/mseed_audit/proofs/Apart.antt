@@ -6,7 +6,7 @@ use Rattle.std.specs.Map.{set_value}
 use Rattle.std.specs.Option.{option_map}
 use Rattle.mseed_audit.specs.declared.channel.Channel.{Channel}
 use Rattle.mseed_audit.specs.Channels.{same_key}
-use Rattle.mseed_audit.specs.private.Kept.{AreApart, place_of}
+use Rattle.mseed_audit.specs.Places.{AreApart, place_of}
 use Rattle.mseed_audit.proofs.Maps.{same_back, same_is, same_itself}
 use Rattle.mseed_audit.proofs.Rosters.{places_stay}
 

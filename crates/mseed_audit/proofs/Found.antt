@@ -12,7 +12,8 @@ use Rattle.mseed_audit.specs.Audit.{Stands, StandsAt}
 use Rattle.mseed_audit.specs.Channels.{Placed, same_key, with_record}
 use Rattle.mseed_audit.specs.Judging.{IsFound}
 use Rattle.mseed_audit.specs.Reported.{IsFoundOf, last_of}
-use Rattle.mseed_audit.specs.private.Kept.{AreApart, AreBounded, ArePlaces, IsBounded, IsPlace, place_of}
+use Rattle.mseed_audit.specs.private.Kept.{AreBounded, IsBounded, IsPlace}
+use Rattle.mseed_audit.specs.Places.{AreApart, ArePlaces, place_of}
 use Rattle.mseed_audit.proofs.Apart.{apart_set}
 use Rattle.mseed_audit.proofs.Lasts.{found_kept}
 use Rattle.mseed_audit.proofs.Rosters.{bounded_at, found_at, place_set, place_within, places_set, set_bounded}

@@ -20,7 +20,8 @@ use Rattle.mseed_audit.specs.declared.channel.Channel.{Channel}
 use Rattle.mseed_audit.specs.Audit.{Stands, StandsAt}
 use Rattle.mseed_audit.specs.Channels.{Placed, same_key, with_record}
 use Rattle.mseed_audit.specs.declared.roster.Place.{Place}
-use Rattle.mseed_audit.specs.private.Kept.{ArePlaces, AreBounded, IsBounded, IsPlace, place_of}
+use Rattle.mseed_audit.specs.private.Kept.{AreBounded, IsBounded, IsPlace}
+use Rattle.mseed_audit.specs.Places.{ArePlaces, place_of}
 use Rattle.mseed_audit.proofs.Counts.{all_within_more}
 use Rattle.mseed_audit.proofs.Maps.{keys_alike, same_back, same_is}
 use Rattle.mseed_audit.proofs.Steps.{stands_more, some_is}

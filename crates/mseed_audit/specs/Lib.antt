@@ -4,6 +4,7 @@ pub mod Each
 pub mod Follows
 pub mod Judging
 pub mod Pieces
+pub mod Places
 pub mod Series
 pub mod Summary
 pub mod Text

@@ -14,7 +14,8 @@ ghost use Rattle.mseed_audit.specs.Channels.{Placed, same_key, with_record};
 ghost use Rattle.mseed_audit.specs.Audit.{Stands, StandsAt, verdict_of};
 ghost use Rattle.mseed_audit.specs.Judging.{IsFound};
 ghost use Rattle.mseed_audit.specs.declared.channel.Channel.{Channel};
-ghost use Rattle.mseed_audit.specs.private.Kept.{AreBounded, IsBounded, IsLearnt, place_of};
+ghost use Rattle.mseed_audit.specs.private.Kept.{AreBounded, IsBounded, IsLearnt};
+ghost use Rattle.mseed_audit.specs.Places.{place_of};
 ghost use Rattle.mseed_audit.specs.Reported.{IsFoundOf};
 
 use crate::audits::Memory;
@@ -51,7 +52,8 @@ pub(crate) struct Roster<A: Allocator = Global> {
 impl<A: Allocator> Model for Roster<A> {
     ghost use Rattle.std.specs.Prelude.{List, ℕ};
     ghost use Rattle.mseed_audit.specs.declared.channel.Channel.{Channel};
-    ghost use Rattle.mseed_audit.specs.private.Kept.{AreApart, ArePlaces, HasRoom, IsPlace};
+    ghost use Rattle.mseed_audit.specs.private.Kept.{HasRoom, IsPlace};
+    ghost use Rattle.mseed_audit.specs.Places.{AreApart, ArePlaces};
 
     ghost Value = { List (List ℕ × Channel) };
 

@@ -12,7 +12,7 @@ use Rattle.std.proofs.lemmas.Option.{slice_get_read}
 use Rattle.std.proofs.lemmas.Map.Views.{All-values-set_value}
 use Rattle.mseed_audit.specs.declared.channel.Channel.{Channel}
 use Rattle.mseed_audit.specs.Channels.{same_key}
-use Rattle.mseed_audit.specs.private.Kept.{place_of}
+use Rattle.mseed_audit.specs.Places.{place_of}
 use Rattle.mseed_audit.proofs.Apart.{apart_set}
 use Rattle.mseed_audit.proofs.Maps.{keys_alike, same_back, same_is}
 use Rattle.mseed_audit.proofs.Rosters.{AreMade, all_made, found_at, kept_more, made_at, places_set}

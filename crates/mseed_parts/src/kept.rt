@@ -2,7 +2,7 @@
 ghost use Rattle.std.specs.Prelude.{◌≡◌, ◌∷◌, ◌++◌, [], None, Some, OnOk, OnErr, IfSome};
 ghost use Rattle.std.specs.Map.{lookup};
 ghost use Rattle.mseed_audit.specs.Channels.{same_key};
-ghost use Rattle.mseed_audit.specs.private.Kept.{place_of};
+ghost use Rattle.mseed_audit.specs.Places.{place_of};
 ghost use Rattle.mseed_parts.specs.Parts.{IsWithin};
 ghost use Rattle.mseed_parts.specs.private.Kept.{AreKept};
 

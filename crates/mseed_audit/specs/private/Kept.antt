@@ -1,9 +1,8 @@
 -- Words of what is kept of a channel: no public contract is stated by them.
-use Rattle.std.specs.Prelude.{⊤, ◌≡◌, ◌<◌, ◌≤◌, ◌+◌, ◌*◌, ℕ, ℤ, suc, Bool, cond, List, [], ◌∷◌, length, Option, Some}
+use Rattle.std.specs.Prelude.{⊤, ◌≡◌, ◌≤◌, ◌+◌, ◌*◌, ℕ, ℤ, List, [], ◌∷◌, length, Option, Some}
 use Rattle.std.specs.Prelude.{None}
 use Rattle.std.specs.List.{All}
-use Rattle.std.specs.Map.{lookup, values_of}
-use Rattle.std.specs.Option.{option_map}
+use Rattle.std.specs.Map.{values_of}
 use Rattle.std.specs.Vec.{vec_capacity}
 use Rattle.std.specs.declared.vec.Vec.{Vec}
 use Rattle.mseed_time.specs.declared.rate.Rate.{Rate}
@@ -25,6 +24,7 @@ use Rattle.mseed_audit.specs.declared.verdict.Verdict.{Verdict}
 use Rattle.mseed_audit.specs.Audit.{IsTail, count_in, break_by}
 use Rattle.mseed_audit.specs.Channels.{same_key}
 use Rattle.mseed_audit.specs.Judging.{known_rate, rate_in}
+use Rattle.mseed_audit.specs.Places.{place_of}
 
 -- what is found of a record that was judged
 abbrev pub why_in : Judged → Option Why
@@ -81,21 +81,6 @@ pub record IsBounded (n : ℕ) (c : Channel) : Type 0 where
 
 abbrev pub AreBounded : ℕ → List (List ℕ × Channel) → Type 0
 AreBounded n channels = All (λ c. IsBounded n c) (values_of channels)
-
--- where the first channel stands whose key passes
-abbrev pub place_of : (List ℕ → Bool) → List (List ℕ × Channel) → Option ℕ
-place_of test [] = None
-place_of test (e ∷ es) = cond (test e.0) (Some 0) (option_map suc (place_of test es))
-
--- where each channel stands, by its key
-pub record ArePlaces (places : List (List ℕ × ℕ)) (channels : List (List ℕ × Channel)) : Type 0 where
-  pub each : (key : List ℕ) → lookup (same_key key) places ≡ place_of (same_key key) channels
-  pub within : All (λ i. i < length channels) (values_of places)
-
--- no two of the channels have the same key
-abbrev pub AreApart : List (List ℕ × Channel) → Type 0
-AreApart [] = ⊤
-AreApart (e ∷ es) = (place_of (same_key e.0) es ≡ None) × AreApart es
 
 -- a channel stands there
 abbrev pub IsPlace : Option Place → List (List ℕ × Channel) → Type 0

@@ -6,7 +6,7 @@ use Rattle.std.specs.Ordering.{nat_cmp}
 use Rattle.std.specs.Cmp.Lexicographic.{slice_cmp}
 use Rattle.std.specs.List.Sorted.{IsStrictlySortedBy}
 use Rattle.mseed_audit.specs.declared.channel.Channel.{Channel}
-use Rattle.mseed_audit.specs.private.Kept.{AreApart, ArePlaces}
+use Rattle.mseed_audit.specs.Places.{AreApart, ArePlaces}
 use Rattle.mseed_parts.specs.Parts.{AreWithin}
 
 -- what is kept at a place, by its key

@@ -6,7 +6,7 @@ use Rattle.std.specs.List.{All}
 use Rattle.std.specs.Map.{lookup, values_of}
 use Rattle.mseed_audit.specs.declared.channel.Channel.{Channel}
 use Rattle.mseed_audit.specs.Channels.{same_key}
-use Rattle.mseed_audit.specs.private.Kept.{AreApart, ArePlaces, place_of}
+use Rattle.mseed_audit.specs.Places.{AreApart, ArePlaces, place_of}
 use Rattle.mseed_audit.proofs.Apart.{apart_push}
 use Rattle.mseed_audit.proofs.Maps.{same_itself}
 use Rattle.mseed_audit.proofs.Rosters.{no_place, place_behind, places_more, all_below}

@@ -4,7 +4,7 @@ use Rattle.std.specs.List.{slice_get}
 use Rattle.std.proofs.lemmas.Option.{slice_get_read}
 use Rattle.mseed_audit.specs.declared.channel.Channel.{Channel}
 use Rattle.mseed_audit.specs.Channels.{same_key}
-use Rattle.mseed_audit.specs.private.Kept.{AreApart, place_of}
+use Rattle.mseed_audit.specs.Places.{AreApart, place_of}
 use Rattle.mseed_audit.proofs.Apart.{apart_place}
 use Rattle.mseed_parts.proofs.kept.Kept.behind.Goals as goal
 

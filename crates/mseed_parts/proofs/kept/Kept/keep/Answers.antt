@@ -6,7 +6,7 @@ use Rattle.std.specs.List.{All}
 use Rattle.std.specs.Map.{lookup, values_of}
 use Rattle.mseed_audit.specs.declared.channel.Channel.{Channel}
 use Rattle.mseed_audit.specs.Channels.{same_key}
-use Rattle.mseed_audit.specs.private.Kept.{ArePlaces}
+use Rattle.mseed_audit.specs.Places.{ArePlaces}
 use Rattle.mseed_audit.proofs.Apart.{apart_push}
 use Rattle.mseed_audit.proofs.Rosters.{all_below, no_place, places_more}
 use Rattle.mseed_parts.specs.private.Kept.{AreKept}
