@@ -238,9 +238,9 @@ fn frame_one(frame: &[u8; 64], begin: Rows) -> Lanes
     }
 }
 
-/// The differences of a frame's words from word 1 or word 4 on, by its scheme.
+/// The differences of a frame's words from word 1, 3 or 4 on, by its scheme.
 #[inline(always)]
-fn lanes_of(scheme: Scheme, frame: &[u8; 64], begin: Rows) -> Lanes
+fn frame_lanes(scheme: Scheme, frame: &[u8; 64], begin: Rows) -> Lanes
     ensures { (p : List ℕ) (k from : ℕ) → Begins begin from → frame.now ≡ take 64 (drop (64 * k) p)
         → Tells scheme (words_from p (16 * k + from) (16 - from)) result }
 {
@@ -260,13 +260,13 @@ fn lowered(by: u32x4) -> i32
     more as i32 - (1 << 24)
 }
 
-/// The differences of a frame's words from word 1 or word 4 on. None where a word is bad or has one of 30 or 32 bits.
+/// The differences of a frame's words from word 1, 3 or 4 on. None where a word is bad or has one of 30 or 32 bits.
 pub(crate) fn move_of(scheme: Scheme, frame: &[u8; 64], begin: Rows) -> Option<Moved>
     ensures { IfSome result (λ moved. (p : List ℕ) (k from : ℕ) → Begins begin from
         → frame.now ≡ take 64 (drop (64 * k) p)
         → MovesBy scheme (words_from p (16 * k + from) (16 - from)) moved.count moved.by (2 ^ 20)) }
 {
-    let lanes = lanes_of(scheme, frame, begin);
+    let lanes = frame_lanes(scheme, frame, begin);
     if lanes.count >= 128 {
         return None;
     }
@@ -285,8 +285,24 @@ fn begin_at(index: usize, first: Rows) -> Rows
     if index == 0 { first } else { FROM_1 }
 }
 
-/// The differences of frames from a word of the first one on, at most so many: of the first frames, up to one with a word
-/// that is bad or has one of 30 or 32 bits.
+/// The first frames, so many, by their count and the lanes of their sum.
+#[inline(always)]
+fn run_up_to(frames: usize, count: u32, by: u32x4) -> Run
+    ensures frames { result.frames ≡ frames }
+    ensures count { (result.moved).count ≡ count }
+    ensures by { (number : ℤ) → nat_abs number < 2 ^ 24 → Raises (sum_l by) number → (result.moved).by ≡ number }
+{
+    Run {
+        frames,
+        moved: Moved {
+            count,
+            by: lowered(by),
+        },
+    }
+}
+
+/// The differences of frames from a word of the first one on, at most so many: of the first frames, up to one with
+/// more, or with a word that is bad or has one of 30 or 32 bits. A frame behind those with so many isn't looked at.
 #[inline(always)]
 fn run_of(scheme: Scheme, frames: &[[u8; 64]], begin: Rows, most: usize) -> Run
     requires { length frames.now ≤ 15 }
@@ -299,26 +315,18 @@ fn run_of(scheme: Scheme, frames: &[[u8; 64]], begin: Rows, most: usize) -> Run
     let mut count = 0;
     let mut by = u32x4::splat(0);
     for index in 0..frames.len() {
-        let lanes = lanes_of(scheme, &frames[index], begin_at(index, begin));
-        if lanes.count >= 128 || most - (count as usize) < lanes.count as usize {
-            return Run {
-                frames: index,
-                moved: Moved {
-                    count,
-                    by: lowered(by),
-                },
-            };
+        let left = most - count as usize;
+        if left == 0 {
+            return run_up_to(index, count, by);
+        }
+        let lanes = frame_lanes(scheme, &frames[index], begin_at(index, begin));
+        if lanes.count >= 128 || left < lanes.count as usize {
+            return run_up_to(index, count, by);
         }
         count += lanes.count;
         by = plus(by, lanes.by);
     }
-    Run {
-        frames: frames.len(),
-        moved: Moved {
-            count,
-            by: lowered(by),
-        },
-    }
+    run_up_to(frames.len(), count, by)
 }
 
 /// The same, by a body for each scheme.

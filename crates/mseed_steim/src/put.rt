@@ -346,8 +346,8 @@ fn put_frame(
     }
 }
 
-/// The differences of the frames behind the first one. They are added up at once, where that can't go wrong, and else
-/// word by word.
+/// The differences of the frames behind the first one. They are added up at once, where that can't go wrong; else
+/// difference by difference, and where a word is bad or not all of them are needed, word by word.
 fn put_later_frames(
     scheme: Scheme,
     payload: &[u8],

@@ -1,4 +1,4 @@
-//! Differences that are added up, word by word.
+//! Differences that are added up one by one, and how far from 0 their sums can come.
 
 ghost use Rattle.std.specs.Prelude.{◌≡◌, ◌+◌, ◌-◌, ◌^◌, ◌≤◌, ◌<◌, List, [], ◌∷◌, ◌++◌, map, ℤ, ◌+ℤ◌, nat_abs, Result};
 ghost use Rattle.std.specs.Prelude.{Ok, IfOk, length};

@@ -77,8 +77,8 @@ fn add_at_once(moved: Moved, reach: u32, samples: usize, sum: Sum) -> Option<Sum
     })
 }
 
-/// The differences of a frame at once. None where its words have to be looked at: where not all are needed, none was met
-/// before, a word is bad or its differences wide, or the limits of 32 bits are within reach.
+/// The differences of a frame at once. None where its words have to be looked at: where not all are needed, none was
+/// met before, a word is bad or its differences wide, or the limits of 32 bits are within reach.
 #[inline(always)]
 fn add_narrow(
     scheme: Scheme,
@@ -133,9 +133,12 @@ fn add_wide(
         (items_of scheme rest) walked) }
     ensures met { IfSome result (λ walked. IfOk walked (λ next. next.met ≤ samples)) }
 {
+    if sum.met == 0 {
+        return None;
+    }
     let mut differences = [0; PLACES];
     let count = unpack_wide(scheme, frame, begin, &mut differences)?;
-    if sum.met == 0 || samples - sum.met < count {
+    if samples - sum.met < count {
         return None;
     }
     Some(add_unpacked(&differences[..count], samples, sum))
@@ -223,7 +226,8 @@ fn add_frame(
     }
 }
 
-/// The sum of so many samples, once the frames from one on are added, one at a time, or what comes first in place of one.
+/// The sum of so many samples, once the frames from one on are added, one at a time, or what comes first in place of
+/// one.
 #[cold]
 fn add_each(scheme: Scheme, payload: &[u8], from: usize, samples: usize, sum: Sum) -> Walked
     requires later { 0 < from }
@@ -329,7 +333,8 @@ fn add_first_run(
 }
 
 /// The sum of so many samples, of which this is the first, or what comes first in place of one. Frames are
-/// added up at once, where that can't go wrong, and else word by word.
+/// added up at once, where that can't go wrong; else difference by difference, and where a word is bad or not all of
+/// them are needed, word by word.
 pub(crate) fn add_frames(scheme: Scheme, payload: &[u8], samples: usize, first: i32) -> Walked
     requires { 64 ≤ length payload.now }
     ensures { result ≡ fold samples (record { met = 0; last = first }) (items_of scheme (data_words payload.now)) }

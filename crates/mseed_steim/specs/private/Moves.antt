@@ -1,5 +1,6 @@
 -- What is added up at once.
-use Rattle.std.specs.Prelude.{◌≡◌, ◌<◌, ◌≤◌, ◌+◌, ◌*◌, ◌%◌, ◌^◌, ℕ, List, [], ◌++◌, map, length, slice_index, ℤ, pos, ◌+ℤ◌, Ok}
+use Rattle.std.specs.Prelude.{◌≡◌, ◌<◌, ◌≤◌, ◌+◌, ◌*◌, ◌%◌, ◌^◌, ℕ, List, [], ◌++◌, map}
+use Rattle.std.specs.Prelude.{length, slice_index, ℤ, pos, ◌+ℤ◌, Ok}
 use Rattle.std.specs.Prelude.{drop, take, slice_index_or}
 use Rattle.std.specs.Simd.Lanes.{sum_l}
 use Rattle.mseed_steim.specs.declared.scheme.Scheme.{Scheme}

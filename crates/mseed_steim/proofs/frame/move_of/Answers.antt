@@ -5,7 +5,7 @@ use Rattle.mseed_steim.proofs.frame.move_of.Goals as goal
 
 pub returns : goal.returns
 returns c = λ p k from begins e.
-    let told = c.lanes_of-lanes.ensures p k from begins e (omega arith) in
+    let told = c.frame_lanes-lanes.ensures p k from begins e (omega arith) in
     let moves = told.1.1 in
     let all = total_near moves.0 in
     let near : nat_abs told.0 < 2 ^ 24 = rw (← moves.1.0.by_is) (omega (arith, all, moves.1.0.near)) in

@@ -1,7 +1,6 @@
 use Rattle.std.proofs.Common.{◌≡◌, ◌<◌, ◌≤◌, ◌+◌, ◌-◌, ◌*◌, ◌^◌, ◌++◌, ◌∙◌, ◌+ℤ◌, ℕ, List, pos, nat_abs, length}
-use Rattle.std.proofs.Common.{arith, rules, ap, sym, subst, refl, ⊎_elim, w32, FitsSigned}
+use Rattle.std.proofs.Common.{arith, rules, ap, sym, subst, refl, ⊎_elim}
 use Rattle.std.proofs.lemmas.Bool.{cases_lt}
-use Rattle.std.proofs.lemmas.Int.{to_z-of_z}
 use Rattle.mseed_steim.specs.Frames.{DataWord, words_from}
 use Rattle.mseed_steim.specs.private.Lanes.{Begins}
 use Rattle.mseed_steim.proofs.Far.{total_near}
@@ -53,7 +52,7 @@ loop-index-preserved c =
           ⊎_elim
           (λ (some : 0 < i).
           let low = begins_low c.args.begin from begins in
-          let told = c.lanes_of-lanes.ensures p (k + i) 1 (c.begin_at.ensures.later some) here (omega arith) in (
+          let told = c.frame_lanes-lanes.ensures p (k + i) 1 (c.begin_at.ensures.later some) here (omega arith) in (
             before.0 +ℤ told.0,
             (
               raised_plus _ _ _ before.0 told.0 before.1.0 told.1.0 c.plus-by.ensures,
@@ -64,7 +63,7 @@ loop-index-preserved c =
           (λ (none : i ≤ 0).
           let at : i ≡ 0 = omega (arith, none) in
           let same = subst (λ (b : List ℕ). Begins b from) (sym (c.begin_at.ensures.first at)) begins in
-          let told = c.lanes_of-lanes.ensures p (k + i) from same here (omega arith) in (
+          let told = c.frame_lanes-lanes.ensures p (k + i) from same here (omega arith) in (
             before.0 +ℤ told.0,
             (
               raised_plus _ _ _ before.0 told.0 before.1.0 told.1.0 c.plus-by.ensures,
@@ -75,15 +74,23 @@ loop-index-preserved c =
           (cases_lt 0 i);
     }
 
+pub returns-then-left-eq0-clause-moves : goal.returns-then-left-eq0-clause-moves
+returns-then-left-eq0-clause-moves c = λ p k from begins frames.
+    let so_far = c.loop-index.invariant.so_far p k from begins frames in
+    let all = total_near so_far.1.1.0 in
+    let near : nat_abs so_far.0 < 2 ^ 24 =
+    rw (← so_far.1.1.1.0.by_is) (omega (arith, all, so_far.1.1.1.0.near, c.requires, c.loop-index-test.true)) in
+    let same = c.run_up_to.ensures.by so_far.0 near so_far.1.0 in
+    rw (c.run_up_to.ensures.frames, c.run_up_to.ensures.count, same) so_far.1.1
+
 pub returns-then-lanes-ge128-clause-moves : goal.returns-then-lanes-ge128-clause-moves
 returns-then-lanes-ge128-clause-moves c = λ p k from begins frames.
     let so_far = c.loop-index.invariant.so_far p k from begins frames in
     let all = total_near so_far.1.1.0 in
     let near : nat_abs so_far.0 < 2 ^ 24 =
     rw (← so_far.1.1.1.0.by_is) (omega (arith, all, so_far.1.1.1.0.near, c.requires, c.loop-index-test.true)) in
-    let fits : FitsSigned w32 c.lowered.result = search rules in
-    let same = c.lowered.ensures so_far.0 near so_far.1.0 in
-    rw (to_z-of_z, same) so_far.1.1
+    let same = c.run_up_to-then-lanes-ge128.ensures.by so_far.0 near so_far.1.0 in
+    rw (c.run_up_to-then-lanes-ge128.ensures.frames, c.run_up_to-then-lanes-ge128.ensures.count, same) so_far.1.1
 
 pub returns-clause-moves : goal.returns-clause-moves
 returns-clause-moves c = λ p k from begins frames.
@@ -93,6 +100,5 @@ returns-clause-moves c = λ p k from begins frames.
     omega (arith, c.loop-index-test.false, c.loop-index.auto.index-end) in
     let near : nat_abs so_far.0 < 2 ^ 24 =
     rw (← so_far.1.1.1.0.by_is) (omega (arith, all, so_far.1.1.1.0.near, c.requires, whole)) in
-    let fits : FitsSigned w32 c.lowered-2.result = search rules in
-    let same = c.lowered-2.ensures so_far.0 near so_far.1.0 in
-    rw (to_z-of_z, same, ← whole) so_far.1.1
+    let same = c.run_up_to-2.ensures.by so_far.0 near so_far.1.0 in
+    rw (c.run_up_to-2.ensures.frames, c.run_up_to-2.ensures.count, same, ← whole) so_far.1.1

@@ -7,9 +7,10 @@ use Rattle.mseed_steim.proofs.lanes.rows_of.Goals as goal
 pub returns-clause-value : goal.returns-clause-value
 unfolding words
 returns-clause-value c = λ from begins.
-    let small : (k : ℕ) → get_or c.args.frame.now k 0 < 256 = c.fits-frame in
+    let f = c.args.frame.now in
+    let small : (k : ℕ) → get_or f k 0 < 256 = c.fits-frame in
     rw (c.low-2.ensures.value, c.look_up-codes.ensures.value, c.low.ensures.value) (elim begins [
-      | inl h ↦ rw (h.0, h.1, c.requires, spelled c.args.frame.now (omega arith)) (rows_later c.args.frame.now small)
-      | inr (inl h) ↦ rw (h.0, h.1, c.requires, spelled c.args.frame.now (omega arith)) (rows_first c.args.frame.now small)
-      | inr (inr h) ↦ rw (h.0, h.1, c.requires, spelled c.args.frame.now (omega arith)) (rows_third c.args.frame.now small)
+      | inl h ↦ rw (h.0, h.1, c.requires, spelled f (omega arith)) (rows_later f small)
+      | inr (inl h) ↦ rw (h.0, h.1, c.requires, spelled f (omega arith)) (rows_first f small)
+      | inr (inr h) ↦ rw (h.0, h.1, c.requires, spelled f (omega arith)) (rows_third f small)
     ])

@@ -33,7 +33,8 @@ loop-i-preserved c =
       kept = λ more.
           let rest = map Ok (drop (i + 1) ds) ++ more in
           let step = rw (← sum.1) at (met_add c.args.samples here d rest less (omega arith) fit) in
-          rw to_z-of_z (take_put c.loop-i.out (c.args.sum.met + i) (c.args.sum.met + (i + 1)) c.in-Some.next _ inside met
+          rw to_z-of_z (take_put c.loop-i.out (c.args.sum.met + i) (c.args.sum.met + (i + 1)) c.in-Some.next _ inside
+          met
           ∙ ap (λ (xs : List ℤ). take (c.args.sum.met + i) c.loop-i.out ++ xs) (rw met (sym step)
           ∙ ap (λ (items : List (Result ℤ BadWordAt)). met_in c.args.samples here items)
           (sym (drop_step ds i (pos 0) more c.loop-i-test.true)))

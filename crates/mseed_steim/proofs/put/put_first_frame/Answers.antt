@@ -69,7 +69,8 @@ returns-in-None-clause-kept c = λ rest.
 pub returns-in-Some-put_wide-clause-goes_on : goal.returns-in-Some-put_wide-clause-goes_on
 returns-in-Some-put_wide-clause-goes_on c = λ rest.
     let at = (goal.at.returns-in-Some-put_wide-clause-goes_on c).In-Ok in
-    let wide = c.in-Some-put_wide.ensures.goes_on c.args.payload.now 0 4 rest (inr (inl (refl, refl))) c.requires.prefix in
+    let begins = inr (inl (refl, refl)) in
+    let wide = c.in-Some-put_wide.ensures.goes_on c.args.payload.now 0 4 rest begins c.requires.prefix in
     goes_from c.args.samples (record { met = 0; last = c.args.first }) c.in-Ok.sum _ _ (items_of c.args.scheme rest)
     c.in-Some-put_wide.walked (first at rest) (rw (← behind at) at wide)
 

@@ -1,4 +1,5 @@
-use Rattle.std.proofs.Common.{◌≡◌, ℕ, suc, ◌+◌, ◌-◌, ◌*◌, ◌/◌, ◌<◌, ◌≤◌, [], ◌++◌, ◌∙◌, List, ℤ, Result, length, take, drop}
+use Rattle.std.proofs.Common.{◌≡◌, ℕ, suc, ◌+◌, ◌-◌, ◌*◌, ◌/◌, ◌<◌, ◌≤◌, [], ◌++◌, ◌∙◌}
+use Rattle.std.proofs.Common.{List, ℤ, Result, length, take, drop}
 use Rattle.std.proofs.Common.{ap, sym, arith, inl, refl}
 use Rattle.std.specs.Simd.{first_chunks}
 use Rattle.std.proofs.lemmas.List.{get_or-take, get_or-drop}
@@ -7,7 +8,8 @@ use Rattle.mseed_steim.specs.Frames.{DataWord, words_from, word_count}
 use Rattle.mseed_steim.specs.private.Items.{items_of}
 use Rattle.mseed_steim.specs.private.Sums.{fold}
 use Rattle.mseed_steim.specs.private.Moves.{AreFrames}
-use Rattle.mseed_steim.proofs.Walking.{frame_cut, words_cut, words_none, words_skip, no_items, frame_at, length-first_chunks}
+use Rattle.mseed_steim.proofs.Walking.{frame_cut, words_cut, words_none, words_skip}
+use Rattle.mseed_steim.proofs.Walking.{no_items, frame_at, length-first_chunks}
 use Rattle.mseed_steim.proofs.Walking.{take_most}
 use Rattle.mseed_steim.proofs.Folds.{fold_enough}
 use Rattle.mseed_steim.proofs.walk.add_runs.Goals as goal

@@ -1,6 +1,6 @@
 use Rattle.mseed_steim.specs.declared.scheme.Scheme.TheVariants.{One, Two}
 use Rattle.mseed_steim.proofs.FrameItems.{told_by}
-use Rattle.mseed_steim.proofs.frame.lanes_of.Goals as goal
+use Rattle.mseed_steim.proofs.frame.frame_lanes.Goals as goal
 
 pub returns-in-One : goal.returns-in-One
 returns-in-One c = rw c.in-One.is (λ p k from begins e.
