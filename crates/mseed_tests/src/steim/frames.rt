@@ -1,7 +1,8 @@
 //! Samples of made payloads, compared with sums of one difference after another: words of every row and damaged
-//! ones, few samples and many, and first samples within a frame's reach of both limits.
+//! ones, few samples and many, and first samples within a frame's reach of both limits. Records of 31 frames are
+//! checked in runs of up to fifteen.
 
-use super::record::{STEIM_1, is_read, record};
+use super::record::{STEIM_1, is_checked, is_read, record};
 use crate::records::put;
 use mseed_record::RecordView;
 use mseed_steim::{Differences, ReadFault, Scheme};
@@ -9,6 +10,9 @@ use std::process::Abort;
 
 /// Payloads of each scheme.
 const ROUNDS: u32 = 20_000;
+
+/// Payloads of 31 frames of each scheme.
+const LONG_ROUNDS: u32 = 2_000;
 
 /// The next of a sequence of numbers that look like random ones (xorshift, by Marsaglia).
 fn next_number(number: u64) -> u64 {
@@ -53,11 +57,11 @@ fn fill_frame(frame: &mut [u8; 64], scheme: Scheme, is_tame: bool, number: u64) 
     number
 }
 
-/// Fills three frames likewise.
-fn fill(payload: &mut [u8; 192], scheme: Scheme, is_tame: bool, number: u64) -> u64 {
+/// Fills the frames of a payload likewise.
+fn fill(payload: &mut [u8], scheme: Scheme, is_tame: bool, number: u64) -> u64 {
     let mut number = number;
     let mut frame = [0; 64];
-    for index in 0..3usize {
+    for index in 0..payload.len() / 64 {
         number = fill_frame(&mut frame, scheme, is_tame, number);
         put(payload, 64 * index, &frame);
     }
@@ -172,25 +176,24 @@ fn sum_up(payload: &[u8], scheme: Scheme, first: i32, places: &mut [i32]) -> Res
     }
 }
 
-/// The record of a payload, which ends with this sample.
-fn record_of(
-    payload: &[u8; 192],
+/// Puts a payload into a record, which ends with this sample.
+fn put_payload(
+    bytes: &mut [u8],
+    payload: &[u8],
     scheme: Scheme,
     samples: u16,
     first: i32,
     last: i32,
-) -> [u8; 256] {
-    let mut bytes = record(&STEIM_1);
+) {
     let encoding = match scheme {
         Scheme::One => 10,
         Scheme::Two => 11,
     };
-    put(&mut bytes, 30, &samples.to_be_bytes());
-    put(&mut bytes, 52, &[encoding]);
-    put(&mut bytes, 64, payload);
-    put(&mut bytes, 68, &first.to_be_bytes());
-    put(&mut bytes, 72, &last.to_be_bytes());
-    bytes
+    put(bytes, 30, &samples.to_be_bytes());
+    put(bytes, 52, &[encoding]);
+    put(bytes, 64, payload);
+    put(bytes, 68, &first.to_be_bytes());
+    put(bytes, 72, &last.to_be_bytes());
 }
 
 /// Whether what is checked and filled in of a record of so many samples is this.
@@ -209,7 +212,8 @@ fn is_same(payload: &[u8; 192], scheme: Scheme, samples: u16, first: i32) -> boo
         return false;
     }
     let summed = sum_up(payload, scheme, first, &mut kept[..count]);
-    let bytes = record_of(payload, scheme, samples, first, kept[count - 1]);
+    let mut bytes = record(&STEIM_1);
+    put_payload(&mut bytes, payload, scheme, samples, first, kept[count - 1]);
     match summed {
         Ok(()) => reads(&bytes, samples, Ok(&kept[..count])),
         Err(fault) => reads(&bytes, samples, Err(fault)),
@@ -235,6 +239,60 @@ fn assert_made(rt: &impl Abort, scheme: Scheme, number: u64) -> u64 {
 fn reads_made_frames(rt: HostRuntime) {
     let number = assert_made(&rt, Scheme::One, 0x2545_F491_4F6C_DD1D);
     assert_made(&rt, Scheme::Two, number);
+}
+
+/// Whether a record is checked to have these samples, or to be wrong by this fault.
+fn checks(bytes: &[u8], samples: u16, wanted: Result<&[i32], ReadFault>) -> bool {
+    match RecordView::of(bytes) {
+        Ok(view) => {
+            view.samples() != 0 && is_checked(&view, wanted) && view.samples() == samples
+        }
+        Err(_) => false,
+    }
+}
+
+/// Whether what is checked of a record of 2,048 bytes agrees with the sums of its payload.
+fn is_long_same(payload: &[u8; 1984], scheme: Scheme, samples: u16, first: i32) -> bool {
+    let count = usize::from(samples);
+    let mut kept = [0; 4096];
+    if count == 0 || 4096 < count {
+        return false;
+    }
+    let summed = sum_up(payload, scheme, first, &mut kept[..count]);
+    let mut bytes = [0; 2048];
+    put(&mut bytes, 0, &record(&STEIM_1));
+    put(&mut bytes, 54, &[11]);
+    put_payload(&mut bytes, payload, scheme, samples, first, kept[count - 1]);
+    match summed {
+        Ok(()) => checks(&bytes, samples, Ok(&kept[..count])),
+        Err(fault) => checks(&bytes, samples, Err(fault)),
+    }
+}
+
+/// Whether made payloads of 31 frames of a scheme agree, by numbers from this one on.
+fn are_long_same(scheme: Scheme, number: u64) -> bool {
+    let mut payload = [0; 1984];
+    let mut number = number;
+    for round in 0..LONG_ROUNDS {
+        number = next_number(fill(&mut payload, scheme, round % 8 != 0, number));
+        let samples = 1 + (number >> 48) as u16 % 2_400;
+        if !is_long_same(&payload, scheme, samples, first_by(number)) {
+            return false;
+        }
+    }
+    true
+}
+
+#[test]
+fn checks_runs_of_frames(rt: HostRuntime) {
+    assert!(rt;
+        are_long_same(Scheme::One, 0x9E37_79B9_7F4A_7C15),
+        "Steim-1"
+    );
+    assert!(rt;
+        are_long_same(Scheme::Two, 0x2545_F491_4F6C_DD1D),
+        "Steim-2"
+    );
 }
 
 /// Whether the edges from one on agree, few samples and many, from first samples of each kind.

@@ -60,7 +60,7 @@ pub fn record(row: &Row) -> [u8; 256] {
 }
 
 /// Whether a record's check answers the ends of these samples, or this fault.
-fn is_checked(view: &RecordView<'_>, wanted: Result<&[i32], ReadFault>) -> bool
+pub fn is_checked(view: &RecordView<'_>, wanted: Result<&[i32], ReadFault>) -> bool
     requires { 0 < count_of (view_of view.now) }
 {
     let ends = check_samples(view);
