@@ -1,6 +1,6 @@
 //! Where a session stands: which commands it answers how, and which packets it sends.
 ghost use Rattle.std.specs.Prelude.{◌≡◌, ◌≢◌, ◌⊎◌, ◌≤◌, ◌<◌, List, ℕ, None, IfErr, IfNone, IfOk, IfSome};
-ghost use Rattle.std.specs.Prelude.{◌^◌, Some, length, replicate, slice_get};
+ghost use Rattle.std.specs.Prelude.{◌↔◌, ◌^◌, IsTrue, Some, length, replicate, slice_get};
 ghost use Rattle.std.specs.Bool.{OnFalse, OnTrue};
 ghost use Rattle.std.specs.Option.{ForSome};
 ghost use Rattle.slink_wire.specs.Packet.{packet_bytes};
@@ -201,38 +201,39 @@ impl Course {
         }
     }
 
-    /// Whether nothing is sent of any place now, as far as one look at each shows.
+    /// Whether nothing is sent of any place now.
     pub(crate) fn is_waiting<A: Allocator>(&self, feed: &Feed<A>) -> bool
-        ensures { OnTrue result (IsWaiting feed.now self.now) }
+        ensures { IsTrue result ↔ IsWaiting feed.now self.now }
     {
         match self.phase {
             Phase::Fresh | Phase::Chosen(_) | Phase::Granted(_) => true,
             Phase::Streaming => self.is_up_to_date(feed),
-            Phase::Closed => false,
+            // Of each place it is told that the session is closed.
+            Phase::Closed => feed.len() == 0,
         }
     }
 
-    /// Whether each place that has a grant has all its records, and one of them waits for more.
+    /// Whether each place that has a grant has all its records, and not all of them are fetched for good.
     fn is_up_to_date<A: Allocator>(&self, feed: &Feed<A>) -> bool
         requires { self.now.phase ≡ Phase.Streaming }
-        ensures { OnTrue result (IsWaiting feed.now self.now) }
+        ensures { IsTrue result ↔ IsWaiting feed.now self.now }
     {
-        let mut is_open = false;
+        let mut has_grant = false;
         for k in 0..feed.len() {
             if !self.is_at_next(feed, k) {
                 return false;
             }
-            if !self.is_place_done(feed, k) {
-                is_open = true;
+            if self.grant_of(k).is_some() {
+                has_grant = true;
             }
         }
-        is_open
+        !has_grant || !self.is_done(feed)
     }
 
     /// Whether a place has no grant, or one at its ring's next record.
     fn is_at_next<A: Allocator>(&self, feed: &Feed<A>, k: usize) -> bool
         requires { k < length feed.now }
-        ensures { OnTrue result (IsAtNext feed.now self.now.grants k) }
+        ensures { IsTrue result ↔ IsAtNext feed.now self.now.grants k }
     {
         match self.grant_of(k) {
             Some(grant) => grant.position == feed.ring(k).next(),

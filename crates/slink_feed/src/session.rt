@@ -1,6 +1,6 @@
 //! The session that serves one connection.
 ghost use Rattle.std.specs.Prelude.{◌≡◌, ◌≢◌, ◌≤◌, ◌<◌, ◌++◌, List, ℕ, [], None, length, option_map, replicate};
-ghost use Rattle.std.specs.Prelude.{◌^◌, IfErr, IfNone, IfOk, IfSome, slice_get, take};
+ghost use Rattle.std.specs.Prelude.{◌↔◌, ◌^◌, IfErr, IfNone, IfOk, IfSome, IsTrue, slice_get, take};
 ghost use Rattle.std.specs.Bool.{OnFalse, OnTrue};
 ghost use Rattle.std.specs.Option.{ForSome};
 ghost use Rattle.slink_wire.specs.Lines.{IsHeld, TellsNothing};
@@ -197,12 +197,11 @@ impl Session {
         self.course.next_record(feed, k)
     }
 
-    /// Whether nothing is sent of any place now, as far as one look at each shows: then a call for any would be in
-    /// vain.
+    /// Whether nothing is sent of any place now: then a call for any would be in vain.
     ///
     /// It is lent the same feed at every call, whose rings keep their indices.
     pub fn is_waiting<A: Allocator>(&self, feed: &Feed<A>) -> bool
-        ensures { OnTrue result (IsWaiting feed.now self.now.state) }
+        ensures { IsTrue result ↔ IsWaiting feed.now self.now.state }
     {
         self.course.is_waiting(feed)
     }

@@ -1,28 +1,39 @@
-use Rattle.std.proofs.Common.{◌≡◌, ◌∙◌, sym, arith, rules, true, Some, slice_get}
-use Rattle.std.proofs.lemmas.Bool.{OnTrue_from}
-use Rattle.slink_feed.specs.Session.{IsWaiting}
-use Rattle.slink_feed.specs.Window.{Window}
-use Rattle.slink_feed.proofs.Done.{not_done, some_at}
-use Rattle.slink_feed.proofs.Waits.{at_next_more, waits_all}
+use Rattle.std.proofs.Common.{◌≡◌, ◌∙◌, rules, arith, sym, true, false}
+use Rattle.slink_feed.proofs.Waits.{at_next_more, none_granted, none_more, one_granted, sends_off, waits_unless_done}
 use Rattle.slink_feed.proofs.course.Course.is_up_to_date.Goals as goal
-use Rattle.slink_feed.proofs.course.Course.is_up_to_date.Goals.{then-not-is_place_done, else-not-is_place_done}
+use Rattle.slink_feed.proofs.course.Course.is_up_to_date.Goals.{then-is_some, else-is_some}
+
+pub returns-then-not-is_at_next : goal.returns-then-not-is_at_next
+returns-then-not-is_at_next g c = (
+  λ bad. absurd (let no : false ≡ true = bad in cc no),
+  λ waits. absurd (sends_off c.args.feed.now c.args.self.now c.loop-k.k c.requires (omega arith) (λ at.
+      let no : c.is_at_next.result ≡ false = search rules in
+      let bad : false ≡ true = sym no ∙ c.is_at_next.ensures.1 at in
+      cc bad) waits),
+)
 
 pub loop-k-preserved : goal.loop-k-preserved
 loop-k-preserved g c = record {
   at_next = at_next_more c.args.feed.now c.args.self.now.grants c.loop-k.k c.loop-k.invariant.at_next
-      c.if-not-is_at_next.ensures;
-  is_open = λ unfinished. elim c.if-not-is_place_done.branch [
-    | then-not-is_place_done w ↦
-        let here : (v : Window) × (slice_get c.args.feed.now c.loop-k.k ≡ Some v) =
-        some_at c.args.feed.now c.loop-k.k (omega arith) in
-        not_done c.args.feed.now c.args.self.now.grants c.loop-k.k here.0 c.is_place_done.result here.1
-        (c.is_place_done.ensures here.0 here.1) (search rules)
-    | else-not-is_place_done w ↦ c.loop-k.invariant.is_open (sym w.is_open-is ∙ unfinished)
+      (c.is_at_next.ensures.0 (search rules));
+  some = λ yes. elim c.if-is_some.branch [
+    | then-is_some w ↦
+        let here = one_granted c.grant_of.result (sym c.is_some.ensures ∙ (w.if-is_some).true) in
+        (c.loop-k.k, (omega arith, (here.0, sym c.grant_of.ensures ∙ here.1)))
+    | else-is_some w ↦
+        let before = c.loop-k.invariant.some (sym w.has_grant-is ∙ yes) in
+        (before.0, (omega (arith, (before.1).0), (before.1).1))
+  ];
+  none = λ no. elim c.if-is_some.branch [
+    | then-is_some w ↦ absurd (let bad : true ≡ false = sym w.has_grant-is ∙ no in cc bad)
+    | else-is_some w ↦ none_more c.args.self.now.grants c.loop-k.k (c.loop-k.invariant.none (sym w.has_grant-is ∙ no))
+        (sym c.grant_of.ensures ∙ none_granted c.grant_of.result (sym c.is_some.ensures ∙ (w.if-is_some).false))
   ];
 }
 
-pub returns : goal.returns
-returns g c =
-    OnTrue_from c.loop-k.is_open (IsWaiting c.args.feed.now c.args.self.now) (λ unfinished.
-    waits_all c.args.feed.now c.args.self.now c.requires (λ k lt. c.loop-k.invariant.at_next k (omega (arith, lt)))
-    (c.loop-k.invariant.is_open unfinished))
+pub returns-else-not-has_grant : goal.returns-else-not-has_grant
+returns-else-not-has_grant g c =
+    let one = c.loop-k.invariant.some c.if-not-has_grant.false in
+    waits_unless_done c.args.feed.now c.args.self.now one.0 ((one.1).1).0 c.is_done.result c.requires
+    (omega (arith, (one.1).0)) ((one.1).1).1 (λ j lt. c.loop-k.invariant.at_next j (omega (arith, lt)))
+    c.is_done.ensures

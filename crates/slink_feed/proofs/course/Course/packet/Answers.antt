@@ -1,4 +1,4 @@
-use Rattle.std.proofs.Common.{◌≡◌, ◌≢◌, ℕ, List, ◌∙◌, sym}
+use Rattle.std.proofs.Common.{◌≢◌, ℕ, List, ◌∙◌, sym}
 use Rattle.slink_feed.specs.declared.session.Sent.TheVariants.{Packet}
 use Rattle.slink_feed.specs.declared.session.Unsent.{Unsent}
 use Rattle.slink_feed.specs.declared.session.Unsent.TheVariants as Unsents
