@@ -1,5 +1,5 @@
 //! A channel's name as it is printed.
-ghost use Rattle.std.specs.Prelude.{◌≡◌, ◌++◌, OnOk};
+ghost use Rattle.std.specs.Prelude.{◌≡◌, ◌++◌, OnErr, OnOk};
 ghost use Rattle.mseed_stream.specs.Device.{IsPrefixOf};
 ghost use Rattle.mseed_audit.specs.Text.{name_text, printed, trimmed};
 
@@ -12,10 +12,10 @@ use std::alloc::{AllocError, Allocator};
 ///
 /// # Errors
 ///
-/// `AllocError` where memory is refused. What was there stays, and a part of the name may have been
-/// added behind it.
+/// `AllocError` where memory is refused. The text is as it was.
 pub fn push_name<A: Allocator>(text: &mut Vec<u8, A>, codes: &Codes) -> Result<(), AllocError>
     ensures ok { OnOk result (text.new.items ≡ text.old.items ++ name_text codes.now) }
+    ensures unchanged { OnErr result (text.new.items ≡ text.old.items) }
     ensures prefix { IsPrefixOf text.old.items text.new.items }
 {
     text.extend_from_slice(&name_of(codes))

@@ -1,5 +1,5 @@
 //! The lines of an audit's text.
-ghost use Rattle.std.specs.Prelude.{◌≡◌, ◌≤◌, ◌+◌, ◌++◌, OnOk, length};
+ghost use Rattle.std.specs.Prelude.{◌≡◌, ◌≤◌, ◌+◌, ◌++◌, OnErr, OnOk, length};
 ghost use Rattle.mseed_time.specs.Text.{fault_word};
 ghost use Rattle.mseed_steim.specs.declared.fault.ReadFault.TheVariants.{LastDiffers};
 ghost use Rattle.mseed_stream.specs.Device.{IsPrefixOf};
@@ -13,8 +13,6 @@ use crate::audits::Memory;
 use crate::draft::Draft;
 use crate::finding::{Finding, Why};
 use crate::line::fault_line_of;
-use crate::pieces::Piece::{Count, Words};
-use crate::pieces::push_pieces;
 use crate::verdict::Verdict;
 use mseed_record::{Codes, RecordView};
 use mseed_steim::ReadFault;
@@ -61,14 +59,14 @@ fn push_verdicts<A: Allocator>(
 ///
 /// # Errors
 ///
-/// `AllocError` where memory is refused. What was there stays, and a part of the line may have been added
-/// behind it.
+/// `AllocError` where memory is refused. The text is as it was.
 pub fn push_verdict_line<A: Allocator>(
     text: &mut Vec<u8, A>,
     codes: &Codes,
     verdict: &Verdict,
 ) -> Result<(), AllocError>
     ensures ok { OnOk result (text.new.items ≡ text.old.items ++ verdict_line codes.now verdict.now) }
+    ensures unchanged { OnErr result (text.new.items ≡ text.old.items) }
     ensures prefix { IsPrefixOf text.old.items text.new.items }
 {
     let mut line = Draft::new();
@@ -130,7 +128,7 @@ fn put_broken(line: &mut Draft, first: &Finding, count: u64)
     line.put(b"\n");
 }
 
-/// Adds the line of a record, if something is found of it. Where memory is refused, a part of it may have been added.
+/// Adds the line of a record, if something is found of it.
 #[cold]
 #[inline(never)]
 pub(crate) fn push_reported<A: Allocator>(
@@ -193,10 +191,10 @@ fn put_reported_line(line: &mut Draft, view: &RecordView, finding: &Finding)
 ///
 /// # Errors
 ///
-/// `AllocError` where memory is refused. What was there stays, and a part of the start may have been added
-/// behind it.
+/// `AllocError` where memory is refused. The text is as it was.
 pub fn push_start<A: Allocator>(text: &mut Vec<u8, A>, view: &RecordView) -> Result<(), AllocError>
     ensures ok { OnOk result (text.new.items ≡ text.old.items ++ start_text (view_of view.now)) }
+    ensures unchanged { OnErr result (text.new.items ≡ text.old.items) }
     ensures prefix { IsPrefixOf text.old.items text.new.items }
 {
     let mut line = Draft::new();
@@ -233,39 +231,36 @@ fn put_word(line: &mut Draft, fault: TimeFault)
 ///
 /// # Errors
 ///
-/// `AllocError` where memory is refused. What was there stays, and a part of the line may have been added
-/// behind it.
+/// `AllocError` where memory is refused. The text is as it was.
 pub fn push_total_line<A: Allocator>(
     text: &mut Vec<u8, A>,
     records: u64,
     channels: u64,
 ) -> Result<(), AllocError>
     ensures ok { OnOk result (text.new.items ≡ text.old.items ++ total_line records channels) }
+    ensures unchanged { OnErr result (text.new.items ≡ text.old.items) }
     ensures prefix { IsPrefixOf text.old.items text.new.items }
 {
-    push_pieces(
-        text,
-        &[
-            Words(b"records "),
-            Count(records),
-            Words(b" channels "),
-            Count(channels),
-            Words(b"\n"),
-        ],
-    )
+    let mut line = Draft::new();
+    line.put(b"records ");
+    line.put_count(records);
+    line.put(b" channels ");
+    line.put_count(channels);
+    line.put(b"\n");
+    text.extend_from_slice(line.as_slice())
 }
 
 /// Adds the line of a stream's fault; none for a want of memory.
 ///
 /// # Errors
 ///
-/// `AllocError` where memory is refused. What was there stays, and a part of the line may have been added
-/// behind it.
+/// `AllocError` where memory is refused. The text is as it was.
 pub fn push_fault_line<A: Allocator>(
     text: &mut Vec<u8, A>,
     fault: &StreamFault,
 ) -> Result<(), AllocError>
     ensures ok { OnOk result (text.new.items ≡ text.old.items ++ fault_line fault.now) }
+    ensures unchanged { OnErr result (text.new.items ≡ text.old.items) }
     ensures prefix { IsPrefixOf text.old.items text.new.items }
 {
     text.extend_from_slice(&fault_line_of(fault))
@@ -275,10 +270,10 @@ pub fn push_fault_line<A: Allocator>(
 ///
 /// # Errors
 ///
-/// `AllocError` where memory is refused. What was there stays, and a part of the words may have been added
-/// behind it.
+/// `AllocError` where memory is refused. The text is as it was.
 pub fn push_why<A: Allocator>(text: &mut Vec<u8, A>, why: &Why) -> Result<(), AllocError>
     ensures ok { OnOk result (text.new.items ≡ text.old.items ++ why_text why.now) }
+    ensures unchanged { OnErr result (text.new.items ≡ text.old.items) }
     ensures prefix { IsPrefixOf text.old.items text.new.items }
 {
     let mut line = Draft::new();

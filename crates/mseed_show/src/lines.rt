@@ -14,7 +14,7 @@ use std::alloc::{AllocError, Allocator};
 ///
 /// # Errors
 ///
-/// `AllocError` where an allocation was refused. A part of it may have been added then.
+/// `AllocError` where an allocation was refused. The text is as it was then.
 pub fn push_record_line<A: Allocator>(
     text: &mut Vec<u8, A>,
     offset: u64,
@@ -34,7 +34,7 @@ pub fn push_record_line<A: Allocator>(
 ///
 /// # Errors
 ///
-/// `AllocError` where an allocation was refused. A part of it may have been added then.
+/// `AllocError` where an allocation was refused. The text is as it was then.
 pub fn push_count_line<A: Allocator>(text: &mut Vec<u8, A>, records: u64) -> Result<(), AllocError>
     ensures { OnOk result (text.new.items ≡ text.old.items ++ count_line records) }
 {
