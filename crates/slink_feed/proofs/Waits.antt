@@ -53,7 +53,8 @@ waits_ungranted feed s phase none k lt =
 no_wait : (s : State) (k : ℕ) (g : Grant) (o : Option (List ℕ)) → packet_at s k g o ≢ (s, Wait)
 no_wait s k g None e = absurd (let bad : Overrun ≡ Wait = ap (λ (p : State × Sent). p.1) e in cc bad)
 no_wait s k g (Some bytes) e =
-    absurd (let bad : Packet (packet_bytes (g.position % 2 ^ 24) bytes) ≡ Wait = ap (λ (p : State × Sent). p.1) e in cc bad)
+    let bad : Packet (packet_bytes (g.position % 2 ^ 24) bytes) ≡ Wait = ap (λ (p : State × Sent). p.1) e in
+    absurd (cc bad)
 
 no_wait_done : (s : State) → at_next true s ≢ (s, Wait)
 no_wait_done s e = absurd (let bad : Done ≡ Wait = ap (λ (p : State × Sent). p.1) e in cc bad)
@@ -64,7 +65,8 @@ closed_of s = (s, Closed)
 no_wait_closed : (s : State) → closed_of s ≢ (s, Wait)
 no_wait_closed s e = absurd (let bad : Closed ≡ Wait = ap (λ (p : State × Sent). p.1) e in cc bad)
 
-pub is_next : (g h : Grant) (w v : Window) → Some g ≡ Some h → Some w ≡ Some v → g.position ≡ w.next → h.position ≡ v.next
+pub is_next : (g h : Grant) (w v : Window) → Some g ≡ Some h → Some w ≡ Some v → g.position ≡ w.next
+    → h.position ≡ v.next
 is_next g h w v e f same =
     let grants : g ≡ h = cc e in
     let rings : w ≡ v = cc f in
@@ -103,7 +105,10 @@ waits_unless_done feed s k g true phase lt granted at done = (
   λ is. absurd (let bad : false ≡ true = is in cc bad),
   λ waits. absurd (sends_end feed s k g phase lt granted (at k lt) (sym done) waits),
 )
-waits_unless_done feed s k g false phase lt granted at done = (λ is. waits_all feed s phase at (sym done), λ waits. refl)
+waits_unless_done feed s k g false phase lt granted at done = (
+  λ is. waits_all feed s phase at (sym done),
+  λ waits. refl,
+)
 
 -- a session that is closed says so of each place
 pub sends_closed : (feed : List Window) (s : State) → s.phase ≡ Phases.Closed → 0 < length feed → ¬ (IsWaiting feed s)

@@ -8,6 +8,7 @@ returns-in-Closed g c = elim (eqb_tells c.len.result 0) [
   | inl none ↦ (λ is k lt. absurd (omega (arith, lt, none.1, c.len.ensures.value)), λ waits. none.0)
   | inr some ↦ (
     λ is. absurd (let bad : false ≡ true = sym some.0 ∙ is in cc bad),
-    λ waits. absurd (sends_closed c.args.feed.now c.args.self.now (search rules) (omega (arith, some.1, c.len.ensures.value)) waits),
+    λ waits. absurd (sends_closed c.args.feed.now c.args.self.now (search rules)
+        (omega (arith, some.1, c.len.ensures.value)) waits),
   )
 ]
