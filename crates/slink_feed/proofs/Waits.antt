@@ -42,13 +42,6 @@ at_next_more feed gs k before here j lt = elim (eqb_tells j k) [
   | inr other ↦ before j (omega (arith, lt, other.1))
 ]
 
--- where no place has a grant
-pub waits_ungranted : (feed : List Window) (s : State) → s.phase ≡ Streaming
-    → ((k : ℕ) → k < length feed → grant_at s.grants k ≡ None) → IsWaiting feed s
-waits_ungranted feed s phase none k lt =
-    ap (λ (p : Phase). sent_in p feed s k) phase
-    ∙ ap (λ (h : Option Grant). sent_of feed s k h (slice_get feed k)) (none k lt)
-
 -- a record, or that there is none any more, isn't nothing
 no_wait : (s : State) (k : ℕ) (g : Grant) (o : Option (List ℕ)) → packet_at s k g o ≢ (s, Wait)
 no_wait s k g None e = absurd (let bad : Overrun ≡ Wait = ap (λ (p : State × Sent). p.1) e in cc bad)
@@ -90,7 +83,7 @@ sends_off feed s k phase lt off waits =
     sends_at feed s k here.0 (grant_at s.grants k) phase refl here.1 off (waits k lt)
 
 -- where one place has a grant, is at its ring's next record, and all are done
-pub sends_end : (feed : List Window) (s : State) (k : ℕ) (g : Grant) → s.phase ≡ Streaming → k < length feed
+sends_end : (feed : List Window) (s : State) (k : ℕ) (g : Grant) → s.phase ≡ Streaming → k < length feed
     → grant_at s.grants k ≡ Some g → IsAtNext feed s.grants k → all_done feed s.grants ≡ true → ¬ (IsWaiting feed s)
 sends_end feed s k g phase lt granted at done waits =
     let here = some_at feed k lt in

@@ -213,7 +213,8 @@ impl Course {
         }
     }
 
-    /// Whether each place that has a grant has all its records, and not all of them are fetched for good.
+    /// The same while records are sent: each place that has a grant has all its records, and where one has, not all
+    /// are fetched for good.
     fn is_up_to_date<A: Allocator>(&self, feed: &Feed<A>) -> bool
         requires { self.now.phase ≡ Phase.Streaming }
         ensures { IsTrue result ↔ IsWaiting feed.now self.now }
