@@ -27,31 +27,42 @@ KIT = $(patsubst %/,%,$(dir $(shell rt doc)))
 LIB := crates/mseed_c/out/lib
 PYTHON_DIR ?= $(PREFIX)/lib/python3/dist-packages
 
-.PHONY: audit bench build dist drawing edits feed-bench help install install-lib interop lib packages \
-    repack show test tools-bench tools-test
+# So that a recipe takes them as they stand, with blanks and quotes.
+export FILE OUT
 
-audit: build
-	@$(MSEED) audit < "$(FILE)"; echo "status $$?"
+.PHONY: audit bench build dist drawing edits feed-bench help install install-lib interop lib packages \
+    readable repack show test tools-bench tools-test
+
+# These three end with an error of make, and 2, where the program's status isn't 0; it is printed before.
+audit: readable build
+	@$(MSEED) audit < "$$FILE"; status=$$?; echo "status $$status"; exit $$status
 
 help:
 	@sed -n 's/^# \(make .*\)/\1/p' Makefile
 
-show: build
-	@$(MSEED) show < "$(FILE)"; echo "status $$?"
+show: readable build
+	@$(MSEED) show < "$$FILE"; status=$$?; echo "status $$status"; exit $$status
 
 # What is packed gets its name once it is whole.
-repack: build
-	@$(MSEED) repack < "$(FILE)" > "$(OUT).part"; status=$$?; \
-	if [ $$status = 0 ]; then mv "$(OUT).part" "$(OUT)" && echo 'Packed into $(OUT).'; else rm -f "$(OUT).part"; fi; \
-	echo "status $$status"
+repack: readable build
+	@$(MSEED) repack < "$$FILE" > "$$OUT.part"; status=$$?; \
+	if [ $$status = 0 ]; then mv "$$OUT.part" "$$OUT" && echo "Packed into $$OUT." || status=2; \
+	else rm -f "$$OUT.part"; fi; \
+	echo "status $$status"; exit $$status
+
+# Before anything is proved.
+readable:
+	@[ -r "$$FILE" ] && [ ! -d "$$FILE" ] || { echo "FILE=$$FILE: no file that can be read" >&2; exit 2; }
 
 # Proves every crate that the program stands on, builds it, and runs it once: what isn't proved isn't built. What isn't
-# proved yet is proved side by side first.
+# proved yet is proved side by side first. That it takes long is said where something has to be proved: nothing was
+# built by this word, or by another toolchain, or a source is newer.
 build:
-	@echo 'Proving and building: about 20 minutes the first time.'
+	@crates/prove.py --is-proved mseed || echo 'Proving and building: about 20 minutes the first time.'
 	@python3 crates/prove.py mseed
 	@cd crates/mseed && rt run --jobs 2 -- audit < /dev/null > out.log 2>&1 || { cat out.log; exit 1; }
 	@rm -f crates/mseed/out.log
+	@rt version > crates/mseed/out/proved
 	@echo 'Proved and built.'
 
 # The archive holds the toolchain's part of the C library too, so that a program links with one file. Of the shared

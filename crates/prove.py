@@ -1,13 +1,14 @@
 #!/usr/bin/env python3
 """Proves and builds the libraries that a crate stands on, side by side.
 
-    prove.py CRATE
+    prove.py [--is-proved] CRATE
 
 `rt` proves the libraries of a crate one after another, and locks all those below the one that it works on. Here each
 is proved once those below it are, in a room of its own: with links to its sources and to what those below it were built
 to. What comes of it is moved to its folder `out`, where `rt run` and `rt lib` find it. The libraries on the longest way
 to the crate come first, and take the processors that no other wants. What is built already is left as it is. What can't
-be proved is left to `rt`, which then says why.
+be proved is left to `rt`, which then says why. With --is-proved nothing is done: the status is 0 where, since `make` has
+built the program, neither its sources nor those that it stands on have changed, nor the toolchain, and 1 else.
 """
 
 from __future__ import annotations
@@ -16,6 +17,7 @@ import argparse
 import os
 import shutil
 import subprocess
+import sys
 import tempfile
 from concurrent.futures import FIRST_COMPLETED, Future, ThreadPoolExecutor, wait
 from pathlib import Path
@@ -28,6 +30,8 @@ BUILT = Path("out") / "rlib"
 # So many libraries at the same time, and so many processes for one.
 MOST = 3
 PROCESSES = 4
+# Where `make` leaves the version of the toolchain by which it has proved and built a program.
+PROVED = Path("out") / "proved"
 
 
 def lines() -> dict[str, str]:
@@ -68,12 +72,28 @@ def is_proved(crate: str, on: set[str], jobs: int) -> bool:
     return ran.returncode == 0
 
 
-def main() -> None:
-    """Proves what isn't built, until no more can be."""
+def is_kept(crate: str) -> bool:
+    """Whether nothing has changed since `make` has proved and built a program."""
+    mark, program = CRATES / crate / PROVED, CRATES / crate / "out" / crate
+    if not (mark.exists() and program.exists()):
+        return False
+    ran = subprocess.run(["rt", "version"], check=False, stdout=subprocess.PIPE, text=True)
+    files = [ROOT / "crates.txt", ROOT / "HANDLES"]
+    files += [file for at in [crate, *below(crate)] for part in SOURCES for file in (CRATES / at / part).rglob("*")]
+    return ran.stdout == mark.read_text(encoding="utf-8") and all(
+        file.stat().st_mtime <= mark.stat().st_mtime for file in files)
+
+
+def main() -> int:
+    """Proves what isn't built, until no more can be; or says whether all is."""
     words = argparse.ArgumentParser(description="Proves and builds the libraries that a crate stands on, side by side.",
                                     epilog="Example: crates/prove.py mseed")
+    words.add_argument("--is-proved", action="store_true", help="prove nothing: status 0 where all is proved, and 1 else")
     words.add_argument("crate", choices=sorted(lines()), metavar="CRATE", help="a crate of crates.txt")
-    on = {crate: below(crate) for crate in below(words.parse_args().crate)}
+    given = words.parse_args()
+    if given.is_proved:
+        return 0 if is_kept(given.crate) else 1
+    on = {crate: below(crate) for crate in below(given.crate)}
     sizes = {crate: size(crate) for crate in on}
     ways = {}
     for crate in sorted(on, key=lambda crate: -len(on[crate])):
@@ -94,7 +114,8 @@ def main() -> None:
                 crate, _ = running.pop(ended)
                 if not ended.result():
                     left = [at for at in left if crate not in on[at]]
+    return 0
 
 
 if __name__ == "__main__":
-    main()
+    sys.exit(main())

@@ -1,0 +1,101 @@
+"""`make audit`, `make show` and `make repack` in a copy of the repository, with a stand-in for the toolchain: how they
+end, for files of any name and for those that aren't there, and when they say that proving takes long."""
+
+from __future__ import annotations
+
+import os
+import shutil
+import subprocess
+import tempfile
+from pathlib import Path
+from typing import Sequence
+
+from driver.program import LIMIT, PROGRAM, ROOT, SAMPLES, SOURCES
+from driver.rows import Cases, Fact, Skipped, holds
+from driver.tools import rest
+
+LONG = "Proving and building: about 20 minutes the first time."
+BUILT = "Proved and built."
+AUDITED = ["XX_STA__BHZ continuous 2024-01-01T00:00:00.000000 rate 20/1 records 2 samples 32", "records 2 channels 1"]
+BROKEN = ["XX_STA__BHZ broken findings 1 first record 2 offset 128 gap 25001", "records 2 channels 1"]
+# By each of the words, where its file isn't there.
+WORDS = ["audit", "show", "repack"]
+ODD = """a b'c"d.mseed"""
+
+
+class Copy:
+    """A copy of what `make build` reads, beside a stand-in for the toolchain."""
+
+    def __init__(self, folder: Path):
+        self.folder, self.bin = folder / "copy", folder / "bin"
+        for name in ("Makefile", "VERSION", "HANDLES", "crates.txt", "crates/prove.py", *self.sources()):
+            (self.folder / name).parent.mkdir(parents=True, exist_ok=True)
+            shutil.copy(ROOT / name, self.folder / name)
+        shutil.copytree(SAMPLES, self.folder / "samples")
+        self.bin.mkdir()
+        (self.bin / "rt").symlink_to(SOURCES / "local_rt.sh")
+
+    @staticmethod
+    def sources() -> list[str]:
+        """A source of each crate."""
+        found = [path for name in ("lib.rt", "main.rt") for path in (ROOT / "crates").glob(f"*/src/{name}")]
+        return [str(path.relative_to(ROOT)) for path in found]
+
+    def make(self, *words: str, version: str = "a kit") -> tuple[int, list[str], str]:
+        """How `make` ends, the lines that it writes, and what it reports."""
+        env = {**os.environ, "PATH": f"{self.bin}:{os.environ['PATH']}", "RT_PROGRAM": str(PROGRAM),
+               "RT_VERSION": version}
+        for name in ("MAKEFLAGS", "MAKELEVEL", "MFLAGS", "FILE", "OUT"):
+            env.pop(name, None)
+        run = subprocess.run(["make", *words], cwd=self.folder, env=env, stdin=subprocess.DEVNULL, text=True,
+                             stdout=subprocess.PIPE, stderr=subprocess.PIPE, timeout=LIMIT, check=False)
+        return run.returncode, run.stdout.splitlines(), run.stderr
+
+
+def long(copy: Copy) -> Cases:
+    """Where nothing was built, a source has changed, or the toolchain is another one, it is said that it takes long."""
+    first = [LONG, BUILT, *AUDITED, "status 0"]
+    yield Fact("make audit, the first time", (0, first, ""), copy.make("audit"))
+    yield Fact("make audit, the second time", (0, first[1:], ""), copy.make("audit"))
+    rest()
+    os.utime(copy.folder / "crates" / "mseed_time" / "src" / "lib.rt")
+    yield Fact("make build, a source has changed", (0, [LONG, BUILT], ""), copy.make("build"))
+    yield Fact("make build, and has been proved", (0, [BUILT], ""), copy.make("build"))
+    yield Fact("make build, by another toolchain", (0, [LONG, BUILT], ""), copy.make("build", version="another kit"))
+    yield Fact("make build, by it again", (0, [BUILT], ""), copy.make("build", version="another kit"))
+    copy.make("build")
+
+
+def files(copy: Copy) -> Cases:
+    """Files that are there, and others."""
+    shutil.copy(SAMPLES / "gap.mseed", copy.folder / ODD)
+    status, lines, report = copy.make("audit", f"FILE={ODD}")
+    yield Fact("make audit of a broken archive", (2, [BUILT, *BROKEN, "status 1"]), (status, lines))
+    yield holds("it is make's error", "audit] Error 1" in report, report)
+    shutil.copy(SAMPLES / "two_records.mseed", copy.folder / ODD)
+    status, lines, report = copy.make("repack", f"FILE={ODD}", f"OUT={ODD}.new")
+    yield Fact("make repack", (0, [BUILT, f"Packed into {ODD}.new.", "status 0"], ""), (status, lines, report))
+    yield Fact("what it packed", [512], [path.stat().st_size for path in copy.folder.glob("*.new")])
+    for word in WORDS:
+        for name in ("/none", "samples", f"{ODD}.none"):
+            status, lines, report = copy.make(word, f"FILE={name}")
+            yield Fact(f"make {word} FILE={name}", (2, []), (status, lines))
+            yield holds("the file is named", report.startswith(f"FILE={name}: no file that can be read\n"), report)
+    status, lines, report = copy.make("repack", "FILE=samples/gap.mseed", "OUT=gap.packed")
+    yield Fact("make repack of a broken archive", (2, [BUILT, "status 1"]), (status, lines))
+    yield holds("it says why", report.startswith("mseed: XX_STA__BHZ is broken\n"), report)
+    yield Fact("and leaves nothing", [], list(copy.folder.glob("gap.packed*")))
+    status, lines, report = copy.make("repack", "OUT=none/packed")
+    yield Fact("make repack into no folder", (True, "status 0" in lines), (status == 2, False))
+    yield holds("it is named", "none/packed" in report, report)
+
+
+def rows() -> Cases:
+    """All of them."""
+    if shutil.which("make") is None:
+        yield Skipped("make audit, show and repack", "make")
+        return
+    with tempfile.TemporaryDirectory() as folder:
+        copy = Copy(Path(folder))
+        yield from long(copy)
+        yield from files(copy)
