@@ -20,7 +20,7 @@ from driver.counting import Count, run_file
 MOST = 1200
 # Those that take longest begin first.
 LONGEST = ["library", "library_python", "schedules", "relay", "damaged_archives", "join_archives", "join_texts", "parts",
-           "join_devices", "join_lines", "repack_series", "serve_archives", "devices", "audit"]
+           "join_devices", "join_lines", "repack_series", "serve_archives", "devices", "recipes", "instructions", "audit"]
 
 
 def run_all(names: Sequence[str], jobs: int, is_verbose: bool) -> Count:
