@@ -21,34 +21,17 @@ import time
 HERE = os.path.dirname(os.path.abspath(__file__))
 sys.path.insert(0, os.path.join(os.path.dirname(HERE), "tests"))
 
-from models.packing import SECOND, Series, btime, packed  # noqa: E402
+from models.packing import SECOND, btime  # noqa: E402
+from models.workloads import LOGGER, RATE, START, count_in, recorded  # noqa: E402
 
 SCRIPT = os.path.join(HERE, "audit_by_cores.sh")
 LENGTH = 512
-RATE = 100
-START = 1704067200000000
-CODES = [b"STA%d   BH%cXX" % (station, channel) for station in range(4) for channel in b"ENZ"]
-# The records of a channel that are packed; they come again and again, later each time.
-SAMPLES = 60000
-
-
-def logged():
-    """The records of one channel: noise of changing strength."""
-    state, samples, last = 88172645463325252, [], 0
-    for index in range(SAMPLES):
-        state ^= state << 13 & 2**64 - 1
-        state ^= state >> 7
-        state ^= state << 17 & 2**64 - 1
-        width = 3 + index // 5000 % 8
-        last += (state & (1 << width) - 1) - (1 << width - 1) - last // 64
-        samples.append(last)
-    return packed(Series(CODES[0], START, RATE, 1, samples))
 
 
 def make_archive(path, megabytes):
     """Writes the records of all channels in turn, up to so many bytes."""
-    records = logged()
-    counts = [struct.unpack_from(">H", record, 30)[0] for record in records]
+    records = recorded()
+    counts = [count_in(record) for record in records]
     left, samples = megabytes * 10**6 // LENGTH, 0
     with open(path, "wb") as file:
         while left > 0:
@@ -56,9 +39,9 @@ def make_archive(path, megabytes):
                 at = btime(START + samples * SECOND // RATE)
                 time_of = struct.pack(">HHBBBBH", at["year"], at["day"], at["hour"], at["minute"], at["second"], 0,
                                       at["fraction"])
-                for codes in CODES[:left]:
+                for codes in LOGGER[:left]:
                     file.write(b"".join((record[:8], codes, time_of, record[30:])))
-                left -= min(left, len(CODES))
+                left -= min(left, len(LOGGER))
                 samples += count
 
 
@@ -90,8 +73,9 @@ def make_parts(path, megabytes):
 def ways_of(mseed, archive, folder, cores):
     """The ways to audit the archive: their words, and at how many processes at once they do it."""
     by_files = f"""cd {folder}/pieces
-        ls | xargs -P $CORES -n 1 sh -c '"$MSEED" audit --part < "$1" > "../parts/$1"' sh
-        cat ../parts/* | "$MSEED" join"""
+        set -- *
+        printf '%s\\0' "$@" | xargs -0 -P $CORES -n 1 sh -c '"$MSEED" audit --part < "$1" > "../parts/$1"' sh
+        cat ../parts/* | "$MSEED" join --expect $#"""
     return {
         "whole, one core": ([mseed, "audit"], "1"),
         "whole, by dd, one core": ([SCRIPT, mseed, archive, str(LENGTH), "1", cores], "1"),
