@@ -7,8 +7,8 @@
 is proved once those below it are, in a room of its own: with links to its sources and to what those below it were built
 to. What comes of it is moved to its folder `out`, where `rt run` and `rt lib` find it. The libraries on the longest way
 to the crate come first, and take the processors that no other wants. What is built already is left as it is. What can't
-be proved is left to `rt`, which then says why. With --is-proved nothing is done: the status is 0 where, since `make` has
-built the program, neither its sources nor those that it stands on have changed, nor the toolchain, and 1 else.
+be proved is left to `rt`, which then says why. With --is-proved nothing is done: the status is 0 where, since `make`
+has built the program, neither its sources nor those that it stands on have changed, nor the toolchain, and 1 else.
 """
 
 from __future__ import annotations
@@ -88,7 +88,7 @@ def main() -> int:
     """Proves what isn't built, until no more can be; or says whether all is."""
     words = argparse.ArgumentParser(description="Proves and builds the libraries that a crate stands on, side by side.",
                                     epilog="Example: crates/prove.py mseed")
-    words.add_argument("--is-proved", action="store_true", help="prove nothing: status 0 where all is proved, and 1 else")
+    words.add_argument("--is-proved", action="store_true", help="prove nothing: status 0 where all is proved, else 1")
     words.add_argument("crate", choices=sorted(lines()), metavar="CRATE", help="a crate of crates.txt")
     given = words.parse_args()
     if given.is_proved:

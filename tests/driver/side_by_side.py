@@ -19,8 +19,9 @@ from driver.counting import Count, run_file
 # The seconds that a row file may take.
 MOST = 1200
 # Those that take longest begin first.
-LONGEST = ["library", "library_python", "schedules", "relay", "damaged_archives", "join_archives", "join_texts", "parts",
-           "join_devices", "join_lines", "repack_series", "serve_archives", "devices", "recipes", "instructions", "audit"]
+LONGEST = ["library", "library_python", "schedules", "relay", "damaged_archives", "join_archives", "join_texts",
+           "parts", "join_devices", "join_lines", "repack_series", "serve_archives", "devices", "recipes",
+           "instructions", "audit"]
 
 
 def run_all(names: Sequence[str], jobs: int, is_verbose: bool) -> Count:

@@ -5,7 +5,8 @@ from __future__ import annotations
 
 import shutil
 
-from driver.instructions import FIGURES, VALGRIND, Figures, counts, jobs, judged, limit_of, read, text_of, told, toolchain
+from driver.instructions import (FIGURES, VALGRIND, Figures, counts, jobs, judged, limit_of, read, text_of, told,
+                                 toolchain)
 from driver.rows import Cases, Fact, Skipped, holds
 
 NAME = "the instructions of the commands"
@@ -22,7 +23,8 @@ def judging() -> Cases:
     more = "audit < a: 979 instructions, 0.979 of the figure: bench/instructions.py --write"
     for count, line in ((979, more), (980, None), (1500, None)):
         yield Fact(f"what is told of {count} instructions for 1,000", line, told("audit < a", 1000, count))
-    text, figures = "kit-1 logic 2\nrepack --stretches < a 12\n", Figures("kit-1 logic 2", {"repack --stretches < a": 12})
+    text = "kit-1 logic 2\nrepack --stretches < a 12\n"
+    figures = Figures("kit-1 logic 2", {"repack --stretches < a": 12})
     yield Fact("a text of figures", (figures, text), (read(text), text_of(figures)))
 
 
