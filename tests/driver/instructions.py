@@ -24,7 +24,14 @@ FIGURES = ROOT / "bench" / "instructions.txt"
 VALGRIND = "valgrind"
 # More hundredths of a figure fail, and fewer are told.
 MOST, FEWEST = 102, 98
-BROKEN = ["out_of_order", "gappy"]
+# What is counted over each input, and the inputs of which a channel is broken.
+AUDITED, PACKED = ["audit", "audit --each", "audit --part", "show"], ["repack", "repack --stretches"]
+COMMANDS = {
+    "one_channel": AUDITED + PACKED, "unequal_rates": AUDITED + PACKED, "steim_1_long": AUDITED + PACKED,
+    "integers_in_turn": AUDITED + PACKED, "out_of_order": AUDITED + PACKED[1:], "near_the_limits": AUDITED + PACKED,
+    "gappy": AUDITED + PACKED[1:], "few_samples": AUDITED[:1] + PACKED, "empty_first_frame": AUDITED[:1] + PACKED,
+    "many_channels": AUDITED, "parts_by_days": ["join"], "parts_by_paths": ["join"], "parts_of_new_channels": ["join"]}
+BROKEN = ["out_of_order", "gappy", "parts_by_days", "parts_by_paths"]
 ENVIRONMENT = {"LC_ALL": "C", "GLIBC_TUNABLES": "glibc.cpu.hwcaps=-AVX,-AVX2,-ERMS"}
 
 
@@ -42,17 +49,9 @@ class Job(NamedTuple):
 
 def jobs() -> Iterator[Job]:
     """All that is counted."""
-    for input in INPUTS:
-        is_broken = int(input in BROKEN)
-        if input.startswith("parts"):
-            yield Job("join", input, 1)
-            continue
-        for words in ("audit", "audit --each", "audit --part"):
-            yield Job(words, input, is_broken)
-        yield Job("show", input, 0)
-        if not is_broken:
-            yield Job("repack", input, 0)
-        yield Job("repack --stretches", input, 0)
+    for input, commands in COMMANDS.items():
+        for words in commands:
+            yield Job(words, input, int(input in BROKEN and words not in ("show", "repack --stretches")))
 
 
 class NotCounted(Exception):

@@ -12,7 +12,7 @@ from typing import Callable, Iterable, Sequence
 
 from driver.records import changed, integers, record
 from models.auditing import Tail
-from models.packing import SECOND, Series, btime, packed
+from models.packing import SECOND, STEIM_2, Series, btime, frames_of, packed, words_of
 from models.parts import Head, Kept, Part
 
 START, RATE, SAMPLES = 1704067200000000, 100, 60000
@@ -121,9 +121,38 @@ def gappy() -> list[bytes]:
     return [one for index, one in enumerate(one_channel()) if index % 3]
 
 
+def few_samples() -> list[bytes]:
+    """One channel, of which each record declares three of the samples that its frames hold."""
+    made, at = [], 0
+    for one in recorded():
+        made.append(changed(one, [(30, struct.pack(">H", 3)), (72, integers([noise()[at + 2]]))]))
+        at += count_in(one)
+    return one_behind_another(made, 3000)
+
+
+def empty_first_frame() -> list[bytes]:
+    """One channel, of which each record has its differences in the second frame and behind."""
+    made, at = [], 0
+    differences = [0] + [later - one for one, later in zip(noise(), noise()[1:])]
+    while at < SAMPLES - 700:
+        words, count = words_of(differences[at : at + 700], STEIM_2, 90)
+        frames, _ = frames_of([(0, "0" * 32)] * 13 + words, noise()[at], noise()[at + count - 1], 7)
+        made.append(record(codes=CODES, samples=count, factor=RATE, encoding=11, exponent=9, frames=7, data=frames))
+        at += count
+    return one_behind_another(made, 3000)
+
+
+def many_channels() -> list[bytes]:
+    """4,000 channels in turn, three records of 128 bytes each."""
+    codes = [key[2:7] + key[7:] + key[:2] for key in map(key_of, range(4000))]
+    return one_behind_another([record(factor=RATE)], 12000, codes)
+
+
 def key_of(channel: int) -> bytes:
-    """The codes of one of 500 channels, in the order of a key."""
-    return b"X%c%c%03d 00BH%c" % (65 + channel % 7, 65 + channel // 60, channel // 3, b"ENZ"[channel % 3])
+    """The codes of a channel in the order of a key: network, station, location and channel."""
+    station, component = divmod(channel, 3)
+    return b"%c%c%c%03d %02dBH%c" % (65 + station % 7, 65 + station % 3, 65 + station % 26, station % 1000,
+                                     station // 1000, b"ENZ"[component])
 
 
 def part_of(channels: Iterable[int], day: int) -> bytes:
@@ -148,7 +177,12 @@ def parts_by_paths() -> list[bytes]:
     return [part_of([channel], day) for channel in sorted(range(500), key=key_of) for day in range(16)]
 
 
+def parts_of_new_channels() -> list[bytes]:
+    """A part of 4,000 channels, and one of 4,000 more."""
+    return [part_of(range(first, first + 4000), 0) for first in (0, 4000)]
+
+
 # By name, what each of them makes.
 INPUTS: dict[str, Callable[[], list[bytes]]] = {made.__name__: made for made in (
-    one_channel, unequal_rates, steim_1_long, integers_in_turn, out_of_order, near_the_limits, gappy, parts_by_days,
-    parts_by_paths)}
+    one_channel, unequal_rates, steim_1_long, integers_in_turn, out_of_order, near_the_limits, gappy, few_samples,
+    empty_first_frame, many_channels, parts_by_days, parts_by_paths, parts_of_new_channels)}

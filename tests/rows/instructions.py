@@ -5,9 +5,10 @@ from __future__ import annotations
 
 import shutil
 
-from driver.instructions import (FIGURES, VALGRIND, Figures, counts, jobs, judged, limit_of, read, text_of, told,
-                                 toolchain)
+from driver.instructions import (COMMANDS, FIGURES, VALGRIND, Figures, counts, jobs, judged, limit_of, read, text_of,
+                                 told, toolchain)
 from driver.rows import Cases, Fact, Skipped, holds
+from models.workloads import INPUTS
 
 NAME = "the instructions of the commands"
 # A start alone takes fewer.
@@ -28,6 +29,14 @@ def judging() -> Cases:
     yield Fact("a text of figures", (figures, text), (read(text), text_of(figures)))
 
 
+def inputs() -> Cases:
+    """Each input is counted, and has 1 to 2 MB."""
+    yield Fact("the inputs that are counted", list(INPUTS), list(COMMANDS))
+    for name, made in INPUTS.items():
+        size = sum(map(len, made()))
+        yield holds(f"{name} has 1 to 2 MB", 10**6 <= size < 2 * 2**20, size)
+
+
 def counted(figures: Figures) -> Cases:
     """Each command."""
     for job, count in counts():
@@ -41,6 +50,7 @@ def counted(figures: Figures) -> Cases:
 def rows() -> Cases:
     """All of them."""
     yield from judging()
+    yield from inputs()
     figures = read(FIGURES.read_text(encoding="ascii"))
     yield Fact("the commands that have a figure", [job.name() for job in jobs()], list(figures.of))
     yield holds("figures of more than a start", all(figure > START for figure in figures.of.values()), figures.of)
