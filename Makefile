@@ -58,7 +58,7 @@ readable:
 # proved yet is proved side by side first. That it takes long is said where something has to be proved: nothing was
 # built by this word, or by another toolchain, or a source is newer.
 build:
-	@crates/prove.py --is-proved mseed || echo 'Proving and building: about 20 minutes the first time.'
+	@python3 crates/prove.py --is-proved mseed || echo 'Proving and building: about 20 minutes the first time.'
 	@python3 crates/prove.py mseed
 	@cd crates/mseed && rt run --jobs 2 -- audit < /dev/null > out.log 2>&1 || { cat out.log; exit 1; }
 	@rm -f crates/mseed/out.log

@@ -217,7 +217,7 @@ class Page:
             return f"mseed {others[0]}" in self.texts
         if first == "python3" and others:
             return self.has_file(others[0])
-        if first in ["grep", "set", "tail"] or text in OTHERS:
+        if first in ["grep", "tail"] or text in OTHERS:
             return True
         toolchain = TOOLCHAIN.fullmatch(text)
         if toolchain:

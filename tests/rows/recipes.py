@@ -1,5 +1,5 @@
-"""The recipes of the pages that join parts or pack what `cat` reads, as they stand there, and bench/audit_by_cores.sh:
-over files of any name they come to what a second program says (models/auditing.py); and where a job is killed, a file
+"""The recipes of the pages that join parts, or read what `cat` and `tail` read, as they stand there, and
+bench/audit_by_cores.sh: over files of any name they come to what a second program says (models/auditing.py); and where a job is killed, a file
 or a folder can't be read or a machine is down, they say so, and name no channel continuous."""
 
 from __future__ import annotations
@@ -25,7 +25,7 @@ ODD = ["a b", "it's", 'say "so"', "line\nend", "$HOME `x`", "-dash", "star*", "b
 LACKS = rf"^mseed: {len(ODD) - 1} parts, not {len(ODD)}$"
 BAD = r"^mseed: bad part at line \d+$"
 # Where they stand.
-EXPECTED = [("README.md", "join"), ("docs/cookbook.md", "Files on all cores, joined"),
+EXPECTED = [("README.md", "audit"), ("README.md", "join"), ("docs/cookbook.md", "Files on all cores, joined"),
             ("docs/cookbook.md", "Files on all cores, joined"), ("docs/cookbook.md", "One large archive on all cores"),
             ("docs/cookbook.md", "Several machines"), ("docs/cookbook.md", "A year in records of 512 bytes")]
 
@@ -44,13 +44,13 @@ class Recipe(NamedTuple):
 
 
 def recipes() -> Iterator[Recipe]:
-    """Those of the pages: the blocks of commands that join parts, or pack what comes through a pipe."""
+    """Those of the pages: the blocks of commands that join parts, or read through a pipe what a file holds."""
     for document in ("README.md", "docs/cookbook.md"):
         heading = ""
         blocks = r"^#+ ([^\n]*)|^(```(?:console|sh)\n)(.*?^)```"
         for found in re.finditer(blocks, (ROOT / document).read_text(encoding="utf-8"), re.MULTILINE | re.DOTALL):
             heading, block = found[1] or heading, found[3] or ""
-            if re.search(r"mseed join\b|\bcat .*\|\s*mseed repack", block, re.DOTALL) and "tools/" not in block:
+            if re.search(r"mseed join\b|\$.*; (cat|tail) [^;]*\|\s*\S*mseed ", block) and "tools/" not in block:
                 commands = [command for command, _ in examples(found[2] + block + "```")]
                 yield Recipe(document, heading, "\n".join(commands) if commands else block)
 
@@ -83,7 +83,7 @@ class Place:
     def words(self, recipe: Recipe) -> str:
         """The recipe's words, for the files that are here."""
         words = recipe.words.replace(str(BUILT.relative_to(ROOT)), "mseed").replace("/tmp/", f"{self.folder}/")
-        for name in (f"{self.folder}/large.mseed", "samples/network_gap.mseed"):
+        for name in (f"{self.folder}/large.mseed", "samples/network_gap.mseed", "samples/network_junk.mseed"):
             words = words.replace(name, shlex.quote(str(self.large)))
         return words
 
@@ -108,9 +108,10 @@ class Place:
 def sound(recipe: Recipe, place: Place) -> Cases:
     """Nothing goes wrong."""
     if recipe.document == "README.md":
-        shutil.copy(SAMPLES / "network_gap.mseed", place.large)
-        text, _ = audit((SAMPLES / "network_gap.mseed").read_bytes())
-        wanted = Came(0, "".join(text.decode().splitlines(keepends=True)[-2:]), "")
+        name, at, lines = ("gap", 0, 2) if recipe.heading == "join" else ("junk", 14848, 1)
+        shutil.copy(SAMPLES / f"network_{name}.mseed", place.large)
+        text, _ = audit(place.large.read_bytes()[at:])
+        wanted = Came(0, "".join(text.decode().splitlines(keepends=True)[-lines:]), "")
     elif "large" in recipe.heading:
         text, status = audit((SAMPLES / "gap.mseed").read_bytes() * 2)
         wanted = Came(status, text.decode(), "")
@@ -124,14 +125,15 @@ def sound(recipe: Recipe, place: Place) -> Cases:
 
 def ends(recipe: Recipe, what: str, came: Came, pattern: str) -> Cases:
     """A recipe in which something goes wrong: it says so, calls no channel continuous, and its status isn't 0, if it
-    isn't that of `tail`. That of a year says its status itself, behind which what was packed may be sound."""
+    isn't that of `tail`. One that joins nothing says it by its status, or by the one that it writes."""
     name = f"{recipe.name()}: {what}"
-    if "year" in recipe.heading:
-        yield holds(f"{name}: its status", re.match(r"status [1-9]", came.out), came)
+    if not re.search("join|by_cores", recipe.words):
+        said = came.out if "status" in recipe.words else f"status {came.status}"
+        yield holds(f"{name}: its status", re.match("status [1-9]", said), came)
         return
     yield holds(f"{name}: it says so", re.search(pattern, came.err, re.MULTILINE), came)
     yield Fact(f"{name}: no channel is called continuous", 0, came.out.count("continuous"))
-    if not recipe.words.rstrip().endswith("tail -n 2"):
+    if "tail" not in recipe.words:
         yield holds(f"{name}: its status", came.status != 0, came)
 
 
