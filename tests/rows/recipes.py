@@ -143,8 +143,12 @@ def killed(recipe: Recipe, place: Place) -> Cases:
     yield from ends(recipe, "a job is killed", place.run(recipe, is_killed=True), lacks)
     half = place.run(recipe, is_killed=True, half="half")
     yield from ends(recipe, "a job is killed in the middle", half, lacks if "xargs" in recipe.words else BAD)
-    for down in ("node2", "node1 node2") if "--sshlogin" in recipe.words else ():
-        yield from ends(recipe, f"{down} is down", place.run(recipe, down=down), rf"^mseed: \d+ parts, not {len(ODD)}$")
+    if "--sshlogin" in recipe.words:
+        some = rf"^mseed: \d+ parts, not {len(ODD)}$"
+        yield from ends(recipe, "a machine is down", place.run(recipe, down="node2"), some)
+        others = recipe._replace(words=recipe.words.replace(",: ", " "))
+        none = place.run(others, down="node1 node2")
+        yield from ends(recipe, "all machines are down", none, f"^mseed: 0 parts, not {len(ODD)}$")
 
 
 def unread(recipe: Recipe, place: Place) -> Cases:
