@@ -33,7 +33,7 @@ export FILE OUT
 .PHONY: audit bench build dist drawing edits feed-bench help install install-lib interop lib packages \
     readable repack show test tools-bench tools-test
 
-# These three end with an error of make, and 2, where the program's status isn't 0; it is printed before.
+# Where the program's status isn't 0, these three print it and end with an error of make, whose own status is 2.
 audit: readable build
 	@$(MSEED) audit < "$$FILE"; status=$$?; echo "status $$status"; exit $$status
 
