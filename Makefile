@@ -1,5 +1,5 @@
 # make audit            proves and builds the program, and audits a sample archive
-# make audit FILE=..    the same for an archive of yours
+# make audit FILE=..    the same for an archive of yours; where the program's status isn't 0, make ends with an error
 # make show             lists the records of a sample archive, or of FILE=..
 # make repack           packs the channels of one anew, into packed.mseed or OUT=..
 # make lib              the library for C, C++ and Python, in crates/mseed_c/out/lib
@@ -27,11 +27,8 @@ KIT = $(patsubst %/,%,$(dir $(shell rt doc)))
 LIB := crates/mseed_c/out/lib
 PYTHON_DIR ?= $(PREFIX)/lib/python3/dist-packages
 
-# So that a recipe takes them as they stand, with blanks and quotes.
-export FILE OUT
-
 .PHONY: audit bench build dist drawing edits feed-bench help install install-lib interop lib packages \
-    readable repack show test tools-bench tools-test
+    repack show test tools-bench tools-test
 
 # Where the program's status isn't 0, these three print it and end with an error of make, whose own status is 2.
 audit: readable build
@@ -50,7 +47,11 @@ repack: readable build
 	else rm -f "$$OUT.part"; fi; \
 	echo "status $$status"; exit $$status
 
+# So that a recipe takes them as they stand, with blanks and quotes.
+export FILE OUT
+
 # Before anything is proved.
+.PHONY: readable
 readable:
 	@[ -r "$$FILE" ] && [ ! -d "$$FILE" ] || { echo "FILE=$$FILE: no file that can be read" >&2; exit 2; }
 
