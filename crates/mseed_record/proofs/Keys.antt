@@ -124,3 +124,15 @@ keys_cmp n xs ys h l p q =
     let back = spelled_cmp (drop n xs) (drop n ys) 0 0 (back_long n xs ys l) (back_octets n xs a)
     (back_octets n ys b) in
     (λ i. ordering_then (front i) (back i)) ∙ sym (cmp_behind n xs ys h (omega (arith, h, l)))
+
+-- the same by the numbers themselves, of which the second are asked where the first are the same
+pub words_cmp : (n : ℕ) (xs ys cs ds : List ℕ) (f g h k : ℕ) (o p : Ordering) → xs ≡ cs → ys ≡ ds → n ≤ length xs
+    → length xs ≡ length ys → ((i : ℕ) → slice_index_or xs i 0 < 256) → ((i : ℕ) → slice_index_or ys i 0 < 256)
+    → f ≡ big_endian 0 (take n xs) → g ≡ big_endian 0 (take n ys) → h ≡ big_endian 0 (drop n xs)
+    → k ≡ big_endian 0 (drop n ys) → o ≡ nat_cmp f g → p ≡ ordering_then o (nat_cmp h k) → p ≡ slice_cmp nat_cmp cs ds
+words_cmp n xs ys cs ds f g h k o p are others long l q r first other rest behind front is =
+    is ∙ (λ i. ordering_then (front i) (nat_cmp (rest i) (behind i)))
+    ∙ (λ i. ordering_then (nat_cmp (first i) (other i))
+    (nat_cmp (big_endian 0 (drop n xs)) (big_endian 0 (drop n ys))))
+    ∙ keys_cmp n xs ys long l q r
+    ∙ (λ i. slice_cmp nat_cmp (are i) (others i))

@@ -47,7 +47,11 @@ impl Ord for Codes {
     fn cmp(&self, other: &Codes) -> Ordering {
         let (front, back) = words_of(self.key);
         let (other_front, other_back) = words_of(other.key);
-        front.cmp(&other_front).then(back.cmp(&other_back))
+        match front.cmp(&other_front) {
+            Ordering::Less => Ordering::Less,
+            Ordering::Greater => Ordering::Greater,
+            Ordering::Equal => back.cmp(&other_back),
+        }
     }
 }
 

@@ -1,17 +1,27 @@
-use Rattle.std.proofs.Common.{◌≡◌, ◌≤◌, ◌∙◌, ℕ, List, length, sym, arith}
-use Rattle.std.specs.Cmp.Lexicographic.{slice_cmp}
-use Rattle.std.specs.Ordering.{nat_cmp, ordering_then}
-use Rattle.mseed_record.proofs.Keys.{keys_cmp}
+use Rattle.std.proofs.Common.{◌≡◌, ◌≤◌, ◌∙◌, List, length, refl, sym, arith}
+use Rattle.mseed_record.proofs.Keys.{words_cmp}
 use Rattle.mseed_record.proofs.codes.CodesOrd.cmp.Goals as goal
 
-pub returns : goal.returns
-returns c =
-    let xs : List ℕ = c.self.inside.key in
-    let ys : List ℕ = c.other.inside.key in
+pub returns-in-Less : goal.returns-in-Less
+returns-in-Less c =
     let one = c.words_of-front.ensures in
     let other = c.words_of-other_front.ensures in
-    c.then.ensures
-    ∙ (λ i. ordering_then (c.cmp.ensures i) (c.cmp-2.ensures i))
-    ∙ (λ i. ordering_then (nat_cmp (one.front i) (other.front i)) (nat_cmp (one.back i) (other.back i)))
-    ∙ keys_cmp 8 xs ys (omega (arith, c.self.told)) (c.self.told ∙ sym c.other.told) one.octets other.octets
-    ∙ (λ i. slice_cmp nat_cmp (c.self.view_is i) (c.other.view_is i))
+    words_cmp 8 c.self.inside.key c.other.inside.key _ _ _ _ _ _ _ _ c.self.view_is c.other.view_is
+    (omega (arith, c.self.told)) (c.self.told ∙ sym c.other.told) one.octets other.octets one.front other.front
+    one.back other.back c.in-Less.ensures refl
+
+pub returns-in-Equal : goal.returns-in-Equal
+returns-in-Equal c =
+    let one = c.words_of-front.ensures in
+    let other = c.words_of-other_front.ensures in
+    words_cmp 8 c.self.inside.key c.other.inside.key _ _ _ _ _ _ _ _ c.self.view_is c.other.view_is
+    (omega (arith, c.self.told)) (c.self.told ∙ sym c.other.told) one.octets other.octets one.front other.front
+    one.back other.back c.in-Equal.ensures c.cmp-in-Equal.ensures
+
+pub returns-in-Greater : goal.returns-in-Greater
+returns-in-Greater c =
+    let one = c.words_of-front.ensures in
+    let other = c.words_of-other_front.ensures in
+    words_cmp 8 c.self.inside.key c.other.inside.key _ _ _ _ _ _ _ _ c.self.view_is c.other.view_is
+    (omega (arith, c.self.told)) (c.self.told ∙ sym c.other.told) one.octets other.octets one.front other.front
+    one.back other.back c.in-Greater.ensures refl
