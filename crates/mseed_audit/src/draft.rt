@@ -1,16 +1,21 @@
 //! A line that is built in place, and added to a text at once.
-ghost use Rattle.std.specs.Prelude.{◌≡◌, ◌≤◌, ◌<◌, ◌+◌, ◌^◌, [], ◌++◌, length, decimal, map, take};
+ghost use Rattle.std.specs.Prelude.{◌≡◌, ◌≤◌, ◌<◌, ◌+◌, ◌^◌, [], ◌++◌, OnErr, OnOk, length, decimal, map, take};
 ghost use Rattle.std.specs.Fmt.{signed_decimal};
 ghost use Rattle.mseed_time.specs.Text.{padded_decimal};
+ghost use Rattle.mseed_stream.specs.Device.{IsPrefixOf};
 ghost use Rattle.mseed_audit.specs.Text.{code_text, name_text, printed};
 
 use crate::name::{printed, trimmed};
 use itoa::Buffer;
 use mseed_record::Codes;
+use std::alloc::{AllocError, Allocator};
 use std::marker::Model;
 
 /// The most bytes of a draft.
 const ROOM: usize = 256;
+
+/// A text has room for so many bytes at least, if for any.
+const LEAST_ROOM: usize = 8;
 
 /// The two digits of each number below 100, one number behind another.
 static DIGITS: [u8; 200] = *b"\
@@ -231,6 +236,50 @@ fn write_printed(room: &mut [u8; ROOM], place: usize, code: &[u8])
     for index in 0..code.len() {
         room[place + index] = printed(code[index]);
     }
+}
+
+/// Adds a line to a text. The room of a text begins with what the first word of its first line takes, and doubles until
+/// a line has room: so no text asks for more memory than one to which the words are added one by one.
+///
+/// # Errors
+///
+/// `AllocError` where memory is refused. The text is as it was.
+#[inline(always)]
+pub fn push_line<A: Allocator>(text: &mut Vec<u8, A>, line: &[u8]) -> Result<(), AllocError>
+    ensures ok { OnOk result (text.new.items ≡ text.old.items ++ line.now) }
+    ensures unchanged { OnErr result (text.new.items ≡ text.old.items) }
+    ensures prefix { IsPrefixOf text.old.items text.new.items }
+{
+    if text.capacity() - text.len() < line.len() {
+        make_room(text, line)?;
+    }
+    text.extend_from_slice(line)
+}
+
+/// Makes room for a line. What the text holds stays, whatever the result.
+#[cold]
+#[inline(never)]
+fn make_room<A: Allocator>(text: &mut Vec<u8, A>, line: &[u8]) -> Result<(), AllocError>
+    ensures { text.new.items ≡ text.old.items }
+{
+    let least = text.len().saturating_add(line.len());
+    let mut room = text.capacity().max(first_word(line)).max(LEAST_ROOM);
+    for _ in 0..usize::BITS {
+        if room < least {
+            room = room.saturating_mul(2);
+        }
+    }
+    text.reserve_exact(room.saturating_sub(text.len()))
+}
+
+/// How many bytes stand before the first space.
+fn first_word(line: &[u8]) -> usize {
+    for index in 0..line.len() {
+        if line[index] == b' ' {
+            return index;
+        }
+    }
+    line.len()
 }
 
 /// The two digits of a number.

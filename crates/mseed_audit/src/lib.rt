@@ -22,7 +22,7 @@ pub use assembly::{NotContinuous, is_of, series};
 pub use audits::{Audit, Channels, Memory, Verdicts};
 pub use channel::{Channel, Findings, Head};
 pub use channel_series::{BadStep, Series};
-pub use draft::Draft;
+pub use draft::{Draft, push_line};
 pub use each::{EachFault, audit_each, gather_each};
 pub use finding::{Finding, Why};
 pub use law::{

@@ -10,7 +10,7 @@ ghost use Rattle.mseed_audit.specs.Reported.{reported_at};
 ghost use Rattle.mseed_record.specs.Viewing.{view_of};
 
 use crate::audits::Memory;
-use crate::draft::Draft;
+use crate::draft::{Draft, push_line};
 use crate::finding::{Finding, Why};
 use crate::line::fault_line_of;
 use crate::verdict::Verdict;
@@ -71,7 +71,7 @@ pub fn push_verdict_line<A: Allocator>(
 {
     let mut line = Draft::new();
     put_verdict_line(&mut line, codes, verdict);
-    text.extend_from_slice(line.as_slice())
+    push_line(text, line.as_slice())
 }
 
 /// Puts the line of a channel.
@@ -166,7 +166,7 @@ fn push_reported_line<A: Allocator>(
 {
     let mut line = Draft::new();
     put_reported_line(&mut line, view, finding);
-    text.extend_from_slice(line.as_slice())
+    push_line(text, line.as_slice())
 }
 
 /// Puts the line of a record with a finding.
@@ -199,7 +199,7 @@ pub fn push_start<A: Allocator>(text: &mut Vec<u8, A>, view: &RecordView) -> Res
 {
     let mut line = Draft::new();
     put_start(&mut line, view);
-    text.extend_from_slice(line.as_slice())
+    push_line(text, line.as_slice())
 }
 
 /// Puts a record's start, or the field that is out of its range.
@@ -247,7 +247,7 @@ pub fn push_total_line<A: Allocator>(
     line.put(b" channels ");
     line.put_count(channels);
     line.put(b"\n");
-    text.extend_from_slice(line.as_slice())
+    push_line(text, line.as_slice())
 }
 
 /// Adds the line of a stream's fault; none for a want of memory.
@@ -263,7 +263,7 @@ pub fn push_fault_line<A: Allocator>(
     ensures unchanged { OnErr result (text.new.items ≡ text.old.items) }
     ensures prefix { IsPrefixOf text.old.items text.new.items }
 {
-    text.extend_from_slice(&fault_line_of(fault))
+    push_line(text, &fault_line_of(fault))
 }
 
 /// Adds the words of a finding.
@@ -278,7 +278,7 @@ pub fn push_why<A: Allocator>(text: &mut Vec<u8, A>, why: &Why) -> Result<(), Al
 {
     let mut line = Draft::new();
     put_why(&mut line, why);
-    text.extend_from_slice(line.as_slice())
+    push_line(text, line.as_slice())
 }
 
 /// Puts the words of a finding.

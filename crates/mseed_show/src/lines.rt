@@ -1,11 +1,11 @@
 //! The lines of a listing.
-ghost use Rattle.std.specs.Prelude.{◌≡◌, ◌≤◌, ◌+◌, ◌++◌, OnOk, codes, length};
+ghost use Rattle.std.specs.Prelude.{◌≡◌, ◌≤◌, ◌+◌, ◌++◌, OnErr, OnOk, codes, length};
 ghost use Rattle.mseed_record.specs.Viewing.{view_of};
 ghost use Rattle.mseed_show.specs.Listing.{record_line, offset_words, size_words, time_words, payload_words};
 ghost use Rattle.mseed_show.specs.Listing.{count_line};
 ghost use Rattle.mseed_show.specs.Listing.{start_text, rate_text, time_fault_words, order_word, last_words};
 
-use mseed_audit::Draft;
+use mseed_audit::{Draft, push_line};
 use mseed_record::RecordView;
 use mseed_time::{NoRate, Order, TimeFault, show_time};
 use std::alloc::{AllocError, Allocator};
@@ -20,14 +20,15 @@ pub fn push_record_line<A: Allocator>(
     offset: u64,
     view: &RecordView,
 ) -> Result<(), AllocError>
-    ensures { OnOk result (text.new.items ≡ text.old.items ++ record_line offset (view_of view.now)) }
+    ensures ok { OnOk result (text.new.items ≡ text.old.items ++ record_line offset (view_of view.now)) }
+    ensures unchanged { OnErr result (text.new.items ≡ text.old.items) }
 {
     let mut line = Draft::new();
     put_offset(&mut line, offset, view);
     put_size(&mut line, view);
     put_times(&mut line, view);
     put_payload(&mut line, view);
-    text.extend_from_slice(line.as_slice())
+    push_line(text, line.as_slice())
 }
 
 /// Adds the line that counts the records.
@@ -36,13 +37,14 @@ pub fn push_record_line<A: Allocator>(
 ///
 /// `AllocError` where an allocation was refused. The text is as it was then.
 pub fn push_count_line<A: Allocator>(text: &mut Vec<u8, A>, records: u64) -> Result<(), AllocError>
-    ensures { OnOk result (text.new.items ≡ text.old.items ++ count_line records) }
+    ensures ok { OnOk result (text.new.items ≡ text.old.items ++ count_line records) }
+    ensures unchanged { OnErr result (text.new.items ≡ text.old.items) }
 {
     let mut line = Draft::new();
     line.put(b"records ");
     line.put_count(records);
     line.put(b"\n");
-    text.extend_from_slice(line.as_slice())
+    push_line(text, line.as_slice())
 }
 
 /// Puts where a record begins, and its channel's name.

@@ -5,6 +5,7 @@ mod auditing;
 mod cutting;
 pub(crate) mod devices;
 mod framing;
+mod growing;
 mod keeping;
 mod telling;
 mod times;

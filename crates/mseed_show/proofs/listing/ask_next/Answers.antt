@@ -16,7 +16,7 @@ returns-in_ok-push_record_line-in-Ok-Some g c = λ views before.
       view = view;
       handed = handed;
       called = called;
-      line = c.in_ok-push_record_line-in-Ok-Some.ensures
+      line = c.in_ok-push_record_line-in-Ok-Some.ensures.ok
           ∙ ap (λ (xs : List ℕ). xs ++ record_line c.offset-offset.result view) c.requires.written
           ∙ ap (λ (n : ℕ). record_line n view) c.offset-offset.ensures;
     }

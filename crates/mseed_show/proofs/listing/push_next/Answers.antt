@@ -17,7 +17,7 @@ returns-in-Some g c = λ views before.
     let same : view.bytes ≡ take (length c.bytes-size.result.now) lent =
     is.1 ∙ ap (λ (xs : List ℕ). take (length xs) lent) (sym c.bytes-size.ensures.value) in
     let line : c.push_record_line.new.text.items ≡ text ++ record_line c.args.cutter.now.offset view =
-    c.in_ok-push_record_line.ensures ∙ ap (λ (n : ℕ). text ++ record_line n view) c.offset-offset.ensures in
+    c.in_ok-push_record_line.ensures.ok ∙ ap (λ (n : ℕ). text ++ record_line n view) c.offset-offset.ensures in
     record {
       view = view;
       handed = c.pass.ensures.handed views view before is.0 same;
