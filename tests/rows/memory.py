@@ -1,6 +1,6 @@
 """Each of the program's allocations refused in turn, alone and with all behind it: each such run writes
 `mseed: no memory` to its standard error and ends with status 2. An audit writes nothing then, and a listing a prefix of
-its text. An audit of many records allocates as often as one of four, and no more.
+its text. An audit of many records allocates as often as one of four, and no more. Heaps that are bounded suffice.
 """
 
 from __future__ import annotations
@@ -11,6 +11,7 @@ from typing import Generator
 from driver.helpers import COMPILER, library, preloaded, refused_in_turn
 from driver.links import free_port
 from driver.program import SAMPLES
+from driver.records import record
 from driver.rows import Case, Cases, Fact, Result, Row, Skipped, holds
 from driver.texts import NO_MEMORY, Expected, PrefixOf, matches
 
@@ -62,6 +63,21 @@ def least(refusing: str) -> Cases:
                   env=preloaded(refusing, HEAP=enough))
 
 
+def bounded(refusing: str) -> Cases:
+    """Heaps that suffice. The text of 600 lines of up to 101 bytes takes 65,536, and that of 9,000 lines of 83 bytes,
+    which begin with 13, takes 13 * 65,536: a text has room for the first word of its first line, and doubles. What is
+    kept of 9,000 channels takes no more than an eighth beyond what they need."""
+    many = b"".join(record(codes=b"S%04d  %sXX" % (number // 3, (b"BHZ", b"BHN", b"BHE")[number % 3]))
+                    for number in range(9000))
+    for name, archive, command, heap in (
+        ("a listing of 600 records", TWO[:128] * 600, "show", 200_000),
+        ("an audit of 9,000 channels", many, "audit", 3_500_000),
+    ):
+        row = Row(f"{name} in {heap} bytes", archive, [command], 0)
+        whole = replace(row, env=preloaded(refusing, REFUSE=0)).run()
+        yield replace(row, out=whole.out, err=whole.err, env=preloaded(refusing, HEAP=heap))
+
+
 def rows() -> Cases:
     """All of them."""
     refusing = library("refuse_memory")
@@ -84,3 +100,4 @@ def rows() -> Cases:
     of_many = yield from refuses("many audit", Row("", MANY, ["audit"], 1), refusing)
     yield Fact("as many allocations for many records as for four", of_four, of_many)
     yield from least(refusing)
+    yield from bounded(refusing)

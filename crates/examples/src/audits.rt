@@ -4,10 +4,10 @@ ghost use Rattle.mseed_stream.specs.Device.{nothing_read};
 ghost use Rattle.mseed_audit.specs.Text.{fault_line, why_text};
 
 use mseed_audit::{
-    Audit, AuditFault, BadStep, Channel, Draft, EachFault, Line, Memory, NotContinuous, Piece,
-    Series, Verdict, Why, audit, audit_each, fault_line_of, gather, gather_each, is_of, line_of,
-    name_of, push_count, push_fault_line, push_name, push_pieces, push_start, push_total_line,
-    push_verdict_line, push_why, series,
+    Audit, AuditFault, BadStep, Channel, ChannelList, Draft, EachFault, Line, Memory,
+    NotContinuous, Piece, Series, Verdict, Why, audit, audit_each, fault_line_of, gather,
+    gather_each, is_of, line_of, name_of, push_count, push_fault_line, push_line, push_name,
+    push_pieces, push_start, push_total_line, push_verdict_line, push_why, series,
 };
 use mseed_record::{Codes, RecordView};
 use mseed_stream::{Counted, Sink, Source, StreamFault};
@@ -234,4 +234,58 @@ pub fn width_of(codes: &Codes, records: u64) -> usize {
     draft.put(b" ");
     draft.put_count(records);
     draft.as_slice().len()
+}
+
+/// The line that says how many records a channel has, added to a text as it was built.
+pub fn push_records(text: &mut Vec<u8>, codes: &Codes, records: u64) -> Result<(), AllocError> {
+    let mut draft = Draft::new();
+    draft.put_name(codes);
+    draft.put(b" ");
+    draft.put_count(records);
+    draft.put(b"\n");
+    push_line(text, draft.as_slice())
+}
+
+/// Two channels, ascending by their keys; one where both have the same key.
+pub fn two_channels(
+    alloc: Global,
+    one: &(Codes, Channel),
+    other: &(Codes, Channel),
+) -> Result<Vec<(Codes, Channel)>, Memory> {
+    let mut channels = ChannelList::new(alloc);
+    channels.find_or_keep(one.0, &one.1)?;
+    channels.find_or_keep(other.0, &other.1)?;
+    channels.by_key(alloc)
+}
+
+/// Puts what is kept of a channel in the place of what was, or keeps a new channel.
+pub fn put_channel(
+    channels: &mut ChannelList,
+    codes: Codes,
+    channel: Channel,
+) -> Result<(), Memory> {
+    match channels.find(codes) {
+        Some(index) => {
+            *channels.channel_mut(index) = channel;
+            Ok(())
+        }
+        None => channels.keep(codes, channel),
+    }
+}
+
+/// Whether a channel came first of all on a list.
+pub fn is_first(channels: &ChannelList, codes: &Codes) -> bool {
+    match channels.places().get(codes) {
+        Some(index) => *index == 0,
+        None => false,
+    }
+}
+
+/// How many channels are on a list besides one.
+pub fn others(channels: &ChannelList, codes: &Codes) -> usize {
+    if channels.holds(codes) {
+        channels.len().saturating_sub(1)
+    } else {
+        channels.as_slice().len()
+    }
 }

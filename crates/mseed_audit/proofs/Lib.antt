@@ -1,4 +1,5 @@
 pub mod Apart
+pub mod ByKey
 pub mod Alike
 pub mod Assembled
 pub mod Behind
@@ -24,6 +25,7 @@ pub mod OneTelling
 pub mod OneVerdict
 pub mod Outcomes
 pub mod Prefixes
+pub mod Placed
 pub mod Places
 pub mod Rosters
 pub mod Shorts

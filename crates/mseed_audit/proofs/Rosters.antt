@@ -1,5 +1,5 @@
 -- Where channels stand on a roster, and what is kept of them there.
-use Rattle.std.proofs.Common.{◌≡◌, ℕ, suc, ◌+◌, ◌<◌, ◌≤◌, List, [], ◌∷◌, ◌++◌, Bool, true, false, cond, length, get_or}
+use Rattle.std.proofs.Common.{◌≡◌, ℕ, zero, suc, ◌+◌, ◌<◌, ◌≤◌, List, [], ◌∷◌, ◌++◌, Bool, true, false, cond, length, get_or}
 use Rattle.std.proofs.Common.{set, is_some, Option, IsSome, Some, None, if◌then◌else◌, refl, sym, ap, subst, ◌∙◌, arith}
 use Rattle.std.proofs.Common.{append-nil, append_assoc}
 use Rattle.std.specs.List.{All, slice_get}
@@ -19,9 +19,8 @@ use Rattle.mseed_steim.specs.Reading.{count_of}
 use Rattle.mseed_audit.specs.declared.channel.Channel.{Channel}
 use Rattle.mseed_audit.specs.Audit.{Stands, StandsAt}
 use Rattle.mseed_audit.specs.Channels.{Placed, same_key, with_record}
-use Rattle.mseed_audit.specs.declared.roster.Place.{Place}
-use Rattle.mseed_audit.specs.private.Kept.{AreBounded, IsBounded, IsPlace}
-use Rattle.mseed_audit.specs.Places.{ArePlaces, place_of}
+use Rattle.mseed_audit.specs.private.Kept.{AreBounded, IsBounded}
+use Rattle.mseed_audit.specs.Places.{ArePlaces, place_of, with_channel}
 use Rattle.mseed_audit.proofs.Counts.{all_within_more}
 use Rattle.mseed_audit.proofs.Maps.{keys_alike, same_back, same_is}
 use Rattle.mseed_audit.proofs.Steps.{stands_more, some_is}
@@ -253,7 +252,7 @@ abbrev pub made_at : {X : Type 0} → (Channel → X) → List (List ℕ × Chan
 made_at f es [] = []
 made_at f es (p ∷ ps) = read_through f p.0 (slice_get es p.1) ++ made_at f es ps
 
-made_next : {X : Type 0} (f : Channel → X) (es : List (List ℕ × Channel)) (key : List ℕ) (i : ℕ)
+pub made_next : {X : Type 0} (f : Channel → X) (es : List (List ℕ × Channel)) (key : List ℕ) (i : ℕ)
     (ps : List (List ℕ × ℕ)) (e : List ℕ × Channel) → i < length es → e ≡ get_or es i e
     → made_at f es ((key, i) ∷ ps) ≡ (key, f e.1) ∷ made_at f es ps
 made_next f es key i ps e l is =
@@ -354,6 +353,22 @@ pub record IsMaking {X : Type 0} (f : Channel → X) (es : List (List ℕ × Cha
   pub fits : length made + length rest ≤ room
   pub within : All (λ i. i < length es) (values_of rest)
 
+-- nothing is made yet
+pub making_begin : {X : Type 0} (f : Channel → X) (es old : List (List ℕ × Channel)) (first places : List (List ℕ × ℕ))
+    (made : List (List ℕ × X)) (room : ℕ) → first ≡ places → ArePlaces places es → es ≡ old → made ≡ []
+    → length places ≤ room → IsMaking f old first first made room
+making_begin {X = X} f es old first places made room is are same none fits = record {
+  all = ap (λ (xs : List (List ℕ × X)). xs ++ made_at f old first) none;
+  fits = omega (
+    arith,
+    fits,
+    ap (λ (ps : List (List ℕ × ℕ)). length ps) is,
+    ap (λ (xs : List (List ℕ × X)). length xs) none,
+  );
+  within = subst (λ (ps : List (List ℕ × ℕ)). All (λ i. i < length old) (values_of ps)) (sym is)
+      (subst (λ (fs : List (List ℕ × Channel)). All (λ i. i < length fs) (values_of places)) same are.within);
+}
+
 -- one more is made
 pub making_more : {X : Type 0} (f : Channel → X) (es : List (List ℕ × Channel)) (first : List (List ℕ × ℕ))
     (key : List ℕ) (i : ℕ) (rest : List (List ℕ × ℕ)) (e : List ℕ × Channel) (x : X) (made more : List (List ℕ × X))
@@ -383,11 +398,33 @@ all_made {X = X} f es old first rest places made room making none is are ascendi
     }
 
 -- what is found at a place
-pub found_at : (test : List ℕ → Bool) (es : List (List ℕ × Channel)) (i : ℕ) (e : List ℕ × Channel)
-    → place_of test es ≡ Some i → e ≡ get_or es i e → lookup test es ≡ Some e.1
-found_at test es i e place is =
-    let there : slice_get es i ≡ Some e = slice_get_read es (length es) i e refl (place_within test es i place) is in
-    kept_at test es i place ∙ ap (λ (o : Option (List ℕ × Channel)). option_map (λ (x : List ℕ × Channel). x.1) o) there
+pub found_at : (test : List ℕ → Bool) (es : List (List ℕ × Channel)) (i : ℕ) (c : Channel) → place_of test es ≡ Some i
+    → option_map (λ (e : List ℕ × Channel). e.1) (slice_get es i) ≡ Some c → lookup test es ≡ Some c
+found_at test es i c place is = kept_at test es i place ∙ is
+
+with_by : (b : Bool) (x : List ℕ × Channel) (es next : List (List ℕ × Channel)) (o : Option ℕ) (i : ℕ) (v : Channel)
+    → ((j : ℕ) → o ≡ Some j → with_channel es j v ≡ next) → cond b (Some 0) (option_map suc o) ≡ Some i
+    → with_channel (x ∷ es) i v ≡ cond b ((x.0, v) ∷ es) (x ∷ next)
+with_by true x es next o i v later e = ap (λ (n : ℕ). with_channel (x ∷ es) n v) (sym (number_in 0 i e))
+with_by false x es next None i v later e = absurd (cc e)
+with_by false x es next (Some j) i v later e =
+    ap (λ (n : ℕ). with_channel (x ∷ es) n v) (sym (number_in (suc j) i e))
+    ∙ ap (λ (fs : List (List ℕ × Channel)). x ∷ fs) (later j refl)
+
+-- what is kept of the channel at a place is what is kept at its key
+pub with_is : (test : List ℕ → Bool) (es : List (List ℕ × Channel)) (i : ℕ) (v : Channel) → place_of test es ≡ Some i
+    → with_channel es i v ≡ set_value test es v
+with_is test [] i v e = absurd (cc e)
+with_is test (x ∷ es) i v e =
+    with_by (test x.0) x es (set_value test es v) (place_of test es) i v (λ j s. with_is test es j v s) e
+
+-- and where it is kept already the list is what it was
+pub with_itself : (es : List (List ℕ × Channel)) (i : ℕ) (c : Channel)
+    → option_map (λ (e : List ℕ × Channel). e.1) (slice_get es i) ≡ Some c → with_channel es i c ≡ es
+with_itself [] i c at = refl
+with_itself (e ∷ es) zero c at =
+    ap (λ (d : Channel). (e.0, d) ∷ es) (sym (ap (λ (o : Option Channel). unwrap_or o c) at))
+with_itself (e ∷ es) (suc i) c at = ap (λ (fs : List (List ℕ × Channel)). e ∷ fs) (with_itself es i c at)
 
 -- what is kept at a place becomes something else
 pub set_found : (test : List ℕ → Bool) (es : List (List ℕ × Channel)) (i : ℕ) (e : List ℕ × Channel) (v : Channel)
@@ -401,11 +438,6 @@ places_set places test es v are = record {
   each = λ key. are.each key ∙ sym (places_stay (same_key key) test es v);
   within = subst (λ (n : ℕ). All (λ i. i < n) (values_of places)) (sym (length-set_value test es v)) are.within;
 }
-
-pub place_set : (last : Option Place) (test : List ℕ → Bool) (es : List (List ℕ × Channel)) (v : Channel)
-    → IsPlace last es → IsPlace last (set_value test es v)
-place_set None test es v is = tt
-place_set (Some p) test es v is = places_stay (same_key p.codes) test es v ∙ is
 
 pub all_below : (ns : List ℕ) (n : ℕ) → All (λ i. i < n) ns → All (λ i. i < n + 1) ns
 all_below ns n all = λ k d l. omega (arith, all k d l)

@@ -1,8 +1,12 @@
 -- Channels in a list, each with its key, and where each of them stands.
-use Rattle.std.specs.Prelude.{⊤, ◌≡◌, ◌<◌, ℕ, suc, Bool, cond, List, [], ◌∷◌, length, Option, Some, None}
+use Rattle.std.specs.Prelude.{⊤, ◌≡◌, ◌<◌, ℕ, zero, suc, Bool, cond, List, [], ◌∷◌, length, Option, Some, None}
 use Rattle.std.specs.List.{All}
-use Rattle.std.specs.Map.{lookup, values_of}
+use Rattle.std.specs.BTreeMap.{insert_entry}
+use Rattle.std.specs.Map.{keys_of, lookup, values_of}
 use Rattle.std.specs.Option.{option_map}
+use Rattle.std.specs.Ordering.{nat_cmp}
+use Rattle.std.specs.Cmp.Lexicographic.{slice_cmp}
+use Rattle.std.specs.List.Sorted.{IsStrictlySortedBy}
 use Rattle.mseed_audit.specs.declared.channel.Channel.{Channel}
 use Rattle.mseed_audit.specs.Channels.{same_key}
 
@@ -10,6 +14,17 @@ use Rattle.mseed_audit.specs.Channels.{same_key}
 abbrev pub place_of : (List ℕ → Bool) → List (List ℕ × Channel) → Option ℕ
 place_of test [] = None
 place_of test (e ∷ es) = cond (test e.0) (Some 0) (option_map suc (place_of test es))
+
+-- with something else kept of the channel at a place
+abbrev pub with_channel : List (List ℕ × Channel) → ℕ → Channel → List (List ℕ × Channel)
+with_channel [] i c = []
+with_channel (e ∷ es) zero c = (e.0, c) ∷ es
+with_channel (e ∷ es) (suc i) c = e ∷ with_channel es i c
+
+-- the channels, ascending by the bytes of their keys
+abbrev pub by_key : List (List ℕ × Channel) → List (List ℕ × Channel)
+by_key [] = []
+by_key (e ∷ es) = insert_entry (slice_cmp nat_cmp) (by_key es) e.0 e.1
 
 -- where each channel stands, by its key
 pub record ArePlaces (places : List (List ℕ × ℕ)) (channels : List (List ℕ × Channel)) : Type 0 where
@@ -20,3 +35,10 @@ pub record ArePlaces (places : List (List ℕ × ℕ)) (channels : List (List �
 abbrev pub AreApart : List (List ℕ × Channel) → Type 0
 AreApart [] = ⊤
 AreApart (e ∷ es) = (place_of (same_key e.0) es ≡ None) × AreApart es
+
+-- where each channel stands, ascending by their keys, of which no two are the same
+pub record ArePlaced (ps : List (List ℕ × ℕ)) (channels : List (List ℕ × Channel)) : Type 0 where
+  pub places : ArePlaces ps channels
+  pub apart : AreApart channels
+  pub ascending : IsStrictlySortedBy (slice_cmp nat_cmp) (keys_of ps)
+  pub many : length ps ≡ length channels

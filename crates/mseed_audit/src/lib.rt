@@ -4,6 +4,7 @@
 mod assembly;
 mod audits;
 mod channel;
+mod channel_list;
 mod channel_series;
 mod draft;
 mod each;
@@ -21,6 +22,7 @@ mod verdict;
 pub use assembly::{NotContinuous, is_of, series};
 pub use audits::{Audit, Channels, Memory, Verdicts};
 pub use channel::{Channel, Findings, Head};
+pub use channel_list::ChannelList;
 pub use channel_series::{BadStep, Series};
 pub use draft::{Draft, push_line};
 pub use each::{EachFault, audit_each, gather_each};

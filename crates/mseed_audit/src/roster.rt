@@ -15,36 +15,23 @@ ghost use Rattle.mseed_audit.specs.Audit.{Stands, StandsAt, verdict_of};
 ghost use Rattle.mseed_audit.specs.Judging.{IsFound};
 ghost use Rattle.mseed_audit.specs.declared.channel.Channel.{Channel};
 ghost use Rattle.mseed_audit.specs.private.Kept.{AreBounded, IsBounded, IsLearnt};
-ghost use Rattle.mseed_audit.specs.Places.{place_of};
 ghost use Rattle.mseed_audit.specs.Reported.{IsFoundOf};
 
 use crate::audits::Memory;
 use crate::channel::{Channel, Lead};
+use crate::channel_list::ChannelList;
 use crate::finding::Why;
 use crate::verdict::Verdict;
 use mseed_record::{Codes, RecordView};
 use std::alloc::{Allocator, Global};
-use std::collections::BTreeMap;
 use std::marker::Model;
 
-/// Where a channel stands on a roster.
-#[derive(Clone, Copy)]
-pub(crate) struct Place {
-    codes: Codes,
-    index: usize,
-}
-
-/// What is kept of each channel, in the order in which they came. A record of the channel that came last is added
-/// without a search, and so is one of the channel that came first behind that one; each other by a search.
+/// What is kept of each channel, with room for the verdict on each.
 ///
-/// Contracts see a roster as the list of its channels, each with its key.
+/// Contracts see a roster as the list of its channels, each with its key, in the order in which they came.
 #[derive(Drop)]
 pub(crate) struct Roster<A: Allocator = Global> {
-    channels: Vec<(Codes, Channel), A>,
-    // Where each of them stands, by its key.
-    places: BTreeMap<Codes, usize, A>,
-    // The one that came last. In most archives the next record is of it too.
-    last: Option<Place>,
+    channels: ChannelList<A>,
     // Nothing yet, with room for each channel.
     verdicts: Vec<(Codes, Verdict), A>,
 }
@@ -52,15 +39,13 @@ pub(crate) struct Roster<A: Allocator = Global> {
 impl<A: Allocator> Model for Roster<A> {
     ghost use Rattle.std.specs.Prelude.{List, ℕ};
     ghost use Rattle.mseed_audit.specs.declared.channel.Channel.{Channel};
-    ghost use Rattle.mseed_audit.specs.private.Kept.{HasRoom, IsPlace};
-    ghost use Rattle.mseed_audit.specs.Places.{AreApart, ArePlaces};
+    ghost use Rattle.mseed_audit.specs.private.Kept.{HasRoom};
 
     ghost Value = { List (List ℕ × Channel) };
 
-    ghost view = { λ r. r.channels.items };
+    ghost view = { λ r. r.channels };
 
-    ghost invariant = { λ r. ArePlaces r.places.entries r.channels.items × HasRoom r.places.entries r.verdicts
-        × IsPlace r.last r.channels.items × AreApart r.channels.items };
+    ghost invariant = { λ r. HasRoom r.channels r.verdicts };
 }
 
 impl<A: Allocator + Copy> Roster<A> {
@@ -69,9 +54,7 @@ impl<A: Allocator + Copy> Roster<A> {
         ensures { result ≡ [] }
     {
         Roster {
-            channels: Vec::new(alloc),
-            places: BTreeMap::new(alloc),
-            last: None,
+            channels: ChannelList::new(alloc),
             verdicts: Vec::new(alloc),
         }
     }
@@ -80,7 +63,7 @@ impl<A: Allocator + Copy> Roster<A> {
     pub(crate) fn holds(&self, codes: &Codes) -> bool
         ensures { IsTrue result ↔ IsSome (lookup (same_key codes.now) self.now) }
     {
-        self.places.contains_key(codes)
+        self.channels.holds(codes)
     }
 
     /// Adds a record to its channel, if the channel is there and nothing is found of the record, or if it is a silent
@@ -105,10 +88,10 @@ impl<A: Allocator + Copy> Roster<A> {
         if view.samples() == 0 {
             return Ok(());
         }
-        let Some(index) = self.find(view.codes()) else {
+        let Some(index) = self.channels.find(view.codes()) else {
             return Err(None);
         };
-        self.channels[index].1.add_sound(view)?;
+        self.channels.channel_mut(index).add_sound(view)?;
         Ok(())
     }
 
@@ -142,8 +125,12 @@ impl<A: Allocator + Copy> Roster<A> {
             return Ok(None);
         }
         let codes = view.codes();
-        match self.find(codes) {
-            Some(index) => Ok(self.channels[index].1.add(view, number, offset, lead)),
+        match self.channels.find(codes) {
+            Some(index) => Ok(
+                self.channels
+                    .channel_mut(index)
+                    .add(view, number, offset, lead),
+            ),
             None => Ok(self.begin(codes, view, number, offset)?),
         }
     }
@@ -169,76 +156,16 @@ impl<A: Allocator + Copy> Roster<A> {
         Ok(why)
     }
 
-    /// Where a channel stands, if it is there. It is then the one that came last.
-    #[inline(always)]
-    fn find(&mut self, codes: Codes) -> Option<usize>
-        ensures place { result ≡ place_of (same_key codes) self.old }
-        ensures stays { self.new ≡ self.old }
-    {
-        if let Some(last) = self.last {
-            if last.codes == codes {
-                return Some(last.index);
-            }
-            if let Some(index) = self.behind(last.index, codes) {
-                self.last = Some(Place { codes, index });
-                return Some(index);
-            }
-        }
-        self.search(codes)
-    }
-
-    /// Where a channel stands, if it came first behind the one at an index, or first of all where that one came last.
-    #[inline(always)]
-    fn behind(&self, index: usize, codes: Codes) -> Option<usize>
-        ensures { IfSome result (λ i. place_of (same_key codes) self.now ≡ Some i) }
-    {
-        let next = index.saturating_add(1);
-        let next = if next < self.channels.len() { next } else { 0 };
-        match self.channels.get(next) {
-            Some((key, _)) if *key == codes => Some(next),
-            _ => None,
-        }
-    }
-
-    /// The same by a search of the map.
-    #[inline(never)]
-    fn search(&mut self, codes: Codes) -> Option<usize>
-        ensures place { result ≡ place_of (same_key codes) self.old }
-        ensures stays { self.new ≡ self.old }
-    {
-        match self.places.get(&codes) {
-            Some(index) => {
-                let index = *index;
-                self.last = Some(Place { codes, index });
-                Some(index)
-            }
-            None => None,
-        }
-    }
-
     /// Keeps a new channel, once there is room for it and for its verdict.
     fn keep(&mut self, codes: Codes, channel: Channel) -> Result<(), Memory>
         requires { lookup (same_key codes) self.old ≡ None }
         ensures kept { OnOk result (self.new ≡ self.old ++ (codes, channel) ∷ []) }
         ensures unchanged { OnErr result (self.new ≡ self.old) }
     {
-        let index = self.channels.len();
-        if self.verdicts.reserve(self.places.len() + 1).is_err() {
+        if self.verdicts.reserve(self.channels.len() + 1).is_err() {
             return Err(Memory);
         }
-        if self.channels.reserve(1).is_err() {
-            return Err(Memory);
-        }
-        match self.places.insert(codes, index) {
-            Ok(_) => {}
-            Err(_) => return Err(Memory),
-        }
-        match self.channels.push((codes, channel)) {
-            Ok(()) => {}
-            Err(_) => unreachable!(),
-        }
-        self.last = Some(Place { codes, index });
-        Ok(())
+        self.channels.keep(codes, channel)
     }
 
     /// The verdict on each channel, ascending by the 12 bytes of their keys. It takes no memory.
@@ -249,12 +176,10 @@ impl<A: Allocator + Copy> Roster<A> {
     {
         let Roster {
             channels,
-            places,
             mut verdicts,
-            ..
         } = self;
-        for (codes, index) in places {
-            match verdicts.push((codes, channels[index].1.verdict())) {
+        for (codes, index) in channels.places().iter() {
+            match verdicts.push((*codes, channels.as_slice()[*index].1.verdict())) {
                 Ok(()) => {}
                 Err(_) => unreachable!(),
             }
@@ -268,21 +193,6 @@ impl<A: Allocator + Copy> Roster<A> {
         ensures each { IfOk result (λ sorted. (key : List ℕ)
             → lookup (same_key key) sorted.items ≡ lookup (same_key key) self) }
     {
-        let Roster {
-            channels,
-            places,
-            ..
-        } = self;
-        let mut sorted = match Vec::with_capacity(alloc, places.len()) {
-            Ok(sorted) => sorted,
-            Err(_) => return Err(Memory),
-        };
-        for (codes, index) in places {
-            match sorted.push((codes, channels[index].1)) {
-                Ok(()) => {}
-                Err(_) => unreachable!(),
-            }
-        }
-        Ok(sorted)
+        self.channels.by_key(alloc)
     }
 }

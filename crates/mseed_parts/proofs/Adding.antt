@@ -1,7 +1,7 @@
 -- One channel that is joined.
 use Rattle.std.proofs.Common.{◌≡◌, ◌↔◌, ℕ, List, Bool, true, false, cond, Option, Some, None, Result, Ok, Err}
 use Rattle.std.proofs.Common.{refl, sym, ap, ◌∙◌, subst, arith}
-use Rattle.std.specs.Prelude.{IfOk, OnOk, IsOk, IsErrOf}
+use Rattle.std.specs.Prelude.{IfOk, OnErr, OnOk, IsOk, IsErrOf}
 use Rattle.std.specs.Option.{option_map}
 use Rattle.std.proofs.lemmas.Result.{on_ok_weaker, IfOk-weaker}
 use Rattle.mseed_audit.specs.declared.finding.Finding.{Finding}
@@ -19,6 +19,11 @@ Entries = List (List ℕ × Channel)
 
 abbrev pub held : Entries → ℕ → ℕ → Held
 held channels records bytes = record { channels = channels; records = records; bytes = bytes }
+
+-- what follows from what holds where an error is answered
+pub err_from : {T E : Type 0} {P Q : Type 0} (r : Result T E) → OnErr r P → (P → Q) → OnErr r Q
+err_from (Ok t) p f = tt
+err_from (Err e) p f = f p
 
 -- with something kept at a key
 abbrev pub HasAt : Entries → List ℕ → Channel → Entries → Type 0

@@ -2,4 +2,3 @@ pub mod Borders
 pub mod Joining
 pub mod Notices
 pub mod Parts
-pub mod private

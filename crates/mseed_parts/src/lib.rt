@@ -3,7 +3,6 @@
 
 mod border;
 mod joining;
-mod kept;
 mod law;
 mod part;
 

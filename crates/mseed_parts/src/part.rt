@@ -8,8 +8,7 @@ ghost use Rattle.mseed_parts.specs.Parts.{IsPartOf, IsJoint, Fits, FitsAt, Count
 ghost use Rattle.mseed_parts.specs.Parts.{counts_alone, HasNewChannel, IsAscending, IsSmall};
 
 use crate::joining::{add_behind, counts_fit, moved, sum};
-use crate::kept::Kept;
-use mseed_audit::{Channel, Finding, Memory, one_finding};
+use mseed_audit::{Channel, ChannelList, Finding, Memory, one_finding};
 use mseed_record::Codes;
 use std::alloc::{Allocator, Global};
 use std::marker::Model;
@@ -29,26 +28,21 @@ pub enum JoinFault {
 /// Contracts see a part as what is `Held`, and say by `IsPartOf` of which records it is the part.
 #[derive(Drop)]
 pub struct Part<A: Allocator = Global> {
-    kept: Kept<A>,
+    kept: ChannelList<A>,
     records: u64,
     bytes: u64,
 }
 
 impl<A: Allocator> Model for Part<A> {
     ghost use Rattle.std.specs.Prelude.{◌<◌, ◌^◌};
-    ghost use Rattle.mseed_parts.specs.Parts.{Held};
-    ghost use Rattle.mseed_parts.specs.private.Kept.{AreKept, by_key};
+    ghost use Rattle.mseed_audit.specs.Places.{by_key};
+    ghost use Rattle.mseed_parts.specs.Parts.{AreWithin, Held};
 
     ghost Value = { Held };
 
-    ghost view = { λ p. record {
-      channels = by_key p.kept.places.entries p.kept.channels.items;
-      records = p.records;
-      bytes = p.bytes;
-    } };
+    ghost view = { λ p. record { channels = by_key p.kept; records = p.records; bytes = p.bytes } };
 
-    ghost invariant = { λ p. AreKept p.kept.places.entries p.kept.channels.items × (p.records < 2 ^ 63)
-        × (p.bytes < 2 ^ 63) };
+    ghost invariant = { λ p. AreWithin p.kept × (p.records < 2 ^ 63) × (p.bytes < 2 ^ 63) };
 }
 
 impl<A: Allocator + Copy> Part<A> {
@@ -57,14 +51,14 @@ impl<A: Allocator + Copy> Part<A> {
         ensures of_none { IsPartOf result [] }
     {
         Part {
-            kept: Kept::new(alloc),
+            kept: ChannelList::new(alloc),
             records: 0,
             bytes: 0,
         }
     }
 
     /// How many records there are, silent ones too.
-    #[tactic(auto, using(crate::proofs::Keeping::by_key_ascends, crate::proofs::Keeping::by_key_within))]
+    #[tactic(auto, using(mseed_audit::proofs::ByKey::by_key_ascends, crate::proofs::Keeping::by_key_within))]
     pub fn records(&self) -> u64
         ensures value { result ≡ self.now.records }
         // The channels ascend by their keys, and no number passes the limit.
@@ -108,18 +102,15 @@ impl<A: Allocator + Copy> Part<A> {
             Ok(further) => further,
             Err(_) => return Err(JoinFault::Limit),
         };
-        if let Some(index) = self.kept.find(codes) {
-            self.kept.last = index;
-            return put_behind(&mut self.kept.channels[index].1, &further);
-        }
+        // Behind other records its counts are no smaller.
         if !counts_fit(&further) {
             return Err(JoinFault::Limit);
         }
-        match self.kept.keep(codes, further) {
-            Ok(()) => {}
-            Err(Memory) => return Err(JoinFault::Memory),
+        match self.kept.find_or_keep(codes, &further) {
+            Ok(Some(index)) => put_behind(self.kept.channel_mut(index), &further),
+            Ok(None) => Ok(None),
+            Err(Memory) => Err(JoinFault::Memory),
         }
-        Ok(None)
     }
 
     /// Adds so many records and bytes to the counts.
@@ -127,7 +118,7 @@ impl<A: Allocator + Copy> Part<A> {
     /// # Errors
     ///
     /// `Limit` where a count would pass 2^63 - 1. The part is then as it was.
-    #[tactic(auto, using(crate::proofs::Keeping::by_key_ascends))]
+    #[tactic(auto, using(mseed_audit::proofs::ByKey::by_key_ascends))]
     pub fn add_counts(&mut self, records: u64, bytes: u64) -> Result<(), JoinFault>
         ensures joined { OnOk result (IsJoint self.old (counts_alone records bytes) self.new) }
         ensures fits { OnOk result (Fits self.old (counts_alone records bytes)) }
@@ -163,9 +154,9 @@ impl<A: Allocator + Copy> Part<A> {
     {
         one_finding();
         let mut joint = self;
-        let kept = &other.kept;
-        for (codes, index) in kept.places.iter() {
-            match joint.add_channel(*codes, &kept.channels[*index].1) {
+        let channels = other.kept.as_slice();
+        for (codes, index) in other.kept.places().iter() {
+            match joint.add_channel(*codes, &channels[*index].1) {
                 Ok(_) => {}
                 Err(fault) => return Err(fault),
             }
@@ -184,23 +175,7 @@ impl<A: Allocator + Copy> Part<A> {
     pub fn into_channels(self, alloc: A) -> Result<Vec<(Codes, Channel), A>, Memory>
         ensures { IfOk result (λ channels. channels.items ≡ self.channels) }
     {
-        let Part { kept, .. } = self;
-        let Kept {
-            channels: held,
-            places,
-            ..
-        } = kept;
-        let mut channels = match Vec::with_capacity(alloc, places.len()) {
-            Ok(channels) => channels,
-            Err(_) => return Err(Memory),
-        };
-        for (codes, index) in places {
-            match channels.push((codes, held[index].1)) {
-                Ok(()) => {}
-                Err(_) => unreachable!(),
-            }
-        }
-        Ok(channels)
+        self.kept.by_key(alloc)
     }
 }
 

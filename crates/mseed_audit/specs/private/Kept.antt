@@ -18,7 +18,6 @@ use Rattle.mseed_audit.specs.declared.channel.Judged.TheVariants.{Sound, Faulty}
 use Rattle.mseed_audit.specs.declared.channel.Lead.{Lead}
 use Rattle.mseed_audit.specs.declared.finding.Finding.{Finding}
 use Rattle.mseed_audit.specs.declared.finding.Why.{Why}
-use Rattle.mseed_audit.specs.declared.roster.Place.{Place}
 use Rattle.mseed_audit.specs.declared.tail.Tail.{Tail}
 use Rattle.mseed_audit.specs.declared.verdict.Verdict.{Verdict}
 use Rattle.mseed_audit.specs.Audit.{IsTail, count_in, break_by}
@@ -82,10 +81,10 @@ pub record IsBounded (n : ℕ) (c : Channel) : Type 0 where
 abbrev pub AreBounded : ℕ → List (List ℕ × Channel) → Type 0
 AreBounded n channels = All (λ c. IsBounded n c) (values_of channels)
 
--- a channel stands there
-abbrev pub IsPlace : Option Place → List (List ℕ × Channel) → Type 0
-IsPlace None channels = ⊤
-IsPlace (Some p) channels = place_of (same_key p.codes) channels ≡ Some p.index
+-- no channel has the key, if there is one
+abbrev pub IsMissed : Option (List ℕ) → List (List ℕ × Channel) → Type 0
+IsMissed None channels = ⊤
+IsMissed (Some key) channels = place_of (same_key key) channels ≡ None
 
 -- there is room for a verdict on each channel, and none yet
 abbrev pub HasRoom : {Y Z : Type 0} → List Y → Vec (List ℕ × Verdict) Z → Type 0

@@ -10,54 +10,52 @@ use Rattle.mseed_audit.specs.Channels.{Placed, same_key}
 use Rattle.mseed_audit.specs.Audit.{StandsAt}
 use Rattle.mseed_audit.specs.private.Kept.{AreBounded, IsBounded}
 use Rattle.mseed_audit.proofs.Counts.{within_more}
-use Rattle.mseed_audit.proofs.Found.{is_there, there_bounded, there_found, there_more, there_places}
-use Rattle.mseed_audit.proofs.Found.{there_stands, there_within}
+use Rattle.mseed_audit.proofs.Found.{found_within, is_there, room_with, there_bounded, there_found, there_more}
+use Rattle.mseed_audit.proofs.Found.{there_stands}
 use Rattle.mseed_audit.proofs.Lasts.{found_new}
 use Rattle.mseed_audit.proofs.Rosters.{bounded_where, kept_where, none_there}
 use Rattle.mseed_audit.proofs.Steps.{new_stands}
 use Rattle.mseed_audit.proofs.roster.Roster.add.Goals as goal
 
 -- where the channel stands that was found
-pub index_mut-requires : goal.index_mut-requires
-index_mut-requires g c =
-    let there = is_there c.codes-codes.result _ _ _ _ c.self.view_is c.find.ensures.stays c.in-Some.ensures.place in
-    let within = there_within _ _ _ _ there in
-    search rules
+pub channel_mut-requires : goal.channel_mut-requires
+channel_mut-requires g c = found_within c.codes-codes.result _ _ _ c.find.ensures.stays c.in-Some.ensures.place
 
 pub add-requires-clause-bounded : goal.add-requires-clause-bounded
 add-requires-clause-bounded g c =
-    let there = is_there c.codes-codes.result _ _ _ _ c.self.view_is c.find.ensures.stays c.in-Some.ensures.place in
-    there_bounded (2 ^ 40) _ _ _ _ _ there c.index_mut.ensures.value c.requires.bounded
+    let there = is_there c.codes-codes.result _ _ _ _ _ c.find.ensures.stays c.self.view_is c.in-Some.ensures.place
+    c.channel_mut.ensures.value in
+    there_bounded _ _ _ _ _ there (2 ^ 40) c.requires.bounded
 
 pub invariant_of-self : goal.invariant_of-self
-invariant_of-self g c =
-    let there = is_there c.codes-codes.result _ _ _ _ c.self.view_is c.find.ensures.stays c.in-Some.ensures.place in
-    there_places _ _ _ _ _ _ _ _ there c.index_mut.ensures.value c.self.invariant
+invariant_of-self g c = room_with _ _ _ _ _ _ c.find.ensures.stays c.self.invariant
 
 pub returns-in-Some-clause-stands : goal.returns-in-Some-clause-stands
 returns-in-Some-clause-stands g c = λ key ps s.
-    let there = is_there c.codes-codes.result _ _ _ _ c.self.view_is c.find.ensures.stays c.in-Some.ensures.place in
-    there_stands _ _ _ _ _ _
+    let there = is_there c.codes-codes.result _ _ _ _ _ c.find.ensures.stays c.self.view_is c.in-Some.ensures.place
+    c.channel_mut.ensures.value in
+    there_stands _ _ _ _ _ there _
     (record { view = view_of c.args.view.now; offset = c.args.offset; number = c.args.number })
-    there c.index_mut.ensures.value c.codes-codes.ensures (search rules) c.add.ensures.stands key ps s
+    c.codes-codes.ensures (search rules) c.add.ensures.stands key ps s
 
 pub returns-in-Some-clause-bounded : goal.returns-in-Some-clause-bounded
 returns-in-Some-clause-bounded g c = λ n all.
-    let there = is_there c.codes-codes.result _ _ _ _ c.self.view_is c.find.ensures.stays c.in-Some.ensures.place in
-    there_more n _ _ _ _ _ _ there c.index_mut.ensures.value (c.add.ensures.bounded n) all
+    let there = is_there c.codes-codes.result _ _ _ _ _ c.find.ensures.stays c.self.view_is c.in-Some.ensures.place
+    c.channel_mut.ensures.value in
+    there_more _ _ _ _ _ there n _ (c.add.ensures.bounded n) all
 
 pub returns-in-Some-clause-found : goal.returns-in-Some-clause-found
 returns-in-Some-clause-found g c = λ ps s.
-    let there = is_there c.codes-codes.result _ _ _ _ c.self.view_is c.find.ensures.stays c.in-Some.ensures.place in
-    there_found _ _ _ _ _ (view_of c.args.view.now) c.add.result ps there c.index_mut.ensures.value
-    c.codes-codes.ensures (search rules) c.add.ensures.found s
+    let there = is_there c.codes-codes.result _ _ _ _ _ c.find.ensures.stays c.self.view_is c.in-Some.ensures.place
+    c.channel_mut.ensures.value in
+    there_found _ _ _ _ _ there (view_of c.args.view.now) c.add.result ps c.codes-codes.ensures (search rules)
+    c.add.ensures.found s
 
 pub begin-requires-clause-new : goal.begin-requires-clause-new
 begin-requires-clause-new g c =
-    let es : List (List ℕ × Channel) = c.args.self.now in
     let code : List ℕ = c.codes-codes.result in
-    let none : lookup (same_key code) es ≡ None = none_there (same_key code) es (sym c.in-None.ensures.place) in
-    ap (λ (fs : List (List ℕ × Channel)). lookup (same_key code) fs) c.find.ensures.stays ∙ none
+    ap (λ (fs : List (List ℕ × Channel)). lookup (same_key code) fs) c.find.ensures.stays
+    ∙ none_there (same_key code) c.self.inside.channels (sym c.in-None.ensures.place)
 
 pub returns-in_ok-begin-in-None-clause-stands : goal.returns-in_ok-begin-in-None-clause-stands
 returns-in_ok-begin-in-None-clause-stands g c = λ key ps s.
@@ -67,9 +65,10 @@ returns-in_ok-begin-in-None-clause-stands g c = λ key ps s.
     let p : Placed = record { view = view_of c.args.view.now; offset = c.args.offset; number = c.args.number } in
     let none : lookup (same_key code) es ≡ None =
     ap (λ (fs : List (List ℕ × Channel)). lookup (same_key code) fs) c.find.ensures.stays
-    ∙ none_there (same_key code) c.args.self.now (sym c.in-None.ensures.place) in
+    ∙ none_there (same_key code) c.self.inside.channels (sym c.in-None.ensures.place) in
     let before : StandsAt (lookup (same_key key) es) ps =
-    subst (λ (fs : List (List ℕ × Channel)). StandsAt (lookup (same_key key) fs) ps) (sym c.find.ensures.stays) s in
+    subst (λ (fs : List (List ℕ × Channel)). StandsAt (lookup (same_key key) fs) ps)
+    (sym (c.find.ensures.stays ∙ c.self.view_is)) s in
     new_stands es c.begin.new.self code p made.0 c.codes-codes.ensures (search rules)
     (kept_where es c.begin.new.self code made.0 made.1.0 none) none
     made.1.1 key ps before
@@ -79,7 +78,8 @@ returns-in_ok-begin-in-None-clause-bounded g c = λ n all.
     let made = c.in_ok-begin-in-None.ensures.begun in
     let es : List (List ℕ × Channel) = c.find.new.self in
     let within : AreBounded n es =
-    subst (λ (fs : List (List ℕ × Channel)). AreBounded n fs) (sym c.find.ensures.stays) all in
+    subst (λ (fs : List (List ℕ × Channel)). AreBounded n fs)
+    (sym (c.find.ensures.stays ∙ c.self.view_is)) all in
     let one : IsBounded (n + 1) made.0 =
     within_more 1 (n + 1) _ (omega arith) made.1.2 in
     bounded_where es c.begin.new.self c.codes-codes.result made.0 n made.1.0
@@ -92,7 +92,8 @@ returns-in_ok-begin-in-None-clause-found g c = λ ps s.
     let v : View = view_of c.args.view.now in
     let none : lookup (same_key (key_at v.bytes)) c.args.self.now ≡ None =
     ap (λ (key : List ℕ). lookup (same_key key) c.args.self.now) (sym c.codes-codes.ensures)
-    ∙ none_there (same_key code) c.args.self.now (sym c.in-None.ensures.place) in
+    ∙ ap (λ (fs : List (List ℕ × Channel)). lookup (same_key code) fs) (sym c.self.view_is)
+    ∙ none_there (same_key code) c.self.inside.channels (sym c.in-None.ensures.place) in
     found_new (lookup (same_key (key_at v.bytes)) c.args.self.now) ps v c.in_ok-begin-in-None.field-0 none s
     (search rules) made.1.3
 
@@ -102,7 +103,9 @@ returns-in_err-begin-in-None-clause-memory g c = elim [
   | inr there ↦
       let es : List (List ℕ × Channel) = c.args.self.now in
       let code : List ℕ = c.codes-codes.result in
-      let none : lookup (same_key code) es ≡ None = none_there (same_key code) es (sym c.in-None.ensures.place) in
+      let none : lookup (same_key code) es ≡ None =
+      ap (λ (fs : List (List ℕ × Channel)). lookup (same_key code) fs) (sym c.self.view_is)
+      ∙ none_there (same_key code) c.self.inside.channels (sym c.in-None.ensures.place) in
       let gone : is_some (lookup (same_key code) es) ≡ false = ap (λ (o : Option Channel). is_some o) none in
       let here : IsSome (lookup (same_key code) es) =
       subst (λ (k : List ℕ). IsSome (lookup (same_key k) es)) (sym c.codes-codes.ensures) there in

@@ -5,5 +5,4 @@ use Rattle.mseed_audit.proofs.roster.Roster.into_verdicts.Given as goal
 
 abbrev pub invariant-loop-codes : goal.invariant-loop-codes
 invariant-loop-codes g l =
-    IsMaking verdict_of l.channels.items l.initial.codes-iterator l.codes-iterator l.verdicts.items
-    (vec_capacity l.verdicts)
+    IsMaking verdict_of l.fn.self l.initial.codes-iterator l.codes-iterator l.verdicts.items (vec_capacity l.verdicts)

@@ -6,18 +6,18 @@ use Rattle.mseed_audit.specs.declared.channel.Channel.{Channel}
 use Rattle.mseed_audit.specs.Channels.{same_key}
 use Rattle.mseed_audit.specs.Places.{AreApart, place_of}
 use Rattle.mseed_audit.proofs.Apart.{apart_place}
-use Rattle.mseed_audit.proofs.roster.Roster.behind.Goals as goal
+use Rattle.mseed_audit.proofs.channel_list.ChannelList.look.Goals as goal
 
 pub returns-in-Some : goal.returns-in-Some
 returns-in-Some g c =
     let es : List (List ℕ × Channel) = c.deref.result.now in
     let e : List ℕ × Channel = c.in-Some.field-0.now in
-    let next : ℕ = c.if-next-len.next in
-    let within : next < length es = search rules in
-    let at : e ≡ get_or es next e = search rules in
-    let there : slice_get es next ≡ Some e = slice_get_read es (length es) next e refl within at in
+    let index : ℕ = c.args.index in
+    let within : index < length es = search rules in
+    let at : e ≡ get_or es index e = search rules in
+    let there : slice_get es index ≡ Some e = slice_get_read es (length es) index e refl within at in
     let apart : AreApart es = subst (λ (fs : List (List ℕ × Channel)). AreApart fs) (sym c.deref.ensures.value)
-    c.self.invariant.3 in
-    let place = apart_place c.args.codes es next e apart there (same_text e.0 c.args.codes c.if-eq.ensures) in
+    c.self.invariant.0.apart in
+    let place = apart_place c.args.codes es index e apart there (same_text e.0 c.args.codes c.if-eq.ensures) in
     ap (λ (fs : List (List ℕ × Channel)). place_of (same_key c.args.codes) fs)
     (sym (c.deref.ensures.value ∙ c.self.view_is)) ∙ place

@@ -1,0 +1,108 @@
+-- Channels in a list, and where each of them stands.
+use Rattle.std.proofs.Common.{◌≡◌, ◌∙◌, ◌+◌, ◌<◌, ◌++◌, ◌∷◌, [], ℕ, suc, List, Bool, cond, Option, Some, None, length, get_or}
+use Rattle.std.proofs.Common.{set}
+use Rattle.std.proofs.Common.{refl, sym, ap, subst, arith}
+use Rattle.std.specs.BTreeMap.{insert_entry}
+use Rattle.std.specs.Cmp.Lexicographic.{slice_cmp}
+use Rattle.std.specs.List.{All, slice_get}
+use Rattle.std.specs.List.Sorted.{IsStrictlySortedBy}
+use Rattle.std.specs.Map.{keys_of, lookup, set_value, values_of}
+use Rattle.std.specs.Ordering.{is_eq, match_ordering, nat_cmp}
+use Rattle.std.specs.declared.cmp.Ordering.{Ordering}
+use Rattle.std.specs.declared.cmp.Ordering.TheVariants.{Less, Equal, Greater}
+use Rattle.std.proofs.lemmas.List.{length-append}
+use Rattle.std.proofs.lemmas.Map.{length-set_value}
+use Rattle.std.proofs.lemmas.Map.Views.{All-values-insert_entry}
+use Rattle.std.proofs.lemmas.Option.{slice_get_read}
+use Rattle.mseed_audit.specs.declared.channel.Channel.{Channel}
+use Rattle.mseed_audit.specs.Channels.{same_key}
+use Rattle.mseed_audit.specs.Places.{ArePlaced, ArePlaces, place_of, with_channel}
+use Rattle.mseed_audit.specs.private.Kept.{IsMissed}
+use Rattle.mseed_audit.proofs.ByKey.{kept_insert}
+use Rattle.mseed_audit.proofs.Maps.{same_back}
+use Rattle.mseed_audit.proofs.Apart.{apart_place, apart_push, apart_set}
+use Rattle.mseed_audit.proofs.Rosters.{all_below, no_place, places_more, places_set, places_stay, set_found, with_is}
+
+abbrev Entries : Type 0
+Entries = List (List ℕ × Channel)
+
+-- ---- something else is kept of a channel
+module _ (es : Entries) (i : ℕ) (e : List ℕ × Channel) (within : i < length es) (at : e ≡ get_or es i e) where
+  pub there : slice_get es i ≡ Some e
+  there = slice_get_read es (length es) i e refl within at
+
+  module _ (ps : List (List ℕ × ℕ)) (are : ArePlaced ps es) (after : Channel) where
+    place : place_of (same_key e.0) es ≡ Some i
+    place = apart_place e.0 es i e are.apart there refl
+
+    same : set es i (e.0, after) ≡ set_value (same_key e.0) es after
+    same = set_found (same_key e.0) es i e after place at
+
+    pub set_placed : ArePlaced ps (set es i (e.0, after))
+    set_placed = subst (λ (fs : Entries). ArePlaced ps fs) (sym same) (record {
+      places = places_set ps (same_key e.0) es after are.places;
+      apart = apart_set (same_key e.0) es after are.apart;
+      ascending = are.ascending;
+      many = are.many ∙ sym (length-set_value (same_key e.0) es after);
+    })
+
+    pub set_missed : (missed : Option (List ℕ)) → IsMissed missed es → IsMissed missed (set es i (e.0, after))
+    set_missed None is = tt
+    set_missed (Some key) is =
+        ap (λ (fs : Entries). place_of (same_key key) fs) same
+        ∙ places_stay (same_key key) (same_key e.0) es after ∙ is
+
+    pub set_is : set es i (e.0, after) ≡ with_channel es i after
+    set_is = same ∙ sym (with_is (same_key e.0) es i after place)
+
+-- ---- a new channel behind the others
+abbrev Places : Type 0
+Places = List (List ℕ × ℕ)
+
+abbrev put : Places → List ℕ → ℕ → Places
+put ps key i = insert_entry (slice_cmp nat_cmp) ps key i
+
+longer_by : (o : Ordering) (key : List ℕ) (i : ℕ) (e : List ℕ × ℕ) (ps : Places) → slice_cmp nat_cmp key e.0 ≡ o
+    → lookup (same_key key) (e ∷ ps) ≡ None
+    → (lookup (same_key key) ps ≡ None → length (put ps key i) ≡ suc (length ps))
+    → length (match_ordering o ((key, i) ∷ e ∷ ps) ((e.0, i) ∷ ps) (e ∷ put ps key i)) ≡ suc (suc (length ps))
+longer_by Less key i e ps is none later = refl
+longer_by Equal key i e ps is none later =
+    absurd (cc (sym (ap (λ (b : Bool). cond b (Some e.1) (lookup (same_key key) ps)) (ap is_eq is)) ∙ none))
+longer_by Greater key i e ps is none later =
+    ap suc (later (sym (ap (λ (b : Bool). cond b (Some e.1) (lookup (same_key key) ps)) (ap is_eq is)) ∙ none))
+
+longer : (key : List ℕ) (i : ℕ) (ps : Places) → lookup (same_key key) ps ≡ None
+    → length (put ps key i) ≡ suc (length ps)
+longer key i [] none = refl
+longer key i (e ∷ ps) none = longer_by (slice_cmp nat_cmp key e.0) key i e ps refl none (longer key i ps)
+
+pub placed_push : (ps more : Places) (es fs : Entries) (key : List ℕ) (c : Channel) → ArePlaced ps es
+    → fs ≡ es ++ (key, c) ∷ [] → lookup (same_key key) es ≡ None → more ≡ put ps key (length es)
+    → IsStrictlySortedBy (slice_cmp nat_cmp) (keys_of more) → ArePlaced more fs
+placed_push ps more es fs key c are behind none is ascending =
+    let next : Entries = es ++ (key, c) ∷ [] in
+    let size : length next ≡ length es + 1 = length-append es ((key, c) ∷ []) in
+    let below : All (λ i. i < length next) (values_of ps) =
+    subst (λ (n : ℕ). All (λ i. i < n) (values_of ps)) (sym size)
+    (all_below (values_of ps) (length es) are.places.within) in
+    let updated : (other : List ℕ)
+    → lookup (same_key other) more ≡ cond (same_key key other) (Some (length es)) (lookup (same_key other) ps) =
+    λ other.
+    ap (λ (qs : Places). lookup (same_key other) qs) is ∙ kept_insert key (length es) ps other
+    ∙ ap (λ (b : Bool). cond b (Some (length es)) (lookup (same_key other) ps)) (same_back other key) in
+    let absent : lookup (same_key key) ps ≡ None =
+    are.places.each key ∙ no_place (same_key key) es none in
+    let one_more : length more ≡ suc (length ps) =
+    ap (λ (qs : Places). length qs) is ∙ longer key (length es) ps absent in
+    subst (λ (gs : Entries). ArePlaced more gs) (sym behind) (record {
+      places = record {
+        each = λ other. places_more ps more es key c are.places none updated other;
+        within = subst (λ (qs : Places). All (λ i. i < length next) (values_of qs)) (sym is)
+            (All-values-insert_entry (slice_cmp nat_cmp) key (length es) (λ i. i < length next) ps below
+            (omega (arith, size)));
+      };
+      apart = apart_push es (key, c) are.apart (no_place (same_key key) es none);
+      ascending = ascending;
+      many = omega (arith, one_more, are.many, size);
+    })

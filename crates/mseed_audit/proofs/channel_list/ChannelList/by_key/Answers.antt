@@ -1,0 +1,28 @@
+use Rattle.std.proofs.Common.{◌≡◌, ◌∙◌, List, ℕ, get_or, refl, subst, ap, rules}
+use Rattle.mseed_audit.specs.declared.channel.Channel.{Channel}
+use Rattle.mseed_audit.specs.Places.{ArePlaces}
+use Rattle.mseed_audit.proofs.ByKey.{itself, made_by_key}
+use Rattle.mseed_audit.proofs.Rosters.{all_made, making_begin, making_more}
+use Rattle.mseed_audit.proofs.channel_list.ChannelList.by_key.Goals as goal
+
+pub loop-codes-init : goal.loop-codes-init
+loop-codes-init g c =
+    making_begin itself c.self.inside.channels.items c.args.self.now _ c.self.inside.places.entries _ _ (search rules)
+    c.self.invariant.0.places c.self.view_is (search rules) (search rules)
+
+pub loop-codes-preserved : goal.loop-codes-preserved
+loop-codes-preserved g c =
+    making_more itself c.args.self.now _ c.in-Some.codes.now c.in-Some.index.now c.next.new.self
+    c.index.result.now c.index.result.now.1 c.loop-codes.sorted.items c.push.new.self.items _ _
+    (rw c.in-Some.ensures.steps at c.loop-codes.invariant)
+    (c.index.ensures ∙ ap (λ (fs : List (List ℕ × Channel)). get_or fs c.in-Some.index.now c.index.result.now)
+    c.self.view_is)
+    refl (search rules) (search rules)
+
+pub returns : goal.returns
+returns g c =
+    made_by_key c.args.self.now c.loop-codes.sorted.items
+    (all_made itself c.args.self.now c.args.self.now _ _ c.self.inside.places.entries c.loop-codes.sorted.items _
+    c.loop-codes.invariant c.in-None.ensures.steps.0 (search rules)
+    (subst (λ (fs : List (List ℕ × Channel)). ArePlaces c.self.inside.places.entries fs) c.self.view_is
+    c.self.invariant.0.places) c.self.invariant.0.ascending refl)

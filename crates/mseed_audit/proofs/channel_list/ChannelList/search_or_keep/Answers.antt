@@ -1,0 +1,34 @@
+use Rattle.std.proofs.Common.{◌≡◌, ◌++◌, ◌∷◌, [], ◌∙◌, ℕ, List, None, Some, length, sym, ap, rules}
+use Rattle.std.specs.BTreeMap.{insert_entry}
+use Rattle.std.specs.Cmp.Lexicographic.{slice_cmp}
+use Rattle.std.specs.List.Sorted.{IsStrictlySortedBy}
+use Rattle.std.specs.Map.{keys_of}
+use Rattle.std.specs.Ordering.{nat_cmp}
+use Rattle.mseed_audit.specs.declared.channel.Channel.{Channel}
+use Rattle.mseed_audit.specs.Channels.{same_key}
+use Rattle.mseed_audit.specs.Places.{place_of}
+use Rattle.mseed_audit.proofs.Placed.{placed_push}
+use Rattle.mseed_audit.proofs.Rosters.{none_there, place_within}
+use Rattle.mseed_audit.proofs.channel_list.ChannelList.search_or_keep.Goals as goal
+
+pub returns-in-Some-2-clause-within : goal.returns-in-Some-2-clause-within
+returns-in-Some-2-clause-within g c =
+    let code : List ℕ = c.args.codes in
+    let place : Some c.in-Some-2.index ≡ place_of (same_key code) c.args.self.now = search rules in
+    place_within (same_key code) c.args.self.now c.in-Some-2.index (sym place)
+
+pub invariant_of-self-2 : goal.invariant_of-self-2
+invariant_of-self-2 g c =
+    let es : List (List ℕ × Channel) = c.self.inside.channels.items in
+    let code : List ℕ = c.args.codes in
+    let ps : List (List ℕ × ℕ) = c.self.inside.places.entries in
+    let more : List (List ℕ × ℕ) = c.find_or_enter.new.places.entries in
+    let place : place_of (same_key code) es ≡ None = search rules in
+    let index : c.len-index.result ≡ length es = search rules in
+    let items : c.push.new.self.items ≡ es ++ (code, c.args.channel.now) ∷ [] = search rules in
+    let entered : more ≡ insert_entry (slice_cmp nat_cmp) ps code c.len-index.result = search rules in
+    let ascending : IsStrictlySortedBy (slice_cmp nat_cmp) (keys_of more) = search rules in (
+      placed_push ps more es _ code c.args.channel.now c.self.invariant.0 items (none_there (same_key code) es place)
+          (entered ∙ ap (λ (n : ℕ). insert_entry (slice_cmp nat_cmp) ps code n) index) ascending,
+      tt,
+    )
