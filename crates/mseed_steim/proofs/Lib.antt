@@ -52,3 +52,4 @@ pub mod LaneWords
 pub mod FrameUnpacked
 pub mod Below
 pub mod Summed
+pub mod Needed

@@ -1,6 +1,6 @@
 //! What the differences of a frame add up to, all sixteen words at once.
 
-ghost use Rattle.std.specs.Prelude.{◌≡◌, ◌<◌, ◌≤◌, ◌+◌, ◌-◌, ◌*◌, ◌^◌, ℕ, ℤ, List, IfSome, length, nat_abs, take, drop};
+ghost use Rattle.std.specs.Prelude.{◌≡◌, ◌<◌, ◌≤◌, ◌+◌, ◌-◌, ◌*◌, ◌^◌, ℕ, ℤ, List, length, nat_abs, take, drop};
 ghost use Rattle.std.specs.Simd.Lanes.{Each1, sum_l};
 ghost use Rattle.mseed_steim.specs.declared.scheme.Scheme.TheVariants.{One, Two};
 ghost use Rattle.mseed_steim.specs.private.Lanes.{AddsUp, AreLanes, Begins, row_at, turned_at};
@@ -39,6 +39,9 @@ pub(crate) struct Run {
     pub(crate) frames: usize,
     pub(crate) moved: Moved,
 }
+
+/// No sum of a frame's differences is further from 0 than this, unless one of them has 30 or 32 bits.
+pub(crate) const REACH: u32 = 1 << 20;
 
 /// No more frames are added up at once.
 pub(crate) const RUN: usize = 15;
@@ -258,22 +261,6 @@ fn lowered(by: u32x4) -> i32
     // 2^24 more than the number, which is no less than 0
     let more = sum_of(by).wrapping_add(1 << 31) >> 7;
     more as i32 - (1 << 24)
-}
-
-/// The differences of a frame's words from word 1, 3 or 4 on. None where a word is bad or has one of 30 or 32 bits.
-pub(crate) fn move_of(scheme: Scheme, frame: &[u8; 64], begin: Rows) -> Option<Moved>
-    ensures { IfSome result (λ moved. (p : List ℕ) (k from : ℕ) → Begins begin from
-        → frame.now ≡ take 64 (drop (64 * k) p)
-        → MovesBy scheme (words_from p (16 * k + from) (16 - from)) moved.count moved.by (2 ^ 20)) }
-{
-    let lanes = frame_lanes(scheme, frame, begin);
-    if lanes.count >= 128 {
-        return None;
-    }
-    Some(Moved {
-        count: lanes.count,
-        by: lowered(lanes.by),
-    })
 }
 
 /// The bits of the codes of a frame in a run, of which the first frame has others.

@@ -13,15 +13,12 @@ ghost use Rattle.mseed_steim.specs.private.Sums.{GoesOn, Keeps, fold, met_in};
 use crate::adding::{TURN, put_whole};
 use crate::data_words::{FRAME, Word, Words};
 use crate::fault::ReadFault;
-use crate::frame::{FROM_1, FROM_4};
+use crate::frame::{FROM_1, FROM_4, REACH};
 use crate::group::{Group, group_of};
 use crate::lanes::Rows;
 use crate::scheme::Scheme;
 use crate::sum::{Sum, Walked, add_digit, add_near, reach_of};
-use crate::unpack::{PLACES, Room, unpack_frame, unpack_wide};
-
-/// No sum of a frame's differences is further from 0 than this, unless one of them has 30 or 32 bits.
-const REACH: u32 = 1 << 20;
+use crate::unpack::{FEW, PLACES, Room, unpack_frame, unpack_wide};
 
 /// The differences of a group, one by one: as far as they are needed, and no sum leaves 32 bits.
 #[inline(always)]
@@ -128,7 +125,7 @@ fn put_checked(differences: &[i32], samples: usize, sum: Sum, out: &mut [i32]) -
         → GoesOn samples sum (map Ok differences.now ++ more) more result }
     ensures kept { (more : List (Result ℤ BadWordAt))
         → Keeps samples sum out.old (map Ok differences.now ++ more) more out.new result }
-    ensures met { IfOk result (λ next. next.met ≤ samples) }
+    ensures met { IfOk result (λ next. next.met ≡ sum.met + length differences.now) }
     ensures places { length out.new ≡ samples }
 {
     let mut last = sum.last;
@@ -185,7 +182,7 @@ fn put_unpacked(
         → GoesOn samples sum (map Ok (take count differences.old) ++ more) more result }
     ensures kept { (more : List (Result ℤ BadWordAt))
         → Keeps samples sum out.old (map Ok (take count differences.old) ++ more) more out.new result }
-    ensures met { IfOk result (λ next. next.met ≤ samples) }
+    ensures met { IfOk result (λ next. next.met ≡ sum.met + count) }
     ensures places { length out.new ≡ samples }
 {
     if reach_of(&differences[..count]) < (1 << 31) - u64::from(sum.last.unsigned_abs()) {
@@ -194,8 +191,8 @@ fn put_unpacked(
     put_checked(&differences[..count], samples, sum, out)
 }
 
-/// The differences of a frame of which some have 30 or 32 bits. None where its words have to be looked at: where not
-/// all are needed, none was met before, or a word is bad.
+/// The differences of a frame, of any width, as far as they are needed. None where its words have to be looked at:
+/// where none was met before, few are needed, or a word is bad.
 #[cold]
 fn put_wide(
     scheme: Scheme,
@@ -221,18 +218,16 @@ fn put_wide(
     ensures places { length out.new ≡ samples }
     ensures none { IfNone result (out.new ≡ out.old) }
 {
-    if sum.met == 0 {
+    let left = samples - sum.met;
+    if sum.met == 0 || left < FEW {
         return None;
     }
     let count = unpack_wide(scheme, frame, begin, differences)?;
-    if samples - sum.met < count {
-        return None;
-    }
-    Some(put_unpacked(differences, count, samples, sum, out))
+    Some(put_unpacked(differences, count.min(left), samples, sum, out))
 }
 
-/// The differences of a frame at once. None where its words have to be looked at: where not all are needed, none was
-/// met before, a word is bad or its differences wide, or the limits of 32 bits are within reach.
+/// The differences of a frame at once, as far as they are needed. None where its words have to be looked at: where none
+/// was met before, a word is bad or its differences wide, or the limits of 32 bits are within reach.
 #[inline(always)]
 fn put_at_once(
     scheme: Scheme,
@@ -263,9 +258,7 @@ fn put_at_once(
         return None;
     }
     let count = unpack_frame(scheme, frame, begin, differences)?;
-    if samples - sum.met < count {
-        return None;
-    }
+    let count = count.min(samples - sum.met);
     Some(put_near(differences, count, samples, sum, out))
 }
 
@@ -347,7 +340,7 @@ fn put_frame(
 }
 
 /// The differences of the frames behind the first one. They are added up at once, where that can't go wrong; else
-/// difference by difference, and where a word is bad or not all of them are needed, word by word.
+/// difference by difference, and where a word is bad or few are needed, word by word.
 fn put_later_frames(
     scheme: Scheme,
     payload: &[u8],

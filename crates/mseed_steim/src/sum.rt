@@ -82,7 +82,7 @@ pub(crate) fn add_some(differences: &[i32], samples: usize, sum: Sum) -> Sum
     requires near { nat_abs sum.last + span differences.now < 2 ^ 31 }
     ensures goes_on { (more : List (Result ℤ BadWordAt))
         → fold samples sum (map Ok differences.now ++ more) ≡ fold samples result more }
-    ensures met { result.met ≤ samples }
+    ensures met { result.met ≡ sum.met + length differences.now }
 {
     let mut sum = sum;
     for i in 0..differences.len() {
@@ -98,7 +98,7 @@ pub(crate) fn add_checked(differences: &[i32], samples: usize, sum: Sum) -> Walk
     requires left { sum.met + length differences.now ≤ samples }
     ensures goes_on { (more : List (Result ℤ BadWordAt))
         → GoesOn samples sum (map Ok differences.now ++ more) more result }
-    ensures met { IfOk result (λ next. next.met ≤ samples) }
+    ensures met { IfOk result (λ next. next.met ≡ sum.met + length differences.now) }
 {
     let mut last = sum.last;
     for i in 0..differences.len() {

@@ -31,6 +31,9 @@ const LANES_ONE: usize = 4;
 /// Room for the differences of a frame, and the lanes behind the last of them.
 pub(crate) const PLACES: usize = 128;
 
+/// Where fewer differences are needed, they are looked for word by word: no whole frame is unpacked for them.
+pub(crate) const FEW: usize = 4;
+
 /// The differences of a frame in their room.
 pub(crate) type Room = [i32; PLACES];
 

@@ -55,14 +55,17 @@ returns-clause-goes_on c = λ rest.
     c.moves_of-run.result.moved.by c.in_ok-difference.difference all.0 all.1.0 few in
     let first : Sum = record { met = 0; last = c.args.first } in
     let less : 0 < c.args.samples = omega (arith, c.moves_of-run.ensures.few) in
+    let taken : c.moves_of-run.result.frames ≤ c.frames_at_once.result =
+    omega (arith, least, most, c.moves_of-run.ensures.inside) in
+    let near = rw (to_z-of_z w32 c.args.first start) at (c.frames_at_once.ensures.near (omega (arith, taken))) in
     let goes_on = rw (
       to_z-of_z w32 c.moves_of-run.result.moved.by by,
       to_z-of_z w32 c.in_ok-difference.difference difference,
       to_z-of_z w32 (c.moves_of-run.result.moved.by -ℤ c.in_ok-difference.difference) fit,
       to_z-of_z w32 c.args.first start,
-    ) at (c.in_ok-sum.ensures.goes_on all.0 (items_of c.args.scheme rest)) in
+    ) at (c.add_at_once.ensures.goes_on (2 ^ 20 * c.moves_of-run.result.frames) all.0 (items_of c.args.scheme rest)) in
     ap (λ (items : List (Result ℤ BadWordAt)). fold c.args.samples first items) (all.1.1 rest)
     ∙ fold_first c.args.samples first c.in_ok-difference.difference
     (map Ok all.0 ++ items_of c.args.scheme rest) less refl
-    ∙ goes_on (others c.moves_of-run.result.moved.count (2 ^ 20 * c.moves_of-run.result.frames)
-    c.moves_of-run.result.moved.by c.in_ok-difference.difference all.0 all.1.0)
+    ∙ goes_on (omega (arith, near, taken)) (others c.moves_of-run.result.moved.count
+    (2 ^ 20 * c.moves_of-run.result.frames) c.moves_of-run.result.moved.by c.in_ok-difference.difference all.0 all.1.0)

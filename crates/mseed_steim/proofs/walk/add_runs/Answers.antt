@@ -1,4 +1,4 @@
-use Rattle.std.proofs.Common.{◌≡◌, ℕ, suc, ◌+◌, ◌-◌, ◌*◌, ◌/◌, ◌<◌, ◌≤◌, [], ◌++◌, ◌∙◌}
+use Rattle.std.proofs.Common.{◌≡◌, ℕ, suc, ◌+◌, ◌-◌, ◌*◌, ◌/◌, ◌^◌, ◌<◌, ◌≤◌, [], ◌++◌, ◌∙◌, nat_abs}
 use Rattle.std.proofs.Common.{List, ℤ, Result, length, take, drop}
 use Rattle.std.proofs.Common.{ap, sym, arith, inl, refl}
 use Rattle.std.specs.Simd.{first_chunks}
@@ -41,9 +41,6 @@ loop-next-preserved-then-run-eq0 c = record {
       ∙ c.in-Ok.ensures.goes_on _;
 }
 
-pub returns-in-None : goal.returns-in-None
-returns-in-None c = c.add_each.ensures ∙ sym c.loop-next.invariant.same
-
 -- frames from one on are frames of the payload
 behind : (n k m : ℕ) (p : List ℕ) → k + m ≤ n → AreFrames (take m (drop k (first_chunks 64 n p))) p k
 behind n k m p inside i less =
@@ -83,19 +80,18 @@ loop-next-preserved c =
     let most = take_most m (drop next c.as_chunks.result.0.now) in
     let few : next + n ≤ length p / 64 = omega (arith, inside, most, c.moves_of-run.ensures.inside) in
     let rest = words_from p (16 * (next + n)) (word_count p - 16 * (next + n)) in
+    let taken : n ≤ c.frames_at_once.result = omega (arith, least, most, c.moves_of-run.ensures.inside) in
+    let reach = c.frames_at_once.ensures.near (omega (arith, taken)) in
+    let near : nat_abs c.loop-next.sum.last + 2 ^ 20 * n < 2 ^ 31 = omega (arith, reach, taken) in
     record {
       some = omega arith;
-      met = c.in-Some.ensures.met;
+      met = c.add_at_once-sum.ensures.met;
       same = c.loop-next.invariant.same
           ∙ ap (λ (ws : List DataWord). fold c.args.samples c.loop-next.sum (items_of s ws)) (some_cut p next n few)
           ∙ ap (λ (ws : List DataWord). fold c.args.samples c.loop-next.sum (items_of s (ws ++ rest)))
           (some_skip p next n (omega arith))
           ∙ ap (λ (items : List (Result ℤ BadWordAt)). fold c.args.samples c.loop-next.sum items) (found.1.1 rest)
-          ∙ c.in-Some.ensures.goes_on found.0 (items_of s rest) (record {
-            count_is = found.1.0.count_is;
-            by_is = found.1.0.by_is;
-            near = omega (arith, found.1.0.near);
-          });
+          ∙ c.add_at_once-sum.ensures.goes_on (2 ^ 20 * n) found.0 (items_of s rest) near found.1.0;
     }
 
 pub returns : goal.returns
