@@ -55,7 +55,7 @@ fn slots(alloc: Global, count: usize) -> Result<Vec<Option<Link>>, AllocError>
     ensures empty { IfOk result (λ slots. AreEmpty slots.items) }
     ensures count { IfOk result (λ slots. length slots.items ≡ count) }
 {
-    let mut slots = Vec::new(alloc);
+    let mut slots = Vec::with_capacity(alloc, count)?;
     for slot in 0..count {
         slots.push(None)?;
     }
