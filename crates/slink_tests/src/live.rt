@@ -2,6 +2,8 @@
 ghost use Rattle.std.specs.Prelude.{◌≡◌, ◌≢◌, ◌≤◌, ◌<◌, [], length};
 ghost use Rattle.slink_live.specs.Served.{IsSound};
 
+mod orders;
+
 use mseed_stream::StreamFault;
 use slink_feed::{Feed, Ring};
 use slink_live::{Event, InputFault, Log, Ready, Server, Wishes};
