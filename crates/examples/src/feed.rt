@@ -193,6 +193,11 @@ pub fn tell_where_to_go_on<E: Sink>(teller: &Teller, client: &Client, errors: &m
     teller.tell_next(client, true, errors);
 }
 
+/// Whether a session answers and sends nothing more.
+pub fn is_over(session: &Session) -> bool {
+    session.is_closed()
+}
+
 /// Whether both ends have come through the handshake.
 pub fn are_streaming(session: &Session, client: &Client) -> bool {
     session.is_streaming() && client.is_streaming()

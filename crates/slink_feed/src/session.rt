@@ -236,7 +236,7 @@ impl Session {
     }
 
     /// Whether nothing more is answered or sent.
-    pub(crate) fn is_closed(&self) -> bool
+    pub fn is_closed(&self) -> bool
         ensures yes { OnTrue result (self.now.state.phase ≡ Phase.Closed) }
         ensures no { OnFalse result (self.now.state.phase ≢ Phase.Closed) }
     {
