@@ -301,6 +301,35 @@ def more_than_clients() -> Cases:
     yield Fact("the server of two slots ends", FINE, live.end())
 
 
+def one_after_another() -> Cases:
+    """Who comes once the one before has left is served, and so on, by one slot."""
+    live = Live("--clients", 1, "--timeout", 60)
+    records = recorded(3)
+    live.feed(b"".join(records))
+    for turn in range(4):
+        link = granted(live.port, 0)
+        yield Fact(f"client {turn} by one slot", numbered(records), held_of(received_up_to(link, PACKET * 3)))
+        link.close()
+    yield Fact("the server of one slot ends", FINE, live.end())
+
+
+def in_turns() -> Cases:
+    """A place that is never idle keeps no other one back: the packets of a link come in turns."""
+    often, seldom = [record_of(STA, index) for index in range(2000)], [record_of(STB, index) for index in range(3)]
+    live = Live("--capacity", 4000, "--timeout", 60, places=[STA, STB])
+    live.feed(b"".join(seldom + often))
+    yield holds("all of a busy place are there", until(lambda: is_there(live.port, len(often) - 1)))
+    link = dialled(live.port)
+    link.settimeout(LIMIT)
+    link.sendall(b"STATION STA XX\r\nDATA 0\r\nSTATION STB XX\r\nDATA 0\r\nEND\r\n")
+    yield Fact("both places are granted", GRANTED * 2, received_up_to(link, len(GRANTED) * 2))
+    wanted = [Held(number, place[number]) for number in range(3) for place in (often, seldom)]
+    yield Fact("three packets of a quiet place come beside a busy one's", wanted + [Held(3, often[3])],
+               held_of(received_up_to(link, PACKET * 7)))
+    link.close()
+    yield Fact("the server of a busy place ends", FINE, live.end())
+
+
 def granted_of(links: Sequence[socket.socket], least: int) -> list[socket.socket]:
     """Those of these links that were granted what they want: a moment after there are at least so many."""
     def ready() -> list[socket.socket]:
@@ -473,5 +502,6 @@ def rows() -> Cases:
     """All of it."""
     yield from words()
     for part in (many_at_once, one_never_reads, silent_clients, times, killed_and_started_anew, more_than_clients,
-                 exact_numbers, lingering, closed_streams, bad_inputs, told_at_once, failing):
+                 one_after_another, in_turns, exact_numbers, lingering, closed_streams, bad_inputs, told_at_once,
+                 failing):
         yield from part()
