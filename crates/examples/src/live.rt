@@ -65,10 +65,22 @@ pub fn read_by_hand<R: Ready>(ready: &mut R, bytes: &mut [u8]) -> usize {
 /// A log of a link that came, sent hello, accepted a line, and left, while the input gave a byte.
 pub fn log_of_a_link() -> Log {
     let mut log = Log::new();
+    log.next(Event::Dialled);
     log.opened(0);
     log.received(0, b"HELLO\r");
     log.input(b"0");
     log.emitted(0, b"OK\r\n");
     log.gone(0);
+    log
+}
+
+/// A log of what a device was told: that a link is read and written, that no further one is wanted, though one that
+/// dialled was gone already, and that the input is read no more.
+pub fn log_of_what_was_told(wishes: Wishes) -> Log {
+    let mut log = Log::new();
+    log.wants(0, wishes);
+    log.missed(1);
+    log.wants_links(false);
+    log.left();
     log
 }

@@ -1,5 +1,5 @@
 //! Links in memory, which a server serves.
-ghost use Rattle.std.specs.Prelude.{◌≡◌, ◌≢◌, ◌≤◌, [], length, IfSome};
+ghost use Rattle.std.specs.Prelude.{◌≡◌, ◌≢◌, ◌≤◌, [], length, true, IfSome};
 
 use crate::digest::Digest;
 use crate::failure::Failure;
@@ -82,6 +82,28 @@ impl<'a> Links<'a> {
         request.get(said..).unwrap_or(&[])
     }
 
+    /// What can be done next.
+    fn any_event(&mut self) -> Event
+        ensures log { self.new.log ≡ self.old.log }
+        ensures over { result ≡ Event.Nothing → self.new.is_over ≡ true }
+    {
+        if self.dialled < self.most {
+            return Event::Dialled;
+        }
+        if let Some(event) = self.next_event() {
+            return event;
+        }
+        if !self.input.is_empty() {
+            return Event::Input;
+        }
+        if !self.is_ended {
+            self.is_ended = true;
+            return Event::InputEnded;
+        }
+        self.is_over = true;
+        Event::Nothing
+    }
+
     /// What a link is ready for, from the one that was last on.
     fn next_event(&mut self) -> Option<Event>
         ensures event { IfSome result (λ event. event ≢ Event.Nothing) }
@@ -131,21 +153,9 @@ impl Ready for Links<'_> {
     ghost is_over = { λ s. s.is_over };
 
     fn next(&mut self) -> Event {
-        if self.dialled < self.most {
-            return Event::Dialled;
-        }
-        if let Some(event) = self.next_event() {
-            return event;
-        }
-        if !self.input.is_empty() {
-            return Event::Input;
-        }
-        if !self.is_ended {
-            self.is_ended = true;
-            return Event::InputEnded;
-        }
-        self.is_over = true;
-        Event::Nothing
+        let event = self.any_event();
+        self.log.next(event);
+        event
     }
 
     fn read_input(&mut self, buf: &mut [u8]) -> usize {
@@ -157,7 +167,9 @@ impl Ready for Links<'_> {
         count
     }
 
-    fn leave_input(&mut self) {}
+    fn leave_input(&mut self) {
+        self.log.left();
+    }
 
     fn accept(&mut self, slot: usize) -> bool {
         self.dialled = self.dialled.saturating_add(1);
@@ -197,7 +209,10 @@ impl Ready for Links<'_> {
         if let Some(place) = self.wishes.get_mut(slot) {
             *place = wishes;
         }
+        self.log.wants(slot, wishes);
     }
 
-    fn wants_links(&mut self, _wanted: bool) {}
+    fn wants_links(&mut self, wanted: bool) {
+        self.log.wants_links(wanted);
+    }
 }

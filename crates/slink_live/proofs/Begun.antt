@@ -1,12 +1,14 @@
 -- A server before anything happened.
 use Rattle.std.proofs.Common.{◌≡◌, ℕ, zero, suc, ◌*◌, ◌^◌, ◌<◌, ◌≤◌, ◌∙◌, subst, refl, sym, arith, List, [], ◌∷◌}
-use Rattle.std.proofs.Common.{false, get_or, Option, Some, None}
+use Rattle.std.proofs.Common.{false, get_or, length, Option, Some, None}
 use Rattle.std.specs.List.{AllByRecursion}
 use Rattle.slink_feed.specs.Window.{Window}
+use Rattle.slink_live.specs.Awake.{IsAwake}
 use Rattle.slink_live.specs.Input.{places_of}
 use Rattle.slink_live.specs.Served.{AreEmpty, IsBelow, IsServing, IsSound, LinkState, Matches, ServerState}
 use Rattle.slink_live.specs.Story.{no_event}
 use Rattle.slink_live.proofs.Cuts.{short_none}
+use Rattle.slink_live.proofs.Tending.{free_at}
 
 abbrev pub begun : List Window → List (Option LinkState) → ServerState
 begun feed links = record {
@@ -56,4 +58,11 @@ begun_sound feed links none few = record {
   below = all_below (2 ^ 62) feed few;
   few = let le : 0 ≤ 8192 * 0 = omega arith in le;
   few_reads = let le : 0 ≤ 2 ^ 40 = omega arith in le;
+}
+
+pub begun_awake : (feed : List Window) (links : List (Option LinkState)) → AreEmpty links → 0 < length links
+    → IsAwake (begun feed links) []
+begun_awake feed links none some = record {
+  each = λ k l e. absurd (no_link links k l none e);
+  is_told = record { links = sym (free_at links 0 some (none 0)); left = refl };
 }

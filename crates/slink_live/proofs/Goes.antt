@@ -4,12 +4,16 @@ use Rattle.std.proofs.Common.{◌∙◌, append_assoc, append-nil, subst, take, 
 use Rattle.slink_feed.specs.Window.{Window}
 use Rattle.slink_live.specs.declared.ready.Event.{Event}
 use Rattle.slink_live.specs.declared.ready.Event.TheVariants as events
-use Rattle.slink_live.specs.Happening.{Happening, Input, Received, Emitted, input_of}
+use Rattle.slink_live.specs.Awake.{Goes, IsAwake, IsClosedRightly, further, nothing}
+use Rattle.slink_live.specs.Happening.{Happening, Input, Opened, Received, Emitted, Missed, Next, input_of}
 use Rattle.slink_live.specs.declared.fault.InputFault.{InputFault}
 use Rattle.slink_live.specs.Served.{GoesOn, IsServing, IsSound, LinkState, ServerState, StaysUnread}
-use Rattle.slink_live.specs.private.Calling.{Closes, IsCalled, ReadsFrom, WritesTo, reads, too_often, stays}
-use Rattle.slink_live.specs.private.Keeping.{AnswersFault}
-use Rattle.slink_live.proofs.Slots.{closes_input, closes_none, input_append}
+use Rattle.slink_live.specs.Turns.{Closes, HasTurns, IsCalled, ReadsFrom, WritesTo, gives_up, is_full, misses, no_turn}
+use Rattle.slink_live.specs.Turns.{one_turn, reads, stays, takes, too_often}
+use Rattle.slink_live.specs.private.Keeping.{AnswersFault, Tends}
+use Rattle.slink_live.proofs.Settling.{next_awake}
+use Rattle.slink_live.proofs.Slots.{closes_input, closes_none, input_append, quiet_serving}
+use Rattle.slink_live.proofs.Tending.{goes_then}
 
 goes_both : (a b c : List Happening) → GoesOn a b → GoesOn b c → GoesOn a c
 goes_both a b c x y = (x.0 ++ y.0, y.1 ∙ (ap (λ z. z ++ y.0) x.1 ∙ append_assoc a x.0 y.0))
@@ -39,7 +43,9 @@ comes_to events.Input s log last (too_often going often c) = comes_closed s log 
 comes_to events.Input s log last (stays ended same) = comes_closed s log last (closes_none log last same)
 comes_to events.InputEnded s log last c = comes_closed s log last c
 comes_to events.InputFailed s log last c = comes_closed s log last c
-comes_to events.Dialled s log last c = (c.0, c.2, λ e. c.1)
+comes_to events.Dialled s log last (takes k reads_on first c) = (Opened k ∷ [], c, λ e. refl)
+comes_to events.Dialled s log last (misses k reads_on first c) = (Missed k ∷ [], c, λ e. refl)
+comes_to events.Dialled s log last (is_full none c) = comes_closed s log last c
 comes_to (events.Readable k) s log last c = comes_read (get_or s.links k None) k s log last c
 comes_to (events.Writable k) s log last c = comes_written (get_or s.links k None) k s log last c
 comes_to (events.Gone k) s log last c = comes_closed s log last c
@@ -51,25 +57,94 @@ pub record HasServed (s t : ServerState) (first log : List Happening) : Type 0 w
   pub serving : (start : List Window) → IsServing start s first → IsServing start t log
   pub grows : GoesOn first log
   pub unread : StaysUnread s t first log
+  pub awake : IsAwake s first → IsAwake t log
+  pub turns : (start : List Window) → IsServing start s first → IsAwake s first → HasTurns start first log
+  pub closed : (start : List Window) → IsServing start s first → IsAwake s first
+      → Goes (IsClosedRightly start) first log
 
-pub served_at : {s t : ServerState} {first log now : List Happening} → now ≡ log → HasServed s t first log
-    → HasServed s t first now
-served_at {s} {t} {first} same so_far = subst (HasServed s t first) (sym same) so_far
+pub served_first : (s : ServerState) (log : List Happening) → IsSound s → HasServed s s log log
+served_first s log sound = record {
+  sound = sound;
+  serving = λ start v. v;
+  grows = ([], sym (append-nil log));
+  unread = λ ended. (ended, refl);
+  awake = λ a. a;
+  turns = λ start v a. no_turn;
+  closed = λ start v a. nothing;
+}
 
--- one event more
-pub served_on : {s t u : ServerState} {first log last : List Happening} {r : Result (Unit {0}) InputFault} (e : Event)
-    → HasServed s t first log → AnswersFault t u log last r → IsCalled e t log last → HasServed s u first last
-served_on {t = t} {first = first} {log} {last} e so_far answers called =
-    let came : ComesTo t log last = comes_to e t log last called in
-    record {
-      sound = answers.sound;
-      serving = λ start v. answers.serving start (so_far.serving start v);
-      grows = goes_both first log last so_far.grows
-          (came.0 ++ came.1.gone, came.1.last_is ∙ append_assoc log came.0 came.1.gone);
-      unread = λ ended.
-          let at = so_far.unread ended in (
-            answers.kept at.0,
-            closes_input (log ++ came.0) last came.1 ∙ (input_append log came.0
-                ∙ (ap (λ b. input_of log ++ b) (came.2 at.0) ∙ (append-nil (input_of log) ∙ at.1))),
-          );
-    }
+-- the device said what can be done next
+module _ {s t : ServerState} {first log now : List Happening} (e : Event) (so_far : HasServed s t first log)
+    (said : now ≡ log ++ Next e ∷ []) where
+  pub said_serving : (start : List Window) → IsServing start s first → IsServing start t now
+  said_serving start v = quiet_serving start t log now (Next e) refl (λ k. refl) said (so_far.serving start v)
+
+  said_awake : IsAwake s first → IsAwake t now
+  said_awake a = next_awake t e log now said (so_far.awake a)
+
+  said_closed : (start : List Window) → IsServing start s first → IsAwake s first
+      → Goes (IsClosedRightly start) first now
+  said_closed start v a = further log now (Next e) (so_far.closed start v a) tt said
+
+  said_unread : s.is_ended ≡ true → (t.is_ended ≡ true) × (input_of now ≡ input_of first)
+  said_unread ended =
+      let at = so_far.unread ended in
+      (at.0, ap input_of said ∙ (input_append log (Next e ∷ []) ∙ (append-nil (input_of log) ∙ at.1)))
+
+  -- and it was done
+  module _ {u : ServerState} {last : List Happening} {r : Result (Unit {0}) InputFault}
+      (answers : AnswersFault t u now last r) (called : IsCalled e t now last)
+      (tends : (earlier : List Happening) → now ≡ earlier ++ Next e ∷ [] → Tends t u now last) where
+    turned : (start : List Window) → IsServing start s first → IsAwake s first → HasTurns start first last
+    turned start v a = one_turn log last t e (so_far.turns start v a) (so_far.serving start v) (so_far.awake a)
+        (subst (λ (x : List Happening). IsCalled e t x last) said called)
+
+    pub served_on : HasServed s u first last
+    served_on =
+        let came : ComesTo t now last = comes_to e t now last called in
+        record {
+          sound = answers.sound;
+          serving = λ start v. answers.serving start (said_serving start v);
+          grows = goes_both first log last so_far.grows (goes_both log now last (Next e ∷ [], said)
+              (came.0 ++ came.1.gone, came.1.last_is ∙ append_assoc now came.0 came.1.gone));
+          unread = λ ended.
+              let at = said_unread ended in (
+                answers.kept at.0,
+                closes_input (now ++ came.0) last came.1 ∙ (input_append now came.0
+                    ∙ (ap (λ b. input_of now ++ b) (came.2 at.0) ∙ (append-nil (input_of now) ∙ at.1))),
+              );
+          awake = λ a. (tends log said).awake (said_awake a);
+          turns = turned;
+          closed = λ start v a. goes_then (said_closed start v a)
+              ((tends log said).closed start (said_serving start v) (said_awake a).is_told);
+        }
+
+-- nothing comes any more
+pub served_nothing : {s t : ServerState} {first log now : List Happening} → HasServed s t first log
+    → now ≡ log ++ Next events.Nothing ∷ [] → HasServed s t first now
+served_nothing {s} {t} {first} {log} {now} so_far said = record {
+  sound = so_far.sound;
+  serving = said_serving events.Nothing so_far said;
+  grows = goes_both first log now so_far.grows (Next events.Nothing ∷ [], said);
+  unread = said_unread events.Nothing so_far said;
+  awake = said_awake events.Nothing so_far said;
+  turns = λ start v a. one_turn log now t events.Nothing (so_far.turns start v a) (so_far.serving start v)
+      (so_far.awake a) (closes_none (log ++ Next events.Nothing ∷ []) now said);
+  closed = said_closed events.Nothing so_far said;
+}
+
+-- the input was given up
+pub served_given : {s t u : ServerState} {first log last : List Happening} {r : Result (Unit {0}) InputFault}
+    → HasServed s t first log → AnswersFault t u log last r → Closes log last → Tends t u log last
+    → HasServed s u first last
+served_given {s} {t} {u} {first} {log} {last} so_far answers closes tends = record {
+  sound = answers.sound;
+  serving = λ start v. answers.serving start (so_far.serving start v);
+  grows = goes_both first log last so_far.grows (closes.gone, closes.last_is);
+  unread = λ ended.
+      let at = so_far.unread ended in (answers.kept at.0, closes_input log last closes ∙ at.1);
+  awake = λ a. tends.awake (so_far.awake a);
+  turns = λ start v a. gives_up log last (so_far.turns start v a) closes;
+  closed = λ start v a. goes_then (so_far.closed start v a)
+      (tends.closed start (so_far.serving start v) (so_far.awake a).is_told);
+}

@@ -5,9 +5,15 @@ pub mod Inputs
 pub mod Own
 pub mod Saying
 pub mod Hearing
+pub mod Sends
+pub mod Losing
+pub mod Turning
+pub mod Fairness
+pub mod Tending
 pub mod Begun
 pub mod Stories
 pub mod Slots
 pub mod Takings
 pub mod Steps
+pub mod Settling
 pub mod Goes

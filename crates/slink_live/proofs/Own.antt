@@ -4,7 +4,8 @@ use Rattle.std.proofs.Common.{◌∷◌}
 use Rattle.std.proofs.Common.{◌++◌, append-nil, Option, None, if◌then◌else◌}
 use Rattle.std.proofs.lemmas.Bool.Decides.{eqb_tells}
 use Rattle.slink_feed.specs.Window.{Window}
-use Rattle.slink_live.specs.Happening.{Happening, Input, Opened, Received, Emitted, Gone, input_of, is_at, is_input}
+use Rattle.slink_live.specs.Happening.{Happening, Input, Opened, Received, Emitted, Gone, Next, Missed, Wants}
+use Rattle.slink_live.specs.Happening.{WantsLinks, Left, input_of, is_at, is_input}
 use Rattle.slink_live.specs.Happening.{piece_of}
 use Rattle.slink_live.specs.Happening.{those_of}
 use Rattle.slink_live.specs.Input.{IsFed}
@@ -27,6 +28,11 @@ no_piece (Opened k) e = refl
 no_piece (Received k bytes) e = refl
 no_piece (Emitted k bytes) e = refl
 no_piece (Gone k) e = refl
+no_piece (Next event) e = refl
+no_piece (Missed k) e = refl
+no_piece (Wants k wishes) e = refl
+no_piece (WantsLinks wanted) e = refl
+no_piece Left e = refl
 
 input_if : (p q : Bool) (h : Happening) (hs : List Happening) → is_input h ≡ p
     → input_of (if p || q then h ∷ hs else hs) ≡ piece_of h ++ input_of hs
@@ -45,7 +51,7 @@ those_more : (k : ℕ) (before now : List Happening) (h : Happening) → now ≡
 those_more k before now h e t = ap (those_of k) e ∙ (those_append k before (h ∷ [])
     ∙ ap (λ q. those_of k before ++ (if q then h ∷ [] else [])) t)
 
-at_self : (k : ℕ) → (k == k) ≡ true
+pub at_self : (k : ℕ) → (k == k) ≡ true
 at_self k = elim (eqb_tells k k) [ inl same ↦ same.0 | inr other ↦ absurd (other.1 refl) ]
 
 module _ (start : List Window) (k : ℕ) where
@@ -73,13 +79,13 @@ module _ (start : List Window) (k : ℕ) where
   own_story log o (opens before now t s fresh e) =
       opens (those_of k before) (those_of k now) t (own_story before None s) fresh
       (those_more k before now (Opened k) e (at_self k))
-  own_story log o (hears before now feed t new bytes produced all emitted s fed serves e) =
-      hears (those_of k before) (those_of k now) feed t new bytes produced all emitted (own_story before _ s)
+  own_story log o (hears before now feed t new place bytes produced all emitted s fed serves e) =
+      hears (those_of k before) (those_of k now) feed t new place bytes produced all emitted (own_story before _ s)
       (fed_those before feed fed) serves (those_more k before now (Received k bytes) e (at_self k))
-  own_story log o (asks now feed t new produced all emitted s fed called) =
-      asks (those_of k now) feed t new produced all emitted (own_story now _ s) (fed_those now feed fed) called
-  own_story log o (takes before now t bytes produced emitted s prefix e) =
-      takes (those_of k before) (those_of k now) t bytes produced emitted (own_story before _ s) prefix
+  own_story log o (asks now feed t new place turn produced all emitted s fed called) =
+      asks (those_of k now) feed t new place turn produced all emitted (own_story now _ s) (fed_those now feed fed) called
+  own_story log o (takes before now t place bytes produced emitted s prefix e) =
+      takes (those_of k before) (those_of k now) t place bytes produced emitted (own_story before _ s) prefix
       (those_more k before now (Emitted k bytes) e (at_self k))
   own_story log o (goes before now x s e) =
       goes (those_of k before) (those_of k now) x (own_story before x s)
@@ -133,13 +139,13 @@ module _ (start : List Window) (k : ℕ) where
       moment b now h x e (elsewhere b now h x s other e) (each_moment b x s) before after split
   each_moment log o (opens b now t s fresh e) before after split =
       moment b now (Opened k) _ e (opens b now t s fresh e) (each_moment b None s) before after split
-  each_moment log o (hears b now feed t new bytes produced all emitted s fed serves e) before after split =
-      moment b now (Received k bytes) _ e (hears b now feed t new bytes produced all emitted s fed serves e)
+  each_moment log o (hears b now feed t new place bytes produced all emitted s fed serves e) before after split =
+      moment b now (Received k bytes) _ e (hears b now feed t new place bytes produced all emitted s fed serves e)
       (each_moment b _ s) before after split
-  each_moment log o (asks now feed t new produced all emitted s fed called) before after split =
+  each_moment log o (asks now feed t new place turn produced all emitted s fed called) before after split =
       each_moment now _ s before after split
-  each_moment log o (takes b now t bytes produced emitted s prefix e) before after split =
-      moment b now (Emitted k bytes) _ e (takes b now t bytes produced emitted s prefix e) (each_moment b _ s) before
+  each_moment log o (takes b now t place bytes produced emitted s prefix e) before after split =
+      moment b now (Emitted k bytes) _ e (takes b now t place bytes produced emitted s prefix e) (each_moment b _ s) before
       after split
   each_moment log o (goes b now x s e) before after split =
       moment b now (Gone k) None e (goes b now x s e) (each_moment b x s) before after split

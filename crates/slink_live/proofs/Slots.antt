@@ -7,11 +7,13 @@ use Rattle.std.proofs.lemmas.Bool.Decides.{eqb_tells}
 use Rattle.std.specs.List.{AllByRecursion}
 use Rattle.slink_feed.specs.Session.{Fits}
 use Rattle.slink_feed.specs.Window.{Window}
-use Rattle.slink_live.specs.Happening.{Happening, Input, Opened, Received, Emitted, Gone, input_of, is_at, piece_of}
+use Rattle.slink_live.specs.Happening.{Happening, Input, Opened, Received, Emitted, Gone, Next, Missed, Wants}
+use Rattle.slink_live.specs.Happening.{WantsLinks, Left, input_of, is_at, piece_of}
 use Rattle.slink_live.specs.Input.{IsFed, IsInput, places_of}
-use Rattle.slink_live.specs.Served.{IsSound, IsStory, LinkState, ServerState, link_state}
+use Rattle.slink_live.specs.Served.{IsServing, IsSound, IsStory, LinkState, ServerState, link_state}
 use Rattle.slink_live.specs.Story.{IsNew, elsewhere}
-use Rattle.slink_live.specs.private.Calling.{Closes, HasFilled, HasReceived, HasTaken, IsGone}
+use Rattle.slink_live.specs.private.Calling.{HasFilled, HasReceived, HasTaken}
+use Rattle.slink_live.specs.Turns.{Closes, IsTelling}
 use Rattle.slink_live.specs.private.Keeping.{KeepsServing}
 use Rattle.slink_live.proofs.Stories.{filled_story, gone_story, received_story, opened_story, story_stays, taken_story}
 
@@ -26,14 +28,19 @@ pub input_quiet : (log : List Happening) (h : Happening) → piece_of h ≡ [] �
 input_quiet log h e = input_append log (h ∷ [])
     ∙ (ap (λ b. input_of log ++ (b ++ [])) e ∙ append-nil (input_of log))
 
-gone_quiet : (h : Happening) → IsGone h → piece_of h ≡ []
+gone_quiet : (h : Happening) → IsTelling h → piece_of h ≡ []
 gone_quiet (Input bytes) g = absurd g
 gone_quiet (Opened k) g = refl
 gone_quiet (Received k bytes) g = refl
 gone_quiet (Emitted k bytes) g = refl
 gone_quiet (Gone k) g = refl
+gone_quiet (Next event) g = absurd g
+gone_quiet (Missed k) g = absurd g
+gone_quiet (Wants k wishes) g = refl
+gone_quiet (WantsLinks wanted) g = refl
+gone_quiet Left g = refl
 
-all_quiet : (gone : List Happening) → AllByRecursion IsGone gone → input_of gone ≡ []
+all_quiet : (gone : List Happening) → AllByRecursion IsTelling gone → input_of gone ≡ []
 all_quiet [] g = refl
 all_quiet (h ∷ hs) g = ap (λ b. b ++ input_of hs) (gone_quiet h g.0) ∙ all_quiet hs g.1
 
@@ -42,13 +49,16 @@ pub closes_input : (log last : List Happening) → Closes log last → input_of 
 closes_input log last c = ap input_of c.last_is ∙ (input_append log c.gone
     ∙ (ap (λ b. input_of log ++ b) (all_quiet c.gone c.each) ∙ append-nil (input_of log)))
 
-all_gone : (xs ys : List Happening) → AllByRecursion IsGone xs → AllByRecursion IsGone ys
-    → AllByRecursion IsGone (xs ++ ys)
+all_gone : (xs ys : List Happening) → AllByRecursion IsTelling xs → AllByRecursion IsTelling ys
+    → AllByRecursion IsTelling (xs ++ ys)
 all_gone [] ys a b = b
 all_gone (x ∷ xs) ys a b = (a.0, all_gone xs ys a.1 b)
 
 pub closes_none : (log last : List Happening) → last ≡ log → Closes log last
 closes_none log last e = record { gone = []; each = tt; last_is = e ∙ sym (append-nil log) }
+
+pub closes_told : (log last : List Happening) (h : Happening) → IsTelling h → last ≡ log ++ h ∷ [] → Closes log last
+closes_told log last h telling e = record { gone = h ∷ []; each = (telling, tt); last_is = e }
 
 pub closes_both : (log now last : List Happening) → Closes log now → Closes now last → Closes log last
 closes_both log now last a b = record {
@@ -57,7 +67,7 @@ closes_both log now last a b = record {
   last_is = b.last_is ∙ (ap (λ x. x ++ b.gone) a.last_is ∙ append_assoc log a.gone b.gone);
 }
 
-not_self : (j k : ℕ) → k ≢ j → (j == k) ≡ false
+pub not_self : (j k : ℕ) → k ≢ j → (j == k) ≡ false
 not_self j k ne = elim (eqb_tells j k) [ inl same ↦ absurd (ne (sym same.1)) | inr other ↦ other.0 ]
 
 -- what happens in another slot
@@ -67,6 +77,23 @@ story_elsewhere start k o log last h other now s = record {
   reported = s.reported;
   served = elsewhere log last h s.reported s.served other now;
   matches = s.matches;
+}
+
+-- what happened in no slot, and is nothing of the input
+pub quiet_serving : (start : List Window) (s : ServerState) (log last : List Happening) (h : Happening)
+    → piece_of h ≡ [] → ((k : ℕ) → is_at k h ≡ false) → last ≡ log ++ h ∷ [] → IsServing start s log
+    → IsServing start s last
+quiet_serving start s log last h none other now v = record {
+  rest = v.rest;
+  fed = record {
+    records = v.fed.records;
+    input = subst (λ b. IsInput (places_of start) b v.fed.records v.rest)
+        (sym (ap input_of now ∙ input_quiet log h none)) v.fed.input;
+    feed_is = v.fed.feed_is;
+  };
+  counted = v.counted;
+  goes_on = v.goes_on;
+  slots = λ k. story_elsewhere start k (get_or s.links k None) log last h (other k) now (v.slots k);
 }
 
 -- What happened leaves the input, and the stories of all slots but one.
@@ -126,7 +153,7 @@ pub taken_turns : (feed : List Window) (j : ℕ) (o new : Option LinkState) (log
 taken_turns feed j None new log last h = turns_nothing feed j None new log last h.0 h.1
 taken_turns feed j (Some l) new log last h = record {
   beside = one_beside j log last (Emitted j (take h.0 l.pending)) refl (not_self j) h.2;
-  fits = λ f. some_fits feed new (link_state l.session (drop h.0 l.pending)) h.1 (f l refl);
+  fits = λ f. some_fits feed new (link_state l.session l.place (drop h.0 l.pending)) h.1 (f l refl);
   story = λ start fed s. taken_story start j log last new l h s;
 }
 
@@ -140,12 +167,12 @@ filled_turns feed j (Some l) new log h = record {
 }
 
 pub opened_turns : (feed : List Window) (j : ℕ) (o new : Option LinkState) (l : LinkState) (log last : List Happening)
-    → new ≡ Some l → o ≡ None → IsNew l.session → l.pending ≡ [] → Fits feed l.session.state
+    → new ≡ Some l → o ≡ None → IsNew l.session → l.pending ≡ [] → l.place ≡ 0 → Fits feed l.session.state
     → last ≡ log ++ Opened j ∷ [] → Turns feed j o new log last
-opened_turns feed j o new l log last is free fresh none fits now = record {
+opened_turns feed j o new l log last is free fresh none begins fits now = record {
   beside = one_beside j log last (Opened j) refl (not_self j) now;
   fits = λ f. some_fits feed new l is fits;
-  story = λ start fed s. opened_story start j log last new l fresh none is now
+  story = λ start fed s. opened_story start j log last new l fresh none begins is now
       (subst (λ (x : Option LinkState). IsStory start j x log) free s);
 }
 

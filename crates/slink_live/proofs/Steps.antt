@@ -1,20 +1,21 @@
 -- What a call makes of a server, from the values that the call saw.
-use Rattle.std.proofs.Common.{◌≡◌, ℕ, zero, suc, ◌+◌, ◌<◌, ◌≤◌, ◌∙◌, ap, subst, refl, sym, arith, inl}
-use Rattle.std.proofs.Common.{inr, true, false, List, [], ◌∷◌, ◌++◌, get_or, length, set, Option, Some, None}
+use Rattle.std.proofs.Common.{◌≡◌, ◌≢◌, ℕ, zero, suc, ◌+◌, ◌<◌, ◌≤◌, ◌∙◌, ap, subst, refl, sym, arith, inl}
+use Rattle.std.proofs.Common.{inr, Bool, true, false, List, [], ◌∷◌, ◌++◌, get_or, length, set, Option, Some, None}
 use Rattle.std.proofs.Common.{Result, Ok, Err, IfErr, IfSome}
 use Rattle.std.specs.Option.{is_some}
 use Rattle.slink_feed.specs.Session.{Fits}
 use Rattle.slink_feed.specs.Window.{Window}
 use Rattle.slink_feed.proofs.Items.{same_or_not}
 use Rattle.slink_live.specs.declared.fault.InputFault.{InputFault}
-use Rattle.slink_live.specs.Happening.{Happening, Opened, Gone, input_of}
+use Rattle.slink_live.specs.Happening.{Happening, Opened, Gone, WantsLinks, input_of, is_at, piece_of}
 use Rattle.slink_live.specs.Input.{IsInputFault, places_of}
 use Rattle.slink_live.specs.Served.{AreEmpty, IsServing, IsSound, LinkState, ServerState}
 use Rattle.slink_live.specs.Story.{IsNew}
-use Rattle.slink_live.specs.private.Calling.{Closes, HasFilled, HasReceived, HasTaken, ReadsFrom, WritesTo}
+use Rattle.slink_live.specs.private.Calling.{HasFilled, HasReceived, HasTaken}
+use Rattle.slink_live.specs.Turns.{Closes, ReadsFrom, WritesTo}
 use Rattle.slink_live.specs.private.Keeping.{AnswersFault, KeepsServing}
 use Rattle.slink_live.proofs.Slots.{Turns, filled_turns, gone_turns, opened_turns, received_turns, taken_turns}
-use Rattle.slink_live.proofs.Slots.{turns_keep}
+use Rattle.slink_live.proofs.Slots.{closes_both, closes_told, quiet_serving, turns_keep}
 
 -- what holds of an error holds of what follows from it
 pub if_err : {X E : Type 0} → (r : Result X E) (P Q : E → Type 0) → ((e : E) → P e → Q e) → IfErr r P → IfErr r Q
@@ -25,11 +26,29 @@ pub if_err_always : {X E : Type 0} → (r : Result X E) (Q : Type 0) → Q → I
 if_err_always (Ok x) Q q = tt
 if_err_always (Err e) Q q = q
 
+pub same_default : {X : Type 0} → (xs : List X) (i : ℕ) (d e : X) → i < length xs → get_or xs i d ≡ get_or xs i e
+same_default [] i d e h = absurd (omega (arith, h))
+same_default (x ∷ xs) zero d e h = refl
+same_default (x ∷ xs) (suc i) d e h = same_default xs i d e (omega (arith, h))
+
 -- a slot that holds no link
 pub none_at : (links : List (Option LinkState)) (k : ℕ) (o : Option LinkState) → o ≡ get_or links k o
     → is_some o ≡ false → k < length links → get_or links k None ≡ None
 none_at links k None v e lt = sym v
 none_at links k (Some l) v e lt = absurd (let bad : true ≡ false = e in cc bad)
+
+-- a slot that holds one
+pub taken_at : (links : List (Option LinkState)) (k : ℕ) (o : Option LinkState) → o ≡ get_or links k o
+    → is_some o ≡ true → k < length links → get_or links k None ≢ None
+taken_at links k o v e lt none =
+    let bad : false ≡ true = sym (ap is_some (v ∙ (same_default links k o None lt ∙ none))) ∙ e in cc bad
+
+pub taken_more : (links : List (Option LinkState)) (n : ℕ) → get_or links n None ≢ None
+    → ((j : ℕ) → j < n → get_or links j None ≢ None) → (j : ℕ) → j < n + 1 → get_or links j None ≢ None
+taken_more links n here before j lt = elim (same_or_not j n) [
+  | inl same ↦ λ e. here (ap (λ (i : ℕ). get_or links i None) (sym same) ∙ e)
+  | inr ne ↦ before j (omega (arith, lt, ne))
+]
 
 pub none_more : (links : List (Option LinkState)) (n : ℕ) → get_or links n None ≡ None
     → ((k : ℕ) → k < n → get_or links k None ≡ None) → (k : ℕ) → k < n + 1 → get_or links k None ≡ None
@@ -82,6 +101,15 @@ keeps_from {s0} {t = t} {a = a} {b = b} same now x =
     subst (λ (y : ServerState). KeepsServing y t a b) same
     (subst (λ (y : List Happening). KeepsServing s0 t y b) now x)
 
+-- something more, which happened in no slot, and is nothing of the input
+pub keeps_quiet : {s t : ServerState} {a b c : List Happening} (h : Happening) → piece_of h ≡ []
+    → ((k : ℕ) → is_at k h ≡ false) → c ≡ b ++ h ∷ [] → KeepsServing s t a b → KeepsServing s t a c
+keeps_quiet {s} {t} {a} {b} {c} h none other now x = record {
+  sound = x.sound;
+  serving = λ start v. quiet_serving start t b c h none other now (x.serving start v);
+  stays = x.stays;
+}
+
 -- the input is read no more
 abbrev pub ended : ServerState → ServerState
 ended s = record s { is_ended = true }
@@ -95,7 +123,7 @@ ended_sound sound = record {
   few_reads = sound.few_reads;
 }
 
-ended_serving : (start : List Window) (s : ServerState) (log : List Happening) → IsServing start s log
+pub ended_serving : (start : List Window) (s : ServerState) (log : List Happening) → IsServing start s log
     → IsServing start (ended s) log
 ended_serving start s log v = record {
   rest = v.rest;
@@ -126,11 +154,6 @@ writes_to : (j : ℕ) (o new : Option LinkState) (log mid last : List Happening)
     → Closes mid last → WritesTo o j log last
 writes_to j None new log mid last h c = subst (λ (x : List Happening). Closes x last) h.1 c
 writes_to j (Some l) new log mid last h c = (h.0, subst (λ (x : List Happening). Closes x last) h.2 c)
-
-same_default : {X : Type 0} → (xs : List X) (i : ℕ) (d e : X) → i < length xs → get_or xs i d ≡ get_or xs i e
-same_default [] i d e h = absurd (omega (arith, h))
-same_default (x ∷ xs) zero d e h = refl
-same_default (x ∷ xs) (suc i) d e h = same_default xs i d e (omega (arith, h))
 
 link_fits : (feed : List Window) (o : Option LinkState)
     → ((l : LinkState) → o ≡ Some l → Fits feed l.session.state) → IfSome o (λ l. Fits feed l.session.state)
@@ -186,10 +209,10 @@ module _ {s0 s : ServerState} (same : s0 ≡ s) (j : ℕ) (lt : j < length s0.li
         (seen (λ f o. HasTaken j o new log last) refl link h))
 
     pub opened_keeps : (l : LinkState) → new ≡ Some l → get_or s.links j None ≡ None → IsNew l.session
-        → l.pending ≡ [] → Fits s.intake.feed l.session.state → last ≡ log ++ Opened j ∷ []
+        → l.pending ≡ [] → l.place ≡ 0 → Fits s.intake.feed l.session.state → last ≡ log ++ Opened j ∷ []
         → KeepsServing s (record s0 { links = set s0.links j new }) log last
-    opened_keeps l is free fresh none fits now = keeps_at
-        (opened_turns s.intake.feed j (get_or s.links j None) new l log last is free fresh none fits now)
+    opened_keeps l is free fresh none begins fits now = keeps_at
+        (opened_turns s.intake.feed j (get_or s.links j None) new l log last is free fresh none begins fits now)
 
     pub gone_keeps : new ≡ None → last ≡ log ++ Gone j ∷ []
         → KeepsServing s (record s0 { links = set s0.links j new }) log last
@@ -202,3 +225,18 @@ module _ {s0 s : ServerState} (same : s0 ≡ s) (j : ℕ) (lt : j < length s0.li
       subst (KeepsServing s (record s0 { links = set s0.links j new }) log) (sym now)
       (keeps_at new sound (filled_turns s.intake.feed j (get_or s.links j None) new log
       (seen (λ f o. HasFilled f o new) rings link h)))
+
+-- a link that was closed
+pub closed_keeps : (s t : ServerState) (j : ℕ) (log last : List Happening) (wanted : Bool) → j < length s.links
+    → IsSound s → t ≡ record s { links = set s.links j None } → last ≡ (log ++ Gone j ∷ []) ++ WantsLinks wanted ∷ []
+    → KeepsServing s t log last
+closed_keeps s t j log last wanted lt sound is now =
+    subst (λ (x : ServerState). KeepsServing s x log last) (sym is)
+    (keeps_quiet (WantsLinks wanted) refl (λ k. refl) now
+    (gone_keeps {s0 = s} {s = s} refl j lt None {log = log} {last = log ++ Gone j ∷ []} sound refl refl))
+
+pub closes_gone : (j : ℕ) (log last : List Happening) (wanted : Bool)
+    → last ≡ (log ++ Gone j ∷ []) ++ WantsLinks wanted ∷ [] → Closes log last
+closes_gone j log last wanted now =
+    closes_both log (log ++ Gone j ∷ []) last (closes_told log (log ++ Gone j ∷ []) (Gone j) tt refl)
+    (closes_told (log ++ Gone j ∷ []) last (WantsLinks wanted) tt now)

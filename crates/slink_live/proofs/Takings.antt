@@ -8,11 +8,12 @@ use Rattle.slink_live.specs.declared.fault.InputFault.TheVariants.{Stream}
 use Rattle.slink_live.specs.Happening.{Happening, Input, input_of}
 use Rattle.slink_live.specs.Input.{IsFaultIn, IsFedTo, IsInput, IsInputFault, IsOf, places_of}
 use Rattle.slink_live.specs.Served.{IntakeState, IsServing, IsSound, ServerState}
-use Rattle.slink_live.specs.private.Calling.{Closes}
+use Rattle.slink_live.specs.Turns.{Closes}
 use Rattle.slink_live.specs.private.Cutting.{Cuts, CutsOff}
-use Rattle.slink_live.specs.private.Keeping.{AnswersFault, KeepsServing}
+use Rattle.slink_live.specs.private.Keeping.{AnswersFault, KeepsServing, Tends, TendsAll, TendsAnew}
 use Rattle.slink_live.proofs.Borne.{below_more, places_fed}
 use Rattle.slink_live.proofs.Cuts.{cut_below, cut_few, cut_fits, cuts_on, short_none}
+use Rattle.slink_live.proofs.Settling.{input_ends, input_tends}
 use Rattle.slink_live.proofs.Slots.{closes_input, input_append, story_elsewhere}
 use Rattle.slink_live.proofs.Steps.{ended, sound_in}
 
@@ -122,6 +123,20 @@ module _ {s0 s : ServerState} (same : s0 ≡ s) where
       ended = x.stays.is_ended;
       kept = λ e. x.stays.is_ended;
     }
+
+    pub taken_tends : Cuts s0.intake bytes new new.kept → length new.kept < 512
+        → TendsAll (with_intake s0 new) t mid last → Tends s t log last
+    taken_tends cuts short all = subst (λ (x : ServerState). Tends x t log last) same
+        (input_tends s0 t new (s0.reads + 1) bytes log mid last now (λ start v. taken_serving on sound cuts
+        (short_none (places_of s0.intake.feed) new.kept short) now start
+        (subst (λ (x : ServerState). IsServing start x log) same v) s0.is_ended (λ e. refl)) all)
+
+    pub taken_ends : {fault : InputFault} → CutsOff s0.intake bytes new fault
+        → TendsAnew (ended (with_intake s0 new)) t mid last → Tends s t log last
+    taken_ends off anew = subst (λ (x : ServerState). Tends x t log last) same
+        (input_ends s0 (ended (with_intake s0 new)) t bytes log mid last now (λ start v. taken_serving on sound off.cuts
+        off.no_further now start (subst (λ (x : ServerState). IsServing start x log) same v) true
+        (λ e. absurd (let bad : true ≡ false = e in cc bad))) anew)
 
   -- What is wrong with an input of which nothing further came.
   module _ {log last : List Happening} (closes : Closes log last) (start : List Window)

@@ -1,15 +1,55 @@
 -- What happens at a device.
-use Rattle.std.specs.Prelude.{ℕ, zero, suc, List, [], ◌∷◌, ◌++◌, refl, ◌≡◌, Bool, true, false, ◌==◌, ◌||◌}
+use Rattle.std.specs.Prelude.{ℕ, zero, suc, List, [], ◌∷◌, ◌++◌, refl, ◌≡◌, Bool, true, false, ◌==◌, ◌||◌, get_or}
 use Rattle.std.specs.Prelude.{if◌then◌else◌}
 use Rattle.std.specs.Coded.{Coded, code_by, coded×, coded_ℕ, coded_list}
+use Rattle.slink_live.specs.declared.ready.Event.{Event}
+use Rattle.slink_live.specs.declared.ready.Event.TheVariants as events
+use Rattle.slink_live.specs.declared.ready.Wishes.{Wishes}
 
--- bytes came from the input; a link stands in a slot from now on; bytes came from it; it accepted bytes; it is gone
+-- bytes came from the input; a link stands in a slot from now on; bytes came from it; it accepted bytes; it is gone;
+-- the device said what can be done next; nobody dialled any more who could stand in a slot; the device was told what is
+-- wanted of the link in a slot, whether further links are wanted, and that the input is read no more
 pub data Happening : Type 0 where
   Input : (bytes : List ℕ) → Happening
   Opened : (slot : ℕ) → Happening
   Received : (slot : ℕ) (bytes : List ℕ) → Happening
   Emitted : (slot : ℕ) (bytes : List ℕ) → Happening
   Gone : (slot : ℕ) → Happening
+  Next : (event : Event) → Happening
+  Missed : (slot : ℕ) → Happening
+  Wants : (slot : ℕ) (wishes : Wishes) → Happening
+  WantsLinks : (wanted : Bool) → Happening
+  Left : Happening
+
+-- an answer as a number
+abbrev pub flag_of : Bool → ℕ
+flag_of true = 1
+flag_of false = 0
+
+abbrev pub is_flag : ℕ → Bool
+is_flag n = n == 1
+
+-- wishes as numbers
+abbrev pub flags_of : Wishes → List ℕ
+flags_of w = flag_of w.reads ∷ flag_of w.writes ∷ flag_of w.is_streaming ∷ []
+
+abbrev pub wishes_by : List ℕ → Wishes
+wishes_by flags = record {
+  reads = is_flag (get_or flags 0 0);
+  writes = is_flag (get_or flags 1 0);
+  is_streaming = is_flag (get_or flags 2 0);
+}
+
+-- an event by the number of its kind
+abbrev pub event_by : ℕ → ℕ → Event
+event_by zero slot = events.Input
+event_by (suc zero) slot = events.InputEnded
+event_by (suc (suc zero)) slot = events.InputFailed
+event_by (suc (suc (suc zero))) slot = events.Dialled
+event_by (suc (suc (suc (suc zero)))) slot = events.Readable slot
+event_by (suc (suc (suc (suc (suc zero))))) slot = events.Writable slot
+event_by (suc (suc (suc (suc (suc (suc zero)))))) slot = events.Gone slot
+event_by (suc (suc (suc (suc (suc (suc (suc n))))))) slot = events.Nothing
 
 -- by the number of its kind
 abbrev pub happening : ℕ → ℕ → List ℕ → Happening
@@ -17,10 +57,25 @@ happening zero slot bytes = Input bytes
 happening (suc zero) slot bytes = Opened slot
 happening (suc (suc zero)) slot bytes = Received slot bytes
 happening (suc (suc (suc zero))) slot bytes = Emitted slot bytes
-happening (suc (suc (suc (suc n)))) slot bytes = Gone slot
+happening (suc (suc (suc (suc zero)))) slot bytes = Gone slot
+happening (suc (suc (suc (suc (suc zero))))) slot bytes = Missed slot
+happening (suc (suc (suc (suc (suc (suc zero)))))) slot bytes = Wants slot (wishes_by bytes)
+happening (suc (suc (suc (suc (suc (suc (suc zero))))))) slot bytes = WantsLinks (is_flag slot)
+happening (suc (suc (suc (suc (suc (suc (suc (suc zero)))))))) slot bytes = Left
+happening (suc (suc (suc (suc (suc (suc (suc (suc (suc n))))))))) slot bytes = Next (event_by n slot)
 
 abbrev Parts : Type 0
 Parts = ℕ × (ℕ × List ℕ)
+
+abbrev event_parts : Event → Parts
+event_parts events.Input = (9, (0, []))
+event_parts events.InputEnded = (10, (0, []))
+event_parts events.InputFailed = (11, (0, []))
+event_parts events.Dialled = (12, (0, []))
+event_parts (events.Readable slot) = (13, (slot, []))
+event_parts (events.Writable slot) = (14, (slot, []))
+event_parts (events.Gone slot) = (15, (slot, []))
+event_parts events.Nothing = (16, (0, []))
 
 abbrev to_parts : Happening → Parts
 to_parts (Input bytes) = (0, (0, bytes))
@@ -28,9 +83,42 @@ to_parts (Opened slot) = (1, (slot, []))
 to_parts (Received slot bytes) = (2, (slot, bytes))
 to_parts (Emitted slot bytes) = (3, (slot, bytes))
 to_parts (Gone slot) = (4, (slot, []))
+to_parts (Missed slot) = (5, (slot, []))
+to_parts (Wants slot wishes) = (6, (slot, flags_of wishes))
+to_parts (WantsLinks wanted) = (7, (flag_of wanted, []))
+to_parts Left = (8, (0, []))
+to_parts (Next event) = event_parts event
 
 abbrev of_parts : Parts → Happening
 of_parts p = happening p.0 p.1.0 p.1.1
+
+abbrev wishes_of : Bool → Bool → Bool → Wishes
+wishes_of reads writes is_streaming = record { reads = reads; writes = writes; is_streaming = is_streaming }
+
+pub same_wants : (slot : ℕ) (reads writes is_streaming : Bool)
+    → happening 6 slot (flags_of (wishes_of reads writes is_streaming)) ≡ Wants slot (wishes_of reads writes is_streaming)
+same_wants slot true true true = refl
+same_wants slot true true false = refl
+same_wants slot true false true = refl
+same_wants slot true false false = refl
+same_wants slot false true true = refl
+same_wants slot false true false = refl
+same_wants slot false false true = refl
+same_wants slot false false false = refl
+
+pub same_links : (wanted : Bool) → happening 7 (flag_of wanted) [] ≡ WantsLinks wanted
+same_links true = refl
+same_links false = refl
+
+same_event : (e : Event) → of_parts (event_parts e) ≡ Next e
+same_event events.Input = refl
+same_event events.InputEnded = refl
+same_event events.InputFailed = refl
+same_event events.Dialled = refl
+same_event (events.Readable slot) = refl
+same_event (events.Writable slot) = refl
+same_event (events.Gone slot) = refl
+same_event events.Nothing = refl
 
 pub same_parts : (h : Happening) → of_parts (to_parts h) ≡ h
 same_parts (Input bytes) = refl
@@ -38,6 +126,11 @@ same_parts (Opened slot) = refl
 same_parts (Received slot bytes) = refl
 same_parts (Emitted slot bytes) = refl
 same_parts (Gone slot) = refl
+same_parts (Missed slot) = refl
+same_parts (Wants slot wishes) = same_wants slot wishes.reads wishes.writes wishes.is_streaming
+same_parts (WantsLinks wanted) = same_links wanted
+same_parts Left = refl
+same_parts (Next event) = same_event event
 
 -- how the logic stores them
 abbrev pub happenings_code : Coded (List Happening)
@@ -47,10 +140,7 @@ happenings_code =
 -- what the input gave
 abbrev pub piece_of : Happening → List ℕ
 piece_of (Input bytes) = bytes
-piece_of (Opened slot) = []
-piece_of (Received slot bytes) = []
-piece_of (Emitted slot bytes) = []
-piece_of (Gone slot) = []
+piece_of _ = []
 
 -- all bytes of the input, in whatever pieces they came
 abbrev pub input_of : List Happening → List ℕ
@@ -59,20 +149,58 @@ input_of (h ∷ hs) = piece_of h ++ input_of hs
 
 -- whether it happened in this slot
 abbrev pub is_at : ℕ → Happening → Bool
-is_at k (Input bytes) = false
 is_at k (Opened slot) = slot == k
 is_at k (Received slot bytes) = slot == k
 is_at k (Emitted slot bytes) = slot == k
 is_at k (Gone slot) = slot == k
+is_at k _ = false
 
 abbrev pub is_input : Happening → Bool
 is_input (Input bytes) = true
-is_input (Opened slot) = false
-is_input (Received slot bytes) = false
-is_input (Emitted slot bytes) = false
-is_input (Gone slot) = false
+is_input _ = false
 
 -- what concerns a slot: the input, and what happened there
 abbrev pub those_of : ℕ → List Happening → List Happening
 those_of k [] = []
 those_of k (h ∷ hs) = if is_input h || is_at k h then h ∷ those_of k hs else those_of k hs
+
+-- what the device was told of the link in a slot; at first it counts as told that the link is read
+abbrev pub first_wishes : Wishes
+first_wishes = record { reads = true; writes = false; is_streaming = false }
+
+abbrev pub told_by : ℕ → Wishes → Happening → Wishes
+told_by k wishes (Opened slot) = if slot == k then first_wishes else wishes
+told_by k wishes (Wants slot new) = if slot == k then new else wishes
+told_by k wishes _ = wishes
+
+abbrev pub told_from : ℕ → Wishes → List Happening → Wishes
+told_from k wishes [] = wishes
+told_from k wishes (h ∷ hs) = told_from k (told_by k wishes h) hs
+
+-- what it was last told of the link in a slot
+abbrev pub told : ℕ → List Happening → Wishes
+told k log = told_from k first_wishes log
+
+abbrev pub links_by : Bool → Happening → Bool
+links_by wanted (WantsLinks new) = new
+links_by wanted _ = wanted
+
+abbrev pub links_from : Bool → List Happening → Bool
+links_from wanted [] = wanted
+links_from wanted (h ∷ hs) = links_from (links_by wanted h) hs
+
+-- whether it was last told that further links are wanted; at first it counts as told so
+abbrev pub wants_links : List Happening → Bool
+wants_links log = links_from true log
+
+abbrev pub left_by : Bool → Happening → Bool
+left_by is_left Left = true
+left_by is_left _ = is_left
+
+abbrev pub left_from : Bool → List Happening → Bool
+left_from is_left [] = is_left
+left_from is_left (h ∷ hs) = left_from (left_by is_left h) hs
+
+-- whether it was told that the input is read no more
+abbrev pub is_left : List Happening → Bool
+is_left log = left_from false log

@@ -2,5 +2,8 @@ pub mod Happening
 pub mod Input
 pub mod Story
 pub mod Served
+pub mod Awake
+pub mod Turns
+pub mod Fairness
 pub mod Stretches
 pub mod private

@@ -9,13 +9,15 @@ use Rattle.slink_live.specs.Happening.{Happening, input_of}
 use Rattle.slink_live.specs.Input.{IsFedTo}
 use Rattle.slink_live.specs.Story.{IsServed, Story}
 
--- what a server keeps of a link: its session, and what that sent and the link didn't take yet
+-- what a server keeps of a link: its session, the place whose turn it is, and what was sent that the link didn't take
+-- yet
 pub record LinkState : Type 0 where
   pub session : Standing
+  pub place : ℕ
   pub pending : List ℕ
 
-abbrev pub link_state : Standing → List ℕ → LinkState
-link_state session pending = record { session = session; pending = pending }
+abbrev pub link_state : Standing → ℕ → List ℕ → LinkState
+link_state session place pending = record { session = session; place = place; pending = pending }
 
 -- what it keeps of the input: the rings, the bytes behind the last record, and how many records there were
 pub record IntakeState : Type 0 where
@@ -46,12 +48,12 @@ pub record IsSound (s : ServerState) : Type 0 where
   pub few : s.intake.records ≤ 8192 * s.reads
   pub few_reads : s.reads ≤ 2 ^ 40
 
--- A slot has a link where the story has one: with its session, and what that sent and the link didn't take yet.
+-- A slot has a link where the story has one: with its session and turn, and what that sent and the link didn't take yet.
 abbrev pub Matches : Option LinkState → Option Story → Type 0
 Matches None None = Unit {0}
 Matches None (Some t) = ⊥
 Matches (Some l) None = ⊥
-Matches (Some l) (Some t) = (t.session ≡ l.session) × (t.produced ≡ t.emitted ++ l.pending)
+Matches (Some l) (Some t) = (t.session ≡ l.session) × (t.place ≡ l.place) × (t.produced ≡ t.emitted ++ l.pending)
 
 -- what happened in a slot comes to a story that its link matches
 pub record IsStory (start : List Window) (k : ℕ) (o : Option LinkState) (log : List Happening) : Type 0 where

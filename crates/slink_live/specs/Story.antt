@@ -1,55 +1,69 @@
 -- What a link is sent: what one session says, to the link's own lines alone, over the rings of the records so far.
-use Rattle.std.specs.Prelude.{◌≡◌, ℕ, false, List, [], ◌∷◌, ◌++◌, replicate, Option, Some, None}
+use Rattle.std.specs.Prelude.{◌≡◌, ℕ, ◌+◌, ◌<◌, ◌≤◌, ◌⊎◌, false, List, [], ◌∷◌, ◌++◌, length, replicate, Option, Some, None}
 use Rattle.mseed_stream.specs.Device.{IsPrefixOf}
 use Rattle.slink_wire.specs.Lines.{IsHeld}
 use Rattle.slink_feed.specs.declared.session.Phase.TheVariants.{Fresh}
 use Rattle.slink_feed.specs.declared.session.Sent.{Sent}
+use Rattle.slink_feed.specs.declared.session.Sent.TheVariants as Sents
 use Rattle.slink_feed.specs.Serving.{Serves, Standing}
-use Rattle.slink_feed.specs.Session.{at, sent, sent_bytes}
+use Rattle.slink_feed.specs.Session.{State, at, sent, sent_bytes}
 use Rattle.slink_feed.specs.Window.{Window}
 use Rattle.slink_live.specs.Happening.{Happening, Opened, Received, Emitted, Gone, input_of, is_at}
 use Rattle.slink_live.specs.Input.{IsFed}
 
--- a session, what it sent so far, and what its link accepted of that
+-- a session, the place whose turn it is, what was sent so far, and what its link accepted of that
 pub record Story : Type 0 where
   pub session : Standing
+  pub place : ℕ
   pub produced : List ℕ
   pub emitted : List ℕ
 
-abbrev pub story : Standing → List ℕ → List ℕ → Story
-story session produced emitted = record { session = session; produced = produced; emitted = emitted }
+abbrev pub story : Standing → ℕ → List ℕ → List ℕ → Story
+story session place produced emitted =
+    record { session = session; place = place; produced = produced; emitted = emitted }
 
 -- It is the session of a new link.
 pub record IsNew (s : Standing) : Type 0 where
   pub state : s.state ≡ at Fresh (replicate 16 None)
   pub held : IsHeld s.held []
 
--- A session is called for packets of some places, and what it gives goes on its way.
-pub data Asks (feed : List Window) (s : Standing) (way : List ℕ) : Standing → List ℕ → Type 0 where
-  none_called : Asks feed s way s way
-  one_called : (now last : Standing) (k : ℕ) (answer : Sent) (on all : List ℕ) → Asks feed s way now on
-      → sent feed now.state k ≡ (last.state, answer) → last.held ≡ now.held → all ≡ on ++ sent_bytes answer
-      → Asks feed s way last all
+-- In a round of the places from one on, the place comes before another.
+abbrev pub IsEarlier : ℕ → ℕ → ℕ → Type 0
+IsEarlier place j k = ((place ≤ j) × (j < k)) ⊎ ((k < place) × (place ≤ j)) ⊎ ((k < place) × (j < k))
+
+-- It is the first of which something is sent, in a round of the places from one on.
+pub record IsTurn (feed : List Window) (s : State) (place k : ℕ) : Type 0 where
+  pub within : k < length feed
+  pub sends : ¬ (sent feed s k ≡ (s, Sents.Wait))
+  pub first : (j : ℕ) → j < length feed → IsEarlier place j k → sent feed s j ≡ (s, Sents.Wait)
+
+-- A session is called for packets, in turns: each time for the first place of which something is sent, in a round from
+-- the one behind the place that was called last. What it gives goes on its way.
+pub data Asks (feed : List Window) (s : Standing) (place : ℕ) (way : List ℕ) : Standing → ℕ → List ℕ → Type 0 where
+  none_called : Asks feed s place way s place way
+  one_called : (now last : Standing) (turn k : ℕ) (answer : Sent) (on all : List ℕ) → Asks feed s place way now turn on
+      → IsTurn feed now.state turn k → sent feed now.state k ≡ (last.state, answer) → last.held ≡ now.held
+      → all ≡ on ++ sent_bytes answer → Asks feed s place way last (k + 1) all
 
 -- What happened comes to this in a slot: no link stands there, or this is the story of the one that does. A link comes
 -- where none stands. What it says is answered by its session, as slink_feed has it, from the rings as the input made
--- them so far; packets may be requested of its session at any time; and of all that, the link takes a prefix.
+-- them so far; packets may be requested of its session at any time, in turns; and of all that, the link takes a prefix.
 pub data IsServed (start : List Window) (k : ℕ) : List Happening → Option Story → Type 0 where
   no_event : IsServed start k [] None
   elsewhere : (before now : List Happening) (h : Happening) (o : Option Story) → IsServed start k before o
       → is_at k h ≡ false → now ≡ before ++ h ∷ [] → IsServed start k now o
   opens : (before now : List Happening) (s : Standing) → IsServed start k before None → IsNew s
-      → now ≡ before ++ Opened k ∷ [] → IsServed start k now (Some (story s [] []))
-  hears : (before now : List Happening) (feed : List Window) (s new : Standing) (bytes produced all emitted : List ℕ)
-      → IsServed start k before (Some (story s produced emitted)) → IsFed start (input_of before) feed
-      → Serves feed s bytes produced new all → now ≡ before ++ Received k bytes ∷ []
-      → IsServed start k now (Some (story new all emitted))
-  asks : (log : List Happening) (feed : List Window) (s new : Standing) (produced all emitted : List ℕ)
-      → IsServed start k log (Some (story s produced emitted)) → IsFed start (input_of log) feed
-      → Asks feed s produced new all
-      → IsServed start k log (Some (story new all emitted))
-  takes : (before now : List Happening) (s : Standing) (bytes produced emitted : List ℕ)
-      → IsServed start k before (Some (story s produced emitted)) → IsPrefixOf (emitted ++ bytes) produced
-      → now ≡ before ++ Emitted k bytes ∷ [] → IsServed start k now (Some (story s produced (emitted ++ bytes)))
+      → now ≡ before ++ Opened k ∷ [] → IsServed start k now (Some (story s 0 [] []))
+  hears : (before now : List Happening) (feed : List Window) (s new : Standing) (place : ℕ)
+      (bytes produced all emitted : List ℕ) → IsServed start k before (Some (story s place produced emitted))
+      → IsFed start (input_of before) feed → Serves feed s bytes produced new all
+      → now ≡ before ++ Received k bytes ∷ [] → IsServed start k now (Some (story new place all emitted))
+  asks : (log : List Happening) (feed : List Window) (s new : Standing) (place turn : ℕ)
+      (produced all emitted : List ℕ) → IsServed start k log (Some (story s place produced emitted))
+      → IsFed start (input_of log) feed → Asks feed s place produced new turn all
+      → IsServed start k log (Some (story new turn all emitted))
+  takes : (before now : List Happening) (s : Standing) (place : ℕ) (bytes produced emitted : List ℕ)
+      → IsServed start k before (Some (story s place produced emitted)) → IsPrefixOf (emitted ++ bytes) produced
+      → now ≡ before ++ Emitted k bytes ∷ [] → IsServed start k now (Some (story s place produced (emitted ++ bytes)))
   goes : (before now : List Happening) (o : Option Story) → IsServed start k before o
       → now ≡ before ++ Gone k ∷ [] → IsServed start k now None

@@ -1,10 +1,13 @@
 //! Laws of what links are sent.
-ghost use Rattle.std.specs.Prelude.{◌≡◌, ◌++◌, ℕ, List, Option, Some, slice_get};
+ghost use Rattle.std.specs.Prelude.{◌≡◌, ◌≢◌, ◌∷◌, ◌++◌, ℕ, List, Option, Some, slice_get};
 ghost use Rattle.slink_wire.specs.Place.{Fields};
 ghost use Rattle.slink_feed.specs.Window.{Shows, Window};
+ghost use Rattle.slink_feed.specs.Serving.{Standing};
+ghost use Rattle.slink_feed.specs.Session.{State};
+ghost use Rattle.slink_live.specs.Fairness.{HasDue, IsAmong, TakesTurns};
 ghost use Rattle.slink_live.specs.Happening.{Happening, input_of, those_of};
 ghost use Rattle.slink_live.specs.Input.{IsFed, IsInput, fed, places_of};
-ghost use Rattle.slink_live.specs.Story.{IsServed, Story};
+ghost use Rattle.slink_live.specs.Story.{Asks, IsServed, IsTurn, Story};
 ghost use Rattle.slink_live.specs.Stretches.{SaysStretches, records_at};
 
 /// Of a link only what happened in its slot matters, and the input.
@@ -46,4 +49,14 @@ pub fn a_link_is_sent_stretches()
     ensures { (start : List Window) (k : ℕ) (log : List Happening) (reported : Story) (records : List (List ℕ))
         (rest : List ℕ) → IsServed start k log (Some reported) → IsInput (places_of start) (input_of log) records rest
         → SaysStretches start records reported.produced }
+{}
+
+/// A link's session is called in turns. Between two calls for a place, while nothing comes, each other place that has a
+/// record due when the second is made was called: a busy station starves no other.
+pub fn in_turns()
+    ensures turns { (feed : List Window) (s last : Standing) (place turn : ℕ) (way all : List ℕ)
+        → Asks feed s place way last turn all → (ks : List ℕ) × TakesTurns feed s.state place ks last.state turn }
+    ensures between { (feed : List Window) (s t : State) (place turn k j : ℕ) (mid : List ℕ)
+        → TakesTurns feed s place (k ∷ mid) t turn → IsTurn feed t turn k → j ≢ k → HasDue feed t j
+        → IsAmong j mid }
 {}

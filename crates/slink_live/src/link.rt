@@ -1,12 +1,17 @@
 //! What a server keeps of one link: its session, and what is left to be written.
-ghost use Rattle.std.specs.Prelude.{◌≡◌, ◌+◌, ◌*◌, ◌<◌, ◌≤◌, [], ◌++◌, drop, length, List};
-ghost use Rattle.std.specs.Bool.{OnTrue};
+ghost use Rattle.std.specs.Prelude.{◌≡◌, ◌≢◌, ◌↔◌, ◌⊎◌, ◌+◌, ◌*◌, ◌<◌, ◌≤◌, [], ◌++◌, drop, length, List, true};
+ghost use Rattle.std.specs.Bool.{OnFalse, OnTrue};
+ghost use Rattle.slink_feed.specs.declared.session.Phase.{Phase};
+ghost use Rattle.slink_feed.specs.declared.session.Sent.{Sent};
 ghost use Rattle.slink_feed.specs.Serving.{Serves};
-ghost use Rattle.slink_feed.specs.Session.{Fits, sent_bytes, sent_without};
+ghost use Rattle.slink_feed.specs.Session.{Fits, IsWaiting, sent, sent_bytes, sent_without};
 ghost use Rattle.slink_feed.specs.Window.{Window};
+ghost use Rattle.slink_live.specs.Awake.{HasLeft, HasRoom, IsClosable, IsLost, IsOver};
 ghost use Rattle.slink_live.specs.Story.{Asks, IsNew};
+ghost use Rattle.slink_live.specs.private.Calling.{Gives, IsFilled};
 
 use crate::pending::{PACKET, Pending, ROOM};
+use crate::ready::Wishes;
 use slink_feed::{Feed, Session, Unsent};
 use std::marker::Model;
 
@@ -16,17 +21,26 @@ const REPLY: usize = 35;
 /// The most bytes that are read at once.
 pub(crate) const PIECE: usize = 64;
 
-/// So often a session is called at most at a time: for twelve packets, and each place of sixteen in between.
-const ASKS: u32 = 208;
+/// So often a session is called at most at a time: for the packets that there is room for, and for its end.
+const ASKS: u32 = 13;
+
+/// What comes of a link that was filled.
+#[derive(Clone, Copy, Debug, PartialEq, Eq)]
+pub(crate) enum Settled {
+    /// There is none.
+    Empty,
+    /// It stands, and this is wanted of it.
+    Wants(Wishes),
+    /// It is to be closed.
+    Closes,
+}
 
 /// A link's session, and what that sent and the link didn't take yet.
 #[derive(Drop)]
 pub(crate) struct Link {
     session: Session,
-    // The place that is next.
+    // The place whose turn it is.
     place: usize,
-    // The session is closed.
-    is_over: bool,
     pending: Pending,
 }
 
@@ -35,20 +49,20 @@ impl Model for Link {
 
     ghost Value = { LinkState };
 
-    ghost view = { λ l. link_state l.session l.pending.bytes };
+    ghost view = { λ l. link_state l.session l.place l.pending.bytes };
 }
 
 impl Link {
     /// A new link.
     pub(crate) fn new() -> Link
         ensures session { IsNew result.session }
+        ensures place { result.place ≡ 0 }
         ensures pending { result.pending ≡ [] }
         ensures fits { (feed : List Window) → Fits feed result.session.state }
     {
         Link {
             session: Session::new(),
             place: 0,
-            is_over: false,
             pending: Pending::new(),
         }
     }
@@ -57,6 +71,7 @@ impl Link {
     pub(crate) fn readable(&self) -> usize
         ensures room { length self.now.pending + 35 * result ≤ 6240 }
         ensures most { result ≤ 64 }
+        ensures some { HasRoom self.now → 0 < result }
     {
         ((ROOM - self.pending.len()) / REPLY).min(PIECE)
     }
@@ -68,34 +83,80 @@ impl Link {
         self.pending.as_slice()
     }
 
-    /// Whether nothing more is to be sent.
-    pub(crate) fn is_done(&self) -> bool {
-        self.is_over && self.pending.is_empty()
+    /// Whether its session is over, and nothing is pending.
+    fn is_done(&self) -> bool
+        ensures yes { OnTrue result (IsOver self.now) }
+        ensures no { OnFalse result (¬ (IsOver self.now)) }
+    {
+        self.session.is_closed() && self.pending.is_empty()
     }
 
     /// Whether the client has sent all that it has to say.
-    pub(crate) fn is_streaming(&self) -> bool {
+    fn is_streaming(&self) -> bool
+        ensures yes { OnTrue result (self.now.session.state.phase ≡ Phase.Streaming) }
+        ensures no { OnFalse result (self.now.session.state.phase ≢ Phase.Streaming) }
+    {
         self.session.is_streaming()
     }
 
-    /// Whether it has all that was requested, once no record comes any more.
-    pub(crate) fn has_all(&self) -> bool {
+    /// Whether it streams, and nothing is pending: then it has all that there is, once it is filled.
+    fn has_all(&self) -> bool
+        ensures yes { OnTrue result ((self.now.session.state.phase ≡ Phase.Streaming) × (self.now.pending ≡ [])) }
+        ensures no { OnFalse result
+            (¬ ((self.now.session.state.phase ≡ Phase.Streaming) × (self.now.pending ≡ []))) }
+    {
         self.session.is_streaming() && self.pending.is_empty()
     }
 
     /// Whether a record that is to be sent next has left its ring.
-    pub(crate) fn is_lost(&self, feed: &Feed) -> bool {
+    fn is_lost(&self, feed: &Feed) -> bool
+        ensures yes { OnTrue result (IsLost feed.now self.now.session.state) }
+        ensures no { OnFalse result (¬ (IsLost feed.now self.now.session.state)) }
+    {
         if !self.session.is_streaming() {
             return false;
         }
         for k in 0..feed.len() {
-            if let Some(position) = self.session.position(k)
-                && position < feed.ring(k).oldest()
-            {
+            if self.has_left(feed, k) {
                 return true;
             }
         }
         false
+    }
+
+    /// Whether the next record of a place has left its ring.
+    fn has_left(&self, feed: &Feed, k: usize) -> bool
+        requires { k < length feed.now }
+        ensures yes { OnTrue result (HasLeft feed.now self.now.session.state.grants k) }
+        ensures no { OnFalse result (¬ (HasLeft feed.now self.now.session.state.grants k)) }
+    {
+        match self.session.position(k) {
+            Some(position) => position < feed.ring(k).oldest(),
+            None => false,
+        }
+    }
+
+    /// Whether it is to be closed, once it is filled. A link that lost its place is found here, when records come: one
+    /// that takes nothing is never writable.
+    pub(crate) fn is_closable(&self, feed: &Feed, is_ended: bool) -> bool
+        requires { IsFilled feed.now self.now }
+        ensures yes { OnTrue result (IsClosable feed.now is_ended self.now) }
+        ensures no { OnFalse result (¬ (IsClosable feed.now is_ended self.now)) }
+    {
+        self.is_done() || self.is_lost(feed) || is_ended && self.has_all()
+    }
+
+    /// What is wanted of it.
+    pub(crate) fn wishes(&self) -> Wishes
+        ensures reads { (result.reads ≡ true) ↔ HasRoom self.now }
+        ensures writes { (result.writes ≡ true) ↔ (self.now.pending ≢ []) }
+        ensures streams { (result.is_streaming ≡ true) ↔ (self.now.session.state.phase ≡ Phase.Streaming) }
+    {
+        Wishes {
+            reads: self.readable() > 0,
+            writes: !self.pending.is_empty(),
+            is_streaming: self.is_streaming(),
+        }
     }
 
     /// Takes what the link brought: the session answers each line.
@@ -104,6 +165,7 @@ impl Link {
         requires room { length self.old.pending + 35 * length bytes.now ≤ 6240 }
         ensures serves { Serves feed.now self.old.session bytes.now self.old.pending self.new.session
             self.new.pending }
+        ensures place { self.new.place ≡ self.old.place }
         ensures fits { Fits feed.now self.new.session.state }
     {
         let mut start = 0;
@@ -125,58 +187,83 @@ impl Link {
     /// Asks the session for packets, round and round of the places, as many as there is room for.
     pub(crate) fn fill(&mut self, feed: &Feed)
         requires fits { Fits feed.now self.old.session.state }
-        ensures asks { Asks feed.now self.old.session self.old.pending self.new.session self.new.pending }
+        ensures asks { Asks feed.now self.old.session self.old.place self.old.pending self.new.session self.new.place
+            self.new.pending }
         ensures fits { Fits feed.now self.new.session.state }
+        ensures filled { IsFilled feed.now self.new }
     {
-        if self.pending.len() <= ROOM - PACKET && self.session.is_waiting(feed) {
+        // Most links wait, and a look at their places is cheaper than to ask for a packet of each.
+        if self.session.is_waiting(feed) {
             return;
         }
-        let mut waits = 0;
         for ask in 0..ASKS {
-            if waits >= feed.len() || self.is_over || self.pending.len() > ROOM - PACKET {
-                break;
-            }
-            if self.ask(feed) {
-                waits = 0;
-            } else {
-                waits += 1;
+            if self.pending.len() > ROOM - PACKET || self.session.is_closed() || !self.ask(feed) {
+                return;
             }
         }
     }
 
-    /// Asks for the next packet of the place whose turn it is, and answers whether there was something.
+    /// Asks for the packet of the place whose turn it is, and answers whether something is sent of any.
     fn ask(&mut self, feed: &Feed) -> bool
-        requires some { 0 < length feed.now }
         requires room { length self.old.pending + 520 ≤ 6240 }
         requires fits { Fits feed.now self.old.session.state }
-        ensures asks { Asks feed.now self.old.session self.old.pending self.new.session self.new.pending }
+        ensures yes { OnTrue result (Asks feed.now self.old.session self.old.place self.old.pending self.new.session
+            self.new.place self.new.pending) }
+        ensures grows { OnTrue result ((self.new.session.state.phase ≡ Phase.Closed)
+            ⊎ (length self.new.pending ≡ length self.old.pending + 520)) }
+        ensures no { OnFalse result (IsWaiting feed.now self.old.session.state) }
+        ensures stays { OnFalse result (self.new ≡ self.old) }
         ensures fits { Fits feed.now self.new.session.state }
     {
-        let k = if self.place < feed.len() {
-            self.place
-        } else {
-            0
-        };
-        self.place = k + 1;
+        let place = self.place;
+        for k in place..feed.len() {
+            if self.ask_at(feed, k) {
+                return true;
+            }
+        }
+        for k in 0..feed.len().min(place) {
+            if self.ask_at(feed, k) {
+                return true;
+            }
+        }
+        false
+    }
+
+    /// Asks for the next packet of a place, and answers whether something is sent of it.
+    fn ask_at(&mut self, feed: &Feed, k: usize) -> bool
+        requires within { k < length feed.now }
+        requires few { k < 16 }
+        requires room { length self.old.pending + 520 ≤ 6240 }
+        requires fits { Fits feed.now self.old.session.state }
+        ensures yes { OnTrue result (Gives feed.now k self.old self.new) }
+        ensures no { OnFalse result
+            (sent feed.now self.old.session.state k ≡ (self.old.session.state, Sent.Wait)) }
+        ensures stays { OnFalse result (self.new ≡ self.old) }
+        ensures fits { Fits feed.now self.new.session.state }
+    {
         match self.session.next_record(feed, k) {
             Ok((number, record)) => {
                 self.pending.say_packet(number, record);
+                self.place = k + 1;
                 true
             }
-            Err(unsent) => self.end_by(unsent),
+            Err(Unsent::Wait) => false,
+            Err(unsent) => {
+                self.end_by(unsent);
+                self.place = k + 1;
+                true
+            }
         }
     }
 
-    /// Says what a session does that sends no record, and answers whether it is over.
-    fn end_by(&mut self, unsent: Unsent) -> bool
+    /// Says what a session does that sends no record.
+    fn end_by(&mut self, unsent: Unsent)
         requires { length self.old.pending + 520 ≤ 6240 }
         ensures { self.new ≡ record self.old { pending = self.old.pending ++ sent_bytes (sent_without unsent) } }
     {
         if unsent == Unsent::Done {
             self.say(b"END");
         }
-        self.is_over = unsent != Unsent::Wait;
-        self.is_over
     }
 
     /// So many bytes were taken by the link.

@@ -1,12 +1,13 @@
-//! What happened at a device, in order. It has no bytes, and its functions do nothing at run time.
+//! What happened at a device, and what it was told, in order. It has no bytes, and its functions do nothing at run time.
 ghost use Rattle.std.specs.Prelude.{◌≡◌, List, ℕ, [], ◌∷◌, ◌++◌};
-ghost use Rattle.slink_live.specs.Happening.{Happening, Input, Opened, Received, Emitted, Gone, happening};
-ghost use Rattle.slink_live.specs.Happening.{happenings_code};
+ghost use Rattle.slink_live.specs.Happening.{Happening, Input, Opened, Received, Emitted, Gone, Next, Missed, Wants};
+ghost use Rattle.slink_live.specs.Happening.{WantsLinks, Left, flag_of, happening, happenings_code};
 ghost use base.Fml.{ftrue};
 
+use crate::ready::{Event, Wishes};
 use std::marker::{Model, PhantomData};
 
-/// What happened at a device, in order.
+/// What happened at a device, and what it was told, in order.
 #[derive(Drop)]
 pub struct Log {
     marker: PhantomData<u8>,
@@ -16,6 +17,13 @@ pub struct Log {
 
 impl Model for Log {
     ghost also_owns = { λ _. ftrue };
+}
+
+/// An answer as a number.
+fn flag(is_so: bool) -> u8
+    ensures { result ≡ flag_of is_so }
+{
+    if is_so { 1 } else { 0 }
 }
 
 impl Log {
@@ -61,6 +69,55 @@ impl Log {
         ensures { self.new.all ≡ self.old.all ++ Gone slot ∷ [] }
     {
         self.note(4, slot, &[]);
+    }
+
+    /// The device said what can be done next.
+    pub fn next(&mut self, event: Event)
+        ensures { self.new.all ≡ self.old.all ++ Next event ∷ [] }
+    {
+        match event {
+            Event::Input => self.note(9, 0, &[]),
+            Event::InputEnded => self.note(10, 0, &[]),
+            Event::InputFailed => self.note(11, 0, &[]),
+            Event::Dialled => self.note(12, 0, &[]),
+            Event::Readable(slot) => self.note(13, slot, &[]),
+            Event::Writable(slot) => self.note(14, slot, &[]),
+            Event::Gone(slot) => self.note(15, slot, &[]),
+            Event::Nothing => self.note(16, 0, &[]),
+        }
+    }
+
+    /// Nobody dialled any more who could stand in a slot.
+    pub fn missed(&mut self, slot: usize)
+        ensures { self.new.all ≡ self.old.all ++ Missed slot ∷ [] }
+    {
+        self.note(5, slot, &[]);
+    }
+
+    /// The device was told what is wanted of the link in a slot.
+    pub fn wants(&mut self, slot: usize, wishes: Wishes)
+        ensures { self.new.all ≡ self.old.all ++ Wants slot wishes ∷ [] }
+    {
+        let flags = [
+            flag(wishes.reads),
+            flag(wishes.writes),
+            flag(wishes.is_streaming),
+        ];
+        self.note(6, slot, &flags);
+    }
+
+    /// The device was told whether further links are wanted.
+    pub fn wants_links(&mut self, wanted: bool)
+        ensures { self.new.all ≡ self.old.all ++ WantsLinks wanted ∷ [] }
+    {
+        self.note(7, usize::from(flag(wanted)), &[]);
+    }
+
+    /// The device was told that the input is read no more.
+    pub fn left(&mut self)
+        ensures { self.new.all ≡ self.old.all ++ Left ∷ [] }
+    {
+        self.note(8, 0, &[]);
     }
 
     /// One thing more.

@@ -1,5 +1,6 @@
 //! Bytes that wait to be written to a link.
-ghost use Rattle.std.specs.Prelude.{◌≡◌, ◌+◌, ◌^◌, ◌<◌, ◌≤◌, [], ◌++◌, drop, length, take};
+ghost use Rattle.std.specs.Prelude.{◌≡◌, ◌≢◌, ◌+◌, ◌^◌, ◌<◌, ◌≤◌, [], ◌++◌, drop, length, take};
+ghost use Rattle.std.specs.Bool.{OnFalse, OnTrue};
 ghost use Rattle.slink_wire.specs.Packet.{packet_bytes};
 
 use slink_wire::Packet;
@@ -58,7 +59,8 @@ fn fill_packet(room: &mut [u8], number: u32, bytes: &[u8; 512])
 fn put_packet(room: &mut [u8; ROOM], place: usize, number: u32, bytes: &[u8; 512])
     requires room { place + 520 ≤ 6240 }
     requires number { number < 2 ^ 24 }
-    ensures { take (place + 520) room.new ≡ take place room.old ++ packet_bytes number bytes.now }
+    ensures value { take (place + 520) room.new ≡ take place room.old ++ packet_bytes number bytes.now }
+    ensures size { length (packet_bytes number bytes.now) ≡ 520 }
 {
     fill_packet(&mut room[place..place + PACKET], number, bytes);
 }
@@ -92,7 +94,10 @@ impl Pending {
     }
 
     /// Whether there are none.
-    pub(crate) fn is_empty(&self) -> bool {
+    pub(crate) fn is_empty(&self) -> bool
+        ensures yes { OnTrue result (self.now.bytes ≡ []) }
+        ensures no { OnFalse result (self.now.bytes ≢ []) }
+    {
         self.begin == self.end
     }
 
@@ -110,7 +115,8 @@ impl Pending {
     pub(crate) fn say_packet(&mut self, number: u32, bytes: &[u8; 512])
         requires room { length self.old.bytes + 520 ≤ 6240 }
         requires number { number < 2 ^ 24 }
-        ensures { self.new.bytes ≡ self.old.bytes ++ packet_bytes number bytes.now }
+        ensures value { self.new.bytes ≡ self.old.bytes ++ packet_bytes number bytes.now }
+        ensures size { length (packet_bytes number bytes.now) ≡ 520 }
     {
         self.make_room(PACKET);
         put_packet(&mut self.bytes, self.end, number, bytes);

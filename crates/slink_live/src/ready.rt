@@ -1,6 +1,7 @@
 //! What comes next, as a device says.
 ghost use Rattle.std.specs.Prelude.{◌≡◌, ◌≤◌, ◌∷◌, ◌++◌, [], List, Bool, true, length, take, if◌then◌else◌};
-ghost use Rattle.slink_live.specs.Happening.{Happening, Input, Opened, Received, Emitted, Gone};
+ghost use Rattle.slink_live.specs.Happening.{Happening, Input, Opened, Received, Emitted, Gone, Next, Missed, Wants};
+ghost use Rattle.slink_live.specs.Happening.{WantsLinks, Left};
 
 /// What can be done next.
 #[derive(Clone, Copy, Debug, PartialEq, Eq)]
@@ -39,7 +40,7 @@ pub struct Wishes {
 /// The links stand in slots, of which the server says the number. What is ready is the device's to say, and how long
 /// it waits: no clause speaks of time.
 pub trait Ready {
-    // What happened so far, in order.
+    // What happened so far, and what the device was told, in order.
     ghost log: { Self → List Happening };
 
     // Nothing comes any more.
@@ -47,7 +48,7 @@ pub trait Ready {
 
     /// What can be done next. It may be less than it says.
     fn next(&mut self) -> Event
-        ensures log { log self.new ≡ log self.old }
+        ensures log { log self.new ≡ log self.old ++ Next result ∷ [] }
         ensures over { result ≡ Event.Nothing → is_over self.new ≡ true };
 
     /// Reads once from the input; 0 where there is nothing now.
@@ -57,11 +58,11 @@ pub trait Ready {
 
     /// The input isn't read any more.
     fn leave_input(&mut self)
-        ensures log { log self.new ≡ log self.old };
+        ensures log { log self.new ≡ log self.old ++ Left ∷ [] };
 
     /// Puts a link that dials into a slot, if there is one.
     fn accept(&mut self, slot: usize) -> bool
-        ensures log { log self.new ≡ log self.old ++ (if result then Opened slot ∷ [] else []) };
+        ensures log { log self.new ≡ log self.old ++ (if result then Opened slot else Missed slot) ∷ [] };
 
     /// Reads once from the link in a slot; 0 where there is nothing now.
     fn read(&mut self, slot: usize, buf: &mut [u8]) -> usize
@@ -79,9 +80,9 @@ pub trait Ready {
 
     /// What the server wants of the link in a slot.
     fn wants(&mut self, slot: usize, wishes: Wishes)
-        ensures log { log self.new ≡ log self.old };
+        ensures log { log self.new ≡ log self.old ++ Wants slot wishes ∷ [] };
 
     /// Whether the server would take another link.
     fn wants_links(&mut self, wanted: bool)
-        ensures log { log self.new ≡ log self.old };
+        ensures log { log self.new ≡ log self.old ++ WantsLinks wanted ∷ [] };
 }

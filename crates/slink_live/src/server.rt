@@ -1,22 +1,24 @@
 //! A server's state, and what each event does to it.
-ghost use Rattle.std.specs.Prelude.{◌≡◌, ◌+◌, ◌*◌, ◌^◌, ◌<◌, ◌≤◌, [], List, Err, None, IfErr, IfSome};
-ghost use Rattle.std.specs.Prelude.{IfOk, OnOk, ◌⊎◌, get_or, length, true};
+ghost use Rattle.std.specs.Prelude.{◌≡◌, ◌+◌, ◌*◌, ◌^◌, ◌<◌, ◌≤◌, [], ◌∷◌, ◌++◌, List, Err, None, IfErr, IfNone, IfSome};
+ghost use Rattle.std.specs.Prelude.{IfOk, OnOk, ◌⊎◌, ◌&&◌, not, get_or, length, set, true, false};
 ghost use Rattle.std.specs.Bool.{OnTrue};
 ghost use Rattle.std.specs.List.{AllByRecursion};
 ghost use Rattle.slink_feed.specs.Session.{Fits};
 ghost use Rattle.slink_feed.specs.Window.{Window};
-ghost use Rattle.slink_live.specs.Happening.{input_of};
+ghost use Rattle.slink_live.specs.Awake.{Goes, IsAwake, IsClosedRightly, IsFirstFree, has_free};
+ghost use Rattle.slink_live.specs.Happening.{Happening, Gone, Next, WantsLinks, input_of};
 ghost use Rattle.slink_live.specs.Input.{IsInputFault, places_of};
 ghost use Rattle.slink_live.specs.Served.{AreEmpty, GoesOn, IsBelow, IsFinished, IsServing, IsSound, ServerState};
 ghost use Rattle.slink_live.specs.Served.{StaysUnread};
-ghost use Rattle.slink_live.specs.private.Calling.{Closes, HasFilled, HasReceived, HasTaken, IsCalled};
-ghost use Rattle.slink_live.specs.private.Calling.{Opens, ReadsFrom, ReadsInput, WritesTo};
-ghost use Rattle.slink_live.specs.private.Keeping.{AnswersFault, KeepsServing};
+ghost use Rattle.slink_live.specs.private.Calling.{HasFilled, HasReceived, HasTaken, IsOutcome};
+ghost use Rattle.slink_live.specs.Turns.{Closes, HasTurns, IsCalled, Opens, ReadsFrom, ReadsInput, WritesTo};
+ghost use Rattle.slink_live.specs.private.Keeping.{AnswersFault, KeepsServing, Settles, Tends, TendsAll};
+ghost use Rattle.slink_live.specs.private.Keeping.{TendsAnew};
 
 use crate::fault::InputFault;
 use crate::intake::Intake;
-use crate::link::{Link, PIECE};
-use crate::ready::{Event, Ready, Wishes};
+use crate::link::{Link, PIECE, Settled};
+use crate::ready::{Event, Ready};
 use slink_feed::Feed;
 use std::alloc::{AllocError, Global};
 use std::marker::Model;
@@ -86,13 +88,22 @@ fn tell<R: Ready>(link: &mut Option<Link>, slot: usize, ready: &mut R)
     }
 }
 
-/// Has the session of the link in a slot say what is due.
-fn fill(link: &mut Option<Link>, feed: &Feed)
+/// Has the session of the link in a slot say what is due, and answers what comes of the link.
+fn fill(link: &mut Option<Link>, feed: &Feed, is_ended: bool) -> Settled
     requires { IfSome link.old (λ l. Fits feed.now l.session.state) }
-    ensures { HasFilled feed.now link.old link.new }
+    ensures filled { HasFilled feed.now link.old link.new }
+    ensures outcome { IsOutcome feed.now is_ended link.new result }
 {
-    if let Some(link) = link {
-        link.fill(feed);
+    match link {
+        Some(link) => {
+            link.fill(feed);
+            if link.is_closable(feed, is_ended) {
+                Settled::Closes
+            } else {
+                Settled::Wants(link.wishes())
+            }
+        }
+        None => Settled::Empty,
     }
 }
 
@@ -107,6 +118,7 @@ impl Server {
         ensures serving { IfOk result (λ s. IsServing feed s []) }
         ensures sound { IfOk result IsSound }
         ensures slots { IfOk result (λ s. length s.links ≡ clients) }
+        ensures awake { 0 < clients → IfOk result (λ s. IsAwake s []) }
     {
         Ok(Server {
             intake: Intake::new(feed),
@@ -154,6 +166,15 @@ impl Server {
         // What happened stays, and an input that is read no more is so for good.
         ensures grows { GoesOn (R.log ready.old) (R.log ready.new) }
         ensures unread { StaysUnread self.old self.new (R.log ready.old) (R.log ready.new) }
+
+        // No link sleeps: so it is each time that the device is asked what can be done next, and what it says is done.
+        ensures turns { (start : List Window) → IsServing start self.old (R.log ready.old)
+            → IsAwake self.old (R.log ready.old) → HasTurns start (R.log ready.old) (R.log ready.new) }
+        ensures awake { IsAwake self.old (R.log ready.old) → IsAwake self.new (R.log ready.new) }
+        // A link is closed by right.
+        ensures closed { (start : List Window) → IsServing start self.old (R.log ready.old)
+            → IsAwake self.old (R.log ready.old)
+            → Goes (IsClosedRightly start) (R.log ready.old) (R.log ready.new) }
     {
         for turn in 0..TURNS {
             if self.is_finished() {
@@ -172,6 +193,8 @@ impl Server {
         requires { IsSound self.old }
         ensures answers { AnswersFault self.old self.new (R.log ready.old) (R.log ready.new) result }
         ensures called { IsCalled event self.old (R.log ready.old) (R.log ready.new) }
+        ensures tends { (earlier : List Happening) → R.log ready.old ≡ earlier ++ Next event ∷ []
+            → Tends self.old self.new (R.log ready.old) (R.log ready.new) }
     {
         match event {
             Event::Input => return self.on_input(ready),
@@ -180,7 +203,7 @@ impl Server {
             Event::Dialled => self.on_dialled(ready),
             Event::Readable(slot) => self.on_readable(slot, ready),
             Event::Writable(slot) => self.on_writable(slot, ready),
-            Event::Gone(slot) => self.close(slot, ready),
+            Event::Gone(slot) => self.on_gone(slot, ready),
             Event::Nothing => {}
         }
         Ok(())
@@ -191,6 +214,7 @@ impl Server {
         requires { IsSound self.old }
         ensures answers { AnswersFault self.old self.new (R.log ready.old) (R.log ready.new) result }
         ensures called { ReadsInput self.old (R.log ready.old) (R.log ready.new) }
+        ensures tends { Tends self.old self.new (R.log ready.old) (R.log ready.new) }
     {
         if self.is_ended {
             return Ok(());
@@ -219,6 +243,7 @@ impl Server {
         requires { IsSound self.old }
         ensures answers { AnswersFault self.old self.new (R.log ready.old) (R.log ready.new) result }
         ensures closes { Closes (R.log ready.old) (R.log ready.new) }
+        ensures tends { Tends self.old self.new (R.log ready.old) (R.log ready.new) }
     {
         if self.is_ended {
             return Ok(());
@@ -234,6 +259,7 @@ impl Server {
         requires { IsSound self.old }
         ensures answers { AnswersFault self.old self.new (R.log ready.old) (R.log ready.new) result }
         ensures closes { Closes (R.log ready.old) (R.log ready.new) }
+        ensures tends { Tends self.old self.new (R.log ready.old) (R.log ready.new) }
     {
         if self.is_ended {
             return Ok(());
@@ -249,6 +275,7 @@ impl Server {
         requires { IsSound self.old }
         ensures answers { AnswersFault self.old self.new (R.log ready.old) (R.log ready.new) (Err result) }
         ensures closes { Closes (R.log ready.old) (R.log ready.new) }
+        ensures tends { Tends self.old self.new (R.log ready.old) (R.log ready.new) }
     {
         let fault = self.intake.last_turn();
         self.end(ready);
@@ -261,6 +288,8 @@ impl Server {
         ensures keeps { KeepsServing (record self.old { is_ended = true }) self.new (R.log ready.old)
             (R.log ready.new) }
         ensures closes { Closes (R.log ready.old) (R.log ready.new) }
+        ensures tends { TendsAnew (record self.old { is_ended = true }) self.new (R.log ready.old)
+            (R.log ready.new) }
     {
         self.is_ended = true;
         ready.leave_input();
@@ -268,27 +297,47 @@ impl Server {
         self.settle_all(ready);
     }
 
-    /// Takes a new link into a free slot.
+    /// Takes a new link into the first free slot, while the input is read.
     fn on_dialled<R: Ready>(&mut self, ready: &mut R)
         requires { IsSound self.old }
         ensures keeps { KeepsServing self.old self.new (R.log ready.old) (R.log ready.new) }
-        ensures called { Opens (R.log ready.old) (R.log ready.new) }
+        ensures called { Opens self.old (R.log ready.old) (R.log ready.new) }
+        ensures tends { Tends self.old self.new (R.log ready.old) (R.log ready.new) }
     {
         match self.free_slot() {
-            Some(slot) => {
-                if ready.accept(slot) {
-                    self.links[slot] = Some(Link::new());
-                    ready.wants(slot, self.wishes(slot));
-                }
-            }
+            Some(slot) => self.take(slot, ready),
             None => ready.wants_links(false),
         }
     }
 
-    /// A slot without a link, while the input is read.
+    /// Takes a new link into a slot, and says whether further ones are wanted.
+    fn take<R: Ready>(&mut self, slot: usize, ready: &mut R)
+        requires sound { IsSound self.old }
+        requires reads { self.old.is_ended ≡ false }
+        requires free { IsFirstFree self.old.links slot }
+        ensures keeps { KeepsServing self.old self.new (R.log ready.old) (R.log ready.new) }
+        ensures called { Opens self.old (R.log ready.old) (R.log ready.new) }
+        ensures tends { Tends self.old self.new (R.log ready.old) (R.log ready.new) }
+    {
+        if ready.accept(slot) {
+            self.links[slot] = Some(Link::new());
+            ready.wants_links(self.wants_links());
+            self.settle(slot, ready);
+        }
+    }
+
+    /// Whether further links are wanted: the input is read, and a slot is free.
+    fn wants_links(&self) -> bool
+        ensures { result ≡ (not self.now.is_ended && has_free self.now.links) }
+    {
+        self.free_slot().is_some()
+    }
+
+    /// The first slot without a link, while the input is read.
     fn free_slot(&self) -> Option<usize>
-        ensures within { IfSome result (λ slot. slot < length self.now.links) }
-        ensures free { IfSome result (λ slot. get_or self.now.links slot None ≡ None) }
+        ensures some { IfSome result (IsFirstFree self.now.links) }
+        ensures reads { IfSome result (λ _. self.now.is_ended ≡ false) }
+        ensures none { IfNone result ((not self.now.is_ended && has_free self.now.links) ≡ false) }
     {
         if self.is_ended {
             return None;
@@ -306,6 +355,7 @@ impl Server {
         requires { IsSound self.old }
         ensures keeps { KeepsServing self.old self.new (R.log ready.old) (R.log ready.new) }
         ensures called { ReadsFrom (get_or self.old.links slot None) slot (R.log ready.old) (R.log ready.new) }
+        ensures tends { Tends self.old self.new (R.log ready.old) (R.log ready.new) }
     {
         if slot < self.links.len() {
             hear(&mut self.links[slot], self.intake.feed(), slot, ready);
@@ -318,6 +368,7 @@ impl Server {
         requires { IsSound self.old }
         ensures keeps { KeepsServing self.old self.new (R.log ready.old) (R.log ready.new) }
         ensures called { WritesTo (get_or self.old.links slot None) slot (R.log ready.old) (R.log ready.new) }
+        ensures tends { Tends self.old self.new (R.log ready.old) (R.log ready.new) }
     {
         if slot < self.links.len() {
             tell(&mut self.links[slot], slot, ready);
@@ -325,24 +376,37 @@ impl Server {
         }
     }
 
-    /// Closes the link in a slot.
-    fn close<R: Ready>(&mut self, slot: usize, ready: &mut R)
+    /// Closes the link in a slot, which is gone.
+    fn on_gone<R: Ready>(&mut self, slot: usize, ready: &mut R)
         requires { IsSound self.old }
         ensures keeps { KeepsServing self.old self.new (R.log ready.old) (R.log ready.new) }
         ensures closes { Closes (R.log ready.old) (R.log ready.new) }
+        ensures tends { (earlier : List Happening) → R.log ready.old ≡ earlier ++ Next (Event.Gone slot) ∷ []
+            → Tends self.old self.new (R.log ready.old) (R.log ready.new) }
     {
         if slot < self.links.len() {
-            self.links[slot] = None;
-            ready.close(slot);
-            ready.wants_links(!self.is_ended);
+            self.close(slot, ready);
         }
     }
 
-    /// Has each link's session say what is due, says what is wanted of it, and closes those that have all.
+    /// Closes the link in a slot.
+    fn close<R: Ready>(&mut self, slot: usize, ready: &mut R)
+        requires { slot < length self.old.links }
+        ensures links { self.new ≡ record self.old { links = set self.old.links slot None } }
+        ensures log { R.log ready.new
+            ≡ (R.log ready.old ++ Gone slot ∷ []) ++ WantsLinks (not self.old.is_ended) ∷ [] }
+    {
+        self.links[slot] = None;
+        ready.close(slot);
+        ready.wants_links(!self.is_ended);
+    }
+
+    /// Settles each link.
     fn settle_all<R: Ready>(&mut self, ready: &mut R)
         requires { IsSound self.old }
         ensures keeps { KeepsServing self.old self.new (R.log ready.old) (R.log ready.new) }
         ensures closes { Closes (R.log ready.old) (R.log ready.new) }
+        ensures tends { TendsAll self.old self.new (R.log ready.old) (R.log ready.new) }
     {
         for slot in 0..self.links.len() {
             self.settle(slot, ready);
@@ -351,46 +415,16 @@ impl Server {
 
     /// Has the session of the link in a slot say what is due, and says what is wanted of the link, or closes it.
     fn settle<R: Ready>(&mut self, slot: usize, ready: &mut R)
-        requires { IsSound self.old }
+        requires sound { IsSound self.old }
+        requires within { slot < length self.old.links }
         ensures keeps { KeepsServing self.old self.new (R.log ready.old) (R.log ready.new) }
         ensures closes { Closes (R.log ready.old) (R.log ready.new) }
+        ensures settles { Settles slot self.old self.new (R.log ready.old) (R.log ready.new) }
     {
-        if slot < self.links.len() {
-            fill(&mut self.links[slot], self.intake.feed());
-            if self.is_over(slot) {
-                self.close(slot, ready);
-            } else {
-                ready.wants(slot, self.wishes(slot));
-            }
-        }
-    }
-
-    /// Whether the link in a slot is to be closed. One that lost its place is found here, when records come: a link
-    /// that takes nothing is never writable.
-    fn is_over(&self, slot: usize) -> bool {
-        match self.links.get(slot) {
-            Some(Some(link)) => {
-                link.is_done()
-                    || link.is_lost(self.intake.feed())
-                    || self.is_ended && link.has_all()
-            }
-            Some(None) | None => false,
-        }
-    }
-
-    /// What is wanted of the link in a slot.
-    fn wishes(&self, slot: usize) -> Wishes {
-        match self.links.get(slot) {
-            Some(Some(link)) => Wishes {
-                reads: link.readable() > 0,
-                writes: !link.pending().is_empty(),
-                is_streaming: link.is_streaming(),
-            },
-            Some(None) | None => Wishes {
-                reads: false,
-                writes: false,
-                is_streaming: false,
-            },
+        match fill(&mut self.links[slot], self.intake.feed(), self.is_ended) {
+            Settled::Empty => {}
+            Settled::Wants(wishes) => ready.wants(slot, wishes),
+            Settled::Closes => self.close(slot, ready),
         }
     }
 }

@@ -1,5 +1,5 @@
 //! An input, a listener and its links, by one wait for all of them.
-ghost use Rattle.std.specs.Prelude.{◌≡◌, ◌≤◌, [], IfOk, IfSome, length};
+ghost use Rattle.std.specs.Prelude.{◌≡◌, ◌≤◌, [], IfOk, IfSome, length, true};
 ghost use Rattle.slink_live_tcp.specs.Happened.{happened, is_over};
 
 use crate::door::Door;
@@ -167,6 +167,23 @@ impl<C: Clock, I: Read + AsRawFd + Drop> Tcp<'_, C, I> {
                 return;
             }
         }
+    }
+
+    /// What can be done next: in this round, or in one that follows once the system has said what is ready.
+    fn next_event(&mut self) -> Event
+        ensures log { self.new.log ≡ self.old.log }
+        ensures over { result ≡ Event.Nothing → is_over self.new ≡ true }
+    {
+        for round in 0..u64::MAX {
+            if let Some(event) = self.in_round() {
+                return event;
+            }
+            if self.ask().is_err() {
+                break;
+            }
+        }
+        self.is_over = true;
+        Event::Nothing
     }
 
     /// What can be done in the rest of the round.
@@ -352,16 +369,9 @@ impl<C: Clock, I: Read + AsRawFd + Drop> Ready for Tcp<'_, C, I> {
     ghost is_over = { is_over };
 
     fn next(&mut self) -> Event {
-        for round in 0..u64::MAX {
-            if let Some(event) = self.in_round() {
-                return event;
-            }
-            if self.ask().is_err() {
-                break;
-            }
-        }
-        self.is_over = true;
-        Event::Nothing
+        let event = self.next_event();
+        self.log.next(event);
+        event
     }
 
     fn read_input(&mut self, buf: &mut [u8]) -> usize {
@@ -372,12 +382,15 @@ impl<C: Clock, I: Read + AsRawFd + Drop> Ready for Tcp<'_, C, I> {
 
     fn leave_input(&mut self) {
         self.input.leave(self.poll.registry());
+        self.log.left();
     }
 
     fn accept(&mut self, slot: usize) -> bool {
         let is_open = self.accept_once(slot);
         if is_open {
             self.log.opened(slot);
+        } else {
+            self.log.missed(slot);
         }
         is_open
     }
@@ -411,10 +424,12 @@ impl<C: Clock, I: Read + AsRawFd + Drop> Ready for Tcp<'_, C, I> {
         if slot < self.slots.len() && self.slots[slot].wants(wishes) {
             self.round.add(slot.saturating_add(FIRST));
         }
+        self.log.wants(slot, wishes);
     }
 
     fn wants_links(&mut self, wanted: bool) {
         self.door.wants(wanted);
         self.round.add(LISTENER);
+        self.log.wants_links(wanted);
     }
 }

@@ -1,5 +1,5 @@
 //! Orders and pieces chosen at random, in memory.
-ghost use Rattle.std.specs.Prelude.{◌≡◌, ◌≢◌, ◌≤◌, ◌<◌, [], length};
+ghost use Rattle.std.specs.Prelude.{◌≡◌, ◌≢◌, ◌≤◌, ◌<◌, [], length, true};
 ghost use Rattle.slink_live.specs.Served.{IsSound};
 
 mod orders;
@@ -53,6 +53,29 @@ impl Script {
             .wrapping_mul(6364136223846793005)
             .wrapping_add(1442695040888963407);
         (self.seed >> 33) as usize % most
+    }
+
+    /// What can be done next.
+    fn next_event(&mut self) -> Event
+        ensures log { self.new.log ≡ self.old.log }
+        ensures over { result ≡ Event.Nothing → self.new.is_over ≡ true }
+    {
+        if self.left == 0 {
+            self.is_over = true;
+            return Event::Nothing;
+        }
+        self.left -= 1;
+        let choice = self.random(8);
+        match choice {
+            0 => self.input_event(),
+            1 => Event::Dialled,
+            2 => Event::Readable(0),
+            3 => Event::Readable(1),
+            4 => Event::Readable(2),
+            5 => Event::Writable(0),
+            6 => Event::Writable(1),
+            _ => Event::Writable(2),
+        }
     }
 
     /// What comes of the input.
@@ -127,22 +150,9 @@ impl Ready for Script {
     ghost is_over = { λ s. s.is_over };
 
     fn next(&mut self) -> Event {
-        if self.left == 0 {
-            self.is_over = true;
-            return Event::Nothing;
-        }
-        self.left -= 1;
-        let choice = self.random(8);
-        match choice {
-            0 => self.input_event(),
-            1 => Event::Dialled,
-            2 => Event::Readable(0),
-            3 => Event::Readable(1),
-            4 => Event::Readable(2),
-            5 => Event::Writable(0),
-            6 => Event::Writable(1),
-            _ => Event::Writable(2),
-        }
+        let event = self.next_event();
+        self.log.next(event);
+        event
     }
 
     fn read_input(&mut self, buf: &mut [u8]) -> usize {
@@ -156,6 +166,7 @@ impl Ready for Script {
 
     fn leave_input(&mut self) {
         self.is_left = true;
+        self.log.left();
     }
 
     fn accept(&mut self, slot: usize) -> bool {
@@ -164,6 +175,8 @@ impl Ready for Script {
             self.places[slot] = Some(self.dialled);
             self.dialled = self.dialled.saturating_add(1);
             self.log.opened(slot);
+        } else {
+            self.log.missed(slot);
         }
         is_open
     }
@@ -187,9 +200,13 @@ impl Ready for Script {
         self.log.gone(slot);
     }
 
-    fn wants(&mut self, _slot: usize, _wishes: Wishes) {}
+    fn wants(&mut self, slot: usize, wishes: Wishes) {
+        self.log.wants(slot, wishes);
+    }
 
-    fn wants_links(&mut self, _wanted: bool) {}
+    fn wants_links(&mut self, wanted: bool) {
+        self.log.wants_links(wanted);
+    }
 }
 
 /// A record of 512 bytes of the station STA in the network XX, with a byte that tells its number.

@@ -1,7 +1,8 @@
 -- What each step of a server keeps.
-use Rattle.std.specs.Prelude.{◌≡◌, true, List, length, Result, IfErr, OnErr}
+use Rattle.std.specs.Prelude.{◌≡◌, ◌≢◌, ℕ, true, List, length, Result, IfErr, OnErr}
 use Rattle.slink_feed.specs.Window.{Window}
 use Rattle.slink_live.specs.declared.fault.InputFault.{InputFault}
+use Rattle.slink_live.specs.Awake.{Goes, IsAwake, IsAwakeIn, IsClosedRightly, IsTold}
 use Rattle.slink_live.specs.Happening.{Happening, input_of}
 use Rattle.slink_live.specs.Input.{IsInputFault, places_of}
 use Rattle.slink_live.specs.Served.{IsServing, IsSound, ServerState}
@@ -36,3 +37,31 @@ pub record AnswersFault (old new : ServerState) (before after : List Happening) 
   pub ended : OnErr result (new.is_ended ≡ true)
   -- An input that is read no more stays so.
   pub kept : old.is_ended ≡ true → new.is_ended ≡ true
+
+-- A step that settles the link in a slot.
+pub record Settles (j : ℕ) (old new : ServerState) (before after : List Happening) : Type 0 where
+  -- No link sleeps that didn't in another slot.
+  pub links : (k : ℕ) → (k ≢ j → IsAwakeIn old before k) → IsAwakeIn new after k
+  -- The device has been told what it has to be.
+  pub is_told : IsTold old before → IsTold new after
+  -- A link is closed by right.
+  pub closed : (start : List Window) → IsServing start old before → IsTold old before
+      → Goes (IsClosedRightly start) before after
+
+-- A step behind which no link sleeps.
+pub record Tends (old new : ServerState) (before after : List Happening) : Type 0 where
+  pub awake : IsAwake old before → IsAwake new after
+  -- A link is closed by right.
+  pub closed : (start : List Window) → IsServing start old before → IsTold old before
+      → Goes (IsClosedRightly start) before after
+
+-- The same, whichever links sleep before, once the device was told what it has to be.
+pub record TendsAll (old new : ServerState) (before after : List Happening) : Type 0 where
+  pub awake : IsTold old before → IsAwake new after
+  pub closed : (start : List Window) → IsServing start old before → IsTold old before
+      → Goes (IsClosedRightly start) before after
+
+-- The same, also where the device was told nothing.
+pub record TendsAnew (old new : ServerState) (before after : List Happening) : Type 0 where
+  pub awake : IsAwake new after
+  pub closed : (start : List Window) → IsServing start old before → Goes (IsClosedRightly start) before after

@@ -1,7 +1,7 @@
 //! What links are sent of several places, by orders chosen at random: each byte, in its turn, and each link that is
 //! closed. The digests are those of a server that asks the session of a link again for each packet, and of one that
 //! first asks it whether anything is due: both sent the same.
-ghost use Rattle.std.specs.Prelude.{◌≡◌, ◌≢◌, ◌≤◌, ◌<◌, ◌^◌, [], length};
+ghost use Rattle.std.specs.Prelude.{◌≡◌, ◌≢◌, ◌≤◌, ◌<◌, ◌^◌, [], length, true};
 ghost use Rattle.std.specs.List.{AllByRecursion};
 ghost use Rattle.slink_live.specs.Served.{IsSound};
 
@@ -84,6 +84,29 @@ impl Order {
             .wrapping_mul(6364136223846793005)
             .wrapping_add(1442695040888963407);
         (self.seed >> 33) as usize % most
+    }
+
+    /// What can be done next.
+    fn next_event(&mut self) -> Event
+        ensures log { self.new.log ≡ self.old.log }
+        ensures over { result ≡ Event.Nothing → self.new.is_over ≡ true }
+    {
+        if self.left == 0 {
+            self.is_over = true;
+            return Event::Nothing;
+        }
+        self.left -= 1;
+        if self.left == LAST {
+            return Event::InputEnded;
+        }
+        let slot = self.random(SLOTS);
+        match self.random(64) {
+            0 => Event::Gone(slot),
+            1..8 => Event::Dialled,
+            8..24 => Event::Input,
+            24..40 => Event::Readable(slot),
+            _ => Event::Writable(slot),
+        }
     }
 
     /// Goes into the digest.
@@ -180,22 +203,9 @@ impl Ready for Order {
     ghost is_over = { λ o. o.is_over };
 
     fn next(&mut self) -> Event {
-        if self.left == 0 {
-            self.is_over = true;
-            return Event::Nothing;
-        }
-        self.left -= 1;
-        if self.left == LAST {
-            return Event::InputEnded;
-        }
-        let slot = self.random(SLOTS);
-        match self.random(64) {
-            0 => Event::Gone(slot),
-            1..8 => Event::Dialled,
-            8..24 => Event::Input,
-            24..40 => Event::Readable(slot),
-            _ => Event::Writable(slot),
-        }
+        let event = self.next_event();
+        self.log.next(event);
+        event
     }
 
     fn read_input(&mut self, buf: &mut [u8]) -> usize {
@@ -204,7 +214,9 @@ impl Ready for Order {
         count
     }
 
-    fn leave_input(&mut self) {}
+    fn leave_input(&mut self) {
+        self.log.left();
+    }
 
     fn accept(&mut self, slot: usize) -> bool {
         let says = self.random(SAYS.len());
@@ -238,9 +250,13 @@ impl Ready for Order {
         self.log.gone(slot);
     }
 
-    fn wants(&mut self, _slot: usize, _wishes: Wishes) {}
+    fn wants(&mut self, slot: usize, wishes: Wishes) {
+        self.log.wants(slot, wishes);
+    }
 
-    fn wants_links(&mut self, _wanted: bool) {}
+    fn wants_links(&mut self, wanted: bool) {
+        self.log.wants_links(wanted);
+    }
 }
 
 /// An empty ring of a station, whose numbers soon begin again.

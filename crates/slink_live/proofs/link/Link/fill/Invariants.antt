@@ -1,9 +1,12 @@
+use Rattle.std.proofs.Common.{◌≡◌, ◌*◌, ◌≤◌, ◌⊎◌, length}
+use Rattle.slink_feed.specs.declared.session.Phase.TheVariants.{Closed}
 use Rattle.slink_feed.specs.Session.{Fits}
 use Rattle.slink_live.specs.Story.{Asks}
 use Rattle.slink_live.proofs.link.Link.fill.Given as goal
 
 abbrev pub invariant-loop-ask : goal.invariant-loop-ask
 invariant-loop-ask l = record {
-  asks : Asks l.feed l.fn.self.session l.fn.self.pending l.self.session l.self.pending;
+  asks : Asks l.feed l.fn.self.session l.fn.self.place l.fn.self.pending l.self.session l.self.place l.self.pending;
   fits : Fits l.feed l.self.session.state;
+  grown : (l.self.session.state.phase ≡ Closed) ⊎ (520 * l.ask ≤ length l.self.pending);
 }

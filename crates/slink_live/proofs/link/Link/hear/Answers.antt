@@ -1,4 +1,4 @@
-use Rattle.std.proofs.Common.{◌≡◌, ◌+◌, ◌≤◌, ◌<◌, ◌∙◌, ◌++◌, arith, rules, ap, subst, sym, List, ℕ, length}
+use Rattle.std.proofs.Common.{◌≡◌, ◌+◌, ◌≤◌, ◌<◌, ◌∙◌, ◌++◌, arith, rules, ap, refl, subst, sym, List, ℕ, length}
 use Rattle.std.proofs.Common.{length-append, take}
 use Rattle.slink_wire.specs.Reply.{reply_bytes}
 use Rattle.slink_feed.specs.Serving.{Takes}
@@ -11,6 +11,7 @@ pub loop-start-init : goal.loop-start-init
 loop-start-init c = record {
   within = omega arith;
   leads = leads_first c.args.feed.now c.args.self.now.session c.args.bytes.now c.args.self.now.pending;
+  place = refl;
   fits = c.requires.fits;
   room = omega (arith, c.requires.room);
 }
@@ -73,6 +74,8 @@ loop-start-preserved c =
       leads = subst (λ (x : LinkState). Leads feed s bytes way (start + used) x.session x.pending) (sym c.say.ensures)
           (subst (λ (b : List ℕ). Leads feed s bytes way (start + used) c.take-used.new.self
           (c.self.inside.pending.bytes ++ b)) (sym c.bytes.ensures) after);
+      place = ap (λ (x : LinkState). x.place) c.say.ensures
+          ∙ (ap (λ (x : LinkState). x.place) c.self.view_is ∙ c.loop-start.invariant.place);
       fits = subst (λ (x : LinkState). Fits feed x.session.state) (sym c.say.ensures) c.take-used.ensures.fits;
       room = omega (
         arith,

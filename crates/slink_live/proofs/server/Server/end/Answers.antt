@@ -1,5 +1,6 @@
-use Rattle.std.proofs.Common.{◌∙◌, ap}
-use Rattle.slink_live.proofs.Steps.{ended, keeps_from, sound_in}
+use Rattle.std.proofs.Common.{ap}
+use Rattle.slink_live.proofs.Settling.{anew_by, end_closes, end_keeps}
+use Rattle.slink_live.proofs.Steps.{ended, sound_in}
 use Rattle.slink_live.proofs.server.Server.end.Goals as goal
 
 pub settle_all-requires : goal.settle_all-requires
@@ -7,5 +8,12 @@ settle_all-requires g c = sound_in (ap ended c.self.view_is) c.requires
 
 pub returns-clause-keeps : goal.returns-clause-keeps
 returns-clause-keeps g c =
-    keeps_from (ap ended c.self.view_is) (c.wants_links.ensures.log ∙ c.leave_input.ensures.log)
-    c.settle_all.ensures.keeps
+    end_keeps c.leave_input.ensures.log c.wants_links.ensures.log c.self.view_is c.requires c.settle_all.ensures.keeps
+
+pub returns-clause-closes : goal.returns-clause-closes
+returns-clause-closes g c =
+    end_closes c.leave_input.ensures.log c.wants_links.ensures.log c.settle_all.ensures.closes
+
+pub returns-clause-tends : goal.returns-clause-tends
+returns-clause-tends g c =
+    anew_by c.leave_input.ensures.log c.wants_links.ensures.log c.self.view_is c.settle_all.ensures.tends

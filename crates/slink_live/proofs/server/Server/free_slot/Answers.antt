@@ -1,12 +1,43 @@
-use Rattle.std.proofs.Common.{◌≡◌, arith, false, subst, None, get_or}
+use Rattle.std.proofs.Common.{◌≡◌, ◌∙◌, ◌<◌, ◌≤◌, ◌≢◌, ap, arith, false, true, length, subst, sym, None, get_or}
 use Rattle.std.specs.Option.{is_some}
 use Rattle.slink_live.specs.Served.{ServerState}
-use Rattle.slink_live.proofs.Steps.{none_at}
+use Rattle.slink_live.proofs.Steps.{none_at, taken_at, taken_more}
+use Rattle.slink_live.proofs.Tending.{all_taken, none_free}
 use Rattle.slink_live.proofs.server.Server.free_slot.Goals as goal
 
-pub returns-then-is_none-clause-free : goal.returns-then-is_none-clause-free
-returns-then-is_none-clause-free c =
-    let free : is_some c.index.result.now ≡ false = c.if-is_none.ensures in
-    subst (λ (x : ServerState). get_or x.links c.loop-slot.slot None ≡ None) c.self.view_is
-    (none_at c.self.inside.links.items c.loop-slot.slot c.index.result.now c.index.ensures free
-    (omega (arith, c.loop-slot-test.true, c.len-slot-end.ensures)))
+pub returns-then-is_none-clause-some : goal.returns-then-is_none-clause-some
+returns-then-is_none-clause-some c = record {
+  within = omega (
+    arith,
+    c.loop-slot-test.true,
+    c.len-slot-end.ensures,
+    ap (λ (s : ServerState). length s.links) c.self.view_is,
+  );
+  free =
+      let free : is_some c.index.result.now ≡ false = c.if-is_none.ensures in
+      subst (λ (x : ServerState). get_or x.links c.loop-slot.slot None ≡ None) c.self.view_is
+      (none_at c.self.inside.links.items c.loop-slot.slot c.index.result.now c.index.ensures free
+      (omega (arith, c.loop-slot-test.true, c.len-slot-end.ensures)));
+  first = c.loop-slot.invariant.taken;
+}
+
+pub loop-slot-preserved : goal.loop-slot-preserved
+loop-slot-preserved c = record {
+  taken =
+      let stands : is_some c.index.result.now ≡ true = c.if-is_none.ensures in
+      taken_more c.args.self.now.links c.loop-slot.slot
+      (subst (λ (x : ServerState). get_or x.links c.loop-slot.slot None ≢ None) c.self.view_is
+      (taken_at c.self.inside.links.items c.loop-slot.slot c.index.result.now c.index.ensures stands
+      (omega (arith, c.loop-slot-test.true, c.len-slot-end.ensures)))) c.loop-slot.invariant.taken;
+}
+
+pub returns-clause-none : goal.returns-clause-none
+returns-clause-none c =
+    none_free c.args.self.now.is_ended c.args.self.now.links
+    (all_taken c.args.self.now.links c.loop-slot.slot
+    (omega (
+      arith,
+      c.loop-slot-test.false,
+      c.len-slot-end.ensures,
+      ap (λ (s : ServerState). length s.links) c.self.view_is,
+    )) c.loop-slot.invariant.taken)

@@ -1,4 +1,5 @@
-use Rattle.slink_live.proofs.Begun.{begun_serving, begun_sound}
+use Rattle.std.proofs.Common.{arith}
+use Rattle.slink_live.proofs.Begun.{begun_awake, begun_serving, begun_sound}
 use Rattle.slink_live.proofs.server.Server.new.Goals as goal
 
 pub returns-clause-serving : goal.returns-clause-serving
@@ -8,3 +9,8 @@ returns-clause-serving c =
 pub returns-clause-sound : goal.returns-clause-sound
 returns-clause-sound c =
     rw c.new.ensures (begun_sound c.args.feed c.in_ok-slots.field-0.items c.in_ok-slots.ensures.empty c.requires)
+
+pub returns-clause-awake : goal.returns-clause-awake
+returns-clause-awake c some =
+    rw c.new.ensures (begun_awake c.args.feed c.in_ok-slots.field-0.items c.in_ok-slots.ensures.empty
+    (omega (arith, some, c.in_ok-slots.ensures.count)))

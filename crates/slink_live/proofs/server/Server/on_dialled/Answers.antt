@@ -1,21 +1,23 @@
-use Rattle.std.proofs.Common.{refl, subst, sym, ◌<◌, ◌∙◌, ◌++◌, ◌∷◌, [], length, Some}
-use Rattle.slink_live.specs.Happening.{Opened}
-use Rattle.slink_live.specs.Served.{ServerState}
-use Rattle.slink_live.proofs.Slots.{closes_none}
-use Rattle.slink_live.proofs.Steps.{opened_keeps}
+use Rattle.std.proofs.Common.{false, refl}
+use Rattle.slink_live.specs.Happening.{WantsLinks}
+use Rattle.slink_live.specs.Turns.{is_full}
+use Rattle.slink_live.proofs.Settling.{full_tends}
+use Rattle.slink_live.proofs.Slots.{closes_told}
+use Rattle.slink_live.proofs.Steps.{keeps_quiet, keeps_same}
 use Rattle.slink_live.proofs.server.Server.on_dialled.Goals as goal
 
-pub returns-then-accept-clause-keeps : goal.returns-then-accept-clause-keeps
-returns-then-accept-clause-keeps g c =
-    opened_keeps c.self.view_is c.in-Some.slot (subst (λ (x : ServerState). c.in-Some.slot < length x.links)
-    (sym c.self.view_is) c.in-Some.ensures.within) (Some c.new.result) c.requires c.new.result refl
-    c.in-Some.ensures.free c.new.ensures.session c.new.ensures.pending
-    (c.new.ensures.fits c.args.self.now.intake.feed) (c.wants.ensures.log ∙ c.if-accept.ensures.log)
+pub returns-in-None-clause-keeps : goal.returns-in-None-clause-keeps
+returns-in-None-clause-keeps g c =
+    keeps_quiet (WantsLinks false) refl (λ k. refl) c.wants_links.ensures.log
+    (keeps_same c.args.self.now (g.R.Ready.log c.args.ready.now) (g.R.Ready.log c.args.ready.now) refl c.requires)
 
-pub returns-then-accept-clause-called : goal.returns-then-accept-clause-called
-returns-then-accept-clause-called g c = (
-  Opened c.in-Some.slot ∷ [],
-  refl,
-  closes_none (g.R.Ready.log c.args.ready.now ++ Opened c.in-Some.slot ∷ []) (g.R.Ready.log c.wants.new.self)
-      (c.wants.ensures.log ∙ c.if-accept.ensures.log),
-)
+pub returns-in-None-clause-called : goal.returns-in-None-clause-called
+returns-in-None-clause-called g c =
+    is_full c.in-None.ensures.none
+    (closes_told (g.R.Ready.log c.args.ready.now) (g.R.Ready.log c.wants_links.new.self) (WantsLinks false) tt
+    c.wants_links.ensures.log)
+
+pub returns-in-None-clause-tends : goal.returns-in-None-clause-tends
+returns-in-None-clause-tends g c =
+    full_tends c.args.self.now (g.R.Ready.log c.args.ready.now) (g.R.Ready.log c.wants_links.new.self)
+    c.in-None.ensures.none c.wants_links.ensures.log

@@ -1,3 +1,5 @@
+use Rattle.std.proofs.Common.{refl}
+use Rattle.slink_live.proofs.Settling.{tends_end, tends_same}
 use Rattle.slink_live.proofs.Steps.{answers_end}
 use Rattle.slink_live.proofs.Takings.{failed_fault}
 use Rattle.slink_live.proofs.server.Server.on_failure.Goals as goal
@@ -7,3 +9,10 @@ returns-clause-answers g c =
     answers_end c.end.ensures.keeps
     (λ start v. failed_fault c.self.view_is c.end.ensures.closes start v c.failure-fault.result
     c.failure-fault.ensures)
+
+pub returns-clause-tends : goal.returns-clause-tends
+returns-clause-tends g c = tends_end c.end.ensures.tends
+
+pub returns-then-self-clause-tends : goal.returns-then-self-clause-tends
+returns-then-self-clause-tends g c =
+    tends_same c.args.self.now (g.R.Ready.log c.args.ready.now) (g.R.Ready.log c.args.ready.now) refl

@@ -1,36 +1,59 @@
+use Rattle.std.proofs.Common.{◌∙◌, ◌++◌, ◌∷◌, [], ap, inr}
 use Rattle.std.proofs.lemmas.Result.{err_from_is_err_and}
-use Rattle.slink_live.specs.declared.ready.Event.TheVariants as events
-use Rattle.slink_live.proofs.Goes.{served_at, served_on}
+use Rattle.slink_live.specs.declared.ready.Event.{Event}
+use Rattle.slink_live.specs.Happening.{Next}
+use Rattle.slink_live.proofs.Goes.{said_serving, served_first, served_given, served_nothing, served_on}
 use Rattle.slink_live.proofs.server.Server.serve.Goals as goal
 
-pub returns-in-Nothing-clause-serving : goal.returns-in-Nothing-clause-serving
-returns-in-Nothing-clause-serving g c = (served_at c.next.ensures.log c.loop-turn.invariant).serving
+pub loop-turn-init : goal.loop-turn-init
+loop-turn-init g c = served_first c.args.self.now (g.R.Ready.log c.args.ready.now) c.requires.sound
+
+pub returns-in-Nothing : goal.returns-in-Nothing
+returns-in-Nothing g c =
+    let on = served_nothing c.loop-turn.invariant (c.next.ensures.log
+    ∙ ap (λ (e : Event). g.R.Ready.log c.loop-turn.ready ++ Next e ∷ []) c.in-Nothing.is) in
+    record {
+      sound = on.sound;
+      serving = on.serving;
+      over = inr (c.next.ensures.over c.in-Nothing.is);
+      fault = tt;
+      ended = tt;
+      grows = on.grows;
+      unread = on.unread;
+      turns = on.turns;
+      awake = on.awake;
+      closed = on.closed;
+    }
 
 pub returns-in_err-step-in_default : goal.returns-in_err-step-in_default
 returns-in_err-step-in_default g c =
     let p = err_from_is_err_and c.from_residual.result c.from_residual.ensures.1 in
-    let before = served_at c.next.ensures.log c.loop-turn.invariant in
-    let on = served_on c.next.result before c.step.ensures.answers c.step.ensures.called in
+    let on = served_on c.next.result c.loop-turn.invariant c.next.ensures.log c.step.ensures.answers
+    c.step.ensures.called c.step.ensures.tends in
     let answers = c.in_err-step-in_default.ensures.answers in
     record {
       sound = on.sound;
       serving = on.serving;
       over = rw p.1 tt;
-      fault = rw (p.1, p.2) (λ start v. answers.fault start (before.serving start v));
+      fault = rw (p.1, p.2) (λ start v. answers.fault start
+          (said_serving c.next.result c.loop-turn.invariant c.next.ensures.log start v));
       ended = rw p.1 answers.ended;
       grows = on.grows;
       unread = on.unread;
+      turns = on.turns;
+      awake = on.awake;
+      closed = on.closed;
     }
 
 pub loop-turn-preserved : goal.loop-turn-preserved
 loop-turn-preserved g c =
-    served_on c.next.result (served_at c.next.ensures.log c.loop-turn.invariant) c.step.ensures.answers
-    c.step.ensures.called
+    served_on c.next.result c.loop-turn.invariant c.next.ensures.log c.step.ensures.answers c.step.ensures.called
+    c.step.ensures.tends
 
 pub returns : goal.returns
 returns g c =
     let answers = c.give_up.ensures.answers in
-    let on = served_on events.InputEnded c.loop-turn.invariant answers c.give_up.ensures.closes in
+    let on = served_given c.loop-turn.invariant answers c.give_up.ensures.closes c.give_up.ensures.tends in
     record {
       sound = on.sound;
       serving = on.serving;
@@ -39,4 +62,7 @@ returns g c =
       ended = answers.ended;
       grows = on.grows;
       unread = on.unread;
+      turns = on.turns;
+      awake = on.awake;
+      closed = on.closed;
     }

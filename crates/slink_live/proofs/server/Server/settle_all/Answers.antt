@@ -1,4 +1,6 @@
-use Rattle.std.proofs.Common.{refl}
+use Rattle.std.proofs.Common.{◌<◌, arith, ap, length, refl, subst}
+use Rattle.slink_live.specs.Served.{ServerState}
+use Rattle.slink_live.proofs.Settling.{settled_all, settled_more, settled_none}
 use Rattle.slink_live.proofs.Slots.{closes_both, closes_none}
 use Rattle.slink_live.proofs.Steps.{keeps_both, keeps_same}
 use Rattle.slink_live.proofs.server.Server.settle_all.Goals as goal
@@ -7,6 +9,19 @@ pub loop-slot-init : goal.loop-slot-init
 loop-slot-init g c = record {
   keeps = keeps_same c.args.self.now _ _ refl c.requires;
   closes = closes_none (g.R.Ready.log c.args.ready.now) (g.R.Ready.log c.args.ready.now) refl;
+  settled = settled_none c.args.self.now (g.R.Ready.log c.args.ready.now);
+}
+
+pub settle-requires : goal.settle-requires
+settle-requires g c = record {
+  sound = c.loop-slot.invariant.keeps.sound;
+  within = omega (
+    arith,
+    c.loop-slot-test.true,
+    c.len-slot-end.ensures,
+    c.loop-slot.invariant.keeps.stays.slots,
+    ap (λ (s : ServerState). length s.links) c.self.view_is,
+  );
 }
 
 pub loop-slot-preserved : goal.loop-slot-preserved
@@ -14,4 +29,19 @@ loop-slot-preserved g c = record {
   keeps = keeps_both c.loop-slot.invariant.keeps c.settle.ensures.keeps;
   closes = closes_both (g.R.Ready.log c.args.ready.now) (g.R.Ready.log c.loop-slot.ready)
       (g.R.Ready.log c.settle.new.ready) c.loop-slot.invariant.closes c.settle.ensures.closes;
+  settled = settled_more c.args.self.now c.loop-slot.self c.settle.new.self c.loop-slot.slot
+      (g.R.Ready.log c.args.ready.now) (g.R.Ready.log c.loop-slot.ready) (g.R.Ready.log c.settle.new.ready)
+      c.loop-slot.invariant.keeps c.loop-slot.invariant.settled c.settle.ensures.settles;
 }
+
+pub returns-clause-tends : goal.returns-clause-tends
+returns-clause-tends g c =
+    settled_all c.args.self.now c.loop-slot.self c.loop-slot.slot (g.R.Ready.log c.args.ready.now)
+    (g.R.Ready.log c.loop-slot.ready)
+    (omega (
+      arith,
+      c.loop-slot-test.false,
+      c.len-slot-end.ensures,
+      c.loop-slot.invariant.keeps.stays.slots,
+      ap (λ (s : ServerState). length s.links) c.self.view_is,
+    )) c.loop-slot.invariant.settled

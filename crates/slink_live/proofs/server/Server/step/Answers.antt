@@ -1,9 +1,24 @@
-use Rattle.std.proofs.Common.{subst, sym}
+use Rattle.std.proofs.Common.{◌∙◌, ◌++◌, ◌∷◌, [], ap, refl, subst, sym}
+use Rattle.slink_live.specs.Happening.{Next}
+use Rattle.slink_live.proofs.Settling.{tends_same}
 use Rattle.slink_live.specs.declared.ready.Event.{Event}
-use Rattle.slink_live.specs.private.Calling.{IsCalled}
+use Rattle.slink_live.specs.Turns.{IsCalled}
 use Rattle.slink_live.proofs.server.Server.step.Goals as goal
 
 pub returns-in-Input-clause-called : goal.returns-in-Input-clause-called
 returns-in-Input-clause-called g c =
     subst (λ (e : Event). IsCalled e c.args.self.now (g.R.Ready.log c.args.ready.now)
     (g.R.Ready.log c.on_input.new.ready)) (sym c.in-Input.is) c.on_input.ensures.called
+
+pub returns-in-Gone-clause-tends : goal.returns-in-Gone-clause-tends
+returns-in-Gone-clause-tends g c earlier said =
+    c.on_gone.ensures.tends earlier (said ∙ ap (λ (e : Event). earlier ++ Next e ∷ []) c.in-Gone.is)
+
+pub returns-in-Nothing-clause-tends : goal.returns-in-Nothing-clause-tends
+returns-in-Nothing-clause-tends g c earlier said =
+    tends_same c.args.self.now (g.R.Ready.log c.args.ready.now) (g.R.Ready.log c.args.ready.now) refl
+
+pub returns-in-Dialled-clause-called : goal.returns-in-Dialled-clause-called
+returns-in-Dialled-clause-called g c =
+    subst (λ (e : Event). IsCalled e c.args.self.now (g.R.Ready.log c.args.ready.now)
+    (g.R.Ready.log c.on_dialled.new.ready)) (sym c.in-Dialled.is) c.on_dialled.ensures.called

@@ -1,0 +1,201 @@
+-- No place of a link is passed over.
+use Rattle.std.proofs.Common.{◌≡◌, ◌≢◌, ℕ, ◌+◌, ◌%◌, ◌^◌, ◌<◌, ◌≤◌, ◌⊎◌, ◌==◌, ◌∙◌, ap, subst, refl, sym, arith, inl, inr}
+use Rattle.std.proofs.Common.{Bool, true, false, List, [], ◌∷◌, ◌++◌, length, Option, Some, None, slice_get, slice_set}
+use Rattle.std.proofs.Common.{if◌then◌else◌}
+use Rattle.std.proofs.lemmas.Bool.Decides.{eqb_tells, leb_tells}
+use Rattle.std.proofs.lemmas.Option.{slice_get_within}
+use Rattle.slink_wire.specs.Packet.{packet_bytes}
+use Rattle.slink_feed.specs.declared.grant.Grant.{Grant}
+use Rattle.slink_feed.specs.declared.session.Phase.{Phase}
+use Rattle.slink_feed.specs.declared.session.Phase.TheVariants as Phases
+use Rattle.slink_feed.specs.declared.session.Sent.{Sent}
+use Rattle.slink_feed.specs.declared.session.Sent.TheVariants as Sents
+use Rattle.slink_feed.specs.Serving.{Standing}
+use Rattle.slink_feed.specs.Session.{State, all_done, at_next, grant_at, packet_at, sent, sent_in, sent_of}
+use Rattle.slink_feed.specs.Window.{Window, record_at}
+use Rattle.slink_feed.proofs.Items.{put_there}
+use Rattle.slink_live.specs.Fairness.{HasDue, IsAmong, TakesTurns, no_more, next_called}
+use Rattle.slink_live.specs.Story.{Asks, IsEarlier, IsTurn, none_called, one_called}
+use Rattle.slink_live.proofs.Turning.{Waits}
+
+-- What a call for a place leaves of the others: the session stays, or only streams on.
+pub record Leaves (j : ℕ) (s t : State) : Type 0 where
+  pub streams : t.phase ≡ Phases.Streaming → s.phase ≡ Phases.Streaming
+  pub grant : grant_at t.grants j ≡ grant_at s.grants j
+
+stays : (j : ℕ) (s : State) → Leaves j s s
+stays j s = record { streams = λ e. e; grant = refl }
+
+shuts : (j : ℕ) (s t : State) → t.phase ≡ Phases.Closed → t.grants ≡ s.grants → Leaves j s t
+shuts j s t shut same = record {
+  streams = λ e. absurd (let bad : Phases.Closed ≡ Phases.Streaming = sym shut ∙ e in cc bad);
+  grant = ap (λ gs. grant_at gs j) same;
+}
+
+leaves_next : (b : Bool) (s : State) (j : ℕ) → Leaves j s (at_next b s).0
+leaves_next true s j = shuts j s (at_next true s).0 refl refl
+leaves_next false s j = stays j s
+
+leaves_packet : (s : State) (k : ℕ) (g : Grant) (o : Option (List ℕ)) (j : ℕ) → j ≢ k
+    → Leaves j s (packet_at s k g o).0
+leaves_packet s k g None j ne = shuts j s (packet_at s k g None).0 refl refl
+leaves_packet s k g (Some bytes) j ne = record {
+  streams = λ e. e;
+  grant = put_there s.grants k j (Some (record { mode = g.mode; position = g.position + 1 })) None ne;
+}
+
+leaves_if : (b : Bool) (feed : List Window) (s : State) (k : ℕ) (g : Grant) (w : Window) (j : ℕ) → j ≢ k
+    → Leaves j s (if b then at_next (all_done feed s.grants) s else packet_at s k g (record_at w g.position)).0
+leaves_if true feed s k g w j ne = leaves_next (all_done feed s.grants) s j
+leaves_if false feed s k g w j ne = leaves_packet s k g (record_at w g.position) j ne
+
+leaves_of : (feed : List Window) (s : State) (k : ℕ) (o : Option Grant) (r : Option Window) (j : ℕ) → j ≢ k
+    → Leaves j s (sent_of feed s k o r).0
+leaves_of feed s k None r j ne = stays j s
+leaves_of feed s k (Some g) None j ne = stays j s
+leaves_of feed s k (Some g) (Some w) j ne = leaves_if (g.position == w.next) feed s k g w j ne
+
+leaves_in : (p : Phase) (feed : List Window) (s : State) (k j : ℕ) → j ≢ k → Leaves j s (sent_in p feed s k).0
+leaves_in Phases.Fresh feed s k j ne = stays j s
+leaves_in (Phases.Chosen x) feed s k j ne = stays j s
+leaves_in (Phases.Granted x) feed s k j ne = stays j s
+leaves_in Phases.Streaming feed s k j ne = leaves_of feed s k (grant_at s.grants k) (slice_get feed k) j ne
+leaves_in Phases.Closed feed s k j ne = stays j s
+
+leaves : (feed : List Window) (s t : State) (k j : ℕ) (a : Sent) → j ≢ k → sent feed s k ≡ (t, a) → Leaves j s t
+leaves feed s t k j a ne e =
+    subst (Leaves j s) (ap (λ (x : State × Sent). x.0) e) (leaves_in s.phase feed s k j ne)
+
+-- what was due before, was due then
+due_before : (feed : List Window) (s t : State) (k j : ℕ) (a : Sent) → j ≢ k → sent feed s k ≡ (t, a)
+    → HasDue feed t j → HasDue feed s j
+due_before feed s t k j a ne e d =
+    let l : Leaves j s t = leaves feed s t k j a ne e in
+    record {
+      streams = l.streams d.streams;
+      grant = d.grant;
+      ring = d.ring;
+      granted = sym l.grant ∙ d.granted;
+      there = d.there;
+      behind = d.behind;
+    }
+
+due_back : (feed : List Window) (j : ℕ) (s : State) (place : ℕ) (ks : List ℕ) (t : State) (turn : ℕ)
+    → TakesTurns feed s place ks t turn → HasDue feed t j → ¬ (IsAmong j ks) → HasDue feed s j
+due_back feed j s place ks t turn (no_more u p) d none = d
+due_back feed j s place ks t turn (next_called u now last p q k a more first e on) d none =
+    due_before feed u now k j a (λ x. none (inl x)) e
+    (due_back feed j now (k + 1) more last q on d (λ x. none (inr x)))
+
+-- of a place that has a record due something is sent
+sent_some : (bytes : List ℕ) → Sents.Packet bytes ≢ Sents.Wait
+sent_some bytes x = cc x
+
+due_packet : (s : State) (k : ℕ) (g : Grant) (o : Option (List ℕ)) → packet_at s k g o ≢ (s, Sents.Wait)
+due_packet s k g None x = let bad : Sents.Overrun ≡ Sents.Wait = ap (λ (p : State × Sent). p.1) x in cc bad
+due_packet s k g (Some bytes) x =
+    sent_some (packet_bytes (g.position % 2 ^ 24) bytes) (ap (λ (p : State × Sent). p.1) x)
+
+due_if : (b : Bool) (feed : List Window) (s : State) (k : ℕ) (g : Grant) (w : Window) → b ≡ false
+    → (if b then at_next (all_done feed s.grants) s else packet_at s k g (record_at w g.position)) ≢ (s, Sents.Wait)
+due_if true feed s k g w e is = let bad : true ≡ false = e in cc bad
+due_if false feed s k g w e is = due_packet s k g (record_at w g.position) is
+
+no_match : (a b : ℕ) → a ≢ b → (a == b) ≡ false
+no_match a b ne = elim (eqb_tells a b) [ inl same ↦ absurd (ne same.1) | inr other ↦ other.0 ]
+
+due_sends : (feed : List Window) (s : State) (j : ℕ) → HasDue feed s j → ¬ (Waits feed s j)
+due_sends feed s j d waits =
+    due_if (d.grant.position == d.ring.next) feed s j d.grant d.ring (no_match d.grant.position d.ring.next d.behind)
+    (sym (ap (λ (p : Phase). sent_in p feed s j) d.streams
+    ∙ (ap (λ (o : Option Grant). sent_of feed s j o (slice_get feed j)) d.granted
+    ∙ ap (λ (r : Option Window). sent_of feed s j (Some d.grant) r) d.there)) ∙ waits)
+
+-- In a round from behind a place on, another one has not been passed.
+abbrev IsAhead : ℕ → ℕ → ℕ → Type 0
+IsAhead k place j = ((k < place) × (place ≤ j)) ⊎ ((j < k) × (k < place)) ⊎ ((j < k) × (place ≤ j))
+
+ahead_first : (k j : ℕ) → j ≢ k → IsAhead k (k + 1) j
+ahead_first k j ne = elim (leb_tells j k) [
+  | inl before ↦ inr (inl (omega (arith, before.1, ne), omega arith))
+  | inr behind ↦ inl (omega arith, omega (arith, behind.1))
+]
+
+ahead_on : (k place j m : ℕ) → IsAhead k place j → ¬ (IsEarlier place j m) → j ≢ m → IsAhead k (m + 1) j
+ahead_on k place j m (inl one) none ne = elim (leb_tells place m) [
+  | inr before ↦ absurd (none (inr (inl (before.1, one.1))))
+  | inl behind ↦ elim (leb_tells m j) [
+    | inr passed ↦ absurd (none (inl (one.1, passed.1)))
+    | inl still ↦ inl (omega (arith, one.0, behind.1), omega (arith, still.1, ne))
+  ]
+]
+ahead_on k place j m (inr (inl two)) none ne = elim (leb_tells place m) [
+  | inl behind ↦ inr (inl (two.0, omega (arith, two.1, behind.1)))
+  | inr before ↦ elim (leb_tells m j) [
+    | inr passed ↦ absurd (none (inr (inr (before.1, passed.1))))
+    | inl still ↦ inr (inr (two.0, omega (arith, still.1, ne)))
+  ]
+]
+ahead_on k place j m (inr (inr three)) none ne = elim (leb_tells m j) [
+  | inr passed ↦ absurd (none (inl (three.1, passed.1)))
+  | inl still ↦ inr (inr (three.0, omega (arith, still.1, ne)))
+]
+
+ahead_last : (k place j : ℕ) → IsAhead k place j → IsEarlier place j k
+ahead_last k place j (inl one) = inr (inl one)
+ahead_last k place j (inr (inl two)) = inr (inr (two.1, two.0))
+ahead_last k place j (inr (inr three)) = inl (three.1, three.0)
+
+within_due : (feed : List Window) (s : State) (j : ℕ) → HasDue feed s j → j < length feed
+within_due feed s j d = slice_get_within feed j d.ring d.there
+
+ahead_all : (feed : List Window) (k j : ℕ) (s : State) (place : ℕ) (ks : List ℕ) (t : State) (turn : ℕ)
+    → TakesTurns feed s place ks t turn → HasDue feed t j → ¬ (IsAmong j ks) → IsAhead k place j
+    → IsAhead k turn j
+ahead_all feed k j s place ks t turn (no_more u p) d none ahead = ahead
+ahead_all feed k j s place ks t turn (next_called u now last p q m a more first e on) d none ahead =
+    let due : HasDue feed u j = due_back feed j u p (m ∷ more) last q (next_called u now last p q m a more first e on) d
+    none in
+    let never : ¬ (IsEarlier p j m) = λ x. due_sends feed u j due (first.first j (within_due feed u j due) x) in
+    ahead_all feed k j now (m + 1) more last q on d (λ x. none (inr x))
+    (ahead_on k p j m ahead never (λ x. none (inl x)))
+
+among : (j : ℕ) (ks : List ℕ) → IsAmong j ks ⊎ ¬ (IsAmong j ks)
+among j [] = inr (λ x. x)
+among j (k ∷ ks) = elim (eqb_tells j k) [
+  | inl same ↦ inl (inl same.1)
+  | inr other ↦ elim (among j ks) [
+    | inl behind ↦ inl (inr behind)
+    | inr none ↦ inr (λ x. elim x [ inl e ↦ other.1 e | inr y ↦ none y ])
+  ]
+]
+
+-- Between two calls for a place each other one that has a record due at the second was called.
+pub between : (feed : List Window) (s : State) (place k : ℕ) (mid : List ℕ) (t : State) (turn : ℕ)
+    → TakesTurns feed s place (k ∷ mid) t turn → IsTurn feed t turn k → (j : ℕ) → j ≢ k → HasDue feed t j
+    → IsAmong j mid
+between feed s place k mid t turn (next_called u now last p q m a more first e on) again j ne due =
+    elim (among j mid) [
+      | inl is ↦ is
+      | inr none ↦ absurd (due_sends feed t j due (again.first j (within_due feed t j due)
+          (ahead_last k turn j (ahead_all feed k j now (k + 1) mid t turn on due none (ahead_first k j ne)))))
+    ]
+
+-- What a session is called for are turns.
+turns_last : (feed : List Window) (s : State) (place : ℕ) (ks : List ℕ) (now : State) (turn : ℕ) (last : State)
+    (k : ℕ) (answer : Sent) → TakesTurns feed s place ks now turn → IsTurn feed now turn k
+    → sent feed now k ≡ (last, answer) → TakesTurns feed s place (ks ++ k ∷ []) last (k + 1)
+turns_last feed s place ks now turn last k answer (no_more u p) first e =
+    next_called u last last p (k + 1) k answer [] first e (no_more last (k + 1))
+turns_last feed s place ks now turn last k answer (next_called u v w p q m a more before x on) first e =
+    next_called u v last p (k + 1) m a (more ++ k ∷ []) before x
+    (turns_last feed v (m + 1) more w q last k answer on first e)
+
+pub asked_turns : (feed : List Window) (s : Standing) (place : ℕ) (way : List ℕ) (last : Standing) (turn : ℕ)
+    (all : List ℕ) → Asks feed s place way last turn all
+    → (ks : List ℕ) × TakesTurns feed s.state place ks last.state turn
+asked_turns feed s place way last turn all none_called = ([], no_more s.state place)
+asked_turns feed s place way last turn all (one_called now t m k answer on a before first given held is) =
+    let earlier : (ks : List ℕ) × TakesTurns feed s.state place ks now.state m =
+    asked_turns feed s place way now m on before in
+    (earlier.0 ++ k ∷ [], turns_last feed s.state place earlier.0 now.state m t.state k answer earlier.1 first given)

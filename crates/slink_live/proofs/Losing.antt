@@ -1,0 +1,86 @@
+-- What is no longer in the ring.
+use Rattle.std.proofs.Common.{◌≡◌, ◌≢◌, ℕ, ◌+◌, ◌≤◌, ◌<◌, ◌∙◌, ap, subst, refl, sym, arith, inl, inr, List, length}
+use Rattle.std.proofs.Common.{Bool, true, false, nat_lt, suc, Option, Some, None, option_map, slice_get}
+use Rattle.std.proofs.lemmas.Bool.Decides.{eqb_tells, leb_tells}
+use Rattle.std.proofs.lemmas.Option.{slice_get_within}
+use Rattle.slink_feed.specs.declared.grant.Grant.{Grant}
+use Rattle.slink_feed.specs.Session.{Grants, State, grant_at}
+use Rattle.slink_feed.specs.Window.{Window, oldest_of}
+use Rattle.slink_live.specs.Awake.{HasLeft, IsLost}
+use Rattle.slink_live.specs.Served.{LinkState}
+
+-- tests of numbers
+pub lt_by : (a b : ℕ) → nat_lt a b ≡ true → a < b
+lt_by a b e = elim (leb_tells (suc a) b) [
+  | inl is ↦ omega (arith, is.1)
+  | inr other ↦ absurd (let bad : false ≡ true = sym other.0 ∙ e in cc bad)
+]
+
+pub ge_by : (a b : ℕ) → nat_lt a b ≡ false → b ≤ a
+ge_by a b e = elim (leb_tells (suc a) b) [
+  | inl is ↦ absurd (let bad : true ≡ false = sym is.0 ∙ e in cc bad)
+  | inr other ↦ omega (arith, other.1)
+]
+
+-- the position of a grant, where there is one
+abbrev position_of : Option Grant → Option ℕ
+position_of o = option_map (λ (g : Grant). g.position) o
+
+granted_by : (o : Option Grant) (n : ℕ) → position_of o ≡ Some n → (g : Grant) × (o ≡ Some g) × (g.position ≡ n)
+granted_by None n e = absurd (let bad : None ≡ Some n = e in cc bad)
+granted_by (Some g) n e = (g, refl, (let both : Some g.position ≡ Some n = e in cc both))
+
+same_grant : (g h : Grant) → Some g ≡ Some h → g ≡ h
+same_grant g h e = cc e
+
+same_ring : (v w : Window) → Some v ≡ Some w → v ≡ w
+same_ring v w e = cc e
+
+module _ (feed : List Window) {l0 l : LinkState} (same : l0 ≡ l) (k : ℕ) where
+  left_in : HasLeft feed l0.session.state.grants k → HasLeft feed l.session.state.grants k
+  left_in h = subst (λ (x : LinkState). HasLeft feed x.session.state.grants k) same h
+
+  left_out : HasLeft feed l.session.state.grants k → HasLeft feed l0.session.state.grants k
+  left_out h = subst (λ (x : LinkState). HasLeft feed x.session.state.grants k) (sym same) h
+
+  pub has_left : {n : ℕ} (w : Window) → position_of (grant_at l0.session.state.grants k) ≡ Some n
+      → slice_get feed k ≡ Some w → n < oldest_of w → HasLeft feed l.session.state.grants k
+  has_left {n} w granted here lt =
+      let g = granted_by (grant_at l0.session.state.grants k) n granted in
+      left_in (record { ring = w; grant = g.0; there = here; granted = g.1; left = omega (arith, g.2, lt) })
+
+  pub has_not_left : {n : ℕ} (w : Window) → position_of (grant_at l0.session.state.grants k) ≡ Some n
+      → slice_get feed k ≡ Some w → oldest_of w ≤ n → ¬ (HasLeft feed l.session.state.grants k)
+  has_not_left {n} w granted here le h =
+      let g = granted_by (grant_at l0.session.state.grants k) n granted in
+      let x : HasLeft feed l0.session.state.grants k = left_out h in
+      let grants : g.0 ≡ x.grant = same_grant g.0 x.grant (sym g.1 ∙ x.granted) in
+      let rings : w ≡ x.ring = same_ring w x.ring (sym here ∙ x.there) in
+      omega (
+        arith,
+        le,
+        g.2,
+        x.left,
+        ap (λ (y : Grant). y.position) grants,
+        ap oldest_of rings,
+      )
+
+  pub none_left : position_of (grant_at l0.session.state.grants k) ≡ None
+      → ¬ (HasLeft feed l.session.state.grants k)
+  none_left none h =
+      let x : HasLeft feed l0.session.state.grants k = left_out h in
+      let bad : Some x.grant.position ≡ None = sym (ap position_of x.granted) ∙ none in cc bad
+
+-- no place has left
+pub not_left_more : (feed : List Window) (grants : Grants) (k : ℕ) → ((j : ℕ) → j < k → ¬ (HasLeft feed grants j))
+    → ¬ (HasLeft feed grants k) → (j : ℕ) → j < k + 1 → ¬ (HasLeft feed grants j)
+not_left_more feed grants k before here j lt = elim (eqb_tells j k) [
+  | inl same ↦ subst (λ (i : ℕ). ¬ (HasLeft feed grants i)) (sym same.1) here
+  | inr other ↦ before j (omega (arith, lt, other.1))
+]
+
+pub not_lost : (feed : List Window) (s : State) (n : ℕ) → length feed ≤ n
+    → ((j : ℕ) → j < n → ¬ (HasLeft feed s.grants j)) → ¬ (IsLost feed s)
+not_lost feed s n le none lost =
+    let within : lost.k < length feed = slice_get_within feed lost.k lost.place.ring lost.place.there in
+    none lost.k (omega (arith, le, within)) lost.place

@@ -1,0 +1,327 @@
+-- How each step of a server leaves no link asleep.
+use Rattle.std.proofs.Common.{◌≡◌, ◌≢◌, ℕ, ◌+◌, ◌<◌, ◌≤◌, ◌∙◌, ap, subst, refl, sym, arith, inl, inr, Bool, true, false}
+use Rattle.std.proofs.Common.{get_or-set_other, if◌then◌else◌}
+use Rattle.std.proofs.Common.{not, ◌&&◌, List, [], ◌∷◌, ◌++◌, get_or, length, length-set, set, take, Option, Some, None}
+use Rattle.std.specs.Option.{is_some}
+use Rattle.std.proofs.lemmas.Bool.Decides.{leb_tells}
+use Rattle.std.proofs.lemmas.List.{get_or_past}
+use Rattle.slink_feed.specs.Session.{Fits}
+use Rattle.slink_feed.specs.Window.{Window}
+use Rattle.slink_live.specs.declared.link.Settled.TheVariants as settled
+use Rattle.slink_live.specs.declared.ready.Wishes.{Wishes}
+use Rattle.slink_live.specs.declared.ready.Event.{Event}
+use Rattle.slink_live.specs.declared.ready.Event.TheVariants as events
+use Rattle.slink_live.specs.Awake.{Goes, IsAwake, IsAwakeIn, IsClosedRightly, IsFirstFree, IsSettled, IsTold, has_free}
+use Rattle.slink_live.specs.Awake.{further}
+use Rattle.slink_live.specs.Happening.{Happening, Input, Opened, Received, Emitted, Gone, Next, Missed, Wants, WantsLinks}
+use Rattle.slink_live.specs.Happening.{Left, first_wishes, is_left, told, told_by, wants_links}
+use Rattle.slink_live.specs.Served.{IntakeState, IsServing, IsSound, LinkState, ServerState}
+use Rattle.slink_live.specs.Story.{IsNew}
+use Rattle.slink_live.specs.Turns.{Closes}
+use Rattle.slink_live.specs.private.Calling.{HasFilled, HasReceived, HasTaken, IsOutcome}
+use Rattle.slink_live.specs.private.Keeping.{KeepsServing, Settles, Tends, TendsAll, TendsAnew}
+use Rattle.slink_live.proofs.Slots.{closes_both, closes_told, not_self, quiet_serving}
+use Rattle.slink_live.proofs.Steps.{closed_keeps, ended, ended_serving, filled_keeps, received_keeps, same_default}
+use Rattle.slink_live.proofs.Steps.{keeps_both, keeps_from, keeps_quiet, keeps_same, opened_keeps, sound_in, taken_keeps}
+use Rattle.slink_live.proofs.Tending.{IsUntold, free_at, goes_one, goes_same, goes_then, gone_awake, gone_goes, gone_told}
+use Rattle.slink_live.proofs.Tending.{left_last, links_last, settles_closes, settles_empty, settles_wants, tends_by}
+use Rattle.slink_live.proofs.Tending.{told_beside, told_last, untold_none, untold_one}
+
+-- A call saw the link in a slot, and the rings of the input.
+module _ {s0 s : ServerState} (same : s0 ≡ s) (j : ℕ) (lt : j < length s0.links) (sound : IsSound s)
+    {feed : List Window} {o : Option LinkState} (rings : feed ≡ s0.intake.feed) (link : o ≡ get_or s0.links j o)
+    (new : Option LinkState) where
+  abbrev seen_after : ServerState
+  seen_after = record s0 { links = set s0.links j new }
+
+  stood : o ≡ get_or s0.links j None
+  stood = link ∙ sym (same_default s0.links j None o lt)
+
+  settles_in : {t : ServerState} {log last : List Happening} → Settles j s0 t log last → Settles j s t log last
+  settles_in {t} {log} {last} h = subst (λ (x : ServerState). Settles j x t log last) same h
+
+  filled_in : HasFilled feed o new → HasFilled s0.intake.feed o new
+  filled_in h = subst (λ (f : List Window). HasFilled f o new) rings h
+
+  pub seen_empty : {log last : List Happening} → HasFilled feed o new → IsOutcome feed s0.is_ended new settled.Empty
+      → last ≡ log → Settles j s seen_after log last
+  seen_empty {log} {last} filled out e = settles_in (settles_empty s0 j o new log last lt stood (filled_in filled)
+      (subst (λ (f : List Window). IsOutcome f s0.is_ended new settled.Empty) rings out) e)
+
+  pub seen_wants : {log last : List Happening} (w : Wishes) → HasFilled feed o new
+      → IsOutcome feed s0.is_ended new (settled.Wants w) → last ≡ log ++ Wants j w ∷ []
+      → Settles j s seen_after log last
+  seen_wants {log} {last} w filled out e = settles_in (settles_wants s0 j o new log last w lt stood (filled_in filled)
+      (subst (λ (f : List Window). IsOutcome f s0.is_ended new (settled.Wants w)) rings out) e)
+
+  within : j < length (set s0.links j new)
+  within = omega (arith, lt, length-set s0.links j new)
+
+  pub seen_closes : {t : ServerState} {log last : List Happening} → HasFilled feed o new
+      → IsOutcome feed s0.is_ended new settled.Closes → t ≡ record seen_after { links = set (set s0.links j new) j None }
+      → last ≡ (log ++ Gone j ∷ []) ++ WantsLinks (not s0.is_ended) ∷ [] → Settles j s t log last
+  seen_closes {t} {log} {last} filled out is e =
+      settles_in (subst (λ (x : ServerState). Settles j s0 x log last) (sym is)
+      (settles_closes s0 j new log last lt within
+      (subst (λ (f : List Window). IsOutcome f s0.is_ended new settled.Closes) rings out) e
+      (λ start v. (filled_keeps {s0 = s0} {s = s0} refl j lt new {log = log} {last = log} (sound_in same sound) rings link filled refl).serving
+      start v)))
+
+  -- it was to be closed, and so it was
+  pub closes_keeps : {t : ServerState} {log last : List Happening} → HasFilled feed o new
+      → t ≡ record seen_after { links = set (set s0.links j new) j None }
+      → last ≡ (log ++ Gone j ∷ []) ++ WantsLinks (not s0.is_ended) ∷ [] → KeepsServing seen_after t log last
+  closes_keeps {t} {log} {last} filled is e =
+      closed_keeps seen_after t j log last (not s0.is_ended) within
+      (filled_keeps {s0 = s0} {s = s0} refl j lt new {log = log} {last = log} (sound_in same sound) rings link filled refl).sound is e
+
+  tends_in : {t : ServerState} {log last : List Happening} → Tends s0 t log last → Tends s t log last
+  tends_in {t} {log} {last} h = subst (λ (x : ServerState). Tends x t log last) same h
+
+  -- the link was read
+  pub received_tends : {t : ServerState} {log mid last : List Happening} → HasReceived feed j o new log mid
+      → Settles j seen_after t mid last → Tends s t log last
+  received_tends {t} {log} {mid} {last} h settles =
+      tends_in (tends_by s0 j new t log mid last (received_some o h ∙ ap is_some stood) (received_untold o h)
+      (received_goes o h) (λ start v. (received_keeps {s0 = s0} {s = s0} refl j lt new (sound_in same sound) rings link h).serving
+      start v) settles)
+    where
+      received_some : (x : Option LinkState) → HasReceived feed j x new log mid → is_some new ≡ is_some x
+      received_some None g = ap is_some g.0
+      received_some (Some l) g = ap is_some g.2
+
+      received_untold : (x : Option LinkState) → HasReceived feed j x new log mid → IsUntold j log mid
+      received_untold None g = untold_none j log mid g.1
+      received_untold (Some l) g =
+          untold_one j log mid (Received j g.0) (λ k ne w. refl) (λ b. refl) (λ b. refl) g.3
+
+      received_goes : (x : Option LinkState) → HasReceived feed j x new log mid → (start : List Window)
+          → Goes (IsClosedRightly start) log mid
+      received_goes None g start = goes_same g.1
+      received_goes (Some l) g start = goes_one (Received j g.0) tt g.3
+
+  -- it took bytes
+  pub taken_tends : {t : ServerState} {log mid last : List Happening} → HasTaken j o new log mid
+      → Settles j seen_after t mid last → Tends s t log last
+  taken_tends {t} {log} {mid} {last} h settles =
+      tends_in (tends_by s0 j new t log mid last (taken_some o h ∙ ap is_some stood) (taken_untold o h)
+      (taken_goes o h) (λ start v. (taken_keeps {s0 = s0} {s = s0} refl j lt new (sound_in same sound) link h).serving start v)
+      settles)
+    where
+      taken_some : (x : Option LinkState) → HasTaken j x new log mid → is_some new ≡ is_some x
+      taken_some None g = ap is_some g.0
+      taken_some (Some l) g = ap is_some g.1
+
+      taken_untold : (x : Option LinkState) → HasTaken j x new log mid → IsUntold j log mid
+      taken_untold None g = untold_none j log mid g.1
+      taken_untold (Some l) g =
+          untold_one j log mid (Emitted j (take g.0 l.pending)) (λ k ne w. refl) (λ b. refl) (λ b. refl) g.2
+
+      taken_goes : (x : Option LinkState) → HasTaken j x new log mid → (start : List Window)
+          → Goes (IsClosedRightly start) log mid
+      taken_goes None g start = goes_same g.1
+      taken_goes (Some l) g start = goes_one (Emitted j (take g.0 l.pending)) tt g.2
+
+-- nothing happened
+pub tends_same : (s : ServerState) (log last : List Happening) → last ≡ log → Tends s s log last
+tends_same s log last e = record {
+  awake = λ a. subst (IsAwake s) (sym e) a;
+  closed = λ start v t. goes_same e;
+}
+
+-- something happened that leaves all that was told
+stays_awake : (s : ServerState) (log last : List Happening) → ((k : ℕ) → told k last ≡ told k log)
+    → wants_links last ≡ wants_links log → is_left last ≡ is_left log → IsAwake s log → IsAwake s last
+stays_awake s log last each links left a = record {
+  each = λ k l is. subst (IsSettled s.intake.feed s.is_ended l) (sym (each k)) (a.each k l is);
+  is_told = record { links = links ∙ a.is_told.links; left = left ∙ a.is_told.left };
+}
+
+pub missed_tends : (s : ServerState) (j : ℕ) (log last : List Happening) → last ≡ log ++ Missed j ∷ []
+    → Tends s s log last
+missed_tends s j log last e = record {
+  awake = λ a. stays_awake s log last (λ k. told_last log last (Missed j) e k)
+      (links_last log last (Missed j) e) (left_last log last (Missed j) e) a;
+  closed = λ start v t. goes_one (Missed j) tt e;
+}
+
+pub next_awake : (s : ServerState) (e : Event) (log last : List Happening) → last ≡ log ++ Next e ∷ [] → IsAwake s log
+    → IsAwake s last
+next_awake s e log last now a = stays_awake s log last (λ k. told_last log last (Next e) now k)
+    (links_last log last (Next e) now) (left_last log last (Next e) now) a
+
+-- links are told to be wanted, or not, as they are
+pub full_tends : (s : ServerState) (log last : List Happening) → (not s.is_ended && has_free s.links) ≡ false
+    → last ≡ log ++ WantsLinks false ∷ [] → Tends s s log last
+full_tends s log last none e = record {
+  awake = λ a. record {
+    each = λ k l is. subst (IsSettled s.intake.feed s.is_ended l) (sym (told_last log last (WantsLinks false) e k))
+        (a.each k l is);
+    is_told = record {
+      links = links_last log last (WantsLinks false) e ∙ sym none;
+      left = left_last log last (WantsLinks false) e ∙ a.is_told.left;
+    };
+  };
+  closed = λ start v t. goes_one (WantsLinks false) tt e;
+}
+
+opened_other : (j k : ℕ) (w : Wishes) → k ≢ j → told_by k w (Opened j) ≡ w
+opened_other j k w ne = ap (λ (t : Bool). if t then first_wishes else w) (not_self j k ne)
+
+-- A link was taken into a slot, further ones told to be wanted or not, and then it was settled.
+pub opened_tends : (s : ServerState) (j : ℕ) (new : Option LinkState) (t : ServerState)
+    (log opened mid last : List Happening) → j < length s.links → get_or s.links j None ≡ None
+    → opened ≡ log ++ Opened j ∷ []
+    → mid ≡ opened ++ WantsLinks (not s.is_ended && has_free (set s.links j new)) ∷ []
+    → ((start : List Window) → IsServing start s log → IsServing start (record s { links = set s.links j new }) mid)
+    → Settles j (record s { links = set s.links j new }) t mid last → Tends s t log last
+opened_tends s j new t log opened mid last lt free came now serves settles =
+    let wanted : Bool = not s.is_ended && has_free (set s.links j new) in
+    let after : ServerState = record s { links = set s.links j new } in
+    let is_told : is_left log ≡ s.is_ended → IsTold after mid = λ left. record {
+      links = links_last opened mid (WantsLinks wanted) now;
+      left = left_last opened mid (WantsLinks wanted) now ∙ (left_last log opened (Opened j) came ∙ left);
+    } in
+    record {
+      awake = λ a. record {
+        each = λ k. settles.links k (λ ne l is.
+            subst (IsSettled s.intake.feed s.is_ended l)
+            (sym (told_last opened mid (WantsLinks wanted) now k
+            ∙ (told_last log opened (Opened j) came k ∙ opened_other j k (told k log) ne)))
+            (a.each k l (sym (get_or-set_other s.links j k new None ne) ∙ is)));
+        is_told = settles.is_told (is_told a.is_told.left);
+      };
+      closed = λ start v told0. goes_then
+          (further opened mid (WantsLinks wanted) (goes_one (Opened j) tt came) tt now)
+          (settles.closed start (serves start v) (is_told told0.left));
+    }
+
+pub opened_in : {s0 s t : ServerState} (same : s0 ≡ s) (j : ℕ) → j < length s0.links → (l : LinkState) → IsSound s
+    → get_or s.links j None ≡ None → IsNew l.session → l.pending ≡ [] → l.place ≡ 0
+    → Fits s.intake.feed l.session.state → {log opened mid last : List Happening} {wanted : Bool}
+    → opened ≡ log ++ Opened j ∷ [] → mid ≡ opened ++ WantsLinks wanted ∷ []
+    → wanted ≡ (not s0.is_ended && has_free (set s0.links j (Some l)))
+    → Settles j (record s0 { links = set s0.links j (Some l) }) t mid last → Tends s t log last
+opened_in {s0} {s} {t} same j lt l sound free fresh none begins fits {log} {opened} {mid} {last} {wanted} came now is
+    settles =
+    subst (λ (x : ServerState). Tends x t log last) same
+    (opened_tends s0 j (Some l) t log opened mid last lt
+    (subst (λ (x : ServerState). get_or x.links j None ≡ None) (sym same) free) came
+    (now ∙ ap (λ b. opened ++ WantsLinks b ∷ []) is)
+    (λ start v. (keeps_quiet (WantsLinks wanted) refl (λ k. refl) now
+    (opened_keeps {s0 = s0} {s = s0} refl j lt (Some l) {log = log} {last = opened} (sound_in same sound) l refl
+    (subst (λ (x : ServerState). get_or x.links j None ≡ None) (sym same) free) fresh none begins
+    (subst (λ (x : ServerState). Fits x.intake.feed l.session.state) (sym same) fits) came)).serving start v) settles)
+
+-- a link that is gone was closed
+pub gone_tends : (s t : ServerState) (j : ℕ) (log last earlier : List Happening) → j < length s.links
+    → log ≡ earlier ++ Next (events.Gone j) ∷ [] → t ≡ record s { links = set s.links j None }
+    → last ≡ (log ++ Gone j ∷ []) ++ WantsLinks (not s.is_ended) ∷ [] → Tends s t log last
+gone_tends s t j log last earlier lt said is e =
+    subst (λ (x : ServerState). Tends s x log last) (sym is) (record {
+      awake = λ a. record {
+        each = λ k. gone_awake s j log last lt e k (λ ne. a.each k);
+        is_told = gone_told s j log last lt e a.is_told.left;
+      };
+      closed = λ start v told0. gone_goes s j log last lt e start (inl (earlier, said));
+    })
+
+-- The input brought bytes, and then all links were settled.
+pub input_tends : (s t : ServerState) (intake : IntakeState) (reads : ℕ) (bytes : List ℕ) (log mid last : List Happening)
+    → mid ≡ log ++ Input bytes ∷ []
+    → ((start : List Window) → IsServing start s log
+    → IsServing start (record { intake = intake; links = s.links; is_ended = s.is_ended; reads = reads }) mid)
+    → TendsAll (record { intake = intake; links = s.links; is_ended = s.is_ended; reads = reads }) t mid last
+    → Tends s t log last
+input_tends s t intake reads bytes log mid last now serves all =
+    let is_told : IsTold s log
+    → IsTold (record { intake = intake; links = s.links; is_ended = s.is_ended; reads = reads }) mid = λ x. record {
+      links = links_last log mid (Input bytes) now ∙ x.links;
+      left = left_last log mid (Input bytes) now ∙ x.left;
+    } in
+    record {
+      awake = λ a. all.awake (is_told a.is_told);
+      closed = λ start v x. goes_then (goes_one (Input bytes) tt now) (all.closed start (serves start v) (is_told x));
+    }
+
+-- It brought bytes that go no further.
+pub input_ends : (s x t : ServerState) (bytes : List ℕ) (log mid last : List Happening) → mid ≡ log ++ Input bytes ∷ []
+    → ((start : List Window) → IsServing start s log → IsServing start x mid) → TendsAnew x t mid last
+    → Tends s t log last
+input_ends s x t bytes log mid last now serves anew = record {
+  awake = λ a. anew.awake;
+  closed = λ start v told0. goes_then (goes_one (Input bytes) tt now) (anew.closed start (serves start v));
+}
+
+-- it is read no more
+pub tends_end : {s t : ServerState} {log last : List Happening} → TendsAnew (ended s) t log last → Tends s t log last
+tends_end {s} {t} {log} anew = record {
+  awake = λ a. anew.awake;
+  closed = λ start v told0. anew.closed start (ended_serving start s log v);
+}
+
+same_ended : {s0 s : ServerState} → s0 ≡ s → ended s0 ≡ ended s
+same_ended same = ap ended same
+
+-- the input is read no more, and no link is wanted
+module _ {log left mid last : List Happening} (went : left ≡ log ++ Left ∷ [])
+    (now : mid ≡ left ++ WantsLinks false ∷ []) where
+  pub end_closes : Closes mid last → Closes log last
+  end_closes c = closes_both log mid last (closes_both log left mid (closes_told log left Left tt went)
+      (closes_told left mid (WantsLinks false) tt now)) c
+
+  pub end_keeps : {s0 s t : ServerState} → s0 ≡ s → IsSound (ended s) → KeepsServing (ended s0) t mid last
+      → KeepsServing (ended s) t log last
+  end_keeps {s0} same sound x = keeps_from (same_ended same) refl
+      (keeps_both (keeps_quiet (WantsLinks false) refl (λ k. refl) now
+      (keeps_quiet Left refl (λ k. refl) went
+      (keeps_same (ended s0) log log refl (sound_in (same_ended same) sound)))) x)
+
+  pub anew_by : {s0 s t : ServerState} → s0 ≡ s → TendsAll (ended s0) t mid last → TendsAnew (ended s) t log last
+  anew_by {s0} same all =
+      let is_told : IsTold (ended s0) mid = record {
+        links = links_last left mid (WantsLinks false) now;
+        left = left_last left mid (WantsLinks false) now ∙ left_last log left Left went;
+      } in
+      record {
+        awake = all.awake is_told;
+        closed = λ start v. goes_then (further left mid (WantsLinks false) (goes_one Left tt went) tt now)
+            (all.closed start (quiet_serving start (ended s0) left mid (WantsLinks false) refl (λ k. refl) now
+            (quiet_serving start (ended s0) log left Left refl (λ k. refl) went
+            (subst (λ (x : ServerState). IsServing start x log) (sym (same_ended same)) v))) is_told);
+      }
+
+-- slots up to one were settled
+pub record HasSettled (s t : ServerState) (n : ℕ) (log last : List Happening) : Type 0 where
+  pub awake : IsTold s log → (k : ℕ) → k < n → IsAwakeIn t last k
+  pub is_told : IsTold s log → IsTold t last
+  pub closed : (start : List Window) → IsServing start s log → IsTold s log → Goes (IsClosedRightly start) log last
+
+pub settled_none : (s : ServerState) (log : List Happening) → HasSettled s s 0 log log
+settled_none s log = record {
+  awake = λ t k lt. absurd (omega (arith, lt));
+  is_told = λ t. t;
+  closed = λ start v t. goes_same refl;
+}
+
+pub settled_more : (s t u : ServerState) (n : ℕ) (log mid last : List Happening) → KeepsServing s t log mid
+    → HasSettled s t n log mid → Settles n t u mid last → HasSettled s u (n + 1) log last
+settled_more s t u n log mid last keeps h settles = record {
+  awake = λ told0 k lt. settles.links k (λ ne. h.awake told0 k (omega (arith, lt, ne)));
+  is_told = λ told0. settles.is_told (h.is_told told0);
+  closed = λ start v told0. goes_then (h.closed start v told0)
+      (settles.closed start (keeps.serving start v) (h.is_told told0));
+}
+
+pub settled_all : (s t : ServerState) (n : ℕ) (log last : List Happening) → length t.links ≤ n
+    → HasSettled s t n log last → TendsAll s t log last
+settled_all s t n log last le h = record {
+  awake = λ told0. record {
+    each = λ k. elim (leb_tells n k) [
+      | inr lt ↦ h.awake told0 k (omega (arith, lt.1))
+      | inl ge ↦ λ l is. absurd (let bad : None ≡ Some l = sym (get_or_past t.links k None (omega (arith, le, ge.1))) ∙ is in cc bad)
+    ];
+    is_told = h.is_told told0;
+  };
+  closed = h.closed;
+}

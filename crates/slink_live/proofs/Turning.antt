@@ -1,0 +1,76 @@
+-- Whose turn it is.
+use Rattle.std.proofs.Common.{◌≡◌, ◌≢◌, ℕ, ◌+◌, ◌≤◌, ◌<◌, ◌⊎◌, ◌∙◌, ap, subst, refl, sym, arith, inl, inr}
+use Rattle.std.proofs.Common.{List, ◌++◌, length, length-append}
+use Rattle.std.proofs.lemmas.Bool.Decides.{eqb_tells}
+use Rattle.slink_feed.specs.declared.session.Sent.TheVariants as Sents
+use Rattle.slink_feed.specs.Session.{IsWaiting, State, sent, sent_bytes}
+use Rattle.slink_feed.specs.Window.{Window}
+use Rattle.slink_live.specs.Served.{LinkState}
+use Rattle.slink_live.specs.Story.{Asks, IsEarlier, IsTurn, none_called, one_called}
+use Rattle.slink_live.specs.private.Calling.{Gives}
+
+-- nothing is sent of a place
+abbrev pub Waits : List Window → State → ℕ → Type 0
+Waits feed s j = sent feed s j ≡ (s, Sents.Wait)
+
+-- one more of some that stand one behind another
+pub waits_more : (feed : List Window) (s : State) (from k : ℕ) → ((j : ℕ) → from ≤ j → j < k → Waits feed s j)
+    → Waits feed s k → (j : ℕ) → from ≤ j → j < k + 1 → Waits feed s j
+waits_more feed s from k before here j least lt = elim (eqb_tells j k) [
+  | inl same ↦ subst (Waits feed s) (sym same.1) here
+  | inr other ↦ before j least (omega (arith, lt, other.1))
+]
+
+-- from the place whose turn it is on
+pub turn_behind : (feed : List Window) (s : State) (place k : ℕ) → place ≤ k → k < length feed
+    → ((j : ℕ) → place ≤ j → j < k → Waits feed s j) → ¬ (Waits feed s k) → IsTurn feed s place k
+turn_behind feed s place k behind lt waits sends = record {
+  within = lt;
+  sends = sends;
+  first = λ j within earlier. elim earlier [
+    | inl side ↦ waits j side.0 side.1
+    | inr (inl wrong) ↦ absurd (omega (arith, behind, wrong.0))
+    | inr (inr wrong) ↦ absurd (omega (arith, behind, wrong.0))
+  ];
+}
+
+-- before it, once all from it on wait
+pub turn_before : (feed : List Window) (s : State) (place k : ℕ) → k < place → k < length feed
+    → ((j : ℕ) → place ≤ j → j < length feed → Waits feed s j) → ((j : ℕ) → j < k → Waits feed s j)
+    → ¬ (Waits feed s k) → IsTurn feed s place k
+turn_before feed s place k before lt behind waits sends = record {
+  within = lt;
+  sends = sends;
+  first = λ j within earlier. elim earlier [
+    | inl wrong ↦ absurd (omega (arith, before, wrong.0, wrong.1))
+    | inr (inl other) ↦ behind j other.1 within
+    | inr (inr side) ↦ waits j side.1
+  ];
+}
+
+-- what the place whose turn it is gives
+gives_asks : (feed : List Window) (old new : LinkState) (k : ℕ) → Gives feed k old new
+    → IsTurn feed old.session.state old.place k
+    → Asks feed old.session old.place old.pending new.session new.place new.pending
+gives_asks feed old new k g turn =
+    subst (λ (n : ℕ). Asks feed old.session old.place old.pending new.session n new.pending) (sym g.place)
+    (one_called old.session new.session old.place k g.answer old.pending new.pending none_called turn g.given g.held
+    g.pending)
+
+module _ (feed : List Window) (first now new : LinkState) (n k : ℕ) (begins : n ≡ first.place) (same : now ≡ first)
+    (g : Gives feed k now new) (lt : k < length feed) where
+  given : Gives feed k first new
+  given = subst (λ (x : LinkState). Gives feed k x new) same g
+
+  pub asked_behind : n ≤ k → ((j : ℕ) → n ≤ j → j < k → Waits feed first.session.state j)
+      → Asks feed first.session first.place first.pending new.session new.place new.pending
+  asked_behind behind waits = gives_asks feed first new k given
+      (subst (λ (p : ℕ). IsTurn feed first.session.state p k) begins
+      (turn_behind feed first.session.state n k behind lt waits given.sends))
+
+  pub asked_before : k < n → ((j : ℕ) → n ≤ j → j < length feed → Waits feed first.session.state j)
+      → ((j : ℕ) → j < k → Waits feed first.session.state j)
+      → Asks feed first.session first.place first.pending new.session new.place new.pending
+  asked_before before behind waits = gives_asks feed first new k given
+      (subst (λ (p : ℕ). IsTurn feed first.session.state p k) begins
+      (turn_before feed first.session.state n k before lt behind waits given.sends))

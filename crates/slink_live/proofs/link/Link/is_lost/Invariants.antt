@@ -1,0 +1,9 @@
+use Rattle.std.proofs.Common.{◌≡◌, ◌<◌, ◌≤◌, ℕ, length}
+use Rattle.slink_feed.specs.declared.session.Phase.TheVariants.{Streaming}
+use Rattle.slink_live.specs.Awake.{HasLeft}
+use Rattle.slink_live.proofs.link.Link.is_lost.Given as goal
+
+abbrev pub invariant-loop-k : goal.invariant-loop-k
+invariant-loop-k l = record {
+  none : (j : ℕ) → j < l.k → ¬ (HasLeft l.feed l.self.session.state.grants j);
+}

@@ -1,0 +1,65 @@
+use Rattle.std.proofs.Common.{◌∙◌, ◌<◌, ◌++◌, ◌∷◌, [], List, Some, ap, arith, length, length-set, refl, subst, sym}
+use Rattle.slink_live.specs.Happening.{Happening, Missed, Opened, WantsLinks}
+use Rattle.slink_live.specs.Served.{ServerState}
+use Rattle.slink_live.specs.Turns.{misses, takes}
+use Rattle.slink_live.proofs.Settling.{missed_tends, opened_in}
+use Rattle.slink_live.proofs.Slots.{closes_both, closes_none, closes_told}
+use Rattle.slink_live.proofs.Steps.{keeps_both, keeps_quiet, keeps_same, opened_keeps}
+use Rattle.slink_live.proofs.server.Server.take.Goals as goal
+
+pub settle-requires : goal.settle-requires
+settle-requires g c = record {
+  sound = (opened_keeps c.self.view_is c.args.slot
+      (subst (λ (x : ServerState). c.args.slot < length x.links) (sym c.self.view_is) c.requires.free.within) (Some c.new.result)
+      {log = (g.R.Ready.log c.args.ready.now)} c.requires.sound c.new.result refl c.requires.free.free
+      c.new.ensures.session c.new.ensures.pending c.new.ensures.place
+      (c.new.ensures.fits c.args.self.now.intake.feed) refl).sound;
+  within = omega (
+    arith,
+    (subst (λ (x : ServerState). c.args.slot < length x.links) (sym c.self.view_is) c.requires.free.within),
+    length-set c.self.inside.links.items c.args.slot (Some c.new.result),
+  );
+}
+
+pub returns-then-accept-clause-keeps : goal.returns-then-accept-clause-keeps
+returns-then-accept-clause-keeps g c =
+    keeps_both (keeps_quiet (WantsLinks c.wants_links.result) refl (λ k. refl) c.wants_links-then-accept.ensures.log
+    (opened_keeps c.self.view_is c.args.slot
+    (subst (λ (x : ServerState). c.args.slot < length x.links) (sym c.self.view_is) c.requires.free.within) (Some c.new.result)
+    c.requires.sound c.new.result refl c.requires.free.free c.new.ensures.session c.new.ensures.pending
+    c.new.ensures.place (c.new.ensures.fits c.args.self.now.intake.feed) c.if-accept.ensures.log))
+    c.settle.ensures.keeps
+
+pub returns-then-accept-clause-called : goal.returns-then-accept-clause-called
+returns-then-accept-clause-called g c =
+    let opened : List Happening = (g.R.Ready.log c.args.ready.now) ++ Opened c.args.slot ∷ [] in
+    takes c.args.slot c.requires.reads c.requires.free
+    (closes_both opened (g.R.Ready.log c.wants_links-then-accept.new.self) (g.R.Ready.log c.settle.new.ready)
+    (closes_told opened (g.R.Ready.log c.wants_links-then-accept.new.self) (WantsLinks c.wants_links.result) tt
+    (c.wants_links-then-accept.ensures.log
+    ∙ ap (λ (x : List Happening). x ++ WantsLinks c.wants_links.result ∷ []) c.if-accept.ensures.log))
+    c.settle.ensures.closes)
+
+pub returns-then-accept-clause-tends : goal.returns-then-accept-clause-tends
+returns-then-accept-clause-tends g c =
+    opened_in c.self.view_is c.args.slot
+    (subst (λ (x : ServerState). c.args.slot < length x.links) (sym c.self.view_is) c.requires.free.within)
+    c.new.result c.requires.sound c.requires.free.free c.new.ensures.session c.new.ensures.pending
+    c.new.ensures.place (c.new.ensures.fits c.args.self.now.intake.feed) c.if-accept.ensures.log
+    c.wants_links-then-accept.ensures.log c.wants_links.ensures c.settle.ensures.settles
+
+pub returns-else-accept-clause-keeps : goal.returns-else-accept-clause-keeps
+returns-else-accept-clause-keeps g c =
+    keeps_quiet (Missed c.args.slot) refl (λ k. refl) c.if-accept.ensures.log
+    (keeps_same c.args.self.now (g.R.Ready.log c.args.ready.now) (g.R.Ready.log c.args.ready.now) refl c.requires.sound)
+
+pub returns-else-accept-clause-called : goal.returns-else-accept-clause-called
+returns-else-accept-clause-called g c =
+    misses c.args.slot c.requires.reads c.requires.free
+    (closes_none ((g.R.Ready.log c.args.ready.now) ++ Missed c.args.slot ∷ []) (g.R.Ready.log c.accept.new.self)
+    c.if-accept.ensures.log)
+
+pub returns-else-accept-clause-tends : goal.returns-else-accept-clause-tends
+returns-else-accept-clause-tends g c =
+    missed_tends c.args.self.now c.args.slot (g.R.Ready.log c.args.ready.now) (g.R.Ready.log c.accept.new.self)
+    c.if-accept.ensures.log

@@ -1,0 +1,8 @@
+use Rattle.std.proofs.Common.{◌≡◌, ◌∙◌, sym}
+use Rattle.slink_live.proofs.Tending.{wants_if}
+use Rattle.slink_live.proofs.server.Server.wants_links.Goals as goal
+
+pub returns : goal.returns
+returns c = c.is_some.ensures
+    ∙ wants_if c.args.self.now.is_ended c.args.self.now.links c.free_slot.result c.free_slot.ensures.some
+    c.free_slot.ensures.reads c.free_slot.ensures.none

@@ -1,0 +1,107 @@
+-- What is owed to a link while the server waits, and when a link is closed and taken.
+use Rattle.std.specs.Prelude.{◌≡◌, ◌≢◌, ◌↔◌, ◌⊎◌, ◌+◌, ◌<◌, ◌≤◌, ℕ, Bool, true, false, not, ◌&&◌, List, [], ◌∷◌, ◌++◌}
+use Rattle.std.specs.Prelude.{Option, Some, None, get_or, length, slice_get}
+use Rattle.slink_feed.specs.declared.grant.Grant.{Grant}
+use Rattle.slink_feed.specs.declared.session.Phase.TheVariants.{Streaming, Closed}
+use Rattle.slink_feed.specs.Session.{Grants, IsWaiting, State, grant_at}
+use Rattle.slink_feed.specs.Window.{Window, oldest_of}
+use Rattle.slink_live.specs.declared.ready.Wishes.{Wishes}
+use Rattle.slink_live.specs.declared.ready.Event.TheVariants as events
+use Rattle.slink_live.specs.Happening.{Happening, Gone, Next, is_left, told, wants_links}
+use Rattle.slink_live.specs.Served.{IsServing, LinkState, ServerState}
+
+-- The next record of a place is no longer in its ring.
+pub record HasLeft (feed : List Window) (grants : Grants) (k : ℕ) : Type 0 where
+  pub ring : Window
+  pub grant : Grant
+  pub there : slice_get feed k ≡ Some ring
+  pub granted : grant_at grants k ≡ Some grant
+  pub left : grant.position < oldest_of ring
+
+-- It streams, and the next record of a place of its is no longer in the ring.
+pub record IsLost (feed : List Window) (s : State) : Type 0 where
+  pub streams : s.phase ≡ Streaming
+  pub k : ℕ
+  pub place : HasLeft feed s.grants k
+
+-- Its session is over, and nothing is pending.
+pub record IsOver (l : LinkState) : Type 0 where
+  pub closed : l.session.state.phase ≡ Closed
+  pub none : l.pending ≡ []
+
+-- It streams, nothing is due, and nothing is pending.
+pub record HasAll (feed : List Window) (l : LinkState) : Type 0 where
+  pub streams : l.session.state.phase ≡ Streaming
+  pub waits : IsWaiting feed l.session.state
+  pub none : l.pending ≡ []
+
+-- Why a link is closed, but for that the device says that it is gone. One that still shakes hands is not.
+pub data IsClosable (feed : List Window) (is_ended : Bool) (l : LinkState) : Type 0 where
+  is_over : IsOver l → IsClosable feed is_ended l
+  is_lost : IsLost feed l.session.state → IsClosable feed is_ended l
+  has_all : is_ended ≡ true → HasAll feed l → IsClosable feed is_ended l
+
+-- There is room for the replies to a byte of a link.
+abbrev pub HasRoom : LinkState → Type 0
+HasRoom l = length l.pending + 35 ≤ 6240
+
+-- It has bytes pending, and the device was told that it wants to write; or nothing more is due to it.
+pub data Sleeps (feed : List Window) (l : LinkState) (wishes : Wishes) : Type 0 where
+  writes : l.pending ≢ [] → wishes.writes ≡ true → Sleeps feed l wishes
+  waits : l.pending ≡ [] → wishes.writes ≡ false → IsWaiting feed l.session.state → Sleeps feed l wishes
+
+-- A link stands by right, and the device was told what is wanted of it.
+pub record IsSettled (feed : List Window) (is_ended : Bool) (l : LinkState) (wishes : Wishes) : Type 0 where
+  pub stands : ¬ (IsClosable feed is_ended l)
+  pub sleeps : Sleeps feed l wishes
+  pub reads : (wishes.reads ≡ true) ↔ HasRoom l
+  pub streams : (wishes.is_streaming ≡ true) ↔ (l.session.state.phase ≡ Streaming)
+
+-- So it is with the link in a slot, where one stands.
+abbrev pub IsAwakeIn : ServerState → List Happening → ℕ → Type 0
+IsAwakeIn s log k = (l : LinkState) → get_or s.links k None ≡ Some l
+    → IsSettled s.intake.feed s.is_ended l (told k log)
+
+-- whether a slot is free
+abbrev pub has_free : List (Option LinkState) → Bool
+has_free [] = false
+has_free (None ∷ links) = true
+has_free (Some l ∷ links) = has_free links
+
+-- The device was told that links are wanted exactly where the input is read and a slot is free, and that the input is
+-- read no more exactly where that is so.
+pub record IsTold (s : ServerState) (log : List Happening) : Type 0 where
+  pub links : wants_links log ≡ (not s.is_ended && has_free s.links)
+  pub left : is_left log ≡ s.is_ended
+
+-- No link sleeps.
+pub record IsAwake (s : ServerState) (log : List Happening) : Type 0 where
+  pub each : (k : ℕ) → IsAwakeIn s log k
+  pub is_told : IsTold s log
+
+-- The slot is the first that is free.
+pub record IsFirstFree (links : List (Option LinkState)) (k : ℕ) : Type 0 where
+  pub within : k < length links
+  pub free : get_or links k None ≡ None
+  pub first : (j : ℕ) → j < k → get_or links j None ≢ None
+
+-- Something happened one after another, and each time this held of what had happened and of it.
+pub data Goes (P : List Happening → Happening → Type 0) (first : List Happening) : List Happening → Type 0 where
+  nothing : Goes P first first
+  further : (before now : List Happening) (h : Happening) → Goes P first before → P before h
+      → now ≡ before ++ h ∷ [] → Goes P first now
+
+-- The link in a slot was closable, as the server stood by then.
+pub record WasClosable (start : List Window) (before : List Happening) (k : ℕ) : Type 0 where
+  pub server : ServerState
+  pub link : LinkState
+  pub serving : IsServing start server before
+  pub stood : get_or server.links k None ≡ Some link
+  pub left : is_left before ≡ server.is_ended
+  pub closable : IsClosable server.intake.feed server.is_ended link
+
+-- A link is closed where the device said that it is gone, or it was closable.
+abbrev pub IsClosedRightly : List Window → List Happening → Happening → Type 0
+IsClosedRightly start before (Gone k) =
+    ((earlier : List Happening) × (before ≡ earlier ++ Next (events.Gone k) ∷ [])) ⊎ WasClosable start before k
+IsClosedRightly start before _ = Unit {0}
