@@ -271,10 +271,10 @@ class Joiner:
             self.joint.fault = found[2]
 
 
-def join(text: bytes, part: bool = False, each: bool = False, past_faults: bool = False,
-         fails: bool = False) -> tuple[int, bytes, bytes]:
-    """What `join` does over parts, one behind another: its status, its output and its standard error. Where the reader
-    `fails`, this text is all that it brought."""
+def join(text: bytes, part: bool = False, each: bool = False, past_faults: bool = False, fails: bool = False,
+         expect: Optional[int] = None) -> tuple[int, bytes, bytes]:
+    """What `join` does over parts, one behind another, of which so many may be expected: its status, its output and its
+    standard error. Where the reader `fails`, this text is all that it brought."""
     joiner = Joiner(past_faults)
     *lines, rest = text.decode("latin-1").split("\n")
     refused = None
@@ -289,6 +289,8 @@ def join(text: bytes, part: bool = False, each: bool = False, past_faults: bool 
             refused = f"mseed: fault at {len(text)} read"
         elif rest or joiner.state == "within":
             refused = f"mseed: bad part at line {len(lines) + 1}"
+        elif expect is not None and joiner.parts != expect:
+            refused = f"mseed: {joiner.parts} parts, not {expect}"
     borders = text_of(joiner.borders) if each else b""
     if refused:
         return 2, borders, text_of([*joiner.reported, refused])

@@ -2,7 +2,7 @@
 
 from __future__ import annotations
 
-from typing import Iterator, Sequence
+from typing import Iterator, List, Sequence, Tuple
 
 from driver.program import SAMPLES
 from driver.rows import Cases, Row, both
@@ -15,6 +15,9 @@ BHN = "XX_STA__BHN"
 NONE = "continuous 2024-01-01T00:00:00.000000 rate 20/1"
 SECOND = 10**6
 FIRST_INSTANT, LAST_INSTANT = -5364662400000000, 7258118399999999
+# The most parts that can be expected, and what the border of the sample with a gap in two is told by.
+MOST_PARTS = 999999999
+GAP = "record 2 start 2024-01-01T00:00:00.825001 gap 25001\n"
 
 
 def channel(key: str = KEY, records: int = 1, samples: int = 16, head: str = f"1 0 {START} 20/1",
@@ -374,10 +377,92 @@ def each_behind_faults() -> Cases:
                      f"{FOUND}records 2 channels 1\nfaults 1\n", f"mseed: part 2 {cut}\n", past)
 
 
+# What is written of some parts with one of these forms, and of the borders before it.
+Written = Tuple[List[str], str, str]
+
+
+def expecting(parts: Sequence[str], more: Sequence[str], status: int, written: Sequence[Written],
+              errors: str = "") -> Iterator[Row]:
+    """With `--expect` the parts are counted. Where they are as many, all is as without it; where they aren't, nothing
+    is written but the lines of the borders, and both numbers are told behind the faults."""
+    count, text = len(parts), "".join(parts).encode()
+    for expected in sorted({1, count - 1, count, count + 1, 10 * count, MOST_PARTS} - {-1, 0}):
+        refused = "" if expected == count else f"mseed: {count} parts, not {expected}\n"
+        for form, whole, borders in written:
+            words = ["join", *form, *more, "--expect", str(expected)]
+            out = borders if refused else borders + whole
+            yield from both(Row(f"{count} parts: {' '.join(words)}", text, words, 2 if refused else status,
+                                out.encode(), (errors + refused).encode()))
+
+
+def counted() -> Cases:
+    """None, one, two and more parts, those that aren't counted in too."""
+    def of(text: str, joint: str, borders: str = "") -> list[Written]:
+        return [([], text, ""), (["--part"], joint, ""), (["--each"], text, borders)]
+
+    past, cut = ["--past-faults"], "fault at 128 truncated 10"
+    faulty, passed = part(OF_FIRST, ONE, cut), f"mseed: part 1 {cut}\n"
+    yield from expecting([], [], 0, of("records 0 channels 0\n", NOTHING))
+    yield from expecting([], past, 0, of("records 0 channels 0\n", NOTHING))
+    yield from expecting([NOTHING] * 3, [], 0, of("records 0 channels 0\n", NOTHING))
+    yield from expecting([FIRST], [], 0, of(f"{BHZ} {NONE} records 1 samples 16\nrecords 1 channels 1\n", FIRST))
+    joint, border = part(OF_BOTH, counts(2, 256)), f"128 {BHZ} {GAP}"
+    gapped = of(f"{FOUND}records 2 channels 1\n", joint, border)
+    yield from expecting([FIRST, LATE], [], 1, gapped)
+    yield from expecting([FIRST, LATE], past, 1, gapped)
+    yield from expecting([FIRST, NOTHING, LATE], [], 1, gapped)
+    yield from expecting([joint], [], 1, of(f"{FOUND}records 2 channels 1\n", joint))
+    # Behind a fault parts are counted, though nothing in them is.
+    ended = of(f"{BHZ} {NONE} records 1 samples 16\nrecords 1 channels 1\n{cut}\n", faulty)
+    yield from expecting([faulty], [], 2, ended)
+    yield from expecting([faulty, LATE], [], 2, ended)
+    yield from expecting([faulty, LATE, faulty, NOTHING], [], 2, ended)
+    yield from expecting([faulty, LATE], past, 2,
+                         of(f"{FOUND}records 2 channels 1\nfaults 1\n", part(OF_BOTH, counts(2, 256), "faults 1"),
+                            border), passed)
+    yield from expecting([NEXT] * 40, [], 1, of(*overlaps(40)))
+
+
+def overlaps(count: int) -> tuple[str, str, str]:
+    """The audit of so many parts of the same record, their joint part, and the lines of their borders."""
+    at, why = START + 800000, "overlap 800000"
+    borders = "".join(f"{128 * number} {BHZ} record {number + 1} start 2024-01-01T00:00:00.800000 {why}\n"
+                      for number in range(1, count))
+    joint = channel(records=count, samples=16 * count, head=f"1 0 {at} 20/1", tail=f"{at} 16 20/1 none",
+                    findings=f"{count - 1} first 2 128 {why}")
+    return (f"{BHZ} broken findings {count - 1} first record 2 offset 128 {why}\nrecords {count} channels 1\n",
+            part(joint, counts(count, 128 * count)), borders)
+
+
+def counted_behind_others() -> Cases:
+    """A bad line comes before the number of parts, and a number is read as those of lengths are."""
+    for words in ([], ["--part"], ["--each"], ["--past-faults"], ["--each", "--past-faults"]):
+        borders = f"128 {BHZ} {GAP}".encode() if "--each" in words else b""
+        for name, behind, error in (("a bad line", "none\n", "bad part at line 7"),
+                                    ("no counts", "mseed part 1\n", "bad part at line 8"),
+                                    ("no end of a line", "mseed part 1", "bad part at line 7"),
+                                    ("a sum that passes", part(counts(2**63 - 1, 0)), "bad part at line 8"),
+                                    ("a part more", NOTHING, "3 parts, not 5")):
+            yield Row(f"{name}, and other parts than expected: join {' '.join(words)}",
+                      f"{FIRST}{LATE}{behind}".encode(), ["join", *words, "--expect", "5"], 2, borders,
+                      f"mseed: {error}\n".encode())
+    text = f"{FIRST}{LATE}".encode()
+    for number in ("2", "02", "000000002"):
+        for given in (["join", "--expect", number], ["--expect", number, "join"], ["join", f"--expect={number}"]):
+            yield Row(" ".join(given), text, given, 1, f"{FOUND}records 2 channels 1\n".encode())
+    for number in ("", "0", "000000000", "1000000000", "0000000002", "9999999999", "18446744073709551618", "+2", "2.0",
+                   "0x2", "2 ", " 2", "1e1", "two", "--", "\u0662", "-1"):
+        yield Row(f"join, of which '{number}' are expected", text, ["join", f"--expect={number}"], 3, b"", BAD_VALUE,
+                  left=len(text))
+
+
 def words() -> Cases:
     """Which words go together, and which are refused. Nothing is read then."""
     text = f"{FIRST}{LATE}".encode()
     for given in ("join --each --part", "join --part --each", "--each join --part", "join --each --part --past-faults",
+                  "join --each --part --expect 2", "audit --expect 2", "audit --part --expect 2", "show --expect 2",
+                  "repack --expect 2", "--expect 2", "serve --port 1 --station STA --network XX --expect 2",
+                  "fetch --port 1 --station STA --network XX --expect 2",
                   "audit --past-faults", "audit --part --past-faults", "audit --each --past-faults", "show --part",
                   "show --past-faults", "repack --part", "repack --past-faults", "--part", "--past-faults", "Join",
                   "join join", "join audit", "audit join", "join XX_STB", "join --length 512", "join --encoding int32",
@@ -390,6 +475,7 @@ def words() -> Cases:
         yield Row(given, text, given.split(), 3, b"", BAD_VALUE, left=len(text))
     yield Row("join and a word that is not UTF-8", text, ["join", b"\xff"], 3, b"", BAD_VALUE, left=len(text))
     for given, about in (("join --part --part", "part"), ("join --each --each", "each"),
+                         ("join --expect 2 --expect 2", "expect"), ("join --expect", "expect"),
                          ("join --past-faults --past-faults", "past-faults"), ("join --past-faults=1", "past-faults")):
         yield Row(given, text, given.split(), 3, b"", About(about), left=len(text))
     lines, joint = f"{FOUND}records 2 channels 1\n", part(OF_BOTH, counts(2, 256))
@@ -397,12 +483,12 @@ def words() -> Cases:
     for given, out in (("--part join", joint), ("--past-faults join", lines), ("--past-faults --part join", joint),
                        ("--each join", each), ("join --each", each), ("--past-faults join --each", each)):
         yield Row(given, text, given.split(), 1, out.encode())
-    for word in ("join", "--part", "--past-faults"):
+    for word in ("join", "--part", "--past-faults", "--expect"):
         yield Row(f"help: {word}", b"", ["--help"], 3, b"", About(word))
 
 
 def rows() -> Cases:
     """All of them."""
     for some in (worked, borders, far_borders, firsts, channels, faults, past_faults, bad_behind_borders, each_border,
-                 each_behind_faults, words):
+                 each_behind_faults, counted, counted_behind_others, words):
         yield from some()

@@ -130,7 +130,8 @@ def faulty_archives(seed: int) -> Seen:
                  *past(run, source, name, archives, parts)]
         for words in ("--part", "--past-faults --part"):
             wanted = Result(*join(text, "--part" in words, past_faults="--past-faults" in words))
-            facts.append(Fact(f"{name}: join {words}", wanted, run(f"join {words}", text)))
+            for more in ("", f" --expect {len(parts)}"):
+                facts.append(Fact(f"{name}: join {words}{more}", wanted, run(f"join {words}{more}", text)))
     kinds = {"a fault in the middle": end < len(parts), "several faults": sum(are_faulty) > 1,
              "no fault": not any(are_faulty)}
     return facts, [kind for kind, is_so in kinds.items() if is_so]

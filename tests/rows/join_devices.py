@@ -69,7 +69,14 @@ def inputs(failing: str) -> Cases:
         error = f"mseed: fault at {size} read\n" if size < end else "mseed: bad part at line 8\n"
         yield from reads(failing, BAD, ["join"], size, "", error)
         yield from reads(failing, BAD, ["join", "--each"], size, BORDER, error)
+    # A failed read comes before the number of parts.
+    for size in range(len(GAPPED) + 1):
+        fault = f"mseed: fault at {size} read\n"
+        yield from reads(failing, GAPPED, ["join", "--each", "--expect", "3"], size, BORDER if size >= found else "",
+                         fault)
     yield Row("an input that can't be read", ROOT, ["join"], 2, b"", b"mseed: fault at 0 read\n")
+    yield Row("an input that can't be read, of which a part is expected", ROOT, ["join", "--expect", "1"], 2, b"",
+              b"mseed: fault at 0 read\n")
 
 
 def outputs(failing: str) -> Cases:
@@ -94,10 +101,15 @@ def outputs(failing: str) -> Cases:
     # What is found before a bad line is written before it.
     yield Row("a full output, and a border before a bad line", BAD.encode(), ["join", "--each"], 2, b"", WRITE_FAILED,
               out_to="/dev/full")
-    for room in range(len(BORDER) + 1):
-        error = WRITE_FAILED if room < len(BORDER) else b"mseed: bad part at line 8\n"
-        yield Row(f"join --each of a bad line onto an output that takes {room} bytes", BAD.encode(), ["join", "--each"],
-                  2, BORDER[:room].encode(), error, env=preloaded(failing, WRITE_ROOM=room))
+    for text, more, last in ((BAD, [], b"mseed: bad part at line 8\n"),
+                             (GAPPED, ["--expect", "3"], b"mseed: 2 parts, not 3\n")):
+        words = ["join", "--each", *more]
+        for room in range(len(BORDER) + 1):
+            error = WRITE_FAILED if room < len(BORDER) else last
+            yield Row(f"{' '.join(words)} of {len(text)} bytes onto an output that takes {room}", text.encode(), words,
+                      2, BORDER[:room].encode(), error, env=preloaded(failing, WRITE_ROOM=room))
+    yield Row("a full output, and too few parts", GAPPED.encode(), ["join", "--expect", "3"], 2, b"",
+              b"mseed: 2 parts, not 3\n", out_to="/dev/full")
 
 
 def errors(failing: str) -> Cases:
@@ -107,6 +119,8 @@ def errors(failing: str) -> Cases:
     for words, parts, out, lines in (([], BAD, "", bad),
                                      (["--past-faults", "--part"], FAULTY, past, reported),
                                      (["--past-faults", "--part"], FAULTY + "none\n", "", reported),
+                                     (["--expect", "1", "--past-faults"], FAULTY, "",
+                                      f"{reported}mseed: 2 parts, not 1\n"),
                                      (["--each"], BAD, BORDER, bad)):
         words = ["join", *words]
         for room in range(len(lines) + 1):
@@ -140,12 +154,14 @@ def refusals(refusing: str) -> Cases:
     two = part(channel(BHN_KEY), OF_FIRST, counts(2, 256))
     parts = (two + part(OF_LATE, ONE) + two.replace(str(START), str(LATER))).encode()
     for words, status in (([], 1), (["--part"], 1), (["--past-faults"], 1), (["--each"], 1),
-                          (["--part", "--past-faults"], 1), (["--each", "--part"], 3)):
+                          (["--part", "--past-faults"], 1), (["--expect", "3"], 1), (["--each", "--part"], 3)):
         words = ["join", *words]
         yield from refuses(" ".join(words), Row("", parts, words, status), refusing, "--each" in words)
     past, none = ["join", "--past-faults", "--part"], b"none\n"
     faulty, reported = FAULTY.encode(), "".join(REPORTED).encode()
     yield from tells(refusing, "a bad line", Row("", parts + none, ["join"], 2, b"", b"mseed: bad part at line 12\n"))
+    yield from tells(refusing, "too few parts", Row("", parts, ["join", "--expect", "4"], 2, b"",
+                                                    b"mseed: 3 parts, not 4\n"))
     joint = part(OF_BOTH, counts(2, 256), "faults 2").encode()
     yield from tells(refusing, "faults", Row("", faulty, past, 2, joint, reported))
     yield from tells(refusing, "faults and a bad line",

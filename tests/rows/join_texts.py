@@ -5,7 +5,7 @@ from __future__ import annotations
 
 from collections import Counter
 from random import Random
-from typing import Sequence
+from typing import Optional, Sequence
 
 from driver.batches import Batch
 from driver.rows import Cases, Fact, Result, holds
@@ -22,9 +22,9 @@ COUNT = 2000
 ALL = [*OPTIONS, ["--each"], ["--each", "--past-faults"]]
 
 
-def joined(text: bytes, words: Sequence[str]) -> Result:
+def joined(text: bytes, words: Sequence[str], expect: Optional[int] = None) -> Result:
     """What the second program says of parts, with these options."""
-    return Result(*join(text, "--part" in words, "--each" in words, "--past-faults" in words))
+    return Result(*join(text, "--part" in words, "--each" in words, "--past-faults" in words, expect=expect))
 
 
 # Parts of which each byte is changed.
@@ -101,6 +101,8 @@ def kinds_of(each: Result) -> list[str]:
     """What came of some parts of which each border was reported."""
     if b"bad part" in each.err:
         return ["refused", "refused behind a border"] if each.out else ["refused"]
+    if b" parts, not " in each.err:
+        return ["miscounted", "miscounted with a border"] if each.out else ["miscounted"]
     return ["accepted", "accepted with a fault"] if each.status == 2 else ["accepted"]
 
 
@@ -115,6 +117,11 @@ def at_random() -> Cases:
             kinds.update(kinds_of(joined(text, ["--each"])))
             for words in source.sample(ALL, 3):
                 yield Fact(f"{name}: join {' '.join(words)}", joined(text, words), batch.run(["join", *words], text))
+                expect = max(1, len(parts) + source.choice([-2, -1, 0, 0, 1, 10**6]))
+                wanted = joined(text, words, expect)
+                kinds.update(kinds_of(wanted))
+                yield Fact(f"{name}: join {' '.join(words)} --expect {expect}", wanted,
+                           batch.run(["join", *words, "--expect", str(expect)], text))
             groups = in_groups(source, parts)
             if not any(b"bad part" in joined(some, ["--part"]).err for some in [text, *groups]):
                 kinds.update(["joined by way of joint parts"])
@@ -122,7 +129,7 @@ def at_random() -> Cases:
                 for words in ([], ["--part"]):
                     yield Fact(f"{name}: join {' '.join(words)}, by way of {len(groups)} joint parts",
                                joined(text, words), batch.run(["join", *words], joint))
-    yield holds("the parts are of all kinds", len(kinds) == 5 and min(kinds.values()) > COUNT // 40, kinds)
+    yield holds("the parts are of all kinds", len(kinds) == 7 and min(kinds.values()) > COUNT // 40, kinds)
 
 
 def rows() -> Cases:

@@ -72,6 +72,7 @@ def of_either(command: str) -> Iterator[Row]:
     # Options of packing, and of the audit.
     yield bad(f"{command}: a length", *feed, "--length", "512")
     yield bad(f"{command}: each finding", *feed, "--each")
+    yield bad(f"{command}: a number of parts", *feed, "--expect", "2")
     yield bad(f"{command}: an encoding", *feed, "--encoding", "steim2")
 
 
@@ -155,6 +156,8 @@ def of_the_audit() -> Iterator[Row]:
     yield bad("show: each finding", "show", "--each")
     yield bad("repack: each finding", "repack", "--each")
     yield bad("each finding, and no command", "--each")
+    for command in ("audit", "show", "repack"):
+        yield bad(f"{command}: a number of parts", command, "--expect", "2")
     yield refused("audit: each finding twice", "each", "audit", "--each", "--each")
 
 
@@ -163,9 +166,9 @@ def parsed() -> Iterator[Row]:
     yield refused("serve: two ports", "port", *SERVE, "--port", "1")
     yield refused("fetch: two numbers to begin from", "from", *FETCH, "--from", "1", "--from", "1")
     yield refused("serve: a capacity without a number", "capacity", *SERVE, "--capacity")
-    for word in ("audit", "show", "repack", "serve", "fetch", "NET_STA", "--each", "--length", "--encoding", "--station",
-                 "--network", "--capacity", "--first", "--from", "--port", "--connections", "--tries", "--address",
-                 "--timeout"):
+    for word in ("audit", "join", "show", "repack", "serve", "fetch", "NET_STA", "--each", "--expect", "--length",
+                 "--encoding", "--station", "--network", "--capacity", "--first", "--from", "--port", "--connections",
+                 "--tries", "--address", "--timeout"):
         yield refused(f"help: {word}", word, "--help")
 
 

@@ -34,7 +34,15 @@ pub fn audit_of_parts<E: Sink>(
 ) -> Result<Vec<u8>, JoinsFault> {
     let mut source = Counted::new(parts);
     let mut sink = Counted::new(Vec::new(alloc));
-    join(alloc, Form::Audit, true, &mut source, &mut sink, reported)?;
+    join(
+        alloc,
+        Form::Audit,
+        true,
+        None,
+        &mut source,
+        &mut sink,
+        reported,
+    )?;
     Ok(sink.into_inner())
 }
 
@@ -46,7 +54,28 @@ pub fn audit_with_borders<E: Sink>(
 ) -> Result<Vec<u8>, JoinsFault> {
     let mut source = Counted::new(parts);
     let mut sink = Counted::new(Vec::new(alloc));
-    join_each(alloc, true, &mut source, &mut sink, reported)?;
+    join_each(alloc, true, None, &mut source, &mut sink, reported)?;
+    Ok(sink.into_inner())
+}
+
+/// The joint part of a slice's parts, which have to be as many as are expected: so none is lost unseen.
+pub fn part_of_all<E: Sink>(
+    alloc: Global,
+    parts: &[u8],
+    expected: u64,
+    reported: &mut E,
+) -> Result<Vec<u8>, JoinsFault> {
+    let mut source = Counted::new(parts);
+    let mut sink = Counted::new(Vec::new(alloc));
+    join(
+        alloc,
+        Form::Part,
+        false,
+        Some(expected),
+        &mut source,
+        &mut sink,
+        reported,
+    )?;
     Ok(sink.into_inner())
 }
 
@@ -58,7 +87,7 @@ pub fn records_of_parts<E: Sink>(
     reported: &mut E,
 ) -> Result<u64, PartsFault> {
     let mut source = Counted::new(parts);
-    let joint = read_parts(alloc, true, &mut source, reported)?;
+    let joint = read_parts(alloc, true, None, &mut source, reported)?;
     Ok(joint.part.records())
 }
 

@@ -4,7 +4,7 @@ use Rattle.mseed_stream.specs.Device.{BytesWritten}
 use Rattle.mseed_audit.specs.Text.{fault_line}
 use Rattle.mseed_join.specs.declared.joining.Joined.{Joined}
 use Rattle.mseed_join.specs.declared.joining.JoinsFault.{JoinsFault}
-use Rattle.mseed_join.specs.declared.joining.JoinsFault.TheVariants.{Line, Stream, Write, Memory}
+use Rattle.mseed_join.specs.declared.joining.JoinsFault.TheVariants.{Line, Count, Stream, Write, Memory}
 use Rattle.mseed.specs.Outcome.{Ends, no_memory, write_failed}
 
 -- the exit status: that of the audit, where its text or its part was written
@@ -14,6 +14,8 @@ joined_status joined = if joined.fault then 2 else if nat_lt 0 joined.broken the
 -- the line of a fault
 abbrev pub join_fault_text : JoinsFault → List ℕ
 join_fault_text (Line number) = codes "mseed: bad part at line " ++ decimal number ++ codes "\n"
+join_fault_text (Count parts expected) =
+    codes "mseed: " ++ decimal parts ++ codes " parts, not " ++ decimal expected ++ codes "\n"
 join_fault_text (Stream fault) = codes "mseed: " ++ fault_line fault
 join_fault_text Write = write_failed
 join_fault_text Memory = no_memory

@@ -78,14 +78,15 @@ HasCarriedOut AuditPart run old new = HasDone run (λ (outcome : Result Summary 
     IsPartOutcome outcome new.input old.output new.output) EndsAudit old.errors new.errors
 HasCarriedOut AuditPartEach run old new = HasDone run (λ (outcome : Result Summary EachFault).
     IsPartEachOutcome outcome new.input old.output new.output) EndsEach old.errors new.errors
-HasCarriedOut (Join past_faults) run old new = HasReported run (λ (outcome : Result Joined JoinsFault) reported.
-    IsJoinOutcome forms.Audit past_faults outcome new.input old.output new.output old.errors reported) EndsJoin
-    new.errors
-HasCarriedOut (JoinEach past_faults) run old new = HasReported run (λ (outcome : Result Joined JoinsFault) reported.
-    IsJoinEachOutcome past_faults outcome new.input old.output new.output old.errors reported) EndsJoin new.errors
-HasCarriedOut (JoinPart past_faults) run old new = HasReported run (λ (outcome : Result Joined JoinsFault) reported.
-    IsJoinOutcome forms.Part past_faults outcome new.input old.output new.output old.errors reported) EndsJoin
-    new.errors
+HasCarriedOut (Join joining) run old new = HasReported run (λ (outcome : Result Joined JoinsFault) reported.
+    IsJoinOutcome forms.Audit joining.past_faults joining.expected outcome new.input old.output new.output old.errors
+    reported) EndsJoin new.errors
+HasCarriedOut (JoinEach joining) run old new = HasReported run (λ (outcome : Result Joined JoinsFault) reported.
+    IsJoinEachOutcome joining.past_faults joining.expected outcome new.input old.output new.output old.errors
+    reported) EndsJoin new.errors
+HasCarriedOut (JoinPart joining) run old new = HasReported run (λ (outcome : Result Joined JoinsFault) reported.
+    IsJoinOutcome forms.Part joining.past_faults joining.expected outcome new.input old.output new.output old.errors
+    reported) EndsJoin new.errors
 HasCarriedOut Show run old new = HasDone run (λ (outcome : Result (Option StreamFault) ShowFault).
     IsShown outcome new.input old.output new.output) EndsShow old.errors new.errors
 HasCarriedOut (Repack packing) run old new = (options : Options) × (AreOptionsOf packing options

@@ -31,7 +31,8 @@ use std::alloc::{Allocator, Global};
 /// whole; with `--each` a line for each record with a finding comes first, and with `--part` the part of the archive is
 /// written instead of the text. `join` reads parts, one behind another, and writes the audit of their archives one
 /// behind another, or with `--part` their joint part; with `--each` a line for each border with a finding comes before
-/// the audit. `show` lists the records: status 0, or 2 where the input ended with a fault, which the listing names, or
+/// the audit, and where there aren't as many parts as `--expect` says, a line on `errors` says so in place of it:
+/// status 2. `show` lists the records: status 0, or 2 where the input ended with a fault, which the listing names, or
 /// where it couldn't be written whole. `repack` packs the archive anew: status 0, 1 where a channel is broken, and 2
 /// where the input is no whole archive, where a channel can't be packed, or where the output failed; `errors` takes a
 /// line that says so. `serve` fills a feed with the records of `input` and answers how it is to be served, or status 2
@@ -88,16 +89,32 @@ pub fn carry_out<A: Allocator + Copy, R: Source, W: Sink, E: Sink>(
         Request::AuditPartEach => {
             Run::Status(audited_each(audit_part_each(alloc, input, output), errors))
         }
-        Request::Join { past_faults } => {
-            let outcome = join(alloc, Form::Audit, past_faults, input, output, errors);
+        Request::Join(by) => {
+            let outcome = join(
+                alloc,
+                Form::Audit,
+                by.past_faults,
+                by.expected,
+                input,
+                output,
+                errors,
+            );
             Run::Status(joined(outcome, errors))
         }
-        Request::JoinEach { past_faults } => {
-            let outcome = join_each(alloc, past_faults, input, output, errors);
+        Request::JoinEach(by) => {
+            let outcome = join_each(alloc, by.past_faults, by.expected, input, output, errors);
             Run::Status(joined(outcome, errors))
         }
-        Request::JoinPart { past_faults } => {
-            let outcome = join(alloc, Form::Part, past_faults, input, output, errors);
+        Request::JoinPart(by) => {
+            let outcome = join(
+                alloc,
+                Form::Part,
+                by.past_faults,
+                by.expected,
+                input,
+                output,
+                errors,
+            );
             Run::Status(joined(outcome, errors))
         }
         Request::Show => Run::Status(shown(show(alloc, input, output), errors)),

@@ -82,10 +82,28 @@ pub fn refuse_to_join<E: Sink>(errors: &mut E, fault: &JoinsFault) -> u8
         JoinsFault::Line(number) => {
             tell_number(errors, b"mseed: bad part at line ", *number, b"\n")
         }
+        JoinsFault::Count(parts, expected) => tell_miscount(errors, *parts, *expected),
         JoinsFault::Stream(fault) => tell_fault(errors, fault),
         JoinsFault::Write => write_failed(errors),
         JoinsFault::Memory => refuse_memory(errors),
     }
+}
+
+/// Says how many parts were read, and that another number of them was expected.
+fn tell_miscount<E: Sink>(errors: &mut E, parts: u64, expected: u64) -> u8
+    ensures status { result ≡ 2 }
+    ensures reported { Tells (join_fault_text (JoinsFault.Count parts expected)) (E.written errors.old)
+        (E.written errors.new) }
+{
+    let line = line_of(&[
+        Words(b"mseed: "),
+        Count(parts),
+        Words(b" parts, not "),
+        Count(expected),
+        Words(b"\n"),
+    ]);
+    tell(errors, &line);
+    FAULT
 }
 
 /// Says with what fault the input ended.

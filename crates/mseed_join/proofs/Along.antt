@@ -4,10 +4,12 @@ use Rattle.std.proofs.Common.{true, false, Option, Ok, Err, refl, sym, ap, ◌�
 use Rattle.std.proofs.Common.{append_assoc, append-nil, length-append}
 use Rattle.std.proofs.Common.{take-append-drop, length-take}
 use Rattle.std.proofs.lemmas.List.{append_cancel_left, append_cancel_right}
+use Rattle.std.specs.Prelude.{Result}
 use Rattle.mseed_stream.specs.Device.{BytesRead, BytesWritten}
 use Rattle.mseed_join.specs.declared.line_reader.Ahead.{Ahead}
 use Rattle.mseed_join.specs.declared.line_reader.Ahead.TheVariants.{Line as WholeLine, TooLong, Unended, Nothing}
 use Rattle.mseed_join.specs.declared.joint.Joint.{Joint}
+use Rattle.mseed_join.specs.declared.joint.JointPart.{JointPart}
 use Rattle.mseed_join.specs.declared.joint.Place.{Place}
 use Rattle.mseed_join.specs.declared.joint.Place.TheVariants.{Start, Channels, Whole}
 use Rattle.mseed_join.specs.declared.joint.Reported.{Reported}
@@ -16,12 +18,12 @@ use Rattle.mseed_join.specs.Joined.{AreLines, Begins, HasNoEnd, IsBadLine, IsJoi
 use Rattle.mseed_join.specs.Lines.{Line, counts_line, header_line}
 use Rattle.mseed_join.specs.Reached.{AreLinesRead, Behind, Stage, IsStage, none, begun, whole, part_behind}
 use Rattle.mseed_join.specs.Reached.{AreReported, parts_at, passed_lines, start, text_behind}
-use Rattle.mseed_join.specs.ReadParts.{IsReadOutcome, IsStopped, written_of}
+use Rattle.mseed_join.specs.ReadParts.{AreExpected, IsReadOutcome, IsStopped, written_of}
 use Rattle.mseed_join.specs.declared.reader.PartsFault.{PartsFault}
-use Rattle.mseed_join.specs.declared.reader.PartsFault.TheVariants.{Line as BadLine, Stream, Memory}
+use Rattle.mseed_join.specs.declared.reader.PartsFault.TheVariants.{Line as BadLine, Count, Stream, Memory}
 use Rattle.mseed_join.specs.Written.{Written, Spells, channel_lines, part_text, texts}
-use Rattle.mseed_join.specs.private.Along.{HasEnded, IsAlong, IsBadBehind, IsFailedAt, IsNextStep, IsStoppedAt}
-use Rattle.mseed_join.specs.private.Along.{can_end, is_over}
+use Rattle.mseed_join.specs.private.Along.{HasEnded, IsAlong, IsBadBehind, IsFailedAt, IsFinished, IsNextStep}
+use Rattle.mseed_join.specs.private.Along.{IsStoppedAt, can_end, is_over}
 use Rattle.mseed_join.specs.private.LineReading.{GoesOn, Grows, IsLineAhead, IsOpen, IsReadBy, LiesAhead}
 use Rattle.mseed_join.specs.private.LineReading.{LinesRead}
 use Rattle.mseed_join.specs.private.Taking.{IsPlace, IsReadTo, IsTaken}
@@ -298,6 +300,8 @@ has_ended past h now s r l at_end held e = record {
   at_end = at_end;
   spells = ended l.by.passed s r.joint l.read e;
   joint = subst (λ (p : Bool). IsJointOf p (parts_at s) (written_of r.joint.so_far)) l.past_is l.read.joint;
+  number = l.read.number;
+  stopped = stops past h now s r.lines r.joint l;
 }
 
 -- by what lies ahead, if it is no line
@@ -389,11 +393,11 @@ stopped past h now s reported at step are = record {
   lines = record { count = step.count; before = step.before; reported = are };
 }
 
-pub failed : {A : Type 0} → (past : Bool) (h now : BytesRead) (s : Stage) (r : Reader A) (fault : PartsFault)
-    (reported at : BytesWritten) → IsNextStep {A = A} past h s (Err fault) now r
+pub failed : {A : Type 0} → (past : Bool) (expected : Option ℕ) (h now : BytesRead) (s : Stage) (r : Reader A)
+    (fault : PartsFault) (reported at : BytesWritten) → IsNextStep {A = A} past h s (Err fault) now r
     → AreReported (passed_lines past (parts_at s)) reported at
-    → IsReadOutcome {A = A} (Err fault) past h now reported at
-failed past h now s r (BadLine k) reported at step are = (
+    → IsReadOutcome {A = A} (Err fault) past expected h now reported at
+failed past expected h now s r (BadLine k) reported at step are = (
   step.bytes,
   (
     step.reported,
@@ -407,11 +411,12 @@ failed past h now s r (BadLine k) reported at step are = (
     },
   ),
 )
-failed past h now s r (Stream fault) reported at step are = (
+failed past expected h now s r (Count parts due) reported at step are = absurd step
+failed past expected h now s r (Stream fault) reported at step are = (
   step.0,
   record { stopped = stopped past h now s reported at step.1.stopped are; none_bad = step.1.none_bad },
 )
-failed past h now s r Memory reported at step are = stopped past h now s reported at step are
+failed past expected h now s r Memory reported at step are = stopped past h now s reported at step are
 
 -- nothing was read
 pub none_read : (h : BytesRead) → IsStoppedAt h h start
@@ -432,13 +437,39 @@ pub none_reported : (past : Bool) (at : BytesWritten) → AreReported (passed_li
 none_reported past at = subst (λ (lines : List (List ℕ)). AreReported lines at at) (sym (reported_none past))
     (AreReported.none at)
 
-pub all_read : {A : Type 0} → (past : Bool) (h now : BytesRead) (s : Stage) (r : Reader A) (reported at : BytesWritten)
-    → HasEnded past h now s r → AreReported (passed_lines past (parts_at s)) reported at
-    → IsReadOutcome (Ok r.joint.so_far) past h now reported at
-all_read past h now s r reported at e are = (
+pub all_read : {A : Type 0} → (past : Bool) (expected : Option ℕ) (h now : BytesRead) (s : Stage) (r : Reader A)
+    (result : Result (JointPart A) PartsFault) (reported at : BytesWritten) → HasEnded past h now s r
+    → AreReported (passed_lines past (parts_at s)) reported at → IsFinished r.joint expected result
+    → IsReadOutcome result past expected h now reported at
+all_read {A = A} past expected h now s r (Ok joint) reported at e are f =
+    subst (λ (j : JointPart A). IsReadOutcome (Ok j) past expected h now reported at) (sym f.0) (
+      e.bytes,
+      (
+        e.reported,
+        e.at_end,
+        (
+          record { parts = parts_at s; spells = e.spells; is_joint = e.joint; reported = are },
+          subst (λ (n : ℕ). AreExpected expected n) e.number f.1,
+        ),
+      ),
+    )
+all_read past expected h now s r (Err (Count parts due)) reported at e are f = (
   e.bytes,
-  (e.reported, e.at_end, record { parts = parts_at s; spells = e.spells; is_joint = e.joint; reported = are }),
+  (
+    e.reported,
+    e.at_end,
+    record {
+      joint = written_of r.joint.so_far;
+      read = record { parts = parts_at s; spells = e.spells; is_joint = e.joint; reported = are };
+      number = f.0 ∙ e.number;
+      due_is = f.1;
+      differ = f.2;
+    },
+  ),
 )
+all_read past expected h now s r (Err (BadLine k)) reported at e are f = absurd f
+all_read past expected h now s r (Err (Stream fault)) reported at e are f = absurd f
+all_read past expected h now s r (Err Memory) reported at e are f = absurd f
 
 -- ---- at the beginning
 empty : (xs : List ℕ) → length xs ≡ 0 → xs ≡ []

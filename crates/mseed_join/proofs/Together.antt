@@ -56,14 +56,21 @@ abbrev pub Says : Type 0
 Says = (archive : List ℕ) (ws : List Written) (joint : Written) (h : BytesRead) (a : Audited h)
     → AreParted archive ws → IsJointOf false ws joint → IsReadOf archive h → EndsByBytes a.end → SaysAudit joint a
 
+-- what is read of the texts is these parts
+pub parts_read : ReadsBack → HaveOneText → (archive : List ℕ) (ws vs : List Written) (input : BytesRead)
+    → AreParted archive ws → IsWithinLimits archive → IsReadOf (texts ws) input → input.is_at_end ≡ true
+    → Spells input.bytes vs → vs ≡ ws
+parts_read back single archive ws vs input parted fits reported done spells =
+    let all : Spells (texts ws) vs =
+    subst (λ (xs : List ℕ). Spells xs vs) (sym (all_read (texts ws) input reported done)) spells in
+    single (texts ws) vs ws all (spelled back archive ws parted fits)
+
 pub says_read : ReadsBack → HaveOneText → Says → (archive : List ℕ) (ws vs : List Written) (joint : Written)
     (input h : BytesRead) (a : Audited h) → AreParted archive ws → IsWithinLimits archive → IsReadOf archive h
     → EndsByBytes a.end → IsReadOf (texts ws) input → input.is_at_end ≡ true → Spells input.bytes vs
     → IsJointOf false vs joint → SaysAudit joint a
 says_read back single says archive ws vs joint input h a parted fits read by reported done spells joined =
-    let all : Spells (texts ws) vs =
-    subst (λ (xs : List ℕ). Spells xs vs) (sym (all_read (texts ws) input reported done)) spells in
-    let one : vs ≡ ws = single (texts ws) vs ws all (spelled back archive ws parted fits) in
+    let one : vs ≡ ws = parts_read back single archive ws vs input parted fits reported done spells in
     says archive ws joint h a parted (subst (λ (us : List Written). IsJointOf false us joint) one joined) read by
 
 abbrev pub NoneBad : Type 0

@@ -1,6 +1,6 @@
 -- What is written of the joint part of parts, and what is answered of it.
 use Rattle.std.specs.Prelude.{◌≡◌, ◌||◌, ◌⊎◌, ℕ, ◌+◌, ◌<◌, nat_lt, List, ◌++◌, length, map, take, Bool, true, is_some}
-use Rattle.std.specs.Prelude.{Result, Ok, Err}
+use Rattle.std.specs.Prelude.{Option, Result, Ok, Err}
 use Rattle.mseed_stream.specs.Device.{BytesRead, BytesWritten, nothing_read}
 use Rattle.mseed_stream.specs.Fault.{IsStreamFault}
 use Rattle.mseed_audit.specs.Summary.{broken_count}
@@ -8,9 +8,9 @@ use Rattle.mseed_join.specs.declared.joining.Form.{Form}
 use Rattle.mseed_join.specs.declared.joining.Form.TheVariants.{Audit, Part}
 use Rattle.mseed_join.specs.declared.joining.Joined.{Joined as Answer}
 use Rattle.mseed_join.specs.declared.joining.JoinsFault.{JoinsFault}
-use Rattle.mseed_join.specs.declared.joining.JoinsFault.TheVariants.{Line, Stream, Write, Memory}
+use Rattle.mseed_join.specs.declared.joining.JoinsFault.TheVariants.{Line, Count, Stream, Write, Memory}
 use Rattle.mseed_join.specs.Joined.{join_text, verdict_at}
-use Rattle.mseed_join.specs.ReadParts.{AreBadParts, AreReadParts, IsFailed, IsStopped}
+use Rattle.mseed_join.specs.ReadParts.{AreBadParts, AreExpected, AreMiscounted, AreReadParts, IsFailed, IsStopped}
 use Rattle.mseed_join.specs.Written.{Written, part_text}
 
 -- the text of the audit that it is the part of, or its own
@@ -27,11 +27,13 @@ pub record IsAnswer (answer : Answer) (w : Written) : Type 0 where
   pub broken : answer.broken ≡ broken_count (map verdict_at w.part.channels)
   pub fault : answer.fault ≡ is_faulty w
 
--- the whole input was read: it is the texts of parts, and this is their joint part; each fault that was passed was
--- reported
-pub record IsRead (past : Bool) (h : BytesRead) (w : Written) (reported now : BytesWritten) : Type 0 where
+-- the whole input was read: it is the texts of parts, as many as are expected, and this is their joint part; each fault
+-- that was passed was reported
+pub record IsRead (past : Bool) (expected : Option ℕ) (h : BytesRead) (w : Written) (reported now : BytesWritten)
+    : Type 0 where
   pub whole : h.is_at_end ≡ true
   pub parts : AreReadParts past h.bytes w reported now
+  pub number : AreExpected expected (length parts.parts)
 
 -- the text was written
 pub record IsJointWritten (answer : Answer) (form : Form) (w : Written) (old new : BytesWritten) : Type 0 where
@@ -47,17 +49,20 @@ pub record IsJointCutOff (form : Form) (w : Written) (old new : BytesWritten) : 
   pub failed : new.failures ≡ old.failures + 1
 
 -- By the outcome: of the input, of the output before and after, and of the device that faults are reported to before
--- and after. Where the parts weren't read whole, nothing was written; where the input failed, no bad line was read
--- before.
-abbrev pub IsJoinOutcome : Form → Bool → Result Answer JoinsFault → BytesRead → BytesWritten → BytesWritten
+-- and after. Where the parts weren't read whole, or another number of them was expected, nothing was written; where the
+-- input failed, no bad line was read before.
+abbrev pub IsJoinOutcome : Form → Bool → Option ℕ → Result Answer JoinsFault → BytesRead → BytesWritten → BytesWritten
     → BytesWritten → BytesWritten → Type 0
-IsJoinOutcome form past (Ok answer) h old new reported now =
-    (w : Written) × (IsRead past h w reported now × IsJointWritten answer form w old new)
-IsJoinOutcome form past (Err (Line k)) h old new reported now =
+IsJoinOutcome form past expected (Ok answer) h old new reported now =
+    (w : Written) × (IsRead past expected h w reported now × IsJointWritten answer form w old new)
+IsJoinOutcome form past expected (Err (Line k)) h old new reported now =
     (new ≡ old) × AreBadParts past h.bytes h.is_at_end k reported now
-IsJoinOutcome form past (Err (Stream fault)) h old new reported now =
+IsJoinOutcome form past expected (Err (Count parts due)) h old new reported now =
+    (new ≡ old) × (h.is_at_end ≡ true) × AreMiscounted past expected h.bytes parts due reported now
+IsJoinOutcome form past expected (Err (Stream fault)) h old new reported now =
     (new ≡ old) × IsStreamFault fault nothing_read h × IsFailed past nothing_read h reported now
-IsJoinOutcome form past (Err Write) h old new reported now =
-    (w : Written) × (IsRead past h w reported now × IsJointCutOff form w old new)
-IsJoinOutcome form past (Err Memory) h old new reported now =
-    (new ≡ old) × (IsStopped past nothing_read h reported now ⊎ ((w : Written) × IsRead past h w reported now))
+IsJoinOutcome form past expected (Err Write) h old new reported now =
+    (w : Written) × (IsRead past expected h w reported now × IsJointCutOff form w old new)
+IsJoinOutcome form past expected (Err Memory) h old new reported now =
+    (new ≡ old)
+    × (IsStopped past nothing_read h reported now ⊎ ((w : Written) × IsRead past expected h w reported now))

@@ -1,22 +1,22 @@
 -- What is written of the joint part of parts with a line for each border with a finding, and what is answered of it.
-use Rattle.std.specs.Prelude.{◌≡◌, ◌⊎◌, ℕ, ◌+◌, List, ◌++◌, Bool, Result, Ok, Err}
+use Rattle.std.specs.Prelude.{◌≡◌, ◌⊎◌, ℕ, ◌+◌, List, ◌++◌, Bool, true, Option, Result, Ok, Err}
 use Rattle.mseed_stream.specs.Device.{BytesRead, BytesWritten, nothing_read}
 use Rattle.mseed_stream.specs.Fault.{IsStreamFault}
 use Rattle.mseed_audit.specs.Each.{EmittedFirst, EmittedPart}
 use Rattle.mseed_join.specs.declared.joining.Joined.{Joined as Answer}
 use Rattle.mseed_join.specs.declared.joining.JoinsFault.{JoinsFault}
-use Rattle.mseed_join.specs.declared.joining.JoinsFault.TheVariants.{Line, Stream, Write, Memory}
+use Rattle.mseed_join.specs.declared.joining.JoinsFault.TheVariants.{Line, Count, Stream, Write, Memory}
 use Rattle.mseed_join.specs.Borders.{AreBordersOf, Border, border_lines}
 use Rattle.mseed_join.specs.Joined.{HasNoBadLine, join_text}
 use Rattle.mseed_join.specs.Joins.{IsAnswer, IsRead}
 use Rattle.mseed_join.specs.Reached.{Stage, parts_at}
-use Rattle.mseed_join.specs.ReadParts.{AreBadParts, AreReportedTo}
+use Rattle.mseed_join.specs.ReadParts.{AreBadParts, AreMiscounted, AreReportedTo}
 use Rattle.mseed_join.specs.Written.{Written}
 
 -- the whole input was read, and this is found at the borders of its parts
-pub record IsReadEach (past : Bool) (h : BytesRead) (w : Written) (found : List Border) (reported now : BytesWritten)
-    : Type 0 where
-  pub read : IsRead past h w reported now
+pub record IsReadEach (past : Bool) (expected : Option ℕ) (h : BytesRead) (w : Written) (found : List Border)
+    (reported now : BytesWritten) : Type 0 where
+  pub read : IsRead past expected h w reported now
   pub borders : AreBordersOf past read.parts.parts found
 
 -- the lines of the borders, and then the text of the audit
@@ -41,6 +41,13 @@ pub record AreBadEach (past : Bool) (h : BytesRead) (k : ℕ) (found : List Bord
   pub bad : AreBadParts past h.bytes h.is_at_end k reported now
   pub borders : AreBordersOf past (parts_at bad.stage) found
 
+-- the whole input was read: it is so many parts, where another number is expected, and this is found at their borders
+pub record AreMiscountedEach (past : Bool) (expected : Option ℕ) (h : BytesRead) (parts due : ℕ) (found : List Border)
+    (reported now : BytesWritten) : Type 0 where
+  pub whole : h.is_at_end ≡ true
+  pub miscounted : AreMiscounted past expected h.bytes parts due reported now
+  pub borders : AreBordersOf past miscounted.read.parts found
+
 -- so far was read, and this is found at the borders of those lines
 pub record AreEachTo (past : Bool) (h : BytesRead) (found : List Border) (reported now : BytesWritten) : Type 0 where
   pub stage : Stage
@@ -48,24 +55,28 @@ pub record AreEachTo (past : Bool) (h : BytesRead) (found : List Border) (report
   pub borders : AreBordersOf past (parts_at stage) found
 
 -- what was written is so of a text: the lines of the borders so far, or the whole
-abbrev pub EndsShort : (List ℕ → Type 0) → Bool → BytesRead → BytesWritten → BytesWritten → Type 0
-EndsShort Emitted past h reported now =
+abbrev pub EndsShort : (List ℕ → Type 0) → Bool → Option ℕ → BytesRead → BytesWritten → BytesWritten → Type 0
+EndsShort Emitted past expected h reported now =
     ((found : List Border) × (AreEachTo past h found reported now × Emitted (border_lines found)))
-    ⊎ ((w : Written) × ((found : List Border) × (IsReadEach past h w found reported now × Emitted (each_text found w))))
+    ⊎ ((w : Written)
+    × ((found : List Border) × (IsReadEach past expected h w found reported now × Emitted (each_text found w))))
 
 -- By the outcome: of the input, of the output before and after, and of the device that faults are reported to before
 -- and after. An output that failed isn't called again.
-abbrev pub IsJoinEachOutcome : Bool → Result Answer JoinsFault → BytesRead → BytesWritten → BytesWritten
+abbrev pub IsJoinEachOutcome : Bool → Option ℕ → Result Answer JoinsFault → BytesRead → BytesWritten → BytesWritten
     → BytesWritten → BytesWritten → Type 0
-IsJoinEachOutcome past (Ok answer) h old new reported now =
-    (w : Written) × ((found : List Border) × (IsReadEach past h w found reported now
+IsJoinEachOutcome past expected (Ok answer) h old new reported now =
+    (w : Written) × ((found : List Border) × (IsReadEach past expected h w found reported now
     × IsEachWritten answer w found old new))
-IsJoinEachOutcome past (Err (Line k)) h old new reported now =
+IsJoinEachOutcome past expected (Err (Line k)) h old new reported now =
     (found : List Border) × (AreBadEach past h k found reported now × AreLinesWritten found old new)
-IsJoinEachOutcome past (Err (Stream fault)) h old new reported now =
+IsJoinEachOutcome past expected (Err (Count parts due)) h old new reported now =
+    (found : List Border) × (AreMiscountedEach past expected h parts due found reported now
+    × AreLinesWritten found old new)
+IsJoinEachOutcome past expected (Err (Stream fault)) h old new reported now =
     (found : List Border) × (AreEachTo past h found reported now × AreLinesWritten found old new
     × IsStreamFault fault nothing_read h × HasNoBadLine past h.bytes)
-IsJoinEachOutcome past (Err Write) h old new reported now =
-    (new.failures ≡ old.failures + 1) × EndsShort (EmittedPart old new) past h reported now
-IsJoinEachOutcome past (Err Memory) h old new reported now =
-    (new.failures ≡ old.failures) × EndsShort (EmittedFirst old new) past h reported now
+IsJoinEachOutcome past expected (Err Write) h old new reported now =
+    (new.failures ≡ old.failures + 1) × EndsShort (EmittedPart old new) past expected h reported now
+IsJoinEachOutcome past expected (Err Memory) h old new reported now =
+    (new.failures ≡ old.failures) × EndsShort (EmittedFirst old new) past expected h reported now

@@ -1,10 +1,10 @@
 -- What reading parts one behind another answers.
-use Rattle.std.specs.Prelude.{◌≡◌, ℕ, ◌+◌, List, ◌++◌, Bool, true, Result, Ok, Err}
+use Rattle.std.specs.Prelude.{⊤, ◌≡◌, ◌≢◌, ℕ, ◌+◌, List, ◌++◌, length, Bool, true, Option, Some, None, Result, Ok, Err}
 use Rattle.mseed_stream.specs.Device.{BytesRead, BytesWritten}
 use Rattle.mseed_stream.specs.Fault.{IsStreamFault}
 use Rattle.mseed_join.specs.declared.joint.JointPart.{JointPart}
 use Rattle.mseed_join.specs.declared.reader.PartsFault.{PartsFault}
-use Rattle.mseed_join.specs.declared.reader.PartsFault.TheVariants.{Line, Stream, Memory}
+use Rattle.mseed_join.specs.declared.reader.PartsFault.TheVariants.{Line, Count, Stream, Memory}
 use Rattle.mseed_join.specs.Joined.{HasNoBadLine, IsBadLine, IsJointOf}
 use Rattle.mseed_join.specs.Reached.{AreLinesRead, AreReported, Stage, parts_at, passed_lines}
 use Rattle.mseed_join.specs.Written.{Written, Spells}
@@ -23,6 +23,20 @@ pub record AreReadParts (past : Bool) (bytes : List ℕ) (joint : Written) (old 
   pub spells : Spells bytes parts
   pub is_joint : IsJointOf past parts joint
   pub reported : AreReported (passed_lines past parts) old new
+
+-- parts are as many as are expected, where a number is
+abbrev pub AreExpected : Option ℕ → ℕ → Type 0
+AreExpected None parts = ⊤
+AreExpected (Some expected) parts = parts ≡ expected
+
+-- the bytes are the texts of so many parts, and another number is expected; each fault that was passed was reported
+pub record AreMiscounted (past : Bool) (expected : Option ℕ) (bytes : List ℕ) (parts due : ℕ) (old new : BytesWritten)
+    : Type 0 where
+  pub joint : Written
+  pub read : AreReadParts past bytes joint old new
+  pub number : parts ≡ length read.parts
+  pub due_is : expected ≡ Some due
+  pub differ : parts ≢ due
 
 -- the first bad line; of the lines before it each fault that was passed was reported
 pub record AreBadParts (past : Bool) (bytes : List ℕ) (at_end : Bool) (k : ℕ) (old new : BytesWritten) : Type 0 where
@@ -52,11 +66,15 @@ pub record IsFailed (past : Bool) (old h : BytesRead) (s new : BytesWritten) : T
   pub none_bad : HasNoBadLine past stopped.bytes
 
 -- By the answer: of what was read of the source, and of the device that faults are reported to, before and after.
-abbrev pub IsReadOutcome : {A : Type 0} → Result (JointPart A) PartsFault → Bool → BytesRead → BytesRead → BytesWritten
-    → BytesWritten → Type 0
-IsReadOutcome (Ok joint) past old h s new =
-    (bytes : List ℕ) × (ReadMore old h bytes × (h.is_at_end ≡ true) × AreReadParts past bytes (written_of joint) s new)
-IsReadOutcome (Err (Line k)) past old h s new =
+abbrev pub IsReadOutcome : {A : Type 0} → Result (JointPart A) PartsFault → Bool → Option ℕ → BytesRead → BytesRead
+    → BytesWritten → BytesWritten → Type 0
+IsReadOutcome (Ok joint) past expected old h s new =
+    (bytes : List ℕ) × (ReadMore old h bytes × (h.is_at_end ≡ true)
+    × ((read : AreReadParts past bytes (written_of joint) s new) × AreExpected expected (length read.parts)))
+IsReadOutcome (Err (Line k)) past expected old h s new =
     (bytes : List ℕ) × (ReadMore old h bytes × AreBadParts past bytes h.is_at_end k s new)
-IsReadOutcome (Err (Stream fault)) past old h s new = IsStreamFault fault old h × IsFailed past old h s new
-IsReadOutcome (Err Memory) past old h s new = IsStopped past old h s new
+IsReadOutcome (Err (Count parts due)) past expected old h s new =
+    (bytes : List ℕ) × (ReadMore old h bytes × (h.is_at_end ≡ true)
+    × AreMiscounted past expected bytes parts due s new)
+IsReadOutcome (Err (Stream fault)) past expected old h s new = IsStreamFault fault old h × IsFailed past old h s new
+IsReadOutcome (Err Memory) past expected old h s new = IsStopped past old h s new

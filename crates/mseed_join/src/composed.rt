@@ -120,6 +120,11 @@ pub fn joined_texts()
         → AreParted archive ws → IsWithinLimits archive → IsReadOf archive h → EndsByBytes a.end
         → IsReadOf (texts ws) input → input.is_at_end ≡ true → Spells input.bytes vs → IsJointOf false vs joint
         → SaysAudit joint a }
+
+    // They are the parts of these archives, and so as many.
+    ensures parts { (archive : List ℕ) (ws vs : List Written) (input : BytesRead) → AreParted archive ws
+        → IsWithinLimits archive → IsReadOf (texts ws) input → input.is_at_end ≡ true → Spells input.bytes vs
+        → vs ≡ ws }
 {
     part_reads_back();
     one_text();

@@ -41,6 +41,10 @@ pub enum JoinsFault {
     /// borders before it.
     #[error("bad part at line {0}")]
     Line(u64),
+    /// So many parts were read, and so many were expected. Nothing was written, or by `join_each` the lines of their
+    /// borders.
+    #[error("{0} parts, not {1}")]
+    Count(u64, u64),
     /// The parts couldn't be read whole. Nothing was written, or by `join_each` the lines of the borders so far.
     #[error("the input failed")]
     Stream(StreamFault),
@@ -54,22 +58,25 @@ pub enum JoinsFault {
 
 /// Reads parts, one behind another, and writes what they are joined to. Without `past_faults` a part behind one that
 /// ends with a fault isn't counted; with it each faulty part counts as if it had none, and its fault is one more behind
-/// and is reported on `errors` as it is read. The source is one of which nothing was read yet.
+/// and is reported on `errors` as it is read. Where a number of parts is `expected` they have to be as many, those that
+/// aren't counted in too: else nothing is written, whatever they are joined to. The source is one of which nothing was
+/// read yet.
 ///
 /// # Errors
 ///
-/// `Line` where a line is bad, `Stream` where the parts couldn't be read whole, `Write` where the output failed, and
-/// `Memory` where an allocation was refused.
+/// `Line` where a line is bad, `Stream` where the parts couldn't be read whole, `Count` where another number of parts
+/// was read than is expected, `Write` where the output failed, and `Memory` where an allocation was refused.
 pub fn join<A: Allocator + Copy, R: Source, W: Sink, E: Sink>(
     alloc: A,
     form: Form,
     past_faults: bool,
+    expected: Option<u64>,
     source: &mut R,
     sink: &mut W,
     errors: &mut E,
 ) -> Result<Joined, JoinsFault>
     requires { R.read source.old ≡ nothing_read }
-    ensures outcome { IsJoinOutcome form past_faults result (R.read source.new) (W.written sink.old)
+    ensures outcome { IsJoinOutcome form past_faults expected result (R.read source.new) (W.written sink.old)
         (W.written sink.new) (E.written errors.old) (E.written errors.new) }
 
     // What the source is known to have left is what was read of it, up to its end where the input is at its end.
@@ -80,7 +87,13 @@ pub fn join<A: Allocator + Copy, R: Source, W: Sink, E: Sink>(
     ensures writes { WritesOn (W.written sink.old) (W.written sink.new) (W.contents sink.old) (W.contents sink.new)
         (W.beside sink.old) (W.beside sink.new) }
 {
-    let JointPart { part, faults, end } = match read_parts(alloc, past_faults, source, errors) {
+    let JointPart { part, faults, end } = match read_parts(
+        alloc,
+        past_faults,
+        expected,
+        source,
+        errors,
+    ) {
         Ok(joint) => joint,
         Err(fault) => return Err(refused(fault)),
     };
@@ -101,6 +114,7 @@ pub(crate) fn refused(fault: PartsFault) -> JoinsFault
 {
     match fault {
         PartsFault::Line(line) => JoinsFault::Line(line),
+        PartsFault::Count(parts, expected) => JoinsFault::Count(parts, expected),
         PartsFault::Stream(fault) => JoinsFault::Stream(fault),
         PartsFault::Memory => JoinsFault::Memory,
     }

@@ -26,18 +26,19 @@ const GATHERED: usize = 1 << 16;
 ///
 /// # Errors
 ///
-/// `Line` where a line is bad, and `Stream` where the parts couldn't be read whole: the lines of the borders so far
-/// were written then. `Write` where the output failed, and `Memory` where an allocation was refused: a prefix of the
-/// text was written then.
+/// `Line` where a line is bad, `Stream` where the parts couldn't be read whole, and `Count` where another number of
+/// parts was read than is expected: the lines of the borders so far were written then. `Write` where the output failed,
+/// and `Memory` where an allocation was refused: a prefix of the text was written then.
 pub fn join_each<A: Allocator + Copy, R: Source, W: Sink, E: Sink>(
     alloc: A,
     past_faults: bool,
+    expected: Option<u64>,
     source: &mut R,
     sink: &mut W,
     errors: &mut E,
 ) -> Result<Joined, JoinsFault>
     requires { R.read source.old ≡ nothing_read }
-    ensures outcome { IsJoinEachOutcome past_faults result (R.read source.new) (W.written sink.old)
+    ensures outcome { IsJoinEachOutcome past_faults expected result (R.read source.new) (W.written sink.old)
         (W.written sink.new) (E.written errors.old) (E.written errors.new) }
 
     // What the source is known to have left is what was read of it, up to its end where the input is at its end.
@@ -52,6 +53,7 @@ pub fn join_each<A: Allocator + Copy, R: Source, W: Sink, E: Sink>(
     let JointPart { part, faults, end } = read_each(
         alloc,
         past_faults,
+        expected,
         source,
         sink,
         errors,
@@ -68,10 +70,11 @@ pub fn join_each<A: Allocator + Copy, R: Source, W: Sink, E: Sink>(
 }
 
 /// Reads parts as `read_parts` does, and writes the lines of their borders. The last are left in `text`, which is empty
-/// at first.
+/// at first, unless the parts are refused.
 fn read_each<A: Allocator + Copy, R: Source, W: Sink, E: Sink>(
     alloc: A,
     past: bool,
+    expected: Option<u64>,
     source: &mut R,
     sink: &mut W,
     errors: &mut E,
@@ -79,7 +82,7 @@ fn read_each<A: Allocator + Copy, R: Source, W: Sink, E: Sink>(
 ) -> Result<JointPart<A>, JoinsFault>
     requires read { R.read source.old ≡ nothing_read }
     requires text { text.old.items ≡ [] }
-    ensures reported { IsEachReading result past (R.read source.new) (W.written sink.old) (W.written sink.new)
+    ensures reported { IsEachReading result past expected (R.read source.new) (W.written sink.old) (W.written sink.new)
         (E.written errors.old) (E.written errors.new) text.new.items }
     ensures reads { ReadsOn (R.read source.old) (R.read source.new) (R.remaining source.old) (R.remaining source.new)
         (R.beside source.old) (R.beside source.new) }
@@ -96,7 +99,10 @@ fn read_each<A: Allocator + Copy, R: Source, W: Sink, E: Sink>(
                 tell_passed(errors, &reported);
                 add_border(sink, text, &reported)?;
             }
-            Ok(None) => return Ok(reader.into_joint()),
+            Ok(None) => match reader.finish(expected) {
+                Ok(joint) => return Ok(joint),
+                Err(fault) => return Err(stop(sink, text, fault)),
+            },
             Err(fault) => return Err(stop(sink, text, fault)),
         }
     }

@@ -81,8 +81,8 @@ pub(crate) enum Place {
 #[derive(Drop)]
 pub(crate) struct Joint<A: Allocator> {
     pub(crate) so_far: JointPart<A>,
-    // The parts, the one that has begun too.
-    parts: u64,
+    // The parts, those that don't count and the one that has begun too.
+    pub(crate) parts: u64,
     place: Place,
     // Faults are passed.
     past: bool,

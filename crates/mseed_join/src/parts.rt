@@ -16,22 +16,24 @@ use std::alloc::Allocator;
 
 /// Reads the texts of parts, one behind another, and joins them as they are read. A part behind one that ends with a
 /// fault isn't counted; where faults are passed (`past`), each part counts as if it ended without one, and a line on
-/// `errors` tells the fault. It takes memory for the channels, and a buffer of a fixed size. The source is one of which
-/// nothing was read yet.
+/// `errors` tells the fault. Where a number of parts is `expected` they have to be as many, those that aren't counted
+/// too. It takes memory for the channels, and a buffer of a fixed size. The source is one of which nothing was read
+/// yet.
 ///
 /// # Errors
 ///
 /// `Line` where a line is bad, the first such line by its number: with it the text can be that of no parts that can be
-/// joined. `Stream` where the source failed, or wasn't at its end after 2^40 reads. `Memory` where an allocation was
-/// refused.
+/// joined. `Stream` where the source failed, or wasn't at its end after 2^40 reads. `Count` where all was read, and it
+/// is another number of parts than is expected. `Memory` where an allocation was refused.
 pub fn read_parts<A: Allocator + Copy, R: Source, E: Sink>(
     alloc: A,
     past: bool,
+    expected: Option<u64>,
     source: &mut R,
     errors: &mut E,
 ) -> Result<JointPart<A>, PartsFault>
     requires { R.read source.old ≡ nothing_read }
-    ensures outcome { IsReadOutcome result past (R.read source.old) (R.read source.new) (E.written errors.old)
+    ensures outcome { IsReadOutcome result past expected (R.read source.old) (R.read source.new) (E.written errors.old)
         (E.written errors.new) }
 
     // What the source is known to have left is what was read of it, up to its end where the input is at its end.
@@ -45,7 +47,7 @@ pub fn read_parts<A: Allocator + Copy, R: Source, E: Sink>(
     'lines: loop {
         match reader.next(source)? {
             Some(reported) => tell_passed(errors, &reported),
-            None => return Ok(reader.into_joint()),
+            None => return reader.finish(expected),
         }
     }
 }

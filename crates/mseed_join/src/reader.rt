@@ -3,7 +3,7 @@ ghost use Rattle.std.specs.Prelude.{◌≡◌, ◌≤◌, ◌+◌, ◌^◌, Bool
 ghost use Rattle.mseed_stream.specs.Calls.{ReadsOn};
 ghost use Rattle.mseed_stream.specs.Device.{BytesRead};
 ghost use Rattle.mseed_join.specs.Reached.{Stage, start};
-ghost use Rattle.mseed_join.specs.private.Along.{IsAlong, IsNextStep, is_over};
+ghost use Rattle.mseed_join.specs.private.Along.{IsAlong, IsFinished, IsNextStep, is_over};
 
 use crate::joint::{Joint, JointPart, LineFault, Reported};
 use crate::law::lines_are_short;
@@ -19,6 +19,9 @@ pub enum PartsFault {
     /// The line of this number, from 1 over all parts, is bad.
     #[error("bad part at line {0}")]
     Line(u64),
+    /// So many parts were read, and so many were expected.
+    #[error("{0} parts, not {1}")]
+    Count(u64, u64),
     /// The source failed, or wasn't at its end after 2^40 reads.
     #[error("the input failed")]
     Stream(StreamFault),
@@ -98,10 +101,19 @@ impl<A: Allocator + Copy> Reader<A> {
         matches!(ahead, Ahead::Nothing) && self.joint.can_end()
     }
 
-    /// The joint part.
-    pub(crate) fn into_joint(self) -> JointPart<A>
-        ensures { result ≡ self.joint.so_far }
+    /// The joint part, at the input's end. Where a number of parts is expected they have to be as many, those that
+    /// don't count too.
+    ///
+    /// # Errors
+    ///
+    /// `Count` where they aren't.
+    pub(crate) fn finish(self, expected: Option<u64>) -> Result<JointPart<A>, PartsFault>
+        ensures { IsFinished self.joint expected result }
     {
-        self.joint.into_part()
+        let parts = self.joint.parts;
+        match expected {
+            Some(due) if parts != due => Err(PartsFault::Count(parts, due)),
+            _ => Ok(self.joint.into_part()),
+        }
     }
 }

@@ -15,10 +15,14 @@ value_of (c ∷ cs) = (c - 48) * 10 ^ length cs + value_of cs
 abbrev pub is_digit : ℕ → Bool
 is_digit c = nat_le 48 c && nat_le c 57
 
--- one to seven decimal digits, which may begin with zeros
+-- decimal digits, one to so many, which may begin with zeros
+abbrev pub number_within : ℕ → Text → Option ℕ
+number_within most text =
+    if not (length text == 0) && nat_le (length text) most && list_all is_digit text then Some (value_of text) else None
+
+-- one to seven
 abbrev pub number_in : Text → Option ℕ
-number_in text =
-    if not (length text == 0) && nat_le (length text) 7 && list_all is_digit text then Some (value_of text) else None
+number_in text = number_within 7 text
 
 -- one to six hexadecimal digits, in either case
 abbrev pub hexadecimal_in : Text → Option ℕ

@@ -44,8 +44,10 @@ number_rules = number_rule (codes "port") (Signed (pos 1) (pos 65535)) ∷ numbe
     (Signed (pos 1) (pos 1000000))
     ∷ number_rule (codes "tries") (Signed (pos 1) (pos 1000000)) ∷ []
 
-abbrev pub flag_rules : List Rule
-flag_rules = flag_rule (codes "each") ∷ flag_rule (codes "part") ∷ flag_rule (codes "past-faults") ∷ []
+-- the options of auditing and joining
+abbrev pub audit_rules : List Rule
+audit_rules = flag_rule (codes "each") ∷ flag_rule (codes "part") ∷ flag_rule (codes "past-faults")
+    ∷ option_rule (codes "expect") ∷ []
 
 abbrev pub fetch_flag_rules : List Rule
 fetch_flag_rules = flag_rule (codes "tell-next") ∷ flag_rule (codes "holes") ∷ []
@@ -68,5 +70,5 @@ bare_command = on_top (λ s. record s { has_version = true; no_binary_name = tru
 abbrev pub the_command : App
 the_command =
     with_rules (with_rules (with_rules (with_rules (with_rules (with_rules (with_rules
-    (with_rule (with_rule bare_command word_rule) places_rule) packing_rules) feed_rules) number_rules) flag_rules)
+    (with_rule (with_rule bare_command word_rule) places_rule) packing_rules) feed_rules) number_rules) audit_rules)
     fetch_flag_rules) packing_flag_rules) live_rules

@@ -1,6 +1,6 @@
 -- What the words of the command line ask for.
-use Rattle.std.specs.Prelude.{⊤, ◌≡◌, ◌≢◌, ◌≤◌, ◌==◌, ◌^◌, ℕ, List, [], ◌∷◌, if◌then◌else◌, Bool, true, false}
-use Rattle.std.specs.Prelude.{Option, Some, None, option_and_then, option_map, codes}
+use Rattle.std.specs.Prelude.{⊤, ◌≡◌, ◌≢◌, ◌≤◌, ◌==◌, ◌^◌, ℕ, zero, suc, List, [], ◌∷◌, if◌then◌else◌, Bool, true}
+use Rattle.std.specs.Prelude.{false, Option, Some, None, option_and_then, option_map, codes}
 use Rattle.std.specs.Str.{bytes_eq}
 use Rattle.clap.specs.Walk.{Row, Text, first_of}
 use Rattle.clap.specs.Simple.{matches_of}
@@ -10,12 +10,13 @@ use Rattle.mseed_pack.specs.declared.options.Encoding.{Encoding}
 use Rattle.mseed_pack.specs.declared.options.Encoding.TheVariants.{Int16, Int32, Steim1, Steim2}
 use Rattle.mseed_words.specs.Options.{the_command}
 use Rattle.mseed_words.specs.Found.{asks, has_only}
-use Rattle.mseed_words.specs.Numbers.{number_in}
+use Rattle.mseed_words.specs.Numbers.{number_in, number_within}
 use Rattle.mseed_words.specs.FeedWords.{CanFetch, CanLive, CanServe, fetching_of, living_of, serving_of}
 use Rattle.mseed_words.specs.declared.request.Request.{Request}
 use Rattle.mseed_words.specs.declared.request.Request.TheVariants.{Audit, AuditEach, AuditPart, AuditPartEach}
 use Rattle.mseed_words.specs.declared.request.Request.TheVariants.{Join, JoinEach, JoinPart, Show, Repack}
 use Rattle.mseed_words.specs.declared.request.Request.TheVariants.{RepackStretches, Serve, Live, Fetch}
+use Rattle.mseed_words.specs.declared.request.Joining.{Joining}
 use Rattle.mseed_words.specs.declared.request.Packing.{Packing}
 use Rattle.mseed_words.specs.declared.refusal.Refusal.{Refusal}
 use Rattle.mseed_words.specs.declared.refusal.Refusal.TheVariants as refusal
@@ -97,19 +98,35 @@ auditing_of rows =
 
 -- what joining takes
 abbrev pub joining_names : List Text
-joining_names = codes "command" ∷ codes "each" ∷ codes "part" ∷ codes "past-faults" ∷ []
+joining_names = codes "command" ∷ codes "each" ∷ codes "part" ∷ codes "past-faults" ∷ codes "expect" ∷ []
+
+-- how many parts there have to be, where a number is given: at least one
+abbrev pub expected_by : ℕ → Option (Option ℕ)
+expected_by zero = None
+expected_by (suc n) = Some (Some (suc n))
+
+-- in one to nine decimal digits
+abbrev pub expected_in : Option Text → Option (Option ℕ)
+expected_in None = Some None
+expected_in (Some text) = option_and_then expected_by (number_within 9 text)
+
+abbrev pub joining_with : Bool → Option (Option ℕ) → Option Joining
+joining_with past_faults None = None
+joining_with past_faults (Some expected) = Some (record { past_faults = past_faults; expected = expected })
 
 -- the text of an audit, with a line for each border before it or without, or a part
-abbrev pub joining_by : Bool → Bool → Bool → Option Request
-joining_by false false past_faults = Some (Join past_faults)
-joining_by true false past_faults = Some (JoinEach past_faults)
-joining_by false true past_faults = Some (JoinPart past_faults)
-joining_by true true past_faults = None
+abbrev pub joining_by : Bool → Bool → Option Joining → Option Request
+joining_by each part None = None
+joining_by false false (Some joining) = Some (Join joining)
+joining_by true false (Some joining) = Some (JoinEach joining)
+joining_by false true (Some joining) = Some (JoinPart joining)
+joining_by true true (Some joining) = None
 
 abbrev pub joining_of : List Row → Option Request
 joining_of rows =
     if has_only joining_names rows
-    then joining_by (asks (codes "each") rows) (asks (codes "part") rows) (asks (codes "past-faults") rows)
+    then joining_by (asks (codes "each") rows) (asks (codes "part") rows)
+    (joining_with (asks (codes "past-faults") rows) (expected_in (first_of (codes "expect") rows)))
     else None
 
 -- what serving asks for: all of the input first, or while it comes
@@ -140,9 +157,9 @@ CanBeCalled Audit = ⊤
 CanBeCalled AuditEach = ⊤
 CanBeCalled AuditPart = ⊤
 CanBeCalled AuditPartEach = ⊤
-CanBeCalled (Join past_faults) = ⊤
-CanBeCalled (JoinEach past_faults) = ⊤
-CanBeCalled (JoinPart past_faults) = ⊤
+CanBeCalled (Join joining) = ⊤
+CanBeCalled (JoinEach joining) = ⊤
+CanBeCalled (JoinPart joining) = ⊤
 CanBeCalled Show = ⊤
 CanBeCalled (Repack packing) = (7 ≤ packing.exponent) × (packing.exponent ≤ 12)
 CanBeCalled (RepackStretches packing leave) = (7 ≤ packing.exponent) × (packing.exponent ≤ 12)

@@ -20,8 +20,9 @@ pub const COMMANDS: &str = "Commands:
           writes the lines of an audit, with its statuses
           options: --part, in place of the lines the joint part; or --each, first a line for
           each finding between the end of a channel in one archive and its begin in a later one;
-          --past-faults, go on behind a part that ends with a fault, tell the fault and count it: status 2
-            mseed join < january.parts
+          --past-faults, go on behind a part that ends with a fault, tell the fault and count it: status 2;
+          --expect, how many parts there have to be: with fewer or more no audit is written, status 2
+            mseed join --expect 31 < january.parts
   show    lists the records
           reads an archive, writes a line for each record
             mseed show < my.mseed

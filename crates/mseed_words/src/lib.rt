@@ -14,5 +14,5 @@ mod words;
 
 pub use places::Places;
 pub use refusal::Refusal;
-pub use request::{Endpoint, Fetching, Living, Packing, Request, Serving};
+pub use request::{Endpoint, Fetching, Joining, Living, Packing, Request, Serving};
 pub use words::read;

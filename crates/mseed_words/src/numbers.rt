@@ -2,14 +2,22 @@
 ghost use Rattle.std.specs.Prelude.{◌≡◌, ◌≤◌, ◌<◌, ◌^◌, IfSome, option_map};
 ghost use Rattle.std.specs.List.{list_all};
 ghost use Rattle.std.specs.Char.{is_ascii_hexdigit};
-ghost use Rattle.mseed_words.specs.Numbers.{counted_in, counted_or, hexadecimal_in, is_digit, number_in};
+ghost use Rattle.mseed_words.specs.Numbers.{counted_in, counted_or, hexadecimal_in, is_digit, number_in, number_within};
 
 /// The number that one to seven decimal digits say.
 pub(crate) fn number_in(text: &str) -> Option<u32>
     ensures { result ≡ number_in text.now }
 {
+    number_within(7, text)
+}
+
+/// The number that decimal digits say, one to so many.
+pub(crate) fn number_within(most: usize, text: &str) -> Option<u32>
+    requires { most ≤ 9 }
+    ensures { result ≡ number_within most text.now }
+{
     let digits = text.as_bytes();
-    if digits.is_empty() || digits.len() > 7 {
+    if digits.is_empty() || digits.len() > most {
         return None;
     }
     let mut number = 0;

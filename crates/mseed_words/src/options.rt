@@ -29,6 +29,7 @@ enum Named {
     Each,
     Part,
     PastFaults,
+    Expect,
     TellNext,
     Holes,
     Stretches,
@@ -38,7 +39,7 @@ enum Named {
 }
 
 /// All of them, in the order of the help.
-const ALL: [Named; 21] = [
+const ALL: [Named; 22] = [
     Named::Length,
     Named::Encoding,
     Named::Station,
@@ -54,6 +55,7 @@ const ALL: [Named; 21] = [
     Named::Each,
     Named::Part,
     Named::PastFaults,
+    Named::Expect,
     Named::TellNext,
     Named::Holes,
     Named::Stretches,
@@ -94,6 +96,7 @@ impl Named {
             Named::Each => "each",
             Named::Part => "part",
             Named::PastFaults => "past-faults",
+            Named::Expect => "expect",
             Named::TellNext => "tell-next",
             Named::Holes => "holes",
             Named::Stretches => "stretches",
@@ -127,7 +130,8 @@ impl Named {
             | Named::First
             | Named::From
             | Named::Address
-            | Named::Timeout => Kind::Text,
+            | Named::Timeout
+            | Named::Expect => Kind::Text,
         }
     }
 
@@ -154,6 +158,9 @@ impl Named {
             Named::Part => "audit, join: write a part instead of the lines of an audit",
             Named::PastFaults => {
                 "join: go on behind a part that ends with a fault, and count the faults"
+            }
+            Named::Expect => {
+                "join: how many parts there have to be; with fewer or more no audit is written"
             }
             Named::TellNext => {
                 "fetch: tell each first record's number, and at the end the words to go on"

@@ -15,20 +15,11 @@ pub enum Request {
     /// Audit it, tell each finding, and write its part.
     AuditPartEach,
     /// Join the parts on standard input, and write what the audit of their archives says.
-    Join {
-        /// Whether parts behind one that ends with a fault count.
-        past_faults: bool,
-    },
+    Join(Joining),
     /// Join them so, and tell each border with a finding.
-    JoinEach {
-        /// Whether parts behind one that ends with a fault count.
-        past_faults: bool,
-    },
+    JoinEach(Joining),
     /// Join them, and write their joint part.
-    JoinPart {
-        /// Whether parts behind one that ends with a fault count.
-        past_faults: bool,
-    },
+    JoinPart(Joining),
     /// List the records on standard input.
     Show,
     /// Pack the archive on standard input anew.
@@ -46,6 +37,15 @@ pub enum Request {
     Live(Living),
     /// Fetch the records that are served.
     Fetch(Fetching),
+}
+
+/// How parts are joined.
+#[derive(Clone, Copy)]
+pub struct Joining {
+    /// Whether parts behind one that ends with a fault count.
+    pub past_faults: bool,
+    /// How many parts there have to be, if that is given: 1 to 999,999,999.
+    pub expected: Option<u64>,
 }
 
 /// What records an archive is packed into.

@@ -4,16 +4,16 @@ ghost use Rattle.clap.specs.Matches.{found_of};
 ghost use Rattle.clap.specs.Walk.{Text, rows_of};
 ghost use Rattle.clap.specs.Kinds.{HasKind};
 ghost use Rattle.mseed_words.specs.Words.{AsksFor, CanBeCalled, IsRefusal, auditing_by, auditing_of, encoding_in};
-ghost use Rattle.mseed_words.specs.Words.{encoding_named, entries_in, exponent_by, exponent_in, faults_in, joining_by};
-ghost use Rattle.mseed_words.specs.Words.{joining_of, packing_by, packing_of, packing_with, request_named, request_of};
-ghost use Rattle.mseed_words.specs.Words.{serving_by, showing_of};
+ghost use Rattle.mseed_words.specs.Words.{encoding_named, entries_in, expected_by, expected_in, exponent_by};
+ghost use Rattle.mseed_words.specs.Words.{exponent_in, faults_in, joining_by, joining_of, joining_with, packing_by};
+ghost use Rattle.mseed_words.specs.Words.{packing_of, packing_with, request_named, request_of, serving_by, showing_of};
 
 use crate::feed_words::{fetching_of, living_of, serving_of};
 use crate::found::{asks, has_only, text_of};
-use crate::numbers::number_in;
+use crate::numbers::{number_in, number_within};
 use crate::options::command;
 use crate::refusal::Refusal;
-use crate::request::{Packing, Request};
+use crate::request::{Joining, Packing, Request};
 use clap::error::ErrorKind;
 use clap::{ArgMatches, Error};
 use mseed_pack::Encoding;
@@ -129,31 +129,68 @@ fn auditing_by(each: bool, part: bool) -> Request
     }
 }
 
-/// What is requested of joining, by its flags.
+/// What is requested of joining, by its options.
 fn joining_of(matches: &ArgMatches<'_>) -> Option<Request>
     ensures value { result ≡ joining_of (rows_of (found_of matches.now)) }
     ensures range { IfSome result CanBeCalled }
 {
-    if !has_only(matches, &["command", "each", "part", "past-faults"]) {
+    if !has_only(
+        matches,
+        &["command", "each", "part", "past-faults", "expect"],
+    ) {
         return None;
     }
-    joining_by(
-        asks(matches, "each"),
-        asks(matches, "part"),
+    let joining = joining_with(
         asks(matches, "past-faults"),
-    )
+        expected_in(text_of(matches, "expect")),
+    );
+    joining_by(asks(matches, "each"), asks(matches, "part"), joining)
 }
 
 /// What is requested of joining: the text of an audit or a part, and a line for each border before the text alone.
-fn joining_by(each: bool, part: bool, past_faults: bool) -> Option<Request>
-    ensures value { result ≡ joining_by each part past_faults }
+fn joining_by(each: bool, part: bool, joining: Option<Joining>) -> Option<Request>
+    ensures value { result ≡ joining_by each part joining }
     ensures range { IfSome result CanBeCalled }
 {
-    match (each, part) {
-        (false, false) => Some(Request::Join { past_faults }),
-        (true, false) => Some(Request::JoinEach { past_faults }),
-        (false, true) => Some(Request::JoinPart { past_faults }),
-        (true, true) => None,
+    match (each, part, joining) {
+        (_, _, None) => None,
+        (false, false, Some(joining)) => Some(Request::Join(joining)),
+        (true, false, Some(joining)) => Some(Request::JoinEach(joining)),
+        (false, true, Some(joining)) => Some(Request::JoinPart(joining)),
+        (true, true, Some(_)) => None,
+    }
+}
+
+/// Which parts are joined, where the number of them is one that can be given.
+fn joining_with(past_faults: bool, expected: Option<Option<u64>>) -> Option<Joining>
+    ensures { result ≡ joining_with past_faults expected }
+{
+    match expected {
+        Some(expected) => Some(Joining {
+            past_faults,
+            expected,
+        }),
+        None => None,
+    }
+}
+
+/// How many parts there have to be, where a number is given: one to nine decimal digits, and not 0.
+fn expected_in(text: Option<&str>) -> Option<Option<u64>>
+    ensures { result ≡ expected_in (option_map (λ t. t.now) text.entry) }
+{
+    match text {
+        None => Some(None),
+        Some(text) => expected_by(number_within(9, text)?),
+    }
+}
+
+/// How many parts there have to be: at least one.
+fn expected_by(number: u32) -> Option<Option<u64>>
+    ensures { result ≡ expected_by number }
+{
+    match number {
+        0 => None,
+        _ => Some(Some(u64::from(number))),
     }
 }
 

@@ -1,18 +1,21 @@
 -- How reading parts goes along: no public contract is stated by these words.
-use Rattle.std.specs.Prelude.{◌≡◌, ◌+◌, ℕ, List, ◌++◌, Bool, true, false, Option, Some, None, Result, Ok, Err}
+use Rattle.std.specs.Prelude.{◌≡◌, ◌≢◌, ◌+◌, ℕ, List, ◌++◌, length, Bool, true, false, Option, Some, None}
+use Rattle.std.specs.Prelude.{Result, Ok, Err}
 use Rattle.mseed_stream.specs.Device.{BytesRead}
 use Rattle.mseed_stream.specs.Fault.{IsStreamFault}
 use Rattle.mseed_join.specs.declared.line_reader.Ahead.{Ahead}
 use Rattle.mseed_join.specs.declared.line_reader.Ahead.TheVariants.{Line, TooLong, Unended, Nothing}
+use Rattle.mseed_join.specs.declared.joint.Joint.{Joint}
+use Rattle.mseed_join.specs.declared.joint.JointPart.{JointPart}
 use Rattle.mseed_join.specs.declared.joint.Place.{Place}
 use Rattle.mseed_join.specs.declared.joint.Place.TheVariants.{Start, Channels, Whole}
 use Rattle.mseed_join.specs.declared.joint.Reported.{Reported}
 use Rattle.mseed_join.specs.declared.reader.PartsFault.{PartsFault}
-use Rattle.mseed_join.specs.declared.reader.PartsFault.TheVariants.{Line as BadLine, Stream, Memory}
+use Rattle.mseed_join.specs.declared.reader.PartsFault.TheVariants.{Line as BadLine, Count, Stream, Memory}
 use Rattle.mseed_join.specs.declared.reader.Reader.{Reader}
 use Rattle.mseed_join.specs.Joined.{HasNoBadLine, IsBadLine, IsJointOf}
 use Rattle.mseed_join.specs.Reached.{AreLinesRead, Stage, parts_at}
-use Rattle.mseed_join.specs.ReadParts.{written_of}
+use Rattle.mseed_join.specs.ReadParts.{AreExpected, written_of}
 use Rattle.mseed_join.specs.Written.{Spells}
 use Rattle.mseed_join.specs.private.LineReading.{GoesOn, IsReadBy}
 use Rattle.mseed_join.specs.private.Taking.{IsReadTo, IsReportedMore}
@@ -37,6 +40,13 @@ pub record IsAlong {A : Type 0} (past : Bool) (h now : BytesRead) (s : Stage) (r
   pub past_is : r.joint.past ≡ past
   pub goes_on : GoesOn h now r.lines
 
+-- no line more was passed, of all that was read
+pub record IsStoppedAt (h now : BytesRead) (s : Stage) : Type 0 where
+  pub bytes : List ℕ
+  pub reported : now.bytes ≡ h.bytes ++ bytes
+  pub count : ℕ
+  pub before : AreLinesRead bytes count s
+
 -- the input's end: all that was read is the texts of these parts
 pub record HasEnded {A : Type 0} (past : Bool) (h now : BytesRead) (s : Stage) (r : Reader A) : Type 0 where
   pub bytes : List ℕ
@@ -44,6 +54,8 @@ pub record HasEnded {A : Type 0} (past : Bool) (h now : BytesRead) (s : Stage) (
   pub at_end : now.is_at_end ≡ true
   pub spells : Spells bytes (parts_at s)
   pub joint : IsJointOf past (parts_at s) (written_of r.joint.so_far)
+  pub number : r.joint.parts ≡ length (parts_at s)
+  pub stopped : IsStoppedAt h now s
 
 -- a bad line, behind those that were passed
 pub record IsBadBehind (past : Bool) (h now : BytesRead) (s : Stage) (k : ℕ) : Type 0 where
@@ -52,13 +64,6 @@ pub record IsBadBehind (past : Bool) (h now : BytesRead) (s : Stage) (k : ℕ) :
   pub bad : IsBadLine past bytes now.is_at_end k
   pub count : ℕ
   pub behind : k ≡ count + 1
-  pub before : AreLinesRead bytes count s
-
--- no line more was passed, of all that was read
-pub record IsStoppedAt (h now : BytesRead) (s : Stage) : Type 0 where
-  pub bytes : List ℕ
-  pub reported : now.bytes ≡ h.bytes ++ bytes
-  pub count : ℕ
   pub before : AreLinesRead bytes count s
 
 -- and no bad line was read
@@ -74,5 +79,15 @@ IsNextStep past h s (Ok (Some reported)) now r =
     (t : Stage) × (IsAlong past h now t r × IsReportedMore past s t reported × (now.is_at_end ≡ false))
 IsNextStep past h s (Ok None) now r = HasEnded past h now s r
 IsNextStep past h s (Err (BadLine k)) now r = IsBadBehind past h now s k
+IsNextStep past h s (Err (Count parts due)) now r = ⊥
 IsNextStep past h s (Err (Stream fault)) now r = IsStreamFault fault h now × IsFailedAt past h now s
 IsNextStep past h s (Err Memory) now r = IsStoppedAt h now s
+
+-- All parts are read: the joint part, where they are as many as are expected; or their number, and the one that is
+-- expected.
+abbrev pub IsFinished : {A : Type 0} → Joint A → Option ℕ → Result (JointPart A) PartsFault → Type 0
+IsFinished j expected (Ok joint) = (joint ≡ j.so_far) × AreExpected expected j.parts
+IsFinished j expected (Err (Count parts due)) = (parts ≡ j.parts) × (expected ≡ Some due) × (parts ≢ due)
+IsFinished j expected (Err (BadLine k)) = ⊥
+IsFinished j expected (Err (Stream fault)) = ⊥
+IsFinished j expected (Err Memory) = ⊥

@@ -1,9 +1,9 @@
 -- The lines of borders, gathered as parts are read: no public contract is stated by these words.
-use Rattle.std.specs.Prelude.{◌≡◌, ℕ, ◌+◌, List, ◌++◌, Bool, Result, Ok, Err}
+use Rattle.std.specs.Prelude.{◌≡◌, ℕ, ◌+◌, List, ◌++◌, Bool, Option, Result, Ok, Err}
 use Rattle.mseed_stream.specs.Device.{BytesRead, BytesWritten}
 use Rattle.mseed_audit.specs.Each.{AreGathered, EmittedFirst, EmittedPart}
 use Rattle.mseed_join.specs.declared.joining.JoinsFault.{JoinsFault}
-use Rattle.mseed_join.specs.declared.joining.JoinsFault.TheVariants.{Line, Stream, Write, Memory}
+use Rattle.mseed_join.specs.declared.joining.JoinsFault.TheVariants.{Line, Count, Stream, Write, Memory}
 use Rattle.mseed_join.specs.declared.joint.JointPart.{JointPart}
 use Rattle.mseed_join.specs.Borders.{Border, border_lines}
 use Rattle.mseed_join.specs.JoinsEach.{IsJoinEachOutcome, IsReadEach}
@@ -17,6 +17,7 @@ pub record MovesOn (old new : BytesWritten) (text next line : List ℕ) : Type 0
 -- a prefix of a text was written before the fault
 abbrev pub IsCutShort : JoinsFault → BytesWritten → BytesWritten → List ℕ → Type 0
 IsCutShort (Line k) old new text = ⊥
+IsCutShort (Count parts due) old new text = ⊥
 IsCutShort (Stream fault) old new text = ⊥
 IsCutShort Write old new text = (new.failures ≡ old.failures + 1) × EmittedPart old new text
 IsCutShort Memory old new text = (new.failures ≡ old.failures) × EmittedFirst old new text
@@ -27,15 +28,17 @@ pub data IsFlushed (fault : JoinsFault) (old new : BytesWritten) (text : List �
   short : new.failures ≡ old.failures + 1 → EmittedPart old new text → IsFlushed fault old new text Write
 
 -- all parts were read, and the last lines of their borders are gathered
-pub record AreAllEach (past : Bool) {A : Type 0} (joint : JointPart A) (h : BytesRead)
+pub record AreAllEach (past : Bool) (expected : Option ℕ) {A : Type 0} (joint : JointPart A) (h : BytesRead)
     (old new reported now : BytesWritten) (text : List ℕ) : Type 0 where
   pub found : List Border
-  pub read : IsReadEach past h (written_of joint) found reported now
+  pub read : IsReadEach past expected h (written_of joint) found reported now
   pub gathered : AreGathered old new text (border_lines found)
   pub fine : new.failures ≡ old.failures
 
 -- by the outcome
-abbrev pub IsEachReading : {A : Type 0} → Result (JointPart A) JoinsFault → Bool → BytesRead → BytesWritten
+abbrev pub IsEachReading : {A : Type 0} → Result (JointPart A) JoinsFault → Bool → Option ℕ → BytesRead → BytesWritten
     → BytesWritten → BytesWritten → BytesWritten → List ℕ → Type 0
-IsEachReading (Ok joint) past h old new reported now text = AreAllEach past joint h old new reported now text
-IsEachReading (Err fault) past h old new reported now text = IsJoinEachOutcome past (Err fault) h old new reported now
+IsEachReading (Ok joint) past expected h old new reported now text =
+    AreAllEach past expected joint h old new reported now text
+IsEachReading (Err fault) past expected h old new reported now text =
+    IsJoinEachOutcome past expected (Err fault) h old new reported now

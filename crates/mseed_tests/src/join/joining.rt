@@ -65,13 +65,17 @@ struct Outcome {
     reported: Vec<u8>,
 }
 
+/// The form into which parts are joined, or else with borders, whether faults are passed, and how many parts are
+/// expected.
+type How = (Option<Form>, bool, Option<u64>);
+
 /// Joins the parts of a text with this memory into a form, or else with a line for each border, to an output with so
 /// much room.
 fn outcome_of<A: Allocator + Copy>(
     alloc: Global,
     memory: A,
     bytes: &[u8],
-    (form, past_faults): (Option<Form>, bool),
+    (form, past_faults, expected): How,
     room: usize,
 ) -> Outcome {
     let mut source = Counted::new(bytes);
@@ -82,11 +86,19 @@ fn outcome_of<A: Allocator + Copy>(
             memory,
             form,
             past_faults,
+            expected,
             &mut source,
             &mut sink,
             &mut errors,
         ),
-        None => join_each(memory, past_faults, &mut source, &mut sink, &mut errors),
+        None => join_each(
+            memory,
+            past_faults,
+            expected,
+            &mut source,
+            &mut sink,
+            &mut errors,
+        ),
     };
     Outcome {
         answer,
@@ -98,11 +110,10 @@ fn outcome_of<A: Allocator + Copy>(
 /// Room for all that is written.
 const ALL: usize = 1 << 20;
 
-/// Three parts, the form into which they are joined, or else with borders, and whether faults are passed; and what is
-/// written, reported and answered.
+/// Three texts of parts and how they are joined; and what is written, reported and answered.
 pub(super) type Row = (
     [&'static str; 3],
-    (Option<Form>, bool),
+    How,
     &'static str,
     &'static str,
     Result<Joined, JoinsFault>,
@@ -133,11 +144,71 @@ pub(super) const BOTH: Result<Joined, JoinsFault> = Ok(Joined {
 });
 
 static ROWS: [Row; 5] = [
-    (NOTHING, (Some(Form::Audit), false), EMPTY, "", WELL),
-    (SOUND, (Some(Form::Audit), false), AUDIT, "", BROKEN),
-    (SOUND, (Some(Form::Part), false), PART, "", BROKEN),
-    (FAULTY, (Some(Form::Audit), false), CUT, "", CUT_OFF),
-    (FAULTY, (Some(Form::Audit), true), PASSED, REPORTED, BOTH),
+    (NOTHING, (Some(Form::Audit), false, None), EMPTY, "", WELL),
+    (SOUND, (Some(Form::Audit), false, None), AUDIT, "", BROKEN),
+    (SOUND, (Some(Form::Part), false, None), PART, "", BROKEN),
+    (FAULTY, (Some(Form::Audit), false, None), CUT, "", CUT_OFF),
+    (
+        FAULTY,
+        (Some(Form::Audit), true, None),
+        PASSED,
+        REPORTED,
+        BOTH,
+    ),
+];
+
+/// Parts of which a number is expected: the one that isn't counted behind a fault too.
+static COUNTED: [Row; 8] = [
+    (
+        SOUND,
+        (Some(Form::Audit), false, Some(2)),
+        AUDIT,
+        "",
+        BROKEN,
+    ),
+    (SOUND, (Some(Form::Part), false, Some(2)), PART, "", BROKEN),
+    (
+        FAULTY,
+        (Some(Form::Audit), false, Some(2)),
+        CUT,
+        "",
+        CUT_OFF,
+    ),
+    (
+        FAULTY,
+        (Some(Form::Audit), true, Some(2)),
+        PASSED,
+        REPORTED,
+        BOTH,
+    ),
+    (
+        NOTHING,
+        (Some(Form::Audit), false, Some(1)),
+        "",
+        "",
+        Err(JoinsFault::Count(0, 1)),
+    ),
+    (
+        SOUND,
+        (Some(Form::Part), false, Some(3)),
+        "",
+        "",
+        Err(JoinsFault::Count(2, 3)),
+    ),
+    (
+        FAULTY,
+        (Some(Form::Audit), false, Some(1)),
+        "",
+        "",
+        Err(JoinsFault::Count(2, 1)),
+    ),
+    (
+        FAULTY,
+        (Some(Form::Part), true, Some(1)),
+        "",
+        REPORTED,
+        Err(JoinsFault::Count(2, 1)),
+    ),
 ];
 
 /// Whether parts are joined as a row says.
@@ -152,6 +223,13 @@ pub(super) fn is_joined(rt: &impl Abort, alloc: Global, row: &Row) -> bool {
 #[test]
 fn joins_parts(rt: HostRuntime) {
     for (index, row) in ROWS.iter().enumerate() {
+        assert!(rt; is_joined(&rt, rt.alloc(), row), "row {index}");
+    }
+}
+
+#[test]
+fn counts_parts(rt: HostRuntime) {
+    for (index, row) in COUNTED.iter().enumerate() {
         assert!(rt; is_joined(&rt, rt.alloc(), row), "row {index}");
     }
 }
@@ -171,7 +249,7 @@ fn is_bad_at(alloc: Global, text: &str, line: u64) -> bool {
         alloc,
         alloc,
         text.as_bytes(),
-        (Some(Form::Audit), false),
+        (Some(Form::Audit), false, None),
         ALL,
     );
     outcome.answer == Err(JoinsFault::Line(line)) && outcome.written.is_empty()
@@ -184,14 +262,15 @@ fn names_bad_lines(rt: HostRuntime) {
     }
 }
 
-/// Whether a join into a form, or with borders, says that an output without room failed.
-pub(super) fn says_that_it_failed(alloc: Global, bytes: &[u8], form: Option<Form>) -> bool {
-    outcome_of(alloc, alloc, bytes, (form, false), 0).answer == Err(JoinsFault::Write)
+/// Whether a join says that an output without room failed.
+pub(super) fn says_that_it_failed(alloc: Global, bytes: &[u8], how: How) -> bool {
+    outcome_of(alloc, alloc, bytes, how, 0).answer == Err(JoinsFault::Write)
 }
 
 #[test]
 fn says_that_the_output_failed(rt: HostRuntime) {
-    assert!(rt; says_that_it_failed(rt.alloc(), OF_FIRST.as_bytes(), Some(Form::Part)));
+    let how = (Some(Form::Part), false, Some(1));
+    assert!(rt; says_that_it_failed(rt.alloc(), OF_FIRST.as_bytes(), how));
 }
 
 /// Says whether memory was enough to write a text. Where it wasn't, at most so many bytes that begin it are written.
@@ -219,7 +298,7 @@ pub(super) fn assert_refusals(
     // The buffer for lines takes 64 KiB of it.
     for size in 1..=64 {
         let heap = LocalHeap::new(alloc, size * 2048).expect(rt, "memory");
-        let outcome = outcome_of(alloc, &heap, bytes, (form, false), ALL);
+        let outcome = outcome_of(alloc, &heap, bytes, (form, false, None), ALL);
         enough = enough.saturating_add(usize::from(is_enough(rt, &outcome, text, most)));
     }
     assert!(rt; 0 < enough && enough < 64);

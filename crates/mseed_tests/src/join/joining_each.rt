@@ -21,12 +21,40 @@ const PASSED: &str = "128 XX_STA__BHZ record 2 start 2024-01-01T00:00:00.825001 
     records 2 channels 1\n\
     faults 1\n";
 
-static ROWS: [Row; 5] = [
-    (NOTHING, (None, false), EMPTY, "", WELL),
-    (SOUND, (None, false), EACH, "", BROKEN),
-    (FAULTY, (None, false), CUT, "", CUT_OFF),
-    (FAULTY, (None, true), PASSED, REPORTED, BOTH),
-    (BAD, (None, false), BORDER, "", Err(JoinsFault::Line(7))),
+static ROWS: [Row; 9] = [
+    (NOTHING, (None, false, None), EMPTY, "", WELL),
+    (SOUND, (None, false, None), EACH, "", BROKEN),
+    (FAULTY, (None, false, None), CUT, "", CUT_OFF),
+    (FAULTY, (None, true, None), PASSED, REPORTED, BOTH),
+    (
+        BAD,
+        (None, false, Some(1)),
+        BORDER,
+        "",
+        Err(JoinsFault::Line(7)),
+    ),
+    (SOUND, (None, false, Some(2)), EACH, "", BROKEN),
+    (
+        SOUND,
+        (None, false, Some(1)),
+        BORDER,
+        "",
+        Err(JoinsFault::Count(2, 1)),
+    ),
+    (
+        FAULTY,
+        (None, false, Some(3)),
+        "",
+        "",
+        Err(JoinsFault::Count(2, 3)),
+    ),
+    (
+        FAULTY,
+        (None, true, Some(3)),
+        BORDER,
+        REPORTED,
+        Err(JoinsFault::Count(2, 3)),
+    ),
 ];
 
 /// The parts of both records, and a text that is none.
@@ -43,7 +71,10 @@ fn joins_with_borders(rt: HostRuntime) {
 fn says_that_no_line_was_taken(rt: HostRuntime) {
     let bytes = joint(&rt, rt.alloc(), &BAD);
     // The line of the border comes before the bad line is read.
-    assert!(rt; says_that_it_failed(rt.alloc(), &bytes, None));
+    assert!(rt; says_that_it_failed(rt.alloc(), &bytes, (None, false, None)));
+    // And before the parts are found to be too few.
+    let bytes = joint(&rt, rt.alloc(), &SOUND);
+    assert!(rt; says_that_it_failed(rt.alloc(), &bytes, (None, false, Some(3))));
 }
 
 #[test]

@@ -24,6 +24,7 @@ name_of named.Tries = codes "tries"
 name_of named.Each = codes "each"
 name_of named.Part = codes "part"
 name_of named.PastFaults = codes "past-faults"
+name_of named.Expect = codes "expect"
 name_of named.TellNext = codes "tell-next"
 name_of named.Holes = codes "holes"
 name_of named.Stretches = codes "stretches"
@@ -53,6 +54,7 @@ kind_of named.First = kind.Text
 kind_of named.From = kind.Text
 kind_of named.Address = kind.Text
 kind_of named.Timeout = kind.Text
+kind_of named.Expect = kind.Text
 
 -- `--name`, `--name VALUE` or `--name NUMBER`
 abbrev pub rule_by : Kind → Text → Rule

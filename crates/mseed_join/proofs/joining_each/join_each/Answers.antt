@@ -5,16 +5,16 @@ use Rattle.mseed_join.proofs.joining_each.join_each.Goals as goal
 
 pub returns-in-Err-clause-outcome : goal.returns-in-Err-clause-outcome
 returns-in-Err-clause-outcome g c =
-    each_no_memory c.args.past_faults _ (g.R.Source.read c.read_each.new.source) (g.W.Sink.written c.args.sink.now)
-    (g.W.Sink.written c.read_each.new.sink) (g.E.Sink.written c.args.errors.now)
+    each_no_memory c.args.past_faults c.args.expected _ (g.R.Source.read c.read_each.new.source)
+    (g.W.Sink.written c.args.sink.now) (g.W.Sink.written c.read_each.new.sink) (g.E.Sink.written c.args.errors.now)
     (g.E.Sink.written c.read_each.new.errors) c.read_each.new.text.items c.in_ok-part.ensures.reported
 
 pub returns-in-Ok-write_all_of : goal.returns-in-Ok-write_all_of
 returns-in-Ok-write_all_of g c =
     let write = c.in-Ok-write_all_of.ensures in
     record {
-      outcome = each_written c.args.past_faults _ (g.R.Source.read c.read_each.new.source) c.in-Ok.joined
-          (g.W.Sink.written c.args.sink.now) (g.W.Sink.written c.read_each.new.sink)
+      outcome = each_written c.args.past_faults c.args.expected _ (g.R.Source.read c.read_each.new.source)
+          c.in-Ok.joined (g.W.Sink.written c.args.sink.now) (g.W.Sink.written c.read_each.new.sink)
           (g.W.Sink.written c.write_all_of.new.sink) (g.E.Sink.written c.args.errors.now)
           (g.E.Sink.written c.read_each.new.errors) c.read_each.new.text.items c.push_joined.new.text.items
           c.deref.result.now c.in_ok-part.ensures.reported c.in-Ok.ensures.text c.deref.ensures.value
@@ -29,7 +29,7 @@ returns g c =
     let write = c.in-Err-write_all_of.ensures in
     let taken = take c.in-Err-write_all_of.field-0 c.deref.result.now in
     record {
-      outcome = each_cut_off c.args.past_faults _ (g.R.Source.read c.read_each.new.source)
+      outcome = each_cut_off c.args.past_faults c.args.expected _ (g.R.Source.read c.read_each.new.source)
           (g.W.Sink.written c.args.sink.now) (g.W.Sink.written c.read_each.new.sink)
           (g.W.Sink.written c.write_all_of.new.sink) (g.E.Sink.written c.args.errors.now)
           (g.E.Sink.written c.read_each.new.errors) c.read_each.new.text.items c.push_joined.new.text.items

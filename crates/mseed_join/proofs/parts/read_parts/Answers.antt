@@ -43,8 +43,8 @@ returns-in_err-reported-clause-outcome g c =
     let fault : PartsFault = c.in_err-reported.field-0.0 in
     let step = c.in_err-reported.ensures.step c.args.past h along.0 along.1.0 in
     let same : c.from_residual.result ≡ Err fault = search rules in
-    subst (λ r. IsReadOutcome r c.args.past h now reported at) (sym same)
-    (failed c.args.past h now along.0 c.next.new.self fault reported at step along.1.1)
+    subst (λ r. IsReadOutcome r c.args.past c.args.expected h now reported at) (sym same)
+    (failed c.args.past c.args.expected h now along.0 c.next.new.self fault reported at step along.1.1)
 
 pub returns-in_err-reported-clause-reads : goal.returns-in_err-reported-clause-reads
 returns-in_err-reported-clause-reads g c =
@@ -83,9 +83,8 @@ returns-in-None-clause-outcome g c =
     let now : BytesRead = g.R.Source.read c.next.new.source in
     let along = c.lines.invariant.along in
     let step = rw c.in-None.is at c.in_ok-reported.ensures.step c.args.past h along.0 along.1.0 in
-    subst (λ j. IsReadOutcome (Ok j) c.args.past h now (g.E.Sink.written c.args.errors.now)
-    (g.E.Sink.written c.lines.errors)) (sym c.into_joint.ensures)
-    (all_read c.args.past h now along.0 c.next.new.self _ _ step along.1.1)
+    all_read c.args.past c.args.expected h now along.0 c.next.new.self c.finish.result
+    (g.E.Sink.written c.args.errors.now) (g.E.Sink.written c.lines.errors) step along.1.1 c.finish.ensures
 
 pub returns-in-None-clause-reads : goal.returns-in-None-clause-reads
 returns-in-None-clause-reads g c =

@@ -2,18 +2,18 @@ use Rattle.std.proofs.Common.{◌≡◌, ◌≤◌, ◌<◌, ◌+◌, ◌-◌, �
 use Rattle.std.proofs.Math.Nat.{pow-suc, pow-le-pow_right}
 use Rattle.mseed_words.specs.Numbers.{is_digit, value_of}
 use Rattle.mseed_words.proofs.Called.{all_more, below, digits_more}
-use Rattle.mseed_words.proofs.numbers.number_in.Goals as goal
+use Rattle.mseed_words.proofs.numbers.number_within.Goals as goal
 
 pub overflow_mul-number : goal.overflow_mul-number
 overflow_mul-number c =
-    let wide : 10 ^ c.loop-digit.digit-index ≤ 10 ^ 6 =
-    pow-le-pow_right {n = 10} (omega arith) {i = c.loop-digit.digit-index} {j = 6} (omega arith) in
+    let wide : 10 ^ c.loop-digit.digit-index ≤ 10 ^ 8 =
+    pow-le-pow_right {n = 10} (omega arith) {i = c.loop-digit.digit-index} {j = 8} (omega arith) in
     omega (arith, wide, c.loop-digit.invariant.2)
 
 pub overflow_add-number : goal.overflow_add-number
 overflow_add-number c =
-    let wide : 10 ^ c.loop-digit.digit-index ≤ 10 ^ 6 =
-    pow-le-pow_right {n = 10} (omega arith) {i = c.loop-digit.digit-index} {j = 6} (omega arith) in
+    let wide : 10 ^ c.loop-digit.digit-index ≤ 10 ^ 8 =
+    pow-le-pow_right {n = 10} (omega arith) {i = c.loop-digit.digit-index} {j = 8} (omega arith) in
     omega (arith, wide, c.loop-digit.invariant.2)
 
 pub loop-digit-preserved : goal.loop-digit-preserved
