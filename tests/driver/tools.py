@@ -8,13 +8,14 @@ Records of 4,096 bytes hold 6,601 samples, and a day 14 of them.
 
 from __future__ import annotations
 
+import ctypes
 import os
 import struct
 import subprocess
 import sys
 import time
 from pathlib import Path
-from typing import Optional, Sequence
+from typing import Callable, Optional, Sequence
 
 from driver.program import LIMIT, PROGRAM, ROOT
 from driver.records import changed, record
@@ -27,11 +28,42 @@ LEAP = DAYS[1]
 JUNK = b"logger 7: power lost, started again\n".ljust(512, b"\0")
 
 
-def tool(name: str, *words: str, program: Optional[Path] = None) -> Result:
-    """Runs a tool over the program that is tested, or over another one."""
+# The rights by which root reads what nobody may: CAP_DAC_OVERRIDE and CAP_DAC_READ_SEARCH; and PR_CAPBSET_DROP.
+READ_ALL, DROP = (1, 2), 24
+
+
+def tool(name: str, *words: str, program: Optional[Path] = None,
+         first: Optional[Callable[[], None]] = None) -> Result:
+    """Runs a tool over the program that is tested, or over another one; in the process that becomes the tool something
+    may be called first."""
     run = subprocess.run([sys.executable, str(TOOLS / name), *words], stdin=subprocess.DEVNULL, capture_output=True,
-                         env={**os.environ, "MSEED": str(program or PROGRAM)}, timeout=LIMIT, check=False)
+                         env={**os.environ, "MSEED": str(program or PROGRAM)}, timeout=LIMIT, check=False,
+                         preexec_fn=first)
     return Result(run.returncode, run.stdout, run.stderr)
+
+
+def as_others() -> None:
+    """Gives up root's right to read what nobody may, for the program that is run next. Others have no such right."""
+    prctl = ctypes.CDLL(None).prctl
+    for right in READ_ALL:
+        prctl(DROP, right, 0, 0, 0)
+
+
+def losing(folder: Path) -> Path:
+    """A program that does what the one that is tested does, but of the parts that it should join it reads one less, as
+    if a part had been lost on its way."""
+    path = folder / "losing"
+    path.write_text(f"""\
+#!{sys.executable}
+import os, subprocess, sys
+if sys.argv[1] != "join":
+    os.execv({str(PROGRAM)!r}, [{str(PROGRAM)!r}, *sys.argv[1:]])
+parts = sys.stdin.buffer.read()
+left = parts[:max(0, parts.rfind(b"mseed part 1"))]
+sys.exit(subprocess.run([{str(PROGRAM)!r}, *sys.argv[1:]], input=left, check=False).returncode)
+""", encoding="utf-8")
+    path.chmod(0o755)
+    return path
 
 
 def integers(codes: bytes, day: tuple[int, int, int], first: int = 1008) -> list[bytes]:

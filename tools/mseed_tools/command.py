@@ -63,5 +63,10 @@ def run(main: Callable[[], int]) -> int:
     except BrokenPipeError:
         os.dup2(os.open(os.devnull, os.O_WRONLY), sys.stdout.fileno())
     except OSError as error:
-        print(f"{os.path.basename(sys.argv[0])}: {error}", file=sys.stderr)
+        print(f"{os.path.basename(sys.argv[0])}: {in_words(error)}", file=sys.stderr)
     return FAULT
+
+
+def in_words(error: OSError) -> str:
+    """What the system has refused."""
+    return f"{error.filename}: {error.strerror}" if error.filename is not None else error.strerror or str(error)

@@ -8,8 +8,8 @@ import stat
 from collections import Counter
 from typing import IO, Iterator, NamedTuple, Optional
 
+from mseed_tools.files import content_of, locked, write_whole
 from mseed_tools.program import ToolError
-from mseed_tools.state import locked, write_whole
 
 LENGTH = 512
 # Numbers go round.
@@ -56,9 +56,9 @@ class Held:
         except OSError as error:
             raise ToolError(f"{error.filename or path}: {error.strerror}") from error
 
-    def counted(self) -> Counter:
+    def counted(self) -> Counter[str]:
         """How many records of each place the file holds."""
-        counts: Counter = Counter()
+        counts: Counter[str] = Counter()
         with open(self.path, "rb") as file:
             while content := file.read(AT_ONCE):
                 counts.update(map(place_of, records_in(content)))
@@ -67,8 +67,7 @@ class Held:
     def kept(self) -> dict[str, list[Mark]]:
         """The marks of each place that the file has reached."""
         try:
-            with open(self.beside, encoding="ascii") as file:
-                text = json.load(file)
+            text = json.loads(content_of(self.beside))
             if text["form"] != FORM:
                 raise ValueError("another form")
             marks = {place: [Mark(*map(int, mark)) for mark in some] for place, some in text["places"].items()}

@@ -2,13 +2,14 @@
 
 from __future__ import annotations
 
+import contextlib
 import json
 import os
-from typing import IO, NamedTuple, Optional, Sequence
+from typing import IO, Iterator, NamedTuple, Optional, Sequence
 
+from mseed_tools.files import content_of, drop_begun, locked, opened, write_whole
 from mseed_tools.program import Done, Program, ToolError
 from mseed_tools.reading import stamp_of
-from mseed_tools.state import locked, write_whole
 from mseed_tools.texts import BEGIN
 from mseed_tools.tree import tree_at
 
@@ -54,8 +55,7 @@ def stamp_at(path: str) -> Optional[list[int]]:
 def parts_of(folder: str) -> list[Part]:
     """The parts of a folder, made or not, in the order of their files."""
     try:
-        with open(os.path.join(folder, LIST), encoding="ascii") as file:
-            listed = json.load(file)["files"]
+        listed = json.loads(content_of(os.path.join(folder, LIST)))["files"]
     except (OSError, ValueError, KeyError, TypeError) as error:
         raise ToolError(f"{folder}: lists no files: {error}") from error
     return [Part(source, stamp, os.path.join(folder, f"{number:08}.part"))
@@ -66,7 +66,9 @@ def held(folder: str) -> IO[bytes]:
     """A folder that one run at a time may hold, made where there is none."""
     try:
         os.makedirs(folder, exist_ok=True)
-        return locked(os.path.join(folder, "lock"))
+        lock = locked(os.path.join(folder, "lock"))
+        drop_begun(folder)
+        return lock
     except OSError as error:
         raise ToolError(f"{folder}: {error.strerror}") from error
 
@@ -76,8 +78,7 @@ def prepared(folder: str, sources: Sequence[str], program: Program) -> list[Part
     the parts that are still to be made."""
     identity = program.identity()
     try:
-        with open(os.path.join(folder, LIST), encoding="ascii") as file:
-            before = json.load(file)
+        before = json.loads(content_of(os.path.join(folder, LIST)))
         known = before["files"] if before["program"] == identity else []
     except (OSError, ValueError, KeyError, TypeError):
         known = []
@@ -91,17 +92,23 @@ def prepared(folder: str, sources: Sequence[str], program: Program) -> list[Part
     return [part for part in parts_of(folder) if not part.is_there()]
 
 
+@contextlib.contextmanager
+def source_at(path: str) -> Iterator[int]:
+    """A file, as a descriptor; where it can't be read, what can't be either."""
+    with contextlib.ExitStack() as files:
+        try:
+            file = files.enter_context(opened(path))
+        except OSError:
+            file = os.open(UNREADABLE, os.O_RDONLY)
+            files.callback(os.close, file)
+        yield file
+
+
 def make(program: Program, part: Part) -> None:
     """Makes a part. Of a file that can't be read it is the program's of what can't be read. Raises ToolError where the
     file isn't the one that was listed, or changes meanwhile."""
-    try:
-        file = os.open(part.source, os.O_RDONLY)
-    except OSError:
-        file = os.open(UNREADABLE, os.O_RDONLY)
-    try:
+    with source_at(part.source) as file:
         done = program.run(["audit", "--part"], file)
-    finally:
-        os.close(file)
     if stamp_at(part.source) != part.stamp:
         raise ToolError(f"{part.source}: changed")
     if not done.out.startswith(BEGIN):
@@ -119,8 +126,7 @@ def text_of(parts: Sequence[Part]) -> bytes:
     texts = []
     for part in parts:
         try:
-            with open(part.path, "rb") as file:
-                texts.append(file.read())
+            texts.append(content_of(part.path))
         except OSError as error:
             raise ToolError(f"{part.source}: has no part") from error
     return b"".join(texts)

@@ -3,10 +3,10 @@
 from __future__ import annotations
 
 import os
-import stat
 import time
 from typing import NamedTuple, Optional
 
+from mseed_tools.files import opened
 from mseed_tools.program import Program, ToolError
 from mseed_tools.texts import Found, Part, Shown, found_in, part_in, parted, shown_in
 
@@ -120,23 +120,16 @@ def read_file(program: Program, path: str) -> Reading:
     """Reads a file, and says so where it changed meanwhile."""
     now = time.time_ns()
     try:
-        file = os.open(path, os.O_RDONLY | os.O_NONBLOCK)
-    except OSError:
-        return unread("read")
-    try:
-        status = os.fstat(file)
-        if not stat.S_ISREG(status.st_mode):
-            return unread("read")
-        pieces, faults = read_pieces(program, file, status.st_size)
-        held = sum(piece.part.bytes for piece in pieces) + sum(fault.skipped for fault in faults)
-        # What has its name now is requested, since another file may have taken its place.
-        after = os.stat(path)
+        with opened(path) as file:
+            status = os.fstat(file)
+            pieces, faults = read_pieces(program, file, status.st_size)
+            # What has its name now is requested, since another file may have taken its place.
+            after = os.stat(path)
     except OSError:
         return unread("read")
     except ValueError as error:
         raise ToolError(f"{path}: a text that is none of mseed's: {error}") from error
-    finally:
-        os.close(file)
+    held = sum(piece.part.bytes for piece in pieces) + sum(fault.skipped for fault in faults)
     is_same = stamp_of(status) == stamp_of(after) and (status.st_ino, status.st_dev) == (after.st_ino, after.st_dev)
     is_whole = held == status.st_size or any(fault.why in ("read", "turns") for fault in faults)
     if not is_same or not is_whole:
@@ -148,11 +141,8 @@ def shown(program: Program, path: str, reading: Reading) -> list[Shown]:
     """The records of a file, each with its offset in the file."""
     records: list[Shown] = []
     for piece in reading.pieces:
-        file = os.open(path, os.O_RDONLY | os.O_NONBLOCK)
-        try:
+        with opened(path) as file:
             os.lseek(file, piece.at, os.SEEK_SET)
             for record in shown_in(program.run(["show"], file).out):
                 records.append(record._replace(offset=record.offset + piece.at))
-        finally:
-            os.close(file)
     return records

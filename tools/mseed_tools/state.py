@@ -2,37 +2,18 @@
 
 from __future__ import annotations
 
-import fcntl
 import json
 import os
 import time
 from typing import IO, Any, Optional
 
+from mseed_tools.files import content_of, drop_begun, locked, write_whole
 from mseed_tools.program import ToolError
 from mseed_tools.reading import Fault, Reading, Stamp, piece_of
 
 FORM = 1
 # What is new is written at least so many seconds after it was read.
 PAUSE = 1.0
-
-
-def write_whole(path: str, content: bytes) -> None:
-    """Writes a file by a rename: it has its old content or this one, whenever it is looked at."""
-    part = f"{path}.new"
-    with open(part, "wb") as file:
-        file.write(content)
-    os.replace(part, path)
-
-
-def locked(path: str) -> IO[bytes]:
-    """A file that one process at a time may hold. Raises ToolError where another does."""
-    file = open(path, "ab")
-    try:
-        fcntl.flock(file, fcntl.LOCK_EX | fcntl.LOCK_NB)
-    except OSError as error:
-        file.close()
-        raise ToolError(f"{path}: held by another run") from error
-    return file
 
 
 class State:
@@ -54,6 +35,7 @@ class State:
             try:
                 os.makedirs(folder, exist_ok=True)
                 self.lock = locked(os.path.join(folder, "lock"))
+                drop_begun(folder)
             except OSError as error:
                 raise ToolError(f"{folder}: {error.strerror}") from error
 
@@ -67,8 +49,7 @@ class State:
             return {}
         if name not in self.held:
             try:
-                with open(self.path_of(name), encoding="ascii") as file:
-                    text = json.load(file)
+                text = json.loads(content_of(self.path_of(name)))
                 is_ours = all(text.get(word) == value for word, value in self.head.items())
                 self.held[name] = dict(text["files"]) if is_ours else {}
             except (OSError, ValueError, KeyError, AttributeError, TypeError):

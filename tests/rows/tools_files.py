@@ -1,0 +1,158 @@
+"""What the tools do with files of other kinds than they may expect: where they write, links, FIFOs and devices; in a
+tree, FIFOs.
+
+Some rows need what not every user may: a device is made by root alone. Where it can't be had, they are skipped."""
+
+from __future__ import annotations
+
+import os
+import stat
+import subprocess
+import sys
+import tempfile
+import threading
+from pathlib import Path
+from typing import Callable, Optional
+
+from driver.program import PROGRAM, SAMPLES
+from driver.records import record
+from driver.rows import Cases, Fact, Result, Skipped, holds
+from driver.tools import TOOLS, outcome, rest, tool, write_tree
+
+# So long a tool may take that isn't to wait for anybody.
+SECONDS = 60
+SAMPLE = SAMPLES / "network_gap.mseed"
+GAPS = "gaps 0 0.000000 s overlaps 0 0.000000 s findings 0"
+# A record of 16 samples at 20 a second, and the next one where it ends.
+LINE = "records 1 samples 16 from 2024-01-01T00:00:00.000000 to 2024-01-01T00:00:00.800000"
+
+
+def drawn() -> bytes:
+    """What `timeline` draws of the sample."""
+    return tool("timeline", str(SAMPLE)).out
+
+
+def led_to(link: Path) -> Optional[str]:
+    """Where a link leads; nowhere, where it is none."""
+    return os.readlink(link) if link.is_symlink() else None
+
+
+def links(folder: Path, picture: bytes) -> Cases:
+    """A link stays, and what it leads to is replaced, whole and with its rights; a file that isn't there is made."""
+    target, link = folder / "target.svg", folder / "link.svg"
+    target.write_bytes(b"old")
+    target.chmod(0o640)
+    other = folder / "kept.svg"
+    os.link(target, other)
+    link.symlink_to("target.svg")
+    came = tool("timeline", "--output", str(link), str(SAMPLE))
+    yield Fact("timeline --output LINK", (0, b"", b"", "target.svg", picture),
+               (*came[:3], led_to(link), target.read_bytes()))
+    yield Fact("the rights of what was replaced stay", 0o640, stat.S_IMODE(target.stat().st_mode))
+    yield Fact("it is replaced, and not written into", b"old", other.read_bytes())
+    beyond = folder / "beyond.svg"
+    beyond.symlink_to("made.svg")
+    tool("timeline", "--output", str(beyond), str(SAMPLE))
+    yield Fact("timeline --output LINK to nothing", (picture, "made.svg"), (beyond.read_bytes(), led_to(beyond)))
+    neighbour = folder / "target.svg.new"
+    neighbour.write_bytes(b"somebody's")
+    tool("timeline", "--output", str(target), str(SAMPLE))
+    yield Fact("files beside it stay", b"somebody's", neighbour.read_bytes() if neighbour.exists() else None)
+    yield Fact("nothing that was begun is left", ["beyond.svg", "kept.svg", "link.svg", "made.svg", "target.svg",
+                                                  "target.svg.new"], sorted(os.listdir(folder)))
+
+
+def pipes(folder: Path, picture: bytes) -> Cases:
+    """A FIFO is written into."""
+    fifo, came = folder / "fifo", []
+    os.mkfifo(fifo)
+    reader = threading.Thread(target=lambda: came.append(fifo.read_bytes()), daemon=True)
+    reader.start()
+    result = tool("timeline", "--output", str(fifo), str(SAMPLE))
+    # Where it was replaced, whoever reads it waits for ever.
+    reader.join(10)
+    yield Fact("timeline --output FIFO", (0, [picture], True),
+               (result.status, came, stat.S_ISFIFO(fifo.stat().st_mode)))
+
+
+def devices(folder: Path) -> Cases:
+    """A device is written into; one that is full fails, and stays as well. These have the numbers of /dev/null and
+    /dev/full, and other names, so that a tool that does otherwise does no harm."""
+    for name, minor, status in (("null", 3, 0), ("full", 7, 2)):
+        path = folder / name
+        try:
+            os.mknod(path, stat.S_IFCHR | 0o666, os.makedev(1, minor))
+            with open(path, "wb"):
+                pass
+        except OSError as error:
+            yield Skipped(f"timeline --output /dev/{name}", f"a device that one may make and open here: {error}")
+            continue
+        came = tool("timeline", "--output", str(path), str(SAMPLE))
+        err = f"timeline: {path}: No space left on device\n" if status else ""
+        yield Fact(f"timeline --output /dev/{name}", (status, [], err, True),
+                   (*outcome(came), stat.S_ISCHR(path.lstat().st_mode)))
+    came = tool("timeline", "--output", str(folder), str(SAMPLE))
+    yield Fact("timeline --output FOLDER", (2, [], f"timeline: {folder}: Is a directory\n"), outcome(came))
+
+
+def within_limit(words: list[str], first: Optional[Callable[[], None]] = None) -> Optional[Result]:
+    """How a tool ends, if it does so in its time."""
+    run = subprocess.Popen([sys.executable, str(TOOLS / words[0]), *words[1:]], stdin=subprocess.DEVNULL,
+                           stdout=subprocess.PIPE, stderr=subprocess.PIPE, env={**os.environ, "MSEED": str(PROGRAM)},
+                           preexec_fn=first)
+    try:
+        out, err = run.communicate(timeout=SECONDS)
+        return Result(run.returncode, out, err)
+    except subprocess.TimeoutExpired:
+        run.kill()
+        run.communicate()
+        return None
+
+
+def kept_files(folder: Path) -> Cases:
+    """What tools keep: FIFOs in the place of what is kept are no reason to wait."""
+    out = folder / "fetched"
+    os.mkfifo(f"{out}.numbers")
+    words = ["--port", "1", "--network", "XX", "--station", "STA", "--tries", "1"]
+    came = within_limit(["fetch_on", str(out), *words])
+    yield Fact("fetch_on, whose numbers are a FIFO", (2, [], f"fetch_on: {out}.numbers: not a regular file\n"),
+               came and outcome(came))
+    os.mkfifo(folder / "fifo")
+    came = within_limit(["fetch_on", str(folder / "fifo"), *words])
+    yield holds("fetch_on FIFO", came and came.status == 2 and came.err.startswith(b"fetch_on: "), came)
+
+
+def day(station: str, number: int, second: int = 0, location: str = "") -> tuple[str, bytes]:
+    """A file of a record, and its place."""
+    codes = f"{station:5}{location:2}BHZXX".encode()
+    return (f"2024/XX/{station}/BHZ.D/XX.{station}.{location}.BHZ.D.2024.{number:03}",
+            record(codes=codes, day=number, second=second))
+
+
+def fifo_in_tree(folder: Path) -> Cases:
+    """A FIFO in the place of a file can't be read, and nobody waits for it."""
+    root = folder / "with-fifo"
+    write_tree(root, dict([day("AAA", 1), day("BBB", 1)]))
+    fifo = "2024/XX/AAA/BHZ.D/XX.AAA..BHZ.D.2024.002"
+    os.mkfifo(root / fifo)
+    rest()
+    came = within_limit(["sds", str(root)])
+    yield Fact("sds: a FIFO in the tree", (2, [
+        f"XX_AAA__BHZ days 1 {LINE} {GAPS}", f"  fault {fifo} at 0 read, 0 bytes skipped",
+        f"XX_BBB__BHZ days 1 {LINE} {GAPS}",
+        "files 3 bytes 256 channels 2 continuous 2 broken 0 undecoded 0 faults 1"], ""), came and outcome(came))
+    for name in ("gaps", "timeline"):
+        came = within_limit([name, str(root)])
+        yield Fact(f"{name}: a FIFO in the tree", (2, f"{root}/{fifo}: fault at 0 read\n".encode()),
+                   came and (came.status, came.err))
+        came = within_limit([name, str(root / fifo)])
+        yield Fact(f"{name} FIFO", (2, f"{root}/{fifo}: fault at 0 read\n".encode()), came and (came.status, came.err))
+
+
+def rows() -> Cases:
+    """All of them."""
+    picture = drawn()
+    for some in (lambda folder: links(folder, picture), lambda folder: pipes(folder, picture), devices, kept_files,
+                 fifo_in_tree):
+        with tempfile.TemporaryDirectory() as name:
+            yield from some(Path(name))
