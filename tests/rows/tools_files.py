@@ -1,10 +1,11 @@
 """What the tools do with files of other kinds than they may expect: where they write, links, FIFOs and devices; in a
-tree, FIFOs.
+tree, FIFOs and folders that nobody may read; and folders of an archive that are named in place of its root.
 
 Some rows need what not every user may: a device is made by root alone. Where it can't be had, they are skipped."""
 
 from __future__ import annotations
 
+import json
 import os
 import stat
 import subprocess
@@ -17,7 +18,7 @@ from typing import Callable, Optional
 from driver.program import PROGRAM, SAMPLES
 from driver.records import record
 from driver.rows import Cases, Fact, Result, Skipped, holds
-from driver.tools import TOOLS, outcome, rest, tool, write_tree
+from driver.tools import TOOLS, as_others, outcome, rest, tool, write_tree
 
 # So long a tool may take that isn't to wait for anybody.
 SECONDS = 60
@@ -149,10 +150,69 @@ def fifo_in_tree(folder: Path) -> Cases:
         yield Fact(f"{name} FIFO", (2, f"{root}/{fifo}: fault at 0 read\n".encode()), came and (came.status, came.err))
 
 
+def unread_folders(folder: Path) -> Cases:
+    """A folder that can't be read is a fault of its own, whatever it holds, and all others are read."""
+    root = folder / "unread"
+    write_tree(root, dict([day("AAA", 1), day("BBB", 1), day("CCC", 1)]))
+    hidden = ["2023", "2024/XX/BBB", "2024/XX/CCC/BHZ.D", "2024/YY"]
+    for path in hidden:
+        (root / path).mkdir(parents=True, exist_ok=True)
+        (root / path).chmod(0)
+    loop = "2024/XX/AAA/BHN.D"
+    (root / loop).symlink_to("BHN.D")
+    (root / "2024/XX/note").write_bytes(b"x")
+    rest()
+    places = sorted([*hidden, loop])
+    try:
+        came = tool("sds", str(root), first=as_others)
+        yield Fact("sds: folders that nobody may read", (2, [
+            f"XX_AAA__BHZ days 1 {LINE} {GAPS}", *[f"fault {path} at 0 read, 0 bytes skipped" for path in places],
+            "misplaced 2024/XX/note",
+            "files 1 bytes 128 channels 1 continuous 1 broken 0 undecoded 0 faults 5"], ""), outcome(came))
+        reported = json.loads(tool("sds", "--json", str(root), first=as_others).out or "{}")
+        yield Fact("sds: folders that nobody may read, in JSON",
+                   ([{"file": path, "at": 0, "fault": "read", "skipped": 0} for path in places], 5),
+                   (reported.get("fault"), reported.get("total", {}).get("faults")))
+        err = "".join(f"{root}/{path}: fault at 0 read\n" for path in places).encode()
+        for name in ("gaps", "timeline"):
+            came = tool(name, str(root), first=as_others)
+            yield Fact(f"{name}: folders that nobody may read", (2, err), (came.status, came.err))
+        root.chmod(0)
+        came = tool("sds", str(root), first=as_others)
+        yield Fact("sds: a root that nobody may read", (2, [], f"sds: {root}: Permission denied\n"), outcome(came))
+    finally:
+        root.chmod(0o755)
+        for path in hidden:
+            (root / path).chmod(0o755)
+
+
+def wrong_roots(folder: Path) -> Cases:
+    """A folder of the archive in place of its root is named, with the root."""
+    root = folder / "archive"
+    write_tree(root, dict([day("AAA", 1), day("BBB", 1)]))
+    (root / "2024/readme").write_bytes(b"x")
+    for path, kind in (("2024", "year"), ("2024/XX", "network"), ("2024/XX/AAA", "station"),
+                       ("2024/XX/AAA/BHZ.D", "channel")):
+        line = f"{root}/{path}: the folder of a {kind}; the root of the archive is {root}\n"
+        for name, words in (("sds", []), ("gaps", []), ("timeline", []), ("slurm", ["--parts", f"{folder}/parts"])):
+            yield Fact(f"{name}: a {kind}'s folder for the root", (2, [], f"{name}: {line}"),
+                       outcome(tool(name, *words, f"{root}/{path}")))
+    (root / "2024").rename(folder / "some")
+    yield Fact("sds: a year's folder that has another name", (2, [], (
+        f"sds: {folder}/some: the folder of a year; the root of the archive is the folder above the years\n")),
+        outcome(tool("sds", str(folder / "some"))))
+    # A root with nothing in a place of the layout is a root all the same.
+    odd = folder / "2023"
+    write_tree(odd, {"XX/AAA/notes": b"x", "readme": b"x"})
+    yield Fact("sds: a root without files of days", (1, [
+        "misplaced XX", "misplaced readme",
+        "files 0 bytes 0 channels 0 continuous 0 broken 0 undecoded 0 faults 0"], ""), outcome(tool("sds", str(odd))))
+
+
 def rows() -> Cases:
     """All of them."""
     picture = drawn()
     for some in (lambda folder: links(folder, picture), lambda folder: pipes(folder, picture), devices, kept_files,
-                 fifo_in_tree):
+                 fifo_in_tree, unread_folders, wrong_roots):
         with tempfile.TemporaryDirectory() as name:
             yield from some(Path(name))

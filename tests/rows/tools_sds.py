@@ -32,29 +32,6 @@ KILLS = 20
 
 SPAN = "from 2016-12-30T00:00:00.000000 to 2017-01-04T00:00:00.000000"
 NO_GAPS, NO_OVERLAPS = "gaps 0 0.000000 s", "overlaps 0 0.000000 s"
-# Five days have 432,001 seconds. A record of 512 bytes has 721.
-EXPECTED = f"""\
-XX_AAA__BHE days 5 records 600 samples 432001 {SPAN} gaps 1 721.000000 s overlaps 1 721.000000 s findings 2
-XX_AAA__BHN days 5 records 70 samples 432001 {SPAN} {NO_GAPS} {NO_OVERLAPS} findings 0
-XX_AAA__BHZ days 5 records 600 samples 432001 {SPAN} {NO_GAPS} {NO_OVERLAPS} findings 0
-XX_BBB__BHN days 5 records 600 samples 432001 {SPAN} gaps 2 172800.000000 s overlaps 1 172800.000000 s findings 3
-XX_BBB__BHZ days 5 records 720 samples 518401 {SPAN} {NO_GAPS} overlaps 1 86400.000000 s findings 1
-XX_BBB__LOG undecoded days 5 records 5 samples 100 from 2016-12-30T12:00:00.000000 to 2017-01-03T12:00:00.000000
-XX_CCC__BHE days 5 records 566 samples 432001 {SPAN} {NO_GAPS} {NO_OVERLAPS} findings 2
-XX_CCC__BHN days 5 records 599 samples 431399 {SPAN} gaps 1 601.000000 s {NO_OVERLAPS} findings 1
-  fault {place("CCC", "BHN", DAYS[1])} at 60928 truncated 412, 412 bytes skipped
-  fault {place("CCC", "BHN", DAYS[2])} at 30720 notdata, 512 bytes skipped
-  fault {place("CCC", "BHN", DAYS[3])} at 30720 notdata, 4096 bytes skipped
-XX_CCC__BHZ days 2 records 240 samples 172800 {SPAN} gaps 1 259200.000000 s {NO_OVERLAPS} findings 1
-  missing 2016-12-31..2017-01-02
-  empty {place("CCC", "BHZ", DAYS[1])}
-  foreign {place("CCC", "BHZ", DAYS[2])} XX_AAA__BHZ
-  fault {place("CCC", "BHZ", DAYS[3])} at 0 read, 0 bytes skipped
-misplaced {place("AAA", "BHZ", DAYS[4], folder="CCC")}
-""".splitlines()
-# In records of 512 and of 4,096 bytes; the day with blockette 100 has 86 of these.
-BYTES = 512 * (600 + 600 + 600 + 720 + 5 + 1 + 480 + 600 + 1 + 360) - 100 + 4096 * (70 + 86 + 1)
-TOTAL = f"files 45 bytes {BYTES} channels 9 continuous 2 broken 6 undecoded 1 faults 4"
 
 EACH = [
     # The 50 records before it have 36,050 samples: it begins a record later.
@@ -70,6 +47,40 @@ EACH = [
     (place("CCC", "BHN", DAYS[2]), 0, "XX_CCC__BHN", 1, "2017-01-01T00:00:00.000000", "gap 601000000"),
     (place("CCC", "BHZ", DAYS[4]), 0, "XX_CCC__BHZ", 1, "2017-01-03T00:00:00.000000", "gap 259200000000"),
 ]
+FIRST = {name: f"first record {number} offset {offset} {why} in {path}"
+         for path, offset, name, number, _, why in reversed(EACH)}
+
+# Five days have 432,001 seconds. A record of 512 bytes has 721.
+EXPECTED = f"""\
+XX_AAA__BHE days 5 records 600 samples 432001 {SPAN} gaps 1 721.000000 s overlaps 1 721.000000 s findings 2 \
+{FIRST["XX_AAA__BHE"]}
+XX_AAA__BHN days 5 records 70 samples 432001 {SPAN} {NO_GAPS} {NO_OVERLAPS} findings 0
+XX_AAA__BHZ days 5 records 600 samples 432001 {SPAN} {NO_GAPS} {NO_OVERLAPS} findings 0
+XX_BBB__BHN days 5 records 600 samples 432001 {SPAN} gaps 2 172800.000000 s overlaps 1 172800.000000 s findings 3 \
+{FIRST["XX_BBB__BHN"]}
+XX_BBB__BHZ days 5 records 720 samples 518401 {SPAN} {NO_GAPS} overlaps 1 86400.000000 s findings 1 \
+{FIRST["XX_BBB__BHZ"]}
+XX_BBB__LOG undecoded days 5 records 5 samples 100 from 2016-12-30T12:00:00.000000 to 2017-01-03T12:00:00.000000
+XX_CCC__BHE days 5 records 566 samples 432001 {SPAN} {NO_GAPS} {NO_OVERLAPS} findings 2 \
+{FIRST["XX_CCC__BHE"]}
+XX_CCC__BHN days 5 records 599 samples 431399 {SPAN} gaps 1 601.000000 s {NO_OVERLAPS} findings 1 \
+{FIRST["XX_CCC__BHN"]}
+  fault {place("CCC", "BHN", DAYS[1])} at 60928 truncated 412, 412 bytes skipped
+  fault {place("CCC", "BHN", DAYS[2])} at 30720 notdata, 512 bytes skipped
+  fault {place("CCC", "BHN", DAYS[3])} at 30720 notdata, 4096 bytes skipped
+XX_CCC__BHZ days 2 records 240 samples 172800 {SPAN} gaps 1 259200.000000 s {NO_OVERLAPS} findings 1 \
+{FIRST["XX_CCC__BHZ"]}
+  missing 2016-12-31..2017-01-02
+  empty {place("CCC", "BHZ", DAYS[1])}
+  foreign {place("CCC", "BHZ", DAYS[2])} XX_AAA__BHZ
+  fault {place("CCC", "BHZ", DAYS[3])} at 0 read, 0 bytes skipped
+misplaced {place("AAA", "BHZ", DAYS[4], folder="CCC")}
+""".splitlines()
+# In records of 512 and of 4,096 bytes; the day with blockette 100 has 86 of these.
+BYTES = 512 * (600 + 600 + 600 + 720 + 5 + 1 + 480 + 600 + 1 + 360) - 100 + 4096 * (70 + 86 + 1)
+TOTAL = f"files 45 bytes {BYTES} channels 9 continuous 2 broken 6 undecoded 1 faults 4"
+
+WORDS = ("file", "offset", "name", "number", "start", "why")
 
 
 def line_of(path: str, offset: int, name: str, number: int, start: str, why: str) -> str:
@@ -106,14 +117,15 @@ def in_json(came: Result) -> Cases:
     yield Fact("a channel in JSON", {
         "channel": "XX_CCC__BHZ", "state": "broken", "days": 2, "records": 240, "samples": 172800, "from": first,
         "to": first + 5 * 86400 * 10**6, "gaps": {"count": 1, "microseconds": 259200 * 10**6},
-        "overlaps": {"count": 0, "microseconds": 0}, "findings": 1, "missing": [["2016-12-31", "2017-01-02"]],
+        "overlaps": {"count": 0, "microseconds": 0}, "findings": 1, "first": dict(zip(WORDS, EACH[-1])),
+        "missing": [["2016-12-31", "2017-01-02"]],
         "foreign": [{"file": place("CCC", "BHZ", DAYS[2]), "channel": "XX_AAA__BHZ"}],
         "fault": [{"file": place("CCC", "BHZ", DAYS[3]), "at": 0, "fault": "read", "skipped": 0}], "changed": [],
         "empty": [{"file": place("CCC", "BHZ", DAYS[1])}]}, by_name["XX_CCC__BHZ"])
     yield Fact("a log in JSON", ("undecoded", 20 * 5, None),
                tuple(by_name["XX_BBB__LOG"].get(word) for word in ("state", "samples", "findings")))
-    words = ("file", "offset", "name", "number", "start", "why")
-    yield Fact("each finding in JSON", [dict(zip(words, values)) for values in EACH], reported["each"])
+    yield Fact("what is first in a sound channel, in JSON", None, by_name["XX_AAA__BHZ"]["first"])
+    yield Fact("each finding in JSON", [dict(zip(WORDS, values)) for values in EACH], reported["each"])
     yield Fact("the total in JSON", TOTAL, " ".join(f"{word} {number}" for word, number in reported["total"].items()))
     yield Fact("misplaced files in JSON", [EXPECTED[-1].split()[1]], reported["misplaced"])
 
@@ -130,8 +142,8 @@ def kept(root: Path, state: Path) -> Cases:
         rest()
         came = outcome(tool("sds", "--state", str(state), str(root), program=program.path))
         yield Fact("a run after a change reads that file", (1, True),
-                   (program.audits(), any(line.startswith("XX_AAA__BHZ") and line.endswith(
-                       "gaps 1 601.000000 s overlaps 0 0.000000 s findings 1") for line in came[1])))
+                   (program.audits(), any(line.startswith("XX_AAA__BHZ")
+                       and " gaps 1 601.000000 s overlaps 0 0.000000 s findings 1 " in line for line in came[1])))
         text = next(state.rglob("XX.AAA..BHZ.D.2016.json"))
         whole = text.read_bytes()
         for content in (b"", b"{", b"[]", b'{"form": 1}', whole[:-20], whole.replace(b"mseed", b"")):
@@ -185,17 +197,18 @@ def expected_of(files: dict[str, bytes], key: bytes) -> tuple[list[str], Optiona
     if not records:
         return [], None
     channel = [(place, place, record) for place, (_, _, _, record) in enumerate(records)]
-    lines, sums = [], {"gap": [], "overlap": []}
+    lines, firsts, sums = [], [], {"gap": [], "overlap": []}
     for at, _, why in findings(channel):
         path, number, offset, record = records[at]
         lines.append(line_of(path, offset, name_of(key), number, start_of(record.start()), why))
+        firsts.append(f" first record {number} offset {offset} {why} in {path}")
         if why.split()[0] in sums:
             sums[why.split()[0]].append(int(why.split()[1]))
     totals = " ".join(f"{kind}s {len(some)} {sum(some) / 10**6:.6f} s" for kind, some in sums.items())
     samples = sum(record.count for _, _, _, record in records)
     days = len({path for path, _, _, _ in records})
     return lines, (f"{name_of(key)} days {days} records {len(records)} samples {samples} .. {totals} "
-                   f"findings {len(lines)}")
+                   f"findings {len(lines)}{''.join(firsts[:1])}")
 
 
 def random_tree(source: Random) -> tuple[dict[str, bytes], list[bytes]]:
@@ -253,7 +266,7 @@ def as_audited(seed: int, files: dict[str, bytes], keys: list[bytes], status: in
         own = next((line for line in came if line.startswith(f"{name_of(key)} days")), "")
         count = re.search(r"broken findings (\d+)", line)
         yield Fact(f"the tree of seed {seed}, {name_of(key)} as it is audited", count[1] if count else "0",
-                   own.split()[-1])
+                   own.split(" findings ")[1].split()[0])
         begin = re.search(r"continuous (\S+)", line)
         if begin:
             yield Fact(f"the tree of seed {seed}, where {name_of(key)} begins", begin[1],

@@ -31,11 +31,13 @@ class Part(NamedTuple):
 
 
 def sources_in(paths: Sequence[str], lists: Sequence[str]) -> list[str]:
-    """The files that words name: files, the trees of folders, and files that list others, a line each."""
+    """The files that words name: files, the trees of folders, and files that list others, a line each. Folders of a
+    tree that can't be read come behind its files, as files that can't be."""
     sources = []
     for path in paths:
         if os.path.isdir(path):
-            sources += [os.path.join(path, file.path) for file in tree_at(path).files]
+            tree = tree_at(path)
+            sources += [os.path.join(path, one) for one in [*(file.path for file in tree.files), *tree.unread]]
         else:
             sources.append(path)
     for path in lists:

@@ -46,11 +46,16 @@ class ChannelReport(NamedTuple):
             for fault in reading.faults:
                 yield "fault", {"file": file.path, "at": fault.at, "fault": fault.why, "skipped": fault.skipped}
             if reading.problem == "read":
-                yield "fault", {"file": file.path, "at": 0, "fault": "read", "skipped": 0}
+                yield "fault", unread_at(file.path)
             elif reading.problem is not None:
                 yield reading.problem, {"file": file.path}
             elif reading.stamp.size == 0:
                 yield "empty", {"file": file.path}
+
+
+def unread_at(path: str) -> dict[str, object]:
+    """The fault of a file, or of a folder, that can't be read."""
+    return {"file": path, "at": 0, "fault": "read", "skipped": 0}
 
 
 class Audit(NamedTuple):
@@ -66,7 +71,7 @@ class Audit(NamedTuple):
         sizes = [reading.stamp.size for report in self.reports for reading in report.readings]
         return {"files": len(sizes), "bytes": sum(sizes), "channels": len(states),
                 **{state: states.count(state) for state in ("continuous", "broken", "undecoded")},
-                "faults": amiss.count("fault") + amiss.count("changed")}
+                "faults": amiss.count("fault") + amiss.count("changed") + len(self.tree.unread)}
 
 
 def reports_of(program: Program, tree: Tree, jobs: int, state: State) -> Iterator[ChannelReport]:
@@ -108,7 +113,14 @@ def line_of(report: ChannelReport) -> str:
     for kind in ("gap", "overlap"):
         lengths = channel.of_kind(kind)
         what += f" {kind}s {len(lengths)} {seconds_of(sum(lengths))} s"
-    return f"{channel.name} {what} findings {channel.findings}"
+    return f"{channel.name} {what} findings {channel.findings}{first_of(report)}"
+
+
+def first_of(report: ChannelReport) -> str:
+    """What is found first in a channel, in the words of an audit, and in which file, where something is."""
+    for path, found in findings_of(report):
+        return f" first record {found.number} offset {found.offset} {found.why} in {path}"
+    return ""
 
 
 def run_in_words(run: tuple[str, str]) -> str:
@@ -123,17 +135,31 @@ def lines_of(report: ChannelReport) -> Iterator[str]:
         yield "  missing " + " ".join(run_in_words(run) for run in report.missing())
     for word, values in report.amiss():
         if word == "fault":
-            yield "  fault {file} at {at} {fault}, {skipped} bytes skipped".format(**values)
+            yield f"  {fault_in_words(values)}"
         else:
             yield f"  {word} " + " ".join(str(value) for value in values.values())
 
 
+def fault_in_words(values: dict[str, object]) -> str:
+    """A fault."""
+    return "fault {file} at {at} {fault}, {skipped} bytes skipped".format(**values)
+
+
+def findings_of(report: ChannelReport) -> Iterator[tuple[str, Found]]:
+    """Each record of a channel with a finding: its file, and what is found."""
+    if report.channel and report.channel.is_decoded:
+        for at in report.channel.found:
+            yield report.files[at.file].path, at.found
+
+
 def each_of(audit: Audit) -> Iterator[tuple[str, Found]]:
-    """Each record with a finding, channel after channel: its file, and what is found."""
-    for report in audit.reports:
-        if report.channel and report.channel.is_decoded:
-            for at in report.channel.found:
-                yield report.files[at.file].path, at.found
+    """Each record with a finding, channel after channel."""
+    return (one for report in audit.reports for one in findings_of(report))
+
+
+def finding_in_json(path: str, found: Found) -> dict[str, object]:
+    """A record with a finding, by words."""
+    return {"file": path, **found._asdict()}
 
 
 def print_text(audit: Audit, is_each: bool) -> None:
@@ -143,6 +169,7 @@ def print_text(audit: Audit, is_each: bool) -> None:
         lines.append(f"{path} {found.offset} {found.name} record {found.number} start {found.start} {found.why}")
     for report in audit.reports:
         lines += lines_of(report)
+    lines += [fault_in_words(unread_at(path)) for path in audit.tree.unread]
     lines += [f"misplaced {path}" for path in audit.tree.misplaced]
     lines.append(" ".join(f"{word} {number}" for word, number in audit.totals().items()))
     write("".join(f"{line}\n" for line in lines))
@@ -153,14 +180,15 @@ def channel_in_json(report: ChannelReport) -> dict[str, object]:
     channel = report.channel
     days = len({report.files[file].day for file in channel.files}) if channel else 0
     outcome: dict[str, object] = {"channel": report.name, "state": channel.state if channel else "empty", "days": days,
-                               "records": channel.records if channel else 0,
-                               "samples": channel.samples if channel else 0,
-                               "from": channel.start if channel else None, "to": channel.end if channel else None}
+                                  "records": channel.records if channel else 0,
+                                  "samples": channel.samples if channel else 0,
+                                  "from": channel.start if channel else None, "to": channel.end if channel else None}
     for kind in ("gap", "overlap") if channel is None or channel.is_decoded else ():
         lengths = channel.of_kind(kind) if channel else []
         outcome[f"{kind}s"] = {"count": len(lengths), "microseconds": sum(lengths)}
     if channel is None or channel.is_decoded:
         outcome["findings"] = channel.findings if channel else 0
+        outcome["first"] = next((finding_in_json(*one) for one in findings_of(report)), None)
     outcome["missing"] = [list(run) for run in report.missing()]
     for word in ("foreign", "fault", "changed", "empty"):
         outcome[word] = [values for other, values in report.amiss() if other == word]
@@ -170,9 +198,10 @@ def channel_in_json(report: ChannelReport) -> dict[str, object]:
 def print_json(audit: Audit, is_each: bool) -> None:
     """Writes the report as JSON."""
     outcome: dict[str, object] = {"channels": [channel_in_json(report) for report in audit.reports],
-                               "misplaced": audit.tree.misplaced, "total": audit.totals()}
+                                  "fault": [unread_at(path) for path in audit.tree.unread],
+                                  "misplaced": audit.tree.misplaced, "total": audit.totals()}
     if is_each:
-        outcome["each"] = [{"file": path, **found._asdict()} for path, found in each_of(audit)]
+        outcome["each"] = [finding_in_json(*one) for one in each_of(audit)]
     write(json.dumps(outcome, indent=1) + "\n")
 
 

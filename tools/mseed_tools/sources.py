@@ -11,6 +11,7 @@ from typing import NamedTuple
 from mseed_tools.command import Parser
 from mseed_tools.joining import Channel, Files, joined
 from mseed_tools.program import ToolError, find
+from mseed_tools.reading import unread
 from mseed_tools.report import reports_of
 from mseed_tools.running import Bar, in_order
 from mseed_tools.state import State
@@ -44,13 +45,14 @@ def sources_of(words: Parser, given: argparse.Namespace) -> list[Source]:
     program = find()
     if folders:
         root = folders[0]
-        state = State(given.state, root, program.identity())
+        tree, state = tree_at(root), State(given.state, root, program.identity())
         sources = []
-        for report in reports_of(program, tree_at(root), given.jobs, state):
+        for report in reports_of(program, tree, given.jobs, state):
             paths = [os.path.join(root, file.path) for file in report.files]
             channels = [report.channel] if report.channel else []
             sources.append(Source(Files(program, paths, report.readings), channels))
-        return sources
+        paths = [os.path.join(root, path) for path in tree.unread]
+        return [*sources, Source(Files(program, paths, [unread("read") for _ in paths]), [])]
     if given.state:
         words.error("--state goes with a folder")
     for path in given.paths:

@@ -6,13 +6,17 @@ import calendar
 import datetime
 import os
 import re
-from typing import Iterator, NamedTuple
+from typing import Iterator, NamedTuple, Optional
 
 from mseed_tools.program import ToolError
 
 # Folders of the layout that hold no waveforms: events, logs, timing, calibrations, responses and opaque data.
 OTHERS = re.compile(r".+\.[ELTCRO]")
 YEAR = re.compile(r"[0-9]{4}")
+# The folders of the layout by what they hold, from that of a file up.
+LEVELS = ["channel", "station", "network", "year"]
+# In so many folders a file's place is looked for below what is no root.
+MOST_FOLDERS = 1000
 
 
 class DayFile(NamedTuple):
@@ -29,19 +33,13 @@ class DayFile(NamedTuple):
 
 
 class Tree(NamedTuple):
-    """The files of an archive, channel after channel and in each day after day, and the paths of no file's place."""
+    """The files of an archive, channel after channel and in each day after day, the paths of what stands in no place of
+    the layout, and those of folders that can't be read."""
 
     root: str
     files: list[DayFile]
     misplaced: list[str]
-
-
-def names_in(path: str) -> list[str]:
-    """What is in a folder, ascending; hidden names, which programs that copy files give them meanwhile, aside."""
-    try:
-        return sorted(name for name in os.listdir(path) if not name.startswith("."))
-    except OSError as error:
-        raise ToolError(f"{path}: {error.strerror}") from error
+    unread: list[str]
 
 
 def day_of(year: str, number: str) -> datetime.date:
@@ -51,47 +49,107 @@ def day_of(year: str, number: str) -> datetime.date:
     return datetime.date(int(year), 1, 1) + datetime.timedelta(days=int(number) - 1)
 
 
-def folders_of(root: str) -> Iterator[tuple[str, list[str]]]:
-    """Each path of a folder's depth or above that isn't passed through, by its names below the root."""
+def place_of(name: str) -> Optional[tuple[list[str], datetime.date]]:
+    """The folders, from the year down, in which a file of this name has its place, and its day; nothing for the name of
+    no file of a day."""
+    parts = name.split(".")
+    try:
+        if len(parts) != 7 or parts[4] != "D" or not is_year(parts[5]):
+            return None
+        return [parts[5], parts[0], parts[1], f"{parts[3]}.D"], day_of(parts[5], parts[6])
+    except ValueError:
+        return None
 
-    def below(names: list[str]) -> Iterator[list[str]]:
-        for name in names_in(os.path.join(root, *names)):
-            yield [*names, name]
 
-    for year in below([]):
-        if not YEAR.fullmatch(year[0]) or year[0] == "0000" or not os.path.isdir(os.path.join(root, *year)):
-            yield "misplaced", year
-            continue
-        for network in below(year):
-            for station in below(network) if os.path.isdir(os.path.join(root, *network)) else [network]:
-                if len(station) < 3 or not os.path.isdir(os.path.join(root, *station)):
-                    yield "misplaced", station
-                    continue
-                for channel in below(station):
-                    is_folder = os.path.isdir(os.path.join(root, *channel))
-                    if is_folder and OTHERS.fullmatch(channel[3]):
-                        continue
-                    yield ("folder" if is_folder and channel[3].endswith(".D") else "misplaced"), channel
+def is_year(name: str) -> bool:
+    """Whether a folder of this name is that of a year."""
+    return YEAR.fullmatch(name) is not None and name != "0000"
+
+
+class Walk:
+    """A way through an archive, which notes what it finds."""
+
+    def __init__(self, root: str):
+        self.root = root
+        self.tree = Tree(root, [], [], [])
+
+    def listed(self, names: list[str]) -> list[os.DirEntry[str]]:
+        """What is in a folder, ascending; hidden names, which programs that copy files give them meanwhile, aside.
+        Raises ToolError where the root can't be read."""
+        try:
+            with os.scandir(os.path.join(self.root, *names)) as some:
+                return sorted((entry for entry in some if not entry.name.startswith(".")), key=lambda one: one.name)
+        except OSError as error:
+            if not names:
+                raise ToolError(f"{self.root}: {error.strerror}") from error
+            self.tree.unread.append(os.path.join(*names))
+            return []
+
+    def within(self, names: list[str]) -> Iterator[tuple[list[str], bool]]:
+        """What is in a folder, by its names below the root, and whether it is a folder."""
+        for entry in self.listed(names):
+            try:
+                yield [*names, entry.name], entry.is_dir()
+            except OSError:
+                self.tree.unread.append(os.path.join(*names, entry.name))
+
+    def folders(self, names: list[str]) -> Iterator[list[str]]:
+        """The folders in a folder; what is none is misplaced."""
+        for below, is_folder in self.within(names):
+            if is_folder and (names or is_year(below[0])):
+                yield below
+            else:
+                self.tree.misplaced.append(os.path.join(*below))
+
+    def channels(self) -> Iterator[list[str]]:
+        """The folders of channels."""
+        for year in self.folders([]):
+            for network in self.folders(year):
+                for station in self.folders(network):
+                    for channel, is_folder in self.within(station):
+                        if is_folder and channel[3].endswith(".D"):
+                            yield channel
+                        elif not is_folder or not OTHERS.fullmatch(channel[3]):
+                            self.tree.misplaced.append(os.path.join(*channel))
+
+    def walked(self) -> Tree:
+        """All that there is."""
+        for channel in self.channels():
+            for entry in self.listed(channel):
+                path, place = os.path.join(*channel, entry.name), place_of(entry.name)
+                if place is not None and place[0] == channel:
+                    self.tree.files.append(DayFile(path, "_".join(entry.name.split(".")[:4]), place[1]))
+                else:
+                    self.tree.misplaced.append(path)
+        for some in (self.tree.misplaced, self.tree.unread):
+            some.sort()
+        self.tree.files.sort(key=lambda file: (file.channel, file.day))
+        return self.tree
 
 
 def tree_at(root: str) -> Tree:
-    """The archive at a root. Raises ToolError where the root or a folder in it can't be read."""
-    files, misplaced = [], []
-    for kind, names in folders_of(root):
-        path = os.path.join(*names)
-        if kind == "misplaced":
-            misplaced.append(path)
-            continue
-        year, network, station, channel = names
-        for name in names_in(os.path.join(root, path)):
-            whole, parts = os.path.join(path, name), name.split(".")
-            try:
-                if len(parts) != 7 or parts[:2] + parts[3:6] != [network, station, channel[:-2], "D", year]:
-                    raise ValueError(name)
-                files.append(DayFile(whole, "_".join(parts[:4]), day_of(year, parts[6])))
-            except ValueError:
-                misplaced.append(whole)
-    return Tree(root, sorted(files, key=lambda file: (file.channel, file.day)), sorted(misplaced))
+    """The archive at a root. Raises ToolError where the root can't be read, or is a folder within an archive."""
+    tree = Walk(root).walked()
+    if tree.misplaced and not tree.files:
+        refuse_within(root)
+    return tree
+
+
+def refuse_within(root: str) -> None:
+    """Raises ToolError where files below what is named as a root stand in their places, but for the folders that lack
+    below it, as those of a year's folder do; and says where the root is."""
+    for count, (path, folders, files) in enumerate(os.walk(root, followlinks=True)):
+        below = os.path.relpath(path, root).split(os.sep) if path != root else []
+        for place in filter(None, map(place_of, sorted(files))):
+            above = place[0][: 4 - len(below)]
+            is_named = os.path.abspath(root).split(os.sep)[-len(above):] == above
+            if place[0][4 - len(below):] == below and (below or is_named):
+                where = os.path.abspath(os.path.join(os.path.abspath(root), *[os.pardir] * len(above)))
+                raise ToolError(f"{root}: the folder of a {LEVELS[len(below)]}; the root of the archive is "
+                                f"{where if is_named else 'the folder above the years'}")
+        folders[:] = sorted(folders) if len(below) < 3 else []
+        if count == MOST_FOLDERS:
+            return
 
 
 def days_in_words(days: list[datetime.date]) -> list[tuple[str, str]]:
