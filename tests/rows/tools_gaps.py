@@ -54,6 +54,9 @@ def of_tree(root: Path) -> Cases:
     yield Fact("a gap in JSON", {"source": "XX_CCC__BHN", "last sample": 1483228198 * 10**6,
                                  "next sample": 1483228800 * 10**6, "delta": 601 * 10**6, "samples": 601}, told_of[6])
     yield Fact("the gaps in JSON", len(BREAKS), len(told_of))
+    by_keys = json.loads(tool("gaps", "--json-keys", str(root)).out or "[]")
+    names = ("source", "last_sample", "next_sample", "delta", "samples")
+    yield Fact("the gaps in JSON, by keys without blanks", [dict(zip(names, one.values())) for one in told_of], by_keys)
 
 
 def of_files() -> Cases:
@@ -74,7 +77,14 @@ def of_files() -> Cases:
     yield Fact("a sample with junk", (2, f"{junk}: fault at 14336 notdata, 512 bytes skipped\n"),
                (lambda came: (came[0], came[2]))(outcome(tool("gaps", junk))))
     yield Fact("no such file", 2, tool("gaps", "/no/such/file").status)
-    for words in ([], ["--csv", "--json", one], ["--state", "/tmp/state", one], [str(SAMPLES), one]):
+    # The last sample is 2024-05-14T03:23:53.2, and the delta 72.1 seconds.
+    json_of = ('[\n {{\n  "source": "XX_KILN__BHZ",\n  "last{0}sample": 1715657033200000,\n  "next{0}sample": '
+               '1715657105350000,\n  "delta": 72100000,\n  "samples": 1442\n }}\n]\n')
+    for word, blank in (("--json", " "), ("--json-keys", "_")):
+        yield Fact(f"a sample with a gap, {word}", (0, json_of.format(blank).encode(), b""),
+                   tool("gaps", word, one)[:3])
+    for words in ([], ["--csv", "--json", one], ["--json", "--json-keys", one], ["--state", "/tmp/state", one],
+                  [str(SAMPLES), one]):
         yield Fact(f"gaps {' '.join(words)}", 3, tool("gaps", *words).status)
     yield holds("the help has an example", b"example" in tool("gaps", "--help").out)
 
