@@ -19,6 +19,9 @@ from driver.tools import TOOLS, make_tree, outcome, tool
 SPACE = "{http://www.w3.org/2000/svg}"
 # Of names with eleven letters the axis begins here; it has five days, of 199 pixels each.
 LEFT, DAY = 107.0, 199.0
+# So many pixels a mark is wide at least.
+LEAST = {"gap": 4.0, "overlap": 6.0, "finding": 4.0}
+ZOOM = "narrow marks are drawn wider; zoom by --from and --until"
 
 
 class Part(NamedTuple):
@@ -44,7 +47,14 @@ def bar(kind: str, begin: float, end: float, count: int = 1) -> Part:
 
 def mark(kind: str, day: float) -> Part:
     """A mark that is as narrow as marks are."""
-    return Part(kind, round(LEFT + DAY * day - 1, 2), 2.0, 1)
+    return Part(kind, LEFT + DAY * day - LEAST[kind] / 2, LEAST[kind], 1)
+
+
+def is_drawn(wanted: list[Part], drawn: list[Part]) -> bool:
+    """Whether rectangles stand where they should, to half a pixel and a half more for those that are a pixel wide."""
+    return len(wanted) == len(drawn) and all(
+        (one.kind, one.count) == (other.kind, other.count) and abs(one.left - other.left) < 1.0
+        and abs(one.left + one.width - other.left - other.width) < 1.0 for one, other in zip(wanted, drawn))
 
 
 def of_tree(folder: Path) -> Cases:
@@ -55,7 +65,7 @@ def of_tree(folder: Path) -> Cases:
     yield Fact("the sample tree is drawn", (2, b""), (came.status, came.out))
     second = 1 / 86400
     wanted = {
-        # The gap of 721 s is 1.66 pixels wide, and so is the overlap: both are marked two wide.
+        # The gap of 721 s is 1.66 pixels wide, and so is the overlap: both are marked wider.
         "XX_AAA__BHE": [bar("broken", 0, 36050 * second), bar("broken", 36771 * second, 5, 2),
                         mark("gap", (36050 + 360.5) * second), mark("overlap", 3 + (21630 + 360.5) * second)],
         "XX_AAA__BHN": [bar("continuous", 0, 5)],
@@ -72,13 +82,9 @@ def of_tree(folder: Path) -> Cases:
     yield Fact("the channels that are drawn", list(wanted), list(came_of))
     for name, parts in wanted.items():
         drawn = came_of.get(name, [])
-        is_near = len(parts) == len(drawn) and all(
-            (one.kind, one.count) == (other.kind, other.count) and abs(one.left - other.left) < 1.5
-            and abs(one.left + one.width - other.left - other.width) < 1.5 for one, other in zip(parts, drawn))
-        yield holds(f"what is drawn of {name}", is_near, (parts, drawn))
+        yield holds(f"what is drawn of {name}", is_drawn(parts, drawn), (parts, drawn))
     picture = ElementTree.fromstring(file.read_bytes())
-    words = {kind: [one.text for one in picture.iter(f"{SPACE}text") if one.get("class") == kind]
-             for kind in ("tick", "legend", "title", "when")}
+    words = words_of(file.read_bytes())
     days = ["2016-12-30", "2016-12-31", "2017-01-01", "2017-01-02", "2017-01-03"]
     yield Fact("the words of the axis", [word for day in days for word in (day, "12:00")] + ["2017-01-04"],
                words["tick"])
@@ -90,6 +96,75 @@ def of_tree(folder: Path) -> Cases:
     yield holds("a mark says what it is",
                 "XX_CCC__BHN gap of 601.000000 s before 2017-01-01T00:00:00.000000" in reported
                 and "XX_CCC__BHE lastdiffers 0 1 at 2017-01-03T01:48:09.000000" in reported, reported)
+
+
+def words_of(text: bytes) -> dict[str, list[str]]:
+    """The words of a drawing, by what they are."""
+    texts = list(ElementTree.fromstring(text).iter(f"{SPACE}text"))
+    return {kind: [one.text for one in texts if one.get("class") == kind]
+            for kind in ("tick", "legend", "title", "when", "zoom")}
+
+
+def windows(folder: Path) -> Cases:
+    """Windows of time over the archive: a quarter of a day with the overlap, a gap alone, time with nothing in it."""
+    root = str(folder / "archive")
+    came = tool("timeline", "--from", "2017-01-02T06", "--until", "2017-01-02T12:00:00Z", root)
+    hour = 4 * DAY * 5 / 24
+    # From 06:00:30 to 06:12:31 there are two records; one mark of 33 pixels says so. Bars end at the window's edges.
+    minutes = [hour / 60 * at for at in (0, 0.5, 12 + 31 / 60, 360)]
+    wanted = {
+        "XX_AAA__BHE": [Part("broken", LEFT, minutes[3], 2),
+                        Part("overlap", LEFT + minutes[1], minutes[2] - minutes[1], 1)],
+        "XX_AAA__BHN": [Part("continuous", LEFT, minutes[3], 1)],
+        "XX_BBB__LOG": [],
+        "XX_CCC__BHZ": [Part("gap", LEFT, minutes[3], 1)],
+    }
+    drawn = parts_of(came.out)
+    yield Fact("a window's channels are all channels", 9, len(drawn))
+    for name, parts in wanted.items():
+        came_of = drawn.get(name, [])
+        yield holds(f"a window: what is drawn of {name}", is_drawn(parts, came_of), (parts, came_of))
+    words = words_of(came.out)
+    yield Fact("a window: its times", (["2017-01-02T06:00:00 to 2017-01-02T12:00:00 UTC"], []),
+               (words["when"], words["zoom"]))
+    # 36,050 seconds behind midnight the gap of 721 begins.
+    for until, parts in (("2016-365T10:00:50", []), ("2016-12-30T10:12:51", [Part("gap", LEFT, 5 * DAY, 1)])):
+        begin = "2016-12-30T10:00:49.5" if not parts else "2016-12-30T10:00:50"
+        drawn = parts_of(tool("timeline", "--from", begin, "--until", until, root).out)
+        yield Fact(f"a window up to {until}", parts, [part for part in drawn["XX_AAA__BHE"] if part.kind != "broken"])
+    for given, when in ((["--from", "2020-01-01"], "2020-01-01T00:00:00 to 2020-01-01T00:00:01 UTC"),
+                        (["--until", "2016-12-30"], "2016-12-29T23:59:59 to 2016-12-30T00:00:00 UTC"),
+                        (["--from", "2017-01-02"], "2017-01-02T00:00:00 to 2017-01-04T00:00:00 UTC"),
+                        (["--until", "2017-002"], "2016-12-30T00:00:00 to 2017-01-02T00:00:00 UTC")):
+        text = tool("timeline", *given, root).out
+        yield Fact(f"timeline {' '.join(given)}", [when], words_of(text)["when"])
+    for given in (["--from", "2017-01-02", "--until", "2017-002"], ["--from", "yesterday"], ["--until", "2017-1-2"],
+                  ["--from", "2017-02-30"], ["--from", "2017-366"], ["--from", "2017-01-02T24"], ["--until", ""]):
+        yield Fact(f"timeline {' '.join(given)}", 3, tool("timeline", *given, root).status)
+
+
+def short(minutes: int = 34, days: int = 31) -> Cases:
+    """An overlap of some minutes in a month is seen, and the drawing says how to see more; closer, it has its width."""
+    sys.path.insert(0, str(TOOLS))
+    from mseed_tools.drawing import drawing
+    from mseed_tools.stretches import Mark, Row
+    second = 10**6
+    begin = 1714521600 * second
+    at, end = begin + 13 * 86400 * second, begin + days * 86400 * second
+    last = at + minutes * 60 * second
+    row = Row("XX_KILN__BHZ", "broken", [(begin, last), (at, end)], [Mark("overlap", at, last, "an overlap")])
+    month = drawing("a month", [row]).encode()
+    part = next(part for part in parts_of(month)["XX_KILN__BHZ"] if part.kind == "overlap")
+    height = next(float(one.get("height")) for one in ElementTree.fromstring(month).iter(f"{SPACE}rect")
+                  if one.get("class") == "overlap")
+    yield holds("a short overlap in a month is seen", part.width >= 6 and height >= 8, (part, height))
+    yield Fact("how to see more is said", [ZOOM], words_of(month)["zoom"])
+    yield holds("it is said in the help", "--from" in "".join(outcome(tool("timeline", "--help"))[1]))
+    hour = drawing("an hour", [row], (at - 600 * second, at + 3000 * second)).encode()
+    part = next(part for part in parts_of(hour)["XX_KILN__BHZ"] if part.kind == "overlap")
+    # Names of twelve letters leave 1,120 - 18 - 114 pixels, of which 34 minutes of an hour are so many.
+    yield holds("closer, it is as long as it is", abs(part.width - 988 * 34 / 60) < 0.1, part)
+    yield Fact("and nothing more is to be seen", [], words_of(hour)["zoom"])
 
 
 def made_up(count: int) -> Iterator[tuple]:
@@ -158,6 +233,8 @@ def of_files() -> Cases:
 def rows() -> Cases:
     """All of them."""
     yield from many()
+    yield from short()
     yield from of_files()
     with tempfile.TemporaryDirectory() as name:
         yield from of_tree(Path(name))
+        yield from windows(Path(name))

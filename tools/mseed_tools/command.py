@@ -9,6 +9,7 @@ import sys
 from typing import Any, Callable, NoReturn, Optional, Sequence
 
 from mseed_tools.program import ToolError
+from mseed_tools.texts import instant_in
 
 FAULT, BAD_WORDS = 2, 3
 
@@ -18,6 +19,14 @@ def a_count(word: str, most: int = 1024) -> int:
     if not word.isascii() or not word.isdigit() or not 1 <= int(word) <= most:
         raise argparse.ArgumentTypeError(f"{word!r} is no number from 1 to {most}")
     return int(word)
+
+
+def an_instant(word: str) -> int:
+    """A time, in microseconds since 1970."""
+    try:
+        return instant_in(word)
+    except ValueError as error:
+        raise argparse.ArgumentTypeError(f"{word!r} is no time, as 2024-05-14 or 2024-05-14T03:20:00") from error
 
 
 class Parser(argparse.ArgumentParser):

@@ -6,7 +6,7 @@ import bisect
 import calendar
 import datetime
 from html import escape
-from typing import Iterator, NamedTuple, Optional, Sequence
+from typing import Iterator, NamedTuple, Optional, Sequence, Tuple
 
 from mseed_tools.stretches import Mark, Row
 from mseed_tools.texts import EPOCH, SECOND, time_of
@@ -14,8 +14,11 @@ from mseed_tools.texts import EPOCH, SECOND, time_of
 WIDTH, ROW, BAR, HEAD, EDGE = 1120, 18, 10, 74, 18
 # Behind so many rows the words of the axis come again, in a row of their own.
 RUN = 40
-# Letters of the names and of the title are so wide; a gap that is at least so wide is drawn as such.
-LETTER, BOLD, LEAST = 7.0, 8.5, 2.0
+# Letters of the names and of the title are so wide.
+LETTER, BOLD = 7.0, 8.5
+# Marks by their upper edges below that of the bar, their heights, and the widths that they have at least.
+MARKS = {"gap": (0.0, BAR, 4.0), "overlap": (-4.0, 8.0, 6.0), "finding": (BAR - 6.0, 9.0, 4.0)}
+ZOOM = "narrow marks are drawn wider; zoom by --from and --until"
 DAY = 86400
 # How far apart ticks may stand, in seconds, and behind these in months.
 STEPS = [1, 2, 5, 10, 30, 60, 120, 300, 600, 1800, 3600, 7200, 10800, 21600, 43200, DAY, 2 * DAY, 5 * DAY, 10 * DAY]
@@ -27,9 +30,14 @@ LEGEND = [("continuous", "continuous"), ("broken", "with findings"), ("undecoded
 STYLE = """\
 text { font: 12px "DejaVu Sans Mono", Menlo, Consolas, monospace; fill: #222; }
 .title { font-weight: bold; font-size: 14px; }
+.zoom { fill: #777; }
 .grid { stroke: #ddd; stroke-width: 1; }
 .even { fill: #f6f6f6; }
 """
+
+
+# From an instant to another, in microseconds; none where that is of what is drawn.
+Window = Tuple[Optional[int], Optional[int]]
 
 
 class Scale(NamedTuple):
@@ -113,8 +121,7 @@ def bars_of(row: Row, scale: Scale, top: float) -> Iterator[str]:
 def marks_of(row: Row, scale: Scale, top: float, is_above: bool) -> Iterator[str]:
     """The marks of a row that lie above the bars, or those below: gaps that can be seen as such, since there may be
     records of later stretches in their place. Overlaps stand at the upper edge, other findings at the lower one."""
-    heights = {"gap": (0.0, BAR, 2.0), "overlap": (-3.0, 6.0, 2.0), "finding": (BAR - 6.0, 9.0, 3.0)}
-    for kind, (down, height, least) in heights.items():
+    for kind, (down, height, least) in MARKS.items():
         marks: list[Mark] = [mark for mark in row.marks if mark.kind == kind and is_above != is_long(mark, scale)]
         spans = [wide(scale.at(mark.begin), scale.at(mark.end), least) for mark in marks]
         place = 0
@@ -126,7 +133,12 @@ def marks_of(row: Row, scale: Scale, top: float, is_above: bool) -> Iterator[str
 
 def is_long(mark: Mark, scale: Scale) -> bool:
     """Whether it is a gap that can be seen as such."""
-    return mark.kind == "gap" and scale.at(mark.end) - scale.at(mark.begin) >= LEAST
+    return mark.kind == "gap" and not is_narrow(mark, scale)
+
+
+def is_narrow(mark: Mark, scale: Scale) -> bool:
+    """Whether it is drawn wider than it is."""
+    return scale.at(mark.end) - scale.at(mark.begin) < MARKS[mark.kind][2]
 
 
 def wide(left: float, right: float, least: float) -> tuple[float, float]:
@@ -163,12 +175,16 @@ def axis(scale: Scale, count: int) -> Iterator[str]:
             yield f'<text class="{kind}" x="{place:.2f}" y="{top - 5}" text-anchor="middle">{words}</text>'
 
 
-def scale_of(rows: Sequence[Row], left: float) -> Scale:
-    """From the first instant to the last one of all stretches."""
+def scale_of(rows: Sequence[Row], left: float, window: Window) -> Scale:
+    """From the first instant to the last one of all stretches, where the window names no other; a second at least."""
     begins = [begin for row in rows for begin, _ in row.stretches]
     ends = [end for row in rows for _, end in row.stretches]
     begin, end = (min(begins), max(ends)) if begins else (0, DAY * SECOND)
-    return Scale(begin, max(end, begin + SECOND), left, WIDTH - EDGE)
+    if window[1] is not None:
+        begin, end = min(begin, window[1] - SECOND), window[1]
+    if window[0] is not None:
+        begin = window[0]
+    return Scale(begin, end if window[1] is not None else max(end, begin + SECOND), left, WIDTH - EDGE)
 
 
 def shortened(title: str, room: float) -> str:
@@ -177,10 +193,12 @@ def shortened(title: str, room: float) -> str:
     return title if len(title) <= most else title[: most - 1] + "\u2026"
 
 
-def drawing(title: str, rows: Sequence[Row]) -> str:
-    """The drawing."""
+def drawing(title: str, rows: Sequence[Row], window: Window = (None, None)) -> str:
+    """The drawing, from an instant to another, where they are named."""
     longest = max([len(row.name) for row in rows], default=0)
-    scale = scale_of(rows, EDGE + LETTER * longest + 12)
+    scale = scale_of(rows, EDGE + LETTER * longest + 12, window)
+    rows = [row.within(scale.begin, scale.end) for row in rows]
+    is_coarse = any(is_narrow(mark, scale) for row in rows for mark in row.marks if mark.kind != "finding")
     height = (top_of(len(rows) - 1) + ROW if rows else HEAD) + (24 if len(rows) > RUN else 10)
     when = f"{time_of(scale.begin)[:19]} to {time_of(scale.end)[:19]} UTC" if rows else "no channel"
     short = shortened(title, WIDTH - 2 * EDGE - LETTER * len(when) - 24)
@@ -189,6 +207,7 @@ def drawing(title: str, rows: Sequence[Row]) -> str:
              f'<rect width="{WIDTH}" height="{height}" fill="#fff"/>',
              f'<text class="title" x="{EDGE}" y="22">{escape(short)}</text>',
              f'<text class="when" x="{WIDTH - EDGE}" y="22" text-anchor="end">{when}</text>', *legend(EDGE, 44)]
+    parts += [f'<text class="zoom" x="{WIDTH - EDGE}" y="44" text-anchor="end">{ZOOM}</text>'] if is_coarse else []
     for number in range(0, len(rows), 2):
         parts.append(f'<rect class="even" x="{EDGE}" y="{top_of(number)}" width="{WIDTH - 2 * EDGE}" '
                      f'height="{ROW}"/>')

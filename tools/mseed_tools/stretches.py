@@ -26,6 +26,17 @@ class Row(NamedTuple):
     stretches: list[tuple[int, int]]
     marks: list[Mark]
 
+    def within(self, begin: int, end: int) -> Row:
+        """What is shown of it from an instant on, up to another, which isn't shown."""
+
+        def is_seen(left: int, right: int) -> bool:
+            return left < end and max(right, left + 1) > begin
+
+        return self._replace(
+            stretches=[(max(left, begin), min(right, end)) for left, right in self.stretches if is_seen(left, right)],
+            marks=[mark._replace(begin=max(mark.begin, begin), end=min(mark.end, end)) for mark in self.marks
+                   if is_seen(mark.begin, mark.end)])
+
 
 def row_of(channel: Channel, files: list[tuple[Optional[int], Optional[int]]]) -> Row:
     """The row of a channel. A stretch ends where a gap or an overlap begins. Of a channel that isn't decoded nobody

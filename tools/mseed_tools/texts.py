@@ -19,6 +19,9 @@ CHANNEL = re.compile(r"(?P<key>[0-9A-F]{24}) records (?P<records>\d+) samples (?
                      r"findings (?P<findings>\d+)")
 COUNTS = re.compile(r"records (\d+) bytes (\d+)")
 FOUND = re.compile(r"(\d+) (\S+) record (\d+) start (fault \w+|\S+) (.+)")
+INSTANT = re.compile(r"(?P<year>\d{4})-(?:(?P<month>\d\d)-(?P<date>\d\d)|(?P<day>\d{3}))"
+                     r"(?:T(?P<hour>\d\d)(?::(?P<minute>\d\d)(?::(?P<second>\d\d)(?:\.(?P<rest>\d{1,6}))?)?)?)?Z?",
+                     re.ASCII)
 SHOWN = re.compile(r"(\d+) (\S+) . length (\d+) samples (\d+) start (fault \w+|\S+) rate (none|(\d+)/(\d+)) "
                    r"encoding (\d+) ")
 
@@ -146,6 +149,26 @@ def micros_of(time: str) -> Optional[int]:
         return None
     seconds, _, rest = time.partition(".")
     return (datetime.datetime.fromisoformat(seconds) - EPOCH) // datetime.timedelta(seconds=1) * SECOND + int(rest)
+
+
+def instant_in(word: str) -> int:
+    """The instant that a word of a command line names, as those of `mseed select` do: a day by its month or by its
+    number in the year, alone or with a time, whose last parts may be left out. Raises ValueError where it names
+    none."""
+    found = INSTANT.fullmatch(word)
+    if found is None or not 1900 <= int(found["year"]) <= 2100:
+        raise ValueError(word)
+    if found["day"]:
+        day = datetime.datetime(int(found["year"]), 1, 1) + datetime.timedelta(days=int(found["day"]) - 1)
+        if day.year != int(found["year"]):
+            raise ValueError(word)
+    else:
+        day = datetime.datetime(int(found["year"]), int(found["month"]), int(found["date"]))
+    hour, minute, second = (int(found[part] or 0) for part in ("hour", "minute", "second"))
+    if hour > 23 or minute > 59 or second > 60:
+        raise ValueError(word)
+    seconds = (day - EPOCH) // datetime.timedelta(seconds=1) + hour * 3600 + minute * 60 + second
+    return seconds * SECOND + int((found["rest"] or "").ljust(6, "0"))
 
 
 def seconds_of(micros: int) -> str:
