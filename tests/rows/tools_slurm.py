@@ -1,10 +1,12 @@
 """`tools/slurm` on a Slurm of one node that is brought up here (driver/slurm.py): over a sound tree the text and status
 of the program's audit of its files, one behind another; over the tree with whatever goes wrong (driver/tools.py), those
-of a join of all parts; and a task that is killed in the middle, behind which a run started anew makes what lacks."""
+of a join of all parts; a task that is killed in the middle, behind which a run started anew makes what lacks; and a run
+that is stopped, which takes its jobs back."""
 
 from __future__ import annotations
 
 import os
+import re
 import signal
 import tempfile
 import time
@@ -15,7 +17,7 @@ from typing import Optional, Sequence
 
 from driver.program import LIMIT, PROGRAM
 from driver.rows import Case, Cases, Fact, Result, Skipped, holds
-from driver.slurm import PACKAGES, NotUp, is_installed, slurm
+from driver.slurm import PACKAGES, NotUp, Slurm, is_installed, slurm
 from driver.tools import make_tree
 from rows.tools_cluster import Cluster, made_in, parts_of, program, sound_tree, sources_of
 
@@ -44,12 +46,12 @@ def of_damaged(cluster: Cluster, damaged: Path) -> Cases:
 
 class Slow:
     """A program that does what the one that is tested does, and names of each audit the process that wanted it. As long
-    as it is held, each audit takes a while."""
+    as it is held, each audit takes some seconds."""
 
-    def __init__(self, folder: Path):
+    def __init__(self, folder: Path, seconds: float = 0.5):
         self.path, self.log, self.held = folder / "slow", folder / "requested", folder / "held"
         self.path.write_text(f'#!/bin/sh\n[ "$1" = audit ] && echo $PPID >> {self.log}\n'
-                             f'[ "$1" = audit ] && [ -e {self.held} ] && sleep 0.5\nexec {PROGRAM} "$@"\n',
+                             f'[ "$1" = audit ] && [ -e {self.held} ] && sleep {seconds}\nexec {PROGRAM} "$@"\n',
                              encoding="utf-8")
         self.path.chmod(0o755)
         self.held.touch()
@@ -93,16 +95,45 @@ def of_killed(cluster: Cluster, sound: Path, wanted: Result) -> Cases:
                (len(again), len(slow.requested()) - before))
 
 
+def of_stopped(cluster: Cluster, sound: Path, run: Slurm) -> Cases:
+    """Ctrl-C: no job is left. The last one waits for the first, whose tasks would take a minute."""
+    folder = cluster.folder / "stopped"
+    folder.mkdir()
+    slow = Slow(folder, 6)
+    tool = cluster.started("--parts", str(cluster.folder / "parts-stopped"), "--tasks", "2", str(sound),
+                           env={"MSEED": str(slow.path)})
+    end = time.monotonic() + LIMIT
+
+    def jobs() -> set[str]:
+        return set(run.outcome("squeue", "--noheader", "--format=%F").split())
+
+    while time.monotonic() < end and not slow.requested():
+        time.sleep(0.1)
+    # Meanwhile the last job is submitted.
+    time.sleep(2)
+    tool.send_signal(signal.SIGINT)
+    out, err = tool.communicate(timeout=LIMIT)
+    found = re.fullmatch(rb"slurm: stopped by SIGINT; jobs (\d+), (\d+) cancelled\n", err)
+    yield holds("Slurm: Ctrl-C", tool.returncode == 2 and not out and found, (tool.returncode, out, err))
+    ours = {number.decode() for number in found.groups()} if found else set()
+    while time.monotonic() < end and ours & jobs():
+        time.sleep(0.2)
+    yield holds("Slurm: no job is left", ours and not ours & jobs(), (ours, jobs()))
+    made = len(made_in(cluster.folder / "parts-stopped"))
+    yield holds("Slurm: most parts weren't made any more", made < 10, made)
+
+
 def all_of(folder: Path) -> Sequence[Case]:
     """The rows, some of which run side by side. Raises NotUp where Slurm doesn't come up."""
     sound, damaged = folder / "sound", folder / "damaged"
     files = sound_tree(sound)
     make_tree(damaged)
     wanted = program(["audit"], b"".join(path.read_bytes() for path in files))
-    with slurm(folder / "slurm") as run, ThreadPoolExecutor(3) as pool:
+    with slurm(folder / "slurm") as run, ThreadPoolExecutor(4) as pool:
         cluster = Cluster("slurm", folder, **run.env)
         began = [pool.submit(list, some) for some in (of_sound(cluster, sound, wanted), of_damaged(cluster, damaged),
-                                                      of_killed(cluster, sound, wanted))]
+                                                      of_killed(cluster, sound, wanted),
+                                                      of_stopped(cluster, sound, run))]
         return [case for some in began for case in some.result()]
 
 

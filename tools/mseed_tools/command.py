@@ -62,7 +62,8 @@ def write(text: str) -> None:
 def run(main: Callable[[], int]) -> int:
     """Runs a command, and tells what it can't go on after."""
     # Whoever reads the output may have enough, and whoever waits may not.
-    signal.signal(signal.SIGINT, signal.SIG_DFL)
+    if signal.getsignal(signal.SIGINT) != signal.SIG_IGN:
+        signal.signal(signal.SIGINT, signal.SIG_DFL)
     try:
         status = main()
         sys.stdout.flush()

@@ -5,7 +5,7 @@ from __future__ import annotations
 import re
 from typing import Callable, NamedTuple, Optional, Sequence
 
-from mseed_tools.program import Program, ToolError
+from mseed_tools.program import Done, Program, ToolError
 from mseed_tools.reading import Reading, shown
 from mseed_tools.texts import BEGIN, SECOND, Found, Kept, Part, Shown, micros_of, name_of, part_in, time_of
 
@@ -109,13 +109,22 @@ class Files:
                    for file in sorted({file for file, _ in without_rate}) for record in self.shown(file))
 
 
-def joint_part(program: Program, parts: str) -> Part:
+def joined_by(program: Program, parts: Sequence[bytes], is_part: bool = False) -> Done:
+    """What the program says of parts, one behind another; or their joint part. Raises ToolError where that isn't
+    there."""
+    done = program.run(["join", *["--part"] * is_part, "--past-faults"], b"".join(parts))
+    if is_part and not done.out.startswith(BEGIN):
+        raise ToolError(f"{program.path} join: status {done.status}, {done.err[-200:].strip()}")
+    return done
+
+
+def joint_part(program: Program, parts: Sequence[str]) -> Part:
     """The joint part of parts."""
-    done = program.run(["join", "--part", "--past-faults"], parts.encode("ascii"))
+    done = joined_by(program, [part.encode("ascii") for part in parts], is_part=True)
     try:
         return part_in(done.out)
     except (ValueError, IndexError) as error:
-        raise ToolError(f"{program.path} join: status {done.status}, {done.err[-200:].strip()}") from error
+        raise ToolError(f"{program.path} join: {error}") from error
 
 
 def ends_in(line: str) -> re.Match[str]:
@@ -185,7 +194,7 @@ def joined(files: Files, is_ours: Callable[[str], bool] = lambda name: True) -> 
     found += found_between(files.program, met(pieces))
     found.sort(key=lambda at: (at.file, at.found.offset))
     kept: dict[str, list[Kept]] = {}
-    for channel in joint_part(files.program, "".join(texts)).channels:
+    for channel in joint_part(files.program, texts).channels:
         kept.setdefault(name_of(channel.key), []).append(channel)
     by_name: dict[str, list[FoundAt]] = {}
     for at in found:

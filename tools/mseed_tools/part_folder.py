@@ -8,9 +8,10 @@ import os
 from typing import IO, Iterator, NamedTuple, Optional, Sequence
 
 from mseed_tools.files import content_of, drop_begun, locked, opened, write_whole
+from mseed_tools.joining import joined_by
 from mseed_tools.program import Done, Program, ToolError
 from mseed_tools.reading import stamp_of
-from mseed_tools.texts import BEGIN
+from mseed_tools.texts import PART
 from mseed_tools.tree import tree_at
 
 LIST = "files.json"
@@ -25,9 +26,21 @@ class Part(NamedTuple):
     stamp: Optional[list[int]]
     path: str
 
-    def is_there(self) -> bool:
-        """Whether its part was made."""
-        return os.path.exists(self.path)
+    def text(self) -> bytes:
+        """Its part; nothing where none was made, or what is there isn't whole."""
+        try:
+            text = content_of(self.path)
+        except OSError:
+            return b""
+        return text if PART.fullmatch(text) else b""
+
+    def size(self) -> int:
+        """How many bytes its file has."""
+        return self.stamp[0] if self.stamp else 0
+
+    def is_made(self) -> bool:
+        """Whether its part was made, and is whole."""
+        return bool(self.text())
 
 
 def sources_in(paths: Sequence[str], lists: Sequence[str]) -> list[str]:
@@ -91,7 +104,11 @@ def prepared(folder: str, sources: Sequence[str], program: Program) -> list[Part
         if kind.startswith("part") and not (kind == "part" and number.isdigit() and int(number) in kept):
             os.unlink(os.path.join(folder, name))
     write_whole(os.path.join(folder, LIST), json.dumps({"program": identity, "files": listed}).encode("ascii"))
-    return [part for part in parts_of(folder) if not part.is_there()]
+    lacking = [part for part in parts_of(folder) if not part.is_made()]
+    for part in lacking:
+        with contextlib.suppress(FileNotFoundError):
+            os.unlink(part.path)
+    return lacking
 
 
 @contextlib.contextmanager
@@ -113,9 +130,10 @@ def make(program: Program, part: Part) -> None:
         done = program.run(["audit", "--part"], file)
     if stamp_at(part.source) != part.stamp:
         raise ToolError(f"{part.source}: changed")
-    if not done.out.startswith(BEGIN):
+    text = done.out.encode("ascii")
+    if not PART.fullmatch(text):
         raise ToolError(f"{part.source}: status {done.status}, {done.err.strip()}")
-    write_whole(part.path, done.out.encode("ascii"))
+    write_whole(part.path, text)
 
 
 def run_of(parts: Sequence[Part], number: int, count: int) -> Sequence[Part]:
@@ -123,17 +141,10 @@ def run_of(parts: Sequence[Part], number: int, count: int) -> Sequence[Part]:
     return parts[len(parts) * (number - 1) // count : len(parts) * number // count]
 
 
-def text_of(parts: Sequence[Part]) -> bytes:
-    """Parts, one behind another. Raises ToolError where one wasn't made."""
-    texts = []
-    for part in parts:
-        try:
-            texts.append(content_of(part.path))
-        except OSError as error:
-            raise ToolError(f"{part.source}: has no part") from error
-    return b"".join(texts)
-
-
-def joined(program: Program, text: bytes, is_part: bool = False) -> Done:
-    """What the program says of parts."""
-    return program.run(["join", *["--part"] * is_part, "--past-faults"], text)
+def joined(program: Program, parts: Sequence[Part], is_part: bool = False) -> Done:
+    """What the program says of all parts, one behind another. Raises ToolError where one wasn't made."""
+    texts = [part.text() for part in parts]
+    for part, text in zip(parts, texts):
+        if not text:
+            raise ToolError(f"{part.source}: has no part")
+    return joined_by(program, texts, is_part)

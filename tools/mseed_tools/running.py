@@ -37,15 +37,15 @@ class Bar:
             print(f"\r{self.line(now - self.begun)}\x1b[K", end="", file=sys.stderr, flush=True)
 
     def line(self, seconds: float) -> str:
-        """The bar, the rate, and the time left."""
+        """The bar, the rate, and the time left; as long as nothing was read nobody knows it."""
         part = min(1.0, self.done / self.total) if self.total else 1.0
         full = round(part * WIDTH)
         rate = self.read / 1e6 / seconds if seconds else 0.0
         left = max(0, self.total - self.done) / 1e6 / rate if rate else 0.0
         minutes, rest = divmod(round(left), 60)
         hours, minutes = divmod(minutes, 60)
-        return (f"[{'#' * full}{'.' * (WIDTH - full)}] {100 * part:3.0f} % {rate:.0f} MB/s, "
-                f"{hours}:{minutes:02}:{rest:02} left")
+        until = f"{rate:.0f} MB/s, {hours}:{minutes:02}:{rest:02} left" if rate else "waiting"
+        return f"[{'#' * full}{'.' * (WIDTH - full)}] {100 * part:3.0f} % {until}"
 
     def end(self) -> None:
         """Clears the line."""
@@ -57,9 +57,9 @@ def in_order(program: Program, root: str, files: Iterable[DayFile], jobs: int, s
              bar: Bar) -> Iterator[tuple[DayFile, Reading]]:
     """What is read of files below a root, so many at once, each with its file, in their order; what is kept of a file
     that is the same is taken from there."""
-    waiting: Deque[tuple[DayFile, Union[Reading, Future]]] = deque()
+    waiting: Deque[tuple[DayFile, Union[Reading, Future[Reading]]]] = deque()
 
-    def begun(file: DayFile) -> Union[Reading, Future]:
+    def begun(file: DayFile) -> Union[Reading, Future[Reading]]:
         path = os.path.join(root, file.path)
         try:
             kept: Optional[Reading] = state.kept(file.year, file.path, stamp_of(os.stat(path)))

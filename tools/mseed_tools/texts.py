@@ -17,6 +17,9 @@ CHANNEL = re.compile(r"(?P<key>[0-9A-F]{24}) records (?P<records>\d+) samples (?
                      r"head (?:none|\d+ \d+ (?P<start>-?\d+) \d+/\d+) "
                      r"tail (?:none|(?P<last>-?\d+) (?P<held>\d+) (?P<num>\d+)/(?P<den>\d+) (?P<leap>\w+)) "
                      r"findings (?P<findings>\d+)")
+# A part, whole: the line of its counts is there.
+PART = re.compile(rb"mseed part 1\n(?:[0-9A-F]{24} records [^\n]+\n)*records \d+ bytes \d+\n"
+                  rb"(?:faults \d+\n)?(?:fault at \d+ [^\n]+\n)?")
 COUNTS = re.compile(r"records (\d+) bytes (\d+)")
 FOUND = re.compile(r"(\d+) (\S+) record (\d+) start (fault \w+|\S+) (.+)")
 INSTANT = re.compile(r"(?P<year>\d{4})-(?:(?P<month>\d\d)-(?P<date>\d\d)|(?P<day>\d{3}))"
@@ -152,9 +155,8 @@ def micros_of(time: str) -> Optional[int]:
 
 
 def instant_in(word: str) -> int:
-    """The instant that a word of a command line names, as those of `mseed select` do: a day by its month or by its
-    number in the year, alone or with a time, whose last parts may be left out. Raises ValueError where it names
-    none."""
+    """The instant that a word of a command line names: a day by its month or by its number in the year, alone or with a
+    time, whose last parts may be left out. Raises ValueError where it names none."""
     found = INSTANT.fullmatch(word)
     if found is None or not 1900 <= int(found["year"]) <= 2100:
         raise ValueError(word)

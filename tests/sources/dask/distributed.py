@@ -1,8 +1,15 @@
-"""A stand-in for Dask's `distributed`, which does each thing at once, in this process."""
+"""A stand-in for Dask's `distributed`, which does each thing at once, in this process. Of the calls of a map the one
+that $KILLED names, from 1, and those behind it aren't done: it is as if their worker was killed each time."""
 
 from __future__ import annotations
 
+import os
+import sys
 from typing import Any, Callable, Iterable
+
+
+class KilledWorker(Exception):
+    """What is raised for a call whose workers were killed."""
 
 
 class Future:
@@ -47,9 +54,15 @@ class Client:
         return Future(function(*known))
 
     def map(self, function: Callable, some: Iterable[Any], pure: bool = True) -> list[Future]:
-        """A call each."""
-        return [Future(function(one)) for one in some]
+        """A call each. What Dask itself reports goes to standard error."""
+        print("distributed.worker - INFO - begun", file=sys.stderr)
+        killed = int(os.environ.get("KILLED", 0))
+        return [Future(KilledWorker("worker was killed") if killed and number >= killed else function(one))
+                for number, one in enumerate(some, 1)]
 
     def gather(self, futures: list[Future]) -> list[Any]:
         """What came of each."""
+        for one in futures:
+            if isinstance(one.value, KilledWorker):
+                raise one.value
         return [one.value for one in futures]
