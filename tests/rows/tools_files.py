@@ -7,6 +7,7 @@ from __future__ import annotations
 
 import json
 import os
+import shutil
 import stat
 import subprocess
 import sys
@@ -209,10 +210,24 @@ def wrong_roots(folder: Path) -> Cases:
         "files 0 bytes 0 channels 0 continuous 0 broken 0 undecoded 0 faults 0"], ""), outcome(tool("sds", str(odd))))
 
 
+def installed(folder: Path) -> Cases:
+    """Installed below a folder that isn't on the path, by a link of another name, a tool finds its modules and the
+    program."""
+    below, sample = folder / "lib" / "mseed", str(SAMPLE)
+    shutil.copytree(TOOLS, below / "tools")
+    (folder / "bin").mkdir()
+    (folder / "bin" / "mseed").symlink_to(PROGRAM)
+    (folder / "bin" / "mseed-gaps").symlink_to("../lib/mseed/tools/gaps")
+    env = {word: value for word, value in os.environ.items() if word != "MSEED"}
+    run = subprocess.run([sys.executable, str(folder / "bin" / "mseed-gaps"), sample], stdin=subprocess.DEVNULL,
+                         capture_output=True, env={**env, "PATH": "/usr/bin:/bin"}, timeout=SECONDS, check=False)
+    yield Fact("an installed tool, by a link", tool("gaps", sample), Result(run.returncode, run.stdout, run.stderr))
+
+
 def rows() -> Cases:
     """All of them."""
     picture = drawn()
     for some in (lambda folder: links(folder, picture), lambda folder: pipes(folder, picture), devices, kept_files,
-                 fifo_in_tree, unread_folders, wrong_roots):
+                 fifo_in_tree, unread_folders, wrong_roots, installed):
         with tempfile.TemporaryDirectory() as name:
             yield from some(Path(name))

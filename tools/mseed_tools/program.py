@@ -8,9 +8,12 @@ import shutil
 import tempfile
 import threading
 from pathlib import Path
-from typing import IO, NamedTuple, Sequence, Union
+from typing import IO, NamedTuple, Optional, Sequence, Union
 
-BUILT = Path(__file__).resolve().parents[2] / "crates" / "mseed" / "out" / "mseed"
+HERE = Path(__file__).resolve()
+BUILT = HERE.parents[2] / "crates" / "mseed" / "out" / "mseed"
+# Where these tools are installed, below the folder in whose `bin` the program is.
+INSTALLED = "/lib/mseed/tools/mseed_tools/program.py"
 
 
 class ToolError(Exception):
@@ -80,10 +83,16 @@ class Program:
             return hashlib.sha256(file.read()).hexdigest()
 
 
+def installed() -> Optional[str]:
+    """The program that was installed with these tools."""
+    whole = str(HERE)
+    return shutil.which(f"{whole[: -len(INSTALLED)]}/bin/mseed") if whole.endswith(INSTALLED) else None
+
+
 def find() -> Program:
-    """The program that $MSEED names, else the one on the path, else that of the repository."""
-    named = os.environ.get("MSEED")
-    path = named or shutil.which("mseed") or str(BUILT)
+    """The program that $MSEED names, else the one on the path, else the one that these tools were installed with, else
+    that of the repository."""
+    path = os.environ.get("MSEED") or shutil.which("mseed") or installed() or str(BUILT)
     whole = shutil.which(path)
     if whole is None:
         raise ToolError(f"{path}: no program; $MSEED may name one")
