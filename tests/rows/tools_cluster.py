@@ -1,6 +1,6 @@
 """`tools/slurm` and `tools/dask_audit`: over a sound tree the text and status of the program's audit of its files, one
 behind another; over the tree with whatever goes wrong (driver/tools.py), those of a join of all parts; what is said
-where a task was killed or a file can't be read; and how a run is stopped.
+where a task was killed, a file can't be read, or a part is lost; and how a run is stopped.
 
 Slurm is a stand-in (sources/local_sbatch.py); tools_slurm has a real one. Dask is a stand-in too (sources/dask), and
 runs itself on this machine where it is there."""
@@ -21,7 +21,7 @@ from typing import Callable, Mapping, Optional, Sequence
 
 from driver.program import LIMIT, PROGRAM, SOURCES
 from driver.rows import NO_END, Cases, Fact, Result, Skipped, holds
-from driver.tools import DAYS, TOOLS, as_others, make_tree, outcome, packed, place, write_tree
+from driver.tools import DAYS, TOOLS, as_others, losing, make_tree, outcome, packed, place, write_tree
 
 DASK = "python3-distributed"
 STATIONS = ["AAA", "CCC"]
@@ -153,6 +153,14 @@ def not_whole(cluster: Cluster, sound: Path, files: Sequence[Path]) -> Cases:
     third.write_bytes(b"".join(whole[2].splitlines(keepends=True)[:-1]))
     yield Fact(f"{name}: parts that aren't whole", wanted, cluster.run("--parts", str(parts), str(sound)))
     yield Fact(f"{name}: they are made anew", whole, [path.read_bytes() for path in (first, second, third)])
+
+
+def lost(cluster: Cluster, sound: Path, program_of: Path) -> Cases:
+    """A part that is lost on its way to the program."""
+    parts = cluster.folder / f"parts-{cluster.name}-lost"
+    came = cluster.run("--parts", str(parts), str(sound), env={"MSEED": str(program_of)})
+    yield holds(f"{cluster.name}: a part that is lost", came.status == 2 and not came.out
+                and b"mseed: 9 parts, not 10\n" in came.err, came)
 
 
 def unread(cluster: Cluster) -> Cases:
@@ -363,6 +371,7 @@ def rows() -> Cases:
         for cluster in (slurm, standing_in):
             yield from both_trees(cluster, sound, files, damaged)
             yield from not_whole(cluster, sound, files)
+            yield from lost(cluster, sound, losing(folder))
             yield from unread(cluster)
             yield from killed_and_unread(cluster, files)
         yield from killed(slurm, sound, files, state)

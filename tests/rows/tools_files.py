@@ -19,7 +19,7 @@ from typing import Callable, Optional
 from driver.program import PROGRAM, SAMPLES
 from driver.records import record
 from driver.rows import Cases, Fact, Result, Skipped, holds
-from driver.tools import TOOLS, as_others, outcome, rest, tool, write_tree
+from driver.tools import TOOLS, as_others, losing, outcome, rest, tool, write_tree
 
 # So long a tool may take that isn't to wait for anybody.
 SECONDS = 60
@@ -210,6 +210,17 @@ def wrong_roots(folder: Path) -> Cases:
         "files 0 bytes 0 channels 0 continuous 0 broken 0 undecoded 0 faults 0"], ""), outcome(tool("sds", str(odd))))
 
 
+def lost_parts(folder: Path) -> Cases:
+    """A part that is lost on its way to the program is told, and not left out."""
+    root, program = folder / "lost", losing(folder)
+    write_tree(root, dict([day("AAA", 1), day("AAA", 2)]))
+    rest()
+    for name in ("sds", "gaps", "timeline"):
+        came = tool(name, str(root), program=program)
+        yield holds(f"{name}: a part that is lost", came.status == 2 and not came.out
+                    and b"mseed: 1 parts, not 2\n" in came.err, came)
+
+
 def installed(folder: Path) -> Cases:
     """Installed below a folder that isn't on the path, by a link of another name, a tool finds its modules and the
     program."""
@@ -228,6 +239,6 @@ def rows() -> Cases:
     """All of them."""
     picture = drawn()
     for some in (lambda folder: links(folder, picture), lambda folder: pipes(folder, picture), devices, kept_files,
-                 fifo_in_tree, unread_folders, wrong_roots, installed):
+                 fifo_in_tree, unread_folders, wrong_roots, lost_parts, installed):
         with tempfile.TemporaryDirectory() as name:
             yield from some(Path(name))

@@ -110,12 +110,17 @@ class Files:
 
 
 def joined_by(program: Program, parts: Sequence[bytes], is_part: bool = False) -> Done:
-    """What the program says of parts, one behind another; or their joint part. Raises ToolError where that isn't
-    there."""
-    done = program.run(["join", *["--part"] * is_part, "--past-faults"], b"".join(parts))
+    """What the program says of parts, one behind another, of which it expects as many as there are; or their joint
+    part. Raises ToolError where that isn't there."""
+    done = program.run(["join", *["--part"] * is_part, "--past-faults", *expecting(len(parts))], b"".join(parts))
     if is_part and not done.out.startswith(BEGIN):
         raise ToolError(f"{program.path} join: status {done.status}, {done.err[-200:].strip()}")
     return done
+
+
+def expecting(count: int) -> list[str]:
+    """The words by which a join says so where it reads not so many parts; none for no part, which it can't expect."""
+    return ["--expect", str(count)] if count else []
 
 
 def joint_part(program: Program, parts: Sequence[str]) -> Part:
@@ -158,7 +163,8 @@ def found_between(program: Program, borders: Sequence[Border]) -> list[FoundAt]:
         before.append(f"{begins} tail {border.tail} findings 0\n")
         behind.append(f"{begins} tail {start} 1 {rate} none findings 0\n")
     counts = f"records {len(borders)} bytes 0\n"
-    done = program.run(["join"], "".join([BEGIN, *before, counts, BEGIN, *behind, counts]).encode("ascii"))
+    done = program.run(["join", *expecting(2)],
+                       "".join([BEGIN, *before, counts, BEGIN, *behind, counts]).encode("ascii"))
     judged = done.out.splitlines()[:-1]
     if len(judged) != len(borders):
         raise ToolError(f"{program.path} join: status {done.status}, {done.err[-200:].strip()}")
