@@ -112,13 +112,22 @@ def within_limit(words: list[str], first: Optional[Callable[[], None]] = None) -
 
 
 def kept_files(folder: Path) -> Cases:
-    """What tools keep: FIFOs in the place of what is kept are no reason to wait."""
+    """What tools keep: FIFOs in the place of what is kept are no reason to wait, and links stay."""
     out = folder / "fetched"
     os.mkfifo(f"{out}.numbers")
     words = ["--port", "1", "--network", "XX", "--station", "STA", "--tries", "1"]
     came = within_limit(["fetch_on", str(out), *words])
     yield Fact("fetch_on, whose numbers are a FIFO", (2, [], f"fetch_on: {out}.numbers: not a regular file\n"),
                came and outcome(came))
+    sys.path.insert(0, str(TOOLS))
+    from mseed_tools.held import Held
+    linked = folder / "linked"
+    Path(f"{linked}.numbers").symlink_to("numbers")
+    held = Held(str(linked))
+    held.first("XX_STA", 5)
+    held.keep()
+    yield Fact("fetch_on, whose numbers are a link", ("numbers", {"XX_STA": [[0, 5]]}),
+               (led_to(Path(f"{linked}.numbers")), json.loads(Path(f"{linked}.numbers").read_bytes())["places"]))
     os.mkfifo(folder / "fifo")
     came = within_limit(["fetch_on", str(folder / "fifo"), *words])
     yield holds("fetch_on FIFO", came and came.status == 2 and came.err.startswith(b"fetch_on: "), came)
