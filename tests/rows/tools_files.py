@@ -5,6 +5,7 @@ Some rows need what not every user may: a device is made by root alone. Where it
 
 from __future__ import annotations
 
+import functools
 import json
 import os
 import shutil
@@ -18,7 +19,7 @@ from typing import Callable, Optional
 
 from driver.program import PROGRAM, SAMPLES
 from driver.records import record
-from driver.rows import Cases, Fact, Result, Skipped, holds
+from driver.rows import Cases, Fact, Result, Skipped, contents_of, holds, in_memory
 from driver.tools import TOOLS, as_others, losing, outcome, rest, tool, write_tree
 
 # So long a tool may take that isn't to wait for anybody.
@@ -29,6 +30,7 @@ GAPS = "gaps 0 0.000000 s overlaps 0 0.000000 s findings 0"
 LINE = "records 1 samples 16 from 2024-01-01T00:00:00.000000 to 2024-01-01T00:00:00.800000"
 
 
+@functools.lru_cache(None)
 def drawn() -> bytes:
     """What `timeline` draws of the sample."""
     return tool("timeline", str(SAMPLE)).out
@@ -39,7 +41,7 @@ def led_to(link: Path) -> Optional[str]:
     return os.readlink(link) if link.is_symlink() else None
 
 
-def links(folder: Path, picture: bytes) -> Cases:
+def links(folder: Path) -> Cases:
     """A link stays, and what it leads to is replaced, whole and with its rights; a file that isn't there is made."""
     target, link = folder / "target.svg", folder / "link.svg"
     target.write_bytes(b"old")
@@ -48,14 +50,14 @@ def links(folder: Path, picture: bytes) -> Cases:
     os.link(target, other)
     link.symlink_to("target.svg")
     came = tool("timeline", "--output", str(link), str(SAMPLE))
-    yield Fact("timeline --output LINK", (0, b"", b"", "target.svg", picture),
+    yield Fact("timeline --output LINK", (0, b"", b"", "target.svg", drawn()),
                (*came[:3], led_to(link), target.read_bytes()))
     yield Fact("the rights of what was replaced stay", 0o640, stat.S_IMODE(target.stat().st_mode))
     yield Fact("it is replaced, and not written into", b"old", other.read_bytes())
     beyond = folder / "beyond.svg"
     beyond.symlink_to("made.svg")
     tool("timeline", "--output", str(beyond), str(SAMPLE))
-    yield Fact("timeline --output LINK to nothing", (picture, "made.svg"), (beyond.read_bytes(), led_to(beyond)))
+    yield Fact("timeline --output LINK to nothing", (drawn(), "made.svg"), (beyond.read_bytes(), led_to(beyond)))
     neighbour = folder / "target.svg.new"
     neighbour.write_bytes(b"somebody's")
     tool("timeline", "--output", str(target), str(SAMPLE))
@@ -64,7 +66,7 @@ def links(folder: Path, picture: bytes) -> Cases:
                                                   "target.svg.new"], sorted(os.listdir(folder)))
 
 
-def pipes(folder: Path, picture: bytes) -> Cases:
+def pipes(folder: Path) -> Cases:
     """A FIFO is written into."""
     fifo, came = folder / "fifo", []
     os.mkfifo(fifo)
@@ -73,7 +75,7 @@ def pipes(folder: Path, picture: bytes) -> Cases:
     result = tool("timeline", "--output", str(fifo), str(SAMPLE))
     # Where it was replaced, whoever reads it waits for ever.
     reader.join(10)
-    yield Fact("timeline --output FIFO", (0, [picture], True),
+    yield Fact("timeline --output FIFO", (0, [drawn()], True),
                (result.status, came, stat.S_ISFIFO(fifo.stat().st_mode)))
 
 
@@ -93,6 +95,12 @@ def devices(folder: Path) -> Cases:
         err = f"timeline: {path}: No space left on device\n" if status else ""
         yield Fact(f"timeline --output /dev/{name}", (status, [], err, True),
                    (*outcome(came), stat.S_ISCHR(path.lstat().st_mode)))
+    with in_memory() as file:
+        run = subprocess.run([sys.executable, str(TOOLS / "timeline"), "--output", "/dev/stdout", str(SAMPLE)],
+                             stdin=subprocess.DEVNULL, stdout=file, env={**os.environ, "MSEED": str(PROGRAM)},
+                             timeout=SECONDS, check=False)
+        yield Fact("timeline --output /dev/stdout, which has no name", (0, drawn()),
+                   (run.returncode, contents_of(file)))
     came = tool("timeline", "--output", str(folder), str(SAMPLE))
     yield Fact("timeline --output FOLDER", (2, [], f"timeline: {folder}: Is a directory\n"), outcome(came))
 
@@ -246,8 +254,6 @@ def installed(folder: Path) -> Cases:
 
 def rows() -> Cases:
     """All of them."""
-    picture = drawn()
-    for some in (lambda folder: links(folder, picture), lambda folder: pipes(folder, picture), devices, kept_files,
-                 fifo_in_tree, unread_folders, wrong_roots, lost_parts, installed):
+    for some in (links, pipes, devices, kept_files, fifo_in_tree, unread_folders, wrong_roots, lost_parts, installed):
         with tempfile.TemporaryDirectory() as name:
             yield from some(Path(name))
