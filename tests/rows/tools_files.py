@@ -238,6 +238,22 @@ def lost_parts(folder: Path) -> Cases:
                     and b"mseed: 1 parts, not 2\n" in came.err, came)
 
 
+def older(folder: Path) -> Cases:
+    """A program that has no such option is named, by a line."""
+    path = folder / "older"
+    path.write_text(f"""\
+#!/bin/sh
+case " $* " in
+*' --expect '*) printf '%s\\n' "error: unexpected '--expect'" '' 'Usage: mseed <command>' >&2; exit 3;;
+esac
+exec {PROGRAM} "$@"
+""", encoding="utf-8")
+    path.chmod(0o755)
+    yield Fact("gaps by an older program", (2, [], (
+        f"gaps: {path} join --expect 2: status 3, error: unexpected '--expect'\n")),
+        outcome(tool("gaps", str(SAMPLES / "two_records.mseed"), program=path)))
+
+
 def installed(folder: Path) -> Cases:
     """Installed below a folder that isn't on the path, by a link of another name, a tool finds its modules and the
     program."""
@@ -254,6 +270,7 @@ def installed(folder: Path) -> Cases:
 
 def rows() -> Cases:
     """All of them."""
-    for some in (links, pipes, devices, kept_files, fifo_in_tree, unread_folders, wrong_roots, lost_parts, installed):
+    for some in (links, pipes, devices, kept_files, fifo_in_tree, unread_folders, wrong_roots, lost_parts, older,
+                 installed):
         with tempfile.TemporaryDirectory() as name:
             yield from some(Path(name))

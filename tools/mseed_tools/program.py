@@ -74,7 +74,8 @@ class Program:
             texts.append(file.read().decode("utf-8", "replace"))
         done = Done(status, *texts)
         if status < 0 or status > 2 or done.err in ("mseed: no memory\n", "mseed: write failed\n"):
-            raise ToolError(f"{self.path} {' '.join(words)}: status {status}, {done.err.strip()}")
+            first, _, _ = done.err.strip().partition("\n")
+            raise ToolError(f"{self.path} {' '.join(words)}: status {status}, {first}")
         return done
 
     def identity(self) -> str:
