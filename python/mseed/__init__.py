@@ -6,15 +6,19 @@
         print(trace.id, trace.start, trace.rate, trace.samples.max())
 
 Times are nanoseconds since 1970-01-01T00:00:00 (UTC) or datetimes, rates samples a second, samples counts. Any thread
-may call at any time.
+may call at any time; while the library works, others go on.
 """
 
 from mseed._auditing import Audit, Finding, audit, findings, part
+from mseed._memory import Archive, Samples
 from mseed._packing import PackError, make, pack, write
-from mseed._reading import RecordError, Traces, read
+from mseed._pieces import Piece, Pieces, iterate
+from mseed._reading import Traces, read
+from mseed._records import RecordError
 from mseed._trace import Trace
+from mseed._version import __version__
 
 __all__ = [
-    "Audit", "Finding", "PackError", "RecordError", "Trace", "Traces",
-    "audit", "findings", "make", "pack", "part", "read", "write",
+    "Archive", "Audit", "Finding", "PackError", "Piece", "Pieces", "RecordError", "Samples", "Trace", "Traces",
+    "__version__", "audit", "findings", "iterate", "make", "pack", "part", "read", "write",
 ]

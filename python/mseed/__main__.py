@@ -1,17 +1,34 @@
-"""python -m mseed audit FILE: the audit of an archive, as `mseed audit` writes it, with its status."""
+"""Audits an archive as `mseed audit` does, or lists its traces."""
 
 import argparse
+import errno
+import os
+import signal
 import sys
-from typing import List, Optional
+from contextlib import suppress
+from typing import List, NoReturn, Optional
 
 from mseed._auditing import audited
 from mseed._memory import bytes_of
 from mseed._reading import read
 
+BROKEN, FAULT, BAD_WORDS = 1, 2, 3
+NAME = "python -m mseed"
 
-def main(words: Optional[List[str]] = None) -> int:
-    """Carries out a command line, and answers the status."""
-    parser = argparse.ArgumentParser(prog="python -m mseed", description=__doc__)
+
+class _Parser(argparse.ArgumentParser):
+    """Words of a command line."""
+
+    def error(self, message: str) -> NoReturn:
+        """Words that mean nothing."""
+        _tell(f"{NAME}: {message}")
+        sys.exit(BAD_WORDS)
+
+
+def _given(words: Optional[List[str]]) -> argparse.Namespace:
+    """What the words ask for."""
+    parser = _Parser(prog=NAME, description=__doc__, epilog="statuses: 0; 1, some channel is broken, or some record "
+                     "can't be read; 2, a fault, or a file that can't be read or written; 3, a bad command line")
     commands = parser.add_subparsers(dest="command", required=True)
     auditor = commands.add_parser("audit", help="audits an archive, as `mseed audit` does")
     auditor.add_argument("file", metavar="FILE")
@@ -20,9 +37,14 @@ def main(words: Optional[List[str]] = None) -> int:
                        help="writes a line for each record with a finding first")
     kinds.add_argument("--part", dest="call", action="store_const", const="mseed_part",
                        help="writes the archive's part, which `mseed join` reads")
-    lister = commands.add_parser("read", help="lists the traces of an archive")
+    lister = commands.add_parser("read", help="lists the traces of an archive, and on standard error what is skipped")
     lister.add_argument("file", metavar="FILE")
-    given = parser.parse_args(words)
+    return parser.parse_args(words)
+
+
+def main(words: Optional[List[str]] = None) -> int:
+    """Carries out a command line, and answers the status."""
+    given = _given(words)
     if given.command == "audit":
         text, status, _ = audited(given.call, bytes_of(given.file))
         sys.stdout.write(text)
@@ -31,9 +53,45 @@ def main(words: Optional[List[str]] = None) -> int:
     for trace in traces:
         print(f"{trace.id} {trace.start.isoformat()} rate {trace.exact_rate} samples {len(trace)}")
     for left_out in traces.skipped:
-        print(left_out, file=sys.stderr)
-    return 1 if traces.skipped else 0
+        _tell(f"{left_out}, {left_out.length} bytes skipped")
+    if any(not left_out.name for left_out in traces.skipped):
+        return FAULT
+    return BROKEN if traces.skipped else 0
+
+
+def run() -> int:
+    """The same, with what it can't go on after in one line, and without a word where nobody reads on."""
+    signal.signal(signal.SIGINT, signal.SIG_DFL)
+    try:
+        if sys.stdout is None:
+            raise OSError(errno.EBADF, os.strerror(errno.EBADF))
+        status = main()
+        sys.stdout.flush()
+        return status
+    except BrokenPipeError:
+        pass
+    except MemoryError:
+        _tell(f"{NAME}: no memory")
+    except OSError as error:
+        _tell(f"{NAME}: {_reason(error)}")
+    if sys.stdout is not None:
+        # What wasn't written can't be written at the end either.
+        os.dup2(os.open(os.devnull, os.O_WRONLY), sys.stdout.fileno())
+    return FAULT
+
+
+def _reason(error: OSError) -> str:
+    """Why, with the file, if it is about one."""
+    about = os.fsdecode(error.filename) if error.filename else "standard output"
+    return f"{about}: {error.strerror}"
+
+
+def _tell(line: str) -> None:
+    """Writes a line on standard error, where there is one."""
+    if sys.stderr is not None:
+        with suppress(OSError):
+            print(line, file=sys.stderr, flush=True)
 
 
 if __name__ == "__main__":
-    sys.exit(main())
+    sys.exit(run())

@@ -57,13 +57,14 @@ class Audit:
         return self.status == 0
 
 
-def audited(call: str, data: bytes) -> Tuple[str, int, Totals]:
-    """The text that a call tells of an archive, its status and its totals."""
+def audited(call: str, data: bytes, size: Optional[int] = None) -> Tuple[str, int, Totals]:
+    """The text that a call tells of an archive, its status and its totals; of so many bytes of it, if that is given."""
     totals = Totals()
     room = 1 << 16
     while True:
         text = ctypes.create_string_buffer(room)
-        status = getattr(LIBRARY, call)(address_of(data), len(data), text, room, ctypes.byref(totals))
+        size = len(data) if size is None else size
+        status = getattr(LIBRARY, call)(address_of(data), size, text, room, ctypes.byref(totals))
         if status == NO_MEMORY:
             raise MemoryError(f"{call} had no memory")
         if totals.length <= room:
@@ -74,7 +75,7 @@ def audited(call: str, data: bytes) -> Tuple[str, int, Totals]:
 def audit(archive: Archive) -> Audit:
     """Audits an archive: which channels are continuous, and where each of the others breaks first.
 
-    archive: a path, or bytes.
+    archive: a path, bytes, or a binary file that is open.
     """
     text, status, totals = audited("mseed_audit", bytes_of(archive))
     return Audit(text, status, totals.records, totals.channels, totals.broken)
@@ -83,7 +84,7 @@ def audit(archive: Archive) -> Audit:
 def part(archive: Archive) -> str:
     """The part of an archive, which `mseed join` reads: the text of `mseed audit --part`.
 
-    archive: a path, or bytes.
+    archive: a path, bytes, or a binary file that is open.
     """
     return audited("mseed_part", bytes_of(archive))[0]
 
@@ -91,25 +92,20 @@ def part(archive: Archive) -> str:
 def findings(archive: Archive) -> List[Finding]:
     """Each record of an archive with a finding, in the archive's order.
 
-    archive: a path, or bytes.
+    archive: a path, bytes, or a binary file that is open.
     """
-    return findings_and_fault(bytes_of(archive))[0]
+    return findings_in(bytes_of(archive))
 
 
-def findings_and_fault(data: bytes) -> Tuple[List[Finding], Optional[Tuple[int, str]]]:
-    """Each record with a finding; and where reading ended and why, if the archive doesn't end where a record ends."""
-    text, _, _ = audited("mseed_audit_each", data)
-    lines = text.splitlines()
+def findings_in(data: bytes, size: Optional[int] = None) -> List[Finding]:
+    """Each record with a finding, of an archive or of so many bytes of it."""
     found = []
-    for line in lines:
+    for line in audited("mseed_audit_each", data, size)[0].splitlines():
         words = line.split(" ")
         if len(words) < 7 or words[2] != "record" or words[4] != "start":
             break
         # The start is one word, or "fault" and a field.
-        size = 2 if words[5] == "fault" else 1
-        start, why = " ".join(words[5 : 5 + size]), " ".join(words[5 + size :])
+        length = 2 if words[5] == "fault" else 1
+        start, why = " ".join(words[5 : 5 + length]), " ".join(words[5 + length :])
         found.append(Finding(int(words[0]), words[1], int(words[3]), start, why))
-    last = lines[-1].split(" ", 3)
-    if last[:2] == ["fault", "at"]:
-        return found, (int(last[2]), last[3])
-    return found, None
+    return found

@@ -9,7 +9,7 @@ from typing import Iterator
 NAME = "libmseed_c.so"
 
 OK, BROKEN, FAULT, NO_MEMORY, NO_ROW, NO_ROOM, TRUNCATED = range(7)
-LENGTH, ENCODING, SHORT, BAD_WORD, OVERFLOW, LAST_DIFFERS = 20, 33, 36, 37, 38, 39
+LENGTH = 20
 SAMPLE_TOO_LARGE, DIFFERENCE_TOO_LARGE = 51, 52
 
 # The words of mseed_why.
@@ -44,12 +44,6 @@ class Progress(ctypes.Structure):
     """How far an archive was read."""
 
     _fields_ = [("rows", c_uint64), ("offset", c_uint64), ("filled", c_uint64), ("needed", c_uint64)]
-
-
-class Detail(ctypes.Structure):
-    """The numbers of a code."""
-
-    _fields_ = [("first", c_uint64), ("second", c_uint64), ("found", c_int32), ("constant", c_int32)]
 
 
 class Heading(ctypes.Structure):
@@ -103,7 +97,6 @@ def _load() -> ctypes.CDLL:
         "mseed_part": text,
         "mseed_rows": [c_void_p, c_size_t, c_size_t, c_void_p, c_size_t, POINTER(Progress)],
         "mseed_read": [c_void_p, c_size_t, c_size_t, c_void_p, c_size_t, c_void_p, c_size_t, POINTER(Progress)],
-        "mseed_samples": [c_void_p, c_size_t, c_void_p, c_size_t, POINTER(Detail)],
         "mseed_pack": [POINTER(Heading), c_void_p, c_size_t, c_void_p, c_size_t, POINTER(Packed)],
     }.items():
         call = getattr(library, name)
@@ -114,13 +107,7 @@ def _load() -> ctypes.CDLL:
 LIBRARY = _load()
 
 
-def reason(code: int, detail: Detail) -> str:
-    """A code and its numbers in the words of the program."""
-    words = WORDS.get(code, "unknown")
-    if code in (LENGTH, ENCODING, SHORT, OVERFLOW):
-        return f"{words} {detail.first}"
-    if code == BAD_WORD:
-        return f"{words} {detail.first} {detail.second}"
-    if code == LAST_DIFFERS:
-        return f"{words} {detail.found} {detail.constant}"
-    return words
+def fault_of(code: int, needed: int, there: int) -> str:
+    """Why no record begins at a place, in the words of the program: with how much is needed, and how much is there."""
+    words = WORDS[code]
+    return f"{words} {needed}" if code == LENGTH else f"{words} {there}" if code == TRUNCATED else words

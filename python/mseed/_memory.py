@@ -1,30 +1,88 @@
-"""Bytes and samples in memory: NumPy arrays where NumPy is there, else array.array."""
+"""Bytes and samples in memory: NumPy arrays where NumPy is there, else memoryviews."""
 
 import ctypes
+import io
+import operator
 import os
 from array import array
-from typing import Any, Union
+from contextlib import contextmanager
+from typing import TYPE_CHECKING, Any, BinaryIO, Iterator, Sequence, Union, cast
 
 try:
-    import numpy
+    import numpy as numpy
 except ImportError:
-    numpy = None
+    numpy = None  # type: ignore[assignment]
 
-# A path, or the bytes of an archive.
-Archive = Union[str, "os.PathLike[str]", bytes, bytearray, memoryview]
+# A path, the bytes of an archive, or a binary file that is open, from where it stands to its end.
+Archive = Union[str, "os.PathLike[str]", bytes, bytearray, memoryview, BinaryIO]
 
-# 32-bit counts: a NumPy array of int32, or an array.array of type "i" where NumPy isn't there.
-Samples = Any
+# 32-bit counts: a NumPy array of int32, or a memoryview of such items where NumPy isn't there.
+if TYPE_CHECKING:
+    from numpy.typing import NDArray
+
+    Samples = NDArray[numpy.int32]
+else:
+    Samples = memoryview if numpy is None else numpy.ndarray
 
 LIMIT = 1 << 31
 
 
-def bytes_of(archive: Archive) -> bytes:
-    """The bytes of an archive: those of the file at a path, or those that are given."""
+@contextmanager
+def opened(archive: Archive) -> Iterator[BinaryIO]:
+    """An archive as a file, which is closed behind it if it is opened here.
+
+    TypeError where it is none.
+    """
     if isinstance(archive, (str, os.PathLike)):
-        with open(archive, "rb") as file:
-            return file.read()
-    return bytes(archive)
+        with open(archive, "rb", buffering=0) as file:
+            yield file
+    elif hasattr(archive, "read"):
+        yield cast(BinaryIO, archive)
+    else:
+        yield io.BytesIO(bytes_of(archive))
+
+
+def bytes_of(archive: Archive) -> bytes:
+    """The bytes of an archive: those of the file at a path, the rest of a file that is open, or those that are given.
+
+    TypeError where it is none.
+    """
+    if isinstance(archive, bytes):
+        return archive
+    if isinstance(archive, (str, os.PathLike)) or hasattr(archive, "read"):
+        with opened(archive) as file:
+            return read_from(file, -1)
+    try:
+        return bytes(memoryview(archive))
+    except TypeError:
+        raise TypeError(f"an archive is a path, bytes, or a binary file that is open, not {named(archive)}") from None
+
+
+def read_from(file: BinaryIO, size: int) -> bytes:
+    """The next bytes of a file: at most so many, all with -1, and none at its end.
+
+    TypeError where it isn't open for bytes.
+    """
+    data = file.read(size)
+    if not isinstance(data, bytes):
+        raise TypeError(f"an archive is a file that is open for bytes: what is read of this one is a {named(data)}")
+    return data
+
+
+def named(value: object) -> str:
+    """The name of a value's type."""
+    return type(value).__name__
+
+
+def whole(what: str, value: Any) -> int:
+    """A value that is a whole number.
+
+    TypeError, with what it is, where it is none.
+    """
+    try:
+        return operator.index(value)
+    except TypeError:
+        raise TypeError(f"{what} is an int, not {named(value)}") from None
 
 
 def address_of(data: bytes) -> int:
@@ -36,21 +94,21 @@ def room_for(count: int) -> Samples:
     """Places for so many samples, of which nothing is known yet."""
     if numpy is not None:
         return numpy.empty(max(count, 1), numpy.int32)
-    return array("i", bytes(4 * max(count, 1)))
+    return memoryview(array("i", bytes(4 * max(count, 1))))
 
 
 def address_in(samples: Samples, index: int) -> int:
     """Where the sample at an index lies."""
     if numpy is not None:
         return int(samples.ctypes.data) + 4 * index
-    return int(samples.buffer_info()[0]) + 4 * index
+    return ctypes.addressof(ctypes.c_char.from_buffer(samples)) + 4 * index
 
 
-def part_of(samples: Samples, begin: int, end: int) -> Samples:
-    """The samples from one index up to another, as a view: no sample is copied."""
+def joined(parts: Sequence[Samples]) -> Samples:
+    """Samples one behind another, at a place of their own."""
     if numpy is not None:
-        return samples[begin:end]
-    return memoryview(samples)[begin:end]
+        return numpy.concatenate(parts)
+    return memoryview(array("i", b"".join(parts)))
 
 
 def samples_from(given: Any) -> Samples:
@@ -68,6 +126,9 @@ def samples_from(given: Any) -> Samples:
             if int(found.min()) < -LIMIT or int(found.max()) >= LIMIT:
                 raise OverflowError("a sample has more than 32 bits")
         return numpy.ascontiguousarray(found, numpy.int32)
-    if isinstance(given, array) and given.typecode == "i":
+    if isinstance(given, memoryview) and given.format == "i" and given.contiguous and not given.readonly:
         return given
-    return array("i", given)
+    try:
+        return memoryview(given if isinstance(given, array) and given.typecode == "i" else array("i", given))
+    except TypeError:
+        raise TypeError("samples are integers in one dimension") from None

@@ -3,10 +3,11 @@
 import ctypes
 import os
 from fractions import Fraction
-from typing import Any, Optional, Sequence, Tuple, Union
+from typing import Any, Iterable, Optional, Tuple, Union
 
+from mseed._files import write_whole
 from mseed._library import DIFFERENCE_TOO_LARGE, LIBRARY, OK, SAMPLE_TOO_LARGE, WORDS, Heading, Packed
-from mseed._memory import address_in, numpy, samples_from
+from mseed._memory import address_in, named, samples_from, whole
 from mseed._trace import Trace
 
 ENCODINGS = {"int16": 1, "int32": 3, "steim1": 10, "steim2": 11}
@@ -23,12 +24,18 @@ class PackError(ValueError):
         self.index = index
         """The index of the first sample that the encoding doesn't hold, if that's why."""
 
+    def __reduce__(self) -> Tuple[Any, ...]:
+        """What it is made of anew in another process."""
+        return PackError, (self.reason, self.index)
+
 
 def rate_fields(rate: Union[int, float, Fraction]) -> Tuple[int, int]:
     """The factor and the multiplier of a rate in samples a second.
 
     ValueError where no two fields of 16 bits give it.
     """
+    if not isinstance(rate, (int, float, Fraction)):
+        raise TypeError(f"a rate is an int, a float or a Fraction, not {named(rate)}")
     exact = Fraction(rate) if isinstance(rate, (int, Fraction)) else Fraction(rate).limit_denominator(0x7FFF)
     if exact <= 0 or exact.numerator > 0x7FFF or exact.denominator > 0x7FFF or float(exact) != float(rate):
         raise ValueError(f"no factor and multiplier give {rate} samples a second")
@@ -44,10 +51,12 @@ def make(samples: Any, *, network: str, station: str, location: str = "", channe
     start_ns: the time of the first sample in nanoseconds since 1970-01-01T00:00:00; whole microseconds.
     rate: samples a second.
     """
-    if start_ns % 1000:
+    if whole("start_ns", start_ns) % 1000:
         raise ValueError("the start isn't a whole number of microseconds")
     key = b""
     for code, size in ((network, 2), (station, 5), (location, 2), (channel, 3)):
+        if not isinstance(code, str):
+            raise TypeError(f"a code is a str, not {named(code)}")
         raw = code.encode("ascii")
         if len(raw) > size:
             raise ValueError(f"the code {code} has more than {size} letters")
@@ -67,15 +76,17 @@ def pack(trace: Trace, *, length: int = 512, encoding: str = "steim2", sequence:
 
     PackError where it can't be packed, and why.
     """
+    if not isinstance(trace, Trace):
+        raise TypeError(f"what is packed is a mseed.Trace, not {named(trace)}")
     if encoding not in ENCODINGS:
         raise ValueError(f"no encoding {encoding}: it is one of {', '.join(ENCODINGS)}")
-    if length not in (128, 256, 512, 1024, 2048, 4096):
+    if whole("length", length) not in (128, 256, 512, 1024, 2048, 4096):
         raise ValueError(f"no record has {length} bytes")
     if leap is not None and leap[1] not in (1, -1):
         raise ValueError("a leap second is 1 or -1")
     if leap is not None and not 0 < leap[0] <= len(trace.samples):
         raise ValueError("a leap second stands behind some of the samples")
-    if not 0 <= sequence <= 999_999:
+    if not 0 <= whole("sequence", sequence) <= 999_999:
         raise ValueError("a sequence number is 0 to 999,999")
     if trace.start_ns % 1000:
         raise ValueError("the start isn't a whole number of microseconds")
@@ -103,13 +114,19 @@ def pack(trace: Trace, *, length: int = 512, encoding: str = "steim2", sequence:
         room = size
 
 
-def write(path: Union[str, "os.PathLike[str]"], traces: Union[Trace, Sequence[Trace]], *, length: int = 512,
+def write(path: Union[str, "os.PathLike[str]"], traces: Union[Trace, Iterable[Trace]], *, length: int = 512,
           encoding: str = "steim2", sequence: int = 1) -> int:
     """Writes traces to a file, one behind another, as pack packs them, and answers how many records there are. Nothing
     is written where one of them can't be packed.
+
+    path: a file that is there already has its old content or the new one, whenever it is looked at, and keeps its mode;
+    behind a link that is the link's target. What is no file, as a FIFO or a device, is written into.
     """
+    if not isinstance(path, (str, os.PathLike)):
+        raise TypeError(f"a path is a str or an os.PathLike, not {named(path)}")
+    if not isinstance(traces, (Trace, Iterable)):
+        raise TypeError(f"what is written is a mseed.Trace, or some of them, not {named(traces)}")
     each = [traces] if isinstance(traces, Trace) else list(traces)
     records = [pack(trace, length=length, encoding=encoding, sequence=sequence) for trace in each]
-    with open(path, "wb") as file:
-        file.writelines(records)
+    write_whole(os.fspath(path), records)
     return sum(len(part) for part in records) // length

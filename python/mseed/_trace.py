@@ -72,7 +72,7 @@ class Trace:
 
         ImportError where ObsPy isn't there.
         """
-        import obspy
+        import obspy  # type: ignore[import]
 
         header = {
             "network": self.network,

@@ -165,7 +165,7 @@ def typed() -> Cases:
     for path in sorted((ROOT / "python" / "mseed").glob("*.py")):
         text = path.read_text(encoding="utf-8")
         for name, rest in re.findall(r"^ *(?:def|class) (\w+)([^\"]*?):\n(?= *\"\"\")", text, re.MULTILINE | re.DOTALL):
-            if "(" in rest and not name[0].isupper():
+            if "(" in rest and not name.lstrip("_")[:1].isupper():
                 yield holds(f"{path.name}: {name} has types", "->" in rest, rest)
         unreported = re.findall(r"^ *(?:def|class) (\w+)[^\"]*?:\n(?! *\"\"\")", text, re.MULTILINE)
         yield Fact(f"{path.name}: texts are missing of", [], [name for name in unreported if not name.startswith("__")])

@@ -5,6 +5,7 @@
 Prints what differs, and at last how many archives, traces and packings were compared.
 """
 
+import io
 import sys
 from pathlib import Path
 from random import Random
@@ -14,12 +15,12 @@ sys.path.insert(0, str(Path(__file__).resolve().parents[1]))
 
 import mseed
 from driver.batches import Batch
-from models.auditing import channels_of, cut, findings, time_of
+from models.auditing import Record, channels_of, findings, record_of, scan, time_of
 from models.packing import Series, packed
 from models.series import series_for
 from mseed._auditing import BORDERS, audited
-from mseed._library import Row
-from mseed._reading import _rows_of
+from mseed._library import Progress, Row
+from mseed._records import rows_into
 from rows.damaged_archives import damaged
 
 TIMES = ["", "year", "day", "hour", "minute", "second", "fraction"]
@@ -31,28 +32,90 @@ def differs(what: str, archive: bytes, expected: Any, came: Any) -> None:
     print(f"  expected {expected!r:.600}\n  came     {came!r:.600}")
 
 
-def expected_traces(archive: bytes) -> Tuple[List[Tuple], List[Tuple[int, int, str]]]:
-    """The traces of an archive, and the records that are left out, by the second program."""
-    records, end, fault = cut(archive)
+class Expected:
+    """A trace: its key, and of each sample its value, the number of its record, and its time by it; and the factor and
+    the multiplier of that record."""
+
+    def __init__(self, key: bytes):
+        self.key, self.values = key, []
+        self.places: List[Tuple[int, int, int, int]] = []
+
+    def add(self, number: int, record: Record) -> None:
+        """Adds the samples of a record."""
+        num, den = record.rate()
+        for index, value in enumerate(record.read()):
+            self.values.append(value)
+            start = record.start() * 1000 + index * den * 10**9 // num
+            self.places.append((number, start, record.factor, record.multiplier))
+
+    def piece(self, begin: int, end: int) -> Tuple[Any, ...]:
+        """What is said of some of its samples."""
+        return (self.key, *self.places[begin], self.values[begin:end])
+
+
+def cut_on(archive: bytes) -> Tuple[List[Tuple[int, Record]], List[Tuple[int, int, str, int]]]:
+    """The records with their offsets, and the bytes that begin none, each with the number of the next record, their
+    offset, why, and how many they are: behind them reading goes on at the next multiple of 64 that a record begins."""
+    records, holes, at, hole = [], [], 0, None
+    while at < len(archive):
+        answer, value = scan(archive[at : at + 2**20 + 1])
+        if answer == "record":
+            if hole is not None:
+                holes.append((*hole, at - hole[1]))
+            hole = None
+            records.append((at, record_of(archive[at : at + value])))
+            at += value
+            continue
+        if hole is None:
+            hole = (len(records) + 1, at, value if answer == "not" else f"truncated {len(archive) - at}")
+        at = (at // 64 + 1) * 64
+    if hole is not None:
+        holes.append((*hole, len(archive) - hole[1]))
+    return records, holes
+
+
+def expected_traces(archive: bytes) -> Tuple[List[Expected], List[Tuple[int, int, str, int]]]:
+    """The traces of an archive, and what is left out, by the second program."""
+    records, skipped = cut_on(archive)
     found = {number: why for channel in channels_of(records).values() for number, _, why in findings(channel)}
-    traces: List[List[Any]] = []
-    going: Dict[bytes, List[Any]] = {}
-    skipped = []
+    traces: List[Expected] = []
+    going: Dict[bytes, Expected] = {}
     for number, (offset, record) in enumerate(records, 1):
         if record.count == 0:
             continue
         why = found.get(number)
         if why and why.split(" ")[0] not in BORDERS:
             going.pop(record.key, None)
-            skipped.append((number, offset, why))
+            skipped.append((number, offset, why, len(record.bytes)))
             continue
         if why or record.key not in going:
-            going[record.key] = [record.key, record.start() * 1000, record.factor, record.multiplier, number, []]
+            going[record.key] = Expected(record.key)
             traces.append(going[record.key])
-        going[record.key][5].extend(record.read())
-    if fault:
-        skipped.append((len(records) + 1, end, fault))
-    return [tuple(trace) for trace in traces], skipped
+        going[record.key].add(number, record)
+    return traces, sorted(skipped, key=lambda left_out: left_out[1])
+
+
+def left_out_of(errors: List[mseed.RecordError]) -> List[Tuple[int, int, str, int]]:
+    """What the package says of it."""
+    return [(error.number, error.offset, error.reason, error.length) for error in errors]
+
+
+def compare_pieces(archive: bytes, source: Random) -> None:
+    """Compares the pieces of the traces, of each channel in their order; as if memory were small, too."""
+    traces, skipped = expected_traces(archive)
+    most, mseed._pieces.AT_ONCE = source.choice([1, 3, 100, 10**6]), source.choice([64, 200, 1000, 1 << 21])
+    expected: Dict[bytes, List[Tuple]] = {}
+    for trace in traces:
+        size = len(trace.values)
+        expected.setdefault(trace.key, []).extend(
+            (*trace.piece(at, min(at + most, size)), at, at + most < size) for at in range(0, size, most))
+    came: Dict[bytes, List[Tuple]] = {}
+    pieces = mseed.iterate(io.BytesIO(archive), samples=most, skip=True)
+    for p in pieces:
+        came.setdefault(p.key, []).append((p.key, p.first_record, p.start_ns, p.factor, p.multiplier,
+                                           p.samples.tolist(), p.index, p.goes_on))
+    if came != expected or left_out_of(pieces.skipped) != skipped:
+        differs(f"pieces of {most}", archive, (expected, skipped), (came, left_out_of(pieces.skipped)))
 
 
 def shown(row: Row) -> str:
@@ -75,22 +138,23 @@ def compare(archive: bytes, batch: Batch) -> int:
         if (run.out.decode(), run.status) != (text, status):
             differs(call, archive, (run.out, run.status), (text, status))
     lines = batch.run(["show"], archive).out.decode().splitlines()
-    rows, count, _ = _rows_of(archive)
-    heads = [shown(rows[index]) for index in range(count)]
-    if f"records {count}" not in lines or not all(line.startswith(head) for head, line in zip(heads, lines)):
+    rows, progress = (Row * (len(archive) // 128 + 1))(), Progress()
+    rows_into(rows, archive, len(archive), 0, progress)
+    heads = [shown(rows[index]) for index in range(progress.rows)]
+    if f"records {len(heads)}" not in lines or not all(line.startswith(head) for head, line in zip(heads, lines)):
         differs("rows", archive, lines, heads)
     traces, skipped = expected_traces(archive)
+    expected = [trace.piece(0, len(trace.values)) for trace in traces]
     came = mseed.read(archive, skip=True)
-    values = [(t.key, t.start_ns, t.factor, t.multiplier, t.first_record, t.samples.tolist()) for t in came]
-    left_out = [(error.number, error.offset, error.reason) for error in came.skipped]
-    if values != traces or left_out != skipped:
-        differs("traces", archive, (traces, skipped), (values, left_out))
+    values = [(t.key, t.first_record, t.start_ns, t.factor, t.multiplier, t.samples.tolist()) for t in came]
+    if values != expected or left_out_of(came.skipped) != skipped:
+        differs("traces", archive, (expected, skipped), (values, left_out_of(came.skipped)))
     try:
         mseed.read(archive)
-        first = None
+        first = []
     except mseed.RecordError as error:
-        first = (error.number, error.offset, error.reason)
-    if first != (skipped[0] if skipped else None):
+        first = left_out_of([error])
+    if first != skipped[:1]:
         differs("the error", archive, skipped[:1], first)
     return len(values)
 
@@ -120,7 +184,9 @@ def main() -> None:
     source, traces = Random(seed), 0
     with Batch() as batch:
         for _ in range(archives):
-            traces += compare(damaged(source), batch)
+            archive = damaged(source)
+            traces += compare(archive, batch)
+            compare_pieces(archive, source)
     for _ in range(series):
         compare_packing(source)
     print(f"{archives} archives {series} packings")

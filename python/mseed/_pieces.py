@@ -1,0 +1,165 @@
+"""The traces of an archive, piece by piece."""
+
+from bisect import bisect_right
+from dataclasses import dataclass
+from typing import Any, BinaryIO, Dict, Generator, Iterator, List, Optional, Sequence
+
+from mseed._memory import Archive, Samples, joined, opened, read_from, whole
+from mseed._records import Cutter, RecordError, Run, Window, codes_of
+from mseed._trace import Trace
+
+# How much of an archive is in memory at once, besides what lacks to its last record: at most 1 MiB.
+AT_ONCE = 1 << 21
+
+
+@dataclass(frozen=True, eq=False)
+class Piece(Trace):
+    """Some samples of a trace. Its start is by the record in which the first of them stands, `first_record`: so it is
+    right also where the records drift, one against the other, by less than the audit finds."""
+
+    index: int = 0
+    """How many samples of its trace stand before it: 0 where a trace begins."""
+    goes_on: bool = False
+    """Whether another piece of its trace follows."""
+
+
+class Pieces(Iterator[Piece]):
+    """The pieces of an archive's traces, as they come. Once all are taken, or `close` was called, a path's file is
+    closed."""
+
+    def __init__(self, archive: Archive, samples: int, skip: bool) -> None:
+        """Of pieces of at most so many samples."""
+        self.skipped: List[RecordError] = []
+        """What was left out so far: the records that can't be read, and the bytes that begin none."""
+        self._pieces = _pieces(archive, samples, skip, self.skipped)
+        # So that what can't be opened is refused at once.
+        next(self._pieces)
+
+    def __next__(self) -> Piece:
+        """The next piece."""
+        piece = next(self._pieces)
+        assert piece is not None
+        return piece
+
+    def close(self) -> None:
+        """Reads no further."""
+        self._pieces.close()
+
+
+class _Firsts(Sequence[int]):
+    """The indexes of the rows' first samples."""
+
+    def __init__(self, window: Window) -> None:
+        self._window = window
+
+    def __len__(self) -> int:
+        return self._window.count
+
+    def __getitem__(self, index: Any) -> Any:
+        return int(self._window.rows[index].first)
+
+
+class _Open:
+    """A trace that is being read: what it has of its next piece, which has so many samples at most."""
+
+    def __init__(self, key: bytes, most: int) -> None:
+        self.key, self.most, self.index, self.size = key, most, 0, 0
+        self.parts: List[Samples] = []
+        self.views: List[Samples] = []
+        self.start_ns = self.factor = self.multiplier = self.first_record = 0
+
+    def add(self, window: Window, run: Run, read: Samples) -> Iterator[Piece]:
+        """Adds the samples of a run; the pieces that are whole by then."""
+        at, end = run.at, run.at + run.size
+        while at < end:
+            if self.size == self.most:
+                yield self.piece(True)
+            if self.size == 0:
+                self._begin(window, run, at)
+            size = min(self.most - self.size, end - at)
+            self.views.append(read[at : at + size])
+            self.size, at = self.size + size, at + size
+
+    def keep(self) -> None:
+        """Keeps at a place of its own what it has of samples that go."""
+        if self.views:
+            self.parts.append(joined(self.views))
+            self.views = []
+
+    def _begin(self, window: Window, run: Run, at: int) -> None:
+        """Begins a piece with the sample at an index."""
+        index = bisect_right(_Firsts(window), at, run.first, run.end) - 1
+        row = window.rows[index]
+        self.start_ns = row.start * 1000 + (at - row.first) * row.den * 10**9 // row.num
+        self.factor, self.multiplier, self.first_record = row.factor, row.multiplier, window.before + index + 1
+
+    def piece(self, goes_on: bool) -> Piece:
+        """The next piece."""
+        self.keep()
+        samples = self.parts[0] if len(self.parts) == 1 else joined(self.parts)
+        made = Piece(*codes_of(self.key), self.start_ns, self.factor, self.multiplier, samples, self.first_record,
+                     self.key, self.index, goes_on)
+        self.index, self.size, self.parts = self.index + self.size, 0, []
+        return made
+
+
+def iterate(archive: Archive, *, samples: int = 1 << 16, skip: bool = False) -> Pieces:
+    """The traces of an archive in pieces, each of which says whether its trace goes on behind it. Of the archive 2 MiB
+    are in memory at once, with their samples, and of each channel its last record and up to so many samples.
+
+    archive: a path, bytes, or a binary file that is open.
+    samples: how many each piece has; the last one of a trace has those that are left.
+    skip: as of read; what is left out is listed in `skipped` of the answer as it is met, and without it the first is
+    raised as it is met.
+    """
+    if whole("samples", samples) < 1:
+        raise ValueError(f"a piece has 1 sample or more, not {samples}")
+    return Pieces(archive, whole("samples", samples), skip)
+
+
+def _windows(file: BinaryIO, cutter: Cutter) -> Iterator[Window]:
+    """The records of a file, as many at once as are read at once."""
+    rest, chunk = b"", b"-"
+    while chunk:
+        chunk = read_from(file, AT_ONCE)
+        data, begin = rest + chunk, cutter.offset
+        window = Window(data, cutter.cut(data, not chunk))
+        rest = data[cutter.offset - begin :]
+        yield window
+
+
+def _pieces(archive: Archive, samples: int, skip: bool,
+            skipped: List[RecordError]) -> Generator[Optional[Piece], None, None]:
+    """Nothing, once the archive is open, and then the pieces."""
+    going: Dict[bytes, _Open] = {}
+    tails: Dict[bytes, bytes] = {}
+    with opened(archive) as file:
+        yield None
+        cutter = Cutter()
+        for window in _windows(file, cutter):
+            window.find([tails[key] for key in window.keys() if key in tails])
+            left_out = sorted([*cutter.holes, *window.errors()], key=lambda error: error.offset)
+            cutter.holes.clear()
+            if left_out and not skip:
+                raise left_out[0]
+            skipped.extend(left_out)
+            read = window.read()
+            runs = window.runs()
+            yield from _whole_pieces(window, runs, read, samples, going)
+            for trace in going.values():
+                trace.keep()
+            tails.update(window.tails(runs))
+    for trace in going.values():
+        yield trace.piece(False)
+
+
+def _whole_pieces(window: Window, runs: List[Run], read: Samples, samples: int,
+                  going: Dict[bytes, _Open]) -> Iterator[Piece]:
+    """The pieces that are whole once the runs of some records are added to the traces that go on."""
+    for run in runs:
+        if run.finding is not None and run.key in going:
+            yield going.pop(run.key).piece(False)
+        if run.size and not run.is_left_out:
+            if run.key not in going:
+                going[run.key] = _Open(run.key, samples)
+            yield from going[run.key].add(window, run, read)

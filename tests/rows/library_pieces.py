@@ -1,0 +1,233 @@
+"""The package for Python reads on behind bytes that begin no record, and reads archives in pieces: by hand, in little
+memory, and by two threads at once. Archives at random are those of library_python.py."""
+
+from __future__ import annotations
+
+import os
+import tempfile
+from pathlib import Path
+
+from driver.library import PYTHON, WANTS, has_numpy, library, python
+from driver.program import SAMPLES
+from driver.records import integers, record
+from driver.rows import Cases, Fact, Skipped, holds
+
+SECOND = 10**9
+# 108,000 samples at 100 a second, 100 in each record of 512 bytes: 1,080 records, of which each takes a second.
+START = 1704067200 * SECOND
+RECORDS, EACH, LENGTH = 1080, 100, 512
+# The record in the middle, and where it stands.
+MIDDLE = 540
+AT = MIDDLE * LENGTH
+
+SHOW = """
+import sys, mseed
+def shown(trace):
+    return trace.start_ns, len(trace), trace.first_record, sum(trace.samples.tolist())
+def left_out(errors):
+    return [(e.number, e.offset, e.length, e.reason, e.name) for e in errors]
+"""
+
+READ = SHOW + """
+traces = mseed.read(sys.argv[1], skip=True)
+print([shown(trace) for trace in traces], left_out(traces.skipped))
+try:
+    mseed.read(sys.argv[1])
+except mseed.RecordError as error:
+    print(left_out([error]))
+pieces = mseed.iterate(sys.argv[1], samples=10**6, skip=True)
+print([shown(piece) for piece in pieces], left_out(pieces.skipped))
+try:
+    print(len(list(mseed.iterate(sys.argv[1], samples=10**6))))
+except mseed.RecordError as error:
+    print(left_out([error]))
+"""
+
+PIECES = """
+import pickle, sys, mseed
+traces = {}
+pieces = mseed.iterate(sys.argv[1] + "/network_gap.mseed", samples=5000)
+for piece in pieces:
+    if piece.index == 0:
+        traces.setdefault(piece.channel, []).append([])
+    traces[piece.channel][-1].append((piece.index, len(piece), piece.goes_on, piece.start.strftime("%M:%S.%f")))
+for channel in sorted(traces):
+    for trace in traces[channel]:
+        print(channel, trace)
+print(pieces.skipped, type(piece) is mseed.Piece, isinstance(piece, mseed.Trace))
+for wrong in (0, -1):
+    try:
+        mseed.iterate(b"", samples=wrong)
+    except ValueError as error:
+        print(error)
+try:
+    mseed.iterate("/none/such")
+except FileNotFoundError as error:
+    print("refused at once", error.filename)
+with open(sys.argv[1] + "/network_gap.mseed", "rb") as file:
+    file.seek(512)
+    part = mseed.iterate(file, samples=100)
+    print(len(next(part)), file.closed)
+    part.close()
+    print(list(part), file.closed)
+error = pickle.loads(pickle.dumps(mseed.RecordError(3, 4, "notdata", "XX", 5)))
+print(error, error.number, error.offset, error.reason, error.name, error.length)
+"""
+
+# The lengths of the traces are those of samples/README.md; a piece of 5,000 samples at 20 a second takes 250 seconds.
+EXPECTED_PIECES = """\
+BHE [(0, 5000, True, '20:00.000000'), (5000, 5000, True, '24:10.000000'), (10000, 2000, False, '28:20.000000')]
+BHN [(0, 5000, True, '20:00.000000'), (5000, 5000, True, '24:10.000000'), (10000, 2000, False, '28:20.000000')]
+BHZ [(0, 4665, False, '20:00.000000')]
+BHZ [(0, 5000, True, '25:05.350000'), (5000, 893, False, '29:15.350000')]
+[] True True
+a piece has 1 sample or more, not 0
+a piece has 1 sample or more, not -1
+refused at once /none/such
+100 False
+[] False
+record 3 of XX at offset 4: notdata 3 4 notdata XX 5
+"""
+
+# An archive that is made as it is read: so many megabytes, of nine channels in turn; and the megabytes by which Python
+# grows while it is read.
+MEMORY = """
+import io, resource, sys, mseed
+class Made(io.RawIOBase):
+    def __init__(self, size):
+        self.left, self.turn, self.held = size, 0, b""
+        self.make()
+    def make(self):
+        each = [mseed.pack(mseed.make(SAMPLES, network="XX", station="STA", channel=f"BH{c}", rate=100,
+                                      start_ns=10**18 + self.turn * len(SAMPLES) * 10**7)) for c in range(9)]
+        self.held += b"".join(part[at : at + 512] for at in range(0, len(each[0]), 512) for part in each)
+        self.turn, self.left = self.turn + 1, self.left - 9 * len(each[0])
+    def read(self, size=-1):
+        while self.left > 0 and len(self.held) < size:
+            self.make()
+        given, self.held = self.held[:size], self.held[size:]
+        return given
+SAMPLES = mseed.make([(i * i) % 1009 - 500 for i in range(100_000)], network="XX", station="STA", channel="BHZ",
+                     rate=100, start_ns=0).samples
+made = Made(int(sys.argv[1]) * 10**6)
+before, samples, last = resource.getrusage(resource.RUSAGE_SELF).ru_maxrss, 0, {}
+for piece in mseed.iterate(made):
+    samples += len(piece)
+    assert piece.index == 0 or last[piece.id] == (piece.index, True)
+    last[piece.id] = piece.index + len(piece), piece.goes_on
+after = resource.getrusage(resource.RUSAGE_SELF).ru_maxrss
+print(samples == 9 * len(SAMPLES) * made.turn, {goes_on for _, goes_on in last.values()}, (after - before) // 1024)
+"""
+
+# Two archives, read one behind the other and by two threads at once: the least time of each, until the threads are
+# quicker by a seventh, or for a minute. On a machine that is busy with other work most tries tell nothing.
+THREADS = """
+import sys, threading, time, mseed
+paths, alone, together = sys.argv[1:3], [], []
+samples = [(i * i) % 1009 - 500 for i in range(2_000_000)]
+for path in paths:
+    mseed.write(path, mseed.make(samples, network="XX", station="STA", channel="BHZ", rate=100, start_ns=0))
+def work(path):
+    for _ in range(8):
+        assert len(mseed.read(path)[0]) == len(samples)
+end = time.perf_counter() + 60
+while len(together) < 3 or min(together) > 0.85 * min(alone) and time.perf_counter() < end:
+    begun = time.perf_counter()
+    for path in paths:
+        work(path)
+    alone.append(time.perf_counter() - begun)
+    begun = time.perf_counter()
+    threads = [threading.Thread(target=work, args=(path,)) for path in paths]
+    for thread in threads:
+        thread.start()
+    for thread in threads:
+        thread.join()
+    together.append(time.perf_counter() - begun)
+print(f"{min(together) / min(alone):.2f}")
+"""
+
+
+def value(index: int) -> int:
+    """The sample at an index of the archive."""
+    return index % 300
+
+
+def archive() -> list[bytes]:
+    """Its records."""
+    return [record(minute=number // 60 % 60, second=number % 60, samples=EACH, factor=100, exponent=9,
+                   data=integers(value(number * EACH + place) for place in range(EACH))) for number in range(RECORDS)]
+
+
+def trace(first: int, end: int, number: int) -> tuple[int, int, int, int]:
+    """What is shown of a trace of the samples of some records, of which the first has this number in its archive."""
+    values = sum(value(index) for index in range(first * EACH, end * EACH))
+    return START + first * SECOND, (end - first) * EACH, number, values
+
+
+def damages() -> list[tuple[str, bytes, list[tuple], list[tuple]]]:
+    """Archives with damage, their traces, and what is left out of them: number, offset, length, reason and name."""
+    whole, zeros = archive(), bytes(LENGTH)
+    front, behind, middle = b"".join(whole[:MIDDLE]), b"".join(whole[MIDDLE + 1 :]), whole[MIDDLE]
+    one = [trace(0, RECORDS, 1)]
+    two = [trace(0, MIDDLE, 1), trace(MIDDLE + 1, RECORDS, MIDDLE + 1)]
+    # Its first blockette is of type 0, and names none behind it.
+    headless = middle[:48] + zeros[:8] + middle[56:]
+    # A sample of 4 bytes is lacking.
+    short = middle[:30] + (EACH + 50).to_bytes(2, "big") + middle[32:]
+    return [
+        ("512 zero bytes in the middle", front + zeros + behind, two, [(MIDDLE + 1, AT, LENGTH, "notdata", "")]),
+        ("512 zero bytes more", front + zeros + middle + behind, one, [(MIDDLE + 1, AT, LENGTH, "notdata", "")]),
+        ("64 bytes more", front + b"x" * 64 + middle + behind, one, [(MIDDLE + 1, AT, 64, "notdata", "")]),
+        ("a record without blockettes", front + headless + behind, two, [(MIDDLE + 1, AT, LENGTH, "no1000", "")]),
+        ("zero bytes at the beginning", zeros + b"".join(whole), one, [(1, 0, LENGTH, "notdata", "")]),
+        ("a record that is cut off at the end", b"".join(whole)[:-100], [trace(0, RECORDS - 1, 1)],
+         [(RECORDS, (RECORDS - 1) * LENGTH, LENGTH - 100, "truncated 412", "")]),
+        ("a byte more, behind which no record stands at a multiple of 64", front + b"x" + middle + behind,
+         [trace(0, MIDDLE, 1)], [(MIDDLE + 1, AT, (RECORDS - MIDDLE) * LENGTH + 1, "notdata", "")]),
+        ("63 bytes more behind it, and the rest is found", front + b"x" + middle + bytes(63) + behind, two,
+         [(MIDDLE + 1, AT, LENGTH + 64, "notdata", "")]),
+        ("a record with fewer samples than it says", front + short + behind,
+         [trace(0, MIDDLE, 1), trace(MIDDLE + 1, RECORDS, MIDDLE + 2)],
+         [(MIDDLE + 1, AT, LENGTH, "short 112", "XX_STA__BHZ")]),
+        ("no record at all", b"x" * 1000, [], [(1, 0, 1000, "notdata", "")]),
+        ("two damages", zeros[:128] + front + zeros + behind[:-10],
+         [two[0], trace(MIDDLE + 1, RECORDS - 1, MIDDLE + 1)],
+         [(1, 0, 128, "notdata", ""), (MIDDLE + 1, AT + 128, LENGTH, "notdata", ""),
+          (RECORDS - 1, (RECORDS - 1) * LENGTH + 128, LENGTH - 10, f"truncated {LENGTH - 10}", "")]),
+    ]
+
+
+def reads_on(built: Path, folder: Path, numpy: bool) -> Cases:
+    """Behind what is no record, and behind a record that can't be read, by `read` and in pieces."""
+    manner = "with NumPy" if numpy else "without NumPy"
+    for name, content, traces, left_out in damages():
+        path = folder / "damaged.mseed"
+        path.write_bytes(content)
+        ended = python(built, ["-c", READ, str(path)], numpy=numpy)
+        expected = f"{traces} {left_out}\n{left_out[:1]}\n" * 2
+        yield Fact(f"{name}, {manner}", expected, (ended.stdout + ended.stderr).decode())
+
+
+def rows() -> Cases:
+    """All of them."""
+    built = library()
+    if built is None or not os.path.exists(PYTHON):
+        yield Skipped("archives in pieces", WANTS)
+        return
+    with tempfile.TemporaryDirectory() as name:
+        folder = Path(name)
+        for numpy in (False, True) if has_numpy() else (False,):
+            manner = "with NumPy" if numpy else "without NumPy"
+            yield from reads_on(built, folder, numpy)
+            ended = python(built, ["-c", PIECES, str(SAMPLES)], numpy=numpy)
+            yield Fact(f"pieces by hand, {manner}", EXPECTED_PIECES, (ended.stdout + ended.stderr).decode())
+            ended = python(built, ["-c", MEMORY, "300" if numpy else "30"], numpy=numpy)
+            words = ended.stdout.decode().rpartition(" ")
+            yield holds(f"reading in pieces takes less than 100 MB, {manner}",
+                        words[0] == "True {False}" and int(words[2]) < 100, ended.stdout + ended.stderr)
+        if (os.cpu_count() or 1) < 2:
+            yield Skipped("two threads", "two processors")
+            return
+        ended = python(built, ["-c", THREADS, str(folder / "first"), str(folder / "second")], numpy=has_numpy())
+        yield holds("two threads read two archives quicker than one behind the other",
+                    ended.returncode == 0 and float(ended.stdout) < 1, ended.stdout + ended.stderr)
