@@ -3,7 +3,8 @@
 # make show             lists the records of a sample archive, or of FILE=..
 # make repack           packs the channels of one anew, into packed.mseed or OUT=..
 # make lib              the library for C, C++ and Python, in crates/mseed_c/out/lib
-# make install          the program, its manual pages and what make lib built, below /usr/local or PREFIX=..
+# make install          the program, its manual pages, the tools, and what make lib built, below /usr/local or PREFIX=..
+# make uninstall        removes what make install put there, and nothing else
 # make test             the whole gate, then all row files of the tests
 # make edits            tries the wrong bodies that the gate leaves: docs/developing.md
 # make tools-test       the row files of the tools beside the program: tools/README.md
@@ -22,13 +23,14 @@ OUT ?= packed.mseed
 PREFIX ?= /usr/local
 VERSION := $(shell cat VERSION)
 NAME := mseed-$(VERSION)
-MANUAL := $(DESTDIR)$(PREFIX)/share/man/man1
 KIT = $(patsubst %/,%,$(dir $(shell rt doc)))
 LIB := crates/mseed_c/out/lib
-PYTHON_DIR ?= $(PREFIX)/lib/python3/dist-packages
+# The folder of packages, as this Python says.
+PYTHON ?= python3
+PYTHON_DIR ?= $(shell $(PYTHON) python/package_folder.py "$(PREFIX)")
 
 .PHONY: audit bench build dist drawing edits feed-bench help install install-lib interop lib packages \
-    repack show test tools-bench tools-test
+    repack show test tools-bench tools-test uninstall
 
 # Where the program's status isn't 0, these three print it and end with an error of make, whose own status is 2.
 audit: readable build
@@ -85,24 +87,15 @@ lib:
 # Where nothing was built yet, it is built first. What make lib didn't build is left out.
 install:
 	@[ -x $(MSEED) ] || $(MAKE) --no-print-directory build
-	@install -d "$(DESTDIR)$(PREFIX)/bin" "$(MANUAL)"
-	@install -m 755 $(MSEED) "$(DESTDIR)$(PREFIX)/bin/mseed"
-	@set -e; for page in man/*.1; do \
-	    to="$(MANUAL)/$${page#man/}"; sed 's/@VERSION@/$(VERSION)/' "$$page" > "$$to"; chmod 644 "$$to"; \
-	done
-	@echo 'Installed $(DESTDIR)$(PREFIX)/bin/mseed, and its pages in $(MANUAL).'
+	@$(PYTHON) install.py program "$(MSEED)" --prefix "$(PREFIX)" --destdir "$(DESTDIR)"
 	@[ ! -e $(LIB)/libmseed_c.so ] || $(MAKE) --no-print-directory install-lib
 
 install-lib:
 	@[ -e $(LIB)/libmseed_c.so ] || $(MAKE) --no-print-directory lib
-	@install -d "$(DESTDIR)$(PREFIX)/include" "$(DESTDIR)$(PREFIX)/lib/pkgconfig" "$(DESTDIR)$(PYTHON_DIR)/mseed"
-	@install -m 644 include/mseed.h "$(DESTDIR)$(PREFIX)/include/mseed.h"
-	@install -m 644 $(LIB)/libmseed_c.a "$(DESTDIR)$(PREFIX)/lib/libmseed_c.a"
-	@install -m 755 $(LIB)/libmseed_c.so "$(DESTDIR)$(PREFIX)/lib/libmseed_c.so"
-	@sed 's,@PREFIX@,$(PREFIX),; s,@VERSION@,$(VERSION),' include/mseed.pc.in \
-	    > "$(DESTDIR)$(PREFIX)/lib/pkgconfig/mseed.pc"
-	@install -m 644 python/mseed/*.py python/mseed/py.typed "$(DESTDIR)$(PYTHON_DIR)/mseed"
-	@echo 'Installed the library in $(DESTDIR)$(PREFIX)/lib, mseed.h, and the Python package in $(DESTDIR)$(PYTHON_DIR).'
+	@$(PYTHON) install.py library "$(LIB)" --prefix "$(PREFIX)" --destdir "$(DESTDIR)" --python-dir "$(PYTHON_DIR)"
+
+uninstall:
+	@$(PYTHON) install.py uninstall --prefix "$(PREFIX)" --destdir "$(DESTDIR)"
 
 # Of a clone, what is committed; else of this folder all but what was made.
 dist:

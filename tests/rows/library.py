@@ -7,11 +7,10 @@ import os
 import re
 import shutil
 import subprocess
-import sys
 import tempfile
 from pathlib import Path
 
-from driver.library import BUILT, HEADERS, PYTHON, WANTS, compiled, has_numpy, library, python
+from driver.library import HEADERS, PYTHON, WANTS, compiled, has_numpy, library, python
 from driver.program import CRATES, ROOT, SAMPLES, SOURCES
 from driver.rows import Cases, Fact, Skipped, holds
 from models.auditing import channels_of, cut, findings, name_of, time_of
@@ -144,25 +143,6 @@ def stretches(archive: bytes) -> list[tuple[str, int, list[int]]]:
     return [stretch[1:] for stretch in sorted(found)]
 
 
-def installed(built: Path, folder: Path) -> Cases:
-    """`make install-lib` puts in place what a program, by pkg-config, and Python need."""
-    if built != BUILT or shutil.which("pkg-config") is None:
-        yield Skipped("an installed library", "make lib, and pkg-config")
-        return
-    place = folder / "installed"
-    outcome = ran(["make", "--silent", "-C", str(ROOT), "install-lib", f"PREFIX={place}"])
-    yield holds("the library is installed", outcome.startswith("Installed"), outcome)
-    code = folder / "alone.c"
-    code.write_text(ALONE, encoding="ascii")
-    flags = ran(["env", f"PKG_CONFIG_PATH={place}/lib/pkgconfig", "pkg-config", "--cflags", "--libs", "mseed"]).split()
-    yield Fact("a program is compiled by pkg-config", "", ran(["cc", str(code), "-o", str(folder / "by"), *flags]))
-    yield Fact("and finds the library", "", ran(["env", f"LD_LIBRARY_PATH={place}/lib", str(folder / "by")]))
-    found = ran(["env", "-u", "MSEED_LIBRARY", f"PYTHONPATH={place}/lib/python3/dist-packages", sys.executable, "-B",
-                 "-c", "import mseed; print(mseed.__file__, mseed.audit(b'').text, end='')"])
-    yield Fact("Python finds the package and the library",
-               f"{place}/lib/python3/dist-packages/mseed/__init__.py records 0 channels 0\n", found)
-
-
 def rows() -> Cases:
     """All of them."""
     with tempfile.TemporaryDirectory() as name:
@@ -174,7 +154,6 @@ def rows() -> Cases:
             yield Skipped("calls from C", WANTS)
             return
         yield from readme(built, folder)
-        yield from installed(built, folder)
         yield from sweeps(built, folder)
         yield from refusals(built, folder)
         yield from threads(built, folder)
