@@ -111,11 +111,7 @@ def readme(built: Path, folder: Path) -> Cases:
     code, program = folder / "readme.c", folder / "readme"
     code.write_text(in_c, encoding="ascii")
     yield Fact("README's example in C compiles", "", compiled(built, code, program).stdout)
-    records = [record for _, record in cut(gap)[0]]
-    with (SAMPLES / "network_gap.mseed").open("rb") as source:
-        outcome = subprocess.run([str(program)], stdin=source, stdout=subprocess.PIPE, text=True, check=False).stdout
-    wanted = f"ok: {len(records)} records, {sum(r.count for r in records)} samples\n"
-    yield Fact("README's example in C", wanted, outcome)
+    yield from example_in_c(program, folder / "archive", gap)
     if not os.path.exists(PYTHON):
         yield Skipped("README's examples in Python", PYTHON)
         return
@@ -129,6 +125,27 @@ def readme(built: Path, folder: Path) -> Cases:
     lines = [f"{name} int32 {max(abs(sample) for sample in samples)}\n" for name, _, samples in stretches(network)[:3]]
     ended = python(built, ["-c", with_numpy])
     yield Fact("README's example in NumPy", "".join(lines), (ended.stdout + ended.stderr).decode())
+
+
+def example_in_c(program: Path, path: Path, gap: bytes) -> Cases:
+    """The README's program in C reads all of an archive: of one that ends with a piece, of longer ones, in which a
+    record begins in one piece and ends in the next, and of one that ends too early."""
+    records = [record for _, record in cut(gap)[0]]
+    one = [record for _, record in cut((SAMPLES / "two_records.mseed").read_bytes())[0]][:1]
+    piece = 4 << 20
+    for name, copies, before, short, code in [
+        ("the sample", 1, [], 0, "ok"), ("nothing", 0, [], 0, "ok"), ("7 MB", 250, [], 0, "ok"),
+        ("9 MB with records that two pieces share", 320, one, 0, "ok"), ("a cut one", 320, one, 100, "truncated"),
+        ("a piece and a record", piece // len(gap) + 1, [], 0, "ok"),
+    ]:
+        read = before + records * copies
+        path.write_bytes(b"".join(record.bytes for record in read)[: -short or None])
+        read = read[:-1] if short else read
+        with path.open("rb") as source:
+            ended = subprocess.run([str(program)], stdin=source, stdout=subprocess.PIPE, text=True, check=False)
+        yield Fact(f"README's example in C: {name}",
+                   (int(bool(short)), f"{code}: {len(read)} records, {sum(record.count for record in read)} samples\n"),
+                   (ended.returncode, ended.stdout))
 
 
 def stretches(archive: bytes) -> list[tuple[str, int, list[int]]]:

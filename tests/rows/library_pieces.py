@@ -4,13 +4,16 @@ memory, and by two threads at once. Archives at random are those of library_pyth
 from __future__ import annotations
 
 import os
+import re
 import tempfile
 from pathlib import Path
 
 from driver.library import PYTHON, WANTS, has_numpy, library, python
-from driver.program import SAMPLES
+from driver.program import ROOT, SAMPLES
 from driver.records import integers, record
 from driver.rows import Cases, Fact, Skipped, holds
+from models.auditing import time_of
+from rows.library import stretches
 
 SECOND = 10**9
 # 108,000 samples at 100 a second, 100 in each record of 512 bytes: 1,080 records, of which each takes a second.
@@ -208,12 +211,30 @@ def reads_on(built: Path, folder: Path, numpy: bool) -> Cases:
         yield Fact(f"{name}, {manner}", expected, (ended.stdout + ended.stderr).decode())
 
 
+def recipe(built: Path) -> Cases:
+    """The cookbook's recipe prints what the second program reads of the records before the junk and behind it."""
+    text = (ROOT / "docs" / "cookbook.md").read_text(encoding="utf-8")
+    code = re.findall(r"^```python\n(.*?)^```", text, re.MULTILINE | re.DOTALL)[0]
+    junk = (SAMPLES / "network_junk.mseed").read_bytes()
+    lines = ["14336 512 notdata"]
+    for name, start, samples in stretches(junk[:14336] + junk[14336 + 512 :]):
+        for at in range(0, len(samples), 5000):
+            time = time_of(start + at * SECOND // 20 // 1000)[11:].removesuffix(".000000")
+            left = len(samples) - at
+            lines.append(f"{name} {time} {min(left, 5000)} {'goes on' if left > 5000 else 'ends'}")
+    for numpy in (False, True) if has_numpy() else (False,):
+        ended = python(built, ["-c", code], numpy=numpy)
+        yield Fact(f"the recipe of the cookbook, {'with' if numpy else 'without'} NumPy", sorted(lines),
+                   sorted((ended.stdout + ended.stderr).decode().splitlines()))
+
+
 def rows() -> Cases:
     """All of them."""
     built = library()
     if built is None or not os.path.exists(PYTHON):
         yield Skipped("archives in pieces", WANTS)
         return
+    yield from recipe(built)
     with tempfile.TemporaryDirectory() as name:
         folder = Path(name)
         for numpy in (False, True) if has_numpy() else (False,):
