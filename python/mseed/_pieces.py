@@ -5,7 +5,7 @@ from dataclasses import dataclass
 from typing import Any, BinaryIO, Dict, Generator, Iterator, List, Optional, Sequence
 
 from mseed._memory import Archive, Samples, joined, opened, read_from, whole
-from mseed._records import Cutter, RecordError, Run, Window, codes_of
+from mseed._records import Cutter, RecordError, Runs, Window, codes_of
 from mseed._trace import Trace
 
 # How much of an archive is in memory at once, besides what lacks to its last record: at most 1 MiB.
@@ -60,38 +60,26 @@ class _Firsts(Sequence[int]):
 
 
 class _Open:
-    """A trace that is being read: what it has of its next piece, which has so many samples at most."""
+    """A trace that is being read: what it has of its next piece."""
 
-    def __init__(self, key: bytes, most: int) -> None:
-        self.key, self.most, self.index, self.size = key, most, 0, 0
+    def __init__(self, key: bytes) -> None:
+        self.key, self.index, self.size = key, 0, 0
         self.parts: List[Samples] = []
         self.views: List[Samples] = []
         self.start_ns = self.factor = self.multiplier = self.first_record = 0
 
-    def add(self, window: Window, run: Run, read: Samples) -> Iterator[Piece]:
-        """Adds the samples of a run; the pieces that are whole by then."""
-        at, end = run.at, run.at + run.size
-        while at < end:
-            if self.size == self.most:
-                yield self.piece(True)
-            if self.size == 0:
-                self._begin(window, run, at)
-            size = min(self.most - self.size, end - at)
-            self.views.append(read[at : at + size])
-            self.size, at = self.size + size, at + size
+    def begin(self, window: Window, at: int) -> None:
+        """Begins a piece with the sample at an index."""
+        index = bisect_right(_Firsts(window), at, 0, window.count) - 1
+        row = window.rows[index]
+        self.start_ns = row.start * 1000 + (at - row.first) * row.den * 10**9 // row.num
+        self.factor, self.multiplier, self.first_record = row.factor, row.multiplier, window.before + index + 1
 
     def keep(self) -> None:
         """Keeps at a place of its own what it has of samples that go."""
         if self.views:
             self.parts.append(joined(self.views))
             self.views = []
-
-    def _begin(self, window: Window, run: Run, at: int) -> None:
-        """Begins a piece with the sample at an index."""
-        index = bisect_right(_Firsts(window), at, run.first, run.end) - 1
-        row = window.rows[index]
-        self.start_ns = row.start * 1000 + (at - row.first) * row.den * 10**9 // row.num
-        self.factor, self.multiplier, self.first_record = row.factor, row.multiplier, window.before + index + 1
 
     def piece(self, goes_on: bool) -> Piece:
         """The next piece."""
@@ -153,13 +141,23 @@ def _pieces(archive: Archive, samples: int, skip: bool,
         yield trace.piece(False)
 
 
-def _whole_pieces(window: Window, runs: List[Run], read: Samples, samples: int,
+def _whole_pieces(window: Window, runs: Runs, read: Samples, samples: int,
                   going: Dict[bytes, _Open]) -> Iterator[Piece]:
     """The pieces that are whole once the runs of some records are added to the traces that go on."""
-    for run in runs:
-        if run.finding is not None and run.key in going:
-            yield going.pop(run.key).piece(False)
-        if run.size and not run.is_left_out:
-            if run.key not in going:
-                going[run.key] = _Open(run.key, samples)
-            yield from going[run.key].add(window, run, read)
+    for first, at, size, key in zip(runs.firsts, runs.places, runs.sizes, runs.keys):
+        if first in window.found and key in going:
+            yield going.pop(key).piece(False)
+        if size == 0 or window.is_left_out(first):
+            continue
+        trace = going.get(key)
+        if trace is None:
+            trace = going[key] = _Open(key)
+        end = at + size
+        while at < end:
+            if trace.size == samples:
+                yield trace.piece(True)
+            if trace.size == 0:
+                trace.begin(window, at)
+            size = min(samples - trace.size, end - at)
+            trace.views.append(read[at : at + size])
+            trace.size, at = trace.size + size, at + size

@@ -1,9 +1,12 @@
 """The traces of an archive."""
 
-from typing import Dict, Iterator, List, Sequence
+from bisect import bisect_right
+from collections import defaultdict
+from itertools import accumulate
+from typing import Dict, Iterator, List, Optional, Sequence, Tuple
 
-from mseed._memory import Archive, bytes_of, room_for
-from mseed._records import Cutter, RecordError, Run, Window, codes_of
+from mseed._memory import Archive, Samples, bytes_of, joined, room_for
+from mseed._records import Cutter, RecordError, Runs, Window, codes_of
 from mseed._trace import Trace
 
 
@@ -17,16 +20,16 @@ class Traces(List[Trace]):
         """The records that were left out, and the bytes that begin none, in their order."""
 
 
-# So many samples of runs that are shorter are decoded at once, and then go to where each stays.
-AT_ONCE = 1 << 18
+# So many samples are decoded at once where those of several channels stand by turns.
+AT_ONCE = 1 << 20
 
 
 class _Plan:
-    """A trace that is going to be read: its channel, the row of its first samples, and the runs of its rows."""
+    """A trace that is going to be read: its channel, the row of its first samples, how many it has, and the place where
+    the next ones of them stay."""
 
     def __init__(self, key: bytes, first: int) -> None:
-        self.key, self.first = key, first
-        self.runs: List[Run] = []
+        self.key, self.first, self.size, self.place = key, first, 0, 0
 
 
 def read(archive: Archive, *, skip: bool = False) -> Traces:
@@ -46,63 +49,70 @@ def read(archive: Archive, *, skip: bool = False) -> Traces:
     skipped = sorted([*cutter.holes, *window.errors()], key=lambda error: error.offset)
     if skipped and not skip:
         raise skipped[0]
-    runs = window.runs()
-    return Traces(_fill(window, runs, _plans_of(window, runs)), skipped)
+    return Traces(_fill(window, window.runs()), skipped)
 
 
-def _plans_of(window: Window, runs: Sequence[Run]) -> List[_Plan]:
-    """The traces that the runs make, by what the audit finds."""
+def _plans_of(window: Window, runs: Runs) -> Tuple[List[_Plan], List[Optional[_Plan]]]:
+    """The traces that the runs make, by what the audit finds; and of each run, which one it is of."""
     plans: List[_Plan] = []
+    of_runs: List[Optional[_Plan]] = []
     going: Dict[bytes, _Plan] = {}
-    for run in runs:
-        if run.is_left_out:
-            going.pop(run.key, None)
-        elif run.size:
-            if run.finding is not None or run.key not in going:
-                going[run.key] = _Plan(run.key, window.first_with_samples(run))
-                plans.append(going[run.key])
-            going[run.key].runs.append(run)
-    return plans
+    found = window.found
+    for first, end, size, key in zip(runs.firsts, runs.ends, runs.sizes, runs.keys):
+        if first in found:
+            going.pop(key, None)
+        plan = going.get(key)
+        if size and plan is None and not window.is_left_out(first):
+            plan = going[key] = _Plan(key, window.with_samples(range(first, end)))
+            plans.append(plan)
+        if plan is not None:
+            plan.size += size
+        of_runs.append(plan)
+    return plans, of_runs
 
 
-def _batches(runs: Sequence[Run]) -> Iterator[List[Run]]:
-    """Runs one behind another as many at once as are decoded at once; those that are left out aside."""
-    batch: List[Run] = []
-    size = 0
-    for run in runs:
-        if batch and (run.is_left_out or size + run.size > AT_ONCE):
-            yield batch
-            batch, size = [], 0
-        if not run.is_left_out:
-            batch.append(run)
-            size += run.size
-    if batch:
-        yield batch
+def _batches(runs: Runs, of_runs: Sequence[Optional[_Plan]]) -> Iterator[Tuple[int, int]]:
+    """From which run to which they are decoded at once: at most so many samples, but for a run of its own that has more.
+    What is of no trace is left out."""
+    stops = [index for index, plan in enumerate(of_runs) if plan is None]
+    begin = 0
+    for stop in [*stops, len(of_runs)]:
+        while begin < stop:
+            most = runs.places[begin] + AT_ONCE
+            end = max(bisect_right(runs.places, most, begin + 1, stop + 1) - 1, begin + 1)
+            yield begin, end
+            begin = end
+        begin = stop + 1
 
 
-def _fill(window: Window, runs: Sequence[Run], plans: Sequence[_Plan]) -> List[Trace]:
+def _fill(window: Window, runs: Runs) -> List[Trace]:
     """Reads each trace's samples to where they stay."""
-    places, ends, place = {}, [], 0
-    for plan in plans:
-        for run in plan.runs:
-            places[run.first] = place
-            place += run.size
-        ends.append(place)
-    out, some = room_for(place), room_for(AT_ONCE)
-    for batch in _batches(runs):
-        first, end, at = batch[0], batch[-1].end, batch[0].at
-        size = batch[-1].at + batch[-1].size - at
-        if len(batch) == 1:
-            window.read_into(first.first, end, out, places.get(first.first, 0), size)
+    plans, of_runs = _plans_of(window, runs)
+    places = [0, *accumulate(plan.size for plan in plans)]
+    for plan, place in zip(plans, places):
+        plan.place = place
+    out, some = room_for(places[-1]), room_for(min(places[-1], AT_ONCE))
+    for begin, end in _batches(runs, of_runs):
+        first, last, at = runs.firsts[begin], runs.ends[end - 1], runs.places[begin]
+        size, only = runs.places[end] - at, of_runs[begin]
+        if only is not None and end == begin + 1:
+            window.read_whole(first, last, out, only.place, size)
+            only.place += size
             continue
-        window.read_into(first.first, end, some, 0, size)
-        for run in batch:
-            if run.size:
-                place = places[run.first]
-                out[place : place + run.size] = some[run.at - at : run.at - at + run.size]
-    traces = []
-    for begin, end, plan in zip([0, *ends], ends, plans):
-        row = window.rows[plan.first]
-        traces.append(Trace(*codes_of(plan.key), row.start * 1000, row.factor, row.multiplier, out[begin:end],
-                            window.before + plan.first + 1, plan.key))
-    return traces
+        window.read_whole(first, last, some, 0, size)
+        parts: Dict[_Plan, List[Samples]] = defaultdict(list)
+        for of, place, size in zip(of_runs[begin:end], runs.places[begin:end], runs.sizes[begin:end]):
+            if of is not None:
+                parts[of].append(some[place - at : place - at + size])
+        for of, views in parts.items():
+            part = joined(views)
+            out[of.place : of.place + len(part)] = part
+            of.place += len(part)
+    return [_trace_of(window, plan, out[begin:end]) for plan, begin, end in zip(plans, places, places[1:])]
+
+
+def _trace_of(window: Window, plan: _Plan, samples: Samples) -> Trace:
+    """The trace with these samples."""
+    row = window.rows[plan.first]
+    return Trace(*codes_of(plan.key), row.start * 1000, row.factor, row.multiplier, samples,
+                 window.before + plan.first + 1, plan.key)

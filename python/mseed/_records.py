@@ -4,7 +4,7 @@ import bisect
 import ctypes
 import re
 from itertools import accumulate
-from typing import Any, Dict, List, NamedTuple, Optional, Sequence, Set, Tuple
+from typing import Any, Dict, Iterable, List, NamedTuple, Optional, Sequence, Set, Tuple
 
 from mseed._auditing import Finding, findings_in
 from mseed._library import LIBRARY, NO_ROW, TRUNCATED, Progress, Row, fault_of
@@ -57,21 +57,15 @@ class Cut(NamedTuple):
     before: int
 
 
-class Run(NamedTuple):
-    """Rows of one channel one behind another, of which the first alone may have a finding: from which to which, the
-    index of their first sample among all, and how many samples they have."""
+class Runs(NamedTuple):
+    """Rows one behind another that are of one channel, of which the first alone may have a finding: of each such run its
+    first row, the one behind its last, the index of its first sample among all, how many it has, and the channel."""
 
-    first: int
-    end: int
-    at: int
-    size: int
-    key: bytes
-    finding: Optional[Finding]
-
-    @property
-    def is_left_out(self) -> bool:
-        """Whether it is one record that can't be read."""
-        return self.finding is not None and self.finding.is_own
+    firsts: List[int]
+    ends: List[int]
+    places: List[int]
+    sizes: List[int]
+    keys: List[bytes]
 
 
 class Cutter:
@@ -184,15 +178,19 @@ class Window:
         offset = self._offsets[span] + row.offset - self._places[span]
         return RecordError(self.before + index + 1, offset, one.reason, one.name, row.length)
 
-    def runs(self) -> List[Run]:
+    def is_left_out(self, index: int) -> bool:
+        """Whether a row is that of a record that can't be read."""
+        return index in self.found and self.found[index].is_own
+
+    def runs(self) -> Runs:
         """The rows as runs."""
-        begins = self._changes
+        firsts = self._changes
         if self.found:
-            behind = {index + 1 for index, one in self.found.items() if one.is_own and index + 1 < self.count}
-            begins = sorted({*begins, *self.found, *behind})
-        places = [*self._firsts_at(begins), self.samples]
-        return [Run(begin, end, at, behind_it - at, key, self.found.get(begin)) for begin, end, at, behind_it, key in
-                zip(begins, [*begins[1:], self.count], places, places[1:], self._keys_at(begins))]
+            behind = {index + 1 for index in self.found if self.is_left_out(index) and index + 1 < self.count}
+            firsts = sorted({*firsts, *self.found, *behind})
+        places = [*self._firsts_at(firsts), self.samples]
+        sizes = [end - begin for begin, end in zip(places, places[1:])]
+        return Runs(firsts, [*firsts[1:], self.count], places, sizes, self._keys_at(firsts))
 
     def _begins_of_keys(self) -> List[int]:
         """The rows whose channel isn't that of the row before."""
@@ -219,33 +217,37 @@ class Window:
             return found
         return [self.rows[index].first for index in indexes]
 
-    def first_with_samples(self, run: Run) -> int:
-        """The first row of a run that has samples."""
-        return next(index for index in range(run.first, run.end) if self.rows[index].samples)
+    def with_samples(self, rows: Iterable[int]) -> int:
+        """The first of some rows that has samples."""
+        return next(index for index in rows if self.rows[index].samples)
 
-    def tails(self, runs: Sequence[Run]) -> Dict[bytes, bytes]:
+    def tails(self, runs: Runs) -> Dict[bytes, bytes]:
         """The last record with samples of each channel."""
-        last = {run.key: run for run in runs if run.size or run.is_left_out}
-        found = {}
-        for key, run in last.items():
-            row = self.rows[next(index for index in range(run.end - 1, -1, -1) if self.rows[index].samples)]
-            found[key] = self.data[row.offset : row.offset + row.length]
-        return found
+        last = {key: (first, end) for first, end, size, key in zip(runs.firsts, runs.ends, runs.sizes, runs.keys)
+                if size or first in self.found}
+        rows = {key: self.rows[self.with_samples(range(end - 1, first - 1, -1))] for key, (first, end) in last.items()}
+        return {key: self.data[row.offset : row.offset + row.length] for key, row in rows.items()}
 
     def read(self) -> Samples:
         """The samples of all records, one behind another. The rows then count those that could be read alone."""
         out = room_for(self.samples)
-        self.samples = self.read_into(0, self.count, out, 0, self.samples)
+        self.samples = self._read_into(0, self.count, out, 0, self.samples)
         return out
 
-    def read_into(self, first: int, end: int, out: Samples, place: int, room: int) -> int:
-        """Reads the samples of some rows to a place, for which there is so much room; how many there are."""
-        progress, each = Progress(), ctypes.sizeof(Row)
-        LIBRARY.mseed_read(address_of(self.data), self.size, self.rows[first].offset if first < end else self.size,
-                           ctypes.byref(self.rows, first * each), end - first, address_in(out, place), room,
+    def read_whole(self, first: int, end: int, out: Samples, place: int, size: int) -> None:
+        """Reads the samples of some rows, of which each can be read, to where there is a place for so many."""
+        filled = self._read_into(first, end, out, place, size)
+        if filled != size:
+            raise RuntimeError(f"the rows from {first} to {end} have {size} samples, and {filled} are read")
+
+    def _read_into(self, first: int, end: int, out: Samples, place: int, room: int) -> int:
+        """Reads the samples of some rows to a place; how many there are."""
+        progress, row = Progress(), ctypes.byref(self.rows, first * ctypes.sizeof(Row))
+        offset = self.rows[first].offset if first < end else self.size
+        LIBRARY.mseed_read(address_of(self.data), self.size, offset, row, end - first, address_in(out, place), room,
                            ctypes.byref(progress))
         if progress.rows != end - first:
-            raise RuntimeError(f"of {end - first} records {progress.rows} were read")
+            raise RuntimeError(f"of the rows from {first} to {end} {progress.rows} are read")
         return int(progress.filled)
 
 
