@@ -4,6 +4,7 @@ calls, by PEP 517. It wants nothing but Python, and so no network."""
 import base64
 import hashlib
 import os
+import runpy
 import sysconfig
 import zipfile
 from pathlib import Path
@@ -12,7 +13,7 @@ from typing import Any, Dict, Optional
 HERE = Path(__file__).resolve().parent
 LIBRARY = "libmseed_c.so"
 BUILT = HERE.parent / "crates" / "mseed_c" / "out" / "lib" / LIBRARY
-VERSION = (HERE / "mseed" / "VERSION").read_text(encoding="ascii").strip()
+VERSION = runpy.run_path(str(HERE / "mseed" / "_version.py"))["__version__"]
 NAME = f"mseed-{VERSION}"
 # The library is for one kind of machine, and any Python.
 TAG = f"py3-none-{sysconfig.get_platform().replace('-', '_').replace('.', '_')}"

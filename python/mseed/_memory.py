@@ -6,7 +6,7 @@ import operator
 import os
 from array import array
 from contextlib import contextmanager
-from typing import TYPE_CHECKING, Any, BinaryIO, Iterator, Sequence, Union, cast
+from typing import TYPE_CHECKING, Any, BinaryIO, Iterable, Iterator, Sequence, Union, cast
 
 try:
     import numpy as numpy
@@ -97,6 +97,13 @@ def room_for(count: int) -> Samples:
     return memoryview(array("i", bytes(4 * max(count, 1))))
 
 
+def settle(samples: Samples) -> None:
+    """Brings places into memory. Else they come there as they are first written, and while Python itself writes, no
+    other thread goes on."""
+    if numpy is not None:
+        samples.fill(0)
+
+
 def address_in(samples: Samples, index: int) -> int:
     """Where the sample at an index lies."""
     if numpy is not None:
@@ -109,6 +116,15 @@ def joined(parts: Sequence[Samples]) -> Samples:
     if numpy is not None:
         return numpy.concatenate(parts)
     return memoryview(array("i", b"".join(parts)))
+
+
+def scatter(part: Samples, sizes: Iterable[int], out: Samples, places: Iterable[int]) -> None:
+    """Puts samples, so many at a time, to a place each."""
+    source, target, begin = memoryview(cast(Any, part)), memoryview(cast(Any, out)), 0
+    for size, place in zip(sizes, places):
+        end = begin + size
+        target[place : place + size] = source[begin:end]
+        begin = end
 
 
 def samples_from(given: Any) -> Samples:

@@ -1,11 +1,9 @@
 """The traces of an archive."""
 
 from bisect import bisect_right
-from collections import defaultdict
-from itertools import accumulate
 from typing import Dict, Iterator, List, Optional, Sequence, Tuple
 
-from mseed._memory import Archive, Samples, bytes_of, joined, room_for
+from mseed._memory import Archive, Samples, bytes_of, room_for, scatter, settle
 from mseed._records import Cutter, RecordError, Runs, Window, codes_of
 from mseed._trace import Trace
 
@@ -21,12 +19,12 @@ class Traces(List[Trace]):
 
 
 # So many samples are decoded at once where those of several channels stand by turns.
-AT_ONCE = 1 << 20
+AT_ONCE = 1 << 18
 
 
 class _Plan:
-    """A trace that is going to be read: its channel, the row of its first samples, how many it has, and the place where
-    the next ones of them stay."""
+    """A trace that is going to be read: its channel, the row of its first samples, how many it has, and where they are
+    put."""
 
     def __init__(self, key: bytes, first: int) -> None:
         self.key, self.first, self.size, self.place = key, first, 0, 0
@@ -52,31 +50,36 @@ def read(archive: Archive, *, skip: bool = False) -> Traces:
     return Traces(_fill(window, window.runs()), skipped)
 
 
-def _plans_of(window: Window, runs: Runs) -> Tuple[List[_Plan], List[Optional[_Plan]]]:
-    """The traces that the runs make, by what the audit finds; and of each run, which one it is of."""
+def _plans_of(window: Window, runs: Runs) -> Tuple[List[_Plan], List[int]]:
+    """The traces that the runs make, by what the audit finds; and where the samples of each run are put, or -1 where
+    they are left out."""
     plans: List[_Plan] = []
-    of_runs: List[Optional[_Plan]] = []
+    parts: List[Tuple[Optional[_Plan], int]] = []
     going: Dict[bytes, _Plan] = {}
-    found = window.found
     for first, end, size, key in zip(runs.firsts, runs.ends, runs.sizes, runs.keys):
-        if first in found:
+        if first in window.found:
             going.pop(key, None)
         plan = going.get(key)
         if size and plan is None and not window.is_left_out(first):
             plan = going[key] = _Plan(key, window.with_samples(range(first, end)))
             plans.append(plan)
-        if plan is not None:
+        if plan is None:
+            parts.append((None, 0))
+        else:
+            parts.append((plan, plan.size))
             plan.size += size
-        of_runs.append(plan)
-    return plans, of_runs
+    place = 0
+    for plan in plans:
+        plan.place = place
+        place += plan.size
+    return plans, [-1 if plan is None else plan.place + place for plan, place in parts]
 
 
-def _batches(runs: Runs, of_runs: Sequence[Optional[_Plan]]) -> Iterator[Tuple[int, int]]:
-    """From which run to which they are decoded at once: at most so many samples, but for a run of its own that has more.
-    What is of no trace is left out."""
-    stops = [index for index, plan in enumerate(of_runs) if plan is None]
+def _batches(runs: Runs, places: Sequence[int]) -> Iterator[Tuple[int, int]]:
+    """From which run to which they are decoded at once: at most so many samples, but for a run that has more by itself.
+    What isn't put anywhere is left out."""
     begin = 0
-    for stop in [*stops, len(of_runs)]:
+    for stop in [*(index for index, place in enumerate(places) if place < 0), len(places)]:
         while begin < stop:
             most = runs.places[begin] + AT_ONCE
             end = max(bisect_right(runs.places, most, begin + 1, stop + 1) - 1, begin + 1)
@@ -87,28 +90,19 @@ def _batches(runs: Runs, of_runs: Sequence[Optional[_Plan]]) -> Iterator[Tuple[i
 
 def _fill(window: Window, runs: Runs) -> List[Trace]:
     """Reads each trace's samples to where they stay."""
-    plans, of_runs = _plans_of(window, runs)
-    places = [0, *accumulate(plan.size for plan in plans)]
-    for plan, place in zip(plans, places):
-        plan.place = place
-    out, some = room_for(places[-1]), room_for(min(places[-1], AT_ONCE))
-    for begin, end in _batches(runs, of_runs):
-        first, last, at = runs.firsts[begin], runs.ends[end - 1], runs.places[begin]
-        size, only = runs.places[end] - at, of_runs[begin]
-        if only is not None and end == begin + 1:
-            window.read_whole(first, last, out, only.place, size)
-            only.place += size
-            continue
-        window.read_whole(first, last, some, 0, size)
-        parts: Dict[_Plan, List[Samples]] = defaultdict(list)
-        for of, place, size in zip(of_runs[begin:end], runs.places[begin:end], runs.sizes[begin:end]):
-            if of is not None:
-                parts[of].append(some[place - at : place - at + size])
-        for of, views in parts.items():
-            part = joined(views)
-            out[of.place : of.place + len(part)] = part
-            of.place += len(part)
-    return [_trace_of(window, plan, out[begin:end]) for plan, begin, end in zip(plans, places, places[1:])]
+    plans, places = _plans_of(window, runs)
+    size = sum(plan.size for plan in plans)
+    out, some = room_for(size), room_for(min(size, AT_ONCE))
+    if len(places) > len(plans):
+        settle(out)
+    for begin, end in _batches(runs, places):
+        first, last, size = runs.firsts[begin], runs.ends[end - 1], runs.places[end] - runs.places[begin]
+        if end == begin + 1:
+            window.read_whole(first, last, out, places[begin], size)
+        else:
+            window.read_whole(first, last, some, 0, size)
+            scatter(some, runs.sizes[begin:end], out, places[begin:end])
+    return [_trace_of(window, plan, out[plan.place : plan.place + plan.size]) for plan in plans]
 
 
 def _trace_of(window: Window, plan: _Plan, samples: Samples) -> Trace:

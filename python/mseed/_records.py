@@ -58,8 +58,8 @@ class Cut(NamedTuple):
 
 
 class Runs(NamedTuple):
-    """Rows one behind another that are of one channel, of which the first alone may have a finding: of each such run its
-    first row, the one behind its last, the index of its first sample among all, how many it has, and the channel."""
+    """Runs of rows, each of one channel and with no finding but at its first row: of each its first row, the one behind
+    its last, the index of its first sample among all, how many samples it has, and the channel."""
 
     firsts: List[int]
     ends: List[int]

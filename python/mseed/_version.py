@@ -1,5 +1,3 @@
-"""The version, which is that of the program."""
+"""The version, which is that of the program: what the file VERSION says at the top of the repository."""
 
-from pathlib import Path
-
-__version__ = (Path(__file__).parent / "VERSION").read_text(encoding="ascii").strip()
+__version__ = "0.1.0"

@@ -3,6 +3,7 @@
 from __future__ import annotations
 
 import os
+import runpy
 import subprocess
 import tempfile
 import threading
@@ -220,6 +221,13 @@ def when_full(built: Path, folder: Path) -> Cases:
     yield Fact("and nothing is left of it", [], [name.name for name in folder.iterdir() if ".new" in name.name])
 
 
+def version() -> Cases:
+    """The version stands in the package, too, since that is copied from place to place."""
+    names = runpy.run_path(str(PACKAGE / "mseed" / "_version.py"))
+    yield Fact("the package has the version of the program",
+               (ROOT / "VERSION").read_text(encoding="ascii").strip(), names["__version__"])
+
+
 def types(folder: Path) -> Cases:
     """The package by mypy, and what it says of it to whoever uses it."""
     if subprocess.run([PYTHON, "-c", "import mypy"], stderr=subprocess.DEVNULL, check=False).returncode != 0:
@@ -241,6 +249,7 @@ def types(folder: Path) -> Cases:
 
 def rows() -> Cases:
     """All of them."""
+    yield from version()
     built = library()
     if built is None or not os.path.exists(PYTHON):
         yield Skipped("the package for Python at its edges", WANTS)
