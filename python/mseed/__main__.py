@@ -6,7 +6,7 @@ import os
 import signal
 import sys
 from contextlib import suppress
-from typing import List, NoReturn, Optional
+from typing import Callable, List, NoReturn, Optional
 
 from mseed._auditing import audited
 from mseed._memory import bytes_of
@@ -65,19 +65,29 @@ def run() -> int:
     try:
         if sys.stdout is None:
             raise OSError(errno.EBADF, os.strerror(errno.EBADF))
-        status = main()
+        status = _ended(main)
         sys.stdout.flush()
         return status
     except BrokenPipeError:
         pass
     except MemoryError:
         _tell(f"{NAME}: no memory")
+    except ImportError as error:
+        _tell(f"{NAME}: {error}")
     except OSError as error:
         _tell(f"{NAME}: {_reason(error)}")
     if sys.stdout is not None:
         # What wasn't written can't be written at the end either.
         os.dup2(os.open(os.devnull, os.O_WRONLY), sys.stdout.fileno())
     return FAULT
+
+
+def _ended(main: Callable[[], int]) -> int:
+    """The status of a command, also of one that ends by itself, behind its help."""
+    try:
+        return main()
+    except SystemExit as end:
+        return int(end.code or 0)
 
 
 def _reason(error: OSError) -> str:

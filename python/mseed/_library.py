@@ -4,7 +4,7 @@ import ctypes
 import os
 from ctypes import POINTER, c_char, c_int16, c_int32, c_int64, c_size_t, c_uint8, c_uint16, c_uint32, c_uint64, c_void_p
 from pathlib import Path
-from typing import Iterator
+from typing import Any, Iterator
 
 NAME = "libmseed_c.so"
 
@@ -76,6 +76,17 @@ def _places() -> Iterator[str]:
     yield NAME
 
 
+_TEXT = [c_void_p, c_size_t, c_void_p, c_size_t, POINTER(Totals)]
+_CALLS = {
+    "mseed_audit": _TEXT,
+    "mseed_audit_each": _TEXT,
+    "mseed_part": _TEXT,
+    "mseed_rows": [c_void_p, c_size_t, c_size_t, c_void_p, c_size_t, POINTER(Progress)],
+    "mseed_read": [c_void_p, c_size_t, c_size_t, c_void_p, c_size_t, c_void_p, c_size_t, POINTER(Progress)],
+    "mseed_pack": [POINTER(Heading), c_void_p, c_size_t, c_void_p, c_size_t, POINTER(Packed)],
+}
+
+
 def _load() -> ctypes.CDLL:
     """The library, with the types of its calls."""
     refused = []
@@ -89,22 +100,31 @@ def _load() -> ctypes.CDLL:
             continue
         break
     else:
-        raise ImportError(f"{NAME} isn't found: 'make lib' builds it, MSEED_LIBRARY names it ({'; '.join(refused)})")
-    text = [c_void_p, c_size_t, c_void_p, c_size_t, POINTER(Totals)]
-    for name, types in {
-        "mseed_audit": text,
-        "mseed_audit_each": text,
-        "mseed_part": text,
-        "mseed_rows": [c_void_p, c_size_t, c_size_t, c_void_p, c_size_t, POINTER(Progress)],
-        "mseed_read": [c_void_p, c_size_t, c_size_t, c_void_p, c_size_t, c_void_p, c_size_t, POINTER(Progress)],
-        "mseed_pack": [POINTER(Heading), c_void_p, c_size_t, c_void_p, c_size_t, POINTER(Packed)],
-    }.items():
+        why = "".join(f"; {reason}" for reason in refused)
+        raise ImportError(f"{NAME} isn't found: 'make lib' builds it, and MSEED_LIBRARY may name it{why}")
+    for name, types in _CALLS.items():
         call = getattr(library, name)
         call.argtypes, call.restype = types, c_uint32
     return library
 
 
-LIBRARY = _load()
+class _Library:
+    """The calls of the library, which is loaded at the first of them.
+
+    ImportError where it isn't found.
+    """
+
+    def __getattr__(self, name: str) -> Any:
+        if name not in _CALLS:
+            raise AttributeError(name)
+        library = _load()
+        self.path = library._name
+        for call in _CALLS:
+            setattr(self, call, getattr(library, call))
+        return getattr(library, name)
+
+
+LIBRARY = _Library()
 
 
 def fault_of(code: int, needed: int, there: int) -> str:

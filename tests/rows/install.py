@@ -188,7 +188,7 @@ def by_pip(folder: Path, built: Path) -> Cases:
                PYTHONDONTWRITEBYTECODE="1")
     yield Fact("pip installs it", "", said)
     yield Fact("and leaves nothing in the sources", before, below(PACKAGE))
-    found = run([python, "-c", BY_PYTHON + "; print(mseed._library.LIBRARY._name)"])
+    found = run([python, "-c", BY_PYTHON + "; print(mseed._library.LIBRARY.path)"])
     at = run([python, "-c", "import sysconfig; print(sysconfig.get_path('platlib'), end='')"])
     yield Fact("it has its version, and the library in it",
                f"{at}/mseed/__init__.py {VERSION} records 0 channels 0\n{at}/mseed/{SHARED}\n", found)

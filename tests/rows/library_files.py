@@ -126,7 +126,11 @@ def command(built: Path, folder: Path) -> Cases:
     yield Fact("python -m mseed read: a record that can't be read",
                (1, "record 35 of XX_KILN__BHE at offset 17408: lastdiffers -125 -61, 512 bytes skipped\n"),
                (ended.returncode, ended.stderr.decode()))
-    for words in (["audit", gap], ["audit", "--part", gap], ["read", gap]):
+    ended = python(built / "none", ["-m", "mseed", "audit", gap], numpy=False)
+    yield Fact("python -m mseed: no library", (2, b"", b"python -m mseed: libmseed_c.so isn't found: 'make lib' builds "
+                                               b"it, and MSEED_LIBRARY may name it\n"),
+               (ended.returncode, ended.stdout, ended.stderr))
+    for words in (["audit", gap], ["audit", "--part", gap], ["read", gap], ["--help"]):
         for name, to, why in (("a full disk", "> /dev/full", b"No space left on device"),
                               ("a closed output", ">&-", b"Bad file descriptor")):
             ended = piped(built, words, to)
