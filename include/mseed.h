@@ -207,7 +207,8 @@ uint32_t mseed_part (const uint8_t *archive, size_t size, uint8_t *text, size_t 
  * Answers MSEED_OK once all bytes are gone through, else why it stopped: MSEED_NO_ROW, MSEED_TRUNCATED or one of
  * MSEED_NOT_DATA to MSEED_VERSION_3. To go on, call again with progress->offset as the offset. Each row's code is
  * MSEED_OK, since no samples were read; its first counts the samples of the rows before it. Rows behind those that were
- * written stay as they were.
+ * written stay as they were. To go on behind bytes that begin no record, as the tools do, ask with one row at each
+ * multiple of 64 bytes behind, until one is written.
  */
 uint32_t mseed_rows (const uint8_t *archive, size_t size, size_t offset, mseed_row *rows, size_t nrows,
                      mseed_progress *progress);

@@ -9,7 +9,6 @@ import pickle
 import re
 import shutil
 import subprocess
-import sys
 import tempfile
 from pathlib import Path
 from typing import Optional
@@ -203,7 +202,7 @@ def by_pip(folder: Path, built: Path) -> Cases:
 def apart(folder: Path) -> Cases:
     """What `installed` sees where /usr/local is empty, if the system lets that be made."""
     fresh = ["unshare", "--mount", "bash", "-c", FRESH, "bash", str(folder), PLAIN["PATH"]]
-    ended = subprocess.run([*fresh, sys.executable, "-c", SEEN, str(ROOT / "tests"), str(folder)], capture_output=True,
+    ended = subprocess.run([*fresh, PYTHON, "-c", SEEN, str(ROOT / "tests"), str(folder)], capture_output=True,
                            check=False) if shutil.which("unshare") else None
     if ended is None or not (folder / "is_fresh").exists():
         yield Skipped("what is installed in /usr/local", "unshare, and leave to mount")
