@@ -12,6 +12,7 @@ from driver.library import PYTHON, WANTS, has_numpy, library, python
 from driver.program import ROOT, SAMPLES
 from driver.records import integers, record
 from driver.rows import Cases, Fact, Skipped, holds
+from driver.tools import tool
 from models.auditing import time_of
 from rows.library import stretches
 
@@ -219,6 +220,16 @@ def reads_on(built: Path, folder: Path, numpy: bool) -> Cases:
         yield Fact(f"{name}, {manner}", expected, (ended.stdout + ended.stderr).decode())
 
 
+def as_gaps_does(folder: Path) -> Cases:
+    """`tools/gaps` passes over the same bytes."""
+    path = folder / "damaged.mseed"
+    for name, content, _, left_out in damages():
+        path.write_bytes(content)
+        expected = [f"{path}: fault at {offset} {reason}, {length} bytes skipped"
+                    for _, offset, length, reason, channel in left_out if not channel]
+        yield Fact(f"{name}: the same by tools/gaps", expected, tool("gaps", str(path)).err.decode().splitlines())
+
+
 def recipe(built: Path) -> Cases:
     """The cookbook's recipe prints what the second program reads of the records before the junk and behind it."""
     text = (ROOT / "docs" / "cookbook.md").read_text(encoding="utf-8")
@@ -245,6 +256,7 @@ def rows() -> Cases:
     yield from recipe(built)
     with tempfile.TemporaryDirectory() as name:
         folder = Path(name)
+        yield from as_gaps_does(folder)
         for numpy in (False, True) if has_numpy() else (False,):
             manner = "with NumPy" if numpy else "without NumPy"
             yield from reads_on(built, folder, numpy)
