@@ -233,7 +233,8 @@ def as_gaps_does(folder: Path) -> Cases:
 def recipe(built: Path) -> Cases:
     """The cookbook's recipe prints what the second program reads of the records before the junk and behind it."""
     text = (ROOT / "docs" / "cookbook.md").read_text(encoding="utf-8")
-    code = re.findall(r"^```python\n(.*?)^```", text, re.MULTILINE | re.DOTALL)[0]
+    blocks = re.findall(r"^```python\n(.*?)^```", text, re.MULTILINE | re.DOTALL)
+    code = next(block for block in blocks if "iterate" in block)
     junk = (SAMPLES / "network_junk.mseed").read_bytes()
     lines = ["14336 512 notdata"]
     for name, start, samples in stretches(junk[:14336] + junk[14336 + 512 :]):
