@@ -91,7 +91,7 @@ class _Open:
         return made
 
 
-def iterate(archive: Archive, *, samples: int = 1 << 16, skip: bool = False) -> Pieces:
+def iterate(archive: Archive, *, samples: int = 1 << 14, skip: bool = False) -> Pieces:
     """The traces of an archive in pieces, each of which says whether its trace goes on behind it. Of the archive 2 MiB
     are in memory at once, with their samples, and of each channel its last record and up to so many samples.
 
