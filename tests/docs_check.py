@@ -4,9 +4,11 @@
     docs_check.py [DOCUMENT ..]
     docs_check.py --relink [DOCUMENT ..]
     docs_check.py --requote [DOCUMENT ..]
+    docs_check.py --recount
 
 With --relink each link in the tables of promises that is wrong gets the one file that has its name, where there is one.
 With --requote each example of a page for callers gets the text of its function.
+With --recount each figure that is counted from the tree is counted anew.
 """
 
 from __future__ import annotations
@@ -16,10 +18,11 @@ import re
 import sys
 
 from documents.callers import requoted
+from documents.figures import FIGURES, recounted
 from documents.sources import Sources, files_below, text_of
 from driver.counting import Count, judge
 from driver.program import ROOT
-from rows.documents import documents_of, drawing, fields, names, self_tests
+from rows.documents import documents_of, drawing, fields, figures, names, quotations, self_tests
 
 
 def relinked(sources: Sources, name: str, text: str) -> str:
@@ -61,7 +64,10 @@ def main() -> int:
             (ROOT / name).write_text(relinked(sources, name, text_of(name)), encoding="utf-8")
         if "--requote" in sys.argv:
             (ROOT / name).write_text(requoted(name, text_of(name)), encoding="utf-8")
-    for part in (self_tests(sources), names(sources, documents), fields(sources), drawing()):
+    for name in sorted({figure.page for figure in FIGURES}) if "--recount" in sys.argv else []:
+        (ROOT / name).write_text(recounted(sources, name, text_of(name)), encoding="utf-8")
+    for part in (self_tests(sources), names(sources, documents), quotations(), figures(sources), fields(sources),
+                 drawing()):
         for case in part:
             judge(case, count, False)
     print(count.lines())

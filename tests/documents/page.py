@@ -9,6 +9,7 @@ What is judged is each text in backticks outside of blocks, and each link:
   before it, its call stands earlier in the section. In a column of calls its clauses stand behind it in parentheses.
 - In a table whose columns are a promise, a call, a definition and what fails, no cell is empty, each call stands in the
   file to which it links, each definition in one of `specs`, and what fails is a law, an edit, a test or a row file.
+- What stands in a column of notation is no name.
 - All else is a file, a word of make, a command, words of the programs' texts, or, outside of the columns for names,
   a private function or a clause that is spoken of without its call.
 """
@@ -25,9 +26,9 @@ from driver.program import ROOT
 # Where the words of the programs' output and of the feed's lines stand, in backticks and blocks.
 TEXTS = ["docs/texts.md", "docs/protocol.md", "docs/format.md"]
 # Words that stand nowhere else: programs, commands of SeedLink that no server knows, the last line of the tests, types
-# of the standard library.
+# of the standard library, and a range.
 OTHERS = ["make", "rt", "mseed", "main", "BATCH", "CAT", "INFO", "TIME", "N passed, M failed",
-          "logic=proved functions=", "out", "AllocError", "Vec"]
+          "logic=proved functions=", "out", "AllocError", "Vec", "0..u64::MAX"]
 
 # Columns of tables in which a single word is no word of a text.
 FOR_NAMES = ["contract", "carried by", "call", "definition"]
@@ -96,7 +97,7 @@ class Page:
                 self.judge(f"the column `{self.head}`", cell.strip(), "empty")
             if self.head == "fails":
                 self.read_fails(cell)
-            else:
+            elif self.head != "notation":
                 self.read_cell(cell, crate if number > 1 else None)
 
     def read_fails(self, cell: str) -> None:

@@ -2,6 +2,8 @@
 and words of the programs' output (documents/page.py). The pages for callers show each call, and each field has its
 documentation (documents/callers.py); and no line of a crate is too long. Before that, lines and pages that are wrong
 have to be found wrong. The drawing of docs/architecture.md is the one that docs/architecture.py draws from crates.txt.
+What a page quotes of the code stands there, sign by sign (documents/quoted.py), and what it counts is counted
+(documents/figures.py).
 """
 
 from __future__ import annotations
@@ -11,13 +13,16 @@ import sys
 from typing import Optional, Sequence
 
 from documents.callers import judged_fields, judged_page, libraries, page_of
+from documents.figures import TABLE, judged_figures, judged_rows, recounted
 from documents.page import Page
+from documents.quoted import judged_quotations
 from documents.sources import Sources, text_of
 from driver.program import ROOT
 from driver.rows import Cases, Fact
 
 DOCUMENTS = ["README.md", "docs/promises.md", "docs/developing.md", "docs/architecture.md", "docs/protocol.md",
-             "docs/texts.md"]
+             "docs/texts.md", "docs/headline.md"]
+QUOTING = "docs/headline.md"
 
 COLUMNS = 120
 
@@ -83,6 +88,20 @@ CHANGES = [
     ("`one_name`", "`Micros`"),
 ]
 
+# Each of these changes of what a page quotes is found wrong.
+MISQUOTED = [
+    ("pub some : vs ≢ []", "pub some : vs ≡ []"),
+    ("(miss_of start n rate step next) ≤ rate.den", "(miss_of start n rate step next) < rate.den"),
+    ("  pub only : (others : List ℤ) → IsReading v others → others ≡ samples\n", ""),
+    ("(../crates/mseed_time/specs/Join.antt)", "(../crates/mseed_time/specs/Rate.antt)"),
+]
+# A row of a table of crates that is wrong, and one that is right but for some lines.
+MISCOUNTED = [
+    ("| `mseed_time` | 63 | 782 | 311 | 754 | 6 |", False),
+    ("| `mseed_time` | 63 | 1,782 | 311 | 754 | 5 |", False),
+    ("| `mseed_time` | 63 | 783 | 310 | 754 | 5 |", True),
+]
+
 
 def self_tests(sources: Sources) -> Cases:
     """Each of the lines has as many faults as it must, and each page that was made wrong has some."""
@@ -95,6 +114,17 @@ def self_tests(sources: Sources) -> Cases:
         is_right = all(judged.is_there for judged in judged_page(sources, name, page.replace(old, new)))
         yield Fact(f"a page for callers with `{new}` in place of `{old}` is wrong", (True, False),
                    (old in page, is_right))
+    page = text_of(QUOTING)
+    for old, new in MISQUOTED:
+        is_right = all(judged.is_there for judged in judged_quotations(QUOTING, page.replace(old, new)))
+        yield Fact(f"a page that quotes `{new.strip()}` in place of `{old.strip()}` is wrong", (True, False),
+                   (old in page, is_right))
+    for row, wanted in MISCOUNTED:
+        judged = [one for one in judged_rows(sources, row + " 1.6 |") if "the row of" in one.name]
+        yield Fact(f"the row {row}", [wanted], [one.is_there for one in judged])
+        again = recounted(sources, TABLE, row + " 1.6 |")
+        yield Fact(f"the row {row}, counted anew", [True],
+                   [one.is_there for one in judged_rows(sources, again) if "the row of" in one.name])
 
 
 def documents_of(sources: Sources) -> list[str]:
@@ -111,6 +141,19 @@ def names(sources: Sources, documents: Optional[Sequence[str]] = None) -> Cases:
             judged += judged_page(sources, document, text)
         for name, is_there, why in judged:
             yield Fact(name, "there", "there" if is_there else why)
+
+
+def quotations() -> Cases:
+    """What a page quotes of the code."""
+    for name, is_there, why in judged_quotations(QUOTING, text_of(QUOTING)):
+        yield Fact(name, "there", "there" if is_there else why)
+
+
+def figures(sources: Sources) -> Cases:
+    """What the pages count."""
+    for judged in (judged_figures(sources), judged_rows(sources, text_of(TABLE))):
+        for name, is_so, why in judged:
+            yield Fact(name, "so many", "so many" if is_so else why)
 
 
 def fields(sources: Sources) -> Cases:
@@ -145,6 +188,8 @@ def rows() -> Cases:
     sources = Sources()
     yield from self_tests(sources)
     yield from names(sources)
+    yield from quotations()
+    yield from figures(sources)
     yield from fields(sources)
     yield from lengths(sources)
     yield from drawing()

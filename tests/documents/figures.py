@@ -1,0 +1,123 @@
+"""Figures in the pages that are counted from the tree: wrong bodies, public calls, and the lines of each crate.
+
+A figure stands between words that no other line of its page has. The table of crates in docs/developing.md has a row
+for each crate but those of tests and benchmarks; its lines may be off by MOST_OFF in the hundred, so that not each line
+that is added changes the page.
+"""
+
+from __future__ import annotations
+
+import re
+from typing import Callable, Iterator, NamedTuple
+
+from documents.callers import libraries
+from documents.page import Judged
+from documents.sources import Sources, files_below, text_of
+
+TABLE = "docs/developing.md"
+WITHOUT_ROW = ["mseed_tests", "slink_tests", "mseed_bench"]
+MOST_OFF = 5
+ROW = re.compile(r"^(\| `(\w+)` \| \d+) \| ([\d,]*) ?\| ([\d,]*) ?\| ([\d,]*) ?\| (\d*) ?(?=\| [\d.]+ \|$)",
+                 re.MULTILINE)
+
+
+class Figure(NamedTuple):
+    """A figure of a page: the words before and behind it, and what it counts."""
+
+    page: str
+    before: str
+    behind: str
+    counted: Callable[[Sources], int]
+
+    def pattern(self) -> re.Pattern[str]:
+        """The words with the figure between them."""
+        return re.compile(f"(?<={re.escape(self.before)})[0-9]+(?={re.escape(self.behind)})")
+
+
+def edits_of(crate: str = "") -> list[str]:
+    """The edits that the gate tries, of a crate or of all."""
+    return [path for path in files_below("crates", crate) if "/must-fail/" in path and path.endswith(".edit")]
+
+
+def edits_beside() -> list[str]:
+    """The edits that the gate leaves."""
+    return [path for path in files_below("tests", "must-fail") if path.endswith(".edit")]
+
+
+def in_gate(_: Sources) -> int:
+    """How many edits the gate tries."""
+    return len(edits_of())
+
+
+def beside(_: Sources) -> int:
+    """How many it leaves."""
+    return len(edits_beside())
+
+
+def edits(_: Sources) -> int:
+    """How many edits there are."""
+    return len(edits_of()) + len(edits_beside())
+
+
+def calls(sources: Sources) -> int:
+    """How many public calls the libraries have. A law has no body that could be wrong."""
+    return sum(not call.is_law for crate in libraries(sources) for call in sources.calls_of(crate))
+
+
+FIGURES = [
+    Figure("README.md", "7. ", " wrong bodies", edits),
+    Figure("README.md", "the libraries have ", " public calls", calls),
+    Figure("docs/developing.md", "everything from nothing, the ", " edits in", in_gate),
+    Figure("docs/developing.md", "tries the ", " edits that the gate leaves", beside),
+    Figure("docs/DECISIONS.md", "the most of each crate**, ", " of ", in_gate),
+    Figure("docs/DECISIONS.md", " of ", "; the others stand in `tests/must-fail`", edits),
+]
+
+
+def lines_of(crate: str, folder: str, suffix: str) -> int:
+    """The lines of a crate's files, without tests."""
+    return sum(len(text_of(path).splitlines()) for path in files_below("crates", crate, folder)
+               if path.endswith(suffix) and "/tests" not in path)
+
+
+def row_of(crate: str) -> list[int]:
+    """Lines of code, of definitions and of proofs, and edits."""
+    return [lines_of(crate, "src", ".rt"), lines_of(crate, "specs", ".antt"), lines_of(crate, "proofs", ".antt"),
+            len(edits_of(crate))]
+
+
+def is_near(found: int, counted: int) -> bool:
+    """Whether lines are off by no more than they may."""
+    return abs(found - counted) * 100 <= MOST_OFF * counted
+
+
+def judged_figures(sources: Sources) -> Iterator[Judged]:
+    """Each figure, and whether it is the one that is counted."""
+    for figure in FIGURES:
+        found = figure.pattern().findall(text_of(figure.page))
+        counted = figure.counted(sources)
+        yield Judged(f"{figure.page}: {figure.before}..{figure.behind}", found == [str(counted)],
+                     f"{counted} are counted, and there stands {found}")
+
+
+def judged_rows(sources: Sources, text: str) -> Iterator[Judged]:
+    """The rows of the table of crates."""
+    rows = {row[2]: [int(cell.replace(",", "") or 0) for cell in row.groups()[2:]] for row in ROW.finditer(text)}
+    wanted = sorted(set(sources.crates) - set(WITHOUT_ROW))
+    yield Judged(f"{TABLE}: the table of crates", sorted(rows) == wanted, f"has {sorted(rows)}, and not {wanted}")
+    for crate, found in rows.items():
+        counted = row_of(crate)
+        is_right = found[3] == counted[3] and all(map(is_near, found[:3], counted[:3]))
+        yield Judged(f"{TABLE}: the row of {crate}", is_right, f"has {found}, and {counted} are counted")
+
+
+def recounted(sources: Sources, name: str, text: str) -> str:
+    """The page with the figures that are counted."""
+    for figure in FIGURES:
+        if figure.page == name:
+            text = figure.pattern().sub(str(figure.counted(sources)), text)
+
+    def cells(row: re.Match[str]) -> str:
+        return row[1] + "".join(f" | {number:,}" if number else " |" for number in row_of(row[2])) + " "
+
+    return ROW.sub(cells, text) if name == TABLE else text

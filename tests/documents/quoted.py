@@ -1,0 +1,39 @@
+"""Definitions and contracts that a page quotes: each stands in a file to which the page links, sign by sign.
+
+A block of code is cut into paragraphs at its empty lines. Each stands in one of the files to which the lines above
+the block link, those since the heading: of definitions a whole paragraph, and of code some lines, which may stand
+further to the left than there.
+"""
+
+from __future__ import annotations
+
+import os
+import re
+import textwrap
+from typing import Iterator
+
+from documents.page import Judged
+from documents.sources import text_of
+
+BLOCK = re.compile(r"^```(antt|rust)\n(.*?)^```$", re.MULTILINE | re.DOTALL)
+CODE = re.compile(r"\]\(([^)]+\.(?:antt|rt))\)")
+DEEPEST = 8
+
+
+def is_in(paragraph: str, kind: str, code: str) -> bool:
+    """Whether a paragraph of a block of this kind stands in a file."""
+    if kind == "antt":
+        return f"\n\n{paragraph}\n\n" in f"\n\n{code}\n"
+    return any(f"\n{textwrap.indent(paragraph, ' ' * column)}\n" in f"\n{code}" for column in range(0, DEEPEST + 1, 4))
+
+
+def judged_quotations(name: str, text: str) -> Iterator[Judged]:
+    """Each paragraph of each block, and whether it stands in the code."""
+    for block in BLOCK.finditer(text):
+        above = text[: block.start()]
+        section = above[max(0, above.rfind("\n#")) :]
+        codes = [text_of(os.path.normpath(os.path.join(os.path.dirname(name), path))) for path in CODE.findall(section)]
+        for paragraph in block[2].rstrip("\n").split("\n\n"):
+            named = f"{name}:{above.count(chr(10)) + 1}: {paragraph.splitlines()[0]}"
+            yield Judged(named, any(is_in(paragraph, block[1], code) for code in codes),
+                         "doesn't stand so in the files to which the section links")
