@@ -1,8 +1,9 @@
-"""Figures in the pages that are counted from the tree: wrong bodies, public calls, and the lines of each crate.
+"""Figures in the pages that are counted from the tree: wrong bodies, public calls, the lines of each crate; and sizes
+that are constants of the code.
 
-A figure stands between words that no other line of its page has. The table of crates in docs/developing.md has a row
-for each crate but those of tests and benchmarks; its lines may be off by MOST_OFF in the hundred, so that not each line
-that is added changes the page.
+A figure stands between words by which it is known; where its page has these twice, it has the figure twice. The table
+of crates in docs/developing.md has a row for each crate but those of tests and benchmarks; its lines may be off by
+MOST_OFF in the hundred, so that not each line that is added changes the page.
 """
 
 from __future__ import annotations
@@ -31,7 +32,11 @@ class Figure(NamedTuple):
 
     def pattern(self) -> re.Pattern[str]:
         """The words with the figure between them."""
-        return re.compile(f"(?<={re.escape(self.before)})[0-9]+(?={re.escape(self.behind)})")
+        return re.compile(f"(?<={re.escape(self.before)})[0-9][0-9,]*(?={re.escape(self.behind)})")
+
+    def found_in(self, text: str) -> set[str]:
+        """What stands between the words in a page: the figure."""
+        return set(self.pattern().findall(text))
 
 
 def edits_of(crate: str = "") -> list[str]:
@@ -64,6 +69,26 @@ def calls(sources: Sources) -> int:
     return sum(not call.is_law for crate in libraries(sources) for call in sources.calls_of(crate))
 
 
+def constant_of(path: str, name: str) -> int:
+    """A constant of a source file: a number or another of its constants, or two with `<<` or `*` between them."""
+    found = re.search(rf"\bconst {name}: \w+ = ([\w]+)(?: (<<|\*) ([\w]+))?;", text_of(path))
+    if not found:
+        raise ValueError(f"{path} has no constant {name}")
+
+    def number_of(word: str) -> int:
+        return int(word) if word[0].isdigit() else constant_of(path, word)
+
+    first, sign, second = found.groups()
+    if not sign:
+        return number_of(first)
+    return number_of(first) << number_of(second) if sign == "<<" else number_of(first) * number_of(second)
+
+
+def size(page: str, before: str, behind: str, path: str, name: str) -> Figure:
+    """A size that a page gives, which is a constant of a file of the crates."""
+    return Figure(page, before, behind, lambda _: constant_of(f"crates/{path}", name))
+
+
 FIGURES = [
     Figure("README.md", "7. ", " wrong bodies", edits),
     Figure("README.md", "the libraries have ", " public calls", calls),
@@ -71,6 +96,14 @@ FIGURES = [
     Figure("docs/developing.md", "tries the ", " edits that the gate leaves", beside),
     Figure("docs/DECISIONS.md", "the most of each crate**, ", " of ", in_gate),
     Figure("docs/DECISIONS.md", " of ", "; the others stand in `tests/must-fail`", edits),
+    size("docs/format.md", "if it has samples, at most ", " a second", "mseed_pack/src/fitting.rt", "FASTEST"),
+    size("docs/protocol.md", "A packet has ", " bytes: `SL`", "slink_feed/src/cutting.rt", "PACKET"),
+    size("docs/protocol.md", "and has at most ", " bytes including it", "slink_feed/src/cutting.rt", "LONGEST_REPLY"),
+    size("docs/protocol.md", "a fixed number of them, 1 to ", ".", "slink_feed/src/ring.rt", "LARGEST"),
+    size("docs/protocol.md", "Otherwise it reads at most ", " bytes", "slink_feed/src/serving.rt", "ROOM"),
+    size("docs/protocol.md", "until the client closes the link, ", " bytes", "slink_links/src/closing.rt", "MOST"),
+    size("docs/protocol.md", "the input gives at most ", " bytes", "slink_live/src/server.rt", "INPUT"),
+    size("docs/texts.md", "or a name of at most ", " letters", "slink_links/src/host.rt", "LONGEST"),
 ]
 
 
@@ -94,10 +127,9 @@ def is_near(found: int, counted: int) -> bool:
 def judged_figures(sources: Sources) -> Iterator[Judged]:
     """Each figure, and whether it is the one that is counted."""
     for figure in FIGURES:
-        found = figure.pattern().findall(text_of(figure.page))
-        counted = figure.counted(sources)
-        yield Judged(f"{figure.page}: {figure.before}..{figure.behind}", found == [str(counted)],
-                     f"{counted} are counted, and there stands {found}")
+        found, counted = figure.found_in(text_of(figure.page)), f"{figure.counted(sources):,}"
+        yield Judged(f"{figure.page}: {figure.before}..{figure.behind}", found == {counted},
+                     f"{counted} are counted, and there stands {found or 'none'}")
 
 
 def judged_rows(sources: Sources, text: str) -> Iterator[Judged]:
@@ -115,7 +147,7 @@ def recounted(sources: Sources, name: str, text: str) -> str:
     """The page with the figures that are counted."""
     for figure in FIGURES:
         if figure.page == name:
-            text = figure.pattern().sub(str(figure.counted(sources)), text)
+            text = figure.pattern().sub(f"{figure.counted(sources):,}", text)
 
     def cells(row: re.Match[str]) -> str:
         return row[1] + "".join(f" | {number:,}" if number else " |" for number in row_of(row[2])) + " "

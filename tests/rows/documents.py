@@ -13,7 +13,7 @@ import sys
 from typing import Optional, Sequence
 
 from documents.callers import judged_fields, judged_page, libraries, page_of
-from documents.figures import TABLE, judged_figures, judged_rows, recounted
+from documents.figures import FIGURES, TABLE, judged_figures, judged_rows, recounted
 from documents.page import Page
 from documents.quoted import judged_quotations
 from documents.sources import Sources, text_of
@@ -119,6 +119,11 @@ def self_tests(sources: Sources) -> Cases:
         is_right = all(judged.is_there for judged in judged_quotations(QUOTING, page.replace(old, new)))
         yield Fact(f"a page that quotes `{new.strip()}` in place of `{old.strip()}` is wrong", (True, False),
                    (old in page, is_right))
+    for figure in FIGURES:
+        wrong = figure.pattern().sub("7", text_of(figure.page))
+        yield Fact(f"a wrong figure in {figure.page} behind `{figure.before}` is found, and counted anew",
+                   ({"7"}, {f"{figure.counted(sources):,}"}),
+                   (figure.found_in(wrong), figure.found_in(recounted(sources, figure.page, wrong))))
     for row, wanted in MISCOUNTED:
         judged = [one for one in judged_rows(sources, row + " 1.6 |") if "the row of" in one.name]
         yield Fact(f"the row {row}", [wanted], [one.is_there for one in judged])
