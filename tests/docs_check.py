@@ -7,7 +7,8 @@
     docs_check.py --recount
 
 With --relink each link in the tables of promises that is wrong gets the one file that has its name, where there is one.
-With --requote each example of a page for callers gets the text of its function.
+With --requote each example of a page for callers gets the text of its function, and each definition that a page quotes
+that of the code.
 With --recount each figure that is counted from the tree is counted anew.
 """
 
@@ -17,12 +18,12 @@ import os
 import re
 import sys
 
-from documents.callers import requoted
+from documents import callers, quoted
 from documents.figures import FIGURES, recounted
 from documents.sources import Sources, files_below, text_of
 from driver.counting import Count, judge
 from driver.program import ROOT
-from rows.documents import documents_of, drawing, fields, figures, names, quotations, self_tests
+from rows.documents import QUOTING, documents_of, drawing, fields, figures, names, quotations, self_tests
 
 
 def relinked(sources: Sources, name: str, text: str) -> str:
@@ -63,6 +64,7 @@ def main() -> int:
         if "--relink" in sys.argv:
             (ROOT / name).write_text(relinked(sources, name, text_of(name)), encoding="utf-8")
         if "--requote" in sys.argv:
+            requoted = quoted.requoted if name == QUOTING else callers.requoted
             (ROOT / name).write_text(requoted(name, text_of(name)), encoding="utf-8")
     for name in sorted({figure.page for figure in FIGURES}) if "--recount" in sys.argv else []:
         (ROOT / name).write_text(recounted(sources, name, text_of(name)), encoding="utf-8")

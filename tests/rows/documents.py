@@ -15,7 +15,7 @@ from typing import Optional, Sequence
 from documents.callers import judged_fields, judged_page, libraries, page_of
 from documents.figures import FIGURES, TABLE, judged_figures, judged_rows, recounted
 from documents.page import Page
-from documents.quoted import judged_quotations
+from documents.quoted import judged_quotations, requoted
 from documents.sources import Sources, text_of
 from driver.program import ROOT
 from driver.rows import Cases, Fact
@@ -88,7 +88,7 @@ CHANGES = [
     ("`one_name`", "`Micros`"),
 ]
 
-# Each of these changes of what a page quotes is found wrong.
+# Each of these changes of what a page quotes is found wrong, and mended where a definition was changed.
 MISQUOTED = [
     ("pub some : vs ≢ []", "pub some : vs ≡ []"),
     ("(miss_of start n rate step next) ≤ rate.den", "(miss_of start n rate step next) < rate.den"),
@@ -119,6 +119,8 @@ def self_tests(sources: Sources) -> Cases:
         is_right = all(judged.is_there for judged in judged_quotations(QUOTING, page.replace(old, new)))
         yield Fact(f"a page that quotes `{new.strip()}` in place of `{old.strip()}` is wrong", (True, False),
                    (old in page, is_right))
+        if ".antt" not in old:
+            yield Fact(f"and `{old.strip()}` is quoted anew", page, requoted(QUOTING, page.replace(old, new)))
     for figure in FIGURES:
         wrong = figure.pattern().sub("7", text_of(figure.page))
         yield Fact(f"a wrong figure in {figure.page} behind `{figure.before}` is found, and counted anew",
