@@ -1,15 +1,20 @@
 #!/usr/bin/env python3
-"""Writes what the commands print that the manual pages show into the pages. The row file man_pages compares the two."""
+"""Writes what the commands print that the manual pages show into the pages, where the program is built. The row file
+man_pages compares the two."""
 
 from __future__ import annotations
 
+import sys
 import tempfile
 
 from documents.manual import EXAMPLES, PAGES, printed
+from driver.program import PROGRAM
 
 
 def main() -> None:
     """Writes each page anew."""
+    if not PROGRAM.exists():
+        sys.exit(f"{PROGRAM} isn't there: the pages stay as they are.")
     with tempfile.TemporaryDirectory() as folder:
         for page in PAGES:
             text = page.read_text(encoding="utf-8")
