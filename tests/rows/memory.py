@@ -64,14 +64,13 @@ def least(refusing: str) -> Cases:
 
 
 def bounded(refusing: str) -> Cases:
-    """Heaps that suffice. The text of 600 lines of up to 101 bytes takes 65,536, and that of 9,000 lines of 83 bytes,
-    which begin with 13, takes 13 * 65,536: a text has room for the first word of its first line, and doubles. What is
-    kept of 9,000 channels takes no more than an eighth beyond what they need."""
+    """Heaps that suffice. The text of 600 lines of up to 101 bytes takes 65,536: a text has room for the first word of
+    its first line, and doubles. What is kept of 9,000 channels takes no more than an eighth beyond what they need."""
     many = b"".join(record(codes=b"S%04d  %sXX" % (number // 3, (b"BHZ", b"BHN", b"BHE")[number % 3]))
                     for number in range(9000))
     for name, archive, command, heap in (
         ("a listing of 600 records", TWO[:128] * 600, "show", 200_000),
-        ("an audit of 9,000 channels", many, "audit", 3_500_000),
+        ("an audit of 9,000 channels", many, "audit", 3_900_000),
     ):
         row = Row(f"{name} in {heap} bytes", archive, [command], 0)
         whole = replace(row, env=preloaded(refusing, REFUSE=0)).run()
