@@ -1,7 +1,7 @@
 //! Differences that are added up frame by frame, with each sample put in its place.
 
 ghost use Rattle.std.specs.Prelude.{◌≡◌, ◌+◌, ◌-◌, ◌*◌, ◌^◌, ◌≤◌, ◌<◌, ◌∷◌, ◌++◌, ℕ, List, ℤ, nat_abs, Result, Ok};
-ghost use Rattle.std.specs.Prelude.{IfNone, IfOk, IfSome, OnOk, drop, map, take, length};
+ghost use Rattle.std.specs.Prelude.{IfNone, IfOk, IfSome, OnOk, drop, map, min, take, length};
 ghost use Rattle.mseed_steim.specs.declared.differences.BadWordAt.{BadWordAt};
 ghost use Rattle.mseed_steim.specs.private.Digits.{digits};
 ghost use Rattle.mseed_steim.specs.Frames.{DataWord, data_words, words_from, word_count};
@@ -142,25 +142,50 @@ fn put_checked(differences: &[i32], samples: usize, sum: Sum, out: &mut [i32]) -
     })
 }
 
-/// Differences that are all needed, while the limits of 32 bits are out of reach: in lanes, where there is room for a
-/// turn more.
+/// The first of some differences, as far as they are needed, while the limits of 32 bits are out of reach.
 #[inline(always)]
-fn put_near(differences: &mut Room, count: usize, samples: usize, sum: Sum, out: &mut [i32]) -> Sum
+fn put_needed(
+    differences: &mut Room,
+    count: usize,
+    samples: usize,
+    sum: Sum,
+    out: &mut [i32],
+) -> Sum
     requires few { count ≤ 120 }
     requires places { length out.old ≡ samples }
     requires some { 0 < sum.met }
-    requires left { sum.met + count ≤ samples }
+    requires met { sum.met ≤ samples }
     requires near { nat_abs sum.last + span (take count differences.old) < 2 ^ 31 }
     ensures goes_on { (more : List (Result ℤ BadWordAt))
         → fold samples sum (map Ok (take count differences.old) ++ more) ≡ fold samples result more }
     ensures kept { (more : List (Result ℤ BadWordAt))
         → take result.met out.new ++ met_in samples result more
         ≡ take sum.met out.old ++ met_in samples sum (map Ok (take count differences.old) ++ more) }
-    ensures met { result.met ≡ sum.met + count }
+    ensures met { result.met ≡ sum.met + min count (samples - sum.met) }
+    ensures places { length out.new ≡ samples }
+{
+    let needed = count.min(samples - sum.met);
+    put_some(&differences[..needed], samples, sum, out)
+}
+
+/// The same in lanes, where there is room for a turn more.
+#[inline(always)]
+fn put_near(differences: &mut Room, count: usize, samples: usize, sum: Sum, out: &mut [i32]) -> Sum
+    requires few { count ≤ 120 }
+    requires places { length out.old ≡ samples }
+    requires some { 0 < sum.met }
+    requires met { sum.met ≤ samples }
+    requires near { nat_abs sum.last + span (take count differences.old) < 2 ^ 31 }
+    ensures goes_on { (more : List (Result ℤ BadWordAt))
+        → fold samples sum (map Ok (take count differences.old) ++ more) ≡ fold samples result more }
+    ensures kept { (more : List (Result ℤ BadWordAt))
+        → take result.met out.new ++ met_in samples result more
+        ≡ take sum.met out.old ++ met_in samples sum (map Ok (take count differences.old) ++ more) }
+    ensures met { result.met ≡ sum.met + min count (samples - sum.met) }
     ensures places { length out.new ≡ samples }
 {
     if samples - sum.met < count + TURN {
-        put_some(&differences[..count], samples, sum, out)
+        put_needed(differences, count, samples, sum, out)
     } else {
         put_whole(differences, count, samples, sum, out)
     }
@@ -258,7 +283,6 @@ fn put_at_once(
         return None;
     }
     let count = unpack_frame(scheme, frame, begin, differences)?;
-    let count = count.min(samples - sum.met);
     Some(put_near(differences, count, samples, sum, out))
 }
 
