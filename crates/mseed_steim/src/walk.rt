@@ -233,7 +233,7 @@ fn first_difference(scheme: Scheme, word: Word) -> Option<i32>
 /// The first frames at once, and how many these are. The first difference isn't used: it is taken off the sum. None
 /// where the first frame has to be looked at.
 #[inline(always)]
-fn add_first_run(
+fn add_run_from_first(
     scheme: Scheme,
     payload: &[u8],
     frames: &[[u8; 64]],
@@ -264,6 +264,66 @@ fn add_first_run(
         by: run.moved.by - difference,
     };
     Some((run.frames, add_at_once(others, samples, begun)))
+}
+
+/// The first frames at once behind a first word of one difference, which isn't used: one of 30 or 32 bits, which no run
+/// takes. None where the first word is another, or the first frame has to be looked at.
+#[cold]
+fn add_run_behind_first(
+    scheme: Scheme,
+    payload: &[u8],
+    frames: &[[u8; 64]],
+    samples: usize,
+    first: i32,
+) -> Option<(usize, Sum)>
+    requires inside { 64 ≤ length payload.now }
+    requires frames { AreFrames frames.now payload.now 0 }
+    ensures some { IfSome result (λ r. (0 < r.0) × (r.0 ≤ length frames.now)) }
+    ensures goes_on { IfSome result (λ r. (rest : List DataWord)
+        → fold samples (record { met = 0; last = first })
+        (items_of scheme (words_from payload.now 3 (16 * r.0 - 3) ++ rest))
+        ≡ fold samples r.1 (items_of scheme rest)) }
+    ensures met { IfSome result (λ r. (r.1).met ≤ samples) }
+{
+    let word = first_word(payload);
+    let group = group_of(scheme, word.code, word.bits)?;
+    if group.count != 1 || samples == 0 {
+        return None;
+    }
+    let begun = Sum {
+        met: 1,
+        last: first,
+    };
+    let near = frames.len().min(frames_at_once(begun));
+    let run = moves_of(scheme, &frames[..near], FROM_4, samples - 1);
+    if run.frames == 0 {
+        return None;
+    }
+    Some((run.frames, add_at_once(run.moved, samples, begun)))
+}
+
+/// The first frames at once, and how many these are. None where the first frame has to be looked at.
+#[inline(always)]
+fn add_first_run(
+    scheme: Scheme,
+    payload: &[u8],
+    frames: &[[u8; 64]],
+    samples: usize,
+    first: i32,
+) -> Option<(usize, Sum)>
+    requires inside { 64 ≤ length payload.now }
+    requires frames { AreFrames frames.now payload.now 0 }
+    ensures some { IfSome result (λ r. (0 < r.0) × (r.0 ≤ length frames.now)) }
+    ensures goes_on { IfSome result (λ r. (rest : List DataWord)
+        → fold samples (record { met = 0; last = first })
+        (items_of scheme (words_from payload.now 3 (16 * r.0 - 3) ++ rest))
+        ≡ fold samples r.1 (items_of scheme rest)) }
+    ensures met { IfSome result (λ r. (r.1).met ≤ samples) }
+{
+    match add_run_from_first(scheme, payload, frames, samples, first) {
+        Some(run) => Some(run),
+        None => add_run_behind_first(scheme, payload, frames, samples, first),
+    }
 }
 
 /// The sum of so many samples, of which this is the first, or what comes first in place of one. Frames are

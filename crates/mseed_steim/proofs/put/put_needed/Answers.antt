@@ -1,4 +1,4 @@
-use Rattle.std.proofs.Common.{◌≡◌, ◌≤◌, ◌+◌, take, length, arith, rules, Ok}
+use Rattle.std.proofs.Common.{◌≡◌, ◌≤◌, take, length, arith, rules, Ok}
 use Rattle.std.proofs.lemmas.List.{length-take-le}
 use Rattle.mseed_steim.proofs.Needed.{needed_kept, needed_on, span_first}
 use Rattle.mseed_steim.proofs.put.put_needed.Goals as goal

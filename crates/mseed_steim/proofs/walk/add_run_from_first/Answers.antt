@@ -1,25 +1,15 @@
 use Rattle.std.proofs.Common.{◌<◌, ◌≤◌, ◌*◌, ◌^◌, ◌++◌, ◌∙◌, List, ℤ, ◌-ℤ◌, map, Ok, Result}
-use Rattle.std.proofs.Common.{ℕ, [], take, ap, refl, inr, arith, rules, w32, FitsSigned}
-use Rattle.std.proofs.lemmas.List.{get_or-take}
+use Rattle.std.proofs.Common.{ap, refl, inr, arith, rules, w32, FitsSigned}
 use Rattle.std.proofs.lemmas.Int.{to_z-of_z}
 use Rattle.mseed_steim.specs.declared.differences.BadWordAt.{BadWordAt}
 use Rattle.mseed_steim.specs.declared.sum.Sum.{Sum}
 use Rattle.mseed_steim.specs.private.Items.{items_of}
-use Rattle.mseed_steim.specs.private.Moves.{AreFrames}
 use Rattle.mseed_steim.specs.private.Reads.{as_data}
 use Rattle.mseed_steim.specs.private.Sums.{fold}
-use Rattle.mseed_steim.proofs.FirstRun.{found, others, others_fit}
+use Rattle.mseed_steim.proofs.FirstRun.{found, others, others_fit, prefix}
 use Rattle.mseed_steim.proofs.Folds.{fold_first}
-use Rattle.mseed_steim.proofs.Walking.{take_most, take_shorter}
-use Rattle.mseed_steim.proofs.walk.add_first_run.Goals as goal
-
--- the first of some frames
-prefix : (frames : List (List ℕ)) (p : List ℕ) (m : ℕ) → AreFrames frames p 0 → AreFrames (take m frames) p 0
-prefix frames p m are i less =
-    let most = take_most m frames in
-    let few : i < m = omega (arith, less, most) in
-    let long = take_shorter m frames in
-    get_or-take m frames i [] few ∙ are i (omega (arith, less, long))
+use Rattle.mseed_steim.proofs.Walking.{take_most}
+use Rattle.mseed_steim.proofs.walk.add_run_from_first.Goals as goal
 
 pub overflow_sub-others-2 : goal.overflow_sub-others-2
 overflow_sub-others-2 c =
