@@ -1,18 +1,41 @@
 //! Samples of made payloads, compared with sums of one difference after another: words of every row and damaged
-//! ones, few samples and many, and first samples within a frame's reach of both limits. Records of 31 frames are
-//! checked in runs of up to fifteen.
+//! ones, few samples and many, and first samples within the reach of one to sixteen frames of both limits. Records of
+//! 31 frames are read in runs of up to fifteen, before and behind frames with wide differences.
 
-use super::record::{STEIM_1, is_checked, is_read, record};
+use super::record::{STEIM_1, is_read_in, record};
 use crate::records::put;
 use mseed_record::RecordView;
 use mseed_steim::{Differences, ReadFault, Scheme};
 use std::process::Abort;
 
-/// Payloads of each scheme.
+/// Payloads of three frames of each scheme.
 const ROUNDS: u32 = 20_000;
 
 /// Payloads of 31 frames of each scheme.
 const LONG_ROUNDS: u32 = 2_000;
+
+/// Places for as many samples as 31 frames of any words have.
+const MOST: usize = 4096;
+
+/// Which words a payload has.
+#[derive(Clone, Copy, PartialEq, Eq)]
+enum Words {
+    /// Narrow differences alone.
+    Narrow,
+    /// Some frames have words with one difference of 17 to 20 bits.
+    SomeWide,
+    /// Any code and any bits: some spell nothing, some have differences of up to 30 or 32 bits.
+    Any,
+}
+
+/// The words of a round.
+fn words_of(round: u32) -> Words {
+    match round % 8 {
+        0 => Words::Any,
+        1 | 2 | 3 => Words::SomeWide,
+        _ => Words::Narrow,
+    }
+}
 
 /// The next of a sequence of numbers that look like random ones (xorshift, by Marsaglia).
 fn next_number(number: u64) -> u64 {
@@ -32,24 +55,33 @@ fn tame(scheme: Scheme, code: u32, word: u32) -> (u32, u32) {
     }
 }
 
-/// A code and a word of a number, tame or any.
-fn word_by(scheme: Scheme, is_tame: bool, number: u64) -> (u32, u32) {
-    let word = (number >> 32) as u32;
-    let code = (number >> 8 & 3) as u32;
-    if is_tame {
-        tame(scheme, code, word)
-    } else {
-        (code, word)
+/// A code, and a word of it with one difference of 17 to 20 bits.
+fn wide(scheme: Scheme, word: u32) -> (u32, u32) {
+    let difference = (word.cast_signed() >> (12 + word % 4)).cast_unsigned();
+    match scheme {
+        Scheme::One => (3, difference),
+        Scheme::Two => (2, difference & 0x3FFF_FFFF | 0x4000_0000),
     }
 }
 
-/// Fills a frame by numbers from this one on, tame words or any, and gives the number after them.
-fn fill_frame(frame: &mut [u8; 64], scheme: Scheme, is_tame: bool, number: u64) -> u64 {
+/// A code and a word of a number.
+fn word_by(scheme: Scheme, words: Words, number: u64) -> (u32, u32) {
+    let word = (number >> 32) as u32;
+    let code = (number >> 8 & 3) as u32;
+    match words {
+        Words::Any => (code, word),
+        Words::SomeWide if number & 7 == 0 => wide(scheme, word),
+        _ => tame(scheme, code, word),
+    }
+}
+
+/// Fills a frame by numbers from this one on, and gives the number after them.
+fn fill_frame(frame: &mut [u8; 64], scheme: Scheme, words: Words, number: u64) -> u64 {
     let mut number = number;
     let mut codes = 0u32;
     for place in 1..16usize {
         number = next_number(number);
-        let (code, word) = word_by(scheme, is_tame, number);
+        let (code, word) = word_by(scheme, words, number);
         codes = codes << 2 | code & 3;
         put(frame, 4 * place, &word.to_be_bytes());
     }
@@ -57,12 +89,20 @@ fn fill_frame(frame: &mut [u8; 64], scheme: Scheme, is_tame: bool, number: u64) 
     number
 }
 
+/// The words of one frame of a payload: of some with wide differences, one of four or so has any.
+fn words_in_frame(words: Words, number: u64) -> Words {
+    match words {
+        Words::SomeWide if number >> 16 & 3 != 0 => Words::Narrow,
+        _ => words,
+    }
+}
+
 /// Fills the frames of a payload likewise.
-fn fill(payload: &mut [u8], scheme: Scheme, is_tame: bool, number: u64) -> u64 {
+fn fill(payload: &mut [u8], scheme: Scheme, words: Words, number: u64) -> u64 {
     let mut number = number;
     let mut frame = [0; 64];
     for index in 0..payload.len() / 64 {
-        number = fill_frame(&mut frame, scheme, is_tame, number);
+        number = fill_frame(&mut frame, scheme, words_in_frame(words, number), number);
         put(payload, 64 * index, &frame);
     }
     number
@@ -134,14 +174,15 @@ fn edge_frames(edges: &[(u32, u32); 18], from: usize) -> [u8; 192] {
     payload
 }
 
-/// A first sample: near a limit, near where a frame's reach to it ends, or anywhere.
+/// A first sample: near a limit, near where the reach of one to sixteen frames to it ends, or anywhere.
 fn first_by(number: u64) -> i32 {
     let some = (number >> 40 & 0xFFFF) as i32;
+    let reach = 0x10_0000 * (1 + (number >> 56 & 15) as i32);
     match number % 5 {
         0 => i32::MAX - some,
         1 => i32::MIN + some,
-        2 => i32::MAX - (1 << 20) - 0x8000 + some,
-        3 => i32::MIN + (1 << 20) + 0x8000 - some,
+        2 => i32::MAX - reach - 0x8000 + some,
+        3 => i32::MIN + reach + 0x8000 - some,
         _ => ((number >> 16 & 0xFFFF_FFFF) as u32).cast_signed(),
     }
 }
@@ -176,6 +217,15 @@ fn sum_up(payload: &[u8], scheme: Scheme, first: i32, places: &mut [i32]) -> Res
     }
 }
 
+/// The exponent of the length of a record with so many bytes of payload; none that a record has for others.
+fn exponent_of(payload: usize) -> u8 {
+    match payload {
+        192 => 8,
+        1984 => 11,
+        _ => 0,
+    }
+}
+
 /// Puts a payload into a record, which ends with this sample.
 fn put_payload(
     bytes: &mut [u8],
@@ -191,44 +241,71 @@ fn put_payload(
     };
     put(bytes, 30, &samples.to_be_bytes());
     put(bytes, 52, &[encoding]);
+    put(bytes, 54, &[exponent_of(payload.len())]);
     put(bytes, 64, payload);
     put(bytes, 68, &first.to_be_bytes());
     put(bytes, 72, &last.to_be_bytes());
 }
 
 /// Whether what is checked and filled in of a record of so many samples is this.
-fn reads(bytes: &[u8], samples: u16, wanted: Result<&[i32], ReadFault>) -> bool {
+fn reads(
+    bytes: &[u8],
+    samples: u16,
+    places: &mut [i32],
+    wanted: Result<&[i32], ReadFault>,
+) -> bool {
     match RecordView::of(bytes) {
-        Ok(view) => view.samples() == samples && is_read(&view, wanted),
+        Ok(view) => view.samples() == samples && is_read_in(&view, places, wanted),
         Err(_) => false,
     }
 }
 
+/// Places for what is summed up of a record, and for what is filled in of it.
+#[derive(Drop)]
+struct Places {
+    summed: [i32; MOST],
+    filled: [i32; MOST],
+}
+
+impl Places {
+    fn new() -> Self {
+        Places {
+            summed: [0; MOST],
+            filled: [0; MOST],
+        }
+    }
+}
+
 /// Whether what is checked and filled in of a payload's record agrees with its sums.
-fn is_same(payload: &[u8; 192], scheme: Scheme, samples: u16, first: i32) -> bool {
+fn is_same(payload: &[u8], scheme: Scheme, samples: u16, first: i32, places: &mut Places) -> bool {
     let count = usize::from(samples);
-    let mut kept = [0; 320];
-    if count == 0 || 320 < count {
+    if count == 0 || MOST < count {
         return false;
     }
-    let summed = sum_up(payload, scheme, first, &mut kept[..count]);
-    let mut bytes = record(&STEIM_1);
-    put_payload(&mut bytes, payload, scheme, samples, first, kept[count - 1]);
+    let summed = sum_up(payload, scheme, first, &mut places.summed[..count]);
+    let mut bytes = [0; 2048];
+    put(&mut bytes, 0, &record(&STEIM_1));
+    let last = places.summed[count - 1];
+    put_payload(&mut bytes, payload, scheme, samples, first, last);
     match summed {
-        Ok(()) => reads(&bytes, samples, Ok(&kept[..count])),
-        Err(fault) => reads(&bytes, samples, Err(fault)),
+        Ok(()) => {
+            let wanted = &places.summed[..count];
+            reads(&bytes, samples, &mut places.filled, Ok(wanted))
+        }
+        Err(fault) => reads(&bytes, samples, &mut places.filled, Err(fault)),
     }
 }
 
 /// Checks that made payloads of a scheme agree, by numbers from this one on, and gives the number after them.
 fn assert_made(rt: &impl Abort, scheme: Scheme, number: u64) -> u64 {
     let mut payload = [0; 192];
+    let mut places = Places::new();
     let mut number = number;
     for round in 0..ROUNDS {
-        number = next_number(fill(&mut payload, scheme, round % 8 != 0, number));
+        number = next_number(fill(&mut payload, scheme, words_of(round), number));
         let samples = 1 + (number >> 48) as u16 % 300;
         assert!(rt;
-            is_same(&payload, scheme, samples, first_by(number)),
+            is_same(&payload, scheme, samples, first_by(number), &mut places),
             "{round}"
         );
     }
@@ -241,42 +318,15 @@ fn reads_made_frames(rt: HostRuntime) {
     assert_made(&rt, Scheme::Two, number);
 }
 
-/// Whether a record is checked to have these samples, or to be wrong by this fault.
-fn checks(bytes: &[u8], samples: u16, wanted: Result<&[i32], ReadFault>) -> bool {
-    match RecordView::of(bytes) {
-        Ok(view) => {
-            view.samples() != 0 && is_checked(&view, wanted) && view.samples() == samples
-        }
-        Err(_) => false,
-    }
-}
-
-/// Whether what is checked of a record of 2,048 bytes agrees with the sums of its payload.
-fn is_long_same(payload: &[u8; 1984], scheme: Scheme, samples: u16, first: i32) -> bool {
-    let count = usize::from(samples);
-    let mut kept = [0; 4096];
-    if count == 0 || 4096 < count {
-        return false;
-    }
-    let summed = sum_up(payload, scheme, first, &mut kept[..count]);
-    let mut bytes = [0; 2048];
-    put(&mut bytes, 0, &record(&STEIM_1));
-    put(&mut bytes, 54, &[11]);
-    put_payload(&mut bytes, payload, scheme, samples, first, kept[count - 1]);
-    match summed {
-        Ok(()) => checks(&bytes, samples, Ok(&kept[..count])),
-        Err(fault) => checks(&bytes, samples, Err(fault)),
-    }
-}
-
 /// Whether made payloads of 31 frames of a scheme agree, by numbers from this one on.
 fn are_long_same(scheme: Scheme, number: u64) -> bool {
     let mut payload = [0; 1984];
+    let mut places = Places::new();
     let mut number = number;
     for round in 0..LONG_ROUNDS {
-        number = next_number(fill(&mut payload, scheme, round % 8 != 0, number));
+        number = next_number(fill(&mut payload, scheme, words_of(round), number));
         let samples = 1 + (number >> 48) as u16 % 2_400;
-        if !is_long_same(&payload, scheme, samples, first_by(number)) {
+        if !is_same(&payload, scheme, samples, first_by(number), &mut places) {
             return false;
         }
     }
@@ -284,7 +334,7 @@ fn are_long_same(scheme: Scheme, number: u64) -> bool {
 }
 
 #[test]
-fn checks_runs_of_frames(rt: HostRuntime) {
+fn reads_runs_of_frames(rt: HostRuntime) {
     assert!(rt;
         are_long_same(Scheme::One, 0x9E37_79B9_7F4A_7C15),
         "Steim-1"
@@ -295,12 +345,164 @@ fn checks_runs_of_frames(rt: HostRuntime) {
     );
 }
 
+/// Fills each word of a payload's frames with the same code and bits.
+fn fill_alike(payload: &mut [u8], code: u32, word: u32) {
+    for index in 0..payload.len() / 64 {
+        put(
+            payload,
+            64 * index,
+            &code.wrapping_mul(0x1555_5555).to_be_bytes(),
+        );
+        for place in 1..16usize {
+            put(payload, 64 * index + 4 * place, &word.to_be_bytes());
+        }
+    }
+}
+
+/// Whether 31 frames of a word agree from first samples so far away from both limits.
+fn is_steep_same(payload: &[u8], scheme: Scheme, away: i32, places: &mut Places) -> bool {
+    for samples in [300, 450, 926, 927] {
+        if !is_same(
+            payload,
+            scheme,
+            samples,
+            i32::MAX.wrapping_sub(away),
+            places,
+        ) || !is_same(
+            payload,
+            scheme,
+            samples,
+            i32::MIN.wrapping_add(away),
+            places,
+        ) {
+            return false;
+        }
+    }
+    true
+}
+
+/// Words of narrow differences that climb or fall as steeply as any.
+static STEEP: [(Scheme, u32, u32); 4] = [
+    (Scheme::One, 2, 0x7FFF_7FFF),
+    (Scheme::One, 2, 0x8000_8000),
+    (Scheme::Two, 2, 0x9FFF_BFFF),
+    (Scheme::Two, 2, 0xA000_4000),
+];
+
+#[test]
+fn climbs_to_the_limits_in_runs(rt: HostRuntime) {
+    let mut places = Places::new();
+    let mut payload = [0; 1984];
+    for (scheme, code, word) in &STEEP {
+        fill_alike(&mut payload, *code, *word);
+        for frames in 1..17i32 {
+            for more in [-1, 0, 1] {
+                let away = (frames << 20).wrapping_add(more);
+                assert!(rt;
+                    is_steep_same(&payload, *scheme, away, &mut places),
+                    "{word} from {away} away"
+                );
+            }
+        }
+    }
+}
+
+/// How many differences a payload has before the first word that spells nothing.
+fn count_good(payload: &[u8], scheme: Scheme) -> u16 {
+    let mut items = Differences::over(payload, scheme);
+    for count in 0..4096u16 {
+        match items.next() {
+            Some(Ok(_)) => {}
+            _ => return count,
+        }
+    }
+    0
+}
+
+/// Puts a word of Steim-2 that spells nothing into a payload's last frame, at a place from 1 to 15.
+fn spoil(payload: &mut [u8], place: usize) {
+    let place = place % 16;
+    if payload.len() < 64 {
+        return;
+    }
+    let begin = payload.len() - 64;
+    payload[begin + place / 4] |= 0xC0 >> (2 * (place % 4));
+    put(payload, begin + 4 * place, &0xC000_0000u32.to_be_bytes());
+}
+
+/// Whether records agree that end shortly before the last difference of a payload, at it, and behind it.
+fn is_cut_same(payload: &[u8], scheme: Scheme, first: i32, places: &mut Places) -> bool {
+    let good = count_good(payload, scheme);
+    for less in [5, 1, 0] {
+        let samples = good.saturating_sub(less);
+        if samples != 0 && !is_same(payload, scheme, samples, first, places) {
+            return false;
+        }
+    }
+    is_same(payload, scheme, good.saturating_add(1), first, places)
+}
+
+/// Checks that a spoilt word in any place of the last frame of a payload is no fault behind the last sample, and one
+/// before it.
+fn assert_spoilt(rt: &impl Abort, payload: &mut [u8], rounds: u32) {
+    let mut places = Places::new();
+    let mut number = 0x9E37_79B9_7F4A_7C15;
+    for round in 0..rounds {
+        let words = if round % 2 == 0 {
+            Words::SomeWide
+        } else {
+            Words::Narrow
+        };
+        for place in 1..16usize {
+            number = next_number(fill(payload, Scheme::Two, words, number));
+            spoil(payload, place);
+            assert!(rt;
+                is_cut_same(payload, Scheme::Two, first_by(number), &mut places),
+                "word {place} in round {round}"
+            );
+        }
+    }
+}
+
+#[test]
+fn passes_by_words_behind_the_last_sample(rt: HostRuntime) {
+    assert_spoilt(&rt, &mut [0; 192], 64);
+    assert_spoilt(&rt, &mut [0; 1984], 8);
+}
+
+/// Whether a payload's record agrees for each number of samples up to what one frame more than the first can hold.
+fn are_few_same(payload: &[u8], scheme: Scheme, first: i32, places: &mut Places) -> bool {
+    for samples in 1..121u16 {
+        if !is_same(payload, scheme, samples, first, places) {
+            return false;
+        }
+    }
+    true
+}
+
+#[test]
+fn reads_fewer_samples_than_there_are(rt: HostRuntime) {
+    let mut places = Places::new();
+    let mut payload = [0; 192];
+    let mut number = 0x2545_F491_4F6C_DD1D;
+    for round in 0..64u32 {
+        for scheme in [Scheme::One, Scheme::Two] {
+            number = next_number(fill(&mut payload, scheme, words_of(round), number));
+            assert!(rt;
+                are_few_same(&payload, scheme, first_by(number), &mut places),
+                "{round}"
+            );
+        }
+    }
+}
+
 /// Whether the edges from one on agree, few samples and many, from first samples of each kind.
 fn are_same(scheme: Scheme, edges: &[(u32, u32); 18], from: usize) -> bool {
     let payload = edge_frames(edges, from);
+    let mut places = Places::new();
     for samples in [1, 2, 50, 90, 120, 160, 300] {
         for first in [0, i32::MAX, i32::MIN, 1 << 30] {
-            if !is_same(&payload, scheme, samples, first) {
+            if !is_same(&payload, scheme, samples, first, &mut places) {
                 return false;
             }
         }

@@ -78,11 +78,10 @@ fn ends_among(samples: &[i32]) -> Ends {
     }
 }
 
-/// Whether these samples are filled in of a record of 320 or fewer, or this fault is answered.
-fn is_filled(view: &RecordView<'_>, wanted: Result<&[i32], ReadFault>) -> bool {
+/// Whether these samples are filled in of a record, for which there are places enough, or this fault is answered.
+fn is_filled(view: &RecordView<'_>, places: &mut [i32], wanted: Result<&[i32], ReadFault>) -> bool {
     let count = usize::from(view.samples());
-    let mut places = [0; 320];
-    if count == 0 || 320 < count {
+    if count == 0 || places.len() < count {
         return false;
     }
     match fill_samples(view, &mut places[..count]) {
@@ -91,9 +90,19 @@ fn is_filled(view: &RecordView<'_>, wanted: Result<&[i32], ReadFault>) -> bool {
     }
 }
 
-/// Whether these samples are checked and filled in of a record that has some, or this fault is answered.
+/// Whether these samples are checked and filled in, in these places, of a record that has some, or this fault is
+/// answered.
+pub fn is_read_in(
+    view: &RecordView<'_>,
+    places: &mut [i32],
+    wanted: Result<&[i32], ReadFault>,
+) -> bool {
+    view.samples() != 0 && is_checked(view, wanted) && is_filled(view, places, wanted)
+}
+
+/// The same of a record of 320 samples or fewer.
 pub fn is_read(view: &RecordView<'_>, wanted: Result<&[i32], ReadFault>) -> bool {
-    view.samples() != 0 && is_checked(view, wanted) && is_filled(view, wanted)
+    is_read_in(view, &mut [0; 320], wanted)
 }
 
 /// Whether a list of these samples is made of a record, and they have its ends, or this fault is answered.
