@@ -1,6 +1,6 @@
 -- No place of a link is passed over.
 use Rattle.std.proofs.Common.{◌≡◌, ◌≢◌, ℕ, ◌+◌, ◌%◌, ◌^◌, ◌<◌, ◌≤◌, ◌⊎◌, ◌==◌, ◌∙◌, ap, subst, refl, sym, arith, inl, inr}
-use Rattle.std.proofs.Common.{Bool, true, false, List, [], ◌∷◌, ◌++◌, length, Option, Some, None, slice_get, slice_set}
+use Rattle.std.proofs.Common.{Bool, true, false, List, [], ◌∷◌, ◌++◌, length, Option, Some, None, slice_get}
 use Rattle.std.proofs.Common.{if◌then◌else◌}
 use Rattle.std.proofs.lemmas.Bool.Decides.{eqb_tells, leb_tells}
 use Rattle.std.proofs.lemmas.Option.{slice_get_within}
@@ -104,7 +104,7 @@ due_if false feed s k g w e is = due_packet s k g (record_at w g.position) is
 no_match : (a b : ℕ) → a ≢ b → (a == b) ≡ false
 no_match a b ne = elim (eqb_tells a b) [ inl same ↦ absurd (ne same.1) | inr other ↦ other.0 ]
 
-due_sends : (feed : List Window) (s : State) (j : ℕ) → HasDue feed s j → ¬ (Waits feed s j)
+pub due_sends : (feed : List Window) (s : State) (j : ℕ) → HasDue feed s j → ¬ (Waits feed s j)
 due_sends feed s j d waits =
     due_if (d.grant.position == d.ring.next) feed s j d.grant d.ring (no_match d.grant.position d.ring.next d.behind)
     (sym (ap (λ (p : Phase). sent_in p feed s j) d.streams

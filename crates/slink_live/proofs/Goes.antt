@@ -116,7 +116,7 @@ module _ {s t : ServerState} {first log now : List Happening} (e : Event) (so_fa
           awake = λ a. (tends log said).awake (said_awake a);
           turns = turned;
           closed = λ start v a. goes_then (said_closed start v a)
-              ((tends log said).closed start (said_serving start v) (said_awake a).is_told);
+              ((tends log said).closed start (said_serving start v) (said_awake a));
         }
 
 -- nothing comes any more
@@ -146,5 +146,5 @@ served_given {s} {t} {u} {first} {log} {last} so_far answers closes tends = reco
   awake = λ a. tends.awake (so_far.awake a);
   turns = λ start v a. gives_up log last (so_far.turns start v a) closes;
   closed = λ start v a. goes_then (so_far.closed start v a)
-      (tends.closed start (so_far.serving start v) (so_far.awake a).is_told);
+      (tends.closed start (so_far.serving start v) (so_far.awake a));
 }

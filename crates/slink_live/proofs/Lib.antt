@@ -6,9 +6,9 @@ pub mod Own
 pub mod Saying
 pub mod Hearing
 pub mod Sends
-pub mod Losing
 pub mod Turning
 pub mod Fairness
+pub mod Losing
 pub mod Tending
 pub mod Begun
 pub mod Stories

@@ -1,13 +1,15 @@
 -- What is no longer in the ring.
-use Rattle.std.proofs.Common.{◌≡◌, ◌≢◌, ℕ, ◌+◌, ◌≤◌, ◌<◌, ◌∙◌, ap, subst, refl, sym, arith, inl, inr, List, length}
-use Rattle.std.proofs.Common.{Bool, true, false, nat_lt, suc, Option, Some, None, option_map, slice_get}
+use Rattle.std.proofs.Common.{◌≡◌, ℕ, ◌+◌, ◌≤◌, ◌<◌, ◌⊎◌, ◌∙◌, ap, subst, refl, sym, arith, inl, inr, List, length}
+use Rattle.std.proofs.Common.{true, false, nat_lt, suc, Option, Some, None, option_map, slice_get}
 use Rattle.std.proofs.lemmas.Bool.Decides.{eqb_tells, leb_tells}
 use Rattle.std.proofs.lemmas.Option.{slice_get_within}
 use Rattle.slink_feed.specs.declared.grant.Grant.{Grant}
-use Rattle.slink_feed.specs.Session.{Grants, State, grant_at}
+use Rattle.slink_feed.specs.declared.session.Phase.TheVariants.{Closed, Streaming}
+use Rattle.slink_feed.specs.Session.{Grants, IsWaiting, State, grant_at}
 use Rattle.slink_feed.specs.Window.{Window, oldest_of}
 use Rattle.slink_live.specs.Awake.{HasLeft, IsLost}
 use Rattle.slink_live.specs.Served.{LinkState}
+use Rattle.slink_live.proofs.Fairness.{due_sends}
 
 -- tests of numbers
 pub lt_by : (a b : ℕ) → nat_lt a b ≡ true → a < b
@@ -84,3 +86,22 @@ pub not_lost : (feed : List Window) (s : State) (n : ℕ) → length feed ≤ n
 not_lost feed s n le none lost =
     let within : lost.k < length feed = slice_get_within feed lost.k lost.place.ring lost.place.there in
     none lost.k (omega (arith, le, within)) lost.place
+
+-- where nothing is due, none has left
+pub waiting_not_lost : (feed : List Window) (s : State) → IsWaiting feed s → ¬ (IsLost feed s)
+waiting_not_lost feed s waits lost =
+    due_sends feed s lost.k (record {
+      streams = lost.streams;
+      grant = lost.place.grant;
+      ring = lost.place.ring;
+      granted = lost.place.granted;
+      there = lost.place.there;
+      behind = λ e. omega (arith, e, lost.place.left);
+    }) (waits lost.k (slice_get_within feed lost.k lost.place.ring lost.place.there))
+
+pub closed_not_lost : (feed : List Window) (s : State) → s.phase ≡ Closed → ¬ (IsLost feed s)
+closed_not_lost feed s shut lost = let bad : Closed ≡ Streaming = sym shut ∙ lost.streams in cc bad
+
+pub rested_not_lost : (feed : List Window) (s : State) → IsWaiting feed s ⊎ (s.phase ≡ Closed) → ¬ (IsLost feed s)
+rested_not_lost feed s (inl waits) = waiting_not_lost feed s waits
+rested_not_lost feed s (inr shut) = closed_not_lost feed s shut

@@ -1,6 +1,6 @@
 -- What a session gives when it is called for a place.
-use Rattle.std.proofs.Common.{◌≡◌, ◌≢◌, ℕ, ◌+◌, ◌%◌, ◌^◌, ◌≤◌, ◌<◌, ◌⊎◌, ◌∙◌, ap, subst, refl, sym, arith, inl, inr}
-use Rattle.std.proofs.Common.{Bool, true, false, List, ◌++◌, length, Option, Some, None, slice_get, ◌==◌}
+use Rattle.std.proofs.Common.{◌≡◌, ◌≢◌, ℕ, ◌%◌, ◌^◌, ◌⊎◌, ◌∙◌, ap, refl, sym, inl, inr}
+use Rattle.std.proofs.Common.{Bool, true, false, List, Option, Some, None, slice_get, ◌==◌}
 use Rattle.std.proofs.Common.{if◌then◌else◌}
 use Rattle.slink_wire.specs.Packet.{packet_bytes}
 use Rattle.slink_feed.specs.declared.grant.Grant.{Grant}
@@ -8,7 +8,7 @@ use Rattle.slink_feed.specs.declared.session.Phase.{Phase}
 use Rattle.slink_feed.specs.declared.session.Phase.TheVariants as Phases
 use Rattle.slink_feed.specs.declared.session.Sent.{Sent}
 use Rattle.slink_feed.specs.declared.session.Sent.TheVariants as Sents
-use Rattle.slink_feed.specs.Session.{IsWaiting, State, all_done, at_next, grant_at, packet_at, sent, sent_in, sent_from}
+use Rattle.slink_feed.specs.Session.{State, all_done, at_next, grant_at, packet_at, sent, sent_in}
 use Rattle.slink_feed.specs.Session.{sent_of}
 use Rattle.slink_feed.specs.Window.{Window, record_at}
 

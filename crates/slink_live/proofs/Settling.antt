@@ -1,31 +1,33 @@
 -- How each step of a server leaves no link asleep.
-use Rattle.std.proofs.Common.{◌≡◌, ◌≢◌, ℕ, ◌+◌, ◌<◌, ◌≤◌, ◌∙◌, ap, subst, refl, sym, arith, inl, inr, Bool, true, false}
-use Rattle.std.proofs.Common.{get_or-set_other, if◌then◌else◌}
+use Rattle.std.proofs.Common.{◌≡◌, ◌≢◌, ℕ, ◌+◌, ◌<◌, ◌≤◌, ◌∙◌, ap, subst, refl, sym, arith, inl, inr, Bool, false}
+use Rattle.std.proofs.Common.{IfSome, get_or-set_other, get_or-set_same, if◌then◌else◌}
 use Rattle.std.proofs.Common.{not, ◌&&◌, List, [], ◌∷◌, ◌++◌, get_or, length, length-set, set, take, Option, Some, None}
 use Rattle.std.specs.Option.{is_some}
 use Rattle.std.proofs.lemmas.Bool.Decides.{leb_tells}
 use Rattle.std.proofs.lemmas.List.{get_or_past}
 use Rattle.slink_feed.specs.Session.{Fits}
 use Rattle.slink_feed.specs.Window.{Window}
+use Rattle.slink_live.specs.declared.link.Settled.{Settled}
 use Rattle.slink_live.specs.declared.link.Settled.TheVariants as settled
 use Rattle.slink_live.specs.declared.ready.Wishes.{Wishes}
 use Rattle.slink_live.specs.declared.ready.Event.{Event}
 use Rattle.slink_live.specs.declared.ready.Event.TheVariants as events
-use Rattle.slink_live.specs.Awake.{Goes, IsAwake, IsAwakeIn, IsClosedRightly, IsFirstFree, IsSettled, IsTold, has_free}
-use Rattle.slink_live.specs.Awake.{further}
+use Rattle.slink_live.specs.Awake.{Goes, IsAwake, IsAwakeIn, IsClosedRightly, IsSettled, IsTold, has_free}
+use Rattle.slink_live.specs.Awake.{further, is_lost}
 use Rattle.slink_live.specs.Happening.{Happening, Input, Opened, Received, Emitted, Gone, Next, Missed, Wants, WantsLinks}
 use Rattle.slink_live.specs.Happening.{Left, first_wishes, is_left, told, told_by, wants_links}
 use Rattle.slink_live.specs.Served.{IntakeState, IsServing, IsSound, LinkState, ServerState}
 use Rattle.slink_live.specs.Story.{IsNew}
 use Rattle.slink_live.specs.Turns.{Closes}
-use Rattle.slink_live.specs.private.Calling.{HasFilled, HasReceived, HasTaken, IsOutcome}
+use Rattle.slink_live.specs.private.Calling.{HasFilled, HasReceived, HasTaken, IfRested, IsOutcome}
 use Rattle.slink_live.specs.private.Keeping.{KeepsServing, Settles, Tends, TendsAll, TendsAnew}
 use Rattle.slink_live.proofs.Slots.{closes_both, closes_told, not_self, quiet_serving}
 use Rattle.slink_live.proofs.Steps.{closed_keeps, ended, ended_serving, filled_keeps, received_keeps, same_default}
 use Rattle.slink_live.proofs.Steps.{keeps_both, keeps_from, keeps_quiet, keeps_same, opened_keeps, sound_in, taken_keeps}
-use Rattle.slink_live.proofs.Tending.{IsUntold, free_at, goes_one, goes_same, goes_then, gone_awake, gone_goes, gone_told}
+use Rattle.slink_live.proofs.Tending.{IsUntold, goes_one, goes_same, goes_then, gone_awake, gone_goes, gone_told}
 use Rattle.slink_live.proofs.Tending.{left_last, links_last, settles_closes, settles_empty, settles_wants, tends_by}
-use Rattle.slink_live.proofs.Tending.{told_beside, told_last, untold_none, untold_one}
+use Rattle.slink_live.proofs.Tending.{rest_closes, rest_empty, rest_wants, tends_rest, told_last, untold_none}
+use Rattle.slink_live.proofs.Tending.{untold_one}
 
 -- A call saw the link in a slot, and the rings of the input.
 module _ {s0 s : ServerState} (same : s0 ≡ s) (j : ℕ) (lt : j < length s0.links) (sound : IsSound s)
@@ -122,6 +124,79 @@ module _ {s0 s : ServerState} (same : s0 ≡ s) (j : ℕ) (lt : j < length s0.li
       taken_goes None g start = goes_same g.1
       taken_goes (Some l) g start = goes_one (Emitted j (take g.0 l.pending)) tt g.2
 
+-- a link that had room has all, and goes on to have it
+if_rested : (s : ServerState) (j : ℕ) (o new : Option LinkState) (log mid : List Happening) → IsAwake s log
+    → o ≡ get_or s.links j None → HasTaken j o new log mid → IfSome o (λ l. length l.pending + 520 ≤ 6240)
+    → IfRested s.intake.feed new
+if_rested s j None new log mid a is h room = subst (IfRested s.intake.feed) (sym h.0) tt
+if_rested s j (Some l) new log mid a is h room =
+    let settled : IsSettled s.intake.feed s.is_ended l (told j log) = a.each j l (sym is) in
+    subst (IfRested s.intake.feed) (sym h.1)
+    (record { rests = settled.filled room; stays = λ lost. settled.stands (is_lost lost) })
+
+-- it took bytes, and nothing more is due to it
+pub rested_tends : {s0 s t : ServerState} (same : s0 ≡ s) (j : ℕ) → j < length s0.links → IsSound s
+    → {o : Option LinkState} → o ≡ get_or s0.links j o → (new : Option LinkState) → {log mid last : List Happening}
+    → HasTaken j o new log mid → IfSome o (λ l. length l.pending + 520 ≤ 6240)
+    → (IfRested s0.intake.feed (get_or (set s0.links j new) j None)
+    → Settles j (record s0 { links = set s0.links j new }) t mid last) → Tends s t log last
+rested_tends {s0} {s} {t} same j lt sound {o} link new {log} {mid} {last} h room settles =
+    let stands : o ≡ get_or s0.links j None = link ∙ sym (same_default s0.links j None o lt) in
+    subst (λ (x : ServerState). Tends x t log last) same
+    (tends_rest s0 j new t log mid last (taken_some o h ∙ ap is_some stands) (taken_untold o h) (taken_goes o h)
+    (λ start v. (taken_keeps {s0 = s0} {s = s0} refl j lt new (sound_in same sound) link h).serving start v)
+    (λ a. settles (subst (IfRested s0.intake.feed) (sym (get_or-set_same s0.links j new None lt))
+    (if_rested s0 j o new log mid a stands h room))))
+  where
+    taken_some : (x : Option LinkState) → HasTaken j x new log mid → is_some new ≡ is_some x
+    taken_some None g = ap is_some g.0
+    taken_some (Some l) g = ap is_some g.1
+
+    taken_untold : (x : Option LinkState) → HasTaken j x new log mid → IsUntold j log mid
+    taken_untold None g = untold_none j log mid g.1
+    taken_untold (Some l) g =
+        untold_one j log mid (Emitted j (take g.0 l.pending)) (λ k ne w. refl) (λ b. refl) (λ b. refl) g.2
+
+    taken_goes : (x : Option LinkState) → HasTaken j x new log mid → (start : List Window)
+        → Goes (IsClosedRightly start) log mid
+    taken_goes None g start = goes_same g.1
+    taken_goes (Some l) g start = goes_one (Emitted j (take g.0 l.pending)) tt g.2
+
+-- A call saw a link to which nothing more is due.
+module _ {s0 s : ServerState} (same : s0 ≡ s) (j : ℕ) (lt : j < length s0.links) {o : Option LinkState}
+    (link : o ≡ get_or s0.links j o) (result : Settled)
+    (look : (feed : List Window) → IfRested feed o → IsOutcome feed s0.is_ended o result) where
+  outcome_in : IfRested s.intake.feed (get_or s.links j None)
+      → IsOutcome s.intake.feed s.is_ended (get_or s.links j None) result
+  outcome_in rested =
+      let stands : get_or s.links j None ≡ o =
+      subst (λ (x : ServerState). get_or x.links j None ≡ o) same (sym (link ∙ sym (same_default s0.links j None o lt)))
+      in
+      subst (λ (x : Option LinkState). IsOutcome s.intake.feed s.is_ended x result) (sym stands)
+      (subst (λ (b : Bool). IsOutcome s.intake.feed b o result) (ap (λ (x : ServerState). x.is_ended) same)
+      (look s.intake.feed (subst (IfRested s.intake.feed) stands rested)))
+
+  within_in : j < length s.links
+  within_in = subst (λ (x : ServerState). j < length x.links) same lt
+
+  pub look_empty : {log last : List Happening} → result ≡ settled.Empty → last ≡ log
+      → IfRested s.intake.feed (get_or s.links j None) → Settles j s s log last
+  look_empty {log} {last} is e rested = rest_empty s j log last within_in
+      (subst (IsOutcome s.intake.feed s.is_ended (get_or s.links j None)) is (outcome_in rested)) e
+
+  pub look_wants : {log last : List Happening} (w : Wishes) → result ≡ settled.Wants w → last ≡ log ++ Wants j w ∷ []
+      → IfRested s.intake.feed (get_or s.links j None) → Settles j s s log last
+  look_wants {log} {last} w is e rested = rest_wants s j log last w within_in
+      (subst (IsOutcome s.intake.feed s.is_ended (get_or s.links j None)) is (outcome_in rested)) e
+
+  pub look_closes : {t : ServerState} {log last : List Happening} → result ≡ settled.Closes
+      → t ≡ record s { links = set s.links j None }
+      → last ≡ (log ++ Gone j ∷ []) ++ WantsLinks (not s.is_ended) ∷ []
+      → IfRested s.intake.feed (get_or s.links j None) → Settles j s t log last
+  look_closes {t} {log} {last} is ends e rested =
+      subst (λ (x : ServerState). Settles j s x log last) (sym ends) (rest_closes s j log last within_in
+      (subst (IsOutcome s.intake.feed s.is_ended (get_or s.links j None)) is (outcome_in rested)) e)
+
 -- nothing happened
 pub tends_same : (s : ServerState) (log last : List Happening) → last ≡ log → Tends s s log last
 tends_same s log last e = record {
@@ -193,7 +268,7 @@ opened_tends s j new t log opened mid last lt free came now serves settles =
       };
       closed = λ start v told0. goes_then
           (further opened mid (WantsLinks wanted) (goes_one (Opened j) tt came) tt now)
-          (settles.closed start (serves start v) (is_told told0.left));
+          (settles.closed start (serves start v) (is_told told0.is_told.left));
     }
 
 pub opened_in : {s0 s t : ServerState} (same : s0 ≡ s) (j : ℕ) → j < length s0.links → (l : LinkState) → IsSound s
@@ -241,7 +316,7 @@ input_tends s t intake reads bytes log mid last now serves all =
     } in
     record {
       awake = λ a. all.awake (is_told a.is_told);
-      closed = λ start v x. goes_then (goes_one (Input bytes) tt now) (all.closed start (serves start v) (is_told x));
+      closed = λ start v x. goes_then (goes_one (Input bytes) tt now) (all.closed start (serves start v) (is_told x.is_told));
     }
 
 -- It brought bytes that go no further.

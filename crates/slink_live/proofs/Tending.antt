@@ -1,14 +1,14 @@
 -- What a device was told, and what is closed.
-use Rattle.std.proofs.Common.{◌≡◌, ◌≢◌, ℕ, zero, suc, ◌<◌, ◌≤◌, ◌==◌, ◌∙◌, ap, subst, refl, sym, arith, inl, inr}
+use Rattle.std.proofs.Common.{◌≡◌, ◌≢◌, ℕ, zero, suc, ◌<◌, ◌≤◌, ◌∙◌, ap, subst, refl, sym, arith, inl, inr}
 use Rattle.std.proofs.Common.{Bool, true, false, not, ◌&&◌, List, [], ◌∷◌, ◌++◌, get_or, length, set, if◌then◌else◌}
 use Rattle.std.proofs.Common.{Option, Some, None, IfNone, IfSome, get_or-set_same, get_or-set_other}
 use Rattle.std.specs.Option.{is_some}
 use Rattle.std.proofs.lemmas.Bool.Decides.{eqb_tells}
+use Rattle.std.proofs.lemmas.List.{set-get_or}
 use Rattle.slink_feed.specs.Window.{Window}
-use Rattle.slink_live.specs.declared.link.Settled.{Settled}
 use Rattle.slink_live.specs.declared.link.Settled.TheVariants as settled
 use Rattle.slink_live.specs.declared.ready.Wishes.{Wishes}
-use Rattle.slink_live.specs.Awake.{Goes, IsAwake, IsAwakeIn, IsClosable, IsClosedRightly, IsSettled, IsTold, WasClosable}
+use Rattle.slink_live.specs.Awake.{Goes, IsAwake, IsAwakeIn, IsClosable, IsClosedRightly, IsSettled, IsTold}
 use Rattle.slink_live.specs.Awake.{IsFirstFree, has_free, nothing, further}
 use Rattle.slink_live.specs.Happening.{Happening, Gone, Wants, WantsLinks, first_wishes, is_left, left_by, left_from}
 use Rattle.slink_live.specs.Happening.{links_by, links_from, told, told_by, told_from, wants_links}
@@ -269,20 +269,76 @@ settles_closes s j new log last lt within out e serves =
       }));
     }
 
--- Something happened in a slot, and then it was settled.
+-- Something happened in a slot, and then it was settled, where no link slept.
+pub tends_rest : (s : ServerState) (j : ℕ) (new : Option LinkState) (t : ServerState) (log mid last : List Happening)
+    → is_some new ≡ is_some (get_or s.links j None) → IsUntold j log mid
+    → ((start : List Window) → Goes (IsClosedRightly start) log mid)
+    → ((start : List Window) → IsServing start s log → IsServing start (record s { links = set s.links j new }) mid)
+    → (IsAwake s log → Settles j (record s { links = set s.links j new }) t mid last) → Tends s t log last
+tends_rest s j new t log mid last same untold went serves settles = record {
+  awake = λ a. record {
+    each = λ k. (settles a).links k (λ ne. beside s j new log mid k ne untold (a.each k));
+    is_told = (settles a).is_told (told_beside s j new log mid same untold a.is_told);
+  };
+  closed = λ start v a. goes_then (went start)
+      ((settles a).closed start (serves start v) (told_beside s j new log mid same untold a.is_told));
+}
+
+-- The same, whether one slept or not.
 pub tends_by : (s : ServerState) (j : ℕ) (new : Option LinkState) (t : ServerState) (log mid last : List Happening)
     → is_some new ≡ is_some (get_or s.links j None) → IsUntold j log mid
     → ((start : List Window) → Goes (IsClosedRightly start) log mid)
     → ((start : List Window) → IsServing start s log → IsServing start (record s { links = set s.links j new }) mid)
     → Settles j (record s { links = set s.links j new }) t mid last → Tends s t log last
-tends_by s j new t log mid last same untold went serves settles = record {
-  awake = λ a. record {
-    each = λ k. settles.links k (λ ne. beside s j new log mid k ne untold (a.each k));
-    is_told = settles.is_told (told_beside s j new log mid same untold a.is_told);
-  };
-  closed = λ start v told0. goes_then (went start)
-      (settles.closed start (serves start v) (told_beside s j new log mid same untold told0));
-}
+tends_by s j new t log mid last same untold went serves settles =
+    tends_rest s j new t log mid last same untold went serves (λ a. settles)
+
+-- The link in a slot was left as it was.
+same_links : (s : ServerState) (j : ℕ) (log last : List Happening)
+    → Settles j s (record s { links = set s.links j (get_or s.links j None) }) log last → Settles j s s log last
+same_links s j log last h =
+    subst (λ (links : List (Option LinkState)). Settles j s (record s { links = links }) log last)
+    (set-get_or s.links j None) h
+
+pub rest_empty : (s : ServerState) (j : ℕ) (log last : List Happening) → j < length s.links
+    → IsOutcome s.intake.feed s.is_ended (get_or s.links j None) settled.Empty → last ≡ log → Settles j s s log last
+rest_empty s j log last lt out e =
+    same_links s j log last (settles_by s j (get_or s.links j None) log last lt (untold_none j log last e) refl
+    (λ l some. absurd (
+    let bad : None ≡ Some l =
+    sym (empty_none s.intake.feed s.is_ended (get_or s.links j None) out) ∙ some in
+    cc bad))
+    (λ start v t. goes_same e))
+
+pub rest_wants : (s : ServerState) (j : ℕ) (log last : List Happening) (w : Wishes) → j < length s.links
+    → IsOutcome s.intake.feed s.is_ended (get_or s.links j None) (settled.Wants w) → last ≡ log ++ Wants j w ∷ []
+    → Settles j s s log last
+rest_wants s j log last w lt out e =
+    same_links s j log last (settles_by s j (get_or s.links j None) log last lt
+    (untold_one j log last (Wants j w) (λ k ne v. wants_other j k w v ne) (λ b. refl) (λ b. refl) e) refl
+    (λ l some. subst (IsSettled s.intake.feed s.is_ended l)
+    (sym (told_last log last (Wants j w) e j ∙ wants_self j w (told j log)))
+    (wants_some s.intake.feed s.is_ended (get_or s.links j None) w l out some))
+    (λ start v t. goes_one (Wants j w) tt e))
+
+pub rest_closes : (s : ServerState) (j : ℕ) (log last : List Happening) → j < length s.links
+    → IsOutcome s.intake.feed s.is_ended (get_or s.links j None) settled.Closes
+    → last ≡ (log ++ Gone j ∷ []) ++ WantsLinks (not s.is_ended) ∷ []
+    → Settles j s (record s { links = set s.links j None }) log last
+rest_closes s j log last lt out e =
+    let l = closes_some s.intake.feed s.is_ended (get_or s.links j None) out in
+    record {
+      links = λ k awake. gone_awake s j log last lt e k awake;
+      is_told = λ t. gone_told s j log last lt e t.left;
+      closed = λ start v t. gone_goes s j log last lt e start (inr (record {
+        server = s;
+        link = l.0;
+        serving = v;
+        stood = l.1;
+        left = t.left;
+        closable = l.2;
+      }));
+    }
 
 -- whether further links are wanted
 pub wants_if : (is_ended : Bool) (links : List (Option LinkState)) (o : Option ℕ) → IfSome o (IsFirstFree links)

@@ -1,12 +1,12 @@
 -- Whose turn it is.
-use Rattle.std.proofs.Common.{◌≡◌, ◌≢◌, ℕ, ◌+◌, ◌≤◌, ◌<◌, ◌⊎◌, ◌∙◌, ap, subst, refl, sym, arith, inl, inr}
-use Rattle.std.proofs.Common.{List, ◌++◌, length, length-append}
+use Rattle.std.proofs.Common.{◌≡◌, ℕ, ◌+◌, ◌≤◌, ◌<◌, subst, sym, arith, inl, inr}
+use Rattle.std.proofs.Common.{List, length}
 use Rattle.std.proofs.lemmas.Bool.Decides.{eqb_tells}
 use Rattle.slink_feed.specs.declared.session.Sent.TheVariants as Sents
-use Rattle.slink_feed.specs.Session.{IsWaiting, State, sent, sent_bytes}
+use Rattle.slink_feed.specs.Session.{State, sent}
 use Rattle.slink_feed.specs.Window.{Window}
 use Rattle.slink_live.specs.Served.{LinkState}
-use Rattle.slink_live.specs.Story.{Asks, IsEarlier, IsTurn, none_called, one_called}
+use Rattle.slink_live.specs.Story.{Asks, IsTurn, none_called, one_called}
 use Rattle.slink_live.specs.private.Calling.{Gives}
 
 -- nothing is sent of a place

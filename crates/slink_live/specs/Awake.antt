@@ -45,6 +45,11 @@ pub data IsClosable (feed : List Window) (is_ended : Bool) (l : LinkState) : Typ
 abbrev pub HasRoom : LinkState → Type 0
 HasRoom l = length l.pending + 35 ≤ 6240
 
+-- Nothing more is due to a link, or there is no room for a packet.
+abbrev pub IsFilled : List Window → LinkState → Type 0
+IsFilled feed l = length l.pending + 520 ≤ 6240
+    → IsWaiting feed l.session.state ⊎ (l.session.state.phase ≡ Closed)
+
 -- It has bytes pending, and the device was told that it wants to write; or nothing more is due to it.
 pub data Sleeps (feed : List Window) (l : LinkState) (wishes : Wishes) : Type 0 where
   writes : l.pending ≢ [] → wishes.writes ≡ true → Sleeps feed l wishes
@@ -54,6 +59,7 @@ pub data Sleeps (feed : List Window) (l : LinkState) (wishes : Wishes) : Type 0 
 pub record IsSettled (feed : List Window) (is_ended : Bool) (l : LinkState) (wishes : Wishes) : Type 0 where
   pub stands : ¬ (IsClosable feed is_ended l)
   pub sleeps : Sleeps feed l wishes
+  pub filled : IsFilled feed l
   pub reads : (wishes.reads ≡ true) ↔ HasRoom l
   pub streams : (wishes.is_streaming ≡ true) ↔ (l.session.state.phase ≡ Streaming)
 

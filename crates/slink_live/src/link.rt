@@ -6,9 +6,9 @@ ghost use Rattle.slink_feed.specs.declared.session.Sent.{Sent};
 ghost use Rattle.slink_feed.specs.Serving.{Serves};
 ghost use Rattle.slink_feed.specs.Session.{Fits, IsWaiting, sent, sent_bytes, sent_without};
 ghost use Rattle.slink_feed.specs.Window.{Window};
-ghost use Rattle.slink_live.specs.Awake.{HasLeft, HasRoom, IsClosable, IsLost, IsOver};
+ghost use Rattle.slink_live.specs.Awake.{HasLeft, HasRoom, IsClosable, IsFilled, IsLost, IsOver};
 ghost use Rattle.slink_live.specs.Story.{Asks, IsNew};
-ghost use Rattle.slink_live.specs.private.Calling.{Gives, IsFilled};
+ghost use Rattle.slink_live.specs.private.Calling.{Gives, IsRested};
 
 use crate::pending::{PACKET, Pending, ROOM};
 use crate::ready::Wishes;
@@ -143,7 +143,34 @@ impl Link {
         ensures yes { OnTrue result (IsClosable feed.now is_ended self.now) }
         ensures no { OnFalse result (¬ (IsClosable feed.now is_ended self.now)) }
     {
-        self.is_done() || self.is_lost(feed) || is_ended && self.has_all()
+        self.is_done() || self.is_stuck(feed) || is_ended && self.has_all()
+    }
+
+    /// The same, where nothing more is due to it, and no record that is to be sent next has left its ring.
+    pub(crate) fn is_closable_at_rest(&self, is_ended: bool) -> bool
+        ensures yes { OnTrue result ((feed : List Window) → IsRested feed self.now
+            → IsClosable feed is_ended self.now) }
+        ensures no { OnFalse result ((feed : List Window) → IsRested feed self.now
+            → ¬ (IsClosable feed is_ended self.now)) }
+    {
+        self.is_done() || is_ended && self.has_all()
+    }
+
+    /// Whether a record that is to be sent next has left its ring, once it is filled: with room for a packet none has.
+    fn is_stuck(&self, feed: &Feed) -> bool
+        requires { IsFilled feed.now self.now }
+        ensures yes { OnTrue result (IsLost feed.now self.now.session.state) }
+        ensures no { OnFalse result (¬ (IsLost feed.now self.now.session.state)) }
+    {
+        !self.has_room() && self.is_lost(feed)
+    }
+
+    /// Whether there is room for a packet.
+    pub(crate) fn has_room(&self) -> bool
+        ensures yes { OnTrue result (length self.now.pending + 520 ≤ 6240) }
+        ensures no { OnFalse result (6240 < length self.now.pending + 520) }
+    {
+        self.pending.len() <= ROOM - PACKET
     }
 
     /// What is wanted of it.
@@ -197,7 +224,7 @@ impl Link {
             return;
         }
         for ask in 0..ASKS {
-            if self.pending.len() > ROOM - PACKET || self.session.is_closed() || !self.ask(feed) {
+            if !self.has_room() || self.session.is_closed() || !self.ask(feed) {
                 return;
             }
         }

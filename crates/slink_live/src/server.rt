@@ -10,7 +10,7 @@ ghost use Rattle.slink_live.specs.Happening.{Happening, Gone, Next, WantsLinks, 
 ghost use Rattle.slink_live.specs.Input.{IsInputFault, places_of};
 ghost use Rattle.slink_live.specs.Served.{AreEmpty, GoesOn, IsBelow, IsFinished, IsServing, IsSound, ServerState};
 ghost use Rattle.slink_live.specs.Served.{StaysUnread};
-ghost use Rattle.slink_live.specs.private.Calling.{HasFilled, HasReceived, HasTaken, IsOutcome};
+ghost use Rattle.slink_live.specs.private.Calling.{HasFilled, HasReceived, HasTaken, IfRested, IsOutcome};
 ghost use Rattle.slink_live.specs.Turns.{Closes, HasTurns, IsCalled, Opens, ReadsFrom, ReadsInput, WritesTo};
 ghost use Rattle.slink_live.specs.private.Keeping.{AnswersFault, KeepsServing, Settles, Tends, TendsAll};
 ghost use Rattle.slink_live.specs.private.Keeping.{TendsAnew};
@@ -78,13 +78,36 @@ fn hear<R: Ready>(link: &mut Option<Link>, feed: &Feed, slot: usize, ready: &mut
     }
 }
 
-/// Writes once to the link in a slot, where one stands, what its session sent.
-fn tell<R: Ready>(link: &mut Option<Link>, slot: usize, ready: &mut R)
-    ensures { HasTaken slot link.old link.new (R.log ready.old) (R.log ready.new) }
+/// Writes once to the link in a slot, where one stands, what its session sent. The answer is whether there was room for
+/// a packet before: then nothing more is due.
+fn tell<R: Ready>(link: &mut Option<Link>, slot: usize, ready: &mut R) -> bool
+    ensures taken { HasTaken slot link.old link.new (R.log ready.old) (R.log ready.new) }
+    ensures rests { OnTrue result (IfSome link.old (λ l. length l.pending + 520 ≤ 6240)) }
 {
-    if let Some(link) = link {
-        let count = ready.write(slot, link.pending());
-        link.taken(count);
+    match link {
+        Some(link) => {
+            let had_room = link.has_room();
+            let count = ready.write(slot, link.pending());
+            link.taken(count);
+            had_room
+        }
+        None => true,
+    }
+}
+
+/// What comes of the link in a slot to which nothing more is due.
+fn look(link: &Option<Link>, is_ended: bool) -> Settled
+    ensures { (feed : List Window) → IfRested feed link.now → IsOutcome feed is_ended link.now result }
+{
+    match link {
+        Some(link) => {
+            if link.is_closable_at_rest(is_ended) {
+                Settled::Closes
+            } else {
+                Settled::Wants(link.wishes())
+            }
+        }
+        None => Settled::Empty,
     }
 }
 
@@ -371,8 +394,11 @@ impl Server {
         ensures tends { Tends self.old self.new (R.log ready.old) (R.log ready.new) }
     {
         if slot < self.links.len() {
-            tell(&mut self.links[slot], slot, ready);
-            self.settle(slot, ready);
+            if tell(&mut self.links[slot], slot, ready) {
+                self.settle_at_rest(slot, ready);
+            } else {
+                self.settle(slot, ready);
+            }
         }
     }
 
@@ -422,6 +448,22 @@ impl Server {
         ensures settles { Settles slot self.old self.new (R.log ready.old) (R.log ready.new) }
     {
         match fill(&mut self.links[slot], self.intake.feed(), self.is_ended) {
+            Settled::Empty => {}
+            Settled::Wants(wishes) => ready.wants(slot, wishes),
+            Settled::Closes => self.close(slot, ready),
+        }
+    }
+
+    /// Says what is wanted of the link in a slot, or closes it, where nothing more is due to it.
+    fn settle_at_rest<R: Ready>(&mut self, slot: usize, ready: &mut R)
+        requires sound { IsSound self.old }
+        requires within { slot < length self.old.links }
+        ensures keeps { KeepsServing self.old self.new (R.log ready.old) (R.log ready.new) }
+        ensures closes { Closes (R.log ready.old) (R.log ready.new) }
+        ensures settles { IfRested self.old.intake.feed (get_or self.old.links slot None)
+            → Settles slot self.old self.new (R.log ready.old) (R.log ready.new) }
+    {
+        match look(&self.links[slot], self.is_ended) {
             Settled::Empty => {}
             Settled::Wants(wishes) => ready.wants(slot, wishes),
             Settled::Closes => self.close(slot, ready),

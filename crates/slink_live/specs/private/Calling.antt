@@ -1,5 +1,5 @@
 -- What one event does to one slot.
-use Rattle.std.specs.Prelude.{◌≡◌, ℕ, ◌≤◌, ◌+◌, ◌⊎◌, Bool, List, [], ◌∷◌, ◌++◌, drop, take, length, Option, Some, None}
+use Rattle.std.specs.Prelude.{◌≡◌, ℕ, ◌+◌, ◌⊎◌, Bool, List, [], ◌∷◌, ◌++◌, drop, take, length, Option, Some, None}
 use Rattle.slink_feed.specs.declared.session.Phase.TheVariants.{Closed}
 use Rattle.slink_feed.specs.declared.session.Sent.{Sent}
 use Rattle.slink_feed.specs.declared.session.Sent.TheVariants.{Wait}
@@ -8,7 +8,7 @@ use Rattle.slink_feed.specs.Session.{Fits, IsWaiting, sent, sent_bytes}
 use Rattle.slink_feed.specs.Window.{Window}
 use Rattle.slink_live.specs.declared.link.Settled.{Settled}
 use Rattle.slink_live.specs.declared.link.Settled.TheVariants.{Empty, Wants, Closes}
-use Rattle.slink_live.specs.Awake.{IsClosable, IsSettled}
+use Rattle.slink_live.specs.Awake.{IsClosable, IsLost, IsSettled}
 use Rattle.slink_live.specs.Happening.{Happening, Received, Emitted}
 use Rattle.slink_live.specs.Served.{LinkState, link_state}
 use Rattle.slink_live.specs.Story.{Asks}
@@ -37,10 +37,14 @@ pub record Gives (feed : List Window) (k : ℕ) (old new : LinkState) : Type 0 w
   pub pending : new.pending ≡ old.pending ++ sent_bytes answer
   pub grows : (new.session.state.phase ≡ Closed) ⊎ (length (sent_bytes answer) ≡ 520)
 
--- Nothing more is due to a link, or there is no room for it.
-abbrev pub IsFilled : List Window → LinkState → Type 0
-IsFilled feed l = length l.pending + 520 ≤ 6240
-    → IsWaiting feed l.session.state ⊎ (l.session.state.phase ≡ Closed)
+-- Nothing more is due to a link, and the next record of none of its places has left its ring.
+pub record IsRested (feed : List Window) (l : LinkState) : Type 0 where
+  pub rests : IsWaiting feed l.session.state ⊎ (l.session.state.phase ≡ Closed)
+  pub stays : ¬ (IsLost feed l.session.state)
+
+abbrev pub IfRested : List Window → Option LinkState → Type 0
+IfRested feed None = Unit {0}
+IfRested feed (Some l) = IsRested feed l
 
 -- Packets were requested of the session of the link in a slot.
 abbrev pub HasFilled : List Window → Option LinkState → Option LinkState → Type 0

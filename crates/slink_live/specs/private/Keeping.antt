@@ -48,11 +48,11 @@ pub record Settles (j : ℕ) (old new : ServerState) (before after : List Happen
   pub closed : (start : List Window) → IsServing start old before → IsTold old before
       → Goes (IsClosedRightly start) before after
 
--- A step behind which no link sleeps.
+-- A step behind which no link sleeps, where none slept before.
 pub record Tends (old new : ServerState) (before after : List Happening) : Type 0 where
   pub awake : IsAwake old before → IsAwake new after
   -- A link is closed by right.
-  pub closed : (start : List Window) → IsServing start old before → IsTold old before
+  pub closed : (start : List Window) → IsServing start old before → IsAwake old before
       → Goes (IsClosedRightly start) before after
 
 -- The same, whichever links sleep before, once the device was told what it has to be.

@@ -1,4 +1,4 @@
-use Rattle.std.proofs.Common.{◌<◌, arith, ap}
+use Rattle.std.proofs.Common.{arith, ap}
 use Rattle.slink_live.specs.Served.{LinkState}
 use Rattle.slink_live.proofs.Turning.{asked_before, asked_behind}
 use Rattle.slink_live.proofs.link.Link.ask.Goals as goal

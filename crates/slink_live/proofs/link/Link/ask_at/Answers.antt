@@ -1,10 +1,9 @@
-use Rattle.std.proofs.Common.{◌+◌, ◌++◌, inl, inr, refl, subst}
+use Rattle.std.proofs.Common.{◌+◌, inr, refl, subst}
 use Rattle.slink_wire.specs.Packet.{packet_bytes}
 use Rattle.slink_feed.specs.declared.session.Sent.TheVariants.{Packet}
-use Rattle.slink_feed.specs.Session.{sent_bytes, sent_without}
 use Rattle.slink_live.specs.Served.{LinkState, link_state}
 use Rattle.slink_live.specs.private.Calling.{Gives}
-use Rattle.slink_live.proofs.Sends.{ends_closed, sends_not}
+use Rattle.slink_live.proofs.Sends.{sends_not}
 use Rattle.slink_live.proofs.link.Link.ask_at.Goals as goal
 
 pub returns-in-Ok-clause-yes : goal.returns-in-Ok-clause-yes

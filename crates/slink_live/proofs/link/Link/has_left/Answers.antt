@@ -1,4 +1,4 @@
-use Rattle.std.proofs.Common.{◌≡◌, ◌∙◌, arith, nat_lt, sym}
+use Rattle.std.proofs.Common.{◌∙◌, arith, nat_lt, sym}
 use Rattle.std.proofs.lemmas.Bool.{OnFalse_from, OnTrue_from}
 use Rattle.slink_live.specs.Awake.{HasLeft}
 use Rattle.slink_live.proofs.Losing.{ge_by, has_left, has_not_left, lt_by, none_left}

@@ -1,5 +1,4 @@
-use Rattle.std.proofs.Common.{◌≡◌, ◌<◌, ◌≤◌, ℕ, length}
-use Rattle.slink_feed.specs.declared.session.Phase.TheVariants.{Streaming}
+use Rattle.std.proofs.Common.{◌<◌, ℕ}
 use Rattle.slink_live.specs.Awake.{HasLeft}
 use Rattle.slink_live.proofs.link.Link.is_lost.Given as goal
 

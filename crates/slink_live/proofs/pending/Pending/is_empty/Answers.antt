@@ -1,9 +1,9 @@
-use Rattle.std.proofs.Common.{◌≡◌, ◌≢◌, ◌∙◌, nat_eq, ap, arith, false, inl, inr, length, length-take, sym, true, [], List, ℕ}
+use Rattle.std.proofs.Common.{◌≡◌, ◌≢◌, ◌∙◌, nat_eq, ap, arith, false, inl, inr, length, length-take, sym, true, []}
 use Rattle.std.proofs.lemmas.Bool.{OnFalse_from}
 use Rattle.std.proofs.lemmas.Bool.Decides.{eqb_tells}
 use Rattle.std.proofs.lemmas.List.{length-drop}
 use Rattle.slink_live.specs.private.Waiting.{Waiting}
-use Rattle.std.proofs.Common.{drop, take, ◌-◌}
+use Rattle.std.proofs.Common.{drop, take}
 use Rattle.slink_live.proofs.pending.Pending.is_empty.Goals as goal
 
 pub returns-clause-no : goal.returns-clause-no

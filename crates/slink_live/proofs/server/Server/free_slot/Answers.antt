@@ -1,4 +1,4 @@
-use Rattle.std.proofs.Common.{◌≡◌, ◌∙◌, ◌<◌, ◌≤◌, ◌≢◌, ap, arith, false, true, length, subst, sym, None, get_or}
+use Rattle.std.proofs.Common.{◌≡◌, ◌≢◌, ap, arith, false, true, length, subst, None, get_or}
 use Rattle.std.specs.Option.{is_some}
 use Rattle.slink_live.specs.Served.{ServerState}
 use Rattle.slink_live.proofs.Steps.{none_at, taken_at, taken_more}

@@ -1,4 +1,4 @@
-use Rattle.std.proofs.Common.{◌<◌, arith, ap, length, refl, subst}
+use Rattle.std.proofs.Common.{arith, ap, length, refl}
 use Rattle.slink_live.specs.Served.{ServerState}
 use Rattle.slink_live.proofs.Settling.{settled_all, settled_more, settled_none}
 use Rattle.slink_live.proofs.Slots.{closes_both, closes_none}

@@ -1,4 +1,4 @@
-use Rattle.std.proofs.Common.{◌≡◌, ◌∙◌, sym}
+use Rattle.std.proofs.Common.{◌∙◌}
 use Rattle.slink_live.proofs.Tending.{wants_if}
 use Rattle.slink_live.proofs.server.Server.wants_links.Goals as goal
 

@@ -1,0 +1,47 @@
+use Rattle.std.proofs.Common.{◌<◌, length, refl, subst, sym}
+use Rattle.slink_live.specs.Served.{ServerState}
+use Rattle.slink_live.specs.Happening.{Wants}
+use Rattle.slink_live.proofs.Slots.{closes_told}
+use Rattle.slink_live.proofs.Steps.{closed_keeps, closes_gone, keeps_quiet, keeps_same}
+use Rattle.slink_live.proofs.Settling.{look_closes, look_empty, look_wants}
+use Rattle.slink_live.proofs.server.Server.settle_at_rest.Goals as goal
+
+pub returns-in-Empty-clause-settles : goal.returns-in-Empty-clause-settles
+returns-in-Empty-clause-settles g c =
+    look_empty c.self.view_is c.args.slot
+    (subst (λ (x : ServerState). c.args.slot < length x.links) (sym c.self.view_is) c.requires.within)
+    c.index.ensures c.look.result c.look.ensures c.in-Empty.is refl
+
+pub returns-in-Wants-clause-keeps : goal.returns-in-Wants-clause-keeps
+returns-in-Wants-clause-keeps g c =
+    keeps_quiet (Wants c.args.slot c.in-Wants.wishes) refl (λ k. refl) c.wants.ensures.log
+    (keeps_same c.args.self.now (g.R.Ready.log c.args.ready.now) (g.R.Ready.log c.args.ready.now) refl c.requires.sound)
+
+pub returns-in-Wants-clause-closes : goal.returns-in-Wants-clause-closes
+returns-in-Wants-clause-closes g c =
+    closes_told (g.R.Ready.log c.args.ready.now) (g.R.Ready.log c.wants.new.self)
+    (Wants c.args.slot c.in-Wants.wishes) tt c.wants.ensures.log
+
+pub returns-in-Wants-clause-settles : goal.returns-in-Wants-clause-settles
+returns-in-Wants-clause-settles g c =
+    look_wants c.self.view_is c.args.slot
+    (subst (λ (x : ServerState). c.args.slot < length x.links) (sym c.self.view_is) c.requires.within)
+    c.index.ensures c.look.result c.look.ensures c.in-Wants.wishes c.in-Wants.is
+    c.wants.ensures.log
+
+pub returns-in-Closes-clause-keeps : goal.returns-in-Closes-clause-keeps
+returns-in-Closes-clause-keeps g c =
+    closed_keeps c.args.self.now c.close.new.self c.args.slot (g.R.Ready.log c.args.ready.now)
+    (g.R.Ready.log c.close.new.ready) _ c.requires.within c.requires.sound c.close.ensures.links
+    c.close.ensures.log
+
+pub returns-in-Closes-clause-closes : goal.returns-in-Closes-clause-closes
+returns-in-Closes-clause-closes g c =
+    closes_gone c.args.slot (g.R.Ready.log c.args.ready.now) (g.R.Ready.log c.close.new.ready) _ c.close.ensures.log
+
+pub returns-in-Closes-clause-settles : goal.returns-in-Closes-clause-settles
+returns-in-Closes-clause-settles g c =
+    look_closes c.self.view_is c.args.slot
+    (subst (λ (x : ServerState). c.args.slot < length x.links) (sym c.self.view_is) c.requires.within)
+    c.index.ensures c.look.result c.look.ensures c.in-Closes.is
+    c.close.ensures.links c.close.ensures.log
