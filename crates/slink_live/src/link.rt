@@ -219,12 +219,13 @@ impl Link {
         ensures fits { Fits feed.now self.new.session.state }
         ensures filled { IsFilled feed.now self.new }
     {
-        // Most links wait, and a look at their places is cheaper than to ask for a packet of each.
-        if self.session.is_waiting(feed) {
-            return;
-        }
         for ask in 0..ASKS {
-            if !self.has_room() || self.session.is_closed() || !self.ask(feed) {
+            // Most links wait, and a look at their places is cheaper than to ask for a packet of each.
+            if !self.has_room()
+                || self.session.is_closed()
+                || self.session.is_waiting(feed)
+                || !self.ask(feed)
+            {
                 return;
             }
         }

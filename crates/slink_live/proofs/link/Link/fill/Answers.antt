@@ -4,9 +4,6 @@ use Rattle.slink_live.specs.Story.{none_called}
 use Rattle.slink_live.proofs.Stories.{asks_then}
 use Rattle.slink_live.proofs.link.Link.fill.Goals as goal
 
-pub returns-then-is_waiting-clause-asks : goal.returns-then-is_waiting-clause-asks
-returns-then-is_waiting-clause-asks c = none_called
-
 pub loop-ask-init : goal.loop-ask-init
 loop-ask-init c = record { asks = none_called; fits = c.requires.fits; grown = inr (omega arith) }
 
@@ -20,7 +17,7 @@ loop-ask-preserved c = record {
     | inl shut ↦ inl shut
     | inr more ↦ elim c.loop-ask.invariant.grown [
       | inl shut ↦ absurd (c.if-is_closed.ensures.no
-          (ap (λ (x : LinkState). x.session.state.phase) c.self-in-loop-ask.view_is ∙ shut))
+          (ap (λ (x : LinkState). x.session.state.phase) c.self.view_is ∙ shut))
       | inr before ↦ inr (omega (arith, before, more))
     ]
   ];
