@@ -1,4 +1,4 @@
-use Rattle.std.proofs.Common.{◌≤◌, length, arith, decimal, ℕ}
+use Rattle.std.proofs.Common.{◌≤◌, ◌++◌, length, arith, decimal, ℕ}
 use Rattle.std.proofs.lemmas.Fmt.{length-decimal-le}
 use Rattle.std.proofs.lemmas.List.{length-append}
 use Rattle.mseed.proofs.refusal.tell_miscount.Goals as goal
