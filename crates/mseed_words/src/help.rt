@@ -27,7 +27,8 @@ pub const COMMANDS: &str = "Commands:
           reads an archive, writes a line for each record
             mseed show < my.mseed
   repack  packs each channel anew, in records of one length and one encoding
-          reads an archive, writes an archive; status 1: a channel isn't continuous
+          reads an archive, writes an archive, which is bytes, to a terminal too: name a file
+          behind >; status 1: a channel isn't continuous
           options: --length, --encoding; --stretches, take each channel as a list of stretches, so
           that a channel may have gaps and its clock may drift; with it --leave, leave out and tell
           the channels that can't be packed: status 1 or 2
@@ -55,6 +56,6 @@ Statuses:
   0  done; of audit: each channel is continuous
   1  of audit: a channel is broken; of repack: one isn't continuous, and nothing was written, or
      with --leave the others
-  2  a fault: of the input, the output or a connection, of what is called for, or out of memory;
-     a line says which
+  2  a fault: of the input, the output or a connection, a request that can't be met, or out of
+     memory; a line says which
   3  a bad command line, this help, or the version";

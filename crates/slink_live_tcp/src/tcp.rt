@@ -27,7 +27,7 @@ const FIRST: usize = 2;
 /// So many events are taken from the system at once.
 const EVENTS: usize = 256;
 
-/// So often it is looked at the time while links leave or have only so much of it, in milliseconds.
+/// How often the clock is read while connections drain or have a time-out, in milliseconds.
 const TICK: u64 = 250;
 
 /// Where links are taken from, and how.
