@@ -1,5 +1,6 @@
 -- What is kept of the channels of a part, by their keys.
-use Rattle.std.proofs.Common.{◌≡◌, ◌∙◌, ◌<◌, ◌++◌, ◌∷◌, [], ℕ, suc, is_some, List, Bool, cond, Option, Some, None, length}
+use Rattle.std.proofs.Common.{◌≡◌, ◌∙◌, ◌<◌, ◌++◌, ◌∷◌, [], ℕ, suc, is_some, List, Bool, cond, Option, Some, None}
+use Rattle.std.proofs.Common.{length}
 use Rattle.std.proofs.Common.{get_or, sym, ap, subst, arith}
 use Rattle.std.specs.Cmp.Lexicographic.{slice_cmp}
 use Rattle.std.specs.List.{All, slice_get}

@@ -16,7 +16,8 @@ use Rattle.mseed_parts.specs.declared.part.JoinFault.{JoinFault}
 use Rattle.mseed_parts.specs.Joining.{moved_head, moved_findings, moved_channel, border_why, found_at, border_of}
 use Rattle.mseed_parts.specs.Joining.{findings_with, channel_behind}
 use Rattle.mseed_audit.specs.Audit.{head_in, tail_in}
-use Rattle.mseed_parts.specs.Parts.{HeadFits, FirstFits, Moves, CountFits, CountsFit, FitsAt, IsWithin, AreWithin, kept_of}
+use Rattle.mseed_parts.specs.Parts.{HeadFits, FirstFits, Moves, CountFits, CountsFit, IsWithin, AreWithin}
+use Rattle.mseed_parts.specs.Parts.{kept_of}
 use Rattle.mseed_parts.proofs.Adding.{Entries}
 use Rattle.mseed_parts.proofs.Behind.{head_with}
 
@@ -107,30 +108,3 @@ pub counts_before : (d e : ℕ) (o m : Channel) → m ≡ moved_channel d e o �
 counts_before d e o m is counts =
     let moved : CountsFit (moved_channel d e o) = subst (λ (x : Channel). CountsFit x) is counts in
     (moved.0, moved.1, count_before d e o.findings moved.2)
-
-count_moved : (d e : ℕ) (f : Findings) → CountFits f → CountFits (moved_findings d e f)
-count_moved d e (Nothing head tail) fits = tt
-count_moved d e (Counted count first head tail) fits = fits
-
--- what is joined counts no less than what is joined to it
-count_with : (a b : Findings) (border : Option Finding) → CountFits (findings_with a b border) → CountFits b
-count_with a (Nothing h tail) border fits = tt
-count_with (Nothing head t) (Counted n first h tail) None fits = fits
-count_with (Nothing head t) (Counted n first h tail) (Some x) fits = omega (arith, fits)
-count_with (Counted m first head t) (Counted n next h tail) None fits = omega (arith, fits)
-count_with (Counted m first head t) (Counted n next h tail) (Some x) fits = omega (arith, fits)
-
-behind_counts : (k m : Channel) → CountsFit (channel_behind k m) → CountsFit m
-behind_counts k m fits = (
-  omega (arith, fits.0),
-  omega (arith, fits.1),
-  count_with k.findings m.findings (border_of (tail_in k.findings) (head_in m.findings)) fits.2,
-)
-
--- what fits behind what is kept has counts that fit alone
-pub fits_alone : (d e : ℕ) (o : Option Channel) (c m : Channel) → m ≡ moved_channel d e c → FitsAt d e o (Some c)
-    → CountsFit m
-fits_alone d e None c m is fits =
-    subst (λ (x : Channel). CountsFit x) (sym is) (fits.1.0, fits.1.1, count_moved d e c.findings fits.1.2)
-fits_alone d e (Some k) c m is fits =
-    subst (λ (x : Channel). CountsFit x) (sym is) (behind_counts k (moved_channel d e c) fits.1)

@@ -4,8 +4,8 @@ use mseed_audit::push_line;
 use std::alloc::Global;
 use std::process::Abort;
 
-/// A line, how often it is added to a text, and the room of the text then: as many bytes as the first word has, at least
-/// 8, doubled as often as it takes.
+/// A line, how often it is added to a text, and the room of the text then: as many bytes as the first word has, at
+/// least 8, doubled as often as it takes.
 static ROWS: [(&str, u32, usize); 4] = [
     ("records 0 channels 0\n", 1, 32),
     (

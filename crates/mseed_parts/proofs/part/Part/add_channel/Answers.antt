@@ -1,4 +1,5 @@
-use Rattle.std.proofs.Common.{◌≡◌, ◌<◌, ◌∙◌, ◌++◌, ◌∷◌, [], List, ℕ, None, Option, Some, length, refl, sym, ap, subst, arith, rules}
+use Rattle.std.proofs.Common.{◌≡◌, ◌<◌, ◌∙◌, ◌++◌, ◌∷◌, [], List, ℕ, None, Option, Some, length, refl, sym, ap, subst}
+use Rattle.std.proofs.Common.{arith, rules}
 use Rattle.mseed_audit.specs.Channels.{same_key}
 use Rattle.mseed_audit.specs.Places.{by_key, place_of, with_channel}
 use Rattle.mseed_audit.proofs.ByKey.{by_key_ascends}
@@ -7,7 +8,8 @@ use Rattle.mseed_audit.proofs.Rosters.{none_there}
 use Rattle.mseed_audit.specs.declared.channel.Channel.{Channel}
 use Rattle.mseed_parts.proofs.Adding.{Entries, there_joined, there_border, there_fits, there_limit}
 use Rattle.mseed_parts.proofs.Adding.{err_from, held, new_joined}
-use Rattle.mseed_parts.proofs.Keeping.{by_key_within, has_new, has_with, kept_there, none_kept, with_within, within_push}
+use Rattle.mseed_parts.proofs.Keeping.{by_key_within, has_new, has_with, kept_there, none_kept, with_within}
+use Rattle.mseed_parts.proofs.Keeping.{within_push}
 use Rattle.mseed_parts.proofs.Within.{after_within, counts_before, new_within}
 use Rattle.mseed_parts.specs.Joining.{border_between, moved_channel}
 use Rattle.mseed_parts.specs.Parts.{AreWithin, CountsFit, FitsAt, Held, IsWithin, kept_of}
