@@ -83,7 +83,8 @@ module _ (start : List Window) (k : ℕ) where
       hears (those_of k before) (those_of k now) feed t new place bytes produced all emitted (own_story before _ s)
       (fed_those before feed fed) serves (those_more k before now (Received k bytes) e (at_self k))
   own_story log o (asks now feed t new place turn produced all emitted s fed called) =
-      asks (those_of k now) feed t new place turn produced all emitted (own_story now _ s) (fed_those now feed fed) called
+      asks (those_of k now) feed t new place turn produced all emitted (own_story now _ s) (fed_those now feed fed)
+      called
   own_story log o (takes before now t place bytes produced emitted s prefix e) =
       takes (those_of k before) (those_of k now) t place bytes produced emitted (own_story before _ s) prefix
       (those_more k before now (Emitted k bytes) e (at_self k))
@@ -145,7 +146,8 @@ module _ (start : List Window) (k : ℕ) where
   each_moment log o (asks now feed t new place turn produced all emitted s fed called) before after split =
       each_moment now _ s before after split
   each_moment log o (takes b now t place bytes produced emitted s prefix e) before after split =
-      moment b now (Emitted k bytes) _ e (takes b now t place bytes produced emitted s prefix e) (each_moment b _ s) before
+      moment b now (Emitted k bytes) _ e (takes b now t place bytes produced emitted s prefix e) (each_moment b _ s)
+      before
       after split
   each_moment log o (goes b now x s e) before after split =
       moment b now (Gone k) None e (goes b now x s e) (each_moment b x s) before after split

@@ -14,7 +14,8 @@ use Rattle.slink_live.specs.declared.ready.Event.{Event}
 use Rattle.slink_live.specs.declared.ready.Event.TheVariants as events
 use Rattle.slink_live.specs.Awake.{Goes, IsAwake, IsAwakeIn, IsClosedRightly, IsSettled, IsTold, has_free}
 use Rattle.slink_live.specs.Awake.{further, is_lost}
-use Rattle.slink_live.specs.Happening.{Happening, Input, Opened, Received, Emitted, Gone, Next, Missed, Wants, WantsLinks}
+use Rattle.slink_live.specs.Happening.{Happening, Input, Opened, Received, Emitted, Gone, Next, Missed, Wants}
+use Rattle.slink_live.specs.Happening.{WantsLinks}
 use Rattle.slink_live.specs.Happening.{Left, first_wishes, is_left, told, told_by, wants_links}
 use Rattle.slink_live.specs.Served.{IntakeState, IsServing, IsSound, LinkState, ServerState}
 use Rattle.slink_live.specs.Story.{IsNew}
@@ -23,7 +24,8 @@ use Rattle.slink_live.specs.private.Calling.{HasFilled, HasReceived, HasTaken, I
 use Rattle.slink_live.specs.private.Keeping.{KeepsServing, Settles, Tends, TendsAll, TendsAnew}
 use Rattle.slink_live.proofs.Slots.{closes_both, closes_told, not_self, quiet_serving}
 use Rattle.slink_live.proofs.Steps.{closed_keeps, ended, ended_serving, filled_keeps, received_keeps, same_default}
-use Rattle.slink_live.proofs.Steps.{keeps_both, keeps_from, keeps_quiet, keeps_same, opened_keeps, sound_in, taken_keeps}
+use Rattle.slink_live.proofs.Steps.{keeps_both, keeps_from, keeps_quiet, keeps_same, opened_keeps, sound_in}
+use Rattle.slink_live.proofs.Steps.{taken_keeps}
 use Rattle.slink_live.proofs.Tending.{IsUntold, goes_one, goes_same, goes_then, gone_awake, gone_goes, gone_told}
 use Rattle.slink_live.proofs.Tending.{left_last, links_last, settles_closes, settles_empty, settles_wants, tends_by}
 use Rattle.slink_live.proofs.Tending.{rest_closes, rest_empty, rest_wants, tends_rest, told_last, untold_none}
@@ -60,13 +62,15 @@ module _ {s0 s : ServerState} (same : s0 ≡ s) (j : ℕ) (lt : j < length s0.li
   within = omega (arith, lt, length-set s0.links j new)
 
   pub seen_closes : {t : ServerState} {log last : List Happening} → HasFilled feed o new
-      → IsOutcome feed s0.is_ended new settled.Closes → t ≡ record seen_after { links = set (set s0.links j new) j None }
+      → IsOutcome feed s0.is_ended new settled.Closes → t ≡ record seen_after
+      { links = set (set s0.links j new) j None }
       → last ≡ (log ++ Gone j ∷ []) ++ WantsLinks (not s0.is_ended) ∷ [] → Settles j s t log last
   seen_closes {t} {log} {last} filled out is e =
       settles_in (subst (λ (x : ServerState). Settles j s0 x log last) (sym is)
       (settles_closes s0 j new log last lt within
       (subst (λ (f : List Window). IsOutcome f s0.is_ended new settled.Closes) rings out) e
-      (λ start v. (filled_keeps {s0 = s0} {s = s0} refl j lt new {log = log} {last = log} (sound_in same sound) rings link filled refl).serving
+      (λ start v. (filled_keeps {s0 = s0} {s = s0} refl j lt new {log = log} {last = log} (sound_in same sound) rings
+      link filled refl).serving
       start v)))
 
   -- it was to be closed, and so it was
@@ -75,7 +79,8 @@ module _ {s0 s : ServerState} (same : s0 ≡ s) (j : ℕ) (lt : j < length s0.li
       → last ≡ (log ++ Gone j ∷ []) ++ WantsLinks (not s0.is_ended) ∷ [] → KeepsServing seen_after t log last
   closes_keeps {t} {log} {last} filled is e =
       closed_keeps seen_after t j log last (not s0.is_ended) within
-      (filled_keeps {s0 = s0} {s = s0} refl j lt new {log = log} {last = log} (sound_in same sound) rings link filled refl).sound is e
+      (filled_keeps {s0 = s0} {s = s0} refl j lt new {log = log} {last = log} (sound_in same sound) rings link filled
+      refl).sound is e
 
   tends_in : {t : ServerState} {log last : List Happening} → Tends s0 t log last → Tends s t log last
   tends_in {t} {log} {last} h = subst (λ (x : ServerState). Tends x t log last) same h
@@ -85,7 +90,8 @@ module _ {s0 s : ServerState} (same : s0 ≡ s) (j : ℕ) (lt : j < length s0.li
       → Settles j seen_after t mid last → Tends s t log last
   received_tends {t} {log} {mid} {last} h settles =
       tends_in (tends_by s0 j new t log mid last (received_some o h ∙ ap is_some stood) (received_untold o h)
-      (received_goes o h) (λ start v. (received_keeps {s0 = s0} {s = s0} refl j lt new (sound_in same sound) rings link h).serving
+      (received_goes o h) (λ start v. (received_keeps {s0 = s0} {s = s0} refl j lt new (sound_in same sound) rings link
+      h).serving
       start v) settles)
     where
       received_some : (x : Option LinkState) → HasReceived feed j x new log mid → is_some new ≡ is_some x
@@ -107,7 +113,8 @@ module _ {s0 s : ServerState} (same : s0 ≡ s) (j : ℕ) (lt : j < length s0.li
       → Settles j seen_after t mid last → Tends s t log last
   taken_tends {t} {log} {mid} {last} h settles =
       tends_in (tends_by s0 j new t log mid last (taken_some o h ∙ ap is_some stood) (taken_untold o h)
-      (taken_goes o h) (λ start v. (taken_keeps {s0 = s0} {s = s0} refl j lt new (sound_in same sound) link h).serving start v)
+      (taken_goes o h) (λ start v. (taken_keeps {s0 = s0} {s = s0} refl j lt new (sound_in same sound) link h).serving
+      start v)
       settles)
     where
       taken_some : (x : Option LinkState) → HasTaken j x new log mid → is_some new ≡ is_some x
@@ -302,7 +309,8 @@ gone_tends s t j log last earlier lt said is e =
     })
 
 -- The input brought bytes, and then all links were settled.
-pub input_tends : (s t : ServerState) (intake : IntakeState) (reads : ℕ) (bytes : List ℕ) (log mid last : List Happening)
+pub input_tends : (s t : ServerState) (intake : IntakeState) (reads : ℕ) (bytes : List ℕ)
+    (log mid last : List Happening)
     → mid ≡ log ++ Input bytes ∷ []
     → ((start : List Window) → IsServing start s log
     → IsServing start (record { intake = intake; links = s.links; is_ended = s.is_ended; reads = reads }) mid)
@@ -316,7 +324,8 @@ input_tends s t intake reads bytes log mid last now serves all =
     } in
     record {
       awake = λ a. all.awake (is_told a.is_told);
-      closed = λ start v x. goes_then (goes_one (Input bytes) tt now) (all.closed start (serves start v) (is_told x.is_told));
+      closed = λ start v x. goes_then (goes_one (Input bytes) tt now)
+          (all.closed start (serves start v) (is_told x.is_told));
     }
 
 -- It brought bytes that go no further.
@@ -394,7 +403,8 @@ settled_all s t n log last le h = record {
   awake = λ told0. record {
     each = λ k. elim (leb_tells n k) [
       | inr lt ↦ h.awake told0 k (omega (arith, lt.1))
-      | inl ge ↦ λ l is. absurd (let bad : None ≡ Some l = sym (get_or_past t.links k None (omega (arith, le, ge.1))) ∙ is in cc bad)
+      | inl ge ↦ λ l is. absurd (let bad : None ≡ Some l = sym (get_or_past t.links k None (omega (arith, le, ge.1))) ∙
+          is in cc bad)
     ];
     is_told = h.is_told told0;
   };

@@ -51,7 +51,8 @@ asks_once feed s now place way k answer first given held =
 module _ (start : List Window) (k : ℕ) where
   -- a story by what the slot keeps
   by_link : (log : List Happening) (l : LinkState) (t : Story) → IsServed start k log (Some t)
-      → Matches (Some l) (Some t) → IsServed start k log (Some (story l.session l.place (t.emitted ++ l.pending) t.emitted))
+      → Matches (Some l) (Some t) → IsServed start k log
+      (Some (story l.session l.place (t.emitted ++ l.pending) t.emitted))
   by_link log l t served m =
       subst (λ (b : List ℕ). IsServed start k log (Some (story l.session l.place b t.emitted))) m.2
       (subst (λ (n : ℕ). IsServed start k log (Some (story l.session n t.produced t.emitted))) m.1

@@ -71,7 +71,8 @@ wants_self : (j : ℕ) (w v : Wishes) → told_by j v (Wants j w) ≡ w
 wants_self j w v = ap (λ (t : Bool). if t then w else v) (at_self j)
 
 -- further things happened
-pub goes_then : {P : List Happening → Happening → Type 0} {a b c : List Happening} → Goes P a b → Goes P b c → Goes P a c
+pub goes_then : {P : List Happening → Happening → Type 0} {a b c : List Happening} → Goes P a b → Goes P b c → Goes P a
+    c
 goes_then {P} {a} {b} {c} x nothing = x
 goes_then {P} {a} {b} {c} x (further before now h on p e) = further before now h (goes_then x on) p e
 

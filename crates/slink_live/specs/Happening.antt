@@ -96,7 +96,8 @@ abbrev wishes_of : Bool → Bool → Bool → Wishes
 wishes_of reads writes is_streaming = record { reads = reads; writes = writes; is_streaming = is_streaming }
 
 pub same_wants : (slot : ℕ) (reads writes is_streaming : Bool)
-    → happening 6 slot (flags_of (wishes_of reads writes is_streaming)) ≡ Wants slot (wishes_of reads writes is_streaming)
+    → happening 6 slot (flags_of (wishes_of reads writes is_streaming)) ≡ Wants slot
+    (wishes_of reads writes is_streaming)
 same_wants slot true true true = refl
 same_wants slot true true false = refl
 same_wants slot true false true = refl

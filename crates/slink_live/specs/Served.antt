@@ -48,7 +48,8 @@ pub record IsSound (s : ServerState) : Type 0 where
   pub few : s.intake.records ≤ 8192 * s.reads
   pub few_reads : s.reads ≤ 2 ^ 40
 
--- A slot has a link where the story has one: with its session and turn, and what that sent and the link didn't take yet.
+-- A slot has a link where the story has one: with its session and turn, and what that sent and the link didn't take
+-- yet.
 abbrev pub Matches : Option LinkState → Option Story → Type 0
 Matches None None = Unit {0}
 Matches None (Some t) = ⊥

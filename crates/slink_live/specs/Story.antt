@@ -1,5 +1,6 @@
 -- What a link is sent: what one session says, to the link's own lines alone, over the rings of the records so far.
-use Rattle.std.specs.Prelude.{◌≡◌, ℕ, ◌+◌, ◌<◌, ◌≤◌, ◌⊎◌, false, List, [], ◌∷◌, ◌++◌, length, replicate, Option, Some, None}
+use Rattle.std.specs.Prelude.{◌≡◌, ℕ, ◌+◌, ◌<◌, ◌≤◌, ◌⊎◌, false, List, [], ◌∷◌, ◌++◌, length, replicate, Option, Some}
+use Rattle.std.specs.Prelude.{None}
 use Rattle.mseed_stream.specs.Device.{IsPrefixOf}
 use Rattle.slink_wire.specs.Lines.{IsHeld}
 use Rattle.slink_feed.specs.declared.session.Phase.TheVariants.{Fresh}

@@ -1,4 +1,5 @@
-//! What happened at a device, and what it was told, in order. It has no bytes, and its functions do nothing at run time.
+//! What happened at a device, and what it was told, in order. It has no bytes, and its functions do nothing at run
+//! time.
 ghost use Rattle.std.specs.Prelude.{◌≡◌, List, ℕ, [], ◌∷◌, ◌++◌};
 ghost use Rattle.slink_live.specs.Happening.{Happening, Input, Opened, Received, Emitted, Gone, Next, Missed, Wants};
 ghost use Rattle.slink_live.specs.Happening.{WantsLinks, Left, flag_of, happening, happenings_code};

@@ -8,7 +8,8 @@ pub returns-then-slot-len-clause-keeps : goal.returns-then-slot-len-clause-keeps
 returns-then-slot-len-clause-keeps g c =
     closed_keeps c.args.self.now c.close.new.self c.args.slot (g.R.Ready.log c.args.ready.now)
     (g.R.Ready.log c.close.new.ready) _
-    (omega (arith, c.if-slot-len.true, c.len.ensures, ap (λ (s : ServerState). length s.links) c.self.view_is)) c.requires
+    (omega (arith, c.if-slot-len.true, c.len.ensures, ap (λ (s : ServerState). length s.links) c.self.view_is))
+    c.requires
     c.close.ensures.links c.close.ensures.log
 
 pub returns-then-slot-len-clause-closes : goal.returns-then-slot-len-clause-closes

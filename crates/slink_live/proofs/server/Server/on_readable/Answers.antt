@@ -34,7 +34,8 @@ returns-then-slot-len-clause-called g c =
 
 pub returns-then-slot-len-clause-tends : goal.returns-then-slot-len-clause-tends
 returns-then-slot-len-clause-tends g c =
-    received_tends c.self.view_is c.args.slot (omega (arith, c.if-slot-len.true, c.len.ensures)) c.requires c.feed.ensures
+    received_tends c.self.view_is c.args.slot (omega (arith, c.if-slot-len.true, c.len.ensures)) c.requires
+    c.feed.ensures
     c.index_mut.ensures.value c.hear.new.link c.hear.ensures c.settle.ensures.settles
 
 pub returns-else-slot-len-clause-tends : goal.returns-else-slot-len-clause-tends

@@ -10,7 +10,8 @@ use Rattle.slink_live.proofs.server.Server.take.Goals as goal
 pub settle-requires : goal.settle-requires
 settle-requires g c = record {
   sound = (opened_keeps c.self.view_is c.args.slot
-      (subst (λ (x : ServerState). c.args.slot < length x.links) (sym c.self.view_is) c.requires.free.within) (Some c.new.result)
+      (subst (λ (x : ServerState). c.args.slot < length x.links) (sym c.self.view_is) c.requires.free.within)
+      (Some c.new.result)
       {log = (g.R.Ready.log c.args.ready.now)} c.requires.sound c.new.result refl c.requires.free.free
       c.new.ensures.session c.new.ensures.pending c.new.ensures.place
       (c.new.ensures.fits c.args.self.now.intake.feed) refl).sound;
@@ -25,7 +26,8 @@ pub returns-then-accept-clause-keeps : goal.returns-then-accept-clause-keeps
 returns-then-accept-clause-keeps g c =
     keeps_both (keeps_quiet (WantsLinks c.wants_links.result) refl (λ k. refl) c.wants_links-then-accept.ensures.log
     (opened_keeps c.self.view_is c.args.slot
-    (subst (λ (x : ServerState). c.args.slot < length x.links) (sym c.self.view_is) c.requires.free.within) (Some c.new.result)
+    (subst (λ (x : ServerState). c.args.slot < length x.links) (sym c.self.view_is) c.requires.free.within)
+    (Some c.new.result)
     c.requires.sound c.new.result refl c.requires.free.free c.new.ensures.session c.new.ensures.pending
     c.new.ensures.place (c.new.ensures.fits c.args.self.now.intake.feed) c.if-accept.ensures.log))
     c.settle.ensures.keeps
