@@ -155,7 +155,15 @@ fn join_in_turns(
         let mut source = Buffered::new(reader);
         let mut sink = Counted::new(Vec::new(alloc));
         let mut reported = Counted::new(Vec::new(alloc));
-        match join(alloc, form, false, None, &mut source, &mut sink, &mut reported) {
+        match join(
+            alloc,
+            form,
+            false,
+            None,
+            &mut source,
+            &mut sink,
+            &mut reported,
+        ) {
             Ok(joined) => {
                 digest.number(joined.broken);
                 digest.number(u64::from(joined.fault));
