@@ -89,12 +89,17 @@ class Root:
         return self.destdir + path
 
     def make_folder(self, path: str) -> None:
-        """Makes a folder, and those above it."""
-        if path and not os.path.isdir(self.at(path)):
-            self.make_folder(os.path.dirname(path))
-            os.mkdir(self.at(path))
-            os.chmod(self.at(path), 0o755)
-            self.noted[f"{path}/"] = None
+        """Makes a folder, and those above it, that of the root too."""
+        if os.path.isdir(self.at(path)):
+            return
+        if path in ("", "/"):
+            if self.destdir:
+                os.makedirs(self.destdir, exist_ok=True)
+            return
+        self.make_folder(os.path.dirname(path))
+        os.mkdir(self.at(path))
+        os.chmod(self.at(path), 0o755)
+        self.noted[f"{path}/"] = None
 
     def put(self, thing: Thing) -> None:
         """Puts a file or a link, in the place of what was there."""

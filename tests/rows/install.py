@@ -121,6 +121,10 @@ def staged(folder: Path) -> Cases:
     yield holds("PYTHON_DIR decides", (root / "srv/packages/mseed/__init__.py").exists() and first != below(root))
     make("uninstall", *words)
     yield Fact("and is left", before, below(root))
+    there = folder / "not" / "there"
+    make("install", f"DESTDIR={there}")
+    yield Fact("a root that isn't there is made", "records 0 channels 0\n",
+               run([f"{there}/usr/local/bin/mseed", "audit"]))
     for at in ("/usr/local", "/usr", "/opt/mseed"):
         yield Fact(f"the folder of packages below {at}", f"{folder_of_python(at)}\n",
                    run([PYTHON, str(PACKAGE / "package_folder.py"), at]))
