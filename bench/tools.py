@@ -24,12 +24,11 @@ import time
 HERE = os.path.dirname(os.path.abspath(__file__))
 sys.path.insert(0, os.path.join(os.path.dirname(HERE), "tests"))
 
-from parts import CODES, RATE, SECOND, START, logged  # noqa: E402
-from models.packing import btime  # noqa: E402
+from models.packing import SECOND, btime  # noqa: E402
+from models.workloads import DAY, LOGGER, RATE, START, count_in, recorded  # noqa: E402
 from tables import table, write  # noqa: E402
 
 SDS = os.path.join(os.path.dirname(HERE), "tools", "sds")
-DAY = 86400 * SECOND
 WAYS = ("the bytes alone, by `cat`", "`sds`, first run", "`sds`, second run, nothing new")
 
 
@@ -54,20 +53,20 @@ def round_and_round(items):
 
 def make_tree(root, megabytes):
     """Writes days of all channels, up to about so many bytes, and says how many they are."""
-    made = logged()
+    made = recorded()
     records = round_and_round(made)
-    counts = round_and_round([struct.unpack_from(">H", record, 30)[0] for record in made])
+    counts = round_and_round([count_in(record) for record in made])
     written, samples, day = 0, 0, 0
     while written < megabytes * 10**6:
         of_day, samples = day_of(records, counts, samples, day)
-        for codes in CODES:
+        for codes in LOGGER:
             station, channel, network = (codes[at:end].decode().strip() for at, end in ((0, 5), (7, 10), (10, 12)))
             folder = os.path.join(root, "2024", network, station, f"{channel}.D")
             os.makedirs(folder, exist_ok=True)
             with open(os.path.join(folder, f"{network}.{station}..{channel}.D.2024.{day + 1:03}"), "wb") as file:
                 written += file.write(b"".join(head + codes + rest for head, rest in of_day))
         day += 1
-    return written, day * len(CODES)
+    return written, day * len(LOGGER)
 
 
 def spent(words, env):
@@ -108,7 +107,7 @@ def main():
             for number in jobs[:: -1 if turn % 2 else 1]:
                 figures, outcome = measure(root, folder, number, env)
                 measured[number].append(figures)
-        if f"files {files} bytes {size} channels {len(CODES)} continuous {len(CODES)} " not in f"{outcome} ":
+        if f"files {files} bytes {size} channels {len(LOGGER)} continuous {len(LOGGER)} " not in f"{outcome} ":
             sys.exit(outcome)
     print(outcome)
     rows = []
