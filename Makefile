@@ -57,23 +57,17 @@ export FILE OUT
 readable:
 	@[ -r "$$FILE" ] && [ ! -d "$$FILE" ] || { echo "FILE=$$FILE: no file that can be read" >&2; exit 2; }
 
-# Proves every crate that the program stands on, builds it, and runs it once: what isn't proved isn't built. What isn't
-# proved yet is proved side by side first. That it takes long is said where something has to be proved: nothing was
+# Proves every crate that the program stands on, side by side, then proves and builds the program, and runs it once: what
+# isn't proved isn't built. How far it is and how long it may take is said where something has to be proved: nothing was
 # built by this word, or by another toolchain, or a source is newer.
 build:
-	@python3 crates/prove.py --is-proved mseed || echo 'Proving and building: about 20 minutes the first time.'
-	@python3 crates/prove.py mseed
-	@cd crates/mseed && rt run --jobs 2 -- audit < /dev/null > out.log 2>&1 || { cat out.log; exit 1; }
-	@rm -f crates/mseed/out.log
-	@rt version > crates/mseed/out/proved
+	@python3 crates/prove.py mseed run -- audit
 	@echo 'Proved and built.'
 
 # The archive holds the toolchain's part of the C library too, so that a program links with one file. Of the shared
 # library only the calls that include/mseed.h declares are seen.
 lib:
-	@python3 crates/prove.py mseed_c
-	@cd crates/mseed_c && rt lib > lib.log 2>&1 || { cat lib.log; exit 1; }
-	@rm -f crates/mseed_c/lib.log
+	@python3 crates/prove.py mseed_c lib
 	@rm -rf $(LIB) && install -d $(LIB)
 	@printf '%s\n' 'create $(LIB)/libmseed_c.a' 'addlib crates/mseed_c/out/libmseed_c.a' \
 	    'addlib $(KIT)/c/liblibc_c.a' save end | ar -M

@@ -1,39 +1,73 @@
 #!/usr/bin/env python3
-"""Proves and builds the libraries that a crate stands on, side by side.
+"""Proves and builds a crate, and before it the libraries that it stands on, side by side.
 
-    prove.py [--is-proved] CRATE
+    prove.py CRATE [lib | run -- ARGUMENT ..]
+    prove.py --measure
 
 `rt` proves the libraries of a crate one after another, and locks all those below the one that it works on. Here each
 is proved once those below it are, in a room of its own: with links to its sources and to what those below it were built
-to. What comes of it is moved to its folder `out`, where `rt run` and `rt lib` find it. The libraries on the longest way
-to the crate come first, and take the processors that no other wants. What is built already is left as it is. What can't
-be proved is left to `rt`, which then says why. With --is-proved nothing is done: the status is 0 where, since `make`
-has built the program, neither its sources nor those that it stands on have changed, nor the toolchain, and 1 else.
+to. What comes of it is moved to its folder `out`, where `rt` finds it. Those on the longest way to the crate come
+first, by the minutes of minutes.txt. Then `rt lib` or `rt run` builds the crate itself, where that is asked for. What
+is built already is left as it is. How far it is stands in a line that is written over on a terminal, and elsewhere in a
+line for each crate. What was interrupted goes on where it was when it is called again. With --measure nothing is
+proved: what the last first proof of each crate took is written to minutes.txt.
 """
 
 from __future__ import annotations
 
 import argparse
+import contextlib
+import fcntl
+import functools
 import os
+import re
 import shutil
+import signal
 import subprocess
 import sys
-import tempfile
-from concurrent.futures import FIRST_COMPLETED, Future, ThreadPoolExecutor, wait
+import time
 from pathlib import Path
+from typing import NamedTuple, Sequence
 
 CRATES = Path(__file__).resolve().parent
 ROOT = CRATES.parent
+MINUTES = CRATES / "minutes.txt"
 SOURCES = ["src", "specs", "proofs"]
-# What those above need of a library.
-BUILT = Path("out") / "rlib"
-# So many libraries at the same time, and so many processes for one.
-MOST = 3
-PROCESSES = 4
-# Where `make` leaves the version of the toolchain by which it has proved and built a program.
-PROVED = Path("out") / "proved"
+# In a crate's folder `out`: what those above need of a library, what checks keep for the next one, where it is proved,
+# what was printed there, and what its first proof took.
+BUILT, KEPT, ROOM, LOG, TAKEN = "rlib", "incremental", "room", "log", "taken"
+# What `rt` says where it begins with the proofs of another copy of the tree.
+OTHERS = r"begins with what a check kept|another copy of the repository"
+# Where the version of the toolchain stands by which a crate was proved and built.
+PROVED = "proved"
+# So many crates at the same time, and so many processes for one: more gain nothing.
+MOST, PROCESSES = 4, 8
+# Of a crate that isn't in minutes.txt: bytes of sources that take a minute, and memory.
+BYTES_A_MINUTE, MEMORY = 100_000, 2.5
+# What no second process makes shorter, of a crate's proof; and how much more memory several processes take than one.
+ALONE, SHARED = 0.2, 1.3
+# Where a group of processes has the bytes of memory that it may use, and that it uses.
+GROUP = ["memory.max", "memory.current"]
+# Seconds from one look at what runs to the next.
+TURN = 0.1
 
 
+class Cost(NamedTuple):
+    """What the first proof of a crate takes: minutes of processors, and GB of memory."""
+
+    minutes: float
+    memory: float
+
+
+class Work(NamedTuple):
+    """A crate that is being proved: since when, by which process, and whether nothing is kept of earlier checks."""
+
+    began: float
+    process: subprocess.Popen
+    is_first: bool
+
+
+@functools.lru_cache(maxsize=None)
 def lines() -> dict[str, str]:
     """The line of each crate in crates.txt."""
     text = (ROOT / "crates.txt").read_text(encoding="utf-8")
@@ -46,75 +80,295 @@ def below(crate: str) -> set[str]:
     return {at for word in used for at in [word, *below(word)]}
 
 
-def size(crate: str) -> int:
-    """The bytes of its sources, by which it takes longer or shorter."""
-    return sum(file.stat().st_size for part in SOURCES for file in (CRATES / crate / part).rglob("*") if file.is_file())
+@functools.lru_cache(maxsize=None)
+def sources(crate: str) -> list[os.stat_result]:
+    """The files from which a crate is made, and their folders."""
+    return [file.stat() for part in SOURCES for file in [CRATES / crate / part, *(CRATES / crate / part).rglob("*")]
+            if file.exists()]
 
 
-def is_proved(crate: str, on: set[str], jobs: int) -> bool:
-    """Proves and builds a library, and says whether it is proved."""
+def cost_of(crate: str) -> Cost:
+    """What the first proof of a crate takes, as it was measured, or else by the size of its sources."""
+    for line in MINUTES.read_text(encoding="utf-8").splitlines() if MINUTES.exists() else []:
+        if line.split()[:1] == [crate]:
+            return Cost(*map(float, line.split()[1:]))
+    return Cost(sum(file.st_size for file in sources(crate)) / BYTES_A_MINUTE, MEMORY)
+
+
+def ways(on: dict[str, set[str]], costs: dict[str, Cost]) -> dict[str, float]:
+    """The minutes of each crate and of those above it, by the longest way up."""
+    found: dict[str, float] = {}
+    for crate in sorted(on, key=lambda crate: -len(on[crate])):
+        found[crate] = costs[crate].minutes + max((way for at, way in found.items() if crate in on[at]), default=0)
+    return found
+
+
+def minutes_left(left: dict[str, float], on: dict[str, set[str]], cores: int) -> float:
+    """The minutes by the clock until crates are proved of which so many minutes of processors are left: those of all on
+    all cores, and on the longest way what no second process makes shorter, with the other cores idle."""
+    costs = {crate: Cost(minutes, 0) for crate, minutes in left.items()}
+    longest = max(ways({crate: on[crate] for crate in left}, costs).values())
+    return sum(left.values()) / cores + ALONE * longest * (1 - 1 / cores)
+
+
+def processes(cores: int, is_longest: bool, is_alone: bool) -> int:
+    """How many processes prove a crate: more on the longest way, and few elsewhere, since each takes processor time of
+    its own besides what it shares."""
+    most = cores if is_alone else cores - 1 if is_longest else cores // 2 - 1
+    return min(max(most, 1), PROCESSES)
+
+
+def memory() -> float:
+    """The GB that are free, by what the system or the group of processes says."""
+    found = re.search(r"MemAvailable: +(\d+) kB", Path("/proc/meminfo").read_text(encoding="ascii"))
+    free = int(found[1]) * 1024
+    with contextlib.suppress(OSError, ValueError):
+        most, used = (int(Path("/sys/fs/cgroup", name).read_text(encoding="ascii")) for name in GROUP)
+        free = min(free, most - used)
+    return free / 1e9
+
+
+@functools.lru_cache(maxsize=None)
+def version() -> str:
+    """What the toolchain says that it is."""
+    return subprocess.run(["rt", "version"], check=False, stdout=subprocess.PIPE, text=True).stdout
+
+
+def is_built(crate: str) -> bool:
+    """Whether there is what a crate is built to, and neither its sources nor those that it stands on have changed since
+    this toolchain proved it."""
+    out = CRATES / crate / "out"
+    mark, made = out / PROVED, [out / BUILT / "stamp", out / crate, out / f"lib{crate}.a"]
+    if not mark.exists() or not any(path.exists() for path in made):
+        return False
+    files = [(ROOT / name).stat() for name in ("crates.txt", "HANDLES")]
+    files += [file for at in [crate, *below(crate)] for file in sources(at)]
+    since = mark.stat().st_mtime
+    return version() == mark.read_text(encoding="utf-8") and all(file.st_mtime <= since for file in files)
+
+
+def room_of(crate: str, on: set[str]) -> Path:
+    """Makes the room in which a crate is proved, and gives its folder there."""
     out = CRATES / crate / "out"
     out.mkdir(exist_ok=True)
-    with tempfile.TemporaryDirectory(dir=out) as name:
-        room = Path(name)
-        os.link(ROOT / "HANDLES", room / "HANDLES")
-        (room / "crates.txt").write_text("".join(f"{lines()[at]}\n" for at in [crate, *on]), encoding="utf-8")
-        for at in [crate, *on]:
-            for part in [*SOURCES, *([] if at == crate else [BUILT])]:
-                if (CRATES / at / part).is_dir():
-                    shutil.copytree(CRATES / at / part, room / "crates" / at / part, copy_function=os.link)
-        made = room / "crates" / crate
-        ran = subprocess.run(["rt", "lib", "--jobs", str(jobs)], cwd=made, check=False, stdout=subprocess.DEVNULL,
-                             stderr=subprocess.DEVNULL)
-        for part in (made / "out").glob("*") if ran.returncode == 0 else []:
-            shutil.rmtree(out / part.name, ignore_errors=True)
-            part.rename(out / part.name)
-    return ran.returncode == 0
+    leave_room(crate)
+    room = out / ROOM
+    room.mkdir()
+    os.link(ROOT / "HANDLES", room / "HANDLES")
+    (room / "crates.txt").write_text("".join(f"{lines()[at]}\n" for at in [crate, *on]), encoding="utf-8")
+    for at in [crate, *on]:
+        for part in [*SOURCES, *([] if at == crate else [f"out/{BUILT}"])]:
+            if (CRATES / at / part).is_dir():
+                shutil.copytree(CRATES / at / part, room / "crates" / at / part, copy_function=os.link)
+    made = room / "crates" / crate
+    (made / "out").mkdir()
+    for part in (BUILT, KEPT):
+        if (out / part).exists():
+            (out / part).rename(made / "out" / part)
+    return made
 
 
-def is_kept(crate: str) -> bool:
-    """Whether nothing has changed since `make` has proved and built a program."""
-    mark, program = CRATES / crate / PROVED, CRATES / crate / "out" / crate
-    if not (mark.exists() and program.exists()):
+def leave_room(crate: str) -> None:
+    """Moves what was made and kept in a crate's room to its folder `out`, also of a room that was left behind."""
+    out = CRATES / crate / "out"
+    for part in (out / ROOM / "crates" / crate / "out").glob("*"):
+        shutil.rmtree(out / part.name, ignore_errors=True)
+        part.rename(out / part.name)
+    shutil.rmtree(out / ROOM, ignore_errors=True)
+
+
+def is_locked(folder: int) -> bool:
+    """Keeps others out of a crate's folder, as `rt` does, unless one of them works there."""
+    try:
+        fcntl.flock(folder, fcntl.LOCK_EX | fcntl.LOCK_NB)
+    except BlockingIOError:
         return False
-    ran = subprocess.run(["rt", "version"], check=False, stdout=subprocess.PIPE, text=True)
-    files = [ROOT / "crates.txt", ROOT / "HANDLES"]
-    files += [file for at in [crate, *below(crate)] for part in SOURCES for file in (CRATES / at / part).rglob("*")]
-    return ran.stdout == mark.read_text(encoding="utf-8") and all(
-        file.stat().st_mtime <= mark.stat().st_mtime for file in files)
+    return True
+
+
+class Build:
+    """The proofs of a crate and of those that it stands on, on their way."""
+
+    def __init__(self, crate: str, command: Sequence[str]):
+        self.crate, self.command = crate, command
+        self.on = {at: below(at) for at in [crate, *below(crate)]}
+        self.costs = {at: cost_of(at) for at in self.on}
+        self.cores, self.free = len(os.sched_getaffinity(0)), memory()
+        self.ways = ways(self.on, self.costs)
+        ordered = sorted(self.on, key=self.ways.get, reverse=True)
+        self.left = [at for at in ordered if at != crate and not is_built(at)] + [crate] * bool(command)
+        # `rt` looks at the last one anyway: nothing is said where it will find that nothing has changed.
+        self.asked = 0 if self.left == [crate] and is_built(crate) else len(self.left)
+        self.running: dict[str, Work] = {}
+        self.failed: list[str] = []
+        # Minutes of processors that those took that are done, and that they were to take.
+        self.used = self.expected = 0.0
+        self.is_shown, self.shown, self.is_stopped = sys.stdout.isatty(), "", False
+
+    def pace(self) -> float:
+        """How many times the minutes of minutes.txt a crate takes here, by those that are done."""
+        return min(max(self.used / self.expected, 0.2), 5) if self.expected > 1 else 1
+
+    def minutes(self) -> int:
+        """About so many minutes are left."""
+        left = {at: self.costs[at].minutes for at in self.left}
+        for at, work in self.running.items():
+            whole = 60 * self.pace() * minutes_left({at: self.costs[at].minutes}, self.on, self.cores)
+            left[at] = self.costs[at].minutes * max(1 - (time.monotonic() - work.began) / max(whole, 1), 0.1)
+        return round(self.pace() * minutes_left(left, self.on, self.cores)) if left else 0
+
+    def text(self) -> str:
+        """How far it is."""
+        done = self.asked - len(self.left) - len(self.running)
+        return f"{done} of {self.asked} crates proved, about {self.minutes()} min left"
+
+    def show(self, ended: str = "") -> None:
+        """Says how far it is: on a terminal over and over in one line, and elsewhere in one for each crate."""
+        if self.is_shown and self.asked:
+            line = f"{self.text()}: {', '.join(self.running)}"[:shutil.get_terminal_size().columns - 1]
+            print(f"\r\033[K{line}" if line != self.shown else "", end="", flush=True)
+            self.shown = line
+        elif ended and self.asked:
+            print(f"{ended}: {self.text()}", flush=True)
+
+    def close(self, last: str = "") -> None:
+        """Ends what is said by a last line, or by none."""
+        print("\r\033[K" * bool(self.shown) + f"{last}\n" * bool(last), end="", flush=True)
+
+    def ready(self, crates: set[str]) -> list[str]:
+        """Those of these crates that can begin: those below them are proved, and there is memory for them."""
+        waited, found = {*self.left, *self.running}, []
+        taken = sum(self.costs[at].memory for at in self.running)
+        for at in self.left:
+            is_first = not self.running and not found
+            taken += self.costs[at].memory
+            has_room = len(self.running) + len(found) < min(MOST, self.cores) and taken <= self.free
+            if at in crates and not self.on[at] & waited and (is_first or has_room):
+                found.append(at)
+            else:
+                taken -= self.costs[at].memory
+        return found
+
+    def start(self, crate: str, is_alone: bool) -> None:
+        """Begins a crate: a library in a room of its own, and the last one in its own folder."""
+        is_last = crate == self.crate
+        is_longest = all(self.ways[crate] >= self.ways[at] for at in self.running)
+        verb, *arguments = self.command if is_last else ["lib"]
+        command = ["rt", verb, "--jobs", str(processes(self.cores, is_longest, is_alone)), *arguments]
+        folder = CRATES / crate if is_last else room_of(crate, self.on[crate])
+        is_first = not (folder / "out" / KEPT).exists()
+        log = CRATES / crate / "out" / LOG
+        log.parent.mkdir(exist_ok=True)
+        with log.open("wb") as file:
+            process = subprocess.Popen(command, cwd=folder, stdin=subprocess.DEVNULL, stdout=file, stderr=file)
+        self.left.remove(crate)
+        self.running[crate] = Work(time.monotonic(), process, is_first)
+
+    def end(self, crate: str, status: int, seconds: float, peak: float) -> None:
+        """What has ended is moved where it belongs, and counted."""
+        work = self.running.pop(crate)
+        out = CRATES / crate / "out"
+        if crate != self.crate:
+            leave_room(crate)
+        if status:
+            self.failed.append(crate)
+            self.left = [at for at in self.left if crate not in self.on[at]]
+            return
+        (out / PROVED).write_text(version(), encoding="utf-8")
+        if work.is_first and not re.search(OTHERS, (out / LOG).read_text(encoding="utf-8", errors="replace")):
+            (out / TAKEN).write_text(f"{seconds / 60:.1f} {peak:.1f}\n", encoding="ascii")
+            self.used += seconds / 60
+            self.expected += self.costs[crate].minutes
+        (out / LOG).unlink()
+        self.show(crate)
+
+    def wait(self) -> None:
+        """Waits for a turn, and ends what has ended in it."""
+        time.sleep(TURN)
+        for crate, work in list(self.running.items()):
+            found, status, usage = os.wait4(work.process.pid, os.WNOHANG)
+            if found:
+                work.process.returncode = status
+                self.end(crate, status, usage.ru_utime + usage.ru_stime, usage.ru_maxrss / 1e6 * SHARED)
+
+    def go_on(self, crates: set[str]) -> None:
+        """Proves these crates, until no more can be."""
+        while not self.is_stopped and (self.running or self.ready(crates)):
+            ready = self.ready(crates)
+            is_alone = len(self.running) + len(ready) == 1
+            for crate in ready:
+                self.start(crate, is_alone)
+            self.show()
+            self.wait()
+
+    def prove_libraries(self) -> None:
+        """Proves what the crate stands on, once nobody else works there."""
+        libraries = set(self.on) - {self.crate}
+        with contextlib.ExitStack() as held:
+            for crate in sorted(libraries if libraries & set(self.left) else []):
+                folder = os.open(CRATES / crate, os.O_RDONLY)
+                held.callback(os.close, folder)
+                while not is_locked(folder) and not self.is_stopped:
+                    time.sleep(TURN)
+            self.go_on(libraries)
+
+    def run(self) -> int:
+        """Proves what isn't built, and says why where that can't be. The status is 0 where all is proved."""
+        for name in (signal.SIGINT, signal.SIGTERM, signal.SIGHUP):
+            signal.signal(name, self.stop)
+        try:
+            if self.asked:
+                print(f"Proving and building: about {self.minutes()} min for {self.asked} crates.", flush=True)
+            self.prove_libraries()
+            self.go_on({self.crate})
+        finally:
+            self.leave()
+        self.close("Interrupted: the same command goes on from here." if self.is_stopped else "")
+        for crate in [] if self.is_stopped else self.failed:
+            print((CRATES / crate / "out" / LOG).read_text(encoding="utf-8", errors="replace"), end="")
+        return 130 if self.is_stopped else 1 if self.failed else 0
+
+    def stop(self, *_: object) -> None:
+        """Ends the run soon, as Ctrl-C asks for."""
+        self.is_stopped = True
+
+    def leave(self) -> None:
+        """Ends what runs, and leaves what was kept where the next call finds it."""
+        for crate, work in self.running.items():
+            work.process.terminate()
+            work.process.wait()
+            if crate != self.crate:
+                leave_room(crate)
+
+
+def measure() -> None:
+    """Writes what the last first proof of each crate took."""
+    taken = {at: CRATES / at / "out" / TAKEN for at in lines()}
+    found = {at: file.read_text(encoding="ascii").split() for at, file in taken.items() if file.exists()}
+    old = [line for line in MINUTES.read_text(encoding="utf-8").splitlines()]
+    kept = {line.split()[0]: line.split()[1:] for line in old if line[0] != "#"}
+    head = [line for line in old if line[0] == "#"]
+    rows = [" ".join([at, *{**kept, **found}[at]]) for at in lines() if at in kept or at in found]
+    MINUTES.write_text("\n".join([*head, *rows, ""]), encoding="utf-8")
 
 
 def main() -> int:
-    """Proves what isn't built, until no more can be; or says whether all is."""
+    """Does what the words ask for."""
     words = argparse.ArgumentParser(description="Proves and builds the libraries that a crate stands on, side by side.",
-                                    epilog="Example: crates/prove.py mseed")
-    words.add_argument("--is-proved", action="store_true", help="prove nothing: status 0 where all is proved, else 1")
-    words.add_argument("crate", choices=sorted(lines()), metavar="CRATE", help="a crate of crates.txt")
+                                    epilog="Example: crates/prove.py mseed run -- --version")
+    words.add_argument("--measure", action="store_true", help="write minutes.txt anew, by what the last proofs took")
+    words.add_argument("crate", nargs="?", choices=sorted(lines()), metavar="CRATE", help="a crate of crates.txt")
+    words.add_argument("command", nargs=argparse.REMAINDER, help="lib or run: build the crate itself, or run it")
     given = words.parse_args()
-    if given.is_proved:
-        return 0 if is_kept(given.crate) else 1
-    on = {crate: below(crate) for crate in below(given.crate)}
-    sizes = {crate: size(crate) for crate in on}
-    ways = {}
-    for crate in sorted(on, key=lambda crate: -len(on[crate])):
-        ways[crate] = sizes[crate] + max((way for at, way in ways.items() if crate in on[at]), default=0)
-    longest = sorted(on, key=ways.get, reverse=True)
-    left = [crate for crate in longest if not (CRATES / crate / BUILT / "stamp").exists()]
-    running: dict[Future, tuple[str, int]] = {}
-    with ThreadPoolExecutor(MOST) as pool:
-        while left or running:
-            waited = {*left, *(crate for crate, _ in running.values())}
-            idle = (os.cpu_count() or 1) - sum(jobs for _, jobs in running.values())
-            ready = [crate for crate in left if not on[crate] & waited][:min(MOST - len(running), idle)]
-            for place, crate in enumerate(ready):
-                jobs = min(PROCESSES, idle - len(ready) + 1) if place == 0 else 1
-                left.remove(crate)
-                running[pool.submit(is_proved, crate, on[crate], jobs)] = crate, jobs
-            for ended in wait(running, return_when=FIRST_COMPLETED).done:
-                crate, _ = running.pop(ended)
-                if not ended.result():
-                    left = [at for at in left if crate not in on[at]]
-    return 0
+    if given.measure:
+        measure()
+        return 0
+    if not given.crate:
+        words.error("no crate is named")
+    if not shutil.which("rt"):
+        print("rt: not found. The toolchain's command has to be on the path: see README.md.", file=sys.stderr)
+        return 2
+    return Build(given.crate, given.command).run()
 
 
 if __name__ == "__main__":

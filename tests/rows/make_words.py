@@ -5,51 +5,20 @@ from __future__ import annotations
 
 import os
 import shutil
-import subprocess
 import tempfile
 from pathlib import Path
-from typing import Sequence
 
-from driver.program import LIMIT, PROGRAM, ROOT, SAMPLES, SOURCES
+from driver.program import SAMPLES
 from driver.rows import Cases, Fact, Skipped, holds
+from driver.stand_in import LONG, Copy
 from driver.tools import rest
 
-LONG = "Proving and building: about 20 minutes the first time."
 BUILT = "Proved and built."
 AUDITED = ["XX_STA__BHZ continuous 2024-01-01T00:00:00.000000 rate 20/1 records 2 samples 32", "records 2 channels 1"]
 BROKEN = ["XX_STA__BHZ broken findings 1 first record 2 offset 128 gap 25001", "records 2 channels 1"]
 # By each of the words, where its file isn't there.
 WORDS = ["audit", "show", "repack"]
 ODD = """a b'c"d.mseed"""
-
-
-class Copy:
-    """A copy of what `make build` reads, beside a stand-in for the toolchain."""
-
-    def __init__(self, folder: Path):
-        self.folder, self.bin = folder / "copy", folder / "bin"
-        for name in ("Makefile", "VERSION", "HANDLES", "crates.txt", "crates/prove.py", *self.sources()):
-            (self.folder / name).parent.mkdir(parents=True, exist_ok=True)
-            shutil.copy(ROOT / name, self.folder / name)
-        shutil.copytree(SAMPLES, self.folder / "samples")
-        self.bin.mkdir()
-        (self.bin / "rt").symlink_to(SOURCES / "local_rt.sh")
-
-    @staticmethod
-    def sources() -> list[str]:
-        """A source of each crate."""
-        found = [path for name in ("lib.rt", "main.rt") for path in (ROOT / "crates").glob(f"*/src/{name}")]
-        return [str(path.relative_to(ROOT)) for path in found]
-
-    def make(self, *words: str, version: str = "a kit") -> tuple[int, list[str], str]:
-        """How `make` ends, the lines that it writes, and what it reports."""
-        env = {**os.environ, "PATH": f"{self.bin}:{os.environ['PATH']}", "RT_PROGRAM": str(PROGRAM),
-               "RT_VERSION": version}
-        for name in ("MAKEFLAGS", "MAKELEVEL", "MFLAGS", "FILE", "OUT"):
-            env.pop(name, None)
-        run = subprocess.run(["make", *words], cwd=self.folder, env=env, stdin=subprocess.DEVNULL, text=True,
-                             stdout=subprocess.PIPE, stderr=subprocess.PIPE, timeout=LIMIT, check=False)
-        return run.returncode, run.stdout.splitlines(), run.stderr
 
 
 def long(copy: Copy) -> Cases:

@@ -1,12 +1,23 @@
 #!/bin/sh
 # A stand-in for the toolchain, as `make build` calls it: it proves nothing, and what it builds is the program that
-# RT_PROGRAM names.
+# RT_PROGRAM names. It says in RT_LOG which crates it began and ended, takes RT_SLEEP seconds for each, and fails for the
+# one that RT_FAILS names.
+crate=$(basename "$PWD")
+logged() { [ -z "$RT_LOG" ] || echo "$1 $crate" >> "$RT_LOG"; }
 case $1 in
     version) echo "${RT_VERSION:-a kit}" ;;
     doc) echo /kit/START-HERE.md ;;
+    lib | run)
+        logged begin
+        mkdir -p out/incremental && sleep "${RT_SLEEP:-0}" || exit 2
+        [ "$crate" != "$RT_FAILS" ] || { echo "fn $crate::it: not proved"; exit 1; }
+        logged end
+        ;;
+esac
+case $1 in
     lib) mkdir -p out/rlib && : > out/rlib/stamp ;;
     run)
-        mkdir -p out && cp "$RT_PROGRAM" out/mseed || exit 2
+        cp "$RT_PROGRAM" out/mseed || exit 2
         while [ "$1" != -- ]; do shift; done
         shift
         out/mseed "$@"

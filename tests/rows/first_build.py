@@ -1,0 +1,197 @@
+"""crates/prove.py, over a stand-in for the toolchain: each crate is begun once those below it are built, the longest
+way first; it is said how far it is; what is interrupted leaves nothing behind and goes on; and what fails is shown."""
+
+from __future__ import annotations
+
+import importlib.util
+import os
+import pty
+import re
+import signal
+import subprocess
+import tempfile
+import time
+from pathlib import Path
+from types import ModuleType
+
+from driver.program import CRATES, LIMIT
+from driver.rows import Cases, Fact, holds
+from driver.stand_in import FIRST, NEXT, Copy
+
+PROGRAM = ["mseed", "run", "--", "audit"]
+# Seconds for each crate, so that some are on their way when it is looked.
+SLOW = "0.3"
+
+
+def loaded() -> ModuleType:
+    """crates/prove.py as a module."""
+    spec = importlib.util.spec_from_file_location("prove", CRATES / "prove.py")
+    module = importlib.util.module_from_spec(spec)
+    spec.loader.exec_module(module)
+    return module
+
+
+prove = loaded()
+
+
+def reckoned() -> Cases:
+    """The order and what is left, by hand: c stands on b, b on a, and d on a. A fifth of what a crate takes is for one
+    process alone."""
+    on = {"a": set(), "b": {"a"}, "c": {"a", "b"}, "d": {"a"}}
+    costs = {"a": 1.0, "b": 2.0, "c": 4.0, "d": 5.0}
+    found = prove.ways(on, {crate: prove.Cost(minutes, 1) for crate, minutes in costs.items()})
+    yield Fact("the longest ways up", {"a": 7.0, "b": 6.0, "c": 4.0, "d": 5.0}, found)
+    for cores, left, wanted in [(1, costs, 12.0), (2, costs, 6.7), (4, costs, 4.05), (1, {"c": 4.0}, 4.0),
+                                (4, {"c": 4.0}, 1.6), (4, {"a": 2.0, "b": 2.0, "c": 2.0}, 2.4), (8, {"d": 2.0}, 0.6)]:
+        yield Fact(f"what is left of {left} on {cores} cores", wanted, round(prove.minutes_left(left, on, cores), 3))
+    for cores, wanted in [(1, (1, 1, 1)), (2, (2, 1, 1)), (4, (4, 3, 1)), (8, (8, 7, 3)), (64, (8, 8, 8))]:
+        yield Fact(f"the processes of a crate alone, on the longest way and elsewhere, on {cores} cores", wanted,
+                   (prove.processes(cores, True, True), prove.processes(cores, True, False),
+                    prove.processes(cores, False, False)))
+    yield from by_memory()
+
+
+def by_memory() -> Cases:
+    """As many as there is memory for are begun side by side, and one in any case."""
+    build = prove.Build("mseed", ["run"])
+    libraries = set(build.on) - {"mseed"}
+    build.left = sorted(build.on, key=build.ways.get, reverse=True)
+    build.costs, build.cores = {crate: prove.Cost(1, 2) for crate in build.on}, 4
+    low = {crate for crate in libraries if not build.on[crate]}
+    for free, wanted in [(0.5, 1), (3.9, 1), (4, len(low)), (64, len(low))]:
+        build.free = free
+        found = build.ready(libraries)
+        yield Fact(f"with {free} GB so many of 2 GB are begun", (wanted, set()), (len(found), set(found) - low))
+
+
+def ordered(copy: Copy) -> Cases:
+    """What is begun and when, and what is said."""
+    status, (first, *others) = copy.prove(*PROGRAM, RT_SLEEP="0.1")
+    yield Fact("prove.py mseed ends", 0, status)
+    yield holds("it says at first how long it may take", FIRST.fullmatch(first), first)
+    said = [NEXT.fullmatch(line) for line in others]
+    asked = {"mseed", *prove.below("mseed")}
+    yield holds("then it has a line for each crate", all(said) and len(said) == len(asked), others)
+    yield Fact("which counts them", [(at, len(asked)) for at in range(1, len(asked) + 1)],
+               [(int(found[2]), int(found[3])) for found in said])
+    yield Fact("each crate is named once", asked, {found[1] for found in said})
+    yield Fact("at the end nothing is left", "0", said[-1][4])
+    begun: dict[str, set[str]] = {}
+    ended: set[str] = set()
+    most = 0
+    for word, crate in copy.logged():
+        if word == "begin":
+            begun[crate] = set(ended)
+        else:
+            ended.add(crate)
+        most = max(most, len(begun) - len(ended))
+    yield Fact("each crate is proved once, after those below it", [],
+               [crate for crate in asked if not prove.below(crate) <= begun.get(crate, set())])
+    yield holds("several side by side", min(2, len(os.sched_getaffinity(0))) <= most <= prove.MOST, most)
+    yield Fact("the last is the program", "mseed", list(begun)[-1])
+    status, lines = copy.prove(*PROGRAM)
+    yield Fact("and once more: only the program is looked at", (0, [], [("begin", "mseed"), ("end", "mseed")]),
+               (status, lines, copy.logged()))
+    yield Fact("no room is left", [], list(copy.folder.glob("crates/*/out/room")))
+
+
+def measured(copy: Copy) -> Cases:
+    """What first proofs took is written down."""
+    minutes = copy.folder / "crates" / "minutes.txt"
+    head = minutes.read_text(encoding="utf-8").splitlines()[0]
+    yield Fact("prove.py --measure", (0, []), copy.prove("--measure"))
+    first, *rows = minutes.read_text(encoding="utf-8").splitlines()
+    yield Fact("the first line stays", head, first)
+    rows = {row.split()[0]: row.split()[1:] for row in rows}
+    yield Fact("what was proved has another row", True,
+               all(re.fullmatch(r"0\.0 0\.[0-9]", " ".join(rows[at])) for at in prove.below("mseed")))
+    listed = {line.split()[0] for line in (CRATES / "minutes.txt").read_text(encoding="utf-8").splitlines()[1:]}
+    yield Fact("the repository's has all that the program and the library for C stand on", set(),
+               {"mseed", "mseed_c", *prove.below("mseed"), *prove.below("mseed_c")} - listed)
+
+
+def interrupted(copy: Copy) -> Cases:
+    """By each signal that ends a command: what was proved stays, and the same command goes on."""
+    done: set[str] = set()
+    for name in (signal.SIGINT, signal.SIGTERM, signal.SIGHUP):
+        run = copy.proving(*PROGRAM, RT_SLEEP=SLOW)
+        lines = [run.stdout.readline() for _ in range(3)]
+        run.send_signal(name)
+        rest = run.communicate(timeout=LIMIT)[0].splitlines()
+        yield Fact(f"{name.name}: it ends", (130, "Interrupted: the same command goes on from here."),
+                   (run.returncode, rest[-1]))
+        log = copy.logged()
+        ended = {crate for word, crate in log if word == "end"}
+        yield Fact(f"{name.name}: nothing is proved twice", set(), done & ended)
+        done |= {line.split(":")[0] for line in [*lines[1:], *rest[:-1]]}
+        yield Fact(f"{name.name}: no room is left", [], list(copy.folder.glob("crates/*/out/room")))
+        begun = {crate for word, crate in log if word == "begin"}
+        yield Fact(f"{name.name}: what was kept of a check stays", set(),
+                   {at for at in begun if not (copy.folder / "crates" / at / "out" / "incremental").is_dir()})
+        time.sleep(float(SLOW) * 2)
+        yield Fact(f"{name.name}: nothing runs on", [], copy.logged())
+    run = copy.proving(*PROGRAM, RT_SLEEP=SLOW)
+    run.stdout.readline()
+    run.stdout.close()
+    yield Fact("where nobody reads what it says, it ends and leaves no room", (True, []),
+               (run.wait(LIMIT) != 0, list(copy.folder.glob("crates/*/out/room"))))
+    run = copy.proving(*PROGRAM, RT_SLEEP=SLOW)
+    run.stdout.readline()
+    run.kill()
+    run.communicate(timeout=LIMIT)
+    copy.logged()
+    status, lines = copy.prove(*PROGRAM)
+    built = [crate for crate in prove.below("mseed") if (copy.folder / "crates" / crate / "out/rlib/stamp").exists()]
+    yield Fact("after all of these, and one that was killed, it goes on to the end",
+               (0, prove.below("mseed"), []), (status, set(built), list(copy.folder.glob("crates/*/out/room"))))
+
+
+def failing(copy: Copy) -> Cases:
+    """A crate that isn't proved: what was printed of it is shown, and nothing above it is begun."""
+    status, lines = copy.prove(*PROGRAM, RT_FAILS="mseed_steim")
+    yield Fact("a crate that isn't proved", (1, "fn mseed_steim::it: not proved"), (status, lines[-1]))
+    begun = {crate for word, crate in copy.logged() if word == "begin"}
+    above = {crate for crate in prove.lines() if "mseed_steim" in prove.below(crate)}
+    yield Fact("nothing above it is begun", set(), above & begun)
+    yield holds("what doesn't stand on it is proved", {"slink_feed", "slink_links"} <= begun, begun)
+    (copy.bin / "rt").unlink()
+    run = subprocess.run(["/usr/bin/env", "python3", "crates/prove.py", *PROGRAM], cwd=copy.folder,
+                         env=copy.environment(PATH=os.defpath), capture_output=True, text=True, check=False)
+    yield Fact("with no toolchain", (2, "", "rt: not found. The toolchain's command has to be on the path: "
+                                     "see README.md.\n"), (run.returncode, run.stdout, run.stderr))
+
+
+def on_a_terminal(copy: Copy) -> Cases:
+    """There one line moves."""
+    ours, its = pty.openpty()
+    run = subprocess.Popen(["python3", "crates/prove.py", *PROGRAM], cwd=copy.folder, stdin=subprocess.DEVNULL,
+                           env=copy.environment(RT_SLEEP="0.1"), stdout=its, stderr=its)
+    os.close(its)
+    said = b""
+    while True:
+        try:
+            more = os.read(ours, 4096)
+        except OSError:
+            break
+        said += more
+        if not more:
+            break
+    os.close(ours)
+    first, *moved = said.decode().split("\r\033[K")
+    yield Fact("on a terminal it ends", 0, run.wait(LIMIT))
+    yield holds("it says at first how long it may take", FIRST.fullmatch(first.strip()), first)
+    yield holds("then one line moves", len(moved) > 3 and not any("\n" in line for line in moved), moved)
+    yield holds("which says how far it is",
+                all(re.fullmatch(r"\d+ of \d+ crates proved, about \d+ min left: [\w, ]*", line)
+                    for line in moved[:-1]), moved)
+    yield Fact("and is gone at the end", "", moved[-1])
+
+
+def rows() -> Cases:
+    """All of them."""
+    yield from reckoned()
+    for part in ([ordered, measured], [interrupted], [failing], [on_a_terminal]):
+        with tempfile.TemporaryDirectory() as folder:
+            copy = Copy(Path(folder))
+            for cases in part:
+                yield from cases(copy)
