@@ -5,8 +5,8 @@
 # make lib              the library for C, C++ and Python, in crates/mseed_c/out/lib
 # make install          the program, its manual pages, the tools, and what make lib built, below /usr/local or PREFIX=..
 # make uninstall        removes what make install put there, and nothing else
-# make test             the whole gate, then all row files of the tests
-# make edits            tries the wrong bodies that the gate leaves: docs/developing.md
+# make test             the whole gate, then all row files of the tests, and a tenth of tests/must-fail
+# make edits            tries all wrong bodies of tests/must-fail: docs/developing.md
 # make tools-test       the row files of the tools beside the program: tools/README.md
 # make packages         installs what some tests want besides: tests/packages.txt, by apt-get where it can be had
 # make dist             an archive of the sources, which builds and tests without git

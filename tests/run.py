@@ -8,7 +8,8 @@ Runs the row files in tests/rows, N side by side (as many as there are cores, wh
 are named. The program is that of the build, or the one that $MSEED names; where there is none, it is built first. With
 --gate the toolchain's own gate (`rt ci`) runs before, from nothing, and its count is added. A row that fails is printed
 with what was expected and what came, with -v also each one that passes. What isn't installed is counted as skipped and
-named. With --gate what it all took stands before the last line, which is `N passed, M failed`.
+named. With --gate a tenth of the edits of tests/must-fail is tried too (edits.py), and what it all took stands before
+the last line, which is `N passed, M failed`.
 """
 
 from __future__ import annotations
@@ -23,6 +24,7 @@ import sys
 import time
 from pathlib import Path
 
+import edits
 from driver import library
 from driver.counting import Count, names
 from driver.program import BUILT, PROGRAM, ROOT
@@ -46,6 +48,17 @@ def gate() -> Count:
         print(f"FAILED rt ci: status {run.returncode}, {last.strip() or 'and no count'}")
         count.failed += 1
     return count
+
+
+def edits_in_turn() -> Count:
+    """Tries the tenth of tests/must-fail whose turn it is. Where one isn't refused, the toolchain says which."""
+    part, parts = edits.turn(), edits.tenths()
+    print(f"edits of tests/must-fail: tenth {part + 1} of {len(parts)}, {len(parts[part])} edits", flush=True)
+    status = edits.tried(parts[part])
+    if status == 0:
+        return Count(passed=len(parts[part]))
+    print(f"FAILED tests/edits.py --tenth: status {status}")
+    return Count(failed=1)
 
 
 def is_built() -> bool:
@@ -99,6 +112,7 @@ def main() -> int:
         print(f"FAILED {PROGRAM}: no program")
         count.failed += 1
     if given.gate:
+        count.add(edits_in_turn())
         print(taken(began))
     print(count.lines())
     return 1 if count.failed else 0
