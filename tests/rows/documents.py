@@ -21,7 +21,7 @@ from driver.program import ROOT
 from driver.rows import Cases, Fact
 
 DOCUMENTS = ["README.md", "docs/promises.md", "docs/developing.md", "docs/architecture.md", "docs/protocol.md",
-             "docs/texts.md", "docs/headline.md"]
+             "docs/texts.md", "docs/headline.md", "docs/glossary.md"]
 QUOTING = "docs/headline.md"
 
 COLUMNS = 120
