@@ -1,0 +1,97 @@
+-- A text that is gathered, and written some at a time.
+use Rattle.std.proofs.Common.{◌≡◌, ℕ, ◌+◌, ◌++◌, List, [], length, take, refl, sym, ap, ◌∙◌, subst, append_assoc}
+use Rattle.std.proofs.Common.{append-nil, arith}
+use Rattle.std.proofs.lemmas.List.{length-append}
+use Rattle.std.proofs.Math.Seq.{take-append-add, take-append_seam}
+use Rattle.mseed_stream.specs.Device.{BytesWritten}
+use Rattle.mseed_text.specs.Gathered.{AreGathered, EmittedFirst, EmittedPart}
+
+-- nothing was taken
+pub gathered_all : (s : BytesWritten) (text : List ℕ) → AreGathered s s text text
+gathered_all s text = record { taken = []; bytes = sym (append-nil s.bytes); joined = refl }
+
+-- what was taken is a prefix
+pub gathered_first : (first old : BytesWritten) (text lines : List ℕ) → AreGathered first old text lines
+    → EmittedFirst first old lines
+gathered_first first old text lines g =
+    let prefix : g.taken ≡ take (length g.taken) lines = sym (take-append_seam g.taken text)
+    ∙ ap (λ (xs : List ℕ). take (length g.taken) xs) g.joined in
+    (length g.taken, g.bytes ∙ ap (λ (xs : List ℕ). first.bytes ++ xs) prefix)
+
+-- the whole, behind what was taken before
+pub behind : (first old : BytesWritten) (text lines tail : List ℕ) (before : AreGathered first old text lines)
+    → before.taken ++ (text ++ tail) ≡ lines ++ tail
+behind first old text lines tail before = sym (append_assoc before.taken text tail)
+    ∙ ap (λ (xs : List ℕ). xs ++ tail) before.joined
+
+-- lines were added to what is gathered, and perhaps written
+pub gathered_more : (first old new : BytesWritten) (text next lines line : List ℕ)
+    → AreGathered first old text lines → AreGathered old new next (text ++ line)
+    → AreGathered first new next (lines ++ line)
+gathered_more first old new text next lines line before after = record {
+  taken = before.taken ++ after.taken;
+  bytes = after.bytes ∙ ap (λ (xs : List ℕ). xs ++ after.taken) before.bytes
+      ∙ append_assoc first.bytes before.taken after.taken;
+  joined = append_assoc before.taken after.taken next ∙ ap (λ (xs : List ℕ). before.taken ++ xs) after.joined
+      ∙ behind first old text lines line before;
+}
+
+-- what is gathered was written
+pub gathered_written : (first old new : BytesWritten) (text rest lines : List ℕ) → AreGathered first old text lines
+    → new.bytes ≡ old.bytes ++ text → rest ≡ [] → AreGathered first new rest lines
+gathered_written first old new text rest lines before written none = record {
+  taken = before.taken ++ text;
+  bytes = written ∙ ap (λ (xs : List ℕ). xs ++ text) before.bytes ∙ append_assoc first.bytes before.taken text;
+  joined = ap (λ (xs : List ℕ). (before.taken ++ text) ++ xs) none ∙ append-nil (before.taken ++ text) ∙ before.joined;
+}
+
+-- the whole was written, with what follows
+pub all_behind : (first old new : BytesWritten) (text lines tail : List ℕ) → AreGathered first old text lines
+    → new.bytes ≡ old.bytes ++ (text ++ tail) → new.bytes ≡ first.bytes ++ (lines ++ tail)
+all_behind first old new text lines tail before written =
+    written ∙ ap (λ (xs : List ℕ). xs ++ (text ++ tail)) before.bytes
+    ∙ append_assoc first.bytes before.taken (text ++ tail)
+    ∙ ap (λ (xs : List ℕ). first.bytes ++ xs) (behind first old text lines tail before)
+
+-- or the first bytes of it
+taken_behind : (first old new : BytesWritten) (text lines tail : List ℕ) (n : ℕ)
+    (before : AreGathered first old text lines)
+    → new.bytes ≡ old.bytes ++ take n (text ++ tail)
+    → new.bytes ≡ first.bytes ++ take (length before.taken + n) (lines ++ tail)
+taken_behind first old new text lines tail n before taken =
+    taken ∙ ap (λ (xs : List ℕ). xs ++ take n (text ++ tail)) before.bytes
+    ∙ append_assoc first.bytes before.taken (take n (text ++ tail))
+    ∙ ap (λ (xs : List ℕ). first.bytes ++ xs) (sym (take-append-add before.taken (text ++ tail) n))
+    ∙ ap (λ (xs : List ℕ). first.bytes ++ take (length before.taken + n) xs) (behind first old text lines tail before)
+
+pub first_behind : (first old new : BytesWritten) (text lines tail : List ℕ) → AreGathered first old text lines
+    → EmittedFirst old new (text ++ tail) → EmittedFirst first new (lines ++ tail)
+first_behind first old new text lines tail before emitted =
+    (length before.taken + emitted.0, taken_behind first old new text lines tail emitted.0 before emitted.1)
+
+pub part_behind : (first old new : BytesWritten) (text lines tail : List ℕ) → AreGathered first old text lines
+    → EmittedPart old new (text ++ tail) → EmittedPart first new (lines ++ tail)
+part_behind first old new text lines tail before emitted =
+    let size : length before.taken + length (text ++ tail) ≡ length (lines ++ tail) =
+    sym (length-append before.taken (text ++ tail))
+    ∙ ap (λ (xs : List ℕ). length xs) (behind first old text lines tail before) in (
+      length before.taken + emitted.0,
+      (omega (arith, emitted.1.0, size), taken_behind first old new text lines tail emitted.0 before emitted.1.1),
+    )
+
+-- with nothing behind
+none_behind : (P Q : List ℕ → Type 0) (text lines : List ℕ) → (P (text ++ []) → Q (lines ++ [])) → P text → Q lines
+none_behind P Q text lines step p =
+    subst (λ (xs : List ℕ). Q xs) (append-nil lines)
+    (step (subst (λ (xs : List ℕ). P xs) (sym (append-nil text)) p))
+
+pub first_of : (first old new : BytesWritten) (text lines : List ℕ) → AreGathered first old text lines
+    → EmittedFirst old new text → EmittedFirst first new lines
+first_of first old new text lines before =
+    none_behind (EmittedFirst old new) (EmittedFirst first new) text lines
+    (first_behind first old new text lines [] before)
+
+pub part_of : (first old new : BytesWritten) (text lines : List ℕ) → AreGathered first old text lines
+    → EmittedPart old new text → EmittedPart first new lines
+part_of first old new text lines before =
+    none_behind (EmittedPart old new) (EmittedPart first new) text lines (part_behind first old new text lines [] before)

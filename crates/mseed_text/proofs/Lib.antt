@@ -1,0 +1,5 @@
+pub mod Codes
+pub mod Decimals
+pub mod Gathered
+pub mod Prefixes
+pub mod Trims

@@ -1,0 +1,5 @@
+use Rattle.mseed_time.proofs.Digits.{digits_at}
+use Rattle.mseed_text.proofs.digits.pair.Goals as goal
+
+pub returns : goal.returns
+returns c = digits_at c.args.number c.requires

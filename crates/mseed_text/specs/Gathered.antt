@@ -1,0 +1,17 @@
+-- A text that is gathered, and written some at a time.
+use Rattle.std.specs.Prelude.{◌≡◌, ◌<◌, ℕ, List, ◌++◌, length, take}
+use Rattle.mseed_stream.specs.Device.{BytesWritten}
+
+-- the output accepted the first bytes of a text
+abbrev pub EmittedFirst : BytesWritten → BytesWritten → List ℕ → Type 0
+EmittedFirst old new text = (count : ℕ) × (new.bytes ≡ old.bytes ++ take count text)
+
+-- and not all of it
+abbrev pub EmittedPart : BytesWritten → BytesWritten → List ℕ → Type 0
+EmittedPart old new text = (count : ℕ) × ((count < length text) × (new.bytes ≡ old.bytes ++ take count text))
+
+-- the output accepted some bytes, and with those that are gathered they are a text
+pub record AreGathered (old new : BytesWritten) (gathered text : List ℕ) : Type 0 where
+  pub taken : List ℕ
+  pub bytes : new.bytes ≡ old.bytes ++ taken
+  pub joined : taken ++ gathered ≡ text

@@ -1,0 +1,4 @@
+pub mod Fault
+pub mod Gathered
+pub mod Name
+pub mod Time

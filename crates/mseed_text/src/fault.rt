@@ -1,0 +1,90 @@
+//! The line of a stream's fault.
+ghost use Rattle.std.specs.Prelude.{◌≡◌, ◌≤◌, ◌+◌, ◌++◌, OnErr, OnOk, codes, decimal, length};
+ghost use Rattle.mseed_stream.specs.Device.{IsPrefixOf};
+ghost use Rattle.mseed_text.specs.Fault.{fault_line, frame_words};
+
+use crate::line::{Line, push_line};
+use mseed_record::FrameFault;
+use mseed_stream::StreamFault;
+use std::alloc::{AllocError, Allocator};
+
+impl Line {
+    /// Puts the line of a stream's fault behind it, with its LF; nothing for a want of memory. It has at most 61 bytes.
+    pub fn put_fault_line(&mut self, fault: &StreamFault)
+        requires room { length self.old + 61 ≤ 256 }
+        ensures text { self.new ≡ self.old ++ fault_line fault.now }
+        ensures most { length self.new ≤ length self.old + 61 }
+    {
+        match fault {
+            StreamFault::Frame(offset, fault) => {
+                self.put_offset(*offset);
+                self.put(b" ");
+                self.put_frame_words(fault);
+                self.put(b"\n");
+            }
+            StreamFault::Truncated(offset, have) => {
+                self.put_offset(*offset);
+                self.put(b" truncated ");
+                self.put_count(*have as u64);
+                self.put(b"\n");
+            }
+            StreamFault::Read(offset) => {
+                self.put_offset(*offset);
+                self.put(b" read\n");
+            }
+            StreamFault::Turns(offset) => {
+                self.put_offset(*offset);
+                self.put(b" turns\n");
+            }
+            StreamFault::Memory => {}
+        }
+    }
+
+    /// Puts where a fault stands.
+    fn put_offset(&mut self, offset: u64)
+        requires { length self.old + 29 ≤ 256 }
+        ensures text { self.new ≡ self.old ++ (codes "fault at " ++ decimal offset) }
+        ensures most { length self.new ≤ length self.old + 29 }
+    {
+        self.put(b"fault at ");
+        self.put_count(offset);
+    }
+
+    /// Puts why bytes begin no record.
+    fn put_frame_words(&mut self, fault: &FrameFault)
+        requires { length self.old + 27 ≤ 256 }
+        ensures text { self.new ≡ self.old ++ frame_words fault.now }
+        ensures most { length self.new ≤ length self.old + 27 }
+    {
+        match fault {
+            FrameFault::NotData => self.put(b"notdata"),
+            FrameFault::Order => self.put(b"order"),
+            FrameFault::Chain => self.put(b"chain"),
+            FrameFault::No1000 => self.put(b"no1000"),
+            FrameFault::Length(exponent) => {
+                self.put(b"length ");
+                self.put_count(u64::from(*exponent));
+            }
+            FrameFault::Outside => self.put(b"outside"),
+            FrameFault::Version3 => self.put(b"version3"),
+        }
+    }
+}
+
+/// Adds the line of a stream's fault to a text; none for a want of memory.
+///
+/// # Errors
+///
+/// `AllocError` where memory is refused. The text is as it was.
+pub fn push_fault_line<A: Allocator>(
+    text: &mut Vec<u8, A>,
+    fault: &StreamFault,
+) -> Result<(), AllocError>
+    ensures ok { OnOk result (text.new.items ≡ text.old.items ++ fault_line fault.now) }
+    ensures unchanged { OnErr result (text.new.items ≡ text.old.items) }
+    ensures prefix { IsPrefixOf text.old.items text.new.items }
+{
+    let mut line = Line::new();
+    line.put_fault_line(fault);
+    push_line(text, line.as_slice())
+}

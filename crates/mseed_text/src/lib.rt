@@ -1,0 +1,11 @@
+//! Lines of text: one that is built in place, and how channels, instants, rates and faults are written in it.
+#![tactic(auto)]
+
+mod digits;
+mod fault;
+mod line;
+mod name;
+mod time;
+
+pub use fault::push_fault_line;
+pub use line::{Line, push_line};

@@ -1,0 +1,134 @@
+//! A line that is built in place, and added to a text at once.
+ghost use Rattle.std.specs.Prelude.{◌≡◌, ◌≤◌, ◌+◌, [], ◌++◌, OnErr, OnOk, length, map, take};
+ghost use Rattle.mseed_stream.specs.Device.{IsPrefixOf};
+ghost use Rattle.mseed_text.specs.Name.{code_text, printed};
+
+use crate::name::{printed, trimmed};
+use std::alloc::{AllocError, Allocator};
+use std::marker::Model;
+
+/// The most bytes of a line.
+const ROOM: usize = 256;
+
+/// A text has room for so many bytes at least, if for any.
+const LEAST_ROOM: usize = 8;
+
+/// A line of up to 256 bytes, as far as it is built. It takes no memory, and is added to a text at once.
+///
+/// Contracts see a line as its bytes.
+#[derive(Drop)]
+pub struct Line {
+    bytes: [u8; ROOM],
+    len: usize,
+}
+
+impl Model for Line {
+    ghost use Rattle.std.specs.Prelude.{◌≤◌, ℕ, List, take};
+
+    ghost Value = { List ℕ };
+
+    ghost view = { λ l. take l.len l.bytes };
+
+    ghost invariant = { λ l. l.len ≤ 256 };
+}
+
+impl Line {
+    /// An empty line.
+    #[inline(always)]
+    pub fn new() -> Line
+        ensures { result ≡ [] }
+    {
+        Line {
+            bytes: [0; ROOM],
+            len: 0,
+        }
+    }
+
+    /// Its bytes.
+    #[inline(always)]
+    pub fn as_slice(&self) -> &[u8]
+        ensures { result.now ≡ self.now }
+    {
+        &self.bytes[..self.len]
+    }
+
+    /// Puts bytes behind it, which have room there.
+    #[inline(always)]
+    pub fn put(&mut self, bytes: &[u8])
+        requires room { length self.old + length bytes.now ≤ 256 }
+        ensures text { self.new ≡ self.old ++ bytes.now }
+        ensures len { length self.new ≡ length self.old + length bytes.now }
+    {
+        let end = self.len + bytes.len();
+        self.bytes[self.len..end].copy_from_slice(bytes);
+        self.len = end;
+    }
+
+    /// Puts a code without its trailing spaces and NULs. Those are written too, behind the end, so that the number of
+    /// writes is known.
+    #[inline(always)]
+    pub(crate) fn put_code(&mut self, code: &[u8])
+        requires { length self.old + length code.now ≤ 256 }
+        ensures text { self.new ≡ self.old ++ code_text code.now }
+        ensures most { length self.new ≤ length self.old + length code.now }
+    {
+        let begin = self.len;
+        write_printed(&mut self.bytes, begin, code);
+        self.len = begin + trimmed(code).len();
+    }
+}
+
+/// Writes the bytes of a code at a place, each as it is printed.
+#[inline(always)]
+fn write_printed(room: &mut [u8; ROOM], place: usize, code: &[u8])
+    requires { place + length code.now ≤ 256 }
+    ensures { take (place + length code.now) room.new ≡ take place room.old ++ map printed code.now }
+{
+    for index in 0..code.len() {
+        room[place + index] = printed(code[index]);
+    }
+}
+
+/// Adds a line to a text. The room of a text begins with what the first word of its first line takes, and doubles until
+/// a line has room: so no text asks for more memory than one to which the words are added one by one.
+///
+/// # Errors
+///
+/// `AllocError` where memory is refused. The text is as it was.
+#[inline(always)]
+pub fn push_line<A: Allocator>(text: &mut Vec<u8, A>, line: &[u8]) -> Result<(), AllocError>
+    ensures ok { OnOk result (text.new.items ≡ text.old.items ++ line.now) }
+    ensures unchanged { OnErr result (text.new.items ≡ text.old.items) }
+    ensures prefix { IsPrefixOf text.old.items text.new.items }
+{
+    if text.capacity() - text.len() < line.len() {
+        make_room(text, line)?;
+    }
+    text.extend_from_slice(line)
+}
+
+/// Makes room for a line. What the text holds stays, whatever the result.
+#[cold]
+#[inline(never)]
+fn make_room<A: Allocator>(text: &mut Vec<u8, A>, line: &[u8]) -> Result<(), AllocError>
+    ensures { text.new.items ≡ text.old.items }
+{
+    let least = text.len().saturating_add(line.len());
+    let mut room = text.capacity().max(first_word(line)).max(LEAST_ROOM);
+    for _ in 0..usize::BITS {
+        if room < least {
+            room = room.saturating_mul(2);
+        }
+    }
+    text.reserve_exact(room.saturating_sub(text.len()))
+}
+
+/// How many bytes stand before the first space.
+fn first_word(line: &[u8]) -> usize {
+    for index in 0..line.len() {
+        if line[index] == b' ' {
+            return index;
+        }
+    }
+    line.len()
+}
