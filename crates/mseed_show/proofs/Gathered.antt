@@ -1,16 +1,17 @@
 -- The lines of a listing, record after record.
-use Rattle.std.proofs.Common.{◌≡◌, ℕ, ◌+◌, ◌++◌, List, [], ◌∷◌, length, ◌≤◌, take, map, refl, sym, ap, ◌∙◌, subst}
+use Rattle.std.proofs.Common.{◌≡◌, ℕ, ◌+◌, ◌++◌, List, [], ◌∷◌, length, ◌≤◌, map, refl, sym, ap, ◌∙◌, subst}
 use Rattle.std.proofs.Common.{append_assoc, arith, inl, inr, Option, Result, Ok, Err}
 use Rattle.std.proofs.lemmas.List.{append-nil, length-append}
-use Rattle.std.proofs.Math.Seq.{take-append-add, take-length}
+use Rattle.std.proofs.Math.Seq.{take-length}
 use Rattle.std.specs.List.{concat}
 use Rattle.mseed_record.specs.View.{View}
 use Rattle.mseed_stream.specs.Device.{BytesRead, BytesWritten}
 use Rattle.mseed_stream.specs.declared.fault.StreamFault.{StreamFault}
 use Rattle.mseed_show.specs.Listing.{record_line, record_lines, count_line}
 use Rattle.mseed_stream.specs.Walk.{AreViews}
-pub use Rattle.mseed_audit.proofs.Gathers.{gathered_all, gathered_first}
-use Rattle.mseed_audit.specs.Text.{end_line}
+use Rattle.mseed_text.specs.Fault.{end_line}
+use Rattle.mseed_text.proofs.Gathered.{all_behind, first_behind, first_of, gathered_first, gathered_more, part_behind}
+use Rattle.mseed_text.proofs.Gathered.{part_of}
 use Rattle.mseed_show.specs.Show.{EndsShort, IsListed, IsShown, EmittedFirst, EmittedPart, show_text}
 use Rattle.std.specs.Result.{IsErrAnd}
 use Rattle.mseed_stream.specs.Standing.{Standing}
@@ -20,54 +21,6 @@ use Rattle.mseed_show.specs.private.Gathering.{AreGathered, IsPrefixWritten, IsG
 use Rattle.mseed_show.specs.private.Gathering.{HasLines}
 use Rattle.mseed_show.specs.declared.fault.ShowFault.{ShowFault}
 use Rattle.mseed_show.specs.declared.fault.ShowFault.TheVariants.{Write, Memory}
-
--- some more was added to what is gathered, and perhaps written
-pub gathered_more : (first old new : BytesWritten) (text next lines line whole : List ℕ)
-    → AreGathered first old text lines → AreGathered old new next (text ++ line) → whole ≡ lines ++ line
-    → AreGathered first new next whole
-gathered_more first old new text next lines line whole before after e = record {
-  taken = before.taken ++ after.taken;
-  bytes = after.bytes ∙ ap (λ (xs : List ℕ). xs ++ after.taken) before.bytes
-      ∙ append_assoc first.bytes before.taken after.taken;
-  joined = append_assoc before.taken after.taken next ∙ ap (λ (xs : List ℕ). before.taken ++ xs) after.joined
-      ∙ sym (append_assoc before.taken text line)
-      ∙ ap (λ (xs : List ℕ). xs ++ line) before.joined ∙ sym e;
-}
-
--- the whole, behind what was taken before
-behind : (first old : BytesWritten) (text lines tail whole : List ℕ) (before : AreGathered first old text lines)
-    → whole ≡ lines ++ tail → before.taken ++ (text ++ tail) ≡ whole
-behind first old text lines tail whole before e = sym (append_assoc before.taken text tail)
-    ∙ ap (λ (xs : List ℕ). xs ++ tail) before.joined ∙ sym e
-
-prefix_behind : (first old new : BytesWritten) (text lines tail whole : List ℕ) (n : ℕ)
-    (before : AreGathered first old text lines) → whole ≡ lines ++ tail
-    → new.bytes ≡ old.bytes ++ take n (text ++ tail) → new.bytes ≡ first.bytes ++ take (length before.taken + n) whole
-prefix_behind first old new text lines tail whole n before e taken =
-    taken ∙ ap (λ (xs : List ℕ). xs ++ take n (text ++ tail)) before.bytes
-    ∙ append_assoc first.bytes before.taken (take n (text ++ tail))
-    ∙ ap (λ (xs : List ℕ). first.bytes ++ xs) (sym (take-append-add before.taken (text ++ tail) n))
-    ∙ ap (λ (xs : List ℕ). first.bytes ++ take (length before.taken + n) xs)
-    (behind first old text lines tail whole before e)
-
-pub first_behind : (first old new : BytesWritten) (text lines tail whole : List ℕ) → AreGathered first old text lines
-    → whole ≡ lines ++ tail → EmittedFirst old new (text ++ tail) → EmittedFirst first new whole
-first_behind first old new text lines tail whole before e emitted =
-    (length before.taken + emitted.0, prefix_behind first old new text lines tail whole emitted.0 before e emitted.1)
-
-pub part_behind : (first old new : BytesWritten) (text lines tail whole : List ℕ) → AreGathered first old text lines
-    → whole ≡ lines ++ tail → EmittedPart old new (text ++ tail) → EmittedPart first new whole
-part_behind first old new text lines tail whole before e emitted =
-    let size : length before.taken + length (text ++ tail) ≡ length whole =
-    sym (length-append before.taken (text ++ tail))
-    ∙ ap (λ (xs : List ℕ). length xs) (behind first old text lines tail whole before e) in (
-      length before.taken + emitted.0,
-      (
-        omega (arith, emitted.1.0, size),
-        prefix_behind first old new text lines tail whole emitted.0 before e
-            emitted.1.1,
-      ),
-    )
 
 lines_from : (offset : ℕ) (views : List View) (v : View) (n : ℕ)
     → n ≡ offset + length (concat (map (λ v. v.bytes) views))
@@ -140,13 +93,20 @@ next_err (Err e) Q views offset before h c s text added shown is q =
     let none : IsPrefixWritten Memory s s text = (refl, (0, sym (append-nil s.bytes))) in
     (subst (λ (f : ShowFault). IsPrefixWritten f s s text) (sym (q e is)) none, shown)
 
+-- some more was added to what is gathered, and perhaps written
+pub gathered_also : (first old new : BytesWritten) (text next lines line whole : List ℕ)
+    → AreGathered first old text lines → AreGathered old new next (text ++ line) → whole ≡ lines ++ line
+    → AreGathered first new next whole
+gathered_also first old new text next lines line whole before after e =
+    subst (λ (xs : List ℕ). AreGathered first new next xs) (sym e)
+    (gathered_more first old new text next lines line before after)
+
 -- some of what is gathered was written
 pub gathered_on : (first old new : BytesWritten) (text rest lines : List ℕ) → AreGathered first old text lines
     → AreGathered old new rest text → AreGathered first new rest lines
 gathered_on first old new text rest lines before written =
-    let some : AreGathered old new rest (text ++ []) = subst (λ (xs : List ℕ). AreGathered old new rest xs)
-    (sym (append-nil text)) written in
-    gathered_more first old new text rest lines [] lines before some (sym (append-nil lines))
+    gathered_also first old new text rest lines [] lines before
+    (subst (λ (xs : List ℕ). AreGathered old new rest xs) (sym (append-nil text)) written) (sym (append-nil lines))
 
 -- none is left
 pub none_left : (text : List ℕ) → length text ≤ 0 → text ≡ []
@@ -164,20 +124,16 @@ pub cut_short : (fault : ShowFault) (h : BytesRead) (first old new : BytesWritte
     → AreViews h.bytes offset views → old.failures ≡ first.failures
     → AreGathered first old text (record_lines 0 views) → IsPrefixWritten fault old new text
     → IsShown (Err fault) h first new
-cut_short Write h first old new text offset views shown same before written =
-    let lines : List ℕ = record_lines 0 views in
-    let emitted = subst (λ (xs : List ℕ). EmittedPart old new xs) (sym (append-nil text)) written.1 in (
-      omega (arith, same, written.0),
-      lines_short (EmittedPart first new) h offset views shown (part_behind first old new text lines [] lines before
-          (sym (append-nil lines)) emitted),
-    )
-cut_short Memory h first old new text offset views shown same before written =
-    let lines : List ℕ = record_lines 0 views in
-    let emitted = subst (λ (xs : List ℕ). EmittedFirst old new xs) (sym (append-nil text)) written.1 in (
-      written.0 ∙ same,
-      lines_short (EmittedFirst first new) h offset views shown (first_behind first old new text lines [] lines before
-          (sym (append-nil lines)) emitted),
-    )
+cut_short Write h first old new text offset views shown same before written = (
+  omega (arith, same, written.0),
+  lines_short (EmittedPart first new) h offset views shown
+      (part_of first old new text (record_lines 0 views) before written.1),
+)
+cut_short Memory h first old new text offset views shown same before written = (
+  written.0 ∙ same,
+  lines_short (EmittedFirst first new) h offset views shown
+      (first_of first old new text (record_lines 0 views) before written.1),
+)
 
 pub gathered_err : (r : Result (ℕ × Option StreamFault) ShowFault) (Q : ShowFault → Type 0) (fault : ShowFault)
     (h : BytesRead) (old new : BytesWritten) (text : List ℕ) → IsErrAnd r Q → ((e : ShowFault) → Q e → e ≡ fault)
@@ -204,15 +160,11 @@ pub listed : (records : ℕ) (end : Option StreamFault) (h : BytesRead) (first o
     → whole ≡ text ++ count_line records ++ end_line end → new.bytes ≡ old.bytes ++ whole → new.failures ≡ old.failures
     → IsListed end h first new views
 listed records end h first old new text whole views gathered e bytes fine =
-    let tail : List ℕ = count_line (length views) ++ end_line end in
-    let before = gathered.lines in record {
+    let tail : List ℕ = count_line (length views) ++ end_line end in record {
       all = gathered.all;
-      text = bytes ∙ ap (λ (xs : List ℕ). old.bytes ++ xs)
-          (tail_is records end h first old text whole views gathered e)
-          ∙ ap (λ (xs : List ℕ). xs ++ (text ++ tail)) before.bytes
-          ∙ append_assoc first.bytes before.taken (text ++ tail)
-          ∙ ap (λ (xs : List ℕ). first.bytes ++ xs)
-          (behind first old text (record_lines 0 views) tail (show_text views end) before (shown_is views end));
+      text = all_behind first old new text (record_lines 0 views) tail gathered.lines
+          (bytes ∙ ap (λ (xs : List ℕ). old.bytes ++ xs) (tail_is records end h first old text whole views gathered e))
+          ∙ ap (λ (xs : List ℕ). first.bytes ++ xs) (sym (shown_is views end));
       fine = fine ∙ gathered.fine;
     }
 
@@ -239,20 +191,19 @@ end_short fault records end h first old new text whole views gathered e written 
     tail : List ℕ
     tail = count_line (length views) ++ end_line end
 
-    short : (Emitted : List ℕ → Type 0) → Emitted (show_text views end) → EndsShort Emitted h
+    short : (Emitted : List ℕ → Type 0) → Emitted (record_lines 0 views ++ tail) → EndsShort Emitted h
     short Emitted w =
-        (gathered.all.offset, (views, record { shown = gathered.all.records; prefix = inr (end, (gathered.all, w)) }))
+        let all : Emitted (show_text views end) = subst Emitted (sym (shown_is views end)) w in
+        (gathered.all.offset, (views, record { shown = gathered.all.records; prefix = inr (end, (gathered.all, all)) }))
 
     go : (f : ShowFault) → IsPrefixWritten f old new (text ++ tail) → IsShown (Err f) h first new
     go Write w = (
       omega (arith, gathered.fine, w.0),
-      short (EmittedPart first new) (part_behind first old new text (record_lines 0 views) tail (show_text views end)
-          gathered.lines (shown_is views end) w.1),
+      short (EmittedPart first new) (part_behind first old new text (record_lines 0 views) tail gathered.lines w.1),
     )
     go Memory w = (
       w.0 ∙ gathered.fine,
-      short (EmittedFirst first new) (first_behind first old new text (record_lines 0 views) tail (show_text views end)
-          gathered.lines (shown_is views end) w.1),
+      short (EmittedFirst first new) (first_behind first old new text (record_lines 0 views) tail gathered.lines w.1),
     )
 
 pub shown_err : (r : Result (Option StreamFault) ShowFault) (Q : ShowFault → Type 0) (fault : ShowFault)

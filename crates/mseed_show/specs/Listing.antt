@@ -1,30 +1,15 @@
 -- The text of a listing.
-use Rattle.std.specs.Prelude.{ℕ, ◌+◌, Bool, if◌then◌else◌, List, [], ◌∷◌, ◌++◌, length, Option, Some, None, ℤ, codes}
+use Rattle.std.specs.Prelude.{ℕ, ◌+◌, Bool, if◌then◌else◌, List, [], ◌∷◌, ◌++◌, length, Option, Some, None, codes}
 use Rattle.std.specs.Prelude.{decimal}
 use Rattle.mseed_time.specs.declared.order.Order.{Order}
 use Rattle.mseed_time.specs.declared.order.Order.TheVariants.{Big, Little}
-use Rattle.mseed_time.specs.declared.fault.TimeFault.{TimeFault}
-use Rattle.mseed_time.specs.Btime.{first_fault}
 use Rattle.mseed_time.specs.Rate.{Ratio, rate_of}
-use Rattle.mseed_time.specs.Text.{fault_word, time_text}
-use Rattle.mseed_record.specs.Header.{key_at, quality_at, time_at, samples_at, factor_at, multiplier_at}
-use Rattle.mseed_record.specs.View.{View, start_of}
-use Rattle.mseed_audit.specs.Text.{name_text}
+use Rattle.mseed_record.specs.Header.{key_at, quality_at, samples_at, factor_at, multiplier_at}
+use Rattle.mseed_record.specs.View.{View}
+use Rattle.mseed_text.specs.Name.{name_text}
+use Rattle.mseed_text.specs.Time.{ratio_text, start_text}
 
--- a start that is refused: the first field that is out of its range
-abbrev pub time_fault_words : TimeFault → List ℕ
-time_fault_words fault = codes "fault " ++ fault_word fault
-
-abbrev pub start_by : Option TimeFault → ℤ → List ℕ
-start_by None start = time_text start
-start_by (Some fault) start = time_fault_words fault
-
-abbrev pub start_text : View → List ℕ
-start_text v = start_by (first_fault (time_at v.order v.bytes)) (start_of v)
-
-abbrev pub ratio_text : Ratio → List ℕ
-ratio_text rate = decimal rate.num ++ codes "/" ++ decimal rate.den
-
+-- a record's rate, or `none`
 abbrev pub rate_by : Option Ratio → List ℕ
 rate_by (Some rate) = ratio_text rate
 rate_by None = codes "none"

@@ -4,8 +4,8 @@ use Rattle.mseed_record.specs.View.{View}
 use Rattle.mseed_stream.specs.Device.{BytesRead, BytesWritten}
 use Rattle.mseed_stream.specs.declared.fault.StreamFault.{StreamFault}
 use Rattle.mseed_stream.specs.Walk.{AreViews, AreAllViews}
-pub use Rattle.mseed_audit.specs.Each.{EmittedFirst, EmittedPart}
-use Rattle.mseed_audit.specs.Text.{end_line}
+pub use Rattle.mseed_text.specs.Gathered.{EmittedFirst, EmittedPart}
+use Rattle.mseed_text.specs.Fault.{end_line}
 use Rattle.mseed_show.specs.Listing.{record_lines, count_line}
 use Rattle.mseed_show.specs.declared.fault.ShowFault.{ShowFault}
 use Rattle.mseed_show.specs.declared.fault.ShowFault.TheVariants.{Write, Memory}

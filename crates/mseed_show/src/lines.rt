@@ -1,13 +1,13 @@
 //! The lines of a listing.
 ghost use Rattle.std.specs.Prelude.{◌≡◌, ◌≤◌, ◌+◌, ◌++◌, OnErr, OnOk, codes, length};
 ghost use Rattle.mseed_record.specs.Viewing.{view_of};
+ghost use Rattle.mseed_text.specs.Time.{start_text};
 ghost use Rattle.mseed_show.specs.Listing.{record_line, offset_words, size_words, time_words, payload_words};
-ghost use Rattle.mseed_show.specs.Listing.{count_line};
-ghost use Rattle.mseed_show.specs.Listing.{start_text, rate_text, time_fault_words, order_word, last_words};
+ghost use Rattle.mseed_show.specs.Listing.{count_line, rate_text, order_word, last_words};
 
-use mseed_audit::{Draft, push_line};
 use mseed_record::RecordView;
-use mseed_time::{NoRate, Order, TimeFault, show_time};
+use mseed_text::{Line, push_line};
+use mseed_time::{NoRate, Order};
 use std::alloc::{AllocError, Allocator};
 
 /// Adds a record's line.
@@ -23,7 +23,7 @@ pub fn push_record_line<A: Allocator>(
     ensures ok { OnOk result (text.new.items ≡ text.old.items ++ record_line offset (view_of view.now)) }
     ensures unchanged { OnErr result (text.new.items ≡ text.old.items) }
 {
-    let mut line = Draft::new();
+    let mut line = Line::new();
     put_offset(&mut line, offset, view);
     put_size(&mut line, view);
     put_times(&mut line, view);
@@ -40,7 +40,7 @@ pub fn push_count_line<A: Allocator>(text: &mut Vec<u8, A>, records: u64) -> Res
     ensures ok { OnOk result (text.new.items ≡ text.old.items ++ count_line records) }
     ensures unchanged { OnErr result (text.new.items ≡ text.old.items) }
 {
-    let mut line = Draft::new();
+    let mut line = Line::new();
     line.put(b"records ");
     line.put_count(records);
     line.put(b"\n");
@@ -49,7 +49,7 @@ pub fn push_count_line<A: Allocator>(text: &mut Vec<u8, A>, records: u64) -> Res
 
 /// Puts where a record begins, and its channel's name.
 #[inline(always)]
-fn put_offset(line: &mut Draft, offset: u64, view: &RecordView)
+fn put_offset(line: &mut Line, offset: u64, view: &RecordView)
     requires { length line.old + 36 ≤ 256 }
     ensures text { line.new ≡ line.old ++ offset_words offset (view_of view.now) }
     ensures most { length line.new ≤ length line.old + 36 }
@@ -61,7 +61,7 @@ fn put_offset(line: &mut Draft, offset: u64, view: &RecordView)
 
 /// Puts a record's quality, length and number of samples.
 #[inline(always)]
-fn put_size(line: &mut Draft, view: &RecordView)
+fn put_size(line: &mut Line, view: &RecordView)
     requires { length line.old + 59 ≤ 256 }
     ensures text { line.new ≡ line.old ++ size_words (view_of view.now) }
     ensures most { length line.new ≤ length line.old + 59 }
@@ -75,7 +75,7 @@ fn put_size(line: &mut Draft, view: &RecordView)
 
 /// Puts a record's start and rate.
 #[inline(always)]
-fn put_times(line: &mut Draft, view: &RecordView)
+fn put_times(line: &mut Line, view: &RecordView)
     requires { length line.old + 80 ≤ 256 }
     ensures text { line.new ≡ line.old ++ time_words (view_of view.now) }
     ensures most { length line.new ≤ length line.old + 80 }
@@ -84,41 +84,34 @@ fn put_times(line: &mut Draft, view: &RecordView)
     put_rate(line, view);
 }
 
-/// Puts a record's start, or the field that is out of its range.
+/// Puts a record's start.
 #[inline(always)]
-fn put_start(line: &mut Draft, view: &RecordView)
+fn put_start(line: &mut Line, view: &RecordView)
     requires { length line.old + 33 ≤ 256 }
     ensures text { line.new ≡ line.old ++ codes " start " ++ start_text (view_of view.now) }
     ensures most { length line.new ≤ length line.old + 33 }
 {
     line.put(b" start ");
-    match view.start() {
-        Ok(start) => line.put(&show_time(start)),
-        Err(fault) => line.put(time_fault_words(fault)),
-    }
+    line.put_start(view);
 }
 
 /// Puts a record's rate.
 #[inline(always)]
-fn put_rate(line: &mut Draft, view: &RecordView)
+fn put_rate(line: &mut Line, view: &RecordView)
     requires { length line.old + 47 ≤ 256 }
     ensures text { line.new ≡ line.old ++ codes " rate " ++ rate_text (view_of view.now) }
     ensures most { length line.new ≤ length line.old + 47 }
 {
     line.put(b" rate ");
     match view.rate() {
-        Ok(rate) => {
-            line.put_count(u64::from(rate.num()));
-            line.put(b"/");
-            line.put_count(u64::from(rate.den()));
-        }
+        Ok(rate) => line.put_ratio(rate.ratio()),
         Err(NoRate) => line.put(b"none"),
     }
 }
 
 /// Puts how a record's payload is encoded, and whether a blockette 100 gives another rate.
 #[inline(always)]
-fn put_payload(line: &mut Draft, view: &RecordView)
+fn put_payload(line: &mut Line, view: &RecordView)
     requires { length line.old + 51 ≤ 256 }
     ensures { line.new ≡ line.old ++ payload_words (view_of view.now) }
 {
@@ -129,7 +122,7 @@ fn put_payload(line: &mut Draft, view: &RecordView)
 
 /// Puts a payload's order, and the end of a line. The words' length is known where they stand.
 #[inline(always)]
-fn put_last(line: &mut Draft, order: Order, has_rate_blockette: bool)
+fn put_last(line: &mut Line, order: Order, has_rate_blockette: bool)
     requires { length line.old + 21 ≤ 256 }
     ensures { line.new ≡ line.old ++ (order_word order ++ last_words has_rate_blockette) }
 {
@@ -141,20 +134,5 @@ fn put_last(line: &mut Draft, order: Order, has_rate_blockette: bool)
             line.put(b" little");
             line.put(b" blockette100\n");
         }
-    }
-}
-
-/// The words of a start that is refused.
-fn time_fault_words(fault: TimeFault) -> &'static [u8]
-    ensures words { result.now ≡ time_fault_words fault }
-    ensures most { length result.now ≤ 14 }
-{
-    match fault {
-        TimeFault::Year => b"fault year",
-        TimeFault::Day => b"fault day",
-        TimeFault::Hour => b"fault hour",
-        TimeFault::Minute => b"fault minute",
-        TimeFault::Second => b"fault second",
-        TimeFault::Fraction => b"fault fraction",
     }
 }

@@ -4,15 +4,15 @@ ghost use Rattle.mseed_record.specs.View.{View};
 ghost use Rattle.mseed_stream.specs.Cutting.{IsAlong};
 ghost use Rattle.mseed_stream.specs.Device.{nothing_read};
 ghost use Rattle.mseed_stream.specs.Walk.{HasHandedOut};
+ghost use Rattle.mseed_text.specs.Fault.{end_line};
 ghost use Rattle.mseed_show.specs.Listing.{count_line};
-ghost use Rattle.mseed_audit.specs.Text.{end_line};
 ghost use Rattle.mseed_show.specs.Show.{IsShown};
 ghost use Rattle.mseed_show.specs.private.Gathering.{AreGathered, IsPrefixWritten, IsGatheredAlso, IsListing, IsNext};
 
 use crate::fault::ShowFault;
 use crate::lines::{push_count_line, push_record_line};
-use mseed_audit::push_fault_line;
 use mseed_stream::{Cutter, Sink, Source, StreamFault, write_all_of};
+use mseed_text::push_fault_line;
 use std::alloc::Allocator;
 
 /// At most so many bytes of text are kept for the next record.

@@ -3,7 +3,7 @@ use Rattle.std.specs.Prelude.{◌≡◌, ℕ, ◌+◌, ◌<◌, List, [], ◌∷
 use Rattle.mseed_record.specs.View.{View}
 use Rattle.mseed_stream.specs.Device.{BytesRead, BytesWritten}
 use Rattle.mseed_stream.specs.declared.fault.StreamFault.{StreamFault}
-pub use Rattle.mseed_audit.specs.Each.{AreGathered}
+pub use Rattle.mseed_text.specs.Gathered.{AreGathered}
 use Rattle.mseed_show.specs.Listing.{record_line, record_lines}
 use Rattle.mseed_stream.specs.Standing.{Standing}
 use Rattle.mseed_stream.specs.Walk.{AreAllViews, AreViews, HasHandedOut}

@@ -6,7 +6,7 @@ use Rattle.mseed_show.specs.private.Gathering.{AreGathered}
 use Rattle.mseed_show.specs.Listing.{record_line, record_lines}
 use Rattle.mseed_show.specs.Show.{IsShown}
 use Rattle.mseed_show.specs.declared.fault.ShowFault.{ShowFault}
-use Rattle.mseed_show.proofs.Gathered.{cut_short, gathered_err, gathered_more, gathered_on, lines_more}
+use Rattle.mseed_show.proofs.Gathered.{cut_short, gathered_also, gathered_err, gathered_on, lines_more}
 use Rattle.mseed_show.proofs.listing.list.Goals as goal
 
 pub returns-in_err-push_next : goal.returns-in_err-push_next
@@ -36,7 +36,7 @@ returns-in-Ended g c =
       views,
       record {
         all = next.0;
-        lines = gathered_more first old new c.records.text.items c.push_next.new.text.items lines [] lines before.1
+        lines = gathered_also first old new c.records.text.items c.push_next.new.text.items lines [] lines before.1
             next.1.lines (sym (append-nil lines));
         fine = next.1.fine ∙ c.records.invariant.2;
         number = before.2;
@@ -55,7 +55,7 @@ records-preserved g c =
     let offset : ℕ = c.records.cutter.offset in
     let whole : List ℕ = record_lines 0 (views ++ more.view ∷ []) in
     let one = lines_more (g.R.Source.read c.records.input).bytes offset views more.view before.0.records in
-    let lines = gathered_more first old reported c.records.text.items c.push_next.new.text.items (record_lines 0 views)
+    let lines = gathered_also first old reported c.records.text.items c.push_next.new.text.items (record_lines 0 views)
     (record_line offset more.view) whole before.1 more.line.lines one in
     let written = gathered_on first reported new c.push_next.new.text.items c.write_beyond.new.text.items whole lines
     c.in_ok-write_beyond.ensures.ok in
@@ -83,7 +83,7 @@ returns-in_err-write_beyond g c =
     let all : List View = views ++ more.view ∷ [] in
     let one = lines_more (g.R.Source.read c.records.input).bytes offset views more.view before.0.records in
     let lines : AreGathered first reported c.push_next.new.text.items (record_lines 0 all) =
-    gathered_more first old reported c.records.text.items c.push_next.new.text.items (record_lines 0 views)
+    gathered_also first old reported c.records.text.items c.push_next.new.text.items (record_lines 0 views)
     (record_line offset more.view) (record_lines 0 all) before.1 more.line.lines one in
     let ends : IsShown (Err fault) read first new = cut_short fault read first reported new c.push_next.new.text.items
     c.push_next.new.cutter.offset all more.handed.records (more.line.fine ∙ c.records.invariant.2) lines

@@ -4,7 +4,8 @@ use Rattle.mseed_record.specs.Viewing.{view_of}
 use Rattle.mseed_stream.specs.Device.{BytesRead, BytesWritten}
 use Rattle.mseed_show.specs.private.Gathering.{AreGathered}
 use Rattle.mseed_show.specs.Listing.{record_line}
-use Rattle.mseed_show.proofs.Gathered.{gathered_all, next_err, next_written, none_left}
+use Rattle.mseed_text.proofs.Gathered.{gathered_all}
+use Rattle.mseed_show.proofs.Gathered.{next_err, next_written, none_left}
 use Rattle.mseed_show.proofs.listing.push_next.Goals as goal
 
 pub returns-in-Some : goal.returns-in-Some
