@@ -102,6 +102,11 @@ pub fn put_next_packet(session: &mut Session, feed: &Feed, room: &mut [u8; 520])
     }
 }
 
+/// What is written to a link where a session sends no record.
+pub fn bytes_without_a_record(unsent: Unsent) -> &'static [u8] {
+    unsent.bytes()
+}
+
 /// Whether it is in vain to call a session for packets now.
 pub fn has_nothing_to_send(session: &Session, feed: &Feed) -> bool {
     session.is_waiting(feed)

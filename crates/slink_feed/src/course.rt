@@ -144,31 +144,6 @@ impl Course {
         }
     }
 
-    /// The record that is sent now of the place at an index of the feed, with its number modulo 2^24. Where none is,
-    /// nothing changes.
-    pub(crate) fn record<'f, A: Allocator>(
-        &mut self,
-        feed: &'f Feed<A>,
-        k: usize,
-    ) -> Option<(u32, &'f [u8; 512])>
-        requires in_range { k < length feed.now }
-        requires fits { Fits feed.now self.old }
-        ensures sent { IfSome result (λ r. sent feed.now self.old k
-            ≡ (self.new, Sent.Packet (packet_bytes r.0 r.1.now))) }
-        ensures number { IfSome result (λ r. r.0 < 2 ^ 24) }
-        ensures none { IfNone result (self.new ≡ self.old) }
-        ensures fits { Fits feed.now self.new }
-        ensures few { IfSome result (λ _. ForSome (slice_get feed.now k) (λ w. length w.records ≤ 1000000)) }
-    {
-        if !self.is_streaming() {
-            return None;
-        }
-        match self.grant_of(k) {
-            Some(grant) => self.record_from(feed, k, grant),
-            None => None,
-        }
-    }
-
     /// The record at a grant's position.
     fn record_from<'f, A: Allocator>(
         &mut self,

@@ -144,6 +144,7 @@ impl<A: Allocator> Feed<A> {
     /// The index of the first ring whose place a record bears.
     pub fn bearer(&self, bytes: &[u8; 512]) -> Option<usize>
         ensures some { IfSome result (IsBearer self.now bytes.now) }
+        ensures most { IfSome result (λ k. k < 16) }
         ensures none { result ≡ None → BearsNone self.now bytes.now }
     {
         for k in 0..self.len() {

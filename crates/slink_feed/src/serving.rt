@@ -7,11 +7,11 @@ ghost use Rattle.slink_feed.specs.private.Replying.{IsSendFault, IsWritten};
 ghost use Rattle.slink_feed.specs.private.Replying.{waits_after};
 ghost use Rattle.slink_feed.specs.Rounds.{Attending, place_behind};
 ghost use Rattle.slink_feed.specs.Running.{Stands};
-ghost use Rattle.slink_feed.specs.Session.{Fits};
+ghost use Rattle.slink_feed.specs.Session.{Fits, sent_without};
 
 use crate::cutting::PACKET;
 use crate::feed::Feed;
-use crate::session::{Sent, Session};
+use crate::session::{Session, Unsent};
 use crate::turn::{LinkFault, Turn};
 use mseed_stream::{Duplex, Failed, Sink, write_all_of};
 use slink_wire::Packet;
@@ -148,31 +148,30 @@ fn give<A: Allocator, L: Sink>(
     ensures stands { Stands session.new }
     ensures beside { L.beside link.new ≡ L.beside link.old }
 {
-    match session.record(feed, k) {
-        Some((number, bytes)) => {
+    match session.next_record(feed, k) {
+        Ok((number, bytes)) => {
             Packet::put(room, number, bytes);
             let written = say(link, room, before)?;
             Ok(Given { written, waits: 0 })
         }
-        None => {
-            let sent = session.packet(feed, k);
-            let after = say(link, sent.bytes(), before)?;
+        Err(unsent) => {
+            let after = say(link, unsent.bytes(), before)?;
             Ok(Given {
                 written: after,
-                waits: count_waits(&sent, waits),
+                waits: count_waits(unsent, waits),
             })
         }
     }
 }
 
 /// How often there was nothing to give, one after another.
-fn count_waits(sent: &Sent, waits: usize) -> usize
+fn count_waits(unsent: Unsent, waits: usize) -> usize
     requires { waits < 16 }
-    ensures { result ≡ waits_after sent.now waits }
+    ensures { result ≡ waits_after (sent_without unsent) waits }
 {
-    match sent {
-        Sent::Wait => waits + 1,
-        Sent::Packet(_) | Sent::Done | Sent::Overrun | Sent::Closed => 0,
+    match unsent {
+        Unsent::Wait => waits + 1,
+        Unsent::Done | Unsent::Overrun | Unsent::Closed => 0,
     }
 }
 

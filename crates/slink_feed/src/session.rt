@@ -1,6 +1,6 @@
 //! The session that serves one connection.
 ghost use Rattle.std.specs.Prelude.{◌≡◌, ◌≢◌, ◌≤◌, ◌<◌, ◌++◌, List, ℕ, [], None, length, option_map, replicate};
-ghost use Rattle.std.specs.Prelude.{◌↔◌, ◌^◌, IfErr, IfNone, IfOk, IfSome, IsTrue, slice_get, take};
+ghost use Rattle.std.specs.Prelude.{◌↔◌, ◌^◌, IfErr, IfOk, IsTrue, slice_get, take};
 ghost use Rattle.std.specs.Bool.{OnFalse, OnTrue};
 ghost use Rattle.std.specs.Option.{ForSome};
 ghost use Rattle.slink_wire.specs.Lines.{IsHeld, TellsNothing};
@@ -61,6 +61,16 @@ pub enum Unsent {
 }
 
 impl Unsent {
+    /// The bytes that are to be written: `END`, or none.
+    pub fn bytes(self) -> &'static [u8]
+        ensures { result.now ≡ sent_bytes (sent_without self) }
+    {
+        match self {
+            Unsent::Done => b"END",
+            Unsent::Wait | Unsent::Overrun | Unsent::Closed => b"",
+        }
+    }
+
     /// What a session sends in its place.
     pub(crate) fn sent(self) -> Sent
         ensures { result ≡ sent_without self }
@@ -70,20 +80,6 @@ impl Unsent {
             Unsent::Done => Sent::Done,
             Unsent::Overrun => Sent::Overrun,
             Unsent::Closed => Sent::Closed,
-        }
-    }
-}
-
-impl Sent {
-    /// The bytes that are to be written for it.
-    pub(crate) fn bytes(&self) -> &[u8]
-        ensures bytes { result.now ≡ sent_bytes self.now }
-        ensures few { length result.now ≤ 520 }
-    {
-        match self {
-            Sent::Packet(bytes) => bytes,
-            Sent::Done => b"END",
-            Sent::Wait | Sent::Overrun | Sent::Closed => b"",
         }
     }
 }
@@ -193,6 +189,8 @@ impl Session {
         ensures held { self.new.held ≡ self.old.held }
         ensures fits { Fits feed.now self.new.state }
         ensures stands { Stands self.new }
+        // The ring of a record keeps at most 1,000,000 records.
+        ensures few { IfOk result (λ _. ForSome (slice_get feed.now k) (λ w. length w.records ≤ 1000000)) }
     {
         self.course.next_record(feed, k)
     }
@@ -204,27 +202,6 @@ impl Session {
         ensures { IsTrue result ↔ IsWaiting feed.now self.now.state }
     {
         self.course.is_waiting(feed)
-    }
-
-    /// The record that is sent now of the place at an index of the feed, with its number modulo 2^24, lent by the ring.
-    /// Where none is, nothing changes.
-    pub(crate) fn record<'f, A: Allocator>(
-        &mut self,
-        feed: &'f Feed<A>,
-        k: usize,
-    ) -> Option<(u32, &'f [u8; 512])>
-        requires in_range { k < length feed.now }
-        requires fits { Fits feed.now self.old.state }
-        ensures sent { IfSome result (λ r. sent feed.now self.old.state k
-            ≡ (self.new.state, Sent.Packet (packet_bytes r.0 r.1.now))) }
-        ensures number { IfSome result (λ r. r.0 < 2 ^ 24) }
-        ensures none { IfNone result (self.new ≡ self.old) }
-        ensures held { self.new.held ≡ self.old.held }
-        ensures fits { Fits feed.now self.new.state }
-        ensures stands { Stands self.new }
-        ensures few { IfSome result (λ _. ForSome (slice_get feed.now k) (λ w. length w.records ≤ 1000000)) }
-    {
-        self.course.record(feed, k)
     }
 
     /// It stands for the stream that its link brought, unless it is closed. Nothing is done.

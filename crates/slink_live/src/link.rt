@@ -4,7 +4,7 @@ ghost use Rattle.std.specs.Bool.{OnFalse, OnTrue};
 ghost use Rattle.slink_feed.specs.declared.session.Phase.{Phase};
 ghost use Rattle.slink_feed.specs.declared.session.Sent.{Sent};
 ghost use Rattle.slink_feed.specs.Serving.{Serves};
-ghost use Rattle.slink_feed.specs.Session.{Fits, IsWaiting, sent, sent_bytes, sent_without};
+ghost use Rattle.slink_feed.specs.Session.{Fits, IsWaiting, sent};
 ghost use Rattle.slink_feed.specs.Window.{Window};
 ghost use Rattle.slink_live.specs.Awake.{HasLeft, HasRoom, IsClosable, IsFilled, IsLost, IsOver};
 ghost use Rattle.slink_live.specs.Story.{Asks, IsNew};
@@ -277,20 +277,10 @@ impl Link {
             }
             Err(Unsent::Wait) => false,
             Err(unsent) => {
-                self.end_by(unsent);
+                self.say(unsent.bytes());
                 self.place = k + 1;
                 true
             }
-        }
-    }
-
-    /// Says what a session does that sends no record.
-    fn end_by(&mut self, unsent: Unsent)
-        requires { length self.old.pending + 520 ≤ 6240 }
-        ensures { self.new ≡ record self.old { pending = self.old.pending ++ sent_bytes (sent_without unsent) } }
-    {
-        if unsent == Unsent::Done {
-            self.say(b"END");
         }
     }
 

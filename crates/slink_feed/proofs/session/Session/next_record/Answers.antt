@@ -24,3 +24,6 @@ returns-clause-held g c = ap (λ (s : Standing). s.held) c.self.view_is
 
 pub returns-clause-fits : goal.returns-clause-fits
 returns-clause-fits g c = c.next_record.ensures.fits
+
+pub returns-clause-few : goal.returns-clause-few
+returns-clause-few g c = c.next_record.ensures.few
