@@ -200,3 +200,31 @@ asked_turns feed s place way last turn all (one_called now t m k answer on a bef
     let earlier : (ks : List ℕ) × TakesTurns feed s.state place ks now.state m =
     asked_turns feed s place way now m on before in
     (earlier.0 ++ k ∷ [], turns_last feed s.state place earlier.0 now.state m t.state k answer earlier.1 first given)
+
+-- What a call for a place leaves of that place: where it has no grant, all.
+leaves_here : (feed : List Window) (s : State) (k : ℕ) (p : Phase) → grant_at s.grants k ≡ None
+    → Leaves k s (sent_in p feed s k).0
+leaves_here feed s k Phases.Fresh none = stays k s
+leaves_here feed s k (Phases.Chosen x) none = stays k s
+leaves_here feed s k (Phases.Granted x) none = stays k s
+leaves_here feed s k Phases.Streaming none =
+    subst (λ (o : Option Grant). Leaves k s (sent_of feed s k o (slice_get feed k)).0) (sym none) (stays k s)
+leaves_here feed s k Phases.Closed none = stays k s
+
+-- A call grants no place,
+pub grants_no_more : (feed : List Window) (s t : State) (k j : ℕ) (a : Sent) → sent feed s k ≡ (t, a)
+    → grant_at s.grants j ≡ None → grant_at t.grants j ≡ None
+grants_no_more feed s t k j a e none = elim (eqb_tells j k) [
+  | inl same ↦
+      let here : grant_at s.grants k ≡ None = subst (λ i. grant_at s.grants i ≡ None) same.1 none in
+      let l : Leaves k s t =
+      subst (Leaves k s) (ap (λ (x : State × Sent). x.0) e) (leaves_here feed s k s.phase here) in
+      subst (λ i. grant_at t.grants i ≡ None) (sym same.1) (l.grant ∙ here)
+  | inr other ↦ (leaves feed s t k j a other.1 e).grant ∙ none
+]
+
+-- and streams only where it streamed.
+pub streams_no_more : (feed : List Window) (s t : State) (k : ℕ) (a : Sent) → sent feed s k ≡ (t, a)
+    → t.phase ≡ Phases.Streaming → s.phase ≡ Phases.Streaming
+streams_no_more feed s t k a e streams =
+    let ne : k + 1 ≢ k = λ is. omega (arith, is) in (leaves feed s t k (k + 1) a ne e).streams streams

@@ -10,6 +10,9 @@ pub mod Turning
 pub mod Fairness
 pub mod Losing
 pub mod Tending
+pub mod Apart
+pub mod Moving
+pub mod Granting
 pub mod Begun
 pub mod Stories
 pub mod Slots

@@ -3,12 +3,13 @@ use Rattle.std.proofs.Common.{◌≡◌, ◌≢◌, ℕ, ◌+◌, ◌<◌, ◌�
 use Rattle.std.proofs.Common.{IfSome, get_or-set_other, get_or-set_same, if◌then◌else◌}
 use Rattle.std.proofs.Common.{not, ◌&&◌, List, [], ◌∷◌, ◌++◌, get_or, length, length-set, set, take, Option, Some, None}
 use Rattle.std.specs.Option.{is_some}
-use Rattle.std.proofs.lemmas.Bool.Decides.{leb_tells}
+use Rattle.std.proofs.lemmas.Bool.Decides.{eqb_tells, leb_tells}
 use Rattle.std.proofs.lemmas.List.{get_or_past}
 use Rattle.slink_feed.specs.Session.{Fits}
 use Rattle.slink_feed.specs.Window.{Window}
 use Rattle.slink_live.specs.declared.link.Settled.{Settled}
 use Rattle.slink_live.specs.declared.link.Settled.TheVariants as settled
+use Rattle.slink_live.specs.declared.places.Places.{Places}
 use Rattle.slink_live.specs.declared.ready.Wishes.{Wishes}
 use Rattle.slink_live.specs.declared.ready.Event.{Event}
 use Rattle.slink_live.specs.declared.ready.Event.TheVariants as events
@@ -21,7 +22,9 @@ use Rattle.slink_live.specs.Served.{IntakeState, IsServing, IsSound, LinkState, 
 use Rattle.slink_live.specs.Story.{IsNew}
 use Rattle.slink_live.specs.Turns.{Closes}
 use Rattle.slink_live.specs.private.Calling.{HasFilled, HasReceived, HasTaken, IfRested, IsOutcome}
-use Rattle.slink_live.specs.private.Keeping.{KeepsServing, Settles, Tends, TendsAll, TendsAnew}
+use Rattle.slink_live.specs.private.Granting.{LeavesOut, StaysBut}
+use Rattle.slink_live.specs.private.Keeping.{KeepsServing, Settles, Tends, TendsAll, TendsAnew, TendsBut}
+use Rattle.slink_live.proofs.Apart.{settled_apart}
 use Rattle.slink_live.proofs.Slots.{closes_both, closes_told, not_self, quiet_serving}
 use Rattle.slink_live.proofs.Steps.{closed_keeps, ended, ended_serving, filled_keeps, received_keeps, same_default}
 use Rattle.slink_live.proofs.Steps.{keeps_both, keeps_from, keeps_quiet, keeps_same, opened_keeps, sound_in}
@@ -308,24 +311,28 @@ gone_tends s t j log last earlier lt said is e =
       closed = λ start v told0. gone_goes s j log last lt e start (inl (earlier, said));
     })
 
--- The input brought bytes, and then all links were settled.
-pub input_tends : (s t : ServerState) (intake : IntakeState) (reads : ℕ) (bytes : List ℕ)
+-- The input brought bytes, and then the links of their places were settled.
+pub input_tends : (s t : ServerState) (intake : IntakeState) (reads : ℕ) (bytes : List ℕ) (places : Places)
     (log mid last : List Happening)
-    → mid ≡ log ++ Input bytes ∷ []
+    → mid ≡ log ++ Input bytes ∷ [] → length intake.feed ≡ length s.intake.feed
+    → StaysBut places s.intake.feed intake.feed
     → ((start : List Window) → IsServing start s log
     → IsServing start (record { intake = intake; links = s.links; is_ended = s.is_ended; reads = reads }) mid)
-    → TendsAll (record { intake = intake; links = s.links; is_ended = s.is_ended; reads = reads }) t mid last
+    → TendsBut places (record { intake = intake; links = s.links; is_ended = s.is_ended; reads = reads }) t mid last
     → Tends s t log last
-input_tends s t intake reads bytes log mid last now serves all =
+input_tends s t intake reads bytes places log mid last now long stays serves but =
     let is_told : IsTold s log
     → IsTold (record { intake = intake; links = s.links; is_ended = s.is_ended; reads = reads }) mid = λ x. record {
       links = links_last log mid (Input bytes) now ∙ x.links;
       left = left_last log mid (Input bytes) now ∙ x.left;
     } in
     record {
-      awake = λ a. all.awake (is_told a.is_told);
+      awake = λ a. but.awake (is_told a.is_told) (λ k out l is.
+          subst (IsSettled intake.feed s.is_ended l) (sym (told_last log mid (Input bytes) now k))
+          (settled_apart s.intake.feed intake.feed places (get_or s.links k None) l long stays out is s.is_ended
+          (told k log) (a.each k l is)));
       closed = λ start v x. goes_then (goes_one (Input bytes) tt now)
-          (all.closed start (serves start v) (is_told x.is_told));
+          (but.closed start (serves start v) (is_told x.is_told));
     }
 
 -- It brought bytes that go no further.
@@ -375,38 +382,70 @@ module _ {log left mid last : List Happening} (went : left ≡ log ++ Left ∷ [
             (subst (λ (x : ServerState). IsServing start x log) (sym (same_ended same)) v))) is_told);
       }
 
--- slots up to one were settled
-pub record HasSettled (s t : ServerState) (n : ℕ) (log last : List Happening) : Type 0 where
-  pub awake : IsTold s log → (k : ℕ) → k < n → IsAwakeIn t last k
+-- Slots up to one were settled, where no link slept in some of the others.
+pub record HasSettled (Rests : ℕ → Type 0) (s t : ServerState) (n : ℕ) (log last : List Happening) : Type 0 where
+  pub awake : IsTold s log → ((k : ℕ) → Rests k → IsAwakeIn s log k) → (k : ℕ) → k < n → IsAwakeIn t last k
+  pub still : (k : ℕ) → n ≤ k → IsAwakeIn s log k → IsAwakeIn t last k
+  pub rest : (k : ℕ) → n ≤ k → get_or t.links k None ≡ get_or s.links k None
   pub is_told : IsTold s log → IsTold t last
   pub closed : (start : List Window) → IsServing start s log → IsTold s log → Goes (IsClosedRightly start) log last
 
-pub settled_none : (s : ServerState) (log : List Happening) → HasSettled s s 0 log log
-settled_none s log = record {
-  awake = λ t k lt. absurd (omega (arith, lt));
+pub settled_none : (Rests : ℕ → Type 0) (s : ServerState) (log : List Happening) → HasSettled Rests s s 0 log log
+settled_none Rests s log = record {
+  awake = λ t rests k lt. absurd (omega (arith, lt));
+  still = λ k le a. a;
+  rest = λ k le. refl;
   is_told = λ t. t;
   closed = λ start v t. goes_same refl;
 }
 
-pub settled_more : (s t u : ServerState) (n : ℕ) (log mid last : List Happening) → KeepsServing s t log mid
-    → HasSettled s t n log mid → Settles n t u mid last → HasSettled s u (n + 1) log last
+pub settled_more : {Rests : ℕ → Type 0} (s t u : ServerState) (n : ℕ) (log mid last : List Happening)
+    → KeepsServing s t log mid → HasSettled Rests s t n log mid → Settles n t u mid last
+    → HasSettled Rests s u (n + 1) log last
 settled_more s t u n log mid last keeps h settles = record {
-  awake = λ told0 k lt. settles.links k (λ ne. h.awake told0 k (omega (arith, lt, ne)));
+  awake = λ told0 rests k lt. settles.links k (λ ne. h.awake told0 rests k (omega (arith, lt, ne)));
+  still = λ k le a. settles.links k (λ ne. h.still k (omega (arith, le)) a);
+  rest = λ k le. settles.others k (λ e. omega (arith, le, e)) ∙ h.rest k (omega (arith, le));
   is_told = λ told0. settles.is_told (h.is_told told0);
   closed = λ start v told0. goes_then (h.closed start v told0)
       (settles.closed start (keeps.serving start v) (h.is_told told0));
 }
 
+-- one more, in which no link slept
+pub settled_past : {Rests : ℕ → Type 0} (s t : ServerState) (n : ℕ) (log last : List Happening)
+    → HasSettled Rests s t n log last → Rests n → HasSettled Rests s t (n + 1) log last
+settled_past s t n log last h here = record {
+  awake = λ told0 rests k lt. elim (eqb_tells k n) [
+    | inl same ↦ subst (IsAwakeIn t last) (sym same.1) (h.still n (omega arith) (rests n here))
+    | inr other ↦ h.awake told0 rests k (omega (arith, lt, other.1))
+  ];
+  still = λ k le a. h.still k (omega (arith, le)) a;
+  rest = λ k le. h.rest k (omega (arith, le));
+  is_told = h.is_told;
+  closed = h.closed;
+}
+
+settled_each : {Rests : ℕ → Type 0} (s t : ServerState) (n : ℕ) (log last : List Happening) → length t.links ≤ n
+    → HasSettled Rests s t n log last → IsTold s log → ((k : ℕ) → Rests k → IsAwakeIn s log k) → IsAwake t last
+settled_each s t n log last le h told0 rests = record {
+  each = λ k. elim (leb_tells n k) [
+    | inr lt ↦ h.awake told0 rests k (omega (arith, lt.1))
+    | inl ge ↦ λ l is. absurd (let bad : None ≡ Some l = sym (get_or_past t.links k None (omega (arith, le, ge.1))) ∙ is
+        in cc bad)
+  ];
+  is_told = h.is_told told0;
+}
+
 pub settled_all : (s t : ServerState) (n : ℕ) (log last : List Happening) → length t.links ≤ n
-    → HasSettled s t n log last → TendsAll s t log last
+    → HasSettled (λ k. ⊥) s t n log last → TendsAll s t log last
 settled_all s t n log last le h = record {
-  awake = λ told0. record {
-    each = λ k. elim (leb_tells n k) [
-      | inr lt ↦ h.awake told0 k (omega (arith, lt.1))
-      | inl ge ↦ λ l is. absurd (let bad : None ≡ Some l = sym (get_or_past t.links k None (omega (arith, le, ge.1))) ∙
-          is in cc bad)
-    ];
-    is_told = h.is_told told0;
-  };
+  awake = λ told0. settled_each s t n log last le h told0 (λ k none. absurd none);
+  closed = h.closed;
+}
+
+pub settled_but : (places : Places) (s t : ServerState) (n : ℕ) (log last : List Happening) → length t.links ≤ n
+    → HasSettled (λ k. LeavesOut places (get_or s.links k None)) s t n log last → TendsBut places s t log last
+settled_but places s t n log last le h = record {
+  awake = λ told0 rests. settled_each s t n log last le h told0 rests;
   closed = h.closed;
 }

@@ -32,16 +32,18 @@ same_default (x ∷ xs) zero d e h = refl
 same_default (x ∷ xs) (suc i) d e h = same_default xs i d e (omega (arith, h))
 
 -- a slot that holds no link
-pub none_at : (links : List (Option LinkState)) (k : ℕ) (o : Option LinkState) → o ≡ get_or links k o
-    → is_some o ≡ false → k < length links → get_or links k None ≡ None
-none_at links k None v e lt = sym v
-none_at links k (Some l) v e lt = absurd (let bad : true ≡ false = e in cc bad)
+no_link : (o : Option LinkState) → is_some o ≡ false → o ≡ None
+no_link None e = refl
+no_link (Some l) e = absurd (let bad : true ≡ false = e in cc bad)
+
+pub none_at : (links : List (Option LinkState)) (k : ℕ) → is_some (get_or links k None) ≡ false
+    → get_or links k None ≡ None
+none_at links k e = no_link (get_or links k None) e
 
 -- a slot that holds one
-pub taken_at : (links : List (Option LinkState)) (k : ℕ) (o : Option LinkState) → o ≡ get_or links k o
-    → is_some o ≡ true → k < length links → get_or links k None ≢ None
-taken_at links k o v e lt none =
-    let bad : false ≡ true = sym (ap is_some (v ∙ (same_default links k o None lt ∙ none))) ∙ e in cc bad
+pub taken_at : (links : List (Option LinkState)) (k : ℕ) → is_some (get_or links k None) ≡ true
+    → get_or links k None ≢ None
+taken_at links k e none = let bad : false ≡ true = sym (ap is_some none) ∙ e in cc bad
 
 pub taken_more : (links : List (Option LinkState)) (n : ℕ) → get_or links n None ≢ None
     → ((j : ℕ) → j < n → get_or links j None ≢ None) → (j : ℕ) → j < n + 1 → get_or links j None ≢ None
@@ -155,7 +157,7 @@ writes_to : (j : ℕ) (o new : Option LinkState) (log mid last : List Happening)
 writes_to j None new log mid last h c = subst (λ (x : List Happening). Closes x last) h.1 c
 writes_to j (Some l) new log mid last h c = (h.0, subst (λ (x : List Happening). Closes x last) h.2 c)
 
-link_fits : (feed : List Window) (o : Option LinkState)
+pub link_fits : (feed : List Window) (o : Option LinkState)
     → ((l : LinkState) → o ≡ Some l → Fits feed l.session.state) → IfSome o (λ l. Fits feed l.session.state)
 link_fits feed None fits = tt
 link_fits feed (Some l) fits = fits l refl

@@ -1,16 +1,19 @@
 -- The input brings bytes, or ends.
 use Rattle.std.proofs.Common.{◌≡◌, ◌≢◌, ℕ, ◌+◌, ◌*◌, ◌^◌, ◌<◌, ◌≤◌, ◌∙◌, ap, subst, refl, sym, arith, Bool, true, false}
 use Rattle.std.proofs.Common.{List, [], ◌∷◌, ◌++◌, length, append-nil, get_or, take, None, Ok, Err}
+use Rattle.std.proofs.lemmas.List.{length-map}
 use Rattle.mseed_stream.specs.declared.fault.StreamFault.TheVariants as faults
 use Rattle.slink_feed.specs.Window.{Window}
 use Rattle.slink_live.specs.declared.fault.InputFault.{InputFault}
 use Rattle.slink_live.specs.declared.fault.InputFault.TheVariants.{Stream}
+use Rattle.slink_live.specs.declared.places.Places.{Places}
 use Rattle.slink_live.specs.Happening.{Happening, Input, input_of}
-use Rattle.slink_live.specs.Input.{IsFaultIn, IsFedTo, IsInput, IsInputFault, IsOf, places_of}
+use Rattle.slink_live.specs.Input.{IsFaultIn, IsFedTo, IsInput, IsInputFault, IsOf, fed, places_of}
 use Rattle.slink_live.specs.Served.{IntakeState, IsServing, IsSound, ServerState}
 use Rattle.slink_live.specs.Turns.{Closes}
 use Rattle.slink_live.specs.private.Cutting.{Cuts, CutsOff}
-use Rattle.slink_live.specs.private.Keeping.{AnswersFault, KeepsServing, Tends, TendsAll, TendsAnew}
+use Rattle.slink_live.specs.private.Granting.{StaysBut}
+use Rattle.slink_live.specs.private.Keeping.{AnswersFault, KeepsServing, Tends, TendsAnew, TendsBut}
 use Rattle.slink_live.proofs.Borne.{below_more, places_fed}
 use Rattle.slink_live.proofs.Cuts.{cut_below, cut_few, cut_fits, cuts_on, short_none}
 use Rattle.slink_live.proofs.Settling.{input_ends, input_tends}
@@ -25,6 +28,12 @@ input_more : (log last : List Happening) (bytes : List ℕ) → last ≡ log ++ 
     → input_of last ≡ input_of log ++ bytes
 input_more log last bytes e = ap input_of e ∙ (input_append log (Input bytes ∷ [])
     ∙ ap (λ b. input_of log ++ b) (append-nil bytes))
+
+-- as many rings stay
+fed_length : (feed : List Window) (rs : List (List ℕ)) → length (fed feed rs) ≡ length feed
+fed_length feed rs =
+    sym (length-map (fed feed rs) (λ (w : Window). w.place)) ∙ (ap length (places_fed feed rs)
+    ∙ length-map feed (λ (w : Window). w.place))
 
 -- a server by what its methods saw
 module _ {s0 s : ServerState} (same : s0 ≡ s) where
@@ -124,12 +133,14 @@ module _ {s0 s : ServerState} (same : s0 ≡ s) where
       kept = λ e. x.stays.is_ended;
     }
 
-    pub taken_tends : Cuts s0.intake bytes new new.kept → length new.kept < 512
-        → TendsAll (with_intake s0 new) t mid last → Tends s t log last
-    taken_tends cuts short all = subst (λ (x : ServerState). Tends x t log last) same
-        (input_tends s0 t new (s0.reads + 1) bytes log mid last now (λ start v. taken_serving on sound cuts
+    pub taken_tends : (places : Places) → Cuts s0.intake bytes new new.kept → length new.kept < 512
+        → StaysBut places s0.intake.feed new.feed → TendsBut places (with_intake s0 new) t mid last
+        → Tends s t log last
+    taken_tends places cuts short stays but = subst (λ (x : ServerState). Tends x t log last) same
+        (input_tends s0 t new (s0.reads + 1) bytes places log mid last now
+        (ap length cuts.feed_is ∙ fed_length s0.intake.feed cuts.records) stays (λ start v. taken_serving on sound cuts
         (short_none (places_of s0.intake.feed) new.kept short) now start
-        (subst (λ (x : ServerState). IsServing start x log) same v) s0.is_ended (λ e. refl)) all)
+        (subst (λ (x : ServerState). IsServing start x log) same v) s0.is_ended (λ e. refl)) but)
 
     pub taken_ends : {fault : InputFault} → CutsOff s0.intake bytes new fault
         → TendsAnew (ended (with_intake s0 new)) t mid last → Tends s t log last

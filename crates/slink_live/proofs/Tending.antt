@@ -185,6 +185,7 @@ module _ (s : ServerState) (j : ℕ) (new : Option LinkState) (log last : List H
       ];
       is_told = told_beside same untold;
       closed = closed;
+      others = λ k ne. get_or-set_other s.links j k new None ne;
     }
 
 -- no link stands there
@@ -268,6 +269,8 @@ settles_closes s j new log last lt within out e serves =
         left = t.left;
         closable = l.2;
       }));
+      others = λ k ne. get_or-set_other (set s.links j new) j k None None ne
+          ∙ get_or-set_other s.links j k new None ne;
     }
 
 -- Something happened in a slot, and then it was settled, where no link slept.
@@ -339,6 +342,7 @@ rest_closes s j log last lt out e =
         left = t.left;
         closable = l.2;
       }));
+      others = λ k ne. get_or-set_other s.links j k None None ne;
     }
 
 -- whether further links are wanted

@@ -1,7 +1,6 @@
 //! The input, cut into records, each of which goes into the ring of its place.
 ghost use Rattle.std.specs.Prelude.{◌≡◌, ◌+◌, ◌*◌, ◌^◌, ◌<◌, ◌≤◌, ◌++◌, [], None, Some, IfErr, OnErr};
-ghost use Rattle.std.specs.Prelude.{OnOk, length};
-ghost use Rattle.std.specs.Bool.{OnFalse, OnTrue};
+ghost use Rattle.std.specs.Prelude.{IfNone, IfOk, IfSome, OnOk, length};
 ghost use Rattle.mseed_record.specs.declared.framer.Scan.{Scan};
 ghost use Rattle.mseed_record.specs.Record.{IsRecord};
 ghost use Rattle.mseed_record.specs.Scan.{Decides};
@@ -9,8 +8,10 @@ ghost use Rattle.mseed_stream.specs.declared.fault.StreamFault.{StreamFault};
 ghost use Rattle.slink_live.specs.Input.{places_of};
 ghost use Rattle.slink_live.specs.Served.{IsBelow};
 ghost use Rattle.slink_live.specs.private.Cutting.{Cuts, CutsOff, IsOfNone, IsPushed, IsRefused, LooksOn};
+ghost use Rattle.slink_live.specs.private.Granting.{OthersStay, StaysBeside, StaysBut};
 
 use crate::fault::InputFault;
+use crate::places::Places;
 use arrayvec::ArrayVec;
 use mseed_record::{Scan, scan};
 use mseed_stream::StreamFault;
@@ -36,19 +37,20 @@ impl Model for Intake {
     ghost view = { λ i. record { feed = i.feed; kept = i.kept.items; records = i.records } };
 }
 
-/// Gives a record to the first ring of its place, and answers whether there is one.
-fn push_record(feed: &mut Feed, bytes: &[u8; 512]) -> bool
+/// Gives a record to the first ring of its place, and answers its index, where there is one.
+fn push_record(feed: &mut Feed, bytes: &[u8; 512]) -> Option<usize>
     requires { IsBelow 9223372036854775807 feed.old }
-    ensures yes { OnTrue result (IsPushed feed.old feed.new bytes.now) }
-    ensures no { OnFalse result (IsOfNone (places_of feed.old) bytes.now) }
-    ensures stays { OnFalse result (feed.new ≡ feed.old) }
+    ensures some { IfSome result (λ _. IsPushed feed.old feed.new bytes.now) }
+    ensures none { IfNone result (IsOfNone (places_of feed.old) bytes.now) }
+    ensures others { OthersStay result feed.old feed.new }
+    ensures most { IfSome result (λ k. k < 16) }
 {
     match feed.bearer(bytes) {
         Some(k) => {
             feed.push(k, bytes);
-            true
+            Some(k)
         }
-        None => false,
+        None => None,
     }
 }
 
@@ -79,29 +81,32 @@ impl Intake {
         512 * self.records
     }
 
-    /// Takes bytes of the input, at most 8,192. Each record goes to its ring as soon as it is whole.
+    /// Takes bytes of the input, at most 8,192. Each record goes to its ring as soon as it is whole. The answer is which
+    /// places got some.
     ///
     /// # Errors
     ///
     /// `Stream` where bytes begin no record, `Foreign` where a record hasn't 512 bytes or is of none of the places.
     /// What was before them is in the rings.
-    pub(crate) fn take(&mut self, bytes: &[u8]) -> Result<(), InputFault>
+    pub(crate) fn take(&mut self, bytes: &[u8]) -> Result<Places, InputFault>
         requires short { length self.old.kept < 512 }
         requires size { length bytes.now ≤ 8192 }
         requires below { IsBelow (2 ^ 62 + 2 ^ 54) self.old.feed }
         requires few { self.old.records ≤ 2 ^ 53 }
         ensures ok { OnOk result (Cuts self.old bytes.now self.new self.new.kept) }
+        ensures others { IfOk result (λ places. StaysBut places self.old.feed self.new.feed) }
         ensures short { OnOk result (length self.new.kept < 512) }
         ensures err { IfErr result (CutsOff self.old bytes.now self.new) }
     {
+        let mut places = Places::none();
         let mut start = 0;
         while start < bytes.len() {
             let count = self.wanted(bytes.len() - start);
             self.keep(&bytes[start..start + count]);
             start += count;
-            self.look()?;
+            places = self.look(places)?;
         }
-        Ok(())
+        Ok(places)
     }
 
     /// How many of so many bytes are kept: as many as a record still wants.
@@ -127,43 +132,48 @@ impl Intake {
         }
     }
 
-    /// Looks whether what is kept is a record, and gives it to its ring.
-    fn look(&mut self) -> Result<(), InputFault>
+    /// Looks whether what is kept is a record, and gives it to its ring. The answer is these places, and that of the
+    /// record.
+    fn look(&mut self, places: Places) -> Result<Places, InputFault>
         requires size { length self.old.kept ≤ 512 }
         requires below { IsBelow 9223372036854775807 self.old.feed }
         requires few { self.old.records ≤ 2 ^ 54 }
         ensures ok { OnOk result (LooksOn self.old self.new) }
+        ensures others { IfOk result (λ all. StaysBeside places all self.old.feed self.new.feed) }
         ensures err { IfErr result (IsRefused (places_of self.old.feed) self.old.records self.old.kept) }
         ensures stays { OnErr result (self.new ≡ self.old) }
     {
         match scan(self.kept.as_slice()) {
-            Scan::Need(needed) if needed <= RECORD => Ok(()),
-            Scan::Record(size) if size == RECORD => self.push_kept(),
+            Scan::Need(needed) if needed <= RECORD => Ok(places),
+            Scan::Record(size) if size == RECORD => self.push_kept(places),
             Scan::Not(fault) => Err(InputFault::Stream(StreamFault::Frame(self.offset(), fault))),
             Scan::Need(_) | Scan::Record(_) => Err(InputFault::Foreign(self.records + 1)),
         }
     }
 
-    /// Gives the record that is kept to its ring.
-    fn push_kept(&mut self) -> Result<(), InputFault>
+    /// Gives the record that is kept to its ring. The answer is these places, and that of the record.
+    fn push_kept(&mut self, places: Places) -> Result<Places, InputFault>
         requires whole { length self.old.kept ≡ 512 }
         requires record { IsRecord self.old.kept }
         requires decides { Decides self.old.kept (Scan.Record 512) }
         requires below { IsBelow 9223372036854775807 self.old.feed }
         requires few { self.old.records ≤ 2 ^ 54 }
         ensures ok { OnOk result (LooksOn self.old self.new) }
+        ensures others { IfOk result (λ all. StaysBeside places all self.old.feed self.new.feed) }
         ensures err { IfErr result (IsRefused (places_of self.old.feed) self.old.records self.old.kept) }
         ensures foreign { IfErr result (λ e. e ≡ InputFault.Foreign (self.old.records + 1)) }
         ensures stays { OnErr result (self.new ≡ self.old) }
     {
         let mut bytes = [0; RECORD];
         bytes.copy_from_slice(self.kept.as_slice());
-        if !push_record(&mut self.feed, &bytes) {
-            return Err(InputFault::Foreign(self.records + 1));
+        match push_record(&mut self.feed, &bytes) {
+            Some(k) => {
+                self.records += 1;
+                self.kept.clear();
+                Ok(places.with(k))
+            }
+            None => Err(InputFault::Foreign(self.records + 1)),
         }
-        self.records += 1;
-        self.kept.clear();
-        Ok(())
     }
 
     /// What is wrong with an input that ends now.

@@ -5,8 +5,10 @@ mod fault;
 mod intake;
 mod law;
 mod link;
+mod links;
 mod log;
 mod pending;
+mod places;
 mod ready;
 mod server;
 

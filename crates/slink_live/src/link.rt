@@ -9,8 +9,10 @@ ghost use Rattle.slink_feed.specs.Window.{Window};
 ghost use Rattle.slink_live.specs.Awake.{HasLeft, HasRoom, IsClosable, IsFilled, IsLost, IsOver};
 ghost use Rattle.slink_live.specs.Story.{Asks, IsNew};
 ghost use Rattle.slink_live.specs.private.Calling.{Gives, IsRested};
+ghost use Rattle.slink_live.specs.private.Granting.{Covers};
 
 use crate::pending::{PACKET, Pending, ROOM};
+use crate::places::Places;
 use crate::ready::Wishes;
 use slink_feed::{Feed, Session, Unsent};
 use std::marker::Model;
@@ -184,6 +186,23 @@ impl Link {
             writes: !self.pending.is_empty(),
             is_streaming: self.is_streaming(),
         }
+    }
+
+    /// Of which places it is sent records, once it streams.
+    pub(crate) fn granted(&self, feed: &Feed) -> Places
+        requires { Fits feed.now self.now.session.state }
+        ensures { Covers result self.now }
+    {
+        if !self.session.is_streaming() {
+            return Places::none();
+        }
+        let mut places = Places::none();
+        for k in 0..feed.len() {
+            if self.session.position(k).is_some() {
+                places = places.with(k);
+            }
+        }
+        places
     }
 
     /// Takes what the link brought: the session answers each line.

@@ -11,14 +11,16 @@ ghost use Rattle.slink_live.specs.Happening.{Happening, Gone, Next, WantsLinks, 
 ghost use Rattle.slink_live.specs.Input.{IsInputFault, places_of};
 ghost use Rattle.slink_live.specs.Served.{AreEmpty, GoesOn, IsBelow, IsFinished, IsServing, IsSound, ServerState};
 ghost use Rattle.slink_live.specs.Served.{StaysUnread};
-ghost use Rattle.slink_live.specs.private.Calling.{HasFilled, HasReceived, HasTaken, IfRested, IsOutcome};
+ghost use Rattle.slink_live.specs.private.Calling.{IfRested};
 ghost use Rattle.slink_live.specs.Turns.{Closes, HasTurns, IsCalled, Opens, ReadsFrom, ReadsInput, WritesTo};
 ghost use Rattle.slink_live.specs.private.Keeping.{AnswersFault, KeepsServing, Settles, Tends, TendsAll};
-ghost use Rattle.slink_live.specs.private.Keeping.{TendsAnew};
+ghost use Rattle.slink_live.specs.private.Keeping.{TendsAnew, TendsBut};
 
 use crate::fault::InputFault;
 use crate::intake::Intake;
-use crate::link::{Link, PIECE, Settled};
+use crate::link::{Link, Settled};
+use crate::links::Links;
+use crate::places::Places;
 use crate::ready::{Event, Ready};
 use slink_feed::Feed;
 use std::alloc::{AllocError, Global};
@@ -35,7 +37,7 @@ const TURNS: u64 = 1 << 40;
 #[derive(Drop)]
 pub struct Server {
     intake: Intake,
-    links: Vec<Option<Link>>,
+    links: Links,
     is_ended: bool,
     reads: u64,
 }
@@ -47,88 +49,10 @@ impl Model for Server {
 
     ghost view = { λ s. record {
       intake = s.intake;
-      links = s.links.items;
+      links = s.links;
       is_ended = s.is_ended;
       reads = s.reads;
     } };
-}
-
-/// So many slots without a link.
-fn slots(alloc: Global, count: usize) -> Result<Vec<Option<Link>>, AllocError>
-    ensures empty { IfOk result (λ slots. AreEmpty slots.items) }
-    ensures count { IfOk result (λ slots. length slots.items ≡ count) }
-{
-    let mut slots = Vec::with_capacity(alloc, count)?;
-    for slot in 0..count {
-        slots.push(None)?;
-    }
-    Ok(slots)
-}
-
-/// Reads once from the link in a slot, where one stands, as much as there is room for replies, and has its session
-/// answer.
-fn hear<R: Ready>(link: &mut Option<Link>, feed: &Feed, slot: usize, ready: &mut R)
-    requires { IfSome link.old (λ l. Fits feed.now l.session.state) }
-    ensures { HasReceived feed.now slot link.old link.new (R.log ready.old) (R.log ready.new) }
-{
-    if let Some(link) = link {
-        let mut buf = [0; PIECE];
-        let most = link.readable();
-        let count = ready.read(slot, &mut buf[..most]);
-        link.hear(feed, &buf[..count]);
-    }
-}
-
-/// Writes once to the link in a slot, where one stands, what its session sent. The answer is whether there was room for
-/// a packet before: then nothing more is due.
-fn tell<R: Ready>(link: &mut Option<Link>, slot: usize, ready: &mut R) -> bool
-    ensures taken { HasTaken slot link.old link.new (R.log ready.old) (R.log ready.new) }
-    ensures rests { OnTrue result (IfSome link.old (λ l. length l.pending + 520 ≤ 6240)) }
-{
-    match link {
-        Some(link) => {
-            let had_room = link.has_room();
-            let count = ready.write(slot, link.pending());
-            link.taken(count);
-            had_room
-        }
-        None => true,
-    }
-}
-
-/// What comes of the link in a slot to which nothing more is due.
-fn look(link: &Option<Link>, is_ended: bool) -> Settled
-    ensures { (feed : List Window) → IfRested feed link.now → IsOutcome feed is_ended link.now result }
-{
-    match link {
-        Some(link) => {
-            if link.is_closable_at_rest(is_ended) {
-                Settled::Closes
-            } else {
-                Settled::Wants(link.wishes())
-            }
-        }
-        None => Settled::Empty,
-    }
-}
-
-/// Has the session of the link in a slot say what is due, and answers what comes of the link.
-fn fill(link: &mut Option<Link>, feed: &Feed, is_ended: bool) -> Settled
-    requires { IfSome link.old (λ l. Fits feed.now l.session.state) }
-    ensures filled { HasFilled feed.now link.old link.new }
-    ensures outcome { IsOutcome feed.now is_ended link.new result }
-{
-    match link {
-        Some(link) => {
-            link.fill(feed);
-            if link.is_closable(feed, is_ended) {
-                Settled::Closes
-            } else {
-                Settled::Wants(link.wishes())
-            }
-        }
-        None => Settled::Empty,
-    }
 }
 
 impl Server {
@@ -146,7 +70,7 @@ impl Server {
     {
         Ok(Server {
             intake: Intake::new(feed),
-            links: slots(alloc, clients)?,
+            links: Links::new(alloc, clients)?,
             is_ended: false,
             reads: 0,
         })
@@ -164,7 +88,7 @@ impl Server {
         ensures { OnTrue result (AreEmpty self.now.links) }
     {
         for slot in 0..self.links.len() {
-            if self.links[slot].is_some() {
+            if self.links.is_taken(slot) {
                 return false;
             }
         }
@@ -250,8 +174,8 @@ impl Server {
         let count = ready.read_input(&mut buf);
         self.reads += 1;
         match self.intake.take(&buf[..count]) {
-            Ok(()) => {
-                self.settle_all(ready);
+            Ok(places) => {
+                self.settle_those(places, ready);
                 Ok(())
             }
             Err(fault) => {
@@ -344,7 +268,7 @@ impl Server {
         ensures tends { Tends self.old self.new (R.log ready.old) (R.log ready.new) }
     {
         if ready.accept(slot) {
-            self.links[slot] = Some(Link::new());
+            self.links.put(slot, Link::new());
             ready.wants_links(self.wants_links());
             self.settle(slot, ready);
         }
@@ -367,7 +291,7 @@ impl Server {
             return None;
         }
         for slot in 0..self.links.len() {
-            if self.links[slot].is_none() {
+            if !self.links.is_taken(slot) {
                 return Some(slot);
             }
         }
@@ -382,7 +306,7 @@ impl Server {
         ensures tends { Tends self.old self.new (R.log ready.old) (R.log ready.new) }
     {
         if slot < self.links.len() {
-            hear(&mut self.links[slot], self.intake.feed(), slot, ready);
+            self.links.hear(slot, self.intake.feed(), ready);
             self.settle(slot, ready);
         }
     }
@@ -395,7 +319,7 @@ impl Server {
         ensures tends { Tends self.old self.new (R.log ready.old) (R.log ready.new) }
     {
         if slot < self.links.len() {
-            if tell(&mut self.links[slot], slot, ready) {
+            if self.links.tell(slot, ready) {
                 self.settle_at_rest(slot, ready);
             } else {
                 self.settle(slot, ready);
@@ -423,7 +347,7 @@ impl Server {
         ensures log { R.log ready.new
             ≡ (R.log ready.old ++ Gone slot ∷ []) ++ WantsLinks (not self.old.is_ended) ∷ [] }
     {
-        self.links[slot] = None;
+        self.links.clear(slot);
         ready.close(slot);
         ready.wants_links(!self.is_ended);
     }
@@ -440,6 +364,20 @@ impl Server {
         }
     }
 
+    /// Settles each link that may be sent records of some of these places. The others are as they were.
+    fn settle_those<R: Ready>(&mut self, places: Places, ready: &mut R)
+        requires { IsSound self.old }
+        ensures keeps { KeepsServing self.old self.new (R.log ready.old) (R.log ready.new) }
+        ensures closes { Closes (R.log ready.old) (R.log ready.new) }
+        ensures tends { TendsBut places self.old self.new (R.log ready.old) (R.log ready.new) }
+    {
+        for slot in 0..self.links.len() {
+            if self.links.waits_for(slot, places) {
+                self.settle(slot, ready);
+            }
+        }
+    }
+
     /// Has the session of the link in a slot say what is due, and says what is wanted of the link, or closes it.
     fn settle<R: Ready>(&mut self, slot: usize, ready: &mut R)
         requires sound { IsSound self.old }
@@ -448,7 +386,7 @@ impl Server {
         ensures closes { Closes (R.log ready.old) (R.log ready.new) }
         ensures settles { Settles slot self.old self.new (R.log ready.old) (R.log ready.new) }
     {
-        match fill(&mut self.links[slot], self.intake.feed(), self.is_ended) {
+        match self.links.fill(slot, self.intake.feed(), self.is_ended) {
             Settled::Empty => {}
             Settled::Wants(wishes) => ready.wants(slot, wishes),
             Settled::Closes => self.close(slot, ready),
@@ -464,7 +402,7 @@ impl Server {
         ensures settles { IfRested self.old.intake.feed (get_or self.old.links slot None)
             → Settles slot self.old self.new (R.log ready.old) (R.log ready.new) }
     {
-        match look(&self.links[slot], self.is_ended) {
+        match self.links.look(slot, self.is_ended) {
             Settled::Empty => {}
             Settled::Wants(wishes) => ready.wants(slot, wishes),
             Settled::Closes => self.close(slot, ready),

@@ -1,11 +1,13 @@
 -- What each step of a server keeps.
-use Rattle.std.specs.Prelude.{◌≡◌, ◌≢◌, ℕ, true, List, length, Result, IfErr, OnErr}
+use Rattle.std.specs.Prelude.{◌≡◌, ◌≢◌, ℕ, true, List, None, get_or, length, Result, IfErr, OnErr}
 use Rattle.slink_feed.specs.Window.{Window}
 use Rattle.slink_live.specs.declared.fault.InputFault.{InputFault}
 use Rattle.slink_live.specs.Awake.{Goes, IsAwake, IsAwakeIn, IsClosedRightly, IsTold}
 use Rattle.slink_live.specs.Happening.{Happening, input_of}
 use Rattle.slink_live.specs.Input.{IsInputFault, places_of}
 use Rattle.slink_live.specs.Served.{IsServing, IsSound, ServerState}
+use Rattle.slink_live.specs.declared.places.Places.{Places}
+use Rattle.slink_live.specs.private.Granting.{LeavesOut}
 
 -- Links alone changed, or left.
 pub record Stays (old new : ServerState) : Type 0 where
@@ -47,6 +49,8 @@ pub record Settles (j : ℕ) (old new : ServerState) (before after : List Happen
   -- A link is closed by right.
   pub closed : (start : List Window) → IsServing start old before → IsTold old before
       → Goes (IsClosedRightly start) before after
+  -- The other slots are as they were.
+  pub others : (k : ℕ) → k ≢ j → get_or new.links k None ≡ get_or old.links k None
 
 -- A step behind which no link sleeps, where none slept before.
 pub record Tends (old new : ServerState) (before after : List Happening) : Type 0 where
@@ -65,3 +69,10 @@ pub record TendsAll (old new : ServerState) (before after : List Happening) : Ty
 pub record TendsAnew (old new : ServerState) (before after : List Happening) : Type 0 where
   pub awake : IsAwake new after
   pub closed : (start : List Window) → IsServing start old before → Goes (IsClosedRightly start) before after
+
+-- The same, where no link sleeps but those that are sent records of some of these places.
+pub record TendsBut (places : Places) (old new : ServerState) (before after : List Happening) : Type 0 where
+  pub awake : IsTold old before
+      → ((k : ℕ) → LeavesOut places (get_or old.links k None) → IsAwakeIn old before k) → IsAwake new after
+  pub closed : (start : List Window) → IsServing start old before → IsTold old before
+      → Goes (IsClosedRightly start) before after

@@ -11,9 +11,9 @@ push-requires c = (
   ),
 )
 
-pub returns-in-Some-clause-yes : goal.returns-in-Some-clause-yes
-returns-in-Some-clause-yes c =
+pub returns-in-Some-clause-some : goal.returns-in-Some-clause-some
+returns-in-Some-clause-some c =
     is_pushed c.args.feed.now c.push.new.self c.args.bytes.now c.in-Some.k c.in-Some.ensures.some c.push.ensures.pushed
 
-pub returns-in-None-clause-no : goal.returns-in-None-clause-no
-returns-in-None-clause-no c = of_none c.args.feed.now c.args.bytes.now (c.in-None.ensures.none refl)
+pub returns-in-None-clause-none : goal.returns-in-None-clause-none
+returns-in-None-clause-none c = of_none c.args.feed.now c.args.bytes.now (c.in-None.ensures.none refl)

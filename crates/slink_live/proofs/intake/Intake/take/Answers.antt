@@ -1,4 +1,4 @@
-use Rattle.std.proofs.Common.{◌≡◌, ap, subst, arith, List, ℕ, length-take, take, Some}
+use Rattle.std.proofs.Common.{◌≡◌, ◌∙◌, ap, refl, subst, arith, List, ℕ, length-take, take, Some}
 use Rattle.std.proofs.Common.{slice_get}
 use Rattle.std.proofs.lemmas.Result.{err_from_is_err_and}
 use Rattle.slink_feed.specs.Window.{Window}
@@ -12,6 +12,7 @@ loop-start-init c = record {
   within = omega arith;
   cuts = nothing_cut c.args.self.now;
   short = c.requires.short;
+  stays = λ k none. refl;
 }
 
 pub look-requires : goal.look-requires
@@ -45,17 +46,21 @@ pub loop-start-preserved : goal.loop-start-preserved
 loop-start-preserved c = record {
   within = omega (arith, c.wanted-count.ensures.within, c.loop-start-test.true);
   cuts = look_on c.args.self.now c.loop-start.self c.keep.new.self c.args.bytes.now c.loop-start.start
-      c.wanted-count.result c.loop-start.invariant.cuts c.keep.ensures.kept c.look.new.self c.in_ok-look.ensures.ok;
+      c.wanted-count.result c.loop-start.invariant.cuts c.keep.ensures.kept c.look.new.self c.in_ok-places.ensures.ok;
   short = look_short c.args.self.now c.loop-start.self c.keep.new.self c.args.bytes.now c.loop-start.start
-      c.wanted-count.result c.loop-start.invariant.cuts c.keep.ensures.kept c.look.new.self c.in_ok-look.ensures.ok;
+      c.wanted-count.result c.loop-start.invariant.cuts c.keep.ensures.kept c.look.new.self c.in_ok-places.ensures.ok;
+  stays = λ k none.
+      let beside = c.in_ok-places.ensures.others k none in
+      beside.1 ∙ (ap (λ (s : IntakeState). slice_get s.feed k) c.keep.ensures.kept
+      ∙ c.loop-start.invariant.stays k beside.0);
 }
 
-pub returns-in_err-look-clause-err : goal.returns-in_err-look-clause-err
-returns-in_err-look-clause-err c =
-    let fault = c.in_err-look.field-0.0 in
+pub returns-in_err-places-clause-err : goal.returns-in_err-places-clause-err
+returns-in_err-places-clause-err c =
+    let fault = c.in_err-places.field-0.0 in
     let off : CutsOff c.args.self.now c.args.bytes.now c.look.new.self fault =
     look_off c.args.self.now c.loop-start.self c.keep.new.self c.args.bytes.now c.loop-start.start
     c.wanted-count.result c.loop-start.invariant.cuts c.keep.ensures.kept c.look.new.self fault
-    c.in_err-look.ensures.stays c.in_err-look.ensures.err in
+    c.in_err-places.ensures.stays c.in_err-places.ensures.err in
     let p = err_from_is_err_and c.from_residual.result c.from_residual.ensures.1 in
     rw (p.1, p.2) off

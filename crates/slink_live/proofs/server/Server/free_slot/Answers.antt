@@ -1,34 +1,28 @@
-use Rattle.std.proofs.Common.{◌≡◌, ◌≢◌, ap, arith, false, true, length, subst, None, get_or}
-use Rattle.std.specs.Option.{is_some}
+use Rattle.std.proofs.Common.{◌≡◌, ◌≢◌, ◌∙◌, ap, arith, length, subst, sym, None, get_or}
 use Rattle.slink_live.specs.Served.{ServerState}
 use Rattle.slink_live.proofs.Steps.{none_at, taken_at, taken_more}
 use Rattle.slink_live.proofs.Tending.{all_taken, none_free}
 use Rattle.slink_live.proofs.server.Server.free_slot.Goals as goal
 
-pub returns-then-is_none-clause-some : goal.returns-then-is_none-clause-some
-returns-then-is_none-clause-some c = record {
+pub returns-then-not-is_taken-clause-some : goal.returns-then-not-is_taken-clause-some
+returns-then-not-is_taken-clause-some c = record {
   within = omega (
     arith,
     c.loop-slot-test.true,
     c.len-slot-end.ensures,
     ap (λ (s : ServerState). length s.links) c.self.view_is,
   );
-  free =
-      let free : is_some c.index.result.now ≡ false = c.if-is_none.ensures in
-      subst (λ (x : ServerState). get_or x.links c.loop-slot.slot None ≡ None) c.self.view_is
-      (none_at c.self.inside.links.items c.loop-slot.slot c.index.result.now c.index.ensures free
-      (omega (arith, c.loop-slot-test.true, c.len-slot-end.ensures)));
+  free = subst (λ (x : ServerState). get_or x.links c.loop-slot.slot None ≡ None) c.self.view_is
+      (none_at c.self.inside.links c.loop-slot.slot (sym c.is_taken.ensures ∙ c.if-not-is_taken.true));
   first = c.loop-slot.invariant.taken;
 }
 
 pub loop-slot-preserved : goal.loop-slot-preserved
 loop-slot-preserved c = record {
-  taken =
-      let stands : is_some c.index.result.now ≡ true = c.if-is_none.ensures in
-      taken_more c.args.self.now.links c.loop-slot.slot
+  taken = taken_more c.args.self.now.links c.loop-slot.slot
       (subst (λ (x : ServerState). get_or x.links c.loop-slot.slot None ≢ None) c.self.view_is
-      (taken_at c.self.inside.links.items c.loop-slot.slot c.index.result.now c.index.ensures stands
-      (omega (arith, c.loop-slot-test.true, c.len-slot-end.ensures)))) c.loop-slot.invariant.taken;
+      (taken_at c.self.inside.links c.loop-slot.slot (sym c.is_taken.ensures ∙ c.if-not-is_taken.false)))
+      c.loop-slot.invariant.taken;
 }
 
 pub returns-clause-none : goal.returns-clause-none

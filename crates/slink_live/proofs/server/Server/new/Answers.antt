@@ -4,13 +4,13 @@ use Rattle.slink_live.proofs.server.Server.new.Goals as goal
 
 pub returns-clause-serving : goal.returns-clause-serving
 returns-clause-serving c =
-    rw c.new.ensures (begun_serving c.args.feed c.in_ok-slots.field-0.items c.in_ok-slots.ensures.empty)
+    rw c.new.ensures (begun_serving c.args.feed c.in_ok-new.field-0 c.in_ok-new.ensures.empty)
 
 pub returns-clause-sound : goal.returns-clause-sound
 returns-clause-sound c =
-    rw c.new.ensures (begun_sound c.args.feed c.in_ok-slots.field-0.items c.in_ok-slots.ensures.empty c.requires)
+    rw c.new.ensures (begun_sound c.args.feed c.in_ok-new.field-0 c.in_ok-new.ensures.empty c.requires)
 
 pub returns-clause-awake : goal.returns-clause-awake
 returns-clause-awake c some =
-    rw c.new.ensures (begun_awake c.args.feed c.in_ok-slots.field-0.items c.in_ok-slots.ensures.empty
-    (omega (arith, some, c.in_ok-slots.ensures.count)))
+    rw c.new.ensures (begun_awake c.args.feed c.in_ok-new.field-0 c.in_ok-new.ensures.empty
+    (omega (arith, some, c.in_ok-new.ensures.count)))

@@ -1,22 +1,24 @@
 use Rattle.std.proofs.Common.{◌<◌, length, refl, subst, sym}
 use Rattle.slink_live.specs.Served.{ServerState}
 use Rattle.slink_live.specs.Happening.{Wants}
+use Rattle.slink_live.proofs.Moving.{all_fit, closed_on, closes_on, empty_on, filled_on, wants_on}
 use Rattle.slink_live.proofs.Slots.{closes_none, closes_told}
-use Rattle.slink_live.proofs.Steps.{closes_gone, filled_keeps, keeps_both, keeps_quiet, seen_fits}
-use Rattle.slink_live.proofs.Settling.{closes_keeps, seen_closes, seen_empty, seen_wants}
+use Rattle.slink_live.proofs.Steps.{closes_gone, keeps_both, keeps_quiet}
 use Rattle.slink_live.proofs.server.Server.settle.Goals as goal
 
 pub fill-requires : goal.fill-requires
-fill-requires g c =
-    seen_fits c.self.view_is c.args.slot
-    (subst (λ (x : ServerState). c.args.slot < length x.links) (sym c.self.view_is) c.requires.within)
-    c.feed.ensures c.index_mut.ensures.value c.requires.sound
+fill-requires g c = record {
+  within = subst (λ (x : ServerState). c.args.slot < length x.links) (sym c.self.view_is) c.requires.within;
+  fits = all_fit c.self.view_is c.args.slot
+      (subst (λ (x : ServerState). c.args.slot < length x.links) (sym c.self.view_is) c.requires.within)
+      c.requires.sound c.feed.ensures;
+}
 
 pub returns-in-Empty-clause-keeps : goal.returns-in-Empty-clause-keeps
 returns-in-Empty-clause-keeps g c =
-    filled_keeps c.self.view_is c.args.slot
+    filled_on c.self.view_is c.args.slot
     (subst (λ (x : ServerState). c.args.slot < length x.links) (sym c.self.view_is) c.requires.within)
-    c.fill.new.link c.requires.sound c.feed.ensures c.index_mut.ensures.value c.in-Empty.ensures.filled refl
+    c.requires.sound _ c.feed.ensures c.in-Empty.ensures
 
 pub returns-in-Empty-clause-closes : goal.returns-in-Empty-clause-closes
 returns-in-Empty-clause-closes g c =
@@ -24,17 +26,16 @@ returns-in-Empty-clause-closes g c =
 
 pub returns-in-Empty-clause-settles : goal.returns-in-Empty-clause-settles
 returns-in-Empty-clause-settles g c =
-    seen_empty c.self.view_is c.args.slot
+    empty_on c.self.view_is c.args.slot
     (subst (λ (x : ServerState). c.args.slot < length x.links) (sym c.self.view_is) c.requires.within)
-    c.requires.sound c.feed.ensures c.index_mut.ensures.value c.fill.new.link c.in-Empty.ensures.filled
-    c.in-Empty.ensures.outcome refl
+    c.requires.sound c.feed.ensures c.in-Empty.ensures
 
 pub returns-in-Wants-clause-keeps : goal.returns-in-Wants-clause-keeps
 returns-in-Wants-clause-keeps g c =
     keeps_quiet (Wants c.args.slot c.in-Wants.wishes) refl (λ k. refl) c.wants.ensures.log
-    (filled_keeps c.self.view_is c.args.slot
+    (filled_on c.self.view_is c.args.slot
     (subst (λ (x : ServerState). c.args.slot < length x.links) (sym c.self.view_is) c.requires.within)
-    c.fill.new.link c.requires.sound c.feed.ensures c.index_mut.ensures.value c.in-Wants.ensures.filled refl)
+    c.requires.sound _ c.feed.ensures c.in-Wants.ensures)
 
 pub returns-in-Wants-clause-closes : goal.returns-in-Wants-clause-closes
 returns-in-Wants-clause-closes g c =
@@ -43,20 +44,18 @@ returns-in-Wants-clause-closes g c =
 
 pub returns-in-Wants-clause-settles : goal.returns-in-Wants-clause-settles
 returns-in-Wants-clause-settles g c =
-    seen_wants c.self.view_is c.args.slot
+    wants_on c.self.view_is c.args.slot
     (subst (λ (x : ServerState). c.args.slot < length x.links) (sym c.self.view_is) c.requires.within)
-    c.requires.sound c.feed.ensures c.index_mut.ensures.value c.fill.new.link c.in-Wants.wishes
-    c.in-Wants.ensures.filled c.in-Wants.ensures.outcome c.wants.ensures.log
+    c.requires.sound c.in-Wants.wishes c.feed.ensures c.in-Wants.ensures c.wants.ensures.log
 
 pub returns-in-Closes-clause-keeps : goal.returns-in-Closes-clause-keeps
 returns-in-Closes-clause-keeps g c =
-    keeps_both (filled_keeps c.self.view_is c.args.slot
+    keeps_both (filled_on c.self.view_is c.args.slot
     (subst (λ (x : ServerState). c.args.slot < length x.links) (sym c.self.view_is) c.requires.within)
-    c.fill.new.link c.requires.sound c.feed.ensures c.index_mut.ensures.value c.in-Closes.ensures.filled refl)
-    (closes_keeps c.self.view_is c.args.slot
+    c.requires.sound _ c.feed.ensures c.in-Closes.ensures)
+    (closed_on c.self.view_is c.args.slot
     (subst (λ (x : ServerState). c.args.slot < length x.links) (sym c.self.view_is) c.requires.within)
-    c.requires.sound c.feed.ensures c.index_mut.ensures.value c.fill.new.link c.in-Closes.ensures.filled
-    c.close.ensures.links c.close.ensures.log)
+    c.requires.sound c.close.ensures.links c.close.ensures.log c.feed.ensures c.in-Closes.ensures)
 
 pub returns-in-Closes-clause-closes : goal.returns-in-Closes-clause-closes
 returns-in-Closes-clause-closes g c =
@@ -64,7 +63,6 @@ returns-in-Closes-clause-closes g c =
 
 pub returns-in-Closes-clause-settles : goal.returns-in-Closes-clause-settles
 returns-in-Closes-clause-settles g c =
-    seen_closes c.self.view_is c.args.slot
+    closes_on c.self.view_is c.args.slot
     (subst (λ (x : ServerState). c.args.slot < length x.links) (sym c.self.view_is) c.requires.within)
-    c.requires.sound c.feed.ensures c.index_mut.ensures.value c.fill.new.link c.in-Closes.ensures.filled
-    c.in-Closes.ensures.outcome c.close.ensures.links c.close.ensures.log
+    c.requires.sound c.close.ensures.links c.close.ensures.log c.feed.ensures c.in-Closes.ensures

@@ -9,7 +9,7 @@ pub loop-slot-init : goal.loop-slot-init
 loop-slot-init g c = record {
   keeps = keeps_same c.args.self.now _ _ refl c.requires;
   closes = closes_none (g.R.Ready.log c.args.ready.now) (g.R.Ready.log c.args.ready.now) refl;
-  settled = settled_none c.args.self.now (g.R.Ready.log c.args.ready.now);
+  settled = settled_none (λ k. ⊥) c.args.self.now (g.R.Ready.log c.args.ready.now);
 }
 
 pub settle-requires : goal.settle-requires

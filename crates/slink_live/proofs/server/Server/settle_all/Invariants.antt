@@ -7,5 +7,5 @@ abbrev pub invariant-loop-slot : goal.invariant-loop-slot
 invariant-loop-slot g l = record {
   keeps : KeepsServing l.fn.self l.self (g.R.Ready.log l.fn.ready) (g.R.Ready.log l.ready);
   closes : Closes (g.R.Ready.log l.fn.ready) (g.R.Ready.log l.ready);
-  settled : HasSettled l.fn.self l.self l.slot (g.R.Ready.log l.fn.ready) (g.R.Ready.log l.ready);
+  settled : HasSettled (λ k. ⊥) l.fn.self l.self l.slot (g.R.Ready.log l.fn.ready) (g.R.Ready.log l.ready);
 }

@@ -1,8 +1,8 @@
-use Rattle.std.proofs.Common.{◌<◌, length, refl, subst, sym}
+use Rattle.std.proofs.Common.{◌<◌, get_or, length, refl, subst, sym, None}
 use Rattle.slink_live.specs.Served.{ServerState}
 use Rattle.slink_live.specs.Happening.{Wants}
 use Rattle.slink_live.proofs.Slots.{closes_told}
-use Rattle.slink_live.proofs.Steps.{closed_keeps, closes_gone, keeps_quiet, keeps_same}
+use Rattle.slink_live.proofs.Steps.{closed_keeps, closes_gone, keeps_quiet, keeps_same, same_default}
 use Rattle.slink_live.proofs.Settling.{look_closes, look_empty, look_wants}
 use Rattle.slink_live.proofs.server.Server.settle_at_rest.Goals as goal
 
@@ -10,7 +10,9 @@ pub returns-in-Empty-clause-settles : goal.returns-in-Empty-clause-settles
 returns-in-Empty-clause-settles g c =
     look_empty c.self.view_is c.args.slot
     (subst (λ (x : ServerState). c.args.slot < length x.links) (sym c.self.view_is) c.requires.within)
-    c.index.ensures c.look.result c.look.ensures c.in-Empty.is refl
+    (same_default c.self.inside.links c.args.slot None (get_or c.self.inside.links c.args.slot None)
+    (subst (λ (x : ServerState). c.args.slot < length x.links) (sym c.self.view_is) c.requires.within))
+    c.look.result c.look.ensures c.in-Empty.is refl
 
 pub returns-in-Wants-clause-keeps : goal.returns-in-Wants-clause-keeps
 returns-in-Wants-clause-keeps g c =
@@ -26,7 +28,9 @@ pub returns-in-Wants-clause-settles : goal.returns-in-Wants-clause-settles
 returns-in-Wants-clause-settles g c =
     look_wants c.self.view_is c.args.slot
     (subst (λ (x : ServerState). c.args.slot < length x.links) (sym c.self.view_is) c.requires.within)
-    c.index.ensures c.look.result c.look.ensures c.in-Wants.wishes c.in-Wants.is
+    (same_default c.self.inside.links c.args.slot None (get_or c.self.inside.links c.args.slot None)
+    (subst (λ (x : ServerState). c.args.slot < length x.links) (sym c.self.view_is) c.requires.within))
+    c.look.result c.look.ensures c.in-Wants.wishes c.in-Wants.is
     c.wants.ensures.log
 
 pub returns-in-Closes-clause-keeps : goal.returns-in-Closes-clause-keeps
@@ -43,5 +47,7 @@ pub returns-in-Closes-clause-settles : goal.returns-in-Closes-clause-settles
 returns-in-Closes-clause-settles g c =
     look_closes c.self.view_is c.args.slot
     (subst (λ (x : ServerState). c.args.slot < length x.links) (sym c.self.view_is) c.requires.within)
-    c.index.ensures c.look.result c.look.ensures c.in-Closes.is
+    (same_default c.self.inside.links c.args.slot None (get_or c.self.inside.links c.args.slot None)
+    (subst (λ (x : ServerState). c.args.slot < length x.links) (sym c.self.view_is) c.requires.within))
+    c.look.result c.look.ensures c.in-Closes.is
     c.close.ensures.links c.close.ensures.log

@@ -1,34 +1,31 @@
-use Rattle.std.proofs.Common.{◌∙◌, ◌<◌, ◌++◌, ◌∷◌, [], List, Some, ap, arith, length, length-set, refl, subst, sym}
+use Rattle.std.proofs.Common.{◌∙◌, ◌<◌, ◌++◌, ◌∷◌, [], List, ap, length, refl, subst, sym}
 use Rattle.slink_live.specs.Happening.{Happening, Missed, Opened, WantsLinks}
 use Rattle.slink_live.specs.Served.{ServerState}
 use Rattle.slink_live.specs.Turns.{misses, takes}
-use Rattle.slink_live.proofs.Settling.{missed_tends, opened_in}
+use Rattle.slink_live.proofs.Moving.{opened_on, opens_on, within_on}
+use Rattle.slink_live.proofs.Settling.{missed_tends}
 use Rattle.slink_live.proofs.Slots.{closes_both, closes_none, closes_told}
-use Rattle.slink_live.proofs.Steps.{keeps_both, keeps_quiet, keeps_same, opened_keeps}
+use Rattle.slink_live.proofs.Steps.{keeps_both, keeps_quiet, keeps_same}
 use Rattle.slink_live.proofs.server.Server.take.Goals as goal
 
 pub settle-requires : goal.settle-requires
 settle-requires g c = record {
-  sound = (opened_keeps c.self.view_is c.args.slot
+  sound = (opened_on c.self.view_is c.args.slot
       (subst (λ (x : ServerState). c.args.slot < length x.links) (sym c.self.view_is) c.requires.free.within)
-      (Some c.new.result)
-      {log = (g.R.Ready.log c.args.ready.now)} c.requires.sound c.new.result refl c.requires.free.free
+      c.requires.sound {log = g.R.Ready.log c.args.ready.now} c.new.result c.put.ensures c.requires.free.free
       c.new.ensures.session c.new.ensures.pending c.new.ensures.place
       (c.new.ensures.fits c.args.self.now.intake.feed) refl).sound;
-  within = omega (
-    arith,
-    (subst (λ (x : ServerState). c.args.slot < length x.links) (sym c.self.view_is) c.requires.free.within),
-    length-set c.self.inside.links.items c.args.slot (Some c.new.result),
-  );
+  within = within_on c.self.view_is c.args.slot
+      (subst (λ (x : ServerState). c.args.slot < length x.links) (sym c.self.view_is) c.requires.free.within)
+      c.requires.sound c.new.result c.put.ensures;
 }
 
 pub returns-then-accept-clause-keeps : goal.returns-then-accept-clause-keeps
 returns-then-accept-clause-keeps g c =
     keeps_both (keeps_quiet (WantsLinks c.wants_links.result) refl (λ k. refl) c.wants_links-then-accept.ensures.log
-    (opened_keeps c.self.view_is c.args.slot
+    (opened_on c.self.view_is c.args.slot
     (subst (λ (x : ServerState). c.args.slot < length x.links) (sym c.self.view_is) c.requires.free.within)
-    (Some c.new.result)
-    c.requires.sound c.new.result refl c.requires.free.free c.new.ensures.session c.new.ensures.pending
+    c.requires.sound c.new.result c.put.ensures c.requires.free.free c.new.ensures.session c.new.ensures.pending
     c.new.ensures.place (c.new.ensures.fits c.args.self.now.intake.feed) c.if-accept.ensures.log))
     c.settle.ensures.keeps
 
@@ -44,9 +41,9 @@ returns-then-accept-clause-called g c =
 
 pub returns-then-accept-clause-tends : goal.returns-then-accept-clause-tends
 returns-then-accept-clause-tends g c =
-    opened_in c.self.view_is c.args.slot
+    opens_on c.self.view_is c.args.slot
     (subst (λ (x : ServerState). c.args.slot < length x.links) (sym c.self.view_is) c.requires.free.within)
-    c.new.result c.requires.sound c.requires.free.free c.new.ensures.session c.new.ensures.pending
+    c.requires.sound c.new.result c.put.ensures c.requires.free.free c.new.ensures.session c.new.ensures.pending
     c.new.ensures.place (c.new.ensures.fits c.args.self.now.intake.feed) c.if-accept.ensures.log
     c.wants_links-then-accept.ensures.log c.wants_links.ensures c.settle.ensures.settles
 

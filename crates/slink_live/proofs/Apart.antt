@@ -1,0 +1,127 @@
+-- What is due to a link is by the rings of the places that it was granted: a record of others changes nothing of it.
+use Rattle.std.proofs.Common.{◌≡◌, ◌≢◌, ℕ, suc, ◌<◌, ◌⊎◌, ◌==◌, ◌∙◌, ap, ap₂, subst, refl, sym, arith, inl, inr}
+use Rattle.std.proofs.Common.{Bool, ◌&&◌, List, [], ◌∷◌, length, Option, Some, None, slice_get, if◌then◌else◌}
+use Rattle.slink_feed.specs.declared.grant.Grant.{Grant}
+use Rattle.slink_feed.specs.declared.session.Phase.{Phase}
+use Rattle.slink_feed.specs.declared.session.Phase.TheVariants as Phases
+use Rattle.slink_feed.specs.Session.{Grants, IsWaiting, State, all_done, at_next, grant_at, is_done, packet_at, sent}
+use Rattle.slink_feed.specs.Session.{sent_in, sent_of}
+use Rattle.slink_feed.specs.Window.{Window, record_at}
+use Rattle.slink_live.specs.declared.places.Places.{Places}
+use Rattle.slink_live.specs.declared.ready.Wishes.{Wishes}
+use Rattle.slink_live.specs.Awake.{HasAll, IsClosable, IsLost, IsSettled, Sleeps, has_all, is_lost, is_over, waits}
+use Rattle.slink_live.specs.Awake.{writes}
+use Rattle.slink_live.specs.Served.{LinkState}
+use Rattle.slink_live.specs.private.Granting.{Has, LeavesOut, StaysBut}
+
+-- The rings of the places with a grant are the same.
+abbrev AreAlike : List Window → List Window → Grants → Type 0
+AreAlike old new gs = (k : ℕ) → (grant_at gs k ≡ None) ⊎ (slice_get new k ≡ slice_get old k)
+
+same_some : (v w : Window) → Some v ≡ Some w → v ≡ w
+same_some v w e = cc e
+
+one_done : (w v : Window) (o : Option Grant) → (o ≡ None) ⊎ (Some v ≡ Some w) → is_done v o ≡ is_done w o
+one_done w v o (inl none) = ap (is_done v) none ∙ sym (ap (is_done w) none)
+one_done w v o (inr same) = ap (λ (x : Window). is_done x o) (same_some v w same)
+
+done_alike : (ws vs : List Window) (gs : Grants) → length vs ≡ length ws → AreAlike ws vs gs
+    → all_done vs gs ≡ all_done ws gs
+done_alike [] [] gs long alike = refl
+done_alike [] (v ∷ vs) gs long alike = absurd (omega (arith, long))
+done_alike (w ∷ ws) [] gs long alike = absurd (omega (arith, long))
+done_alike (w ∷ ws) (v ∷ vs) [] long alike = refl
+done_alike (w ∷ ws) (v ∷ vs) (o ∷ gs) long alike =
+    ap₂ (λ (a b : Bool). a && b) (one_done w v o (alike 0))
+    (done_alike ws vs gs (omega (arith, long)) (λ k. alike (suc k)))
+
+module _ (old new : List Window) (s : State) (done : all_done new s.grants ≡ all_done old s.grants) (k : ℕ) where
+  alike_ring : (g : Grant) (r : Option Window) → sent_of new s k (Some g) r ≡ sent_of old s k (Some g) r
+  alike_ring g None = refl
+  alike_ring g (Some w) =
+      ap (λ (b : Bool). if g.position == w.next then at_next b s else packet_at s k g (record_at w g.position)) done
+
+  alike_of : (o : Option Grant) (r q : Option Window) → (o ≡ None) ⊎ (q ≡ r)
+      → sent_of new s k o q ≡ sent_of old s k o r
+  alike_of None r q alike = refl
+  alike_of (Some g) r q (inl none) = absurd (let bad : Some g ≡ None = none in cc bad)
+  alike_of (Some g) r q (inr same) = ap (sent_of new s k (Some g)) same ∙ alike_ring g r
+
+alike_in : (p : Phase) (old new : List Window) (s : State) → length new ≡ length old
+    → (p ≡ Phases.Streaming → AreAlike old new s.grants) → (k : ℕ) → sent_in p new s k ≡ sent_in p old s k
+alike_in Phases.Fresh old new s long alike k = refl
+alike_in (Phases.Chosen j) old new s long alike k = refl
+alike_in (Phases.Granted j) old new s long alike k = refl
+alike_in Phases.Streaming old new s long alike k =
+    alike_of old new s (done_alike old new s.grants long (alike refl)) k (grant_at s.grants k) (slice_get old k)
+    (slice_get new k) (alike refl k)
+alike_in Phases.Closed old new s long alike k = refl
+
+-- What a link's session gives is the same.
+module _ (old new : List Window) (s : State) (long : length new ≡ length old)
+    (alike : s.phase ≡ Phases.Streaming → AreAlike old new s.grants) where
+  sent_alike : (k : ℕ) → sent new s k ≡ sent old s k
+  sent_alike = alike_in s.phase old new s long alike
+
+  waits_on : IsWaiting old s → IsWaiting new s
+  waits_on waiting k lt = sent_alike k ∙ waiting k (omega (arith, lt, long))
+
+  waited : IsWaiting new s → IsWaiting old s
+  waited waiting k lt = sym (sent_alike k) ∙ waiting k (omega (arith, lt, long))
+
+  was_lost : IsLost new s → IsLost old s
+  was_lost lost = record {
+    streams = lost.streams;
+    k = lost.k;
+    place = record {
+      ring = lost.place.ring;
+      grant = lost.place.grant;
+      there = elim (alike lost.streams lost.k) [
+        | inl none ↦ absurd (let bad : None ≡ Some lost.place.grant = sym none ∙ lost.place.granted in cc bad)
+        | inr same ↦ sym same ∙ lost.place.there
+      ];
+      granted = lost.place.granted;
+      left = lost.place.left;
+    };
+  }
+
+module _ (old new : List Window) (l : LinkState) (long : length new ≡ length old)
+    (alike : l.session.state.phase ≡ Phases.Streaming → AreAlike old new l.session.state.grants) where
+  was_closable : (is_ended : Bool) → IsClosable new is_ended l → IsClosable old is_ended l
+  was_closable is_ended (is_over over) = is_over over
+  was_closable is_ended (is_lost lost) = is_lost (was_lost old new l.session.state long alike lost)
+  was_closable is_ended (has_all ended all) = has_all ended (record {
+    streams = all.streams;
+    waits = waited old new l.session.state long alike all.waits;
+    none = all.none;
+  })
+
+  sleeps_on : (w : Wishes) → Sleeps old l w → Sleeps new l w
+  sleeps_on w (writes some wants) = writes some wants
+  sleeps_on w (waits none wants waiting) = waits none wants (waits_on old new l.session.state long alike waiting)
+
+  settled_on : (is_ended : Bool) (w : Wishes) → IsSettled old is_ended l w → IsSettled new is_ended l w
+  settled_on is_ended w settled = record {
+    stands = λ c. settled.stands (was_closable is_ended c);
+    sleeps = sleeps_on w settled.sleeps;
+    filled = λ room. elim (settled.filled room) [
+      | inl waiting ↦ inl (waits_on old new l.session.state long alike waiting)
+      | inr shut ↦ inr shut
+    ];
+    reads = settled.reads;
+    streams = settled.streams;
+  }
+
+granted_or : (o : Option Grant) → (o ≡ None) ⊎ ((g : Grant) × (o ≡ Some g))
+granted_or None = inl refl
+granted_or (Some g) = inr (g, refl)
+
+-- A link that is sent no records of the places that got some.
+pub settled_apart : (old new : List Window) (places : Places) (o : Option LinkState) (l : LinkState)
+    → length new ≡ length old → StaysBut places old new → LeavesOut places o → o ≡ Some l
+    → (is_ended : Bool) (w : Wishes) → IsSettled old is_ended l w → IsSettled new is_ended l w
+settled_apart old new places o l long stays out is =
+    settled_on old new l long (λ streams k. elim (granted_or (grant_at l.session.state.grants k)) [
+      | inl none ↦ inl none
+      | inr some ↦ inr (stays k (out l is streams k some.0 some.1))
+    ])

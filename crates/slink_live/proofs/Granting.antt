@@ -1,0 +1,160 @@
+-- Which places concern the links in their slots.
+use Rattle.std.proofs.Common.{◌≡◌, ◌≢◌, ℕ, ◌+◌, ◌<◌, ◌≤◌, ◌⊎◌, ◌∙◌, ap, subst, refl, sym, arith, inl, inr}
+use Rattle.std.proofs.Common.{get_or-set_other, get_or-set_same, length-set, List, length, set, get_or}
+use Rattle.std.proofs.Common.{Option, Some, None, IfSome, option_map, drop, true, false}
+use Rattle.std.proofs.lemmas.Bool.Decides.{eqb_tells}
+use Rattle.std.specs.Option.{is_some}
+use Rattle.slink_feed.specs.declared.grant.Grant.{Grant}
+use Rattle.slink_feed.specs.declared.session.Phase.TheVariants as Phases
+use Rattle.slink_feed.specs.declared.session.Sent.{Sent}
+use Rattle.slink_feed.specs.Serving.{Standing}
+use Rattle.slink_feed.specs.Session.{Fits, Grants, State, grant_at, sent}
+use Rattle.slink_feed.specs.Window.{Window}
+use Rattle.slink_live.specs.declared.places.Places.{Places}
+use Rattle.slink_live.specs.Happening.{Happening}
+use Rattle.slink_live.specs.Served.{AllFit, LinkState, link_state}
+use Rattle.slink_live.specs.Story.{Asks, IsNew, none_called, one_called}
+use Rattle.slink_live.specs.private.Calling.{HasFilled, HasTaken}
+use Rattle.slink_live.specs.private.Granting.{AreCovered, Covers, CoversIn, Has, LeavesOut, no_places}
+use Rattle.slink_live.proofs.Fairness.{grants_no_more, streams_no_more}
+use Rattle.slink_live.proofs.Steps.{link_fits, same_default}
+
+-- one slot changed, and its places with it
+pub covered_set : (links : List (Option LinkState)) (granted : List Places) (j : ℕ) (new : Option LinkState)
+    (places : Places) → AreCovered links granted → j < length links → CoversIn places new
+    → AreCovered (set links j new) (set granted j places)
+covered_set links granted j new places covered lt here = record {
+  count = length-set granted j places ∙ (covered.count ∙ sym (length-set links j new));
+  each = λ k. elim (eqb_tells k j) [
+    | inl same ↦ λ l is. subst (λ i. Covers (get_or (set granted j places) i no_places) l) (sym same.1)
+        (subst (λ (p : Places). Covers p l)
+        (sym (get_or-set_same granted j places no_places (omega (arith, lt, covered.count))))
+        (here l (sym (get_or-set_same links j new None lt)
+        ∙ subst (λ i. get_or (set links j new) i None ≡ Some l) same.1 is)))
+    | inr other ↦ λ l is. subst (λ (p : Places). Covers p l)
+        (sym (get_or-set_other granted j k places no_places other.1))
+        (covered.each k l (sym (get_or-set_other links j k new None other.1) ∙ is))
+  ];
+}
+
+-- one slot changed, and is sent no records of further places
+pub covered_still : (links : List (Option LinkState)) (granted : List Places) (j : ℕ) (new : Option LinkState)
+    → AreCovered links granted → j < length links → CoversIn (get_or granted j no_places) new
+    → AreCovered (set links j new) granted
+covered_still links granted j new covered lt here = record {
+  count = covered.count ∙ sym (length-set links j new);
+  each = λ k. elim (eqb_tells k j) [
+    | inl same ↦ λ l is. subst (λ i. Covers (get_or granted i no_places) l) (sym same.1)
+        (here l (sym (get_or-set_same links j new None lt)
+        ∙ subst (λ i. get_or (set links j new) i None ≡ Some l) same.1 is))
+    | inr other ↦ λ l is. covered.each k l (sym (get_or-set_other links j k new None other.1) ∙ is)
+  ];
+}
+
+pub covers_none : (places : Places) (o : Option LinkState) → o ≡ None → CoversIn places o
+covers_none places o none l is = absurd (let bad : None ≡ Some l = sym none ∙ is in cc bad)
+
+-- a link that is new
+pub covers_new : (places : Places) (l : LinkState) → IsNew l.session → CoversIn places (Some l)
+covers_new places l fresh m is streams =
+    let same : l ≡ m = let both : Some l ≡ Some m = is in cc both in
+    let phase : m.session.state.phase ≡ Phases.Fresh =
+    subst (λ (x : LinkState). x.session.state.phase ≡ Phases.Fresh) same (ap (λ (s : State). s.phase) fresh.state) in
+    absurd (let bad : Phases.Fresh ≡ Phases.Streaming = sym phase ∙ streams in cc bad)
+
+-- one that took bytes
+pub covers_taken : (places : Places) (k : ℕ) (o new : Option LinkState) (log last : List Happening)
+    → CoversIn places o → HasTaken k o new log last → CoversIn places new
+covers_taken places k None new log last covers h m is = covers_none places new h.0 m is
+covers_taken places k (Some l) new log last covers h m is =
+    let both : Some (link_state l.session l.place (drop h.0 l.pending)) ≡ Some m = sym h.1 ∙ is in
+    let same : link_state l.session l.place (drop h.0 l.pending) ≡ m = cc both in
+    subst (Covers places) same (covers l refl)
+
+-- one whose session was called for packets
+asked_streams : (feed : List Window) (s : Standing) (place : ℕ) (way : List ℕ) (last : Standing) (turn : ℕ)
+    (all : List ℕ) → Asks feed s place way last turn all → last.state.phase ≡ Phases.Streaming
+    → s.state.phase ≡ Phases.Streaming
+asked_streams feed s place way last turn all none_called streams = streams
+asked_streams feed s place way last turn all (one_called now t m k answer on a before first given held is) streams =
+    asked_streams feed s place way now m on before (streams_no_more feed now.state t.state k answer given streams)
+
+asked_grants : (feed : List Window) (s : Standing) (place : ℕ) (way : List ℕ) (last : Standing) (turn : ℕ)
+    (all : List ℕ) → Asks feed s place way last turn all → (j : ℕ) → grant_at s.state.grants j ≡ None
+    → grant_at last.state.grants j ≡ None
+asked_grants feed s place way last turn all none_called j none = none
+asked_grants feed s place way last turn all (one_called now t m k answer on a before first given held is) j none =
+    grants_no_more feed now.state t.state k j answer given (asked_grants feed s place way now m on before j none)
+
+granted_before : (o : Option Grant) (q : Option Grant) → (o ≡ None → q ≡ None) → (g : Grant) → q ≡ Some g
+    → (h : Grant) × (o ≡ Some h)
+granted_before None q none g is = absurd (let bad : None ≡ Some g = sym (none refl) ∙ is in cc bad)
+granted_before (Some h) q none g is = (h, refl)
+
+pub covers_filled : (places : Places) (feed : List Window) (o new : Option LinkState) → CoversIn places o
+    → HasFilled feed o new → CoversIn places new
+covers_filled places feed None new covers h m is streams k g granted =
+    covers_none places new h m is streams k g granted
+covers_filled places feed (Some l) new covers h m is streams k g granted =
+    let both : Some h.0 ≡ Some m = sym h.1 ∙ is in
+    let same : h.0 ≡ m = cc both in
+    let on : h.0.session.state.phase ≡ Phases.Streaming =
+    subst (λ (x : LinkState). x.session.state.phase ≡ Phases.Streaming) (sym same) streams in
+    let there : grant_at h.0.session.state.grants k ≡ Some g =
+    subst (λ (x : LinkState). grant_at x.session.state.grants k ≡ Some g) (sym same) granted in
+    let before : (q : Grant) × (grant_at l.session.state.grants k ≡ Some q) =
+    granted_before (grant_at l.session.state.grants k) (grant_at h.0.session.state.grants k)
+    (λ none. asked_grants feed l.session l.place l.pending h.0.session h.0.place h.0.pending h.2 k none) g there in
+    covers l refl
+    (asked_streams feed l.session l.place l.pending h.0.session h.0.place h.0.pending h.2 on) k before.0 before.1
+
+-- Of the places that concern a slot none is among others.
+pub left_out : (covering others : Places) (o : Option LinkState) → CoversIn covering o
+    → ((k : ℕ) → Has covering k → ¬ (Has others k)) → LeavesOut others o
+left_out covering others o covers apart l is streams k g granted = apart k (covers l is streams k g granted)
+
+-- Where no place has a grant so far, or each that has is among these.
+pub has_more : (places more : Places) (gs : Grants) (n : ℕ)
+    → ((j : ℕ) (g : Grant) → j < n → grant_at gs j ≡ Some g → Has places j) → Has more n
+    → ((j : ℕ) → j ≢ n → Has places j → Has more j)
+    → (j : ℕ) (g : Grant) → j < n + 1 → grant_at gs j ≡ Some g → Has more j
+has_more places more gs n before here others j g lt granted = elim (eqb_tells j n) [
+  | inl same ↦ subst (Has more) (sym same.1) here
+  | inr other ↦ others j other.1 (before j g (omega (arith, lt, other.1)) granted)
+]
+
+pub has_same : (places : Places) (gs : Grants) (n : ℕ)
+    → ((j : ℕ) (g : Grant) → j < n → grant_at gs j ≡ Some g → Has places j)
+    → is_some (option_map (λ (g : Grant). g.position) (grant_at gs n)) ≡ false
+    → (j : ℕ) (g : Grant) → j < n + 1 → grant_at gs j ≡ Some g → Has places j
+has_same places gs n before none j g lt granted = elim (eqb_tells j n) [
+  | inl same ↦ absurd (
+      let there : grant_at gs n ≡ Some g = subst (λ i. grant_at gs i ≡ Some g) same.1 granted in
+      let bad : true ≡ false =
+      sym (ap (λ (o : Option Grant). is_some (option_map (λ (g : Grant). g.position) o)) there) ∙ none in
+      cc bad)
+  | inr other ↦ before j g (omega (arith, lt, other.1)) granted
+]
+
+-- A call saw the link in a slot.
+module _ {slots links : List (Option LinkState)} (same : slots ≡ links) {granted : List Places}
+    (covered : AreCovered slots granted) (j : ℕ) (lt : j < length links) {o : Option LinkState}
+    (link : o ≡ get_or slots j o) where
+  pub lt_in : j < length slots
+  lt_in = subst (λ (x : List (Option LinkState)). j < length x) (sym same) lt
+
+  stood : o ≡ get_or slots j None
+  stood = link ∙ sym (same_default slots j None o lt_in)
+
+  pub fits_in : (feed : List Window) → AllFit feed links → IfSome o (λ l. Fits feed l.session.state)
+  fits_in feed fits =
+      link_fits feed o (λ l is. subst (λ (x : List (Option LinkState)). AllFit feed x) (sym same) fits j l
+      (sym stood ∙ is))
+
+  covers_in : CoversIn (get_or granted j no_places) o
+  covers_in l is = covered.each j l (sym stood ∙ is)
+
+  pub filled_covered : (feed : List Window) (new : Option LinkState) → HasFilled feed o new
+      → AreCovered (set slots j new) granted
+  filled_covered feed new h = covered_still slots granted j new covered lt_in
+      (covers_filled (get_or granted j no_places) feed o new covers_in h)

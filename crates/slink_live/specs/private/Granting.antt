@@ -1,0 +1,54 @@
+-- Which places concern a link.
+use Rattle.std.specs.Prelude.{◌≡◌, ◌≢◌, ℕ, List, Option, Some, None, get_or, length, set, slice_get}
+use Rattle.std.specs.Int.{bit_at}
+use Rattle.slink_feed.specs.declared.grant.Grant.{Grant}
+use Rattle.slink_feed.specs.declared.session.Phase.TheVariants.{Streaming}
+use Rattle.slink_feed.specs.Session.{grant_at}
+use Rattle.slink_feed.specs.Window.{Window}
+use Rattle.slink_live.specs.declared.places.Places.{Places}
+use Rattle.slink_live.specs.Served.{LinkState}
+
+-- The place is one of these.
+abbrev pub Has : Places → ℕ → Type 0
+Has places k = bit_at places.bits k ≡ 1
+
+abbrev pub no_places : Places
+no_places = record { bits = 0 }
+
+-- Once a link streams, it is sent records of these places alone.
+abbrev pub Covers : Places → LinkState → Type 0
+Covers places l = l.session.state.phase ≡ Streaming → (k : ℕ) (g : Grant)
+    → grant_at l.session.state.grants k ≡ Some g → Has places k
+
+abbrev pub CoversIn : Places → Option LinkState → Type 0
+CoversIn places o = (l : LinkState) → o ≡ Some l → Covers places l
+
+-- For each slot there are places, and the link in it is sent records of those alone.
+pub record AreCovered (links : List (Option LinkState)) (granted : List Places) : Type 0 where
+  pub count : length granted ≡ length links
+  pub each : (k : ℕ) → CoversIn (get_or granted k no_places) (get_or links k None)
+
+-- A link that streams is sent no records of these places.
+abbrev pub LeavesOut : Places → Option LinkState → Type 0
+LeavesOut places o = (l : LinkState) → o ≡ Some l → l.session.state.phase ≡ Streaming → (k : ℕ) (g : Grant)
+    → grant_at l.session.state.grants k ≡ Some g → ¬ (Has places k)
+
+-- The link in a slot became another, and the other slots stay.
+pub record Changes (j : ℕ) (P : Option LinkState → Option LinkState → Type 0) (old new : List (Option LinkState)) : Type
+    0 where
+  pub link : Option LinkState
+  pub happened : P (get_or old j None) link
+  pub is : new ≡ set old j link
+
+-- Each ring stays but those of these places.
+abbrev pub StaysBut : Places → List Window → List Window → Type 0
+StaysBut places old new = (k : ℕ) → ¬ (Has places k) → slice_get new k ≡ slice_get old k
+
+-- One ring accepted a record, or none did, and the others stay.
+abbrev pub OthersStay : Option ℕ → List Window → List Window → Type 0
+OthersStay None old new = new ≡ old
+OthersStay (Some k) old new = (j : ℕ) → j ≢ k → slice_get new j ≡ slice_get old j
+
+-- Each ring stays but those of places that were added to some.
+abbrev pub StaysBeside : Places → Places → List Window → List Window → Type 0
+StaysBeside places all old new = (k : ℕ) → ¬ (Has all k) → ¬ (Has places k) × (slice_get new k ≡ slice_get old k)
