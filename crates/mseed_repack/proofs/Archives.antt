@@ -1,7 +1,7 @@
 -- The trails of an archive's channels, and what is found and written of their records.
-use Rattle.std.proofs.Common.{◌≡◌, ℕ, ◌+◌, ◌<◌, ◌≤◌, Bool, true, false, if◌then◌else◌, List, [], ◌∷◌, length, map, take}
-use Rattle.std.proofs.Common.{get_or, sym, ap, subst, ◌∙◌, arith, All}
-use Rattle.std.proofs.lemmas.List.{get_or_default, length-map}
+use Rattle.std.proofs.Common.{◌≡◌, ℕ, suc, ◌+◌, ◌<◌, ◌≤◌, Bool, true, false, if◌then◌else◌, List, [], ◌∷◌, length, map}
+use Rattle.std.proofs.Common.{take, drop, get_or, sym, ap, subst, ◌∙◌, arith, All}
+use Rattle.std.proofs.lemmas.List.{get_or_default, length-map, take_more}
 use Rattle.std.proofs.lemmas.List.Elements.{All-more}
 use Rattle.mseed_record.specs.View.{View}
 use Rattle.mseed_record.specs.Viewing.{view_of}
@@ -12,8 +12,7 @@ use Rattle.mseed_audit.proofs.Behind.{views_are}
 use Rattle.mseed_pack.specs.declared.fault.PackFault.{PackFault}
 use Rattle.mseed_pack.specs.declared.options.Options.{Options}
 use Rattle.mseed_repack.specs.Repack.{ArePackedInto, CanBePacked, CantBePacked, Channel, IsFirst, IsPackedInPart}
-use Rattle.mseed_repack.specs.Repack.{IsPartPacked, Wrote, records_in}
-use Rattle.mseed_repack.specs.Restretch.{StretchFits, StretchMisfits}
+use Rattle.mseed_repack.specs.Repack.{IsPartPacked, IsSeriesText, StretchFits, StretchMisfits, Wrote, records_in}
 use Rattle.mseed_repack.specs.private.Archives.{HasRoomForRecords, HasRoomForSeries, HasRoomForTrail, IsLed}
 use Rattle.mseed_repack.specs.private.Archives.{IsTrailOf, records_on}
 use Rattle.mseed_repack.specs.private.Reading.{CanBeRead, channel_in, samples_of, steps_of}
@@ -21,8 +20,9 @@ use Rattle.mseed_repack.specs.private.Restretching.{IsStretchText}
 use Rattle.mseed_repack.specs.declared.archive.Archive.{Archive}
 use Rattle.mseed_repack.specs.declared.archive.Trail.{Trail}
 use Rattle.mseed_repack.proofs.Judged.{written_at}
-use Rattle.mseed_repack.proofs.Repacks.{first_at, packed_next, part_of_next}
+use Rattle.mseed_repack.proofs.Repacks.{cut_at, first_at}
 use Rattle.mseed_repack.proofs.Standings.{steps_gathered}
+use Rattle.mseed_repack.proofs.Texts.{wrote_more, wrote_part}
 
 abbrev views_of : Archive → List View
 views_of a = map view_of a.views.now
@@ -127,9 +127,8 @@ pub fit_next : (o : Options) (a : Archive) (k : ℕ) (t : Trail) → k < length 
     → All (λ (c : Channel). CanBePacked o (map view_of a.views.now) c.0) (take k a.channels.now)
     → All (λ (c : Channel). CanBePacked o (map view_of a.views.now) c.0) (take (k + 1) a.channels.now)
 fit_next o a k t lt w fits before =
-    let can = subst (λ (vs : List View). StretchFits o vs) (at_index a k t w) fits in
     All-more (λ (c : Channel). CanBePacked o (views_of a) c.0) a.channels.now k w.channel lt before
-    (record { trace = can.trace; series = can.series; fits = can.fits })
+    (subst (λ (vs : List View). StretchFits o vs) (at_index a k t w) fits)
 
 pub misfit_at : (o : Options) (a : Archive) (k : ℕ) (t : Trail) (fault : PackFault) → k < length a.channels.now
     → IsTrailOf a k t → StretchMisfits o fault (records_on t)
@@ -137,36 +136,48 @@ pub misfit_at : (o : Options) (a : Archive) (k : ℕ) (t : Trail) (fault : PackF
     → IsFirst (CanBePacked o (map view_of a.views.now)) (CantBePacked o (map view_of a.views.now) fault) t.codes.now
     a.channels.now
 misfit_at o a k t fault lt w misfit before =
-    let Before : List ℕ → Type 0 = CanBePacked o (views_of a) in
-    let At : List ℕ → Type 0 = CantBePacked o (views_of a) fault in
-    let cant = subst (λ (vs : List View). StretchMisfits o fault vs) (at_index a k t w) misfit in
+    let Before : List ℕ → Type 0 = λ key. CanBePacked o (views_of a) key in
+    let At : List ℕ → Type 0 = λ key. CantBePacked o (views_of a) fault key in
     subst (λ (key : List ℕ). IsFirst Before At key a.channels.now)
     (sym (w.codes_are ∙ ap (λ (c : Channel). c.0) w.at))
     (first_at Before At a.channels.now k w.channel lt before
-    (record { trace = cant.trace; series = cant.series; misfit = cant.misfit }))
+    (subst (λ (vs : List View). StretchMisfits o fault vs) (at_index a k t w) misfit))
 
 pub fits_at : (o : Options) (a : Archive) (k : ℕ) (t : Trail) → k < length a.channels.now → IsTrailOf a k t
     → All (λ (c : Channel). CanBePacked o (map view_of a.views.now) c.0) a.channels.now → StretchFits o (records_on t)
 fits_at o a k t lt w all =
-    let can = all k w.channel lt in
-    subst (λ (vs : List View). StretchFits o vs) (sym (at_index a k t w))
-    (record { trace = can.trace; series = can.series; fits = can.fits })
+    subst (λ (vs : List View). StretchFits o vs) (sym (at_index a k t w)) (all k w.channel lt)
 
 -- the records that its series is packed into, behind those before it
+abbrev text_of : Options → Archive → Channel → List ℕ → Type 0
+text_of o a c own = IsSeriesText o (records_in (map view_of a.views.now) c.0) own
+
+abbrev part_of : Options → Archive → Channel → List ℕ → Type 0
+part_of o a c own = IsPackedInPart o (records_in (map view_of a.views.now) c.0) own
+
 pub wrote_next : (o : Options) (a : Archive) (k count : ℕ) (t : Trail) (first old new : BytesWritten)
     → k < length a.channels.now → IsTrailOf a k t
     → Wrote (ArePackedInto o (map view_of a.views.now) (take k a.channels.now)) 0 first old
     → Wrote (IsStretchText o (records_on t) count) 0 old new
     → Wrote (ArePackedInto o (map view_of a.views.now) (take (k + 1) a.channels.now)) 0 first new
 wrote_next o a k count t first old new lt w before one =
-    packed_next o (views_of a) a.channels.now k count w.channel first old new lt before
-    (subst (λ (vs : List View). Wrote (IsStretchText o vs count) 0 old new) (at_index a k t w) one)
+    let c : Channel = get_or a.channels.now k w.channel in
+    let here : Wrote (text_of o a c) 0 old new = record {
+      text = one.text;
+      text_is = subst (λ (vs : List View). IsSeriesText o vs one.text) (at_index a k t w) one.text_is.series;
+      bytes = one.bytes;
+      failed = one.failed;
+    } in
+    subst (λ (cs : List Channel). Wrote (ArePackedInto o (views_of a) cs) 0 first new)
+    (sym (take_more a.channels.now k w.channel lt))
+    (wrote_more (text_of o a) (take k a.channels.now) c before here)
 
-pub wrote_part : (o : Options) (a : Archive) (k : ℕ) (t : Trail) (first old new : BytesWritten)
+pub wrote_part_next : (o : Options) (a : Archive) (k : ℕ) (t : Trail) (first old new : BytesWritten)
     → k < length a.channels.now → IsTrailOf a k t
     → Wrote (ArePackedInto o (map view_of a.views.now) (take k a.channels.now)) 0 first old
     → Wrote (IsPackedInPart o (records_on t)) 1 old new
     → Wrote (IsPartPacked o (map view_of a.views.now) a.channels.now) 1 first new
-wrote_part o a k t first old new lt w before one =
-    part_of_next o (views_of a) a.channels.now k w.channel first old new lt before
+wrote_part_next o a k t first old new lt w before one =
+    wrote_part (text_of o a) (part_of o a) (take k a.channels.now) (drop (suc k) a.channels.now)
+    (get_or a.channels.now k w.channel) a.channels.now (cut_at a.channels.now k w.channel lt) before
     (subst (λ (vs : List View). Wrote (IsPackedInPart o vs) 1 old new) (at_index a k t w) one)

@@ -40,8 +40,9 @@ use Rattle.mseed_pack.proofs.Traced.{is_trace}
 use Rattle.mseed_pack.proofs.Viewed.{HeadersReadBack, PackedSpells}
 use Rattle.mseed_repack.specs.Borders.{AreReadAs, IsClose, IsFar, IsFoundBehind, KeepsBorders, LeavesGap, MissesBy}
 use Rattle.mseed_repack.specs.Borders.{Overlaps}
-use Rattle.mseed_repack.specs.Restretch.{ArePackedOn, ChannelFits, IsChannelPacked, IsNumberedOn, IsStretchPacked}
-use Rattle.mseed_repack.specs.Restretch.{StretchFits, none as packed_none, more as packed_more}
+use Rattle.mseed_repack.specs.Repack.{IsStretchPacked, StretchFits}
+use Rattle.mseed_repack.specs.Restretch.{ArePackedOn, ChannelFits, IsChannelPacked, IsNumberedOn}
+use Rattle.mseed_repack.specs.Restretch.{none as packed_none, more as packed_more}
 use Rattle.mseed_repack.proofs.Borders.{AreBordering, IsBorder, IsLaid, bordering, joined_samples, samples_at}
 use Rattle.mseed_repack.proofs.ChannelReadBack.{IsSoundStretch, each_at_back, each_in_leading, each_sound}
 use Rattle.mseed_repack.proofs.Misses.{early_still, half_of, late_still}

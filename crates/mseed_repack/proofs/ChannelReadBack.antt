@@ -18,17 +18,17 @@ use Rattle.mseed_pack.specs.ReadBack.{ReadsAs}
 use Rattle.mseed_pack.specs.declared.options.Encoding.{Encoding}
 use Rattle.mseed_pack.specs.declared.options.Options.{Options}
 use Rattle.mseed_pack.proofs.Traced.{is_trace, kept_views}
-use Rattle.mseed_repack.specs.ByStretches.{AreStandings, AreStretched, EachRestretching, WroteFitting, further, kept_of}
-use Rattle.mseed_repack.specs.ByStretches.{nothing}
+use Rattle.mseed_repack.specs.ByStretches.{AreStandings, AreStretched, EachRestretching, WroteFitting, kept_of}
 use Rattle.mseed_repack.specs.declared.standing.Standing.{Standing}
 use Rattle.mseed_repack.specs.declared.standing.Standing.TheVariants.{Fit, Broken, Misfit}
-use Rattle.mseed_repack.specs.Repack.{Channel, IsArchiveOf, records_in}
-use Rattle.mseed_repack.specs.Restretch.{ArePackedOn, ChannelFits, IsChannelPacked, IsNumberedOn, IsStretchPacked}
-use Rattle.mseed_repack.specs.Restretch.{IsChannelText, StretchFits, none as packed_none, more as packed_more}
+use Rattle.mseed_repack.specs.Repack.{Channel, IsArchiveOf, IsStretchPacked, StretchFits, records_in}
+use Rattle.mseed_repack.specs.Restretch.{ArePackedOn, ChannelFits, IsChannelPacked, IsChannelText, IsNumberedOn}
+use Rattle.mseed_repack.specs.Restretch.{none as packed_none, more as packed_more}
 use Rattle.mseed_repack.specs.StretchesReadBack.{AreChannelsReadBack, AreReadBack, IsChannelReadBack}
-use Rattle.mseed_repack.specs.StretchesReadBack.{IsStretchReadBack, IsStretchedBack, KeepsTime, next_channel}
-use Rattle.mseed_repack.specs.StretchesReadBack.{no_channel, read_none, read_more}
+use Rattle.mseed_repack.specs.StretchesReadBack.{IsStretchReadBack, IsStretchedBack, IsTextReadBack, KeepsTime}
+use Rattle.mseed_repack.specs.StretchesReadBack.{read_none, read_more}
 use Rattle.mseed_repack.proofs.Stretched.{fits_on}
+use Rattle.mseed_repack.proofs.Texts.{HasOne, one_text, texts_each}
 
 -- What laws of lower rooms say.
 pub record Laws : Type 0 where
@@ -237,28 +237,17 @@ one_packing laws o vs records others a b =
     (laws.cut vs a.stretches b.stretches a.are b.are)
 
 -- and so is an archive
-one_channel : OneLaws → (o : Options) (vs ws : List View) (text other : List ℕ) → vs ≡ ws → IsChannelText o vs text
-    → IsChannelText o ws other → text ≡ other
-one_channel laws o vs ws text other same a b =
-    let there : IsChannelPacked o vs b.records =
-    subst (λ (us : List View). IsChannelPacked o us b.records) (sym same) b.packed in
-    a.text_is ∙ ap concat (one_packing laws o vs a.records b.records a.packed there) ∙ sym b.text_is
+one_channel : OneLaws → (o : Options) (views : List View)
+    → HasOne (λ (c : Channel) own. IsChannelText o (records_in views c.0) own)
+one_channel laws o views c text other a b =
+    a.text_is ∙ ap concat (one_packing laws o (records_in views c.0) a.records b.records a.packed b.packed)
+    ∙ sym b.text_is
 
-one_texts : OneLaws → (o : Options) (views : List View) (cs ds : List Channel) (text other : List ℕ)
-    → AreStretched o views cs text → AreStretched o views ds other → cs ≡ ds → text ≡ other
-one_texts laws o views _ _ _ _ nothing nothing e = refl
-one_texts laws o views _ _ _ _ nothing (further ds d other own before here) e = absurd (ends_apart ds d e)
-one_texts laws o views _ _ _ _ (further cs c text own before here) nothing e = absurd (ends_apart cs c (sym e))
-one_texts laws o views _ _ _ _ (further cs c text own before here) (further ds d other its others there) e =
-    let parts = snoc_one cs ds c d e in
-    let leading : text ≡ other = one_texts laws o views cs ds text other before others parts.0 in
-    let last : own ≡ its = one_channel laws o (records_in views c.0) (records_in views d.0) own its
-    (ap (λ (b : Channel). records_in views b.0) parts.1) here there in
-    ap (λ (xs : List ℕ). xs ++ own) leading ∙ ap (λ (xs : List ℕ). other ++ xs) last
-
-pub one_text : OneLaws → (o : Options) (views : List View) (cs : List Channel) (text other : List ℕ)
+pub one_archive : OneLaws → (o : Options) (views : List View) (cs : List Channel) (text other : List ℕ)
     → AreStretched o views cs text → AreStretched o views cs other → text ≡ other
-one_text laws o views cs text other a b = one_texts laws o views cs cs text other a b refl
+one_archive laws o views cs text other a b =
+    one_text (λ (c : Channel) own. IsChannelText o (records_in views c.0) own) (one_channel laws o views) cs text other
+    a b
 
 -- What was written of an archive reads back.
 
@@ -274,15 +263,16 @@ kept_fit o views (c ∷ cs) (Misfit n f ∷ ss) all = kept_fit o views cs ss all
 channels_read : Laws → (o : Options) (views : List View) (cs : List Channel) (text : List ℕ)
     → AllByRecursion IsView views → AllByRecursion (λ (c : Channel). ChannelFits o (records_in views c.0)) cs
     → AreStretched o views cs text → AreChannelsReadBack views cs text
-channels_read laws o views _ _ each fit nothing = no_channel
-channels_read laws o views _ _ each fit (further cs c text own before here) =
-    let P : Channel → Type 0 = λ c. ChannelFits o (records_in views c.0) in
-    let own_views : AllByRecursion IsView (records_in views c.0) =
-    subst (λ (vs : List View). AllByRecursion IsView vs) (sym (views_are c.0 views)) (kept_views c.0 views each) in
-    subst (λ (xs : List ℕ). AreChannelsReadBack views (cs ++ c ∷ []) (text ++ xs)) (sym here.text_is)
-    (next_channel cs c text here.records
-    (channels_read laws o views cs text each (each_in_leading P cs (c ∷ []) fit) before)
-    (reads_back laws o (records_in views c.0) here.records own_views (each_at_back P cs (c ∷ []) fit).0 here.packed))
+channels_read laws o views cs text each fit written =
+    texts_each (λ (c : Channel) own. IsChannelText o (records_in views c.0) own)
+    (λ (c : Channel) own. IsTextReadBack (records_in views c.0) own)
+    (λ (c : Channel). ChannelFits o (records_in views c.0)) (λ c own fits is. record {
+      records = is.records;
+      reads = reads_back laws o (records_in views c.0) is.records
+          (subst (λ (vs : List View). AllByRecursion IsView vs) (sym (views_are c.0 views))
+          (kept_views c.0 views each)) fits is.packed;
+      text_is = is.text_is;
+    }) cs text fit written
 
 -- what follows for a text of channels that fit is so of whatever is written of an archive
 pub each_restretching : (P : List View → List Channel → List ℕ → Type 0)

@@ -1,3 +1,4 @@
+pub mod Texts
 pub mod Repacks
 pub mod Wholes
 pub mod OneRepacking

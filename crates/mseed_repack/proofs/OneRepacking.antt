@@ -35,11 +35,11 @@ use Rattle.mseed_pack.specs.declared.options.Options.{Options}
 use Rattle.mseed_pack.proofs.Prefixes.{either_bytes}
 use Rattle.mseed_repack.specs.OneRepacking.{ComeToOne, HasWrittenPrefix, HaveWrittenOne}
 use Rattle.mseed_repack.specs.Repack.{ArePackedInto, CanBePacked, CantBePacked, Channel, IsArchiveOf, IsFirst, IsFitFor}
-use Rattle.mseed_repack.specs.Repack.{IsPackedInPart}
-use Rattle.mseed_repack.specs.Repack.{IsPackedInto, IsPartPacked, IsRepacking, IsUnread, IsWhole, Wrote, none, more}
-use Rattle.mseed_repack.specs.Repack.{records_in}
+use Rattle.mseed_repack.specs.Repack.{IsPackedInPart, IsPartPacked, IsRepacking, IsSeriesText, IsUnread, IsWhole}
+use Rattle.mseed_repack.specs.Repack.{Wrote, records_in}
 use Rattle.mseed_repack.specs.declared.fault.RepackFault.{RepackFault}
 use Rattle.mseed_repack.specs.declared.fault.RepackFault.TheVariants.{Stream, Broken, Misfit, Write, Memory}
+use Rattle.mseed_repack.proofs.Texts.{AreEither, AreParts, Either, HasOne, either_part, one_text, part_prefix}
 
 -- What a law of a lower room says.
 abbrev OneInput : Type 0
@@ -341,111 +341,66 @@ one_cant laws o views f g key a b =
 
 -- The text that is written, channel before channel.
 
-abbrev pub Along : Options → List View → List Channel → List ℕ → Type 0
-Along o views [] text = text ≡ []
-Along o views (c ∷ cs) text =
-    (records : List (List ℕ))
-    × ((rest : List ℕ) × (IsPackedInto o views c.0 records × (text ≡ concat records ++ rest) × Along o views cs rest))
+abbrev Own : Options → List View → Channel → List ℕ → Type 0
+Own o views c own = IsSeriesText o (records_in views c.0) own
 
-along_more : (o : Options) (views : List View) (cs : List Channel) (c : Channel) (text : List ℕ)
-    (records : List (List ℕ)) → Along o views cs text → IsPackedInto o views c.0 records
-    → Along o views (cs ++ c ∷ []) (text ++ concat records)
-along_more o views [] c text records e is =
-    (records, ([], (is, ap (λ (t : List ℕ). t ++ concat records) e ∙ sym (append-nil (concat records)), refl)))
-along_more o views (d ∷ cs) c text records (rs, (rest, a)) is = (
-  rs,
-  (
-    rest ++ concat records,
-    (
-      a.0,
-      ap (λ (t : List ℕ). t ++ concat records) a.1 ∙ append_assoc (concat rs) rest (concat records),
-      along_more o views cs c rest records a.2 is,
-    ),
-  ),
-)
+abbrev Part : Options → List View → Channel → List ℕ → Type 0
+Part o views c own = IsPackedInPart o (records_in views c.0) own
 
-pub along : (o : Options) (views : List View) (cs : List Channel) (text : List ℕ) → ArePackedInto o views cs text
-    → Along o views cs text
-along o views _ _ none = refl
-along o views _ _ (more cs c text records before is) =
-    along_more o views cs c text records (along o views cs text before) is
+one_own : Laws → (o : Options) (views : List View) → HasOne (Own o views)
+one_own laws o views c t u a b =
+    let p = a.packed in
+    let q = b.packed in
+    let same : p.trace ≡ q.trace = laws.series p.trace q.trace (records_in views c.0) p.series q.series in
+    a.text_is
+    ∙ ap concat (laws.packing q.trace o a.records b.records
+    (subst (λ (s : Trace). IsPacking s o a.records) same p.packing) q.packing)
+    ∙ sym b.text_is
 
-one_records : Laws → (o : Options) (views : List View) (key : List ℕ) (rs qs : List (List ℕ))
-    → IsPackedInto o views key rs → IsPackedInto o views key qs → rs ≡ qs
-one_records laws o views key rs qs a b =
-    let same : a.trace ≡ b.trace = laws.series a.trace b.trace (records_in views key) a.series b.series in
-    laws.packing b.trace o rs qs (subst (λ (t : Trace). IsPacking t o rs) same a.packing) b.packing
-
-one_text : Laws → (o : Options) (views : List View) (cs : List Channel) (t u : List ℕ) → Along o views cs t
-    → Along o views cs u → t ≡ u
-one_text laws o views [] t u a b = a ∙ sym b
-one_text laws o views (c ∷ cs) t u (rs, (rest, a)) (qs, (left, b)) =
-    let records : rs ≡ qs = one_records laws o views c.0 rs qs a.0 b.0 in
-    let others : rest ≡ left = one_text laws o views cs rest left a.2 b.2 in
-    a.1 ∙ (ap (λ (xs : List (List ℕ)). concat xs ++ rest) records
-    ∙ (ap (λ (xs : List ℕ). concat qs ++ xs) others ∙ sym b.1))
-
--- A part of the text is a prefix of it.
-
-abbrev Behind : List ℕ → List ℕ → Type 0
-Behind prefix text = (rest : List ℕ) × (text ≡ prefix ++ rest)
-
-part_first : Laws → (o : Options) (views : List View) (text : List ℕ) (next : Channel) (back : List Channel)
-    (trace : Trace) (records : List (List ℕ)) (left : List ℤ) (taken : ℕ)
-    → IsSeriesOf trace (records_in views next.0) → PacksUpTo trace o records left → Along o views (next ∷ back) text
-    → Behind (take taken (concat records)) text
-part_first laws o views text next back trace records left taken series packs (rs, (rest, a)) =
-    let same : a.0.trace ≡ trace = laws.series a.0.trace trace (records_in views next.0) a.0.series series in
-    let others : (more : List (List ℕ)) × (rs ≡ records ++ more) =
-    laws.prefix trace o records rs left packs (subst (λ (t : Trace). IsPacking t o rs) same a.0.packing) in
-    let prefix : List ℕ = take taken (concat records) in
-    let behind : List ℕ = drop taken (concat records) in
-    let whole : concat rs ≡ prefix ++ (behind ++ concat others.0) =
-    ap (λ (xs : List (List ℕ)). concat xs) others.1 ∙ (concat-append records others.0
-    ∙ (ap (λ (xs : List ℕ). xs ++ concat others.0) (sym (take-append-drop taken (concat records)))
-    ∙ append_assoc prefix behind (concat others.0))) in (
-      (behind ++ concat others.0) ++ rest,
-      a.1
-          ∙ (ap (λ (xs : List ℕ). xs ++ rest) whole ∙ append_assoc prefix (behind ++ concat others.0) rest),
+-- a part of the records is a prefix of them
+own_part : Laws → (o : Options) (views : List View) → AreParts (Own o views) (Part o views)
+own_part laws o views c part own p a =
+    let same : a.packed.trace ≡ p.trace =
+    laws.series a.packed.trace p.trace (records_in views c.0) a.packed.series p.series in
+    let others : (more : List (List ℕ)) × (a.records ≡ p.records ++ more) =
+    laws.prefix p.trace o p.records a.records p.left p.packing
+    (subst (λ (s : Trace). IsPacking s o a.records) same a.packed.packing) in
+    let prefix : List ℕ = take p.taken (concat p.records) in
+    let behind : List ℕ = drop p.taken (concat p.records) in (
+      behind ++ concat others.0,
+      a.text_is ∙ ap concat others.1 ∙ concat-append p.records others.0
+          ∙ ap (λ (xs : List ℕ). xs ++ concat others.0) (sym (take-append-drop p.taken (concat p.records)))
+          ∙ append_assoc prefix behind (concat others.0)
+          ∙ ap (λ (xs : List ℕ). xs ++ (behind ++ concat others.0)) (sym p.text_is),
     )
 
-part_behind : Laws → (o : Options) (views : List View) (text : List ℕ) (cs : List Channel) (next : Channel)
-    (back : List Channel) (before : List ℕ) (trace : Trace) (records : List (List ℕ)) (left : List ℤ) (taken : ℕ)
-    → IsSeriesOf trace (records_in views next.0) → PacksUpTo trace o records left → Along o views cs before
-    → Along o views (cs ++ next ∷ back) text → Behind (before ++ take taken (concat records)) text
-part_behind laws o views text [] next back before trace records left taken series packs e a =
-    subst (λ (b : List ℕ). Behind (b ++ take taken (concat records)) text) (sym e)
-    (part_first laws o views text next back trace records left taken series packs a)
-part_behind laws o views text (c ∷ cs) next back before trace records left taken series packs (qs, (b, p)) (
-  rs,
-  (rest, a),
-) =
-    let part : List ℕ = take taken (concat records) in
-    let same : rs ≡ qs = one_records laws o views c.0 rs qs a.0 p.0 in
-    let later : Behind (b ++ part) rest =
-    part_behind laws o views rest cs next back b trace records left taken series packs p.2 a.2 in
-    let joined : text ≡ concat qs ++ ((b ++ part) ++ later.0) =
-    a.1 ∙ (ap (λ (xs : List (List ℕ)). concat xs ++ rest) same ∙ ap (λ (xs : List ℕ). concat qs ++ xs) later.1) in
-    let again : concat qs ++ ((b ++ part) ++ later.0) ≡ ((concat qs ++ b) ++ part) ++ later.0 =
-    sym (append_assoc (concat qs) (b ++ part) later.0)
-    ∙ ap (λ (xs : List ℕ). xs ++ later.0) (sym (append_assoc (concat qs) b part)) in
-    (later.0, joined ∙ (again ∙ ap (λ (xs : List ℕ). (xs ++ part) ++ later.0) (sym p.1)))
+clipped : (xs : List ℕ) (n : ℕ) → (m : ℕ) × ((m ≤ length xs) × (take n xs ≡ take m xs))
+clipped xs n = ⊎_elim (λ (less : n < length xs). (n, (omega (arith, less), refl)))
+    (λ (past : length xs ≤ n). (
+      length xs,
+      (omega arith, take_all n xs past ∙ sym (take_all (length xs) xs (omega arith))),
+    ))
+    (cases_lt n (length xs))
 
-text_prefix : Laws → (o : Options) (views : List View) (cs : List Channel) (text part : List ℕ)
-    → ArePackedInto o views cs text → IsPartPacked o views cs part → Behind part text
-text_prefix laws o views cs text part all p =
-    let own = p.part in
-    let found : Behind (p.before ++ take own.taken (concat own.records)) text =
-    part_behind laws o views text p.prefix p.next p.back p.before own.trace own.records own.left own.taken own.series
-    own.packing (along o views p.prefix p.before p.packed)
-    (subst (λ (xs : List Channel). Along o views xs text) p.parts (along o views cs text all)) in
-    subst (λ (xs : List ℕ). Behind xs text) (sym (p.text_is ∙ ap (λ (xs : List ℕ). p.before ++ xs) own.text_is)) found
+-- of two parts one is a prefix of the other
+two_own : Laws → (o : Options) (views : List View) → AreEither (Part o views)
+two_own laws o views c own its p q =
+    let same : q.trace ≡ p.trace = laws.series q.trace p.trace (records_in views c.0) q.series p.series in
+    let prefixes : ArePrefixes p.records q.records =
+    laws.prefixes p.trace o p.records q.records p.left q.left p.packing
+    (subst (λ (t : Trace). PacksUpTo t o q.records q.left) same q.packing) in
+    let i = clipped (concat p.records) p.taken in
+    let j = clipped (concat q.records) q.taken in
+    subst (λ (xs : List ℕ). Either xs its) (sym (p.text_is ∙ i.1.1))
+    (subst (λ (xs : List ℕ). Either (take i.0 (concat p.records)) xs) (sym (q.text_is ∙ j.1.1))
+    (either_bytes p.records q.records i.0 j.0 i.1.0 j.1.0 prefixes))
 
 written_prefix : Laws → (o : Options) (views : List View) (cs : List Channel) (old new before after : BytesWritten)
     → Wrote (ArePackedInto o views cs) 0 old new → Wrote (IsPartPacked o views cs) 1 before after
     → HasWrittenPrefix old new before after
 written_prefix laws o views cs old new before after w v =
-    let found : Behind v.text w.text = text_prefix laws o views cs w.text v.text w.text_is v.text_is in
+    let found : IsPrefixOf v.text w.text = part_prefix (Own o views) (Part o views) (one_own laws o views)
+    (own_part laws o views) cs w.text v.text w.text_is v.text_is in
     record {
       prefix = v.text;
       rest = found.0;
@@ -458,99 +413,8 @@ written_one : Laws → (o : Options) (views : List View) (cs : List Channel) (ol
     → HaveWrittenOne old new before after
 written_one laws o views cs old new before after w v =
     let text : w.text ≡ v.text =
-    one_text laws o views cs w.text v.text (along o views cs w.text w.text_is) (along o views cs v.text v.text_is) in
+    one_text (Own o views) (one_own laws o views) cs w.text v.text w.text_is v.text_is in
     record { text = v.text; here = w.bytes ∙ ap (λ (xs : List ℕ). old.bytes ++ xs) text; there = v.bytes }
-
--- Of two parts of the text one is a prefix of the other.
-
-abbrev Either : List ℕ → List ℕ → Type 0
-Either part other = IsPrefixOf part other ⊎ IsPrefixOf other part
-
-clipped : (xs : List ℕ) (n : ℕ) → (m : ℕ) × ((m ≤ length xs) × (take n xs ≡ take m xs))
-clipped xs n = ⊎_elim (λ (less : n < length xs). (n, (omega (arith, less), refl)))
-    (λ (past : length xs ≤ n). (
-      length xs,
-      (omega arith, take_all n xs past ∙ sym (take_all (length xs) xs (omega arith))),
-    ))
-    (cases_lt n (length xs))
-
--- a part of a channel's records is one of the channel of the same key
-of_key : (o : Options) (views : List View) (key other own : List ℕ) → key ≡ other
-    → IsPackedInPart o (records_in views key) own → IsPackedInPart o (records_in views other) own
-of_key o views key other own same p = subst (λ (k : List ℕ). IsPackedInPart o (records_in views k) own) same p
-
-same_parts : Laws → (o : Options) (vs : List View) (own its : List ℕ) → IsPackedInPart o vs own
-    → IsPackedInPart o vs its → Either own its
-same_parts laws o vs own its p q =
-    let same : q.trace ≡ p.trace = laws.series q.trace p.trace vs q.series p.series in
-    let prefixes : ArePrefixes p.records q.records =
-    laws.prefixes p.trace o p.records q.records p.left q.left p.packing
-    (subst (λ (t : Trace). PacksUpTo t o q.records q.left) same q.packing) in
-    let i = clipped (concat p.records) p.taken in
-    let j = clipped (concat q.records) q.taken in
-    subst (λ (xs : List ℕ). Either xs its) (sym (p.text_is ∙ i.1.1))
-    (subst (λ (xs : List ℕ). Either (take i.0 (concat p.records)) xs) (sym (q.text_is ∙ j.1.1))
-    (either_bytes p.records q.records i.0 j.0 i.1.0 j.1.0 prefixes))
-
--- a part of the first channel's records is a prefix of all, and of more
-first_part : Laws → (o : Options) (views : List View) (c : Channel) (cs : List Channel) (text tail own : List ℕ)
-    → IsPackedInPart o (records_in views c.0) own → Along o views (c ∷ cs) text → IsPrefixOf own (text ++ tail)
-first_part laws o views c cs text tail own p a =
-    let found : Behind (take p.taken (concat p.records)) text =
-    part_first laws o views text c cs p.trace p.records p.left p.taken p.series p.packing a in
-    subst (λ (xs : List ℕ). IsPrefixOf xs (text ++ tail)) (sym p.text_is) (
-      found.0 ++ tail,
-      ap (λ (xs : List ℕ). xs ++ tail) found.1
-          ∙ append_assoc (take p.taken (concat p.records)) found.0 tail,
-    )
-
-behind_both : (prefix xs ys : List ℕ) → Either xs ys → Either (prefix ++ xs) (prefix ++ ys)
-behind_both prefix xs ys (inl f) = inl (f.0, ap (λ (zs : List ℕ). prefix ++ zs) f.1 ∙ sym (append_assoc prefix xs f.0))
-behind_both prefix xs ys (inr f) = inr (f.0, ap (λ (zs : List ℕ). prefix ++ zs) f.1 ∙ sym (append_assoc prefix ys f.0))
-
-two_parts : Laws → (o : Options) (views : List View) (fs gs : List Channel) (x y : Channel) (xs ys : List Channel)
-    (t u own its : List ℕ) → IsPackedInPart o (records_in views x.0) own → IsPackedInPart o (records_in views y.0) its
-    → Along o views fs t → Along o views gs u → fs ++ x ∷ xs ≡ gs ++ y ∷ ys → Either (t ++ own) (u ++ its)
-two_parts laws o views [] [] x y xs ys t u own its p q a b e =
-    let head : x ≡ y = cc (e) in
-    let key : y.0 ≡ x.0 = ap (λ (c : Channel). c.0) (sym head) in
-    subst (λ (xs : List ℕ). Either (xs ++ own) (u ++ its)) (sym a)
-    (subst (λ (xs : List ℕ). Either own (xs ++ its)) (sym b)
-    (same_parts laws o (records_in views x.0) own its p (of_key o views y.0 x.0 its key q)))
-two_parts laws o views [] (d ∷ gs) x y xs ys t u own its p q a b e =
-    let head : x ≡ d = cc (e) in
-    let key : x.0 ≡ d.0 = ap (λ (c : Channel). c.0) head in
-    subst (λ (xs : List ℕ). Either (xs ++ own) (u ++ its)) (sym a)
-    (inl (first_part laws o views d gs u its own (of_key o views x.0 d.0 own key p) b))
-two_parts laws o views (c ∷ fs) [] x y xs ys t u own its p q a b e =
-    let head : y ≡ c = cc (e) in
-    let key : y.0 ≡ c.0 = ap (λ (d : Channel). d.0) head in
-    subst (λ (xs : List ℕ). Either (t ++ own) (xs ++ its)) (sym b)
-    (inr (first_part laws o views c fs t own its (of_key o views y.0 c.0 its key q) a))
-two_parts laws o views (c ∷ fs) (d ∷ gs) x y xs ys t u own its p q (rs, (rest, a)) (qs, (left, b)) e =
-    let head : c ≡ d = cc (e) in
-    let tail : fs ++ x ∷ xs ≡ gs ++ y ∷ ys = cc (e) in
-    let records : rs ≡ qs = one_records laws o views d.0 rs qs
-    (subst (λ (x : Channel). IsPackedInto o views x.0 rs) head a.0) b.0 in
-    let later : Either (rest ++ own) (left ++ its) =
-    two_parts laws o views fs gs x y xs ys rest left own its p q a.2 b.2 tail in
-    let here : concat rs ++ (rest ++ own) ≡ t ++ own =
-    sym (append_assoc (concat rs) rest own) ∙ ap (λ (xs : List ℕ). xs ++ own) (sym a.1) in
-    let there : concat rs ++ (left ++ its) ≡ u ++ its =
-    ap (λ (xs : List (List ℕ)). concat xs ++ (left ++ its)) records ∙ sym (append_assoc (concat qs) left its)
-    ∙ ap (λ (xs : List ℕ). xs ++ its) (sym b.1) in
-    subst (λ (xs : List ℕ). Either xs (u ++ its)) here
-    (subst (λ (xs : List ℕ). Either (concat rs ++ (rest ++ own)) xs) there
-    (behind_both (concat rs) (rest ++ own) (left ++ its) later))
-
-either_part : Laws → (o : Options) (views : List View) (cs : List Channel) (t u : List ℕ) → IsPartPacked o views cs t
-    → IsPartPacked o views cs u → Either t u
-either_part laws o views cs t u p q =
-    let found = two_parts laws o views p.prefix q.prefix p.next q.next p.back q.back p.before q.before p.own q.own
-    p.part q.part (along o views p.prefix p.before p.packed) (along o views q.prefix q.before q.packed)
-    (sym p.parts ∙ q.parts) in
-    subst (λ (xs : List ℕ). Either xs u) (sym p.text_is)
-    (subst (λ (xs : List ℕ). Either (p.before ++ p.own) xs) (sym q.text_is) found)
 
 taken_prefixes : Laws → (o : Options) (h : BytesRead) (views others : List View) (cs ds : List Channel)
     (old new before after : BytesWritten) → IsFitFor o h views cs → IsFitFor o h others ds
@@ -564,7 +428,8 @@ taken_prefixes laws o h views others cs ds old new before after a b w v =
       there = v.text;
       bytes = w.bytes;
       others = v.bytes;
-      prefixes = either_part laws o others ds w.text v.text part v.text_is;
+      prefixes = either_part (Own o others) (Part o others) (one_own laws o others) (own_part laws o others)
+          (two_own laws o others) ds w.text v.text part v.text_is;
     }
 
 -- A continuous channel isn't broken, and one that can be packed isn't one that can't.

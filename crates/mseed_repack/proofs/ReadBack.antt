@@ -2,7 +2,7 @@
 use Rattle.std.specs.Prelude.{⊤}
 use Rattle.std.proofs.Common.{◌≡◌, ◌≢◌, ◌↔◌, ℕ, ◌≤◌, List, [], ◌∷◌, ◌++◌, length, take, length-take, Option, IsTrue}
 use Rattle.std.proofs.Common.{Result}
-use Rattle.std.proofs.Common.{Ok, map, refl, sym, ap, subst, ◌∙◌, ⊎_elim, append_assoc, append-nil, arith}
+use Rattle.std.proofs.Common.{Ok, map, refl, sym, ap, subst, ◌∙◌, ⊎_elim, append-nil, arith}
 use Rattle.std.specs.List.{AllByRecursion, concat}
 use Rattle.std.specs.Map.{keys_of}
 use Rattle.std.specs.Ordering.{nat_cmp, is_eq}
@@ -37,12 +37,11 @@ use Rattle.mseed_pack.proofs.Parted.{views_joined}
 use Rattle.mseed_pack.proofs.Traced.{is_trace, kept_views}
 use Rattle.mseed_repack.specs.OneRepacking.{ComeToOne}
 use Rattle.mseed_repack.specs.ReadBack.{IsReadBack}
-use Rattle.mseed_repack.specs.Repack.{ArePackedInto, CanBePacked, Channel, IsFitFor, IsPackedInto, IsRepacking, Wrote}
-use Rattle.mseed_repack.specs.Repack.{more, none, records_in}
+use Rattle.mseed_repack.specs.Repack.{ArePackedInto, CanBePacked, Channel, IsFitFor, IsRepacking, IsStretchPacked}
+use Rattle.mseed_repack.specs.Repack.{Wrote, records_in}
 use Rattle.mseed_repack.specs.declared.fault.RepackFault.{RepackFault}
-use Rattle.mseed_repack.proofs.OneRepacking.{Along, along}
 use Rattle.mseed_repack.proofs.Written.{ExactVerdicts, HasNoOthers, IsWritten, Others, are_verdicts, codes_of}
-use Rattle.mseed_repack.proofs.Written.{each_says, either_key, entries, entry, not_there}
+use Rattle.mseed_repack.proofs.Written.{each_says, either_key, entries, not_there}
 
 -- What a law of a lower room says, and what is given of packing anew.
 abbrev ReadBack : Type 0
@@ -85,7 +84,7 @@ record Gathered (o : Options) (views : List View) (cs : List Channel) (text : Li
 
 read_one : Laws → (o : Options) (views : List View) (c : Channel) (records : List (List ℕ))
     → AllByRecursion IsView views → IsContinuous (records_in views c.0) → CanBePacked o views c.0
-    → (into : IsPackedInto o views c.0 records)
+    → (into : IsStretchPacked o (records_in views c.0) records)
     → (into.trace.codes ≡ c.0) × IsRead o views (record { series = into.trace; records = records })
 read_one laws o views c records each continuous can into =
     let s : Trace = into.trace in
@@ -109,19 +108,21 @@ read_one laws o views c records each continuous can into =
 
 gathered : Laws → (o : Options) (views : List View) (cs : List Channel) (text : List ℕ) → AllByRecursion IsView views
     → AllByRecursion (λ (c : Channel). IsContinuous (records_in views c.0)) cs
-    → AllByRecursion (λ (c : Channel). CanBePacked o views c.0) cs → Along o views cs text → Gathered o views cs text
+    → AllByRecursion (λ (c : Channel). CanBePacked o views c.0) cs → ArePackedInto o views cs text → Gathered o views cs text
 gathered laws o views [] text each continuous fit e = record { packed = []; keys = refl; text_is = e; each = tt }
-gathered laws o views (c ∷ cs) text each continuous fit (records, (rest, a)) =
-    let first = read_one laws o views c records each continuous.0 fit.0 a.0 in
+gathered laws o views (c ∷ cs) text each continuous fit (own, (rest, a)) =
+    let is = a.1 in
+    let first = read_one laws o views c is.records each continuous.0 fit.0 is.packed in
     let behind = gathered laws o views cs rest each continuous.1 fit.1 a.2 in
     let key = first.0 in
     let keys = behind.keys in
-    let p : Packed = record { series = a.0.trace; records = records } in
+    let p : Packed = record { series = is.packed.trace; records = is.records } in
     record {
       packed = p ∷ behind.packed;
       keys = λ i. key i ∷ keys i;
-      text_is = a.1 ∙ ap (λ (xs : List ℕ). concat records ++ xs) behind.text_is
-          ∙ sym (concat-append records (records_of_all behind.packed));
+      text_is = a.0 ∙ ap (λ (xs : List ℕ). xs ++ rest) is.text_is
+          ∙ ap (λ (xs : List ℕ). concat is.records ++ xs) behind.text_is
+          ∙ sym (concat-append is.records (records_of_all behind.packed));
       each = (first.1, behind.each);
     }
 
@@ -204,29 +205,25 @@ an_archive packed written text e are = record {
 
 -- Packed anew, they are written again.
 
-into_same : (o : Options) (views written : List View) (p : Packed) → IsRead o views p → IsWritten written p
-    → IsPackedInto o written p.series.codes p.records
-into_same o views written p read own = record { trace = p.series; series = own.series; packing = read.packing }
-
-packed_from : (o : Options) (views written : List View) (prefix : List Channel) (text : List ℕ) (packed : List Packed)
-    → ArePackedInto o written prefix text → AllByRecursion (IsRead o views) packed
+packed_again : (o : Options) (views written : List View) (packed : List Packed) → AllByRecursion (IsRead o views) packed
     → AllByRecursion (IsWritten written) packed
-    → ArePackedInto o written (prefix ++ entries written packed) (text ++ concat (records_of_all packed))
-packed_from o views written prefix text [] before each own =
-    subst (λ (cs : List Channel). ArePackedInto o written cs (text ++ [])) (sym (append-nil prefix))
-    (subst (λ (t : List ℕ). ArePackedInto o written prefix t) (sym (append-nil text)) before)
-packed_from o views written prefix text (p ∷ ps) before each own =
-    let next : ArePackedInto o written (prefix ++ entry written p ∷ []) (text ++ concat p.records) =
-    more prefix (entry written p) text p.records before (into_same o views written p each.0 own.0) in
-    let all = packed_from o views written (prefix ++ entry written p ∷ []) (text ++ concat p.records) ps next each.1
-    own.1 in
-    let reported : (text ++ concat p.records) ++ concat (records_of_all ps) ≡ text ++ concat (records_of_all (p ∷ ps)) =
-    append_assoc text (concat p.records) (concat (records_of_all ps))
-    ∙ ap (λ (t : List ℕ). text ++ t) (sym (concat-append p.records (records_of_all ps))) in
-    subst (λ (cs : List Channel). ArePackedInto o written cs (text ++ concat (records_of_all (p ∷ ps))))
-    (append_assoc prefix (entry written p ∷ []) (entries written ps))
-    (subst (λ (t : List ℕ). ArePackedInto o written ((prefix ++ entry written p ∷ []) ++ entries written ps) t) reported
-    all)
+    → ArePackedInto o written (entries written packed) (concat (records_of_all packed))
+packed_again o views written [] each own = refl
+packed_again o views written (p ∷ ps) each own = (
+  concat p.records,
+  (
+    concat (records_of_all ps),
+    (
+      concat-append p.records (records_of_all ps),
+      record {
+        records = p.records;
+        packed = record { trace = p.series; series = own.0.series; packing = each.0.packing };
+        text_is = refl;
+      },
+      packed_again o views written ps each.1 own.1,
+    ),
+  ),
+)
 
 each_continuous : (written : List View) (packed : List Packed) → AllByRecursion (IsWritten written) packed
     → AllByRecursion (λ (c : Channel). IsContinuous (records_in written c.0)) (entries written packed)
@@ -295,7 +292,7 @@ reads_back laws o h old new repacked =
     let text : List ℕ = wrote.text in
     let all = gathered laws o views cs text fit.archive.whole.each
     (recursion_from_All (λ (c : Channel). IsContinuous (records_in views c.0)) cs fit.continuous)
-    (recursion_from_All (λ (c : Channel). CanBePacked o views c.0) cs fit.fit) (along o views cs text wrote.text_is) in
+    (recursion_from_All (λ (c : Channel). CanBePacked o views c.0) cs fit.fit) wrote.text_is in
     let packed : List Packed = all.packed in
     let read = all.each in
     let made = written_of o views packed read in
@@ -315,7 +312,7 @@ reads_back laws o h old new repacked =
     (each_fit o views written packed read own) in
     let into : ArePackedInto o written channels text =
     subst (λ (t : List ℕ). ArePackedInto o written channels t) (sym all.text_is)
-    (packed_from o views written [] [] packed none read own) in
+    (packed_again o views written packed read own) in
     record {
       views = views;
       read = fit.archive.whole;

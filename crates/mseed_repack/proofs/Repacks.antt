@@ -1,7 +1,6 @@
 -- Channels of an archive, as they are packed one by one.
 use Rattle.std.proofs.Common.{◌≡◌, ℕ, suc, ◌+◌, ◌<◌, ◌≤◌, ◌↔◌, Bool, true, ◌++◌, List, [], ◌∷◌, length, take, drop, map}
-use Rattle.std.proofs.Common.{get_or, refl, sym, ap, subst, ◌∙◌, append_assoc, arith, false, IsTrue, Option, Some, All}
-use Rattle.std.proofs.Common.{append-nil}
+use Rattle.std.proofs.Common.{get_or, refl, sym, ap, subst, ◌∙◌, append_assoc, false, IsTrue, Option, Some, All}
 use Rattle.std.specs.List.{AllByRecursion}
 use Rattle.std.specs.Map.{lookup, keys_of}
 use Rattle.std.specs.Ordering.{nat_cmp, is_eq}
@@ -18,7 +17,6 @@ use Rattle.std.proofs.lemmas.Map.Entries.{lookup_head, lookup_tail}
 use Rattle.mseed_record.specs.View.{View}
 use Rattle.mseed_record.specs.Viewing.{view_of}
 use Rattle.mseed_record.specs.declared.view.RecordView.{RecordView}
-use Rattle.mseed_stream.specs.Device.{BytesWritten}
 use Rattle.mseed_audit.specs.Channels.{Added, added_from, records_of, same_key, views_in}
 use Rattle.mseed_audit.specs.Follows.{IsContinuous}
 use Rattle.mseed_audit.specs.Verdict.{AreVerdicts, IsExactAt, says_continuous}
@@ -26,10 +24,7 @@ use Rattle.mseed_audit.specs.declared.verdict.Verdict.{Verdict}
 use Rattle.mseed_audit.specs.Audit.{Held, IsAuditOf}
 use Rattle.mseed_audit.proofs.Behind.{end_of}
 use Rattle.mseed_audit.proofs.Maps.{same_back, same_itself}
-use Rattle.mseed_pack.specs.declared.options.Options.{Options}
-use Rattle.mseed_repack.specs.Repack.{AreContinuous, ArePackedInto, Channel, IsFirst, IsPackedInPart, IsPartPacked}
-use Rattle.mseed_repack.specs.Repack.{Wrote, more, none, records_in}
-use Rattle.mseed_repack.specs.private.Restretching.{IsStretchText}
+use Rattle.mseed_repack.specs.Repack.{AreContinuous, Channel, IsFirst, records_in}
 
 -- a key that stands behind another is another
 apart : (x y : List ℕ) → slice_cmp nat_cmp x y ≡ Less → same_key y x ≡ false
@@ -64,7 +59,7 @@ exact_each added cs are =
     (All-from_recursion (λ (c : Channel). lookup (same_key c.0) cs ≡ Some c.1) cs (found cs are.ascending))
 
 -- a list about one of its members
-cut_at : (cs : List Channel) (i : ℕ) (d : Channel) → i < length cs → cs ≡ take i cs ++ get_or cs i d ∷ drop (suc i) cs
+pub cut_at : (cs : List Channel) (i : ℕ) (d : Channel) → i < length cs → cs ≡ take i cs ++ get_or cs i d ∷ drop (suc i) cs
 cut_at cs i d lt = sym (take-append-drop (suc i) cs)
     ∙ ap (λ (xs : List Channel). xs ++ drop (suc i) cs) (take-suc cs i d lt)
     ∙ append_assoc (take i cs) (get_or cs i d ∷ []) (drop (suc i) cs)
@@ -80,50 +75,6 @@ first_at Before At cs i d lt before is = record {
   before = before;
   is_it = is;
 }
-
--- what is written behind a text
-pub behind_text : {P Q : List ℕ → Type 0} {n : ℕ} {first old new : BytesWritten} (R : List ℕ → Type 0)
-    → Wrote P 0 first old → Wrote Q n old new
-    → ((text own : List ℕ) → P text → Q own → R (text ++ own)) → Wrote R n first new
-behind_text {first = first} R before one both = record {
-  text = before.text ++ one.text;
-  text_is = both before.text one.text before.text_is one.text_is;
-  bytes = one.bytes ∙ ap (λ (xs : List ℕ). xs ++ one.text) before.bytes ∙ append_assoc first.bytes before.text one.text;
-  failed = omega (arith, one.failed, before.failed);
-}
-
--- the records of one more channel
-pub packed_next : (o : Options) (views : List View) (cs : List Channel) (i count : ℕ) (d : Channel)
-    (first old new : BytesWritten) → i < length cs → Wrote (ArePackedInto o views (take i cs)) 0 first old
-    → Wrote (IsStretchText o (records_in views (get_or cs i d).0) count) 0 old new
-    → Wrote (ArePackedInto o views (take (i + 1) cs)) 0 first new
-packed_next o views cs i count d first old new lt before one =
-    let next : take i cs ++ get_or cs i d ∷ [] ≡ take (i + 1) cs = sym (take-suc cs i d lt)
-    ∙ ap (λ (n : ℕ). take n cs) {x = suc i} (omega arith) in
-    behind_text (ArePackedInto o views (take (i + 1) cs)) before one (λ text own is its.
-    let packed = its.packed in
-    subst (λ (ds : List Channel). ArePackedInto o views ds (text ++ own)) next
-    (subst (λ (xs : List ℕ). ArePackedInto o views (take i cs ++ get_or cs i d ∷ []) (text ++ xs)) (sym its.text_is)
-    (more (take i cs) (get_or cs i d) text its.records is
-    (record { trace = packed.trace; series = packed.series; packing = packed.packing }))))
-
--- or a part of its records
-pub part_of_next : (o : Options) (views : List View) (cs : List Channel) (i : ℕ) (d : Channel)
-    (first old new : BytesWritten) → i < length cs → Wrote (ArePackedInto o views (take i cs)) 0 first old
-    → Wrote (IsPackedInPart o (records_in views (get_or cs i d).0)) 1 old new
-    → Wrote (IsPartPacked o views cs) 1 first new
-part_of_next o views cs i d first old new lt before one =
-    behind_text (IsPartPacked o views cs) before one (λ text own is its. record {
-      prefix = take i cs;
-      next = get_or cs i d;
-      back = drop (suc i) cs;
-      parts = cut_at cs i d lt;
-      before = text;
-      packed = is;
-      own = own;
-      part = its;
-      text_is = refl;
-    })
 
 -- a record behind all others
 behind : (offset : ℕ) (vs : List View) (v : View)
@@ -182,13 +133,3 @@ broken_at views cs i c b are lt is of e before =
 -- a loop has passed all channels
 pub all_passed : (P : Channel → Type 0) (cs : List Channel) (i : ℕ) → length cs ≤ i → All P (take i cs) → All P cs
 all_passed P cs i le all = subst (λ (ds : List Channel). All P ds) (take_all i cs le) all
-
--- nothing yet
-pub wrote_none : (o : Options) (views : List View) (cs : List Channel) (s : BytesWritten)
-    → Wrote (ArePackedInto o views (take 0 cs)) 0 s s
-wrote_none o views cs s = record {
-  text = [];
-  text_is = none;
-  bytes = sym (append-nil s.bytes);
-  failed = omega arith;
-}

@@ -14,9 +14,9 @@ use Rattle.mseed_stretches.specs.Stretches.{AreStretchesUpTo}
 use Rattle.mseed_pack.specs.Outcome.{EmittedAll, EmittedPrefix}
 use Rattle.mseed_pack.specs.declared.fault.PackFault.{PackFault}
 use Rattle.mseed_pack.specs.declared.options.Options.{Options}
-use Rattle.mseed_repack.specs.Repack.{IsPackedInPart, Wrote}
+use Rattle.mseed_repack.specs.Repack.{IsPackedInPart, StretchFits, StretchMisfits, Wrote}
 use Rattle.mseed_repack.specs.Restretch.{ArePackedOn, ChannelFits, ChannelMisfits, IsChannelPart, IsChannelText}
-use Rattle.mseed_repack.specs.Restretch.{IsNextStretch, IsNumberedOn, StretchFits, StretchMisfits, more, none}
+use Rattle.mseed_repack.specs.Restretch.{IsNextStretch, IsNumberedOn, more, none}
 use Rattle.mseed_repack.specs.private.Restretching.{IsStretchText}
 use Rattle.mseed_repack.proofs.Cutting.{IsCut, IsNextCut, at_stretch, cut_next, each_more, inside_next}
 use Rattle.mseed_repack.proofs.Cutting.{some_cut}
@@ -128,10 +128,10 @@ pub packed_more : (o : Options) (rs : List RecordView) (from n count : ℕ) (nex
     → IsNumberedOn next count further → IsPackedSo o rs (from + n) further first new
 packed_more o rs from n count next further first old new h cut le wrote on =
     let s : List View = map view_of (take n (drop from rs)) in
-    let one = wrote.text_is in
+    let one = wrote.text_is.series in
     let size : length (h.records ++ one.records) ≡ length h.records + length one.records =
     length-append h.records one.records in
-    let behind : length h.records + count ≡ length (h.records ++ one.records) = omega (arith, size, one.count_is) in
+    let behind : length h.records + count ≡ length (h.records ++ one.records) = omega (arith, size, wrote.text_is.count_is) in
     record {
       done = h.done ++ s ∷ [];
       cut = cut_next rs from n h.done h.cut cut;
@@ -197,10 +197,12 @@ pub emitted_stretch : (o : Options) (vs : List View) (s : Trace) (count : ℕ) (
 emitted_stretch o vs s count old new series emitted = record {
   text = concat emitted.records;
   text_is = record {
-    records = emitted.records;
-    packed = record { trace = s; series = series; packing = emitted.packing };
+    series = record {
+      records = emitted.records;
+      packed = record { trace = s; series = series; packing = emitted.packing };
+      text_is = refl;
+    };
     count_is = emitted.count_is;
-    text_is = refl;
   };
   bytes = emitted.bytes;
   failed = omega (arith, emitted.failures);

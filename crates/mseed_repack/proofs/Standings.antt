@@ -17,7 +17,7 @@ use Rattle.mseed_pack.specs.declared.fault.PackFault.{PackFault}
 use Rattle.mseed_repack.specs.Repack.{Channel, IsArchiveOf, IsFirst, Wrote, records_in}
 use Rattle.mseed_repack.specs.Restretch.{ChannelFits, ChannelMisfits, IsChannelPart, IsChannelText}
 use Rattle.mseed_repack.specs.ByStretches.{AreSound, AreStandings, AreStretched, IsFit, IsPartStretched, Stands}
-use Rattle.mseed_repack.specs.ByStretches.{TellsEach, also, further, kept_of, line_of, lines_of, nothing}
+use Rattle.mseed_repack.specs.ByStretches.{TellsEach, also, kept_of, line_of, lines_of}
 use Rattle.mseed_repack.specs.ByStretches.{IsRestretching, WroteKept, silent}
 use Rattle.mseed_repack.specs.private.Reading.{channel_in, steps_of}
 use Rattle.mseed_repack.specs.private.Restretching.{AreCut, AreLengths, AreRoomy, AreStretchesWithin}
@@ -32,7 +32,8 @@ use Rattle.mseed_repack.specs.declared.stretches_fault.StretchesFault.TheVariant
 use Rattle.mseed_repack.specs.declared.stretches_fault.StretchesFault.TheVariants.{Stream, Write}
 use Rattle.mseed_repack.proofs.Lengths.{as_many_cut, cut_at, cut_more}
 use Rattle.mseed_repack.proofs.ReadChannels.{steps_in}
-use Rattle.mseed_repack.proofs.Repacks.{behind_text, first_at, says_of}
+use Rattle.mseed_repack.proofs.Repacks.{first_at, says_of}
+use Rattle.mseed_repack.proofs.Texts.{wrote_more, wrote_part}
 
 -- one more channel
 pub standings_more : (o : Options) (views : List View) (cs : List Channel) (ss : List Standing) (c : Channel)
@@ -164,10 +165,10 @@ kept_next : {o : Options} {views : List View} {cs : List Channel} {ss : List Sta
     {first old new : BytesWritten} → IsNextChannel o views cs ss k c Fit first old
     → Wrote (IsChannelText o (records_in views c.0)) 0 old new
     → Wrote (AreStretched o views (kept_of (take (k + 1) cs) (take (k + 1) ss))) 0 first new
-kept_next {o = o} {views = views} {cs = cs} {ss = ss} {k = k} {c = c} h one =
-    behind_text (AreStretched o views (kept_of (take (k + 1) cs) (take (k + 1) ss))) h.before one
-    (λ text own is its. subst (λ (ds : List Channel). AreStretched o views ds (text ++ own)) (sym (with_next h))
-    (further (kept_of (take k cs) (take k ss)) c text own is its))
+kept_next {o = o} {views = views} {cs = cs} {ss = ss} {k = k} {c = c} {first = first} {new = new} h one =
+    subst (λ (ds : List Channel). Wrote (AreStretched o views ds) 0 first new) (sym (with_next h))
+    (wrote_more (λ (d : Channel) own. IsChannelText o (records_in views d.0) own) (kept_of (take k cs) (take k ss)) c
+    h.before one)
 
 -- or a part of it
 part_next : {o : Options} {views : List View} {cs : List Channel} {ss : List Standing} {k : ℕ} {c : Channel}
@@ -184,19 +185,10 @@ part_next {o = o} {views = views} {cs = cs} {ss = ss} {k = k} {c = c} h one =
     ap (λ (ds : List Channel). kept_of ds ss) (sym (take-append-drop (k + 1) cs))
     ∙ ap (λ (ts : List Standing). kept_of (take (k + 1) cs ++ drop (k + 1) cs) ts) (sym (take-append-drop (k + 1) ss))
     ∙ kept_append (take (k + 1) cs) (drop (k + 1) cs) (take (k + 1) ss) (drop (k + 1) ss) long in
-    behind_text (IsPartStretched o views (kept_of cs ss)) h.before one (λ text own is its.
-    record {
-      prefix = kept_of (take k cs) (take k ss);
-      next = c;
-      back = behind;
-      parts = whole ∙ ap (λ (ds : List Channel). ds ++ behind) (with_next h)
-          ∙ append_assoc (kept_of (take k cs) (take k ss)) (c ∷ []) behind;
-      before = text;
-      packed = is;
-      own = own;
-      part = its;
-      text_is = refl;
-    })
+    wrote_part (λ (d : Channel) own. IsChannelText o (records_in views d.0) own)
+    (λ (d : Channel) own. IsChannelPart o (records_in views d.0) own) (kept_of (take k cs) (take k ss)) behind c
+    (kept_of cs ss) (whole ∙ ap (λ (ds : List Channel). ds ++ behind) (with_next h)
+    ∙ append_assoc (kept_of (take k cs) (take k ss)) (c ∷ []) behind) h.before one
 
 -- nothing is written of one that is left out
 same_written : {P : List ℕ → Type 0} {first old new : BytesWritten} → Wrote P 0 first old
@@ -225,15 +217,6 @@ part_step {o = o} {views = views} {c = c} {old = old} {new = new} Fit h one =
     part_next h (subst (λ (vs : List View). Wrote (IsChannelPart o vs) 1 old new) (sym (views_are c.0 views)) one)
 part_step Broken h one = absurd one.text_is
 part_step (Misfit n f) h one = absurd one.text_is
-
-pub kept_none : (o : Options) (views : List View) (cs : List Channel) (ss : List Standing) (s : BytesWritten)
-    → Wrote (AreStretched o views (kept_of (take 0 cs) (take 0 ss))) 0 s s
-kept_none o views cs ss s = record {
-  text = [];
-  text_is = nothing;
-  bytes = sym (append-nil s.bytes);
-  failed = omega arith;
-}
 
 pub all_kept : (o : Options) (views : List View) (cs : List Channel) (ss : List Standing) (k : ℕ)
     (first new : BytesWritten) → length cs ≤ k → length ss ≡ length cs

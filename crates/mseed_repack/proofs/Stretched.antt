@@ -10,7 +10,8 @@ use Rattle.mseed_pack.specs.Fitting.{Fits, IsDifferenceOf, IsMisfit, IsSampleOf}
 use Rattle.mseed_pack.specs.declared.options.Encoding.{Encoding}
 use Rattle.mseed_pack.specs.declared.fault.PackFault.{PackFault}
 use Rattle.mseed_pack.specs.declared.options.Options.{Options}
-use Rattle.mseed_repack.specs.Restretch.{IsNumberedOn, StretchFits, StretchMisfits}
+use Rattle.mseed_repack.specs.Repack.{StretchFits, StretchMisfits}
+use Rattle.mseed_repack.specs.Restretch.{IsNumberedOn}
 use Rattle.mseed_repack.specs.private.Reading.{AreOf}
 use Rattle.mseed_repack.specs.private.Restretching.{IsBegunBy}
 

@@ -21,13 +21,13 @@ use Rattle.mseed_pack.specs.declared.options.Options.{Options}
 use Rattle.mseed_pack.proofs.Archived.{all_kept, key_of}
 use Rattle.mseed_pack.proofs.Traced.{kept_views}
 use Rattle.mseed_repack.specs.Borders.{IsArchiveKept, IsStretchedArchive, KeepsBorders}
-use Rattle.mseed_repack.specs.ByStretches.{AreStretched, EachRestretching, further, kept_of, nothing}
+use Rattle.mseed_repack.specs.ByStretches.{AreStretched, EachRestretching, kept_of}
 use Rattle.mseed_repack.specs.Repack.{Channel, IsArchiveOf, records_in}
 use Rattle.mseed_repack.specs.Restretch.{ChannelFits}
 use Rattle.mseed_repack.specs.declared.standing.Standing.{Standing}
 use Rattle.mseed_repack.specs.declared.standing.Standing.TheVariants.{Fit, Broken, Misfit}
 use Rattle.mseed_repack.proofs.Bordered.{Layers, own_of}
-use Rattle.mseed_repack.proofs.ChannelReadBack.{each_at_back, each_in_leading, each_restretching}
+use Rattle.mseed_repack.proofs.ChannelReadBack.{each_restretching}
 use Rattle.mseed_repack.proofs.ReadBack.{all_records, none_further, others_by}
 
 -- The views of what was written of each channel, one channel's behind another's.
@@ -41,22 +41,6 @@ abbrev AreOf : List View → List Channel → List View → Type 0
 AreOf views [] ws = ws ≡ []
 AreOf views (c ∷ cs) ws =
     (own : List View) × ((rest : List View) × ((ws ≡ own ++ rest) × IsOf views c own × AreOf views cs rest))
-
-one_behind : (views : List View) (cs : List Channel) (c : Channel) (ws own : List View) → AreOf views cs ws
-    → IsOf views c own → AreOf views (cs ++ c ∷ []) (ws ++ own)
-one_behind views [] c ws own e h =
-    (own, ([], (ap (λ (us : List View). us ++ own) e ∙ sym (append-nil own), h, refl)))
-one_behind views (d ∷ cs) c ws own (mine, (rest, (parts, here, more))) h = (
-  mine,
-  (
-    rest ++ own,
-    (
-      ap (λ (us : List View). us ++ own) parts ∙ append_assoc mine rest own,
-      here,
-      one_behind views cs c rest own more h,
-    ),
-  ),
-)
 
 -- the records of a channel have its key
 kept_keys : (key : List ℕ) (vs : List View)
@@ -73,25 +57,30 @@ kept_keys key (v ∷ vs) = by (is_of key v) refl (kept_keys key vs)
 all_of : Layers → (o : Options) (views : List View) (cs : List Channel) (text : List ℕ) → AllByRecursion IsView views
     → AllByRecursion (λ (c : Channel). ChannelFits o (records_in views c.0)) cs → AreStretched o views cs text
     → (ws : List View) × (AreOf views cs ws × (concat (bytes_in ws) ≡ text))
-all_of laws o views _ _ each fit nothing = ([], (refl, refl))
-all_of laws o views _ _ each fit (further cs c text own before here) =
-    let P : Channel → Type 0 = λ c. ChannelFits o (records_in views c.0) in
-    let leading = all_of laws o views cs text each (each_in_leading P cs (c ∷ []) fit) before in
+all_of laws o views [] text each fit none = ([], (refl, sym none))
+all_of laws o views (c ∷ cs) text each fit (its, (rest, written)) =
+    let here = written.1 in
+    let behind = all_of laws o views cs rest each fit.1 written.2 in
     let mine : records_in views c.0 ≡ filter (is_of c.0) views = views_are c.0 views in
     let own_views : AllByRecursion IsView (records_in views c.0) =
     subst (λ (vs : List View). AllByRecursion IsView vs) (sym mine) (kept_views c.0 views each) in
     let keys : AllByRecursion (λ (v : View). key_at v.bytes ≡ c.0) (records_in views c.0) =
     subst (λ (vs : List View). AllByRecursion (λ (v : View). key_at v.bytes ≡ c.0) vs) (sym mine)
     (kept_keys c.0 views) in
-    let is = own_of laws o (records_in views c.0) c.0 here.records own_views keys
-    (each_at_back P cs (c ∷ []) fit).0 here.packed in (
-      leading.0 ++ is.views,
+    let is = own_of laws o (records_in views c.0) c.0 here.records own_views keys fit.0 here.packed in (
+      is.views ++ behind.0,
       (
-        one_behind views cs c leading.0 is.views leading.1.0
-            (record { each = is.each; of_key = is.of_key; borders = is.borders }),
-        ap (λ (rs : List (List ℕ)). concat rs) (map-append (λ (v : View). v.bytes) leading.0 is.views)
-            ∙ concat-append (bytes_in leading.0) (bytes_in is.views)
-            ∙ (λ i. leading.1.1 i ++ concat (is.bytes i)) ∙ ap (λ (xs : List ℕ). text ++ xs) (sym here.text_is),
+        (
+          is.views,
+          (
+            behind.0,
+            (refl, record { each = is.each; of_key = is.of_key; borders = is.borders }, behind.1.0),
+          ),
+        ),
+        ap (λ (rs : List (List ℕ)). concat rs) (map-append (λ (v : View). v.bytes) is.views behind.0)
+            ∙ concat-append (bytes_in is.views) (bytes_in behind.0)
+            ∙ (λ i. concat (is.bytes i) ++ behind.1.1 i) ∙ ap (λ (xs : List ℕ). xs ++ rest) (sym here.text_is)
+            ∙ sym written.0,
       ),
     )
 

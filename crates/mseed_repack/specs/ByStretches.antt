@@ -13,8 +13,8 @@ use Rattle.mseed_pack.specs.declared.fault.PackFault.{PackFault}
 use Rattle.mseed_pack.specs.declared.fault.PackFault.TheVariants.{Empty, RateTooHigh, TimeOutOfRange, SampleTooLarge}
 use Rattle.mseed_pack.specs.declared.fault.PackFault.TheVariants.{DifferenceTooLarge, Write as WriteFailed}
 use Rattle.mseed_pack.specs.declared.options.Options.{Options}
-use Rattle.mseed_repack.specs.Repack.{Channel, Exists, IsArchiveOf, IsFirst, IsTextUpTo, IsUnread, Wrote, input_fault}
-use Rattle.mseed_repack.specs.Repack.{records_in}
+use Rattle.mseed_repack.specs.Repack.{AreTexts, Channel, Exists, IsArchiveOf, IsFirst, IsTextUpTo, IsUnread, Wrote}
+use Rattle.mseed_repack.specs.Repack.{input_fault, records_in}
 use Rattle.mseed_repack.specs.Restretch.{ChannelFits, ChannelMisfits, IsChannelPart, IsChannelText}
 use Rattle.mseed_repack.specs.declared.refusing.Left.{Left}
 use Rattle.mseed_repack.specs.declared.refusing.Left.TheVariants.{Nothing, Broken as LeftBroken, Misfit as LeftMisfit}
@@ -47,16 +47,15 @@ kept_of (c ∷ cs) (Broken ∷ ss) = kept_of cs ss
 kept_of (c ∷ cs) (Misfit number fault ∷ ss) = kept_of cs ss
 
 -- the records of these channels' stretches, channel behind channel
-pub data AreStretched (o : Options) (views : List View) : List Channel → List ℕ → Type 0 where
-  nothing : AreStretched o views [] []
-  further : (cs : List Channel) (c : Channel) (text own : List ℕ) → AreStretched o views cs text
-      → IsChannelText o (records_in views c.0) own → AreStretched o views (cs ++ c ∷ []) (text ++ own)
+abbrev pub AreStretched : Options → List View → List Channel → List ℕ → Type 0
+AreStretched o views channels text =
+    AreTexts (λ (c : Channel) own. IsChannelText o (records_in views c.0) own) channels text
 
 -- the records of the first channels, and of the next channel's a part
 abbrev pub IsPartStretched : Options → List View → List Channel → List ℕ → Type 0
 IsPartStretched o views channels text =
-    IsTextUpTo (λ cs before. AreStretched o views cs before) (λ c own. IsChannelPart o (records_in views c.0) own)
-    channels text
+    IsTextUpTo (λ (c : Channel) own. IsChannelText o (records_in views c.0) own)
+    (λ (c : Channel) own. IsChannelPart o (records_in views c.0) own) channels text
 
 -- a fault of the input, or refused memory
 abbrev pub stretches_fault : StreamFault → StretchesFault

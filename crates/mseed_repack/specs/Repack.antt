@@ -57,17 +57,30 @@ records_in views key = views_in (records_of key (added_from 0 views))
 abbrev pub AreContinuous : List View → List Channel → Type 0
 AreContinuous views channels = All (λ c. IsContinuous (records_in views c.0)) channels
 
--- the channel's series can be packed
-pub record CanBePacked (o : Options) (views : List View) (key : List ℕ) : Type 0 where
+-- the series of some records can be packed
+pub record StretchFits (o : Options) (s : List View) : Type 0 where
   pub trace : Trace
-  pub series : IsSeriesOf trace (records_in views key)
+  pub series : IsSeriesOf trace s
   pub fits : Fits trace o
 
--- the channel's series can't be packed
-pub record CantBePacked (o : Options) (views : List View) (fault : PackFault) (key : List ℕ) : Type 0 where
+-- the series of some records can't be packed, for this reason
+pub record StretchMisfits (o : Options) (fault : PackFault) (s : List View) : Type 0 where
   pub trace : Trace
-  pub series : IsSeriesOf trace (records_in views key)
+  pub series : IsSeriesOf trace s
   pub misfit : IsMisfit trace o fault
+
+-- the series of some records is packed into these
+pub record IsStretchPacked (o : Options) (s : List View) (records : List (List ℕ)) : Type 0 where
+  pub trace : Trace
+  pub series : IsSeriesOf trace s
+  pub packing : IsPacking trace o records
+
+-- A continuous channel is one stretch: its series can be packed, or can't be for this reason.
+abbrev pub CanBePacked : Options → List View → List ℕ → Type 0
+CanBePacked o views key = StretchFits o (records_in views key)
+
+abbrev pub CantBePacked : Options → List View → PackFault → List ℕ → Type 0
+CantBePacked o views fault key = StretchMisfits o fault (records_in views key)
 
 -- of these channels the one with this key is the first of its kind
 pub record IsFirst (Before At : List ℕ → Type 0) (key : List ℕ) (channels : List Channel) : Type 0 where
@@ -78,17 +91,22 @@ pub record IsFirst (Before At : List ℕ → Type 0) (key : List ℕ) (channels 
   pub before : All (λ c. Before c.0) prefix
   pub is_it : At key
 
--- the channel's series is packed into these records
-pub record IsPackedInto (o : Options) (views : List View) (key : List ℕ) (records : List (List ℕ)) : Type 0 where
-  pub trace : Trace
-  pub series : IsSeriesOf trace (records_in views key)
-  pub packing : IsPacking trace o records
+-- the text is the records that the series of some records is packed into
+pub record IsSeriesText (o : Options) (vs : List View) (text : List ℕ) : Type 0 where
+  pub records : List (List ℕ)
+  pub packed : IsStretchPacked o vs records
+  pub text_is : text ≡ concat records
+
+-- the text is the texts of some things, one behind another
+abbrev pub AreTexts : {X : Type 0} → (X → List ℕ → Type 0) → List X → List ℕ → Type 0
+AreTexts Own [] text = text ≡ []
+AreTexts Own (x ∷ xs) text =
+    (own : List ℕ) × ((rest : List ℕ) × ((text ≡ own ++ rest) × Own x own × AreTexts Own xs rest))
 
 -- the records that the series of these channels are packed into, channel behind channel
-pub data ArePackedInto (o : Options) (views : List View) : List Channel → List ℕ → Type 0 where
-  none : ArePackedInto o views [] []
-  more : (cs : List Channel) (c : Channel) (text : List ℕ) (records : List (List ℕ)) → ArePackedInto o views cs text
-      → IsPackedInto o views c.0 records → ArePackedInto o views (cs ++ c ∷ []) (text ++ concat records)
+abbrev pub ArePackedInto : Options → List View → List Channel → List ℕ → Type 0
+ArePackedInto o views channels text =
+    AreTexts (λ (c : Channel) own. IsSeriesText o (records_in views c.0) own) channels text
 
 -- the text is a part of the records that the records' series is packed into
 pub record IsPackedInPart (o : Options) (vs : List View) (text : List ℕ) : Type 0 where
@@ -100,15 +118,14 @@ pub record IsPackedInPart (o : Options) (vs : List View) (text : List ℕ) : Typ
   pub taken : ℕ
   pub text_is : text ≡ take taken (concat records)
 
--- the text of the first channels, and of the next channel's a part
-pub record IsTextUpTo (Whole : List Channel → List ℕ → Type 0) (Part : Channel → List ℕ → Type 0)
-    (channels : List Channel) (text : List ℕ) : Type 0 where
-  pub prefix : List Channel
-  pub next : Channel
-  pub back : List Channel
-  pub parts : channels ≡ prefix ++ next ∷ back
+-- the texts of the first things, and of the next one's a part
+pub record IsTextUpTo {X : Type 0} (Own Part : X → List ℕ → Type 0) (xs : List X) (text : List ℕ) : Type 0 where
+  pub prefix : List X
+  pub next : X
+  pub back : List X
+  pub parts : xs ≡ prefix ++ next ∷ back
   pub before : List ℕ
-  pub packed : Whole prefix before
+  pub packed : AreTexts Own prefix before
   pub own : List ℕ
   pub part : Part next own
   pub text_is : text ≡ before ++ own
@@ -116,8 +133,8 @@ pub record IsTextUpTo (Whole : List Channel → List ℕ → Type 0) (Part : Cha
 -- the same of the records that their series are packed into
 abbrev pub IsPartPacked : Options → List View → List Channel → List ℕ → Type 0
 IsPartPacked o views channels text =
-    IsTextUpTo (λ cs before. ArePackedInto o views cs before) (λ c own. IsPackedInPart o (records_in views c.0) own)
-    channels text
+    IsTextUpTo (λ (c : Channel) own. IsSeriesText o (records_in views c.0) own)
+    (λ (c : Channel) own. IsPackedInPart o (records_in views c.0) own) channels text
 
 -- What was read is a whole archive, and these are its channels, in the order of their keys.
 pub record IsArchiveOf (h : BytesRead) (views : List View) (channels : List Channel) : Type 0 where

@@ -4,13 +4,10 @@ use Rattle.std.specs.List.{concat, AllByRecursion}
 use Rattle.mseed_record.specs.View.{View}
 use Rattle.mseed_stream.specs.Device.{BytesWritten}
 use Rattle.mseed_audit.specs.Follows.{IsSound}
-use Rattle.mseed_audit.specs.Series.{Trace, IsSeriesOf}
 use Rattle.mseed_stretches.specs.Stretches.{AreStretches, AreStretchesUpTo, IsFirstStretch}
-use Rattle.mseed_pack.specs.Fitting.{Fits, IsMisfit}
-use Rattle.mseed_pack.specs.Packing.{IsPacking}
 use Rattle.mseed_pack.specs.declared.fault.PackFault.{PackFault}
 use Rattle.mseed_pack.specs.declared.options.Options.{Options}
-use Rattle.mseed_repack.specs.Repack.{IsPackedInPart, Wrote}
+use Rattle.mseed_repack.specs.Repack.{IsPackedInPart, IsStretchPacked, StretchFits, StretchMisfits, Wrote}
 use Rattle.mseed_repack.specs.declared.channel_fault.ChannelFault.{ChannelFault}
 use Rattle.mseed_repack.specs.declared.channel_fault.ChannelFault.TheVariants.{Broken, Misfit, Write, Memory}
 
@@ -20,24 +17,6 @@ pub record IsNumberedOn (o : Options) (n : ℕ) (next : Options) : Type 0 where
   pub exponent_is : next.exponent ≡ o.exponent
   pub encoding_is : next.encoding ≡ o.encoding
   pub sequence_is : next.first_sequence ≡ (o.first_sequence + n) % 1_000_000
-
--- the stretch's series can be packed
-pub record StretchFits (o : Options) (s : List View) : Type 0 where
-  pub trace : Trace
-  pub series : IsSeriesOf trace s
-  pub fits : Fits trace o
-
--- the stretch's series can't be packed, for this reason
-pub record StretchMisfits (o : Options) (fault : PackFault) (s : List View) : Type 0 where
-  pub trace : Trace
-  pub series : IsSeriesOf trace s
-  pub misfit : IsMisfit trace o fault
-
--- the stretch's series is packed into these records
-pub record IsStretchPacked (o : Options) (s : List View) (records : List (List ℕ)) : Type 0 where
-  pub trace : Trace
-  pub series : IsSeriesOf trace s
-  pub packing : IsPacking trace o records
 
 -- stretches are packed one behind another, and the sequence numbers of each run on behind those before it
 pub data ArePackedOn (o : Options) : List (List View) → List (List ℕ) → Type 0 where

@@ -10,7 +10,7 @@ use Rattle.mseed_stream.specs.Device.{BytesRead, BytesWritten}
 use Rattle.mseed_pack.specs.ReadBack.{ReadsAs}
 use Rattle.mseed_pack.specs.declared.options.Options.{Options}
 use Rattle.mseed_repack.specs.ByStretches.{WroteFitting}
-use Rattle.mseed_repack.specs.Repack.{Channel, records_in}
+use Rattle.mseed_repack.specs.Repack.{AreTexts, Channel, records_in}
 
 -- by its first record's clock, no sample of a stretch stands further than a quarter of its period from where its own
 -- record has it
@@ -40,12 +40,16 @@ pub record IsChannelReadBack (vs : List View) (records : List (List ℕ)) : Type
   pub read : AreReadBack stretches records samples
   pub joined : AreJoined vs samples
 
--- of channels one behind another: the text, which is the records that each channel was packed into, and these read back
-pub data AreChannelsReadBack (views : List View) : List Channel → List ℕ → Type 0 where
-  no_channel : AreChannelsReadBack views [] []
-  next_channel : (cs : List Channel) (c : Channel) (text : List ℕ) (records : List (List ℕ))
-      → AreChannelsReadBack views cs text → IsChannelReadBack (records_in views c.0) records
-      → AreChannelsReadBack views (cs ++ c ∷ []) (text ++ concat records)
+-- the text is the records that a channel was packed into, and these read back
+pub record IsTextReadBack (vs : List View) (text : List ℕ) : Type 0 where
+  pub records : List (List ℕ)
+  pub reads : IsChannelReadBack vs records
+  pub text_is : text ≡ concat records
+
+-- the texts of channels, one behind another
+abbrev pub AreChannelsReadBack : List View → List Channel → List ℕ → Type 0
+AreChannelsReadBack views channels text =
+    AreTexts (λ (c : Channel) own. IsTextReadBack (records_in views c.0) own) channels text
 
 -- What was written of an archive by stretches reads back: of the channels that fit, each in its place.
 abbrev pub IsStretchedBack : Options → BytesRead → BytesWritten → BytesWritten → Type 0

@@ -8,7 +8,7 @@ ghost use Rattle.mseed_repack.specs.private.Outline.{with_samples};
 ghost use Rattle.mseed_repack.specs.private.Reading.{AreOf, CanBeRead, IsSoundWalk};
 ghost use Rattle.mseed_repack.specs.private.Restretching.{AreOfAny, IsBegunBy, IsStretchText};
 ghost use Rattle.mseed_repack.specs.Repack.{IsPackedInPart, Wrote};
-ghost use Rattle.mseed_repack.specs.Restretch.{StretchFits, StretchMisfits};
+ghost use Rattle.mseed_repack.specs.Repack.{StretchFits, StretchMisfits};
 
 use crate::outline::{is_held, outline_records};
 use crate::reading::read_records;

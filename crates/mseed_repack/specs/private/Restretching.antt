@@ -1,7 +1,7 @@
 -- What the steps of packing a channel by its stretches know.
 use Rattle.std.specs.Prelude.{Bool, false, ⊤, ◌≡◌, ℕ, ◌≤◌, ◌^◌, ℤ, List, [], ◌∷◌, length, map, take, drop}
 use Rattle.std.specs.Prelude.{Result, IfOk, IfErr}
-use Rattle.std.specs.List.{concat, AllByRecursion}
+use Rattle.std.specs.List.{AllByRecursion}
 use Rattle.mseed_time.specs.declared.outcome.LeapStep.{LeapStep}
 use Rattle.mseed_record.specs.View.{View}
 use Rattle.mseed_record.specs.Viewing.{view_of}
@@ -13,9 +13,8 @@ use Rattle.mseed_stretches.specs.declared.stretch.Stretch.{Stretch}
 use Rattle.mseed_pack.specs.declared.options.Options.{Options}
 use Rattle.mseed_repack.specs.private.Archives.{HasRoomForRecords}
 use Rattle.mseed_repack.specs.private.Reading.{AreOf, samples_of, steps_of}
-use Rattle.mseed_repack.specs.Repack.{Channel, IsFirst, records_in}
+use Rattle.mseed_repack.specs.Repack.{Channel, IsFirst, IsSeriesText, records_in}
 use Rattle.mseed_repack.specs.Restretch.{ChannelFits, ChannelMisfits, IsChannelPart, IsChannelText}
-use Rattle.mseed_repack.specs.Restretch.{IsStretchPacked}
 use Rattle.mseed_repack.specs.ByStretches.{AreSound, AreStandings, WereStretched, WereStretchedInPart}
 use Rattle.mseed_repack.specs.declared.archive.Archive.{Archive}
 use Rattle.mseed_repack.specs.declared.refusing.Left.{Left}
@@ -68,10 +67,8 @@ IsBegunBy s (first ∷ rest) = IsStretchAt s first []
 
 -- the text is the records that a stretch is packed into, so many
 pub record IsStretchText (o : Options) (s : List View) (count : ℕ) (text : List ℕ) : Type 0 where
-  pub records : List (List ℕ)
-  pub packed : IsStretchPacked o s records
-  pub count_is : count ≡ length records
-  pub text_is : text ≡ concat records
+  pub series : IsSeriesText o s text
+  pub count_is : count ≡ length series.records
 
 -- there is room for each stretch of each channel that fits
 abbrev pub AreRoomy : ℕ → List View → List Channel → List Standing → Type 0

@@ -4,7 +4,7 @@ use Rattle.mseed_record.specs.View.{View}
 use Rattle.mseed_record.specs.Viewing.{view_of}
 use Rattle.mseed_audit.specs.Follows.{IsSound}
 use Rattle.mseed_repack.specs.private.Reading.{steps_of}
-use Rattle.mseed_repack.specs.Restretch.{StretchFits, StretchMisfits}
+use Rattle.mseed_repack.specs.Repack.{StretchFits, StretchMisfits}
 use Rattle.mseed_repack.proofs.Cutting.{each_cut, inside_next, of_cut, room_cut, steps_cut}
 use Rattle.mseed_repack.proofs.Lengths.{next_length, none_behind, some_length}
 use Rattle.mseed_repack.proofs.Restretched.{all_fit, first_misfit, fit_more, fit_none}

@@ -1,4 +1,4 @@
-use Rattle.mseed_repack.proofs.ChannelReadBack.{OneLaws, one_packing, one_text}
+use Rattle.mseed_repack.proofs.ChannelReadBack.{OneLaws, one_archive, one_packing}
 use Rattle.mseed_repack.proofs.law.one_channel_packing.Goals as goal
 
 laws : goal.After-one_packing → OneLaws
@@ -12,4 +12,4 @@ pub returns-clause-channel : goal.returns-clause-channel
 returns-clause-channel c = one_packing (laws c)
 
 pub returns-clause-archive : goal.returns-clause-archive
-returns-clause-archive c = one_text (laws c)
+returns-clause-archive c = one_archive (laws c)

@@ -4,7 +4,7 @@ use Rattle.mseed_record.specs.View.{View}
 use Rattle.mseed_record.specs.Viewing.{view_of}
 use Rattle.mseed_audit.specs.Follows.{IsSound}
 use Rattle.mseed_repack.specs.Repack.{IsPackedInPart, Wrote}
-use Rattle.mseed_repack.specs.Restretch.{StretchFits}
+use Rattle.mseed_repack.specs.Repack.{StretchFits}
 use Rattle.mseed_repack.specs.private.Reading.{steps_of}
 use Rattle.mseed_repack.specs.private.Restretching.{IsStretchText}
 use Rattle.mseed_repack.proofs.Cutting.{cut_of, each_cut, inside_next, of_cut, room_cut, steps_cut}

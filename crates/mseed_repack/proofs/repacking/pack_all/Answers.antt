@@ -1,12 +1,10 @@
-use Rattle.std.proofs.Common.{length, map, arith, refl}
-use Rattle.mseed_record.specs.Viewing.{view_of}
-use Rattle.mseed_repack.proofs.Archives.{fits_at, read_on, series_room, wrote_next, wrote_part}
-use Rattle.mseed_repack.proofs.Repacks.{wrote_none}
+use Rattle.std.proofs.Common.{length, arith, refl}
+use Rattle.mseed_repack.proofs.Archives.{fits_at, read_on, series_room, wrote_next, wrote_part_next}
+use Rattle.mseed_repack.proofs.Texts.{wrote_none}
 use Rattle.mseed_repack.proofs.repacking.pack_all.Goals as goal
 
 pub loop-number-init : goal.loop-number-init
-loop-number-init g c = wrote_none c.args.options.now (map view_of c.args.archive.now.views.now)
-    c.args.archive.now.channels.now (g.W.Sink.written c.args.output.now)
+loop-number-init g c = wrote_none (g.W.Sink.written c.args.output.now) refl
 
 pub pack_series-requires : goal.pack_series-requires
 pack_series-requires g c κs =
@@ -25,7 +23,7 @@ pack_series-requires g c κs =
 
 pub returns-in-Err-clause-err : goal.returns-in-Err-clause-err
 returns-in-Err-clause-err g c =
-    wrote_part c.args.options.now c.args.archive.now c.loop-number.number c.trail-trail.result
+    wrote_part_next c.args.options.now c.args.archive.now c.loop-number.number c.trail-trail.result
     (g.W.Sink.written c.args.output.now) (g.W.Sink.written c.loop-number.output)
     (g.W.Sink.written c.pack_series.new.output) c.loop-number-test.true c.trail-trail.ensures c.loop-number.invariant
     c.in-Err.ensures.err

@@ -1,4 +1,4 @@
-use Rattle.std.proofs.Common.{◌≡◌, ◌<◌, ◌∙◌, ℕ, List, [], ap, arith, get_or, length, map, rules, subst, sym}
+use Rattle.std.proofs.Common.{◌≡◌, ◌<◌, ◌∙◌, ℕ, List, [], ap, arith, get_or, length, map, refl, rules, subst, sym}
 use Rattle.std.proofs.lemmas.List.{get_or-map}
 use Rattle.mseed_record.specs.View.{View}
 use Rattle.mseed_record.specs.Viewing.{view_of}
@@ -7,13 +7,13 @@ use Rattle.mseed_repack.specs.ByStretches.{Stands}
 use Rattle.mseed_repack.specs.private.Restretching.{AreLengths, AreStretchesWithin, IsPartIfFit, IsTextIfFit}
 use Rattle.mseed_repack.specs.declared.standing.Standing.TheVariants.{Fit}
 use Rattle.mseed_repack.proofs.Archives.{on_trail, records_room, room_on, wrote_on}
-use Rattle.mseed_repack.proofs.Standings.{all_kept, as_many, channel_at, cut_for, cut_inside, kept_none, kept_step}
+use Rattle.mseed_repack.proofs.Standings.{all_kept, as_many, channel_at, cut_for, cut_inside, kept_step}
 use Rattle.mseed_repack.proofs.Standings.{part_step, roomy_for, stands_for}
+use Rattle.mseed_repack.proofs.Texts.{wrote_none}
 use Rattle.mseed_repack.proofs.restretching.pack_kept.Goals as goal
 
 pub loop-number-init : goal.loop-number-init
-loop-number-init g c = kept_none c.args.options.now (map view_of c.args.archive.now.views.now)
-    c.args.archive.now.channels.now c.args.standings.now (g.W.Sink.written c.args.output.now)
+loop-number-init g c = wrote_none (g.W.Sink.written c.args.output.now) refl
 
 pub bounds-standings-number : goal.bounds-standings-number
 bounds-standings-number g c =
@@ -79,13 +79,15 @@ pack_if_fit-requires-clause-lengths g c = λ fit.
 
 pub returns-in-Err-clause-err : goal.returns-in-Err-clause-err
 returns-in-Err-clause-err g c =
-    part_step _ (channel_at Fit c.loop-number-test.true c.requires.standings c.trail.ensures.at c.loop-number.invariant)
+    part_step {views = map view_of c.args.archive.now.views.now} _
+    (channel_at Fit c.loop-number-test.true c.requires.standings c.trail.ensures.at c.loop-number.invariant)
     (wrote_on (λ vs. IsPartIfFit c.args.options.now vs (get_or c.args.standings.now c.loop-number.number Fit)) 1
     c.trail.ensures c.in-Err.ensures.err)
 
 pub loop-number-preserved : goal.loop-number-preserved
 loop-number-preserved g c =
-    kept_step _ (channel_at Fit c.loop-number-test.true c.requires.standings c.trail.ensures.at c.loop-number.invariant)
+    kept_step {views = map view_of c.args.archive.now.views.now} _
+    (channel_at Fit c.loop-number-test.true c.requires.standings c.trail.ensures.at c.loop-number.invariant)
     (wrote_on (λ vs. IsTextIfFit c.args.options.now vs (get_or c.args.standings.now c.loop-number.number Fit)) 0
     c.trail.ensures c.in-Ok.ensures.ok)
 
