@@ -3,7 +3,7 @@ that are constants of the code.
 
 A figure stands between words by which it is known; where its page has these twice, it has the figure twice. The table
 of crates in docs/developing.md has a row for each crate but those of tests and benchmarks; its lines may be off by
-MOST_OFF in the hundred, so that not each line that is added changes the page.
+MOST_OFF in the hundred, so that not each line that is added changes the page. Its minutes are those of minutes.txt.
 """
 
 from __future__ import annotations
@@ -18,6 +18,7 @@ from documents.sources import Sources, files_below, text_of
 TABLE = "docs/developing.md"
 WITHOUT_ROW = ["mseed_tests", "slink_tests", "mseed_bench"]
 MOST_OFF = 5
+MINUTES = re.compile(r"^(\| `(\w+)` \|(?: [\d,]* ?\|){5}) ([\d.]+) \|$", re.MULTILINE)
 ROW = re.compile(r"^(\| `(\w+)` \| \d+) \| ([\d,]*) ?\| ([\d,]*) ?\| ([\d,]*) ?\| (\d*) ?(?=\| [\d.]+ \|$)",
                  re.MULTILINE)
 
@@ -119,6 +120,12 @@ def row_of(crate: str) -> list[int]:
             len(edits_of(crate))]
 
 
+def minutes_of() -> dict[str, str]:
+    """The minutes of processors of each crate's first proof, as they were measured."""
+    lines = [line.split() for line in text_of("crates", "minutes.txt").splitlines() if line[0] != "#"]
+    return {crate: minutes for crate, minutes, _ in lines}
+
+
 def is_near(found: int, counted: int) -> bool:
     """Whether lines are off by no more than they may."""
     return abs(found - counted) * 100 <= MOST_OFF * counted
@@ -141,6 +148,10 @@ def judged_rows(sources: Sources, text: str) -> Iterator[Judged]:
         counted = row_of(crate)
         is_right = found[3] == counted[3] and all(map(is_near, found[:3], counted[:3]))
         yield Judged(f"{TABLE}: the row of {crate}", is_right, f"has {found}, and {counted} are counted")
+    measured = minutes_of()
+    for _, crate, minutes in MINUTES.findall(text):
+        yield Judged(f"{TABLE}: the minutes of {crate}", minutes == measured.get(crate),
+                     f"has {minutes}, and crates/minutes.txt {measured.get(crate)}")
 
 
 def recounted(sources: Sources, name: str, text: str) -> str:
@@ -152,4 +163,6 @@ def recounted(sources: Sources, name: str, text: str) -> str:
     def cells(row: re.Match[str]) -> str:
         return row[1] + "".join(f" | {number:,}" if number else " |" for number in row_of(row[2])) + " "
 
-    return ROW.sub(cells, text) if name == TABLE else text
+    measured = minutes_of()
+    text = ROW.sub(cells, text) if name == TABLE else text
+    return MINUTES.sub(lambda row: f"{row[1]} {measured.get(row[2], row[3])} |", text) if name == TABLE else text

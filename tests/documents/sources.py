@@ -62,7 +62,7 @@ class Sources:
             block = re.match(r"(?:pub(?:\([a-z]+\))? )?(impl|trait)\b(?:<.*?>+)? *(.*)", line)
             declared = re.match(r"pub (?:struct|enum|trait|type) (\w+)", line)
             constant = re.match(r"    pub const (\w+):", line)
-            function = re.match(r"( *)(pub )?(?:const )?(?:extern \"C\" )?fn (\w+)", line)
+            function = re.match(r"( *)(pub )?(?:pub\([a-z]+\) )?(?:const )?(?:extern \"C\" )?fn (\w+)", line)
             clause = re.match(r" *ensures\*? (\w+) \{", line)
             part = re.match(r"    (?:pub )?(\w+)", line)
             if declared:

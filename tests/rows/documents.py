@@ -130,8 +130,10 @@ def self_tests(sources: Sources) -> Cases:
         judged = [one for one in judged_rows(sources, row + " 1.6 |") if "the row of" in one.name]
         yield Fact(f"the row {row}", [wanted], [one.is_there for one in judged])
         again = recounted(sources, TABLE, row + " 1.6 |")
-        yield Fact(f"the row {row}, counted anew", [True],
-                   [one.is_there for one in judged_rows(sources, again) if "the row of" in one.name])
+        yield Fact(f"the row {row}, counted anew", [True, True],
+                   [one.is_there for one in judged_rows(sources, again) if "the table" not in one.name])
+    yield Fact("minutes that aren't those that were measured", [False],
+               [one.is_there for one in judged_rows(sources, MISCOUNTED[-1][0] + " 99.9 |") if "minutes" in one.name])
 
 
 def documents_of(sources: Sources) -> list[str]:
