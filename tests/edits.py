@@ -6,8 +6,9 @@
 
 They are the files tests/must-fail/CRATE/NAME.edit, written as those of crates/CRATE/must-fail. They are tried on a copy
 of the crates, over what the toolchain keeps of checks on this machine; where it keeps nothing, the crates are proved
-first. Without names, those of all crates are tried. With --tenth it is a tenth of the list, as `make test` does: which
-one goes by a checksum of the crates, so that each change has its turn, and the same tree the same tenth.
+first, and what they stand on side by side by crates/prove.py. Without names, those of all crates are tried. With
+--tenth it is a tenth of the list, as `make test` does: which one goes by a checksum of the crates, so that each change
+has its turn, and the same tree the same tenth.
 """
 
 from __future__ import annotations
@@ -64,6 +65,9 @@ def tried(edits: Sequence[Path]) -> int:
     crates = sorted({edit.parent.name for edit in edits})
     with tempfile.TemporaryDirectory() as room:
         copied(Path(room), edits)
+        for crate in crates:
+            # The toolchain would prove them one after another, each by one process.
+            subprocess.run([sys.executable, "crates/prove.py", crate], cwd=room, check=False)
         return subprocess.run(["rt", "must-fail", *crates], cwd=room, check=False).returncode
 
 
