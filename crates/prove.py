@@ -43,7 +43,7 @@ PROVED = "proved"
 # So many crates at the same time, and so many processes for one: more gain nothing.
 MOST, PROCESSES = 4, 8
 # Of a crate that isn't in minutes.txt: bytes of sources that take a minute, and memory.
-BYTES_A_MINUTE, MEMORY = 100_000, 2.5
+BYTES_A_MINUTE, MEMORY = 150_000, 2.5
 # What no second process makes shorter, of a crate's proof; and how much more memory several processes take than one.
 ALONE, SHARED = 0.2, 1.3
 # Where a group of processes has the bytes of memory that it may use, and that it uses.

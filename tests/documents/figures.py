@@ -14,6 +14,7 @@ from typing import Callable, Iterator, NamedTuple
 from documents.callers import libraries
 from documents.page import Judged
 from documents.sources import Sources, files_below, text_of
+from driver.proving import prove
 
 TABLE = "docs/developing.md"
 WITHOUT_ROW = ["mseed_tests", "slink_tests", "mseed_bench"]
@@ -70,6 +71,17 @@ def calls(sources: Sources) -> int:
     return sum(not call.is_law for crate in libraries(sources) for call in sources.calls_of(crate))
 
 
+def built_first(_: Sources) -> int:
+    """How many crates the first build of the program proves."""
+    return len({"mseed", *prove.below("mseed")})
+
+
+def minutes_at_first(_: Sources) -> int:
+    """How many minutes it says at first that it may take, on four cores."""
+    on = {crate: prove.below(crate) for crate in ["mseed", *prove.below("mseed")]}
+    return round(prove.minutes_left({crate: prove.cost_of(crate).minutes for crate in on}, on, 4))
+
+
 def constant_of(path: str, name: str) -> int:
     """A constant of a source file: a number or another of its constants, or two with `<<` or `*` between them."""
     found = re.search(rf"\bconst {name}: \w+ = ([\w]+)(?: (<<|\*) ([\w]+))?;", text_of(path))
@@ -93,6 +105,8 @@ def size(page: str, before: str, behind: str, path: str, name: str) -> Figure:
 FIGURES = [
     Figure("README.md", "7. ", " wrong bodies", edits),
     Figure("README.md", "the libraries have ", " public calls", calls),
+    Figure("README.md", "Proving and building: about ", " min for", minutes_at_first),
+    Figure("README.md", " min for ", " crates.", built_first),
     Figure("docs/developing.md", "everything from nothing, the ", " edits in", in_gate),
     Figure("docs/developing.md", "tries the ", " edits that the gate leaves", beside),
     Figure("docs/DECISIONS.md", "the most of each crate**, ", " of ", in_gate),

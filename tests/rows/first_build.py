@@ -3,7 +3,6 @@ way first; it is said how far it is; what is interrupted leaves nothing behind a
 
 from __future__ import annotations
 
-import importlib.util
 import os
 import pty
 import re
@@ -12,26 +11,15 @@ import subprocess
 import tempfile
 import time
 from pathlib import Path
-from types import ModuleType
 
 from driver.program import CRATES, LIMIT
+from driver.proving import prove
 from driver.rows import Cases, Fact, holds
 from driver.stand_in import FIRST, NEXT, Copy
 
 PROGRAM = ["mseed", "run", "--", "audit"]
 # Seconds for each crate, so that some are on their way when it is looked.
 SLOW = "0.3"
-
-
-def loaded() -> ModuleType:
-    """crates/prove.py as a module."""
-    spec = importlib.util.spec_from_file_location("prove", CRATES / "prove.py")
-    module = importlib.util.module_from_spec(spec)
-    spec.loader.exec_module(module)
-    return module
-
-
-prove = loaded()
 
 
 def reckoned() -> Cases:

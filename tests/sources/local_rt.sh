@@ -8,8 +8,7 @@ case $1 in
     version) echo "${RT_VERSION:-a kit}" ;;
     doc) echo /kit/START-HERE.md ;;
     lib | run)
-        logged begin
-        mkdir -p out/incremental && sleep "${RT_SLEEP:-0}" || exit 2
+        mkdir -p out/incremental && logged begin && sleep "${RT_SLEEP:-0}" || exit 2
         [ "$crate" != "$RT_FAILS" ] || { echo "fn $crate::it: not proved"; exit 1; }
         logged end
         ;;
