@@ -48,6 +48,8 @@ BYTES_A_MINUTE, MEMORY = 150_000, 2.5
 ALONE, SHARED = 0.2, 1.3
 # Where a group of processes has the bytes of memory that it may use, and that it uses.
 GROUP = ["memory.max", "memory.current"]
+# The status of `rt` where the system killed a proof, most likely for memory.
+KILLED = 256 - signal.SIGKILL
 # Seconds from one look at what runs to the next.
 TURN = 0.1
 
@@ -201,6 +203,8 @@ class Build:
         self.asked = 0 if self.left == [crate] and is_built(crate) else len(self.left)
         self.running: dict[str, Work] = {}
         self.failed: list[str] = []
+        # Those that were killed once: each is tried once more with nothing beside it, by one process.
+        self.killed: set[str] = set()
         # Minutes of processors that those took that are done, and that they were to take.
         self.used = self.expected = 0.0
         self.is_shown, self.shown, self.is_stopped = sys.stdout.isatty(), "", False
@@ -242,7 +246,8 @@ class Build:
         for at in self.left:
             is_first = not self.running and not found
             taken += self.costs[at].memory
-            has_room = len(self.running) + len(found) < min(MOST, self.cores) and taken <= self.free
+            has_room = len(self.running) + len(found) < min(MOST, self.cores) and taken <= self.free \
+                and not self.killed & {at, *self.running, *found}
             if at in crates and not self.on[at] & waited and (is_first or has_room):
                 found.append(at)
             else:
@@ -254,7 +259,8 @@ class Build:
         is_last = crate == self.crate
         is_longest = all(self.ways[crate] >= self.ways[at] for at in self.running)
         verb, *arguments = self.command if is_last else ["lib"]
-        command = ["rt", verb, "--jobs", str(processes(self.cores, is_longest, is_alone)), *arguments]
+        jobs = 1 if crate in self.killed else processes(self.cores, is_longest, is_alone)
+        command = ["rt", verb, "--jobs", str(jobs), *arguments]
         folder = CRATES / crate if is_last else room_of(crate, self.on[crate])
         is_first = not (folder / "out" / KEPT).exists()
         log = CRATES / crate / "out" / LOG
@@ -270,6 +276,10 @@ class Build:
         out = CRATES / crate / "out"
         if crate != self.crate:
             leave_room(crate)
+        if os.WIFEXITED(status) and os.WEXITSTATUS(status) == KILLED and crate not in self.killed:
+            self.killed.add(crate)
+            self.left.insert(0, crate)
+            return
         if status:
             self.failed.append(crate)
             self.left = [at for at in self.left if crate not in self.on[at]]

@@ -142,6 +142,12 @@ def failing(copy: Copy) -> Cases:
     above = {crate for crate in prove.lines() if "mseed_steim" in prove.below(crate)}
     yield Fact("nothing above it is begun", set(), above & begun)
     yield holds("what doesn't stand on it is proved", {"slink_feed", "slink_links"} <= begun, begun)
+    status, lines = copy.prove(*PROGRAM, RT_KILLED="mseed_steim")
+    log = copy.logged()
+    again = log.index(("begin", "mseed_steim"), log.index(("begin", "mseed_steim")) + 1)
+    open_then = [crate for word, crate in log[:again] if word == "begin" and ("end", crate) not in log[:again]]
+    yield Fact("one that the system kills is proved once more, by one process and with nothing beside it",
+               (0, {"mseed_steim"}, ("end", "mseed_steim")), (status, set(open_then), log[again + 1]))
     (copy.bin / "rt").unlink()
     run = subprocess.run(["/usr/bin/env", "python3", "crates/prove.py", *PROGRAM], cwd=copy.folder,
                          env=copy.environment(PATH=os.defpath), capture_output=True, text=True, check=False)
