@@ -229,7 +229,8 @@ class Build:
     def show(self, ended: str = "") -> None:
         """Says how far it is: on a terminal over and over in one line, and elsewhere in one for each crate."""
         if self.is_shown and self.asked:
-            line = f"{self.text()}: {', '.join(self.running)}"[:shutil.get_terminal_size().columns - 1]
+            line = f"{self.text()}{': ' if self.running else ''}{', '.join(self.running)}"
+            line = line[:shutil.get_terminal_size().columns - 1]
             print(f"\r\033[K{line}" if line != self.shown else "", end="", flush=True)
             self.shown = line
         elif ended and self.asked:

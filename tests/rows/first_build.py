@@ -176,7 +176,7 @@ def on_a_terminal(copy: Copy) -> Cases:
     yield holds("it says at first how long it may take", FIRST.fullmatch(first.strip()), first)
     yield holds("then one line moves", len(moved) > 3 and not any("\n" in line for line in moved), moved)
     yield holds("which says how far it is",
-                all(re.fullmatch(r"\d+ of \d+ crates proved, about \d+ min left: [\w, ]*", line)
+                all(re.fullmatch(r"\d+ of \d+ crates proved, about \d+ min left(: [\w, ]*)?", line)
                     for line in moved[:-1]), moved)
     yield Fact("and is gone at the end", "", moved[-1])
 
