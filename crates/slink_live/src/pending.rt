@@ -17,9 +17,9 @@ pub(crate) const PACKET: usize = 520;
 #[derive(Drop)]
 pub(crate) struct Pending {
     // The bytes before this place were taken.
-    begin: usize,
+    begin: u16,
     // From here on there is room.
-    end: usize,
+    end: u16,
     bytes: [u8; ROOM],
 }
 
@@ -82,7 +82,7 @@ impl Pending {
         ensures value { result.now ≡ self.now.bytes }
         ensures most { length result.now ≤ 6240 }
     {
-        &self.bytes[self.begin..self.end]
+        &self.bytes[usize::from(self.begin)..usize::from(self.end)]
     }
 
     /// How many there are.
@@ -90,7 +90,7 @@ impl Pending {
         ensures value { result ≡ length self.now.bytes }
         ensures most { result ≤ 6240 }
     {
-        self.end - self.begin
+        usize::from(self.end - self.begin)
     }
 
     /// Whether there are none.
@@ -107,8 +107,8 @@ impl Pending {
         ensures { self.new.bytes ≡ self.old.bytes ++ bytes.now }
     {
         self.make_room(bytes.len());
-        put_bytes(&mut self.bytes, self.end, bytes);
-        self.end += bytes.len();
+        put_bytes(&mut self.bytes, usize::from(self.end), bytes);
+        self.end += bytes.len() as u16;
     }
 
     /// Appends the packet of a record.
@@ -119,8 +119,8 @@ impl Pending {
         ensures size { length (packet_bytes number bytes.now) ≡ 520 }
     {
         self.make_room(PACKET);
-        put_packet(&mut self.bytes, self.end, number, bytes);
-        self.end += PACKET;
+        put_packet(&mut self.bytes, usize::from(self.end), number, bytes);
+        self.end += PACKET as u16;
     }
 
     /// Makes room for so many bytes: where there is too little, moves what is left to the front.
@@ -129,8 +129,9 @@ impl Pending {
         ensures bytes { self.new.bytes ≡ self.old.bytes }
         ensures room { count ≤ self.new.room }
     {
-        if count > ROOM - self.end {
-            self.bytes.copy_within(self.begin..self.end, 0);
+        if count > ROOM - usize::from(self.end) {
+            self.bytes
+                .copy_within(usize::from(self.begin)..usize::from(self.end), 0);
             self.end -= self.begin;
             self.begin = 0;
         }
@@ -141,7 +142,7 @@ impl Pending {
         requires { count ≤ length self.old.bytes }
         ensures { self.new.bytes ≡ drop count self.old.bytes }
     {
-        self.begin += count;
+        self.begin = (usize::from(self.begin) + count) as u16;
         if self.begin == self.end {
             self.begin = 0;
             self.end = 0;
