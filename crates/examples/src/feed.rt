@@ -112,6 +112,18 @@ pub fn has_nothing_to_send(session: &Session, feed: &Feed) -> bool {
     session.is_waiting(feed)
 }
 
+/// Whether a record of the first place is due to a client.
+pub fn has_record_due(session: &Session, feed: &Feed) -> bool
+    requires { 0 < length feed.now }
+{
+    session.is_due(feed, 0)
+}
+
+/// Whether a client has all that it requested, for good.
+pub fn has_all_for_good(session: &Session, feed: &Feed) -> bool {
+    session.has_sent_all(feed)
+}
+
 /// Whether a session was granted records of the first place.
 pub fn is_granted(session: &Session) -> bool {
     session.position(0).is_some()

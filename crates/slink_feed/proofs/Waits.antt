@@ -1,6 +1,6 @@
 -- Where nothing is sent of any place.
-use Rattle.std.proofs.Common.{◌≡◌, ◌≢◌, ℕ, ◌+◌, ◌%◌, ◌^◌, ◌<◌, ◌∙◌, arith, ap, inl, inr, refl, subst, sym, length, List}
-use Rattle.std.proofs.Common.{Option, Some, None, slice_get, Bool, true, false, not, ◌↔◌}
+use Rattle.std.proofs.Common.{◌≡◌, ◌≢◌, ℕ, ◌+◌, ◌%◌, ◌^◌, ◌<◌, ◌⊎◌, ◌==◌, ◌&&◌, ◌∙◌, arith, ap, inl, inr, refl, subst, sym, length}
+use Rattle.std.proofs.Common.{List, Option, Some, None, slice_get, Bool, true, false, not, ◌↔◌}
 use Rattle.std.specs.Option.{is_some}
 use Rattle.std.proofs.lemmas.Bool.Decides.{eqb_tells}
 use Rattle.slink_wire.specs.Packet.{packet_bytes}
@@ -10,11 +10,11 @@ use Rattle.slink_feed.specs.declared.session.Phase.TheVariants.{Streaming}
 use Rattle.slink_feed.specs.declared.session.Phase.TheVariants as Phases
 use Rattle.slink_feed.specs.declared.session.Sent.{Sent}
 use Rattle.slink_feed.specs.declared.session.Sent.TheVariants.{Closed, Done, Overrun, Packet, Wait}
-use Rattle.slink_feed.specs.Session.{Grants, IsWaiting, State, all_done, at_next, grant_at, packet_at, sent, sent_in}
-use Rattle.slink_feed.specs.Session.{sent_of}
+use Rattle.slink_feed.specs.Session.{Grants, IsAtNext, IsWaiting, State, all_done, at_next, grant_at, is_done}
+use Rattle.slink_feed.specs.Session.{packet_at, sent, sent_in, sent_of}
 use Rattle.slink_feed.specs.Window.{Window, record_at}
-use Rattle.slink_feed.specs.private.Waiting.{IsAtNext}
-use Rattle.slink_feed.proofs.Done.{some_at}
+use Rattle.slink_feed.specs.Grant.{is_fetch}
+use Rattle.slink_feed.proofs.Done.{not_done, some_at}
 use Rattle.slink_feed.proofs.Reached.{sent_at_next, sent_by_record}
 
 -- a place at its ring's next record, where not all are done
@@ -123,3 +123,50 @@ none_more gs k before here j lt = elim (eqb_tells j k) [
   | inl same ↦ ap (grant_at gs) same.1 ∙ here
   | inr other ↦ before j (omega (arith, lt, other.1))
 ]
+
+-- a place whose next record is due, or left its ring, is not done
+due_open : (f b : Bool) → b ≡ false → (f && b) ≡ false
+due_open true b e = e
+due_open false b e = refl
+
+open_at : (feed : List Window) (gs : Grants) (k : ℕ) (w : Window) (o : Option Grant) → grant_at gs k ≡ o
+    → slice_get feed k ≡ Some w → ¬ (IsAtNext feed gs k) → is_done w o ≡ false
+open_at feed gs k w None granted here off =
+    absurd (off (λ g v other there. absurd (let bad : None ≡ Some g = sym granted ∙ other in cc bad)))
+open_at feed gs k w (Some g) granted here off = elim (eqb_tells g.position w.next) [
+  | inl same ↦ absurd (off (λ h v other there. is_next g h w v (sym granted ∙ other) (sym here ∙ there) same.1))
+  | inr other ↦ due_open (is_fetch g.mode) (g.position == w.next) other.0
+]
+
+unfinished : (feed : List Window) (gs : Grants) (k : ℕ) → k < length feed → ¬ (IsAtNext feed gs k)
+    → all_done feed gs ≡ false
+unfinished feed gs k lt off =
+    let here = some_at feed k lt in
+    not_done feed gs k here.0 (is_done here.0 (grant_at gs k)) here.1 refl
+    (open_at feed gs k here.0 (grant_at gs k) refl here.1 off)
+
+-- While the next record of a place is due, or left its ring, nothing is sent of those at their rings' next records,
+pub waits_beside : (feed : List Window) (s : State) (m k : ℕ) → s.phase ≡ Streaming → m < length feed
+    → ¬ (IsAtNext feed s.grants m) → k < length feed → IsAtNext feed s.grants k → sent feed s k ≡ (s, Wait)
+waits_beside feed s m k phase within off lt at =
+    let here = some_at feed k lt in
+    waits_at feed s k here.0 (grant_at s.grants k) phase refl here.1 at (unfinished feed s.grants m within off)
+
+-- and something of that one.
+pub sends_here : (feed : List Window) (s : State) (k : ℕ) → s.phase ≡ Streaming → k < length feed
+    → ¬ (IsAtNext feed s.grants k) → sent feed s k ≢ (s, Wait)
+sends_here feed s k phase lt off =
+    let here = some_at feed k lt in sends_at feed s k here.0 (grant_at s.grants k) phase refl here.1 off
+
+-- A session that doesn't send records yet sends nothing, and one that does no more is closed.
+quiet_in : (p : Phase) (feed : List Window) (s : State) → s.phase ≡ p → s.phase ≢ Streaming
+    → IsWaiting feed s ⊎ (s.phase ≡ Phases.Closed)
+quiet_in Phases.Fresh feed s is ne = inl (λ k lt. ap (λ (p : Phase). sent_in p feed s k) is)
+quiet_in (Phases.Chosen j) feed s is ne = inl (λ k lt. ap (λ (p : Phase). sent_in p feed s k) is)
+quiet_in (Phases.Granted j) feed s is ne = inl (λ k lt. ap (λ (p : Phase). sent_in p feed s k) is)
+quiet_in Phases.Streaming feed s is ne = absurd (ne is)
+quiet_in Phases.Closed feed s is ne = inr is
+
+pub quiet_or_closed : (feed : List Window) (s : State) → s.phase ≢ Streaming
+    → IsWaiting feed s ⊎ (s.phase ≡ Phases.Closed)
+quiet_or_closed feed s ne = quiet_in s.phase feed s refl ne

@@ -183,6 +183,11 @@ sent_without Unsents.Done = Sents.Done
 sent_without Unsents.Overrun = Sents.Overrun
 sent_without Unsents.Closed = Sents.Closed
 
+-- The place has no grant, or one at its ring's next record.
+abbrev pub IsAtNext : List Window → Grants → ℕ → Type 0
+IsAtNext feed grants k = (g : Grant) (w : Window) → grant_at grants k ≡ Some g → slice_get feed k ≡ Some w
+    → g.position ≡ w.next
+
 -- Nothing is sent of any place now.
 abbrev pub IsWaiting : List Window → State → Type 0
 IsWaiting feed s = (k : ℕ) → k < length feed → sent feed s k ≡ (s, Sents.Wait)

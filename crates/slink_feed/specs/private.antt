@@ -3,4 +3,3 @@ pub mod Delivery
 pub mod Parts
 pub mod Replying
 pub mod Lines
-pub mod Waiting

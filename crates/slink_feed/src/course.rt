@@ -10,9 +10,8 @@ ghost use Rattle.slink_feed.specs.declared.session.Sent.{Sent};
 ghost use Rattle.slink_feed.specs.Serving.{IsAnswer};
 ghost use Rattle.slink_feed.specs.Session.{AreReached, Fits, all_done, answered, called, at, at_next, chosen, ended};
 ghost use Rattle.slink_feed.specs.Session.{grant_at, in_chosen, in_fresh, in_granted, in_streaming, is_done, sent};
-ghost use Rattle.slink_feed.specs.Session.{IsWaiting, sent_without};
+ghost use Rattle.slink_feed.specs.Session.{IsAtNext, IsWaiting, sent_without};
 ghost use Rattle.slink_feed.specs.Window.{record_at};
-ghost use Rattle.slink_feed.specs.private.Waiting.{IsAtNext};
 
 use crate::feed::Feed;
 use crate::grant::{Grant, Mode, first_granted};
@@ -206,6 +205,15 @@ impl Course {
         !has_grant || !self.is_done(feed)
     }
 
+    /// Whether a record of a place is due, or was, and left its ring.
+    pub(crate) fn is_due<A: Allocator>(&self, feed: &Feed<A>, k: usize) -> bool
+        requires { k < length feed.now }
+        ensures yes { OnTrue result ((self.now.phase ≡ Phase.Streaming) × ¬ (IsAtNext feed.now self.now.grants k)) }
+        ensures no { OnFalse result (self.now.phase ≡ Phase.Streaming → IsAtNext feed.now self.now.grants k) }
+    {
+        self.is_streaming() && !self.is_at_next(feed, k)
+    }
+
     /// Whether a place has no grant, or one at its ring's next record.
     fn is_at_next<A: Allocator>(&self, feed: &Feed<A>, k: usize) -> bool
         requires { k < length feed.now }
@@ -231,7 +239,7 @@ impl Course {
     }
 
     /// Whether all that was granted is fetched.
-    fn is_done<A: Allocator>(&self, feed: &Feed<A>) -> bool
+    pub(crate) fn is_done<A: Allocator>(&self, feed: &Feed<A>) -> bool
         ensures { result ≡ all_done feed.now self.now.grants }
     {
         for k in 0..feed.len() {

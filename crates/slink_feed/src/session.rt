@@ -9,7 +9,8 @@ ghost use Rattle.slink_feed.specs.declared.grant.Grant.{Grant};
 ghost use Rattle.slink_feed.specs.Window.{Window};
 ghost use Rattle.slink_feed.specs.Running.{Stands};
 ghost use Rattle.slink_feed.specs.Serving.{Answers, TakesWhole};
-ghost use Rattle.slink_feed.specs.Session.{Fits, IsWaiting, at, grant_at, sent, sent_bytes, sent_without};
+ghost use Rattle.slink_feed.specs.Session.{Fits, IsAtNext, IsWaiting, all_done, at, grant_at, sent, sent_bytes};
+ghost use Rattle.slink_feed.specs.Session.{sent_without};
 
 use crate::course::Course;
 use crate::feed::Feed;
@@ -202,6 +203,31 @@ impl Session {
         ensures { IsTrue result ↔ IsWaiting feed.now self.now.state }
     {
         self.course.is_waiting(feed)
+    }
+
+    /// Whether the session streams, and was granted the place at an index of the feed, and its next record isn't the one
+    /// that comes next: then a call for the place gives it, or says that it left the ring. While that is so of one
+    /// place, nothing is sent of those of which it isn't.
+    ///
+    /// It is lent the same feed at every call, whose rings keep their indices.
+    pub fn is_due<A: Allocator>(&self, feed: &Feed<A>, k: usize) -> bool
+        requires { k < length feed.now }
+        ensures yes { OnTrue result
+            ((self.now.state.phase ≡ Phase.Streaming) × ¬ (IsAtNext feed.now self.now.state.grants k)) }
+        ensures no { OnFalse result
+            (self.now.state.phase ≡ Phase.Streaming → IsAtNext feed.now self.now.state.grants k) }
+    {
+        self.course.is_due(feed, k)
+    }
+
+    /// Whether all that was requested is sent, and no record that comes is requested. So it is of a session without
+    /// grants.
+    ///
+    /// It is lent the same feed at every call, whose rings keep their indices.
+    pub fn has_sent_all<A: Allocator>(&self, feed: &Feed<A>) -> bool
+        ensures { result ≡ all_done feed.now self.now.state.grants }
+    {
+        self.course.is_done(feed)
     }
 
     /// It stands for the stream that its link brought, unless it is closed. Nothing is done.

@@ -63,7 +63,7 @@ leaves_in (Phases.Granted x) feed s k j ne = stays j s
 leaves_in Phases.Streaming feed s k j ne = leaves_of feed s k (grant_at s.grants k) (slice_get feed k) j ne
 leaves_in Phases.Closed feed s k j ne = stays j s
 
-leaves : (feed : List Window) (s t : State) (k j : ℕ) (a : Sent) → j ≢ k → sent feed s k ≡ (t, a) → Leaves j s t
+pub leaves : (feed : List Window) (s t : State) (k j : ℕ) (a : Sent) → j ≢ k → sent feed s k ≡ (t, a) → Leaves j s t
 leaves feed s t k j a ne e =
     subst (Leaves j s) (ap (λ (x : State × Sent). x.0) e) (leaves_in s.phase feed s k j ne)
 
@@ -228,3 +228,35 @@ pub streams_no_more : (feed : List Window) (s t : State) (k : ℕ) (a : Sent) �
     → t.phase ≡ Phases.Streaming → s.phase ≡ Phases.Streaming
 streams_no_more feed s t k a e streams =
     let ne : k + 1 ≢ k = λ is. omega (arith, is) in (leaves feed s t k (k + 1) a ne e).streams streams
+
+-- A session that streams goes on to, or is closed.
+streams_next : (b : Bool) (s : State) → s.phase ≡ Phases.Streaming
+    → ((at_next b s).0.phase ≡ Phases.Streaming) ⊎ ((at_next b s).0.phase ≡ Phases.Closed)
+streams_next true s streams = inr refl
+streams_next false s streams = inl streams
+
+streams_packet : (s : State) (k : ℕ) (g : Grant) (o : Option (List ℕ)) → s.phase ≡ Phases.Streaming
+    → ((packet_at s k g o).0.phase ≡ Phases.Streaming) ⊎ ((packet_at s k g o).0.phase ≡ Phases.Closed)
+streams_packet s k g None streams = inr refl
+streams_packet s k g (Some bytes) streams = inl streams
+
+abbrev Goes : State × Sent → Type 0
+Goes p = (p.0.phase ≡ Phases.Streaming) ⊎ (p.0.phase ≡ Phases.Closed)
+
+streams_if : (b : Bool) (feed : List Window) (s : State) (k : ℕ) (g : Grant) (w : Window)
+    → s.phase ≡ Phases.Streaming
+    → Goes (if b then at_next (all_done feed s.grants) s else packet_at s k g (record_at w g.position))
+streams_if true feed s k g w streams = streams_next (all_done feed s.grants) s streams
+streams_if false feed s k g w streams = streams_packet s k g (record_at w g.position) streams
+
+streams_of : (feed : List Window) (s : State) (k : ℕ) (o : Option Grant) (r : Option Window)
+    → s.phase ≡ Phases.Streaming → Goes (sent_of feed s k o r)
+streams_of feed s k None r streams = inl streams
+streams_of feed s k (Some g) None streams = inl streams
+streams_of feed s k (Some g) (Some w) streams = streams_if (g.position == w.next) feed s k g w streams
+
+pub streams_or_closed : (feed : List Window) (s t : State) (k : ℕ) (a : Sent) → s.phase ≡ Phases.Streaming
+    → sent feed s k ≡ (t, a) → (t.phase ≡ Phases.Streaming) ⊎ (t.phase ≡ Phases.Closed)
+streams_or_closed feed s t k a streams e =
+    subst Goes (sym (ap (λ (p : Phase). sent_in p feed s k) streams) ∙ e)
+    (streams_of feed s k (grant_at s.grants k) (slice_get feed k) streams)

@@ -13,6 +13,8 @@ pub mod Tending
 pub mod Apart
 pub mod Moving
 pub mod Granting
+pub mod Firsts
+pub mod Due
 pub mod Begun
 pub mod Stories
 pub mod Slots

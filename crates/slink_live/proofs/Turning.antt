@@ -49,7 +49,7 @@ turn_before feed s place k before lt behind waits sends = record {
 }
 
 -- what the place whose turn it is gives
-gives_asks : (feed : List Window) (old new : LinkState) (k : ℕ) → Gives feed k old new
+pub gives_asks : (feed : List Window) (old new : LinkState) (k : ℕ) → Gives feed k old new
     → IsTurn feed old.session.state old.place k
     → Asks feed old.session old.place old.pending new.session new.place new.pending
 gives_asks feed old new k g turn =

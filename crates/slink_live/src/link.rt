@@ -1,15 +1,16 @@
 //! What a server keeps of one link: its session, and what is left to be written.
 ghost use Rattle.std.specs.Prelude.{◌≡◌, ◌≢◌, ◌↔◌, ◌⊎◌, ◌+◌, ◌*◌, ◌<◌, ◌≤◌, [], ◌++◌, drop, length, List, true};
+ghost use Rattle.std.specs.Prelude.{ℕ, IfNone, IfSome};
 ghost use Rattle.std.specs.Bool.{OnFalse, OnTrue};
 ghost use Rattle.slink_feed.specs.declared.session.Phase.{Phase};
 ghost use Rattle.slink_feed.specs.declared.session.Sent.{Sent};
 ghost use Rattle.slink_feed.specs.Serving.{Serves};
-ghost use Rattle.slink_feed.specs.Session.{Fits, IsWaiting, sent};
+ghost use Rattle.slink_feed.specs.Session.{Fits, IsAtNext, IsWaiting, all_done, sent};
 ghost use Rattle.slink_feed.specs.Window.{Window};
 ghost use Rattle.slink_live.specs.Awake.{HasLeft, HasRoom, IsClosable, IsFilled, IsLost, IsOver};
-ghost use Rattle.slink_live.specs.Story.{Asks, IsNew};
+ghost use Rattle.slink_live.specs.Story.{Asks, IsEarlier, IsNew};
 ghost use Rattle.slink_live.specs.private.Calling.{Gives, IsRested};
-ghost use Rattle.slink_live.specs.private.Granting.{Covers};
+ghost use Rattle.slink_live.specs.private.Granting.{AreDue, Covers, Has};
 
 use crate::pending::{PACKET, Pending, ROOM};
 use crate::places::Places;
@@ -83,6 +84,14 @@ impl Link {
         ensures { result.now ≡ self.now.pending }
     {
         self.pending.as_slice()
+    }
+
+    /// Whether its session is over.
+    fn is_closed(&self) -> bool
+        ensures yes { OnTrue result (self.now.session.state.phase ≡ Phase.Closed) }
+        ensures no { OnFalse result (self.now.session.state.phase ≢ Phase.Closed) }
+    {
+        self.session.is_closed()
     }
 
     /// Whether its session is over, and nothing is pending.
@@ -238,15 +247,98 @@ impl Link {
         ensures fits { Fits feed.now self.new.session.state }
         ensures filled { IsFilled feed.now self.new }
     {
+        // Before it streams a session sends nothing, and behind its end nothing either.
+        if !self.is_streaming() {
+            return;
+        }
+        // One look tells which places have a record due, most often one of them or none: they alone are asked.
+        let mut due = self.due(feed);
         for ask in 0..ASKS {
-            // Most links wait, and a look at their places is cheaper than to ask for a packet of each.
-            if !self.has_room()
-                || self.session.is_closed()
-                || self.session.is_waiting(feed)
-                || !self.ask(feed)
-            {
+            if !self.has_room() {
                 return;
             }
+            match self.turn(due) {
+                Some(k) => due = self.ask_due(feed, k, due),
+                None => return self.end(feed),
+            }
+            if self.is_closed() {
+                return;
+            }
+        }
+    }
+
+    /// Of which places a record is due.
+    fn due(&self, feed: &Feed) -> Places
+        requires { self.now.session.state.phase ≡ Phase.Streaming }
+        ensures { AreDue feed.now self.now.session.state result }
+    {
+        let mut due = Places::none();
+        for k in 0..feed.len() {
+            if self.is_due(feed, k) {
+                due = due.with(k);
+            }
+        }
+        due
+    }
+
+    /// Whether a record of a place is due.
+    fn is_due(&self, feed: &Feed, k: usize) -> bool
+        requires { k < length feed.now }
+        ensures yes { OnTrue result ((self.now.session.state.phase ≡ Phase.Streaming)
+            × ¬ (IsAtNext feed.now self.now.session.state.grants k)) }
+        ensures no { OnFalse result (self.now.session.state.phase ≡ Phase.Streaming
+            → IsAtNext feed.now self.now.session.state.grants k) }
+    {
+        self.session.is_due(feed, k)
+    }
+
+    /// Of some places the one whose turn it is.
+    fn turn(&self, due: Places) -> Option<usize>
+        ensures some { IfSome result (Has due) }
+        ensures first { IfSome result (λ k. (j : ℕ) → IsEarlier self.now.place j k → ¬ (Has due j)) }
+        ensures none { IfNone result ((j : ℕ) → ¬ (Has due j)) }
+    {
+        due.first_from(self.place)
+    }
+
+    /// Asks for the packet of a place of which a record is due. The answer is of which places one is due then.
+    fn ask_due(&mut self, feed: &Feed, k: usize, due: Places) -> Places
+        requires room { length self.old.pending + 520 ≤ 6240 }
+        requires fits { Fits feed.now self.old.session.state }
+        requires due { AreDue feed.now self.old.session.state due }
+        requires turn { Has due k }
+        ensures gives { Gives feed.now k self.old self.new }
+        ensures fits { Fits feed.now self.new.session.state }
+        ensures due { (self.new.session.state.phase ≡ Phase.Closed) ⊎ AreDue feed.now self.new.session.state result }
+    {
+        self.ask_at(feed, k);
+        if self.is_due(feed, k) {
+            due
+        } else {
+            due.without(k)
+        }
+    }
+
+    /// Whether all that was requested is sent, and no record that comes is requested.
+    fn has_sent_all(&self, feed: &Feed) -> bool
+        ensures { result ≡ all_done feed.now self.now.session.state.grants }
+    {
+        self.session.has_sent_all(feed)
+    }
+
+    /// Says that all is sent, where all that was requested is, and no record that comes.
+    fn end(&mut self, feed: &Feed)
+        requires room { length self.old.pending + 520 ≤ 6240 }
+        requires fits { Fits feed.now self.old.session.state }
+        requires streams { self.old.session.state.phase ≡ Phase.Streaming }
+        requires none { (k : ℕ) → k < length feed.now → IsAtNext feed.now self.old.session.state.grants k }
+        ensures asks { Asks feed.now self.old.session self.old.place self.old.pending self.new.session self.new.place
+            self.new.pending }
+        ensures fits { Fits feed.now self.new.session.state }
+        ensures filled { IsFilled feed.now self.new }
+    {
+        if self.has_sent_all(feed) {
+            self.ask(feed);
         }
     }
 
@@ -258,6 +350,9 @@ impl Link {
             self.new.place self.new.pending) }
         ensures grows { OnTrue result ((self.new.session.state.phase ≡ Phase.Closed)
             ⊎ (length self.new.pending ≡ length self.old.pending + 520)) }
+        ensures ends { self.old.session.state.phase ≡ Phase.Streaming
+            → ((k : ℕ) → k < length feed.now → IsAtNext feed.now self.old.session.state.grants k)
+            → OnTrue result (self.new.session.state.phase ≡ Phase.Closed) }
         ensures no { OnFalse result (IsWaiting feed.now self.old.session.state) }
         ensures stays { OnFalse result (self.new ≡ self.old) }
         ensures fits { Fits feed.now self.new.session.state }

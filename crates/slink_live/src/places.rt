@@ -1,6 +1,8 @@
 //! Some of the places of a feed.
-ghost use Rattle.std.specs.Prelude.{◌≢◌, ◌↔◌, ◌<◌, ℕ};
+ghost use Rattle.std.specs.Prelude.{◌≡◌, ◌≢◌, ◌↔◌, ◌/◌, ◌^◌, ◌<◌, ◌≤◌, ℕ, IfNone, IfSome};
+ghost use Rattle.std.specs.Int.{bit_at};
 ghost use Rattle.std.specs.Bool.{OnFalse};
+ghost use Rattle.slink_live.specs.Story.{IsEarlier};
 ghost use Rattle.slink_live.specs.private.Granting.{Has};
 
 /// Some of the places of a feed, which has sixteen at most.
@@ -8,6 +10,27 @@ ghost use Rattle.slink_live.specs.private.Granting.{Has};
 pub(crate) struct Places {
     // Bit k is of the place at index k.
     bits: u16,
+}
+
+/// The place of the lowest bit, where one is set.
+fn lowest(bits: u32) -> Option<usize>
+    ensures some { IfSome result (λ k. (bit_at bits k ≡ 1) × ((j : ℕ) → j < k → bit_at bits j ≡ 0)) }
+    ensures few { IfSome result (λ k. k < 32) }
+    ensures none { IfNone result (bits ≡ 0) }
+{
+    if bits == 0 {
+        None
+    } else {
+        Some(bits.trailing_zeros() as usize)
+    }
+}
+
+/// The bits from a place on, moved to the front.
+fn behind(bits: u32, place: usize) -> u32
+    ensures value { result ≡ bits / 2 ^ place }
+    ensures none { 32 ≤ place → result ≡ 0 }
+{
+    if place < 32 { bits >> place } else { 0 }
 }
 
 impl Places {
@@ -26,6 +49,31 @@ impl Places {
     {
         Places {
             bits: self.bits | 1 << k,
+        }
+    }
+
+    /// These, but the place at an index.
+    pub(crate) fn without(self, k: usize) -> Places
+        requires { k < 16 }
+        ensures less { (j : ℕ) → Has result j → Has self j × (j ≢ k) }
+        ensures others { (j : ℕ) → j < 16 → j ≢ k → Has self j → Has result j }
+    {
+        Places {
+            bits: self.bits & !(1 << k),
+        }
+    }
+
+    /// The first of them in a round from a place on.
+    pub(crate) fn first_from(self, place: usize) -> Option<usize>
+        ensures some { IfSome result (Has self) }
+        ensures first { IfSome result (λ k. (j : ℕ) → IsEarlier place j k → ¬ (Has self j)) }
+        ensures none { IfNone result ((j : ℕ) → ¬ (Has self j)) }
+    {
+        let bits = u32::from(self.bits);
+        let rest = behind(bits, place);
+        match lowest(rest) {
+            Some(k) => Some(place + k),
+            None => lowest(bits),
         }
     }
 

@@ -1,9 +1,9 @@
 -- Which places concern a link.
-use Rattle.std.specs.Prelude.{◌≡◌, ◌≢◌, ℕ, List, Option, Some, None, get_or, length, set, slice_get}
+use Rattle.std.specs.Prelude.{◌≡◌, ◌≢◌, ◌<◌, ℕ, List, Option, Some, None, get_or, length, set, slice_get}
 use Rattle.std.specs.Int.{bit_at}
 use Rattle.slink_feed.specs.declared.grant.Grant.{Grant}
 use Rattle.slink_feed.specs.declared.session.Phase.TheVariants.{Streaming}
-use Rattle.slink_feed.specs.Session.{grant_at}
+use Rattle.slink_feed.specs.Session.{IsAtNext, State, grant_at}
 use Rattle.slink_feed.specs.Window.{Window}
 use Rattle.slink_live.specs.declared.places.Places.{Places}
 use Rattle.slink_live.specs.Served.{LinkState}
@@ -52,3 +52,10 @@ OthersStay (Some k) old new = (j : ℕ) → j ≢ k → slice_get new j ≡ slic
 -- Each ring stays but those of places that were added to some.
 abbrev pub StaysBeside : Places → Places → List Window → List Window → Type 0
 StaysBeside places all old new = (k : ℕ) → ¬ (Has all k) → ¬ (Has places k) × (slice_get new k ≡ slice_get old k)
+
+-- A session streams, and these are the places that have a record due, or had one, which left its ring.
+pub record AreDue (feed : List Window) (s : State) (due : Places) : Type 0 where
+  pub streams : s.phase ≡ Streaming
+  pub within : (k : ℕ) → Has due k → (k < length feed) × (k < 16)
+  pub ready : (k : ℕ) → Has due k → ¬ (IsAtNext feed s.grants k)
+  pub rest : (k : ℕ) → k < length feed → ¬ (Has due k) → IsAtNext feed s.grants k

@@ -1,7 +1,6 @@
 use Rattle.std.proofs.Common.{◌≡◌, ℕ, ◌<◌, true, false, Some, None}
 use Rattle.slink_feed.specs.declared.grant.Grant.{Grant}
-use Rattle.slink_feed.specs.Session.{grant_at}
-use Rattle.slink_feed.specs.private.Waiting.{IsAtNext}
+use Rattle.slink_feed.specs.Session.{IsAtNext, grant_at}
 use Rattle.slink_feed.proofs.course.Course.is_up_to_date.Given as goal
 
 abbrev pub invariant-loop-k : goal.invariant-loop-k

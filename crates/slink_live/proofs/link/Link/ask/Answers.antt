@@ -1,5 +1,7 @@
-use Rattle.std.proofs.Common.{arith, ap}
+use Rattle.std.proofs.Common.{arith, ap, subst}
 use Rattle.slink_live.specs.Served.{LinkState}
+use Rattle.slink_live.specs.private.Calling.{Gives}
+use Rattle.slink_live.proofs.Due.{gives_end}
 use Rattle.slink_live.proofs.Turning.{asked_before, asked_behind}
 use Rattle.slink_live.proofs.link.Link.ask.Goals as goal
 
@@ -16,3 +18,18 @@ returns-then-ask_at-2-clause-yes c =
     c.if-ask_at-2.ensures.yes
     (omega (arith, c.loop-k-2-test.true, c.min-k-end.ensures, c.len.ensures.value))
     (omega (arith, c.loop-k-2-test.true, c.min-k-end.ensures)) c.loop-k-2.invariant.behind c.loop-k-2.invariant.waits
+
+pub returns-then-ask_at-clause-ends : goal.returns-then-ask_at-clause-ends
+returns-then-ask_at-clause-ends c streams none =
+    gives_end c.args.feed.now c.loop-k.k c.args.self.now c.ask_at.new.self
+    (subst (λ (x : LinkState). Gives c.args.feed.now c.loop-k.k x c.ask_at.new.self) c.loop-k.invariant.same
+    c.if-ask_at.ensures.yes) streams (omega (arith, c.loop-k-test.true, c.len-k-end.ensures.value))
+    (none c.loop-k.k (omega (arith, c.loop-k-test.true, c.len-k-end.ensures.value)))
+
+pub returns-then-ask_at-2-clause-ends : goal.returns-then-ask_at-2-clause-ends
+returns-then-ask_at-2-clause-ends c streams none =
+    gives_end c.args.feed.now c.loop-k-2.k c.args.self.now c.ask_at-in-loop-k-2.new.self
+    (subst (λ (x : LinkState). Gives c.args.feed.now c.loop-k-2.k x c.ask_at-in-loop-k-2.new.self)
+    c.loop-k-2.invariant.same c.if-ask_at-2.ensures.yes) streams
+    (omega (arith, c.loop-k-2-test.true, c.min-k-end.ensures, c.len.ensures.value))
+    (none c.loop-k-2.k (omega (arith, c.loop-k-2-test.true, c.min-k-end.ensures, c.len.ensures.value)))

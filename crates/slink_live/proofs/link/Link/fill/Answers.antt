@@ -1,24 +1,81 @@
-use Rattle.std.proofs.Common.{◌∙◌, ap, arith, inl, inr}
+use Rattle.std.proofs.Common.{◌≡◌, ◌∙◌, arith, inl, inr, sym}
+use Rattle.slink_feed.specs.declared.session.Phase.TheVariants.{Closed, Streaming}
+use Rattle.slink_feed.proofs.Waits.{quiet_or_closed}
 use Rattle.slink_live.specs.Served.{LinkState}
-use Rattle.slink_live.specs.Story.{none_called}
+use Rattle.slink_live.specs.Story.{Asks, none_called}
+use Rattle.slink_live.proofs.Due.{due_turn, grown_by}
 use Rattle.slink_live.proofs.Stories.{asks_then}
+use Rattle.slink_live.proofs.Turning.{gives_asks}
 use Rattle.slink_live.proofs.link.Link.fill.Goals as goal
 
+pub returns-then-not-is_streaming-clause-asks : goal.returns-then-not-is_streaming-clause-asks
+returns-then-not-is_streaming-clause-asks c = none_called
+
+pub returns-then-not-is_streaming-clause-filled : goal.returns-then-not-is_streaming-clause-filled
+returns-then-not-is_streaming-clause-filled c room =
+    quiet_or_closed c.args.feed.now c.args.self.now.session.state c.if-not-is_streaming.ensures.no
+
 pub loop-ask-init : goal.loop-ask-init
-loop-ask-init c = record { asks = none_called; fits = c.requires.fits; grown = inr (omega arith) }
+loop-ask-init c = record {
+  asks = none_called;
+  fits = c.requires.fits;
+  grown = inr (omega arith);
+  due = c.due-due.ensures;
+}
+
+pub ask_due-due-requires : goal.ask_due-due-requires
+ask_due-due-requires c = record {
+  room = c.if-not-has_room.ensures.yes;
+  fits = c.loop-ask.invariant.fits;
+  due = c.loop-ask.invariant.due;
+  turn = c.in-Some.ensures.some;
+}
+
+pub end-requires : goal.end-requires
+end-requires c = record {
+  room = c.if-not-has_room.ensures.yes;
+  fits = c.loop-ask.invariant.fits;
+  streams = c.loop-ask.invariant.due.streams;
+  none = λ k lt. c.loop-ask.invariant.due.rest k lt (c.in-None.ensures.none k);
+}
+
+pub returns-in-None-clause-asks : goal.returns-in-None-clause-asks
+returns-in-None-clause-asks c =
+    asks_then c.args.feed.now c.args.self.now.session c.args.self.now.place c.args.self.now.pending
+    c.loop-ask.self.session c.loop-ask.self.place c.loop-ask.self.pending c.loop-ask.invariant.asks
+    c.end.new.self.session c.end.new.self.place c.end.new.self.pending c.end.ensures.asks
+
+pub returns-then-is_closed-clause-asks : goal.returns-then-is_closed-clause-asks
+returns-then-is_closed-clause-asks c =
+    asks_then c.args.feed.now c.args.self.now.session c.args.self.now.place c.args.self.now.pending
+    c.loop-ask.self.session c.loop-ask.self.place c.loop-ask.self.pending c.loop-ask.invariant.asks
+    c.ask_due-due.new.self.session c.ask_due-due.new.self.place c.ask_due-due.new.self.pending
+    (gives_asks c.args.feed.now c.loop-ask.self c.ask_due-due.new.self c.in-Some.k c.ask_due-due.ensures.gives
+    (due_turn c.args.feed.now c.loop-ask.self.session.state c.loop-ask.due c.loop-ask.self.place c.in-Some.k
+    c.loop-ask.invariant.due c.in-Some.ensures.some c.in-Some.ensures.first))
+
+pub returns-then-is_closed-clause-filled : goal.returns-then-is_closed-clause-filled
+returns-then-is_closed-clause-filled c room = inr c.if-is_closed.ensures.yes
 
 pub loop-ask-preserved : goal.loop-ask-preserved
 loop-ask-preserved c = record {
   asks = asks_then c.args.feed.now c.args.self.now.session c.args.self.now.place c.args.self.now.pending
       c.loop-ask.self.session c.loop-ask.self.place c.loop-ask.self.pending c.loop-ask.invariant.asks
-      c.ask.new.self.session c.ask.new.self.place c.ask.new.self.pending c.if-not-ask.ensures.yes;
-  fits = c.ask.ensures.fits;
-  grown = elim c.if-not-ask.ensures.grows [
+      c.ask_due-due.new.self.session c.ask_due-due.new.self.place c.ask_due-due.new.self.pending
+      (gives_asks c.args.feed.now c.loop-ask.self c.ask_due-due.new.self c.in-Some.k c.ask_due-due.ensures.gives
+      (due_turn c.args.feed.now c.loop-ask.self.session.state c.loop-ask.due c.loop-ask.self.place c.in-Some.k
+      c.loop-ask.invariant.due c.in-Some.ensures.some c.in-Some.ensures.first));
+  fits = c.ask_due-due.ensures.fits;
+  grown = elim (grown_by c.args.feed.now c.in-Some.k c.loop-ask.self c.ask_due-due.new.self c.ask_due-due.ensures.gives) [
     | inl shut ↦ inl shut
     | inr more ↦ elim c.loop-ask.invariant.grown [
-      | inl shut ↦ absurd (c.if-is_closed.ensures.no
-          (ap (λ (x : LinkState). x.session.state.phase) c.self.view_is ∙ shut))
+      | inl shut ↦ absurd (
+          let bad : Closed ≡ Streaming = sym shut ∙ c.loop-ask.invariant.due.streams in cc bad)
       | inr before ↦ inr (omega (arith, before, more))
     ]
+  ];
+  due = elim c.ask_due-due.ensures.due [
+    | inl shut ↦ absurd (c.if-is_closed.ensures.no shut)
+    | inr due ↦ due
   ];
 }

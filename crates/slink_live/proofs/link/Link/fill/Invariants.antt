@@ -2,6 +2,7 @@ use Rattle.std.proofs.Common.{◌≡◌, ◌*◌, ◌≤◌, ◌⊎◌, length}
 use Rattle.slink_feed.specs.declared.session.Phase.TheVariants.{Closed}
 use Rattle.slink_feed.specs.Session.{Fits}
 use Rattle.slink_live.specs.Story.{Asks}
+use Rattle.slink_live.specs.private.Granting.{AreDue}
 use Rattle.slink_live.proofs.link.Link.fill.Given as goal
 
 abbrev pub invariant-loop-ask : goal.invariant-loop-ask
@@ -9,4 +10,5 @@ invariant-loop-ask l = record {
   asks : Asks l.feed l.fn.self.session l.fn.self.place l.fn.self.pending l.self.session l.self.place l.self.pending;
   fits : Fits l.feed l.self.session.state;
   grown : (l.self.session.state.phase ≡ Closed) ⊎ (520 * l.ask ≤ length l.self.pending);
+  due : AreDue l.feed l.self.session.state l.due;
 }

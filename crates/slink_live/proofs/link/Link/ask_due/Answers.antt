@@ -1,0 +1,44 @@
+use Rattle.slink_feed.proofs.Waits.{sends_here}
+use Rattle.slink_live.specs.private.Calling.{Gives}
+use Rattle.slink_live.proofs.Due.{due_or_closed, no_more_due, on_true, still_due}
+use Rattle.slink_live.proofs.link.Link.ask_due.Goals as goal
+
+pub ask_at-requires : goal.ask_at-requires
+ask_at-requires c =
+    let within = c.requires.due.within c.args.k c.requires.turn in
+    record { within = within.0; few = within.1; room = c.requires.room; fits = c.requires.fits }
+
+pub is_due-requires : goal.is_due-requires
+is_due-requires c = (c.requires.due.within c.args.k c.requires.turn).0
+
+pub without-requires : goal.without-requires
+without-requires c = (c.requires.due.within c.args.k c.requires.turn).1
+
+pub returns-then-is_due-clause-gives : goal.returns-then-is_due-clause-gives
+returns-then-is_due-clause-gives c =
+    on_true c.ask_at.result c.ask_at.ensures.yes c.ask_at.ensures.no
+    (sends_here c.args.feed.now c.args.self.now.session.state c.args.k c.requires.due.streams
+    (c.requires.due.within c.args.k c.requires.turn).0 (c.requires.due.ready c.args.k c.requires.turn))
+
+pub returns-else-is_due-clause-gives : goal.returns-else-is_due-clause-gives
+returns-else-is_due-clause-gives c =
+    on_true c.ask_at.result c.ask_at.ensures.yes c.ask_at.ensures.no
+    (sends_here c.args.feed.now c.args.self.now.session.state c.args.k c.requires.due.streams
+    (c.requires.due.within c.args.k c.requires.turn).0 (c.requires.due.ready c.args.k c.requires.turn))
+
+pub returns-then-is_due-clause-due : goal.returns-then-is_due-clause-due
+returns-then-is_due-clause-due c =
+    let g : Gives c.args.feed.now c.args.k c.args.self.now c.ask_at.new.self = returns-then-is_due-clause-gives c in
+    due_or_closed c.args.feed.now c.args.self.now.session.state c.ask_at.new.self.session.state c.args.due c.args.k
+    g.answer c.requires.due c.requires.turn g.given c.args.due
+    (still_due c.args.feed.now c.args.self.now.session.state c.ask_at.new.self.session.state c.args.due c.args.k
+    g.answer c.requires.due c.requires.turn g.given (c.if-is_due.ensures.yes).1)
+
+pub returns-else-is_due-clause-due : goal.returns-else-is_due-clause-due
+returns-else-is_due-clause-due c =
+    let g : Gives c.args.feed.now c.args.k c.args.self.now c.ask_at.new.self = returns-else-is_due-clause-gives c in
+    due_or_closed c.args.feed.now c.args.self.now.session.state c.ask_at.new.self.session.state c.args.due c.args.k
+    g.answer c.requires.due c.requires.turn g.given c.without.result
+    (λ streams. no_more_due c.args.feed.now c.args.self.now.session.state c.ask_at.new.self.session.state c.args.due
+    c.args.k g.answer c.requires.due c.requires.turn g.given c.without.result c.without.ensures.less
+    c.without.ensures.others (c.if-is_due.ensures.no streams) streams)
