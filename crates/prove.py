@@ -46,8 +46,8 @@ MOST, PROCESSES = 4, 8
 BYTES_A_MINUTE, MEMORY = 150_000, 2.5
 # What no second process makes shorter, of a crate's proof; and how much more memory several processes take than one.
 ALONE, SHARED = 0.2, 1.3
-# Where a group of processes has the bytes of memory that it may use, and that it uses.
-GROUP = ["memory.max", "memory.current"]
+# Where the system says what this process and those beside it in its group may use.
+GROUP = Path("/sys/fs/cgroup")
 # The status of `rt` where the system killed a proof, most likely for memory.
 KILLED = 256 - signal.SIGKILL
 # Seconds from one look at what runs to the next.
@@ -124,10 +124,19 @@ def memory() -> float:
     """The GB that are free, by what the system or the group of processes says."""
     found = re.search(r"MemAvailable: +(\d+) kB", Path("/proc/meminfo").read_text(encoding="ascii"))
     free = int(found[1]) * 1024
-    with contextlib.suppress(OSError, ValueError):
-        most, used = (int(Path("/sys/fs/cgroup", name).read_text(encoding="ascii")) for name in GROUP)
-        free = min(free, most - used)
+    with contextlib.suppress(OSError, TypeError, ValueError):
+        used = re.search(r"^anon (\d+)$", (GROUP / "memory.stat").read_text(encoding="ascii"), re.MULTILINE)
+        free = min(free, int((GROUP / "memory.max").read_text(encoding="ascii")) - int(used[1]))
     return free / 1e9
+
+
+def processors() -> int:
+    """The processors on which this process may run, or as many as its group has the time of."""
+    found = len(os.sched_getaffinity(0))
+    with contextlib.suppress(OSError, ValueError):
+        quota, period = map(int, (GROUP / "cpu.max").read_text(encoding="ascii").split())
+        found = min(found, max(quota // period, 1))
+    return found
 
 
 @functools.lru_cache(maxsize=None)
@@ -195,7 +204,7 @@ class Build:
         self.crate, self.command = crate, command
         self.on = {at: below(at) for at in [crate, *below(crate)]}
         self.costs = {at: cost_of(at) for at in self.on}
-        self.cores, self.free = len(os.sched_getaffinity(0)), memory()
+        self.cores, self.free = processors(), memory()
         self.ways = ways(self.on, self.costs)
         ordered = sorted(self.on, key=self.ways.get, reverse=True)
         self.left = [at for at in ordered if at != crate and not is_built(at)] + [crate] * bool(command)

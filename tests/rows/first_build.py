@@ -37,6 +37,25 @@ def reckoned() -> Cases:
                    (prove.processes(cores, True, True), prove.processes(cores, True, False),
                     prove.processes(cores, False, False)))
     yield from by_memory()
+    yield from by_group()
+
+
+def by_group() -> Cases:
+    """A group of processes that may use less than the machine has, as a container; and one that may use all."""
+    free, cores, there = prove.memory(), prove.processors(), prove.GROUP
+    with tempfile.TemporaryDirectory() as folder:
+        prove.GROUP = Path(folder)
+        for name, text in [("memory.max", "300000000\n"), ("memory.stat", "anon 100000000\nfile 5000000000\n"),
+                           ("cpu.max", "150000 100000\n")]:
+            (prove.GROUP / name).write_text(text, encoding="ascii")
+        yield Fact("GB and processors of a group that has 0.2 and one and a half", (0.2, 1),
+                   (prove.memory(), prove.processors()))
+        (prove.GROUP / "memory.max").write_text("max\n", encoding="ascii")
+        (prove.GROUP / "cpu.max").write_text("max 100000\n", encoding="ascii")
+        yield holds("of one without limits those of the machine",
+                    prove.memory() > 0.2 and prove.processors() == len(os.sched_getaffinity(0)), prove.memory())
+    prove.GROUP = there
+    yield holds("of this one some", free > 0 and cores > 0, (free, cores))
 
 
 def by_memory() -> Cases:
