@@ -38,6 +38,8 @@ SOURCES = ["src", "specs", "proofs"]
 BUILT, KEPT, ROOM, LOG, TAKEN = "rlib", "incremental", "room", "log", "taken"
 # What `rt` says where it begins with the proofs of another copy of the tree.
 OTHERS = r"begins with what a check kept|another copy of the repository"
+# What it says of a crate on its way: how many functions it has checked of how many.
+SO_FAR = r"^so far: (\d+) of (\d+) functions checked"
 # Where the version of the toolchain stands by which a crate was proved and built.
 PROVED = "proved"
 # So many crates at the same time, and so many processes for one: more gain nothing.
@@ -179,6 +181,15 @@ def room_of(crate: str, on: set[str]) -> Path:
     return made
 
 
+def checked(crate: str) -> tuple[int, int]:
+    """How many functions of a crate on its way are checked, of how many; (0, 0) where that isn't known."""
+    with contextlib.suppress(FileNotFoundError):
+        log = (CRATES / crate / "out" / LOG).read_text(encoding="utf-8", errors="replace")
+        for done, of in re.findall(SO_FAR, log, re.MULTILINE)[-1:]:
+            return int(done), int(of)
+    return 0, 0
+
+
 def leave_room(crate: str) -> None:
     """Moves what was made and kept in a crate's room to its folder `out`, also of a room that was left behind."""
     out = CRATES / crate / "out"
@@ -227,7 +238,9 @@ class Build:
         left = {at: self.costs[at].minutes for at in self.left}
         for at, work in self.running.items():
             whole = 60 * self.pace() * minutes_left({at: self.costs[at].minutes}, self.on, self.cores)
-            left[at] = self.costs[at].minutes * max(1 - (time.monotonic() - work.began) / max(whole, 1), 0.1)
+            done, of = checked(at)
+            share = done / of if of else (time.monotonic() - work.began) / max(whole, 1)
+            left[at] = self.costs[at].minutes * max(1 - share, 0.1)
         return round(self.pace() * minutes_left(left, self.on, self.cores)) if left else 0
 
     def text(self) -> str:
@@ -238,7 +251,8 @@ class Build:
     def show(self, ended: str = "") -> None:
         """Says how far it is: on a terminal over and over in one line, and elsewhere in one for each crate."""
         if self.is_shown and self.asked:
-            line = f"{self.text()}{': ' if self.running else ''}{', '.join(self.running)}"
+            running = [f"{at} {done} of {of}" if of else at for at in self.running for done, of in [checked(at)]]
+            line = f"{self.text()}{': ' if running else ''}{', '.join(running)}"
             line = line[:shutil.get_terminal_size().columns - 1]
             print(f"\r\033[K{line}" if line != self.shown else "", end="", flush=True)
             self.shown = line

@@ -8,6 +8,7 @@ case $1 in
     version) echo "${RT_VERSION:-a kit}" ;;
     doc) echo /kit/START-HERE.md ;;
     lib | run)
+        [ "$1" != lib ] || echo "so far: 1 of 2 functions checked"
         mkdir -p out/incremental && logged begin && sleep "${RT_SLEEP:-0}" || exit 2
         [ "$crate" != "$RT_KILLED" ] || [ "$3" = 1 ] || exit 247
         [ "$crate" != "$RT_FAILS" ] || { echo "fn $crate::it: not proved"; exit 1; }
