@@ -1,16 +1,16 @@
 //! Calls of `mseed_audit`.
-ghost use Rattle.std.specs.Prelude.{IfOk, decimal, ◌≡◌, ◌<◌, ◌^◌, length};
+ghost use Rattle.std.specs.Prelude.{IfOk, ◌≡◌, ◌<◌, ◌^◌, length};
 ghost use Rattle.mseed_stream.specs.Device.{nothing_read};
-ghost use Rattle.mseed_audit.specs.Text.{fault_line, why_text};
+ghost use Rattle.mseed_audit.specs.Text.{why_text};
 
 use mseed_audit::{
-    Audit, AuditFault, BadStep, Channel, ChannelList, Draft, EachFault, Line, Memory,
-    NotContinuous, Piece, Series, Verdict, Why, audit, audit_each, fault_line_of, gather,
-    gather_each, is_of, line_of, name_of, push_count, push_fault_line, push_line, push_name,
-    push_pieces, push_start, push_total_line, push_verdict_line, push_why, series,
+    Audit, AuditFault, BadStep, Channel, ChannelList, EachFault, Memory, NotContinuous, Series,
+    Verdict, Why, audit, audit_each, gather, gather_each, is_of, push_total_line,
+    push_verdict_line, put_why, series,
 };
 use mseed_record::{Codes, RecordView};
-use mseed_stream::{Counted, Sink, Source, StreamFault};
+use mseed_stream::{Counted, Sink, Source};
+use mseed_text::{Line, push_line};
 use mseed_time::{LeapStep, Micros, Rate};
 use std::alloc::{AllocError, Global};
 
@@ -147,7 +147,9 @@ pub fn reason_text(alloc: Global, why: &Why) -> Result<Vec<u8>, AllocError>
     ensures { IfOk result (λ text. text.items ≡ why_text why.now) }
 {
     let mut text = Vec::new(alloc);
-    push_why(&mut text, why)?;
+    let mut line = Line::new();
+    put_why(&mut line, why);
+    push_line(&mut text, line.as_slice())?;
     Ok(text)
 }
 
@@ -175,75 +177,6 @@ pub fn last_of(series: &Series) -> Option<i32> {
 /// Whether a series goes on with the channel, the start and the rate of another.
 pub fn is_headed_alike(one: &Series, other: &Series) -> bool {
     one.codes() == other.codes() && one.start() == other.start() && one.rate() == other.rate()
-}
-
-/// A line that says how many records a channel has.
-pub fn count_line(alloc: Global, codes: &Codes, records: u64) -> Result<Vec<u8>, AllocError> {
-    let mut text = Vec::new(alloc);
-    push_name(&mut text, codes)?;
-    push_pieces(&mut text, &[Piece::Words(b" has "), Piece::Count(records)])?;
-    text.extend_from_slice(b" records\n")?;
-    Ok(text)
-}
-
-/// A number in decimal digits.
-pub fn digits_of(alloc: Global, number: u64) -> Result<Vec<u8>, AllocError>
-    ensures { IfOk result (λ text. text.items ≡ decimal number) }
-{
-    let mut text = Vec::new(alloc);
-    push_count(&mut text, number)?;
-    Ok(text)
-}
-
-/// The line of a stream's fault, as it ends an audit's text.
-pub fn fault_text(alloc: Global, fault: &StreamFault) -> Result<Vec<u8>, AllocError>
-    ensures { IfOk result (λ text. text.items ≡ fault_line fault.now) }
-{
-    let mut text = Vec::new(alloc);
-    push_fault_line(&mut text, fault)?;
-    Ok(text)
-}
-
-/// The line of a record's start.
-pub fn start_line(alloc: Global, record: &RecordView) -> Result<Vec<u8>, AllocError> {
-    let mut text = Vec::new(alloc);
-    push_start(&mut text, record)?;
-    text.push(b'\n')?;
-    Ok(text)
-}
-
-/// Whether a channel's name is this one; no memory is requested.
-pub fn is_named(codes: &Codes, name: &[u8]) -> bool {
-    name_of(codes).as_slice() == name
-}
-
-/// A short line, built without asking for memory.
-pub fn short_line() -> Line {
-    line_of(&[Piece::Words(b"no records\n")])
-}
-
-/// How many bytes the line of a stream's fault has.
-pub fn fault_length(fault: &StreamFault) -> usize {
-    fault_line_of(fault).len()
-}
-
-/// How long the name of a channel and a number behind it are; no memory is requested.
-pub fn width_of(codes: &Codes, records: u64) -> usize {
-    let mut draft = Draft::new();
-    draft.put_name(codes);
-    draft.put(b" ");
-    draft.put_count(records);
-    draft.as_slice().len()
-}
-
-/// The line that says how many records a channel has, added to a text as it was built.
-pub fn push_records(text: &mut Vec<u8>, codes: &Codes, records: u64) -> Result<(), AllocError> {
-    let mut draft = Draft::new();
-    draft.put_name(codes);
-    draft.put(b" ");
-    draft.put_count(records);
-    draft.put(b"\n");
-    push_line(text, draft.as_slice())
 }
 
 /// Two channels, ascending by their keys; one where both have the same key.

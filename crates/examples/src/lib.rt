@@ -16,6 +16,7 @@ pub mod repacks;
 pub mod steim;
 pub mod stream;
 pub mod stretches;
+pub mod text;
 pub mod time;
 pub mod wire;
 pub mod words;

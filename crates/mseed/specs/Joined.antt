@@ -1,7 +1,7 @@
 -- What joining parts comes to.
 use Rattle.std.specs.Prelude.{ℕ, List, ◌++◌, nat_lt, if◌then◌else◌, Result, codes, decimal}
 use Rattle.mseed_stream.specs.Device.{BytesWritten}
-use Rattle.mseed_audit.specs.Text.{fault_line}
+use Rattle.mseed_text.specs.Fault.{fault_line}
 use Rattle.mseed_join.specs.declared.joining.Joined.{Joined}
 use Rattle.mseed_join.specs.declared.joining.JoinsFault.{JoinsFault}
 use Rattle.mseed_join.specs.declared.joining.JoinsFault.TheVariants.{Line, Count, Stream, Write, Memory}

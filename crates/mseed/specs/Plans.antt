@@ -1,7 +1,7 @@
 -- The plans of the two commands of a feed, and what is given where there is none.
 use Rattle.std.specs.Prelude.{◌≡◌, ℕ, List, [], ◌++◌, Result, Ok, Err, codes, decimal}
 use Rattle.mseed_stream.specs.Device.{BytesRead, BytesWritten}
-use Rattle.mseed_audit.specs.Text.{fault_line}
+use Rattle.mseed_text.specs.Fault.{fault_line}
 use Rattle.slink_feed.specs.Dialogue.{Talk, wants_of}
 use Rattle.slink_feed.specs.Window.{Window}
 use Rattle.slink_feed.specs.declared.dialogue.Stage.TheVariants.{Unlinked}

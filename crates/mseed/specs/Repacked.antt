@@ -1,7 +1,8 @@
 -- What packing anew says, and its exit status.
 use Rattle.std.specs.Prelude.{◌≡◌, ℕ, List, ◌++◌, Result, codes, decimal}
 use Rattle.mseed_stream.specs.Device.{BytesWritten}
-use Rattle.mseed_audit.specs.Text.{name_text, fault_line}
+use Rattle.mseed_text.specs.Name.{name_text}
+use Rattle.mseed_text.specs.Fault.{fault_line}
 use Rattle.mseed_pack.specs.declared.fault.PackFault.{PackFault}
 use Rattle.mseed_pack.specs.declared.options.Options.{Options}
 use Rattle.mseed_repack.specs.ByStretches.{broken_line, misfit_number}

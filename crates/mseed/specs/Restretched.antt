@@ -1,7 +1,7 @@
 -- What packing anew by stretches says, and its exit status.
 use Rattle.std.specs.Prelude.{ℕ, List, ◌++◌, Result, codes}
 use Rattle.mseed_stream.specs.Device.{BytesWritten}
-use Rattle.mseed_audit.specs.Text.{fault_line}
+use Rattle.mseed_text.specs.Fault.{fault_line}
 use Rattle.mseed_repack.specs.ByStretches.{broken_line, misfit_line}
 use Rattle.mseed_repack.specs.declared.refusing.Left.{Left}
 use Rattle.mseed_repack.specs.declared.refusing.Left.TheVariants.{Nothing, Broken as LeftBroken, Misfit as LeftMisfit}

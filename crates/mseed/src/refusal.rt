@@ -1,7 +1,8 @@
 //! The lines that say why parts weren't joined, an archive not packed anew, or a feed not filled. They are built
 //! without the heap: a line is reported whatever memory there is.
 ghost use Rattle.std.specs.Prelude.{◌≡◌, ◌≤◌, ◌++◌, length, codes, decimal};
-ghost use Rattle.mseed_audit.specs.Text.{fault_line, name_text};
+ghost use Rattle.mseed_text.specs.Fault.{fault_line};
+ghost use Rattle.mseed_text.specs.Name.{name_text};
 ghost use Rattle.mseed_stream.specs.Telling.{Tells};
 ghost use Rattle.mseed.specs.Joined.{join_fault_text};
 ghost use Rattle.mseed.specs.Plans.{fill_text};
@@ -12,13 +13,12 @@ ghost use Rattle.mseed_repack.specs.ByStretches.{broken_line};
 use crate::command::{refuse_memory, write_failed};
 use crate::fill_fault::FillFault;
 use crate::outcome::{BROKEN, FAULT};
-use mseed_audit::Piece::{Count, Words};
-use mseed_audit::{fault_line_of, line_of, name_of};
 use mseed_join::JoinsFault;
 use mseed_pack::PackFault;
 use mseed_record::Codes;
 use mseed_repack::{RepackFault, StretchesFault, tell_broken, tell_misfit};
 use mseed_stream::{Sink, StreamFault, tell};
+use mseed_text::Line;
 
 /// Says why an archive wasn't packed anew, and answers the exit status: a broken channel is no fault.
 pub fn refuse_to_repack<E: Sink>(errors: &mut E, fault: &RepackFault) -> u8
@@ -95,14 +95,13 @@ fn tell_miscount<E: Sink>(errors: &mut E, parts: u64, expected: u64) -> u8
     ensures reported { Tells (join_fault_text (JoinsFault.Count parts expected)) (E.written errors.old)
         (E.written errors.new) }
 {
-    let line = line_of(&[
-        Words(b"mseed: "),
-        Count(parts),
-        Words(b" parts, not "),
-        Count(expected),
-        Words(b"\n"),
-    ]);
-    tell(errors, &line);
+    let mut line = Line::new();
+    line.put(b"mseed: ");
+    line.put_count(parts);
+    line.put(b" parts, not ");
+    line.put_count(expected);
+    line.put(b"\n");
+    tell(errors, line.as_slice());
     FAULT
 }
 
@@ -111,8 +110,10 @@ fn tell_fault<E: Sink>(errors: &mut E, fault: &StreamFault) -> u8
     ensures status { result ≡ 2 }
     ensures reported { Tells (codes "mseed: " ++ fault_line fault.now) (E.written errors.old) (E.written errors.new) }
 {
-    let line = line_of(&[Words(b"mseed: "), Words(&fault_line_of(fault))]);
-    tell(errors, &line);
+    let mut line = Line::new();
+    line.put(b"mseed: ");
+    line.put_fault_line(fault);
+    tell(errors, line.as_slice());
     FAULT
 }
 
@@ -131,8 +132,11 @@ fn tell_of_channel<E: Sink>(errors: &mut E, channel: &Codes, words: &[u8])
     ensures { Tells (codes "mseed: " ++ name_text channel.now ++ words.now) (E.written errors.old)
         (E.written errors.new) }
 {
-    let line = line_of(&[Words(b"mseed: "), Words(&name_of(channel)), Words(words)]);
-    tell(errors, &line);
+    let mut line = Line::new();
+    line.put(b"mseed: ");
+    line.put_name(channel);
+    line.put(words);
+    tell(errors, line.as_slice());
 }
 
 /// Why a channel can't be packed, by the number of the reason.
@@ -158,7 +162,10 @@ fn tell_number<'a, E: Sink>(errors: &mut E, before: &'a [u8], number: u64, behin
     ensures reported { Tells (before.entry.now ++ decimal number ++ behind.entry.now) (E.written errors.old)
         (E.written errors.new) }
 {
-    let line = line_of(&[Words(before), Count(number), Words(behind)]);
-    tell(errors, &line);
+    let mut line = Line::new();
+    line.put(before);
+    line.put_count(number);
+    line.put(behind);
+    tell(errors, line.as_slice());
     FAULT
 }

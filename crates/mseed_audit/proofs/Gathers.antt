@@ -1,8 +1,6 @@
 -- The lines of records with a finding, as they are gathered, written, and followed by the audit's text.
-use Rattle.std.proofs.Common.{◌≡◌, ℕ, ◌+◌, ◌++◌, ◌∷◌, List, [], length, take, refl, sym, ap, ◌∙◌, subst, append_assoc}
-use Rattle.std.proofs.Common.{append-nil, arith, inl, inr, Option, Ok, Err}
-use Rattle.std.proofs.lemmas.List.{length-append}
-use Rattle.std.proofs.Math.Seq.{take-append-add, take-append_seam}
+use Rattle.std.proofs.Common.{◌≡◌, ℕ, ◌++◌, ◌∷◌, List, [], sym, ap, ◌∙◌, subst}
+use Rattle.std.proofs.Common.{arith, inl, inr, Option, Ok, Err}
 use Rattle.mseed_record.specs.View.{View}
 use Rattle.mseed_stream.specs.Device.{BytesRead, BytesWritten}
 use Rattle.mseed_stream.specs.Standing.{Standing}
@@ -14,7 +12,10 @@ use Rattle.mseed_audit.specs.declared.each.EachFault.{EachFault}
 use Rattle.mseed_audit.specs.declared.each.EachFault.TheVariants.{Write, Memory}
 use Rattle.mseed_audit.specs.Audit.{Held}
 use Rattle.mseed_audit.specs.Channels.{added_from}
-use Rattle.mseed_audit.specs.Each.{AreGathered, AuditedEach, EmittedFirst, EmittedPart, EndsInLines, EndsShort}
+use Rattle.mseed_text.specs.Gathered.{AreGathered, EmittedFirst, EmittedPart}
+use Rattle.mseed_text.proofs.Gathered.{all_behind, first_behind, first_of, gathered_all, gathered_first, gathered_more}
+use Rattle.mseed_text.proofs.Gathered.{gathered_written, part_behind, part_of}
+use Rattle.mseed_audit.specs.Each.{AuditedEach, EndsInLines, EndsShort}
 use Rattle.mseed_audit.specs.Each.{HasLines, IsEachOutcome, IsLinesFault, each_text}
 use Rattle.mseed_audit.specs.private.Gathered.{AreTold, AreToldMore, IsFinished, IsOneMore, IsPrefixWritten}
 use Rattle.mseed_audit.specs.Summary.{IsGathered, text_of}
@@ -22,74 +23,14 @@ use Rattle.mseed_audit.specs.Text.{reported_lines}
 use Rattle.mseed_audit.specs.Reported.{Reported, AreReportedOf}
 use Rattle.mseed_audit.proofs.Telling.{lines_behind}
 
--- nothing was taken
-pub gathered_all : (s : BytesWritten) (text : List ℕ) → AreGathered s s text text
-gathered_all s text = record { taken = []; bytes = sym (append-nil s.bytes); joined = refl }
-
--- what was taken is a prefix
-pub gathered_first : (first old : BytesWritten) (text lines : List ℕ) → AreGathered first old text lines
-    → EmittedFirst first old lines
-gathered_first first old text lines g =
-    let prefix : g.taken ≡ take (length g.taken) lines = sym (take-append_seam g.taken text)
-    ∙ ap (λ (xs : List ℕ). take (length g.taken) xs) g.joined in
-    (length g.taken, g.bytes ∙ ap (λ (xs : List ℕ). first.bytes ++ xs) prefix)
-
 -- lines were added to what is gathered
-pub gathered_more : (first old : BytesWritten) (text next lines line : List ℕ) → AreGathered first old text lines
-    → next ≡ text ++ line → AreGathered first old next (lines ++ line)
-gathered_more first old text next lines line before e = record {
-  taken = before.taken;
-  bytes = before.bytes;
-  joined = ap (λ (xs : List ℕ). before.taken ++ xs) e ∙ sym (append_assoc before.taken text line)
-      ∙ ap (λ (xs : List ℕ). xs ++ line) before.joined;
-}
-
 pub gathered_reported : (first old : BytesWritten) (text next : List ℕ) (reported more : List Reported)
     → AreGathered first old text (reported_lines reported) → next ≡ text ++ reported_lines more
     → AreGathered first old next (reported_lines (reported ++ more))
 gathered_reported first old text next reported more before e =
     subst (λ (xs : List ℕ). AreGathered first old next xs) (sym (lines_behind reported more))
-    (gathered_more first old text next (reported_lines reported) (reported_lines more) before e)
-
--- what is gathered was written
-pub gathered_written : (first old new : BytesWritten) (text rest lines : List ℕ) → AreGathered first old text lines
-    → new.bytes ≡ old.bytes ++ text → rest ≡ [] → AreGathered first new rest lines
-gathered_written first old new text rest lines before written none = record {
-  taken = before.taken ++ text;
-  bytes = written ∙ ap (λ (xs : List ℕ). xs ++ text) before.bytes ∙ append_assoc first.bytes before.taken text;
-  joined = ap (λ (xs : List ℕ). (before.taken ++ text) ++ xs) none ∙ append-nil (before.taken ++ text) ∙ before.joined;
-}
-
--- the whole, behind what was taken before
-pub behind : (first old : BytesWritten) (text lines tail : List ℕ) (before : AreGathered first old text lines)
-    → before.taken ++ (text ++ tail) ≡ lines ++ tail
-behind first old text lines tail before = sym (append_assoc before.taken text tail)
-    ∙ ap (λ (xs : List ℕ). xs ++ tail) before.joined
-
-taken_behind : (first old new : BytesWritten) (text lines tail : List ℕ) (n : ℕ)
-    (before : AreGathered first old text lines)
-    → new.bytes ≡ old.bytes ++ take n (text ++ tail)
-    → new.bytes ≡ first.bytes ++ take (length before.taken + n) (lines ++ tail)
-taken_behind first old new text lines tail n before taken =
-    taken ∙ ap (λ (xs : List ℕ). xs ++ take n (text ++ tail)) before.bytes
-    ∙ append_assoc first.bytes before.taken (take n (text ++ tail))
-    ∙ ap (λ (xs : List ℕ). first.bytes ++ xs) (sym (take-append-add before.taken (text ++ tail) n))
-    ∙ ap (λ (xs : List ℕ). first.bytes ++ take (length before.taken + n) xs) (behind first old text lines tail before)
-
-first_behind : (first old new : BytesWritten) (text lines tail : List ℕ) → AreGathered first old text lines
-    → EmittedFirst old new (text ++ tail) → EmittedFirst first new (lines ++ tail)
-first_behind first old new text lines tail before emitted =
-    (length before.taken + emitted.0, taken_behind first old new text lines tail emitted.0 before emitted.1)
-
-pub part_behind : (first old new : BytesWritten) (text lines tail : List ℕ) → AreGathered first old text lines
-    → EmittedPart old new (text ++ tail) → EmittedPart first new (lines ++ tail)
-part_behind first old new text lines tail before emitted =
-    let size : length before.taken + length (text ++ tail) ≡ length (lines ++ tail) =
-    sym (length-append before.taken (text ++ tail))
-    ∙ ap (λ (xs : List ℕ). length xs) (behind first old text lines tail before) in (
-      length before.taken + emitted.0,
-      (omega (arith, emitted.1.0, size), taken_behind first old new text lines tail emitted.0 before emitted.1.1),
-    )
+    (gathered_more first old old text next (reported_lines reported) (reported_lines more) before
+    (subst (λ (xs : List ℕ). AreGathered old old next xs) e (gathered_all old next)))
 
 -- what was written is so of the lines of the first records
 in_lines : (Emitted : List ℕ → Type 0) (h : BytesRead) (offset : ℕ) (views : List View) (reported : List Reported)
@@ -97,12 +38,6 @@ in_lines : (Emitted : List ℕ → Type 0) (h : BytesRead) (offset : ℕ) (views
     → EndsInLines Emitted h
 in_lines Emitted h offset views reported shown are prefix =
     (offset, (views, (reported, record { shown = shown; are_reported = are; prefix = prefix })))
-
--- with nothing behind
-none_behind : (P Q : List ℕ → Type 0) (text lines : List ℕ) → (P (text ++ []) → Q (lines ++ [])) → P text → Q lines
-none_behind P Q text lines step p =
-    subst (λ (xs : List ℕ). Q xs) (append-nil lines)
-    (step (subst (λ (xs : List ℕ). P xs) (sym (append-nil text)) p))
 
 -- a prefix of what is gathered was written: of the lines
 short_lines : (fault : EachFault) (h : BytesRead) (first old new : BytesWritten) (text : List ℕ) (offset : ℕ)
@@ -112,14 +47,12 @@ short_lines : (fault : EachFault) (h : BytesRead) (first old new : BytesWritten)
 short_lines Write h first old new text offset views reported shown same before are w = (
   omega (arith, same, w.0),
   in_lines (EmittedPart first new) h offset views reported shown are
-      (none_behind (EmittedPart old new) (EmittedPart first new) text (reported_lines reported)
-      (part_behind first old new text (reported_lines reported) [] before) w.1),
+      (part_of first old new text (reported_lines reported) before w.1),
 )
 short_lines Memory h first old new text offset views reported shown same before are w = (
   w.0 ∙ same,
   in_lines (EmittedFirst first new) h offset views reported shown are
-      (none_behind (EmittedFirst old new) (EmittedFirst first new) text (reported_lines reported)
-      (first_behind first old new text (reported_lines reported) [] before) w.1),
+      (first_of first old new text (reported_lines reported) before w.1),
 )
 
 -- no memory for more than these lines
@@ -243,10 +176,8 @@ each_written s views reported first old new text whole f are before bytes same f
       reported_also s views reported text whole f are,
       record {
         summary = f.summary;
-        text = bytes ∙ ap (λ (xs : List ℕ). old.bytes ++ xs) f.text_is
-            ∙ ap (λ (xs : List ℕ). xs ++ (text ++ tail)) before.bytes
-            ∙ append_assoc first.bytes before.taken (text ++ tail)
-            ∙ ap (λ (xs : List ℕ). first.bytes ++ xs) (behind first old text (reported_lines reported) tail before);
+        text = all_behind first old new text (reported_lines reported) tail before
+            (bytes ∙ ap (λ (xs : List ℕ). old.bytes ++ xs) f.text_is);
         fine = fine ∙ same;
       },
     )

@@ -7,13 +7,11 @@ pub mod Between
 pub mod Continuity
 pub mod Counts
 pub mod Kept
-pub mod Decimals
 pub mod Finished
 pub mod Found
 pub mod Gathers
 pub mod Joined
 pub mod Judged
-pub mod Lines
 pub mod Lasts
 pub mod Maps
 pub mod More
@@ -24,12 +22,9 @@ pub mod OneSeries
 pub mod OneTelling
 pub mod OneVerdict
 pub mod Outcomes
-pub mod Prefixes
 pub mod Placed
 pub mod Places
 pub mod Rosters
-pub mod Shorts
 pub mod Steps
 pub mod Telling
-pub mod Trims
 pub mod Views

@@ -17,7 +17,7 @@ use Rattle.std.proofs.lemmas.Map.Views.{All-values-insert_entry}
 use Rattle.std.proofs.lemmas.Option.{slice_get_read}
 use Rattle.mseed_audit.specs.declared.channel.Channel.{Channel}
 use Rattle.mseed_audit.specs.Channels.{same_key}
-use Rattle.mseed_audit.specs.Places.{ArePlaced, ArePlaces, place_of, with_channel}
+use Rattle.mseed_audit.specs.Places.{ArePlaced, place_of, with_channel}
 use Rattle.mseed_audit.specs.private.Kept.{IsMissed}
 use Rattle.mseed_audit.proofs.ByKey.{kept_insert}
 use Rattle.mseed_audit.proofs.Maps.{same_back}

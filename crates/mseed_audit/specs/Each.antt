@@ -1,9 +1,10 @@
 -- What an audit writes that tells each record with a finding, and what it answers.
-use Rattle.std.specs.Prelude.{◌≡◌, ◌⊎◌, ℕ, ◌+◌, ◌<◌, List, ◌++◌, length, take, Option, Result, Ok, Err}
+use Rattle.std.specs.Prelude.{◌≡◌, ◌⊎◌, ℕ, ◌+◌, List, ◌++◌, Option, Result, Ok, Err}
 use Rattle.mseed_record.specs.View.{View}
 use Rattle.mseed_stream.specs.Device.{BytesRead, BytesWritten}
 use Rattle.mseed_stream.specs.Walk.{AreViews}
 use Rattle.mseed_stream.specs.declared.fault.StreamFault.{StreamFault}
+use Rattle.mseed_text.specs.Gathered.{AreGathered, EmittedFirst, EmittedPart}
 use Rattle.mseed_audit.specs.declared.summary.Summary.{Summary}
 use Rattle.mseed_audit.specs.declared.each.EachFault.{EachFault}
 use Rattle.mseed_audit.specs.declared.each.EachFault.TheVariants.{Write, Memory}
@@ -29,14 +30,6 @@ pub record IsEachWritten {h : BytesRead} (s : Summary) (a : AuditedEach h) (old 
   pub text : new.bytes ≡ old.bytes ++ each_text a
   pub fine : new.failures ≡ old.failures
 
--- the output accepted the first bytes of a text
-abbrev pub EmittedFirst : BytesWritten → BytesWritten → List ℕ → Type 0
-EmittedFirst old new text = (count : ℕ) × (new.bytes ≡ old.bytes ++ take count text)
-
--- and not all of it
-abbrev pub EmittedPart : BytesWritten → BytesWritten → List ℕ → Type 0
-EmittedPart old new text = (count : ℕ) × ((count < length text) × (new.bytes ≡ old.bytes ++ take count text))
-
 -- what was written is so of a text: the lines of the first records, or the whole
 pub record IsCutShort (Emitted : List ℕ → Type 0) (h : BytesRead) (offset : ℕ) (views : List View)
     (reported : List Reported) : Type 0 where
@@ -55,12 +48,6 @@ IsEachOutcome (Err Write) h old new = (new.failures ≡ old.failures + 1) × End
 IsEachOutcome (Err Memory) h old new = (new.failures ≡ old.failures) × EndsShort (EmittedFirst old new) h
 
 -- ---- the lines, as records are added
--- the output accepted some bytes, and with those that are gathered they are a text
-pub record AreGathered (old new : BytesWritten) (gathered text : List ℕ) : Type 0 where
-  pub taken : List ℕ
-  pub bytes : new.bytes ≡ old.bytes ++ taken
-  pub joined : taken ++ gathered ≡ text
-
 -- all records up to the end were added, and the lines of those with a finding were written or are gathered
 pub record HasLines (held : Held) (end : Option StreamFault) (bytes : ℕ) (h : BytesRead) (old new : BytesWritten)
     (text : List ℕ) (views : List View) (reported : List Reported) : Type 0 where

@@ -3,7 +3,6 @@ pub mod Channels
 pub mod Each
 pub mod Follows
 pub mod Judging
-pub mod Pieces
 pub mod Places
 pub mod Series
 pub mod Summary

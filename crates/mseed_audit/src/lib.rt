@@ -6,13 +6,9 @@ mod audits;
 mod channel;
 mod channel_list;
 mod channel_series;
-mod draft;
 mod each;
 mod finding;
 mod law;
-mod line;
-mod name;
-mod pieces;
 mod roster;
 mod summary;
 mod tail;
@@ -24,17 +20,13 @@ pub use audits::{Audit, Channels, Memory, Verdicts};
 pub use channel::{Channel, Findings, Head};
 pub use channel_list::ChannelList;
 pub use channel_series::{BadStep, Series};
-pub use draft::{Draft, push_line};
 pub use each::{EachFault, audit_each, gather_each};
 pub use finding::{Finding, Why};
 pub use law::{
     channels_have_verdicts, continuous_exactly, findings_reported, one_audit, one_bad_step,
     one_finding, one_list_of_verdicts, one_series, one_telling, one_verdict,
 };
-pub use line::{Line, Name, fault_line_of, line_of, name_of};
-pub use name::push_name;
-pub use pieces::{Piece, push_count, push_pieces};
 pub use summary::{AuditFault, Summary, audit, gather};
 pub use tail::Tail;
-pub use text::{push_fault_line, push_start, push_total_line, push_verdict_line, push_why};
+pub use text::{push_total_line, push_verdict_line, put_why};
 pub use verdict::Verdict;

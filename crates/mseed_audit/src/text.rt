@@ -1,29 +1,27 @@
 //! The lines of an audit's text.
 ghost use Rattle.std.specs.Prelude.{◌≡◌, ◌≤◌, ◌+◌, ◌++◌, OnErr, OnOk, length};
-ghost use Rattle.mseed_time.specs.Text.{fault_word};
+ghost use Rattle.std.specs.Fmt.{signed_decimal};
 ghost use Rattle.mseed_steim.specs.declared.fault.ReadFault.TheVariants.{LastDiffers};
 ghost use Rattle.mseed_stream.specs.Device.{IsPrefixOf};
 ghost use Rattle.mseed_audit.specs.Text.{audit_text, verdict_lines, verdict_line, continuous_words};
-ghost use Rattle.mseed_audit.specs.Text.{broken_words, total_line, why_text, read_text};
-ghost use Rattle.mseed_audit.specs.Text.{fault_line, start_text, reported_line, reported_lines};
+ghost use Rattle.mseed_audit.specs.Text.{broken_words, total_line, why_text, read_text, reported_line, reported_lines};
 ghost use Rattle.mseed_audit.specs.Reported.{reported_at};
 ghost use Rattle.mseed_record.specs.Viewing.{view_of};
 
 use crate::audits::Memory;
-use crate::draft::{Draft, push_line};
 use crate::finding::{Finding, Why};
-use crate::line::fault_line_of;
 use crate::verdict::Verdict;
 use mseed_record::{Codes, RecordView};
 use mseed_steim::ReadFault;
 use mseed_stream::StreamFault;
-use mseed_time::{Micros, Ratio, TimeFault, show_time};
+use mseed_text::{Line, push_fault_line, push_line};
+use mseed_time::{Micros, Ratio, show_time};
 use std::alloc::{AllocError, Allocator};
 
 /// Adds the text of an audit: a line for each verdict, the numbers of records and of channels, and the line of
 /// the fault with which the archive ends, if with any. Where memory is refused, a part of it may have been
 /// added.
-#[tactic(auto, using(crate::proofs::Prefixes::prefix_trans))]
+#[tactic(auto, using(mseed_text::proofs::Prefixes::prefix_trans))]
 pub(crate) fn push_audit<A: Allocator>(
     text: &mut Vec<u8, A>,
     verdicts: &[(Codes, Verdict)],
@@ -69,15 +67,15 @@ pub fn push_verdict_line<A: Allocator>(
     ensures unchanged { OnErr result (text.new.items ≡ text.old.items) }
     ensures prefix { IsPrefixOf text.old.items text.new.items }
 {
-    let mut line = Draft::new();
+    let mut line = Line::new();
     put_verdict_line(&mut line, codes, verdict);
     push_line(text, line.as_slice())
 }
 
 /// Puts the line of a channel.
 #[inline(always)]
-fn put_verdict_line(line: &mut Draft, codes: &Codes, verdict: &Verdict)
-    requires { length line.old + 165 ≤ 256 }
+fn put_verdict_line(line: &mut Line, codes: &Codes, verdict: &Verdict)
+    requires { length line.old + 169 ≤ 256 }
     ensures { line.new ≡ line.old ++ verdict_line codes.now verdict.now }
 {
     line.put_name(codes);
@@ -94,16 +92,14 @@ fn put_verdict_line(line: &mut Draft, codes: &Codes, verdict: &Verdict)
 
 /// Puts what follows the name of a continuous channel.
 #[inline(always)]
-fn put_continuous(line: &mut Draft, start: Micros, rate: Ratio, records: u64, samples: u64)
+fn put_continuous(line: &mut Line, start: Micros, rate: Ratio, records: u64, samples: u64)
     requires { length line.old + 144 ≤ 256 }
     ensures { line.new ≡ line.old ++ continuous_words start rate records samples }
 {
     line.put(b" continuous ");
     line.put(&show_time(start));
     line.put(b" rate ");
-    line.put_count(u64::from(rate.num()));
-    line.put(b"/");
-    line.put_count(u64::from(rate.den()));
+    line.put_ratio(rate);
     line.put(b" records ");
     line.put_count(records);
     line.put(b" samples ");
@@ -113,8 +109,8 @@ fn put_continuous(line: &mut Draft, start: Micros, rate: Ratio, records: u64, sa
 
 /// Puts what follows the name of a broken channel.
 #[inline(always)]
-fn put_broken(line: &mut Draft, first: &Finding, count: u64)
-    requires { length line.old + 150 ≤ 256 }
+fn put_broken(line: &mut Line, first: &Finding, count: u64)
+    requires { length line.old + 154 ≤ 256 }
     ensures { line.new ≡ line.old ++ broken_words first.now count }
 {
     line.put(b" broken findings ");
@@ -164,15 +160,15 @@ fn push_reported_line<A: Allocator>(
     ensures { OnOk result (text.new.items
         ≡ text.old.items ++ reported_line (record { view = view_of view.now; finding = finding.now })) }
 {
-    let mut line = Draft::new();
+    let mut line = Line::new();
     put_reported_line(&mut line, view, finding);
     push_line(text, line.as_slice())
 }
 
 /// Puts the line of a record with a finding.
 #[inline(always)]
-fn put_reported_line(line: &mut Draft, view: &RecordView, finding: &Finding)
-    requires { length line.old + 148 ≤ 256 }
+fn put_reported_line(line: &mut Line, view: &RecordView, finding: &Finding)
+    requires { length line.old + 152 ≤ 256 }
     ensures { line.new ≡ line.old ++ reported_line (record { view = view_of view.now; finding = finding.now }) }
 {
     line.put_count(finding.offset);
@@ -181,50 +177,10 @@ fn put_reported_line(line: &mut Draft, view: &RecordView, finding: &Finding)
     line.put(b" record ");
     line.put_count(finding.number);
     line.put(b" start ");
-    put_start(line, view);
+    line.put_start(view);
     line.put(b" ");
     put_why(line, &finding.why);
     line.put(b"\n");
-}
-
-/// Adds a record's start, or `fault` and the first field of it that is out of its range.
-///
-/// # Errors
-///
-/// `AllocError` where memory is refused. The text is as it was.
-pub fn push_start<A: Allocator>(text: &mut Vec<u8, A>, view: &RecordView) -> Result<(), AllocError>
-    ensures ok { OnOk result (text.new.items ≡ text.old.items ++ start_text (view_of view.now)) }
-    ensures unchanged { OnErr result (text.new.items ≡ text.old.items) }
-    ensures prefix { IsPrefixOf text.old.items text.new.items }
-{
-    let mut line = Draft::new();
-    put_start(&mut line, view);
-    push_line(text, line.as_slice())
-}
-
-/// Puts a record's start, or the field that is out of its range.
-#[inline(always)]
-fn put_start(line: &mut Draft, view: &RecordView)
-    requires { length line.old + 26 ≤ 256 }
-    ensures text { line.new ≡ line.old ++ start_text (view_of view.now) }
-    ensures most { length line.new ≤ length line.old + 26 }
-{
-    match view.start() {
-        Ok(start) => line.put(&show_time(start)),
-        Err(fault) => {
-            line.put(b"fault ");
-            put_word(line, fault);
-        }
-    }
-}
-
-/// Puts the word for a field of a time.
-fn put_word(line: &mut Draft, fault: TimeFault)
-    requires { length line.old + 8 ≤ 256 }
-    ensures text { line.new ≡ line.old ++ fault_word fault }
-    ensures most { length line.new ≤ length line.old + 8 }
-{
-    line.put(fault.word().as_bytes());
 }
 
 /// Adds the line that tells how many records there were, and of how many channels.
@@ -241,7 +197,7 @@ pub fn push_total_line<A: Allocator>(
     ensures unchanged { OnErr result (text.new.items ≡ text.old.items) }
     ensures prefix { IsPrefixOf text.old.items text.new.items }
 {
-    let mut line = Draft::new();
+    let mut line = Line::new();
     line.put(b"records ");
     line.put_count(records);
     line.put(b" channels ");
@@ -250,47 +206,16 @@ pub fn push_total_line<A: Allocator>(
     push_line(text, line.as_slice())
 }
 
-/// Adds the line of a stream's fault; none for a want of memory.
-///
-/// # Errors
-///
-/// `AllocError` where memory is refused. The text is as it was.
-pub fn push_fault_line<A: Allocator>(
-    text: &mut Vec<u8, A>,
-    fault: &StreamFault,
-) -> Result<(), AllocError>
-    ensures ok { OnOk result (text.new.items ≡ text.old.items ++ fault_line fault.now) }
-    ensures unchanged { OnErr result (text.new.items ≡ text.old.items) }
-    ensures prefix { IsPrefixOf text.old.items text.new.items }
-{
-    push_line(text, &fault_line_of(fault))
-}
-
-/// Adds the words of a finding.
-///
-/// # Errors
-///
-/// `AllocError` where memory is refused. The text is as it was.
-pub fn push_why<A: Allocator>(text: &mut Vec<u8, A>, why: &Why) -> Result<(), AllocError>
-    ensures ok { OnOk result (text.new.items ≡ text.old.items ++ why_text why.now) }
-    ensures unchanged { OnErr result (text.new.items ≡ text.old.items) }
-    ensures prefix { IsPrefixOf text.old.items text.new.items }
-{
-    let mut line = Draft::new();
-    put_why(&mut line, why);
-    push_line(text, line.as_slice())
-}
-
-/// Puts the words of a finding.
-fn put_why(line: &mut Draft, why: &Why)
-    requires { length line.old + 49 ≤ 256 }
+/// Puts the words of a finding behind a line: at most 53 bytes.
+pub fn put_why(line: &mut Line, why: &Why)
+    requires room { length line.old + 53 ≤ 256 }
     ensures text { line.new ≡ line.old ++ why_text why.now }
-    ensures most { length line.new ≤ length line.old + 49 }
+    ensures most { length line.new ≤ length line.old + 53 }
 {
     match why {
         Why::Time(fault) => {
             line.put(b"time ");
-            put_word(line, *fault);
+            line.put_field(*fault);
         }
         Why::Rate => line.put(b"norate"),
         Why::Read(fault) => put_read_fault(line, fault),
@@ -308,10 +233,10 @@ fn put_why(line: &mut Draft, why: &Why)
 }
 
 /// Puts the words of samples that can't be read.
-fn put_read_fault(line: &mut Draft, fault: &ReadFault)
-    requires { length line.old + 49 ≤ 256 }
+fn put_read_fault(line: &mut Line, fault: &ReadFault)
+    requires { length line.old + 53 ≤ 256 }
     ensures text { line.new ≡ line.old ++ read_text fault.now }
-    ensures most { length line.new ≤ length line.old + 49 }
+    ensures most { length line.new ≤ length line.old + 53 }
 {
     match fault {
         ReadFault::Blockette100 => line.put(b"blockette100"),
@@ -341,13 +266,22 @@ fn put_read_fault(line: &mut Draft, fault: &ReadFault)
 }
 
 /// Puts the words of samples that don't end on their constant.
-fn put_last_differs(line: &mut Draft, found: i32, constant: i32)
-    requires { length line.old + 35 ≤ 256 }
+fn put_last_differs(line: &mut Line, found: i32, constant: i32)
+    requires { length line.old + 53 ≤ 256 }
     ensures text { line.new ≡ line.old ++ read_text (LastDiffers found constant) }
-    ensures most { length line.new ≤ length line.old + 35 }
+    ensures most { length line.new ≤ length line.old + 53 }
 {
     line.put(b"lastdiffers ");
-    line.put_signed(found);
+    put_sample(line, found);
     line.put(b" ");
-    line.put_signed(constant);
+    put_sample(line, constant);
+}
+
+/// Puts a sample.
+fn put_sample(line: &mut Line, sample: i32)
+    requires { length line.old + 20 ≤ 256 }
+    ensures text { line.new ≡ line.old ++ signed_decimal sample }
+    ensures most { length line.new ≤ length line.old + 20 }
+{
+    line.put_signed(i64::from(sample));
 }

@@ -5,7 +5,7 @@ use Rattle.mseed_audit.specs.declared.channel.Channel.{Channel}
 use Rattle.mseed_audit.specs.declared.channel.Findings.{Findings}
 use Rattle.mseed_audit.specs.declared.channel.Findings.TheVariants.{Nothing, Counted}
 use Rattle.mseed_audit.specs.Summary.{broken_count}
-use Rattle.mseed_audit.specs.Text.{end_line}
+use Rattle.mseed_text.specs.Fault.{end_line}
 use Rattle.mseed_stream.specs.declared.fault.StreamFault.{StreamFault}
 use Rattle.mseed_audit.proofs.OneMore.{prefix_more, text_more}
 use Rattle.mseed_join.specs.Joined.{verdict_at}

@@ -8,7 +8,7 @@ use Rattle.mseed_stream.specs.Archive.{clean, is_clean}
 use Rattle.mseed_stream.specs.Cutting.{read_from}
 use Rattle.mseed_stream.specs.Device.{BytesRead}
 use Rattle.mseed_stream.specs.Walk.{bytes_in}
-use Rattle.mseed_audit.specs.Text.{end_line}
+use Rattle.mseed_text.specs.Fault.{end_line}
 use Rattle.mseed_parts.specs.Parts.{Held, IsPartOf}
 use Rattle.mseed_join.specs.AuditPart.{AuditedPart}
 use Rattle.mseed_join.specs.Headline.{EndsByBytes, IsReadOf, without_end}

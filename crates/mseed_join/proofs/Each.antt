@@ -4,11 +4,11 @@ use Rattle.std.proofs.Common.{inl, inr, Option}
 use Rattle.std.proofs.Common.{append_assoc, append-nil, Ok, Err}
 use Rattle.std.specs.Prelude.{Result}
 use Rattle.std.specs.Result.{IsErrAnd}
-use Rattle.std.proofs.Math.Seq.{take-append-add}
 use Rattle.mseed_stream.specs.Device.{BytesRead, BytesWritten, nothing_read}
 use Rattle.mseed_stream.specs.Fault.{IsStreamFault}
-use Rattle.mseed_audit.specs.Each.{AreGathered, EmittedFirst, EmittedPart}
-use Rattle.mseed_audit.proofs.Gathers.{behind, gathered_first, gathered_written, part_behind}
+use Rattle.mseed_text.specs.Gathered.{AreGathered, EmittedFirst, EmittedPart}
+use Rattle.mseed_text.proofs.Gathered.{all_behind, first_behind, gathered_first, gathered_more, gathered_written}
+use Rattle.mseed_text.proofs.Gathered.{part_behind, part_of}
 use Rattle.mseed_join.specs.declared.joining.Joined.{Joined as Answer}
 use Rattle.mseed_join.specs.declared.joining.JoinsFault.{JoinsFault}
 use Rattle.mseed_join.specs.declared.joining.JoinsFault.TheVariants.{Line, Count, Stream, Write, Memory}
@@ -76,26 +76,6 @@ each_to past h now s found reported at first stop borders are = record {
 }
 
 -- ---- what is gathered
--- a part of it was written
-part_taken : (first old new : BytesWritten) (text lines : List ℕ) → AreGathered first old text lines
-    → EmittedPart old new text → EmittedPart first new lines
-part_taken first old new text lines before emitted =
-    subst (λ (t : List ℕ). EmittedPart first new t) (append-nil lines)
-    (part_behind first old new text lines [] before
-    (subst (λ (t : List ℕ). EmittedPart old new t) (sym (append-nil text)) emitted))
-
--- or of more behind it
-first_taken : (first old new : BytesWritten) (text lines tail : List ℕ) → AreGathered first old text lines
-    → EmittedFirst old new (text ++ tail) → EmittedFirst first new (lines ++ tail)
-first_taken first old new text lines tail before emitted = (
-  length before.taken + emitted.0,
-  emitted.1 ∙ ap (λ (t : List ℕ). t ++ take emitted.0 (text ++ tail)) before.bytes
-      ∙ append_assoc first.bytes before.taken (take emitted.0 (text ++ tail))
-      ∙ ap (λ (t : List ℕ). first.bytes ++ t) (sym (take-append-add before.taken (text ++ tail) emitted.0))
-      ∙ ap (λ (t : List ℕ). first.bytes ++ take (length before.taken + emitted.0) t)
-      (behind first old text lines tail before),
-)
-
 -- all of it
 lines_written : (first old new : BytesWritten) (text : List ℕ) (found : List Border)
     → AreGathered first old text (border_lines found) → new.bytes ≡ old.bytes ++ text → old.failures ≡ first.failures
@@ -110,15 +90,9 @@ lines_written first old new text found before bytes same fine = record {
 pub moved_on : (first old new : BytesWritten) (text next : List ℕ) (found more : List Border)
     → AreGathered first old text (border_lines found) → MovesOn old new text next (border_lines more)
     → AreGathered first new next (border_lines (found ++ more))
-moved_on first old new text next found more before m = record {
-  taken = before.taken ++ m.gathered.taken;
-  bytes = m.gathered.bytes ∙ ap (λ (t : List ℕ). t ++ m.gathered.taken) before.bytes
-      ∙ append_assoc first.bytes before.taken m.gathered.taken;
-  joined = append_assoc before.taken m.gathered.taken next
-      ∙ ap (λ (t : List ℕ). before.taken ++ t) m.gathered.joined
-      ∙ behind first old text (border_lines found) (border_lines more) before
-      ∙ sym (lines_append found more);
-}
+moved_on first old new text next found more before m =
+    subst (λ (t : List ℕ). AreGathered first new next t) (sym (lines_append found more))
+    (gathered_more first old new text next (border_lines found) (border_lines more) before m.gathered)
 
 -- ---- at a fault
 -- the output failed, as what is gathered was written
@@ -135,7 +109,7 @@ short_each past expected h now s first old new reported at text found begin stop
         found,
         (
           each_to past h now s found reported at begin stop borders are,
-          part_taken first old new text (border_lines found) before emitted,
+          part_of first old new text (border_lines found) before emitted,
         ),
       ),
     )
@@ -230,7 +204,7 @@ cut_each past expected h now s Memory first old new reported at text found more 
         (
           each_to past h now s (found ++ more) reported at begin stop borders are,
           subst (λ (t : List ℕ). EmittedFirst first new t) (sym (lines_append found more))
-              (first_taken first old new text (border_lines found) (border_lines more) before cut.1),
+              (first_behind first old new text (border_lines found) (border_lines more) before cut.1),
         ),
       ),
     )
@@ -322,11 +296,8 @@ each_written past expected joint h answer first old new reported at text whole s
           a.read,
           record {
             answer_is = is;
-            text = bytes ∙ ap (λ (t : List ℕ). old.bytes ++ t) (same ∙ e)
-                ∙ ap (λ (t : List ℕ). t ++ (text ++ tail)) a.gathered.bytes
-                ∙ append_assoc first.bytes a.gathered.taken (text ++ tail)
-                ∙ ap (λ (t : List ℕ). first.bytes ++ t)
-                (behind first old text (border_lines a.found) tail a.gathered);
+            text = all_behind first old new text (border_lines a.found) tail a.gathered
+                (bytes ∙ ap (λ (t : List ℕ). old.bytes ++ t) (same ∙ e));
             fine = fine ∙ a.fine;
           },
         ),
@@ -364,7 +335,7 @@ each_no_memory past expected joint h first old reported at text a =
           a.found,
           (
             a.read,
-            first_taken first old old text (border_lines a.found) (join_text w) a.gathered
+            first_behind first old old text (border_lines a.found) (join_text w) a.gathered
                 (0, sym (append-nil old.bytes)),
           ),
         ),

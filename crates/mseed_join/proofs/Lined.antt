@@ -4,7 +4,7 @@ use Rattle.mseed_stream.specs.declared.fault.StreamFault.{StreamFault}
 use Rattle.mseed_audit.specs.declared.channel.Channel.{Channel}
 use Rattle.mseed_join.specs.Lines.{channel_line, counts_line, faults_line, HasChannelLine, HasCountsLine, HasFaultsLine}
 use Rattle.mseed_join.specs.Lines.{HasFaultLine}
-use Rattle.mseed_audit.specs.Text.{fault_line}
+use Rattle.mseed_text.specs.Fault.{fault_line}
 use Rattle.mseed_join.specs.private.Reading.{channel_at, counts_at, faults_at, fault_at}
 use Rattle.mseed_join.proofs.Backwards.{channel_back, counts_back, faults_back, fault_back}
 use Rattle.mseed_join.proofs.Spelled.{channel_spelled, counts_spelled, fault_spelled, faults_spelled}

@@ -5,7 +5,7 @@ use Rattle.std.specs.List.{AllByRecursion}
 use Rattle.std.proofs.lemmas.List.{length-append}
 use Rattle.mseed_stream.specs.declared.fault.StreamFault.{StreamFault}
 use Rattle.mseed_audit.specs.declared.channel.Channel.{Channel}
-use Rattle.mseed_audit.specs.Text.{end_line, fault_line}
+use Rattle.mseed_text.specs.Fault.{end_line, fault_line}
 use Rattle.mseed_join.specs.Lines.{Line, header, channel, counts, faults, fault, text_of_line, IsLine, header_line}
 use Rattle.mseed_join.specs.Lines.{counts_line, faults_line, HasChannelLine, HasFaultLine}
 use Rattle.mseed_join.specs.Written.{Written, HasText, channel_lines, part_text, texts}

@@ -1,6 +1,6 @@
 -- The part of what was read, by what is kept of its channels, and what is written of it.
 use Rattle.std.proofs.Common.{◌≡◌, ℕ, ◌+◌, ◌<◌, ◌++◌, List, [], ◌∷◌, length, map, take, Option, refl, sym, ap, ◌∙◌}
-use Rattle.std.proofs.Common.{subst, append_assoc, arith, inr, is_some, Err}
+use Rattle.std.proofs.Common.{subst, arith, inr, is_some, Err}
 use Rattle.std.proofs.lemmas.List.{length-append, length-map}
 use Rattle.std.specs.List.{concat}
 use Rattle.mseed_record.specs.View.{View}
@@ -11,12 +11,12 @@ use Rattle.mseed_audit.specs.declared.channel.Channel.{Channel}
 use Rattle.mseed_audit.specs.declared.each.EachFault.TheVariants.{Write}
 use Rattle.mseed_audit.specs.Audit.{AreChannels, Held}
 use Rattle.mseed_audit.specs.Channels.{added_from}
-use Rattle.mseed_audit.specs.Each.{AreGathered}
+use Rattle.mseed_text.specs.Gathered.{AreGathered}
 use Rattle.mseed_audit.specs.Summary.{IsGathered, broken_count}
 use Rattle.mseed_audit.specs.Text.{reported_lines}
 use Rattle.mseed_audit.specs.Reported.{Reported, AreReportedOf}
 use Rattle.mseed_audit.specs.Verdict.{AreVerdicts}
-use Rattle.mseed_audit.proofs.Gathers.{behind, part_behind}
+use Rattle.mseed_text.proofs.Gathered.{all_behind, part_behind}
 use Rattle.mseed_audit.proofs.Outcomes.{added_length}
 use Rattle.mseed_audit.proofs.OneAudit.{HasOneInput}
 use Rattle.mseed_parts.specs.Parts.{Held as Part, IsPartOf, bytes_in}
@@ -139,10 +139,8 @@ reported_written s views text next taken reported first old new p are before sam
       reported_part s views text next reported p are,
       record {
         summary = p.summary;
-        text = bytes ∙ ap (λ (xs : List ℕ). old.bytes ++ xs) (same ∙ p.text_is)
-            ∙ ap (λ (xs : List ℕ). xs ++ (text ++ tail)) before.bytes
-            ∙ append_assoc first.bytes before.taken (text ++ tail)
-            ∙ ap (λ (xs : List ℕ). first.bytes ++ xs) (behind first old text (reported_lines reported) tail before);
+        text = all_behind first old new text (reported_lines reported) tail before
+            (bytes ∙ ap (λ (xs : List ℕ). old.bytes ++ xs) (same ∙ p.text_is));
         fine = fine ∙ same_failures;
       },
     )

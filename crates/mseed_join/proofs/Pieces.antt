@@ -14,7 +14,8 @@ use Rattle.mseed_audit.specs.declared.verdict.Verdict.{Verdict}
 use Rattle.mseed_audit.specs.Audit.{AreChannels}
 use Rattle.mseed_audit.specs.Channels.{Added, added_from}
 use Rattle.mseed_audit.specs.Summary.{Audited, broken_count}
-use Rattle.mseed_audit.specs.Text.{end_line, total_line, verdict_lines}
+use Rattle.mseed_text.specs.Fault.{end_line}
+use Rattle.mseed_audit.specs.Text.{total_line, verdict_lines}
 use Rattle.mseed_audit.specs.Verdict.{AreVerdicts}
 use Rattle.mseed_parts.specs.Parts.{Held, IsJoint, IsPartOf, bytes_in as size_of}
 use Rattle.mseed_join.specs.AuditPart.{AuditedPart}

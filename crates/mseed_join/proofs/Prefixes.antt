@@ -5,7 +5,8 @@ use Rattle.std.specs.Fmt.{signed_decimal}
 use Rattle.std.proofs.lemmas.Fmt.{decimal_digit}
 use Rattle.mseed_time.specs.Rate.{Ratio}
 use Rattle.mseed_audit.specs.declared.finding.Finding.{Finding}
-use Rattle.mseed_audit.specs.Text.{why_text, read_text, frame_words, fault_line}
+use Rattle.mseed_text.specs.Fault.{frame_words, fault_line}
+use Rattle.mseed_audit.specs.Text.{why_text, read_text}
 use Rattle.mseed_steim.specs.declared.fault.ReadFault.TheVariants.{BadWord, LastDiffers}
 use Rattle.mseed_stream.specs.declared.fault.StreamFault.{StreamFault}
 use Rattle.mseed_stream.specs.declared.fault.StreamFault.TheVariants.{Frame, Truncated, Read, Turns, Memory}

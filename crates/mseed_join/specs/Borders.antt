@@ -1,7 +1,9 @@
 -- What is found where parts are joined, between a channel and its further records, and the lines of it.
 use Rattle.std.specs.Prelude.{ℕ, List, [], ◌∷◌, ◌++◌, codes, decimal, Bool}
 use Rattle.mseed_time.specs.Text.{time_text}
-use Rattle.mseed_audit.specs.Text.{name_text, start_by, why_text}
+use Rattle.mseed_text.specs.Name.{name_text}
+use Rattle.mseed_text.specs.Time.{start_by}
+use Rattle.mseed_audit.specs.Text.{why_text}
 pub use Rattle.mseed_parts.specs.Borders.{Border, border_at, border_with, borders_with}
 use Rattle.mseed_parts.specs.Notices.{Notice}
 use Rattle.mseed_join.specs.Joined.{AreJoined, counted, nothing}

@@ -7,7 +7,8 @@ use Rattle.mseed_stream.specs.declared.fault.StreamFault.TheVariants.{Frame, Tru
 use Rattle.mseed_audit.specs.declared.channel.Channel.{Channel}
 use Rattle.mseed_audit.specs.declared.verdict.Verdict.{Verdict}
 use Rattle.mseed_audit.specs.Audit.{verdict_of}
-use Rattle.mseed_audit.specs.Text.{end_line, total_line, verdict_lines}
+use Rattle.mseed_text.specs.Fault.{end_line}
+use Rattle.mseed_audit.specs.Text.{total_line, verdict_lines}
 use Rattle.mseed_parts.specs.Parts.{Fits, IsJoint}
 use Rattle.mseed_join.specs.Lines.{faults_line}
 use Rattle.mseed_join.specs.Written.{Written, Spells}

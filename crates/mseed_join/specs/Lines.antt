@@ -4,7 +4,7 @@ use Rattle.std.specs.Prelude.{length, codes, decimal, ℤ, pos, negsuc, Option, 
 use Rattle.std.specs.Fmt.{signed_decimal}
 use Rattle.std.specs.List.{AllByRecursion}
 use Rattle.mseed_time.specs.Btime.{IsInstant}
-use Rattle.mseed_time.specs.Rate.{Ratio, IsRatio}
+use Rattle.mseed_time.specs.Rate.{IsRatio}
 use Rattle.mseed_record.specs.declared.fault.FrameFault.{FrameFault}
 use Rattle.mseed_record.specs.declared.fault.FrameFault.TheVariants.{NotData, Order as NoOrder, Chain, No1000, Length}
 use Rattle.mseed_record.specs.declared.fault.FrameFault.TheVariants.{Outside, Version3}
@@ -20,7 +20,9 @@ use Rattle.mseed_audit.specs.declared.finding.Finding.{Finding}
 use Rattle.mseed_audit.specs.declared.finding.Why.{Why}
 use Rattle.mseed_audit.specs.declared.finding.Why.TheVariants.{Time, Rate, Read as ReadFailed, RateChange}
 use Rattle.mseed_audit.specs.declared.finding.Why.TheVariants.{Leap as UnknownLeap, Gap, Overlap}
-use Rattle.mseed_audit.specs.Text.{why_text, fault_line}
+pub use Rattle.mseed_text.specs.Time.{ratio_text}
+use Rattle.mseed_text.specs.Fault.{fault_line}
+use Rattle.mseed_audit.specs.Text.{why_text}
 use Rattle.mseed_audit.specs.declared.channel.Channel.{Channel}
 use Rattle.mseed_audit.specs.declared.channel.Findings.{Findings}
 use Rattle.mseed_audit.specs.declared.channel.Findings.TheVariants.{Nothing, Counted}
@@ -39,10 +41,6 @@ hex_digit n = if nat_lt n 10 then 48 + n else 55 + n
 abbrev pub key_text : List ℕ → List ℕ
 key_text [] = []
 key_text (b ∷ bs) = hex_digit (b / 16) ∷ hex_digit (b % 16) ∷ key_text bs
-
--- <num>/<den>
-abbrev pub ratio_text : Ratio → List ℕ
-ratio_text r = decimal r.num ++ codes "/" ++ decimal r.den
 
 abbrev pub leap_text : Leap → List ℕ
 leap_text NoLeap = codes "none"

@@ -6,7 +6,7 @@ use Rattle.mseed_stream.specs.Device.{BytesWritten}
 use Rattle.mseed_stream.specs.Telling.{Tells}
 use Rattle.mseed_stream.specs.declared.fault.StreamFault.{StreamFault}
 use Rattle.mseed_audit.specs.declared.channel.Channel.{Channel}
-use Rattle.mseed_audit.specs.Text.{fault_line}
+use Rattle.mseed_text.specs.Fault.{fault_line}
 use Rattle.mseed_parts.specs.Parts.{channels_alone}
 use Rattle.mseed_join.specs.Joined.{AreLines}
 use Rattle.mseed_join.specs.Lines.{header_line}

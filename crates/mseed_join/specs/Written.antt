@@ -3,7 +3,7 @@ use Rattle.std.specs.Prelude.{◌≡◌, ◌<◌, ◌^◌, ℕ, List, [], ◌∷
 use Rattle.std.specs.List.{AllByRecursion}
 use Rattle.mseed_stream.specs.declared.fault.StreamFault.{StreamFault}
 use Rattle.mseed_audit.specs.declared.channel.Channel.{Channel}
-use Rattle.mseed_audit.specs.Text.{end_line}
+use Rattle.mseed_text.specs.Fault.{end_line}
 use Rattle.mseed_parts.specs.Parts.{Held, IsAscending}
 use Rattle.mseed_join.specs.Lines.{header_line, channel_line, counts_line, faults_line}
 use Rattle.mseed_join.specs.Lines.{HasChannelLine, HasCountsLine, HasFaultLine}

@@ -7,3 +7,4 @@ pub mod Parted
 pub mod Refused
 pub mod Steps
 pub mod Taking
+pub mod Found

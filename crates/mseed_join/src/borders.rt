@@ -1,12 +1,12 @@
 //! The lines of what is found where parts are joined.
-ghost use Rattle.std.specs.Prelude.{◌≡◌, ◌++◌, OnOk};
+ghost use Rattle.std.specs.Prelude.{◌≡◌, ◌≤◌, ◌+◌, ◌++◌, OnOk, length};
 ghost use Rattle.mseed_join.specs.Borders.{border_line, border_lines};
 ghost use Rattle.mseed_join.specs.private.Taking.{border_by};
 
 use crate::joint::Reported;
-use mseed_audit::Piece::{Count, Words};
-use mseed_audit::{Finding, name_of, push_pieces, push_why};
+use mseed_audit::{Finding, put_why};
 use mseed_record::Codes;
+use mseed_text::{Line, push_line};
 use mseed_time::{Micros, show_time};
 use std::alloc::{AllocError, Allocator};
 
@@ -42,19 +42,28 @@ fn push_border_line<A: Allocator>(
       finding = finding.now;
     })) }
 {
-    push_pieces(
-        text,
-        &[
-            Count(finding.offset),
-            Words(b" "),
-            Words(&name_of(codes)),
-            Words(b" record "),
-            Count(finding.number),
-            Words(b" start "),
-            Words(&show_time(start)),
-            Words(b" "),
-        ],
-    )?;
-    push_why(text, &finding.why)?;
-    push_pieces(text, &[Words(b"\n")])
+    let mut line = Line::new();
+    put_border_line(&mut line, codes, start, finding);
+    push_line(text, line.as_slice())
+}
+
+/// Puts the line of what is found of a record that begins so.
+fn put_border_line(line: &mut Line, codes: &Codes, start: Micros, finding: &Finding)
+    requires { length line.old + 152 ≤ 256 }
+    ensures { line.new ≡ line.old ++ border_line (record {
+      key = codes.now;
+      start = start;
+      finding = finding.now;
+    }) }
+{
+    line.put_count(finding.offset);
+    line.put(b" ");
+    line.put_name(codes);
+    line.put(b" record ");
+    line.put_count(finding.number);
+    line.put(b" start ");
+    line.put(&show_time(start));
+    line.put(b" ");
+    put_why(line, &finding.why);
+    line.put(b"\n");
 }

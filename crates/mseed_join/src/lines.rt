@@ -1,6 +1,6 @@
 //! The lines of a part, read.
 ghost use Rattle.std.specs.Prelude.{◌≡◌, ◌≢◌, List, ℕ, IfSome, IfNone};
-ghost use Rattle.mseed_audit.specs.Text.{fault_line};
+ghost use Rattle.mseed_text.specs.Fault.{fault_line};
 ghost use Rattle.mseed_stream.specs.declared.fault.StreamFault.{StreamFault};
 ghost use Rattle.mseed_audit.specs.declared.channel.Channel.{Channel};
 ghost use Rattle.mseed_join.specs.Lines.{channel_line, counts_line, faults_line, HasChannelLine, HasCountsLine};

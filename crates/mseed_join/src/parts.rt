@@ -9,9 +9,9 @@ ghost use Rattle.mseed_join.specs.private.Taking.{passed_by};
 
 use crate::joint::{JointPart, Reported};
 use crate::reader::{PartsFault, Reader};
-use mseed_audit::Piece::{Count, Words};
-use mseed_audit::{Memory, fault_line_of, line_of};
+use mseed_audit::Memory;
 use mseed_stream::{Sink, Source, StreamFault, tell};
+use mseed_text::Line;
 use std::alloc::Allocator;
 
 /// Reads the texts of parts, one behind another, and joins them as they are read. A part behind one that ends with a
@@ -67,11 +67,10 @@ pub(crate) fn tell_passed<E: Sink>(errors: &mut E, reported: &Reported)
 fn tell_fault<E: Sink>(errors: &mut E, part: u64, fault: &StreamFault)
     ensures { Tells (passed_line part fault.now) (E.written errors.old) (E.written errors.new) }
 {
-    let line = line_of(&[
-        Words(b"mseed: part "),
-        Count(part),
-        Words(b" "),
-        Words(&fault_line_of(fault)),
-    ]);
-    tell(errors, &line);
+    let mut line = Line::new();
+    line.put(b"mseed: part ");
+    line.put_count(part);
+    line.put(b" ");
+    line.put_fault_line(fault);
+    tell(errors, line.as_slice());
 }

@@ -1,14 +1,14 @@
 //! The lines of a part, written.
-ghost use Rattle.std.specs.Prelude.{◌≡◌, ◌++◌, List, OnOk, codes, decimal, ℕ};
+ghost use Rattle.std.specs.Prelude.{◌≡◌, ◌≤◌, ◌+◌, ◌++◌, List, OnOk, codes, decimal, length, ℕ};
 ghost use Rattle.mseed_stream.specs.Device.{IsPrefixOf};
 ghost use Rattle.mseed_join.specs.Lines.{key_text, leap_text, head_text, tail_text, text_or_none};
-ghost use Rattle.mseed_join.specs.Lines.{first_text, findings_text, channel_line, counts_line, faults_line};
+ghost use Rattle.mseed_join.specs.Lines.{first_text, channel_line, counts_line, faults_line};
+ghost use Rattle.mseed_join.specs.private.Found.{found_text};
 
 use crate::hex::hex_digit;
-use itoa::Buffer;
-use mseed_audit::Piece::{Count, Words};
-use mseed_audit::{Channel, Finding, Findings, Head, Tail, push_pieces, push_why};
+use mseed_audit::{Channel, Finding, Findings, Head, Tail, put_why};
 use mseed_record::{Codes, Leap};
+use mseed_text::{Line, push_line};
 use std::alloc::{AllocError, Allocator};
 
 /// The line before all others, with its LF.
@@ -28,18 +28,15 @@ pub fn push_channel_line<A: Allocator>(
     ensures ok { OnOk result (text.new.items ≡ text.old.items ++ channel_line codes.now channel.now) }
     ensures prefix { IsPrefixOf text.old.items text.new.items }
 {
-    push_key(text, codes.key())?;
-    push_pieces(
-        text,
-        &[
-            Words(b" records "),
-            Count(channel.records),
-            Words(b" samples "),
-            Count(channel.samples),
-        ],
-    )?;
-    push_findings(text, &channel.findings)?;
-    push_pieces(text, &[Words(b"\n")])
+    let mut line = Line::new();
+    put_counts(&mut line, codes.key(), channel);
+    put_known(&mut line, b" head ", &channel.findings.head());
+    push_line(text, line.as_slice())?;
+    let mut line = Line::new();
+    put_known(&mut line, b" tail ", &channel.findings.tail());
+    put_found(&mut line, &channel.findings);
+    line.put(b"\n");
+    push_line(text, line.as_slice())
 }
 
 /// Adds the line that tells how many records and bytes there are.
@@ -56,16 +53,13 @@ pub fn push_counts_line<A: Allocator>(
     ensures ok { OnOk result (text.new.items ≡ text.old.items ++ counts_line records bytes) }
     ensures prefix { IsPrefixOf text.old.items text.new.items }
 {
-    push_pieces(
-        text,
-        &[
-            Words(b"records "),
-            Count(records),
-            Words(b" bytes "),
-            Count(bytes),
-            Words(b"\n"),
-        ],
-    )
+    let mut line = Line::new();
+    line.put(b"records ");
+    line.put_count(records);
+    line.put(b" bytes ");
+    line.put_count(bytes);
+    line.put(b"\n");
+    push_line(text, line.as_slice())
 }
 
 /// Adds the line that tells how many faults lie behind; none where none does.
@@ -81,56 +75,67 @@ pub fn push_faults_line<A: Allocator>(text: &mut Vec<u8, A>, faults: u64) -> Res
     if faults == 0 {
         return Ok(());
     }
-    push_pieces(text, &[Words(b"faults "), Count(faults), Words(b"\n")])
+    let mut line = Line::new();
+    line.put(b"faults ");
+    line.put_count(faults);
+    line.put(b"\n");
+    push_line(text, line.as_slice())
 }
 
-/// Adds the digits of a key.
-fn push_key<A: Allocator>(text: &mut Vec<u8, A>, key: &[u8; 12]) -> Result<(), AllocError>
-    ensures ok { OnOk result (text.new.items ≡ text.old.items ++ key_text key.now) }
-    ensures prefix { IsPrefixOf text.old.items text.new.items }
+/// Puts a channel's key, and how many records and samples it has.
+fn put_counts(line: &mut Line, key: &[u8; 12], channel: &Channel)
+    requires { length line.old + 82 ≤ 256 }
+    ensures text { line.new ≡ line.old ++ (key_text key.now ++ codes " records " ++ decimal channel.now.records
+        ++ codes " samples " ++ decimal channel.now.samples) }
+    ensures most { length line.new ≤ length line.old + 82 }
+{
+    put_key(line, key);
+    line.put(b" records ");
+    line.put_count(channel.records);
+    line.put(b" samples ");
+    line.put_count(channel.samples);
+}
+
+/// Puts the digits of a key.
+fn put_key(line: &mut Line, key: &[u8; 12])
+    requires { length line.old + 24 ≤ 256 }
+    ensures text { line.new ≡ line.old ++ key_text key.now }
+    ensures len { length line.new ≡ length line.old + 24 }
 {
     for byte in key {
-        text.extend_from_slice(&[hex_digit(*byte / 16), hex_digit(*byte % 16)])?;
+        line.put(&[hex_digit(*byte / 16), hex_digit(*byte % 16)]);
     }
-    Ok(())
 }
 
-/// Adds how a channel begins and ends, and what is found of it.
-fn push_findings<A: Allocator>(text: &mut Vec<u8, A>, findings: &Findings) -> Result<(), AllocError>
-    ensures ok { OnOk result (text.new.items ≡ text.old.items ++ findings_text findings.now) }
-    ensures prefix { IsPrefixOf text.old.items text.new.items }
+/// Puts what is found of a channel.
+fn put_found(line: &mut Line, findings: &Findings)
+    requires { length line.old + 132 ≤ 256 }
+    ensures text { line.new ≡ line.old ++ found_text findings.now }
+    ensures most { length line.new ≤ length line.old + 132 }
 {
-    push_known(text, b" head ", &findings.head())?;
-    push_known(text, b" tail ", &findings.tail())?;
     match findings {
-        Findings::Nothing { .. } => push_pieces(text, &[Words(b" findings 0")]),
-        Findings::Counted { count, first, .. } => push_first(text, *count, first),
+        Findings::Nothing { .. } => line.put(b" findings 0"),
+        Findings::Counted { count, first, .. } => {
+            line.put(b" findings ");
+            line.put_count(*count);
+            line.put(b" ");
+            put_first(line, first);
+        }
     }
 }
 
-/// Adds how many findings there are, and the first.
-fn push_first<A: Allocator>(
-    text: &mut Vec<u8, A>,
-    count: u64,
-    first: &Finding,
-) -> Result<(), AllocError>
-    ensures ok { OnOk result (text.new.items
-        ≡ text.old.items ++ (codes " findings " ++ decimal count ++ codes " " ++ first_text first.now)) }
-    ensures prefix { IsPrefixOf text.old.items text.new.items }
+/// Puts a channel's first finding.
+fn put_first(line: &mut Line, first: &Finding)
+    requires { length line.old + 101 ≤ 256 }
+    ensures text { line.new ≡ line.old ++ first_text first.now }
+    ensures most { length line.new ≤ length line.old + 101 }
 {
-    push_pieces(
-        text,
-        &[
-            Words(b" findings "),
-            Count(count),
-            Words(b" first "),
-            Count(first.number),
-            Words(b" "),
-            Count(first.offset),
-            Words(b" "),
-        ],
-    )?;
-    push_why(text, &first.why)
+    line.put(b"first ");
+    line.put_count(first.number);
+    line.put(b" ");
+    line.put_count(first.offset);
+    line.put(b" ");
+    put_why(line, &first.why);
 }
 
 /// How a channel begins, or how it ends.
@@ -138,72 +143,58 @@ trait HeadOrTail {
     // Its text.
     ghost spelled: { Self → List ℕ };
 
-    /// Adds its text.
-    fn push_to<A: Allocator>(&self, text: &mut Vec<u8, A>) -> Result<(), AllocError>
-        ensures ok { OnOk result (text.new.items ≡ text.old.items ++ spelled self.now) }
-        ensures prefix { IsPrefixOf text.old.items text.new.items };
+    /// Puts its text.
+    fn put_to(&self, line: &mut Line)
+        requires { length line.old + 104 ≤ 256 }
+        ensures text { line.new ≡ line.old ++ spelled self.now }
+        ensures most { length line.new ≤ length line.old + 104 };
 }
 
 impl HeadOrTail for Head {
     ghost spelled = { head_text };
 
-    fn push_to<A: Allocator>(&self, text: &mut Vec<u8, A>) -> Result<(), AllocError> {
-        push_pieces(
-            text,
-            &[
-                Count(self.number),
-                Words(b" "),
-                Count(self.offset),
-                Words(b" "),
-                Words(Buffer::new().format(self.start.get()).as_bytes()),
-                Words(b" "),
-                Count(u64::from(self.rate.num())),
-                Words(b"/"),
-                Count(u64::from(self.rate.den())),
-            ],
-        )
+    fn put_to(&self, line: &mut Line) {
+        line.put_count(self.number);
+        line.put(b" ");
+        line.put_count(self.offset);
+        line.put(b" ");
+        line.put_signed(self.start.get());
+        line.put(b" ");
+        line.put_ratio(self.rate);
     }
 }
 
 impl HeadOrTail for Tail {
     ghost spelled = { tail_text };
 
-    fn push_to<A: Allocator>(&self, text: &mut Vec<u8, A>) -> Result<(), AllocError> {
-        push_pieces(
-            text,
-            &[
-                Words(Buffer::new().format(self.start.get()).as_bytes()),
-                Words(b" "),
-                Count(u64::from(self.samples)),
-                Words(b" "),
-                Count(u64::from(self.rate.num())),
-                Words(b"/"),
-                Count(u64::from(self.rate.den())),
-            ],
-        )?;
-        push_pieces(text, &[Words(b" "), Words(leap_word(self.leap))])
+    fn put_to(&self, line: &mut Line) {
+        line.put_signed(self.start.get());
+        line.put(b" ");
+        line.put_count(u64::from(self.samples));
+        line.put(b" ");
+        line.put_ratio(self.rate);
+        line.put(b" ");
+        line.put(leap_word(self.leap));
     }
 }
 
-/// Adds a word, and behind it how a channel begins or ends, or `none`.
-fn push_known<A: Allocator, E: HeadOrTail>(
-    text: &mut Vec<u8, A>,
-    word: &[u8],
-    end: &Option<E>,
-) -> Result<(), AllocError>
-    ensures ok { OnOk result (text.new.items ≡ text.old.items ++ (word.now ++ text_or_none E.spelled end.now)) }
-    ensures prefix { IsPrefixOf text.old.items text.new.items }
+/// Puts a word, and behind it how a channel begins or ends, or `none`.
+fn put_known<E: HeadOrTail>(line: &mut Line, word: &[u8], end: &Option<E>)
+    requires { length line.old + length word.now + 104 ≤ 256 }
+    ensures text { line.new ≡ line.old ++ (word.now ++ text_or_none E.spelled end.now) }
+    ensures most { length line.new ≤ length line.old + length word.now + 104 }
 {
-    push_pieces(text, &[Words(word)])?;
+    line.put(word);
     match end {
-        Some(end) => end.push_to(text),
-        None => push_pieces(text, &[Words(b"none")]),
+        Some(end) => end.put_to(line),
+        None => line.put(b"none"),
     }
 }
 
 /// The word for the leap seconds that a record bears.
 fn leap_word(leap: Leap) -> &'static [u8]
-    ensures { result.now ≡ leap_text leap }
+    ensures text { result.now ≡ leap_text leap }
+    ensures most { length result.now ≤ 8 }
 {
     match leap {
         Leap::None => b"none",

@@ -12,11 +12,11 @@ ghost use Rattle.mseed_repack.specs.declared.standing.Standing.{Standing};
 
 use crate::standing::Standing;
 use crate::stretches_fault::StretchesFault;
-use mseed_audit::Piece::{Count, Words};
-use mseed_audit::{Verdict, line_of, name_of};
+use mseed_audit::Verdict;
 use mseed_pack::PackFault;
 use mseed_record::Codes;
 use mseed_stream::{Sink, tell};
+use mseed_text::Line;
 
 /// What was left out, the worst of it.
 #[derive(Clone, Copy, Debug, PartialEq, Eq)]
@@ -127,28 +127,26 @@ fn tell_standing<E: Sink>(channel: &Codes, standing: &Standing, errors: &mut E)
 pub fn tell_broken<E: Sink>(channel: &Codes, errors: &mut E)
     ensures { Tells (broken_line channel.now) (E.written errors.old) (E.written errors.new) }
 {
-    let line = line_of(&[
-        Words(b"mseed: "),
-        Words(&name_of(channel)),
-        Words(b" is broken\n"),
-    ]);
-    tell(errors, &line);
+    let mut line = Line::new();
+    line.put(b"mseed: ");
+    line.put_name(channel);
+    line.put(b" is broken\n");
+    tell(errors, line.as_slice());
 }
 
 /// Says of a channel which of its stretches can't be packed, and why.
 pub fn tell_misfit<E: Sink>(channel: &Codes, stretch: u64, fault: PackFault, errors: &mut E)
     ensures { Tells (misfit_line channel.now stretch fault) (E.written errors.old) (E.written errors.new) }
 {
-    let line = line_of(&[
-        Words(b"mseed: "),
-        Words(&name_of(channel)),
-        Words(b" does not fit "),
-        Count(misfit_number(fault)),
-        Words(b" stretch "),
-        Count(stretch),
-        Words(b"\n"),
-    ]);
-    tell(errors, &line);
+    let mut line = Line::new();
+    line.put(b"mseed: ");
+    line.put_name(channel);
+    line.put(b" does not fit ");
+    line.put_count(misfit_number(fault));
+    line.put(b" stretch ");
+    line.put_count(stretch);
+    line.put(b"\n");
+    tell(errors, line.as_slice());
 }
 
 /// The place of a reason among those why a series can't be packed.

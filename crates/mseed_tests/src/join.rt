@@ -6,12 +6,13 @@ mod joining_each;
 
 use crate::records::{START, alone, both};
 use linked_list_allocator::LocalHeap;
-use mseed_audit::{Channel, push_fault_line};
+use mseed_audit::Channel;
 use mseed_join::{
     HEADER, push_channel_line, push_counts_line, push_faults_line, read_channel_line,
     read_counts_line, read_fault_line, read_faults_line,
 };
 use mseed_record::Codes;
+use mseed_text::push_fault_line;
 use std::alloc::Global;
 use std::process::Abort;
 

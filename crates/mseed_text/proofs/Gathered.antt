@@ -94,4 +94,5 @@ first_of first old new text lines before =
 pub part_of : (first old new : BytesWritten) (text lines : List ℕ) → AreGathered first old text lines
     → EmittedPart old new text → EmittedPart first new lines
 part_of first old new text lines before =
-    none_behind (EmittedPart old new) (EmittedPart first new) text lines (part_behind first old new text lines [] before)
+    none_behind (EmittedPart old new) (EmittedPart first new) text lines
+    (part_behind first old new text lines [] before)

@@ -13,7 +13,8 @@ use Rattle.mseed_audit.specs.declared.each.EachFault.{EachFault}
 use Rattle.mseed_audit.specs.declared.each.EachFault.TheVariants.{Write, Memory}
 use Rattle.mseed_audit.specs.Audit.{Held, IsAuditOf}
 use Rattle.mseed_audit.specs.Channels.{Added, added_from}
-use Rattle.mseed_audit.specs.Each.{AreGathered, EmittedFirst, EmittedPart, HasLines, IsLinesFault}
+use Rattle.mseed_text.specs.Gathered.{AreGathered, EmittedFirst, EmittedPart}
+use Rattle.mseed_audit.specs.Each.{HasLines, IsLinesFault}
 use Rattle.mseed_audit.specs.declared.summary.Summary.{Summary}
 use Rattle.mseed_audit.specs.Summary.{Audited, IsGathered, IsSummary, text_of}
 use Rattle.mseed_audit.specs.Text.{reported_lines}

@@ -1,6 +1,6 @@
 //! Texts that grow: how much room they have, by hand.
 
-use mseed_audit::push_line;
+use mseed_text::push_line;
 use std::alloc::Global;
 use std::process::Abort;
 

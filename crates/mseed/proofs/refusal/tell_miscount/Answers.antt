@@ -1,14 +1,13 @@
-use Rattle.std.proofs.Common.{◌≤◌, ◌++◌, length, arith, decimal, ℕ}
-use Rattle.std.proofs.lemmas.Fmt.{length-decimal-le}
-use Rattle.std.proofs.lemmas.List.{length-append}
+use Rattle.std.proofs.Common.{◌∙◌, List, ℕ, subst}
+use Rattle.mseed_stream.specs.Telling.{Tells}
 use Rattle.mseed.proofs.refusal.tell_miscount.Goals as goal
 
-pub line_of-line-requires : goal.line_of-line-requires
-line_of-line-requires g c =
-    let n : ℕ = c.args.parts in
-    let m : ℕ = c.args.expected in
-    let parts : length (decimal n) ≤ 20 = length-decimal-le 20 n (omega arith) (omega (arith, c.ranges.parts.fits))
-    c.ranges.parts.fits in
-    let expected : length (decimal m) ≤ 20 =
-    length-decimal-le 20 m (omega arith) (omega (arith, c.ranges.expected.fits)) c.ranges.expected.fits in
-    omega (arith, parts, expected, length-append {A = ℕ})
+pub returns-clause-reported : goal.returns-clause-reported
+returns-clause-reported g c =
+    let a1 = rw c.new-line.ensures at c.put.ensures.text in
+    let a2 = rw a1 at c.put_count.ensures.text in
+    let a3 = rw a2 at c.put-2.ensures.text in
+    let a4 = rw a3 at c.put_count-2.ensures.text in
+    let a5 = rw a4 at c.put-3.ensures.text in
+    subst (λ (line : List ℕ). Tells line (g.E.Sink.written c.args.errors.now) (g.E.Sink.written c.tell.new.errors))
+    (c.as_slice.ensures ∙ a5) c.tell.ensures

@@ -1,20 +1,11 @@
-use Rattle.std.proofs.Common.{◌∙◌, ◌≤◌, ◌++◌, length, ap, arith, append-nil, append_assoc, decimal, subst, sym, List}
-use Rattle.std.proofs.Common.{ℕ}
-use Rattle.std.proofs.lemmas.Fmt.{length-decimal-le}
-use Rattle.std.proofs.lemmas.List.{length-append}
+use Rattle.std.proofs.Common.{◌∙◌, List, ℕ, subst}
 use Rattle.mseed_stream.specs.Telling.{Tells}
 use Rattle.mseed.proofs.refusal.tell_number.Goals as goal
 
-pub line_of-line-requires : goal.line_of-line-requires
-line_of-line-requires g c =
-    let n : ℕ = c.args.number in
-    let digits : length (decimal n) ≤ 20 = length-decimal-le 20 n (omega arith) (omega (arith, c.ranges.number.fits))
-    c.ranges.number.fits in
-    omega (arith, digits, length-append {A = ℕ}, c.requires.before, c.requires.behind)
-
 pub returns-clause-reported : goal.returns-clause-reported
 returns-clause-reported g c =
+    let a1 = rw c.new-line.ensures at c.put.ensures.text in
+    let a2 = rw a1 at c.put_count.ensures.text in
+    let a3 = rw a2 at c.put-2.ensures.text in
     subst (λ (line : List ℕ). Tells line (g.E.Sink.written c.args.errors.now) (g.E.Sink.written c.tell.new.errors))
-    (c.deref.ensures.0 ∙ c.line_of-line.ensures
-    ∙ ap (λ (xs : List ℕ). c.args.before.now ++ (decimal c.args.number ++ xs)) (append-nil c.args.behind.now)
-    ∙ sym (append_assoc c.args.before.now (decimal c.args.number) c.args.behind.now)) c.tell.ensures
+    (c.as_slice.ensures ∙ a3) c.tell.ensures

@@ -2,9 +2,9 @@ use Rattle.std.proofs.Common.{[], List, ℕ, refl, sym, subst, append-nil, arith
 use Rattle.std.proofs.KnownBytes.{Consumes-nil}
 use Rattle.mseed_stream.specs.Device.{BytesRead, BytesWritten}
 use Rattle.mseed_stream.proofs.Calls.{reads_on, writes_none, writes_on}
-use Rattle.mseed_audit.specs.Each.{AreGathered}
+use Rattle.mseed_text.specs.Gathered.{AreGathered}
 use Rattle.mseed_audit.specs.Reported.{none}
-use Rattle.mseed_audit.proofs.Gathers.{gathered_all}
+use Rattle.mseed_text.proofs.Gathered.{gathered_all}
 use Rattle.mseed_audit.proofs.each.gather_each.Goals as goal
 
 pub records-init : goal.records-init

@@ -1,5 +1,5 @@
 use Rattle.mseed_audit.proofs.OneMore.{lines_more}
-use Rattle.mseed_audit.proofs.Prefixes.{prefix_behind}
+use Rattle.mseed_text.proofs.Prefixes.{prefix_behind}
 use Rattle.mseed_audit.proofs.text.push_verdicts.Goals as goal
 
 pub returns-in_err-push_verdict_line-clause-prefix : goal.returns-in_err-push_verdict_line-clause-prefix

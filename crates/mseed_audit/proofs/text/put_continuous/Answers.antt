@@ -1,27 +1,25 @@
 use Rattle.std.proofs.Common.{◌≡◌, ◌++◌, ◌∙◌, List, ℕ, append_assoc, codes, decimal}
 use Rattle.mseed_time.specs.Text.{time_text}
+use Rattle.mseed_text.specs.Time.{ratio_text}
 use Rattle.mseed_audit.proofs.text.put_continuous.Goals as goal
 
 -- what was put, one behind another
-joined : (line words start rate-word num slash den record-word records sample-word samples end : List ℕ)
-    → ((((((((((line ++ words) ++ start) ++ rate-word) ++ num) ++ slash) ++ den) ++ record-word) ++ records)
-    ++ sample-word) ++ samples) ++ end
-    ≡ line ++ (words ++ start ++ rate-word ++ num ++ slash ++ den ++ record-word ++ records ++ sample-word ++ samples
-    ++ end)
-joined line words start rate-word num slash den record-word records sample-word samples end = simp append_assoc
+joined : (line words start rate-word rate record-word records sample-word samples end : List ℕ)
+    → ((((((((line ++ words) ++ start) ++ rate-word) ++ rate) ++ record-word) ++ records) ++ sample-word) ++ samples)
+    ++ end
+    ≡ line ++ (words ++ start ++ rate-word ++ rate ++ record-word ++ records ++ sample-word ++ samples ++ end)
+joined line words start rate-word rate record-word records sample-word samples end = simp append_assoc
 
 pub returns : goal.returns
 returns c =
     let a2 = rw (c.put.ensures.text, c.show_time.ensures) at c.put-2.ensures.text in
     let a3 = rw a2 at c.put-3.ensures.text in
-    let a4 = rw (a3, c.from.ensures, c.num.ensures.value) at c.put_count.ensures.text in
+    let a4 = rw a3 at c.put_ratio.ensures.text in
     let a5 = rw a4 at c.put-4.ensures.text in
-    let a6 = rw (a5, c.from-2.ensures, c.den.ensures.value) at c.put_count-2.ensures.text in
+    let a6 = rw a5 at c.put_count.ensures.text in
     let a7 = rw a6 at c.put-5.ensures.text in
-    let a8 = rw a7 at c.put_count-3.ensures.text in
+    let a8 = rw a7 at c.put_count-2.ensures.text in
     let a9 = rw a8 at c.put-6.ensures.text in
-    let a10 = rw a9 at c.put_count-4.ensures.text in
-    let a11 = rw a10 at c.put-7.ensures.text in
-    a11 ∙ joined c.args.line.now (codes " continuous ") (time_text c.args.start) (codes " rate ")
-    (decimal c.args.rate.num) (codes "/") (decimal c.args.rate.den) (codes " records ") (decimal c.args.records)
-    (codes " samples ") (decimal c.args.samples) (codes "\n")
+    a9 ∙ joined c.args.line.now (codes " continuous ") (time_text c.args.start) (codes " rate ")
+    (ratio_text c.args.rate) (codes " records ") (decimal c.args.records) (codes " samples ") (decimal c.args.samples)
+    (codes "\n")

@@ -11,8 +11,8 @@ joined line words found gap constant = simp append_assoc
 
 pub returns-clause-text : goal.returns-clause-text
 returns-clause-text c =
-    let a2 = rw (c.put.ensures.text, to_z-of_z w32 c.args.found c.ranges.found) at c.put_signed.ensures.text in
+    let a2 = rw (c.put.ensures.text, to_z-of_z w32 c.args.found c.ranges.found) at c.put_sample.ensures.text in
     let a3 = rw a2 at c.put-2.ensures.text in
-    let a4 = rw (a3, to_z-of_z w32 c.args.constant c.ranges.constant) at c.put_signed-2.ensures.text in
+    let a4 = rw (a3, to_z-of_z w32 c.args.constant c.ranges.constant) at c.put_sample-2.ensures.text in
     a4 ∙ joined c.args.line.now (codes "lastdiffers ") (signed_decimal c.args.found) (codes " ")
     (signed_decimal c.args.constant)

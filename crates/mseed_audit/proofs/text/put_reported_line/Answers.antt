@@ -3,7 +3,9 @@ use Rattle.mseed_record.specs.Header.{key_at}
 use Rattle.mseed_record.specs.View.{View}
 use Rattle.mseed_record.specs.Viewing.{view_of}
 use Rattle.mseed_audit.specs.declared.finding.Finding.{Finding}
-use Rattle.mseed_audit.specs.Text.{name_text, start_text, why_text}
+use Rattle.mseed_text.specs.Name.{name_text}
+use Rattle.mseed_text.specs.Time.{start_text}
+use Rattle.mseed_audit.specs.Text.{why_text}
 use Rattle.mseed_audit.proofs.text.put_reported_line.Goals as goal
 
 -- what was put, one behind another

@@ -1,4 +1,4 @@
-use Rattle.mseed_audit.proofs.Prefixes.{prefix_trans}
+use Rattle.mseed_text.proofs.Prefixes.{prefix_trans}
 use Rattle.mseed_join.proofs.text.push_faults.Goals as goal
 
 pub returns-in-Some-clause-prefix : goal.returns-in-Some-clause-prefix

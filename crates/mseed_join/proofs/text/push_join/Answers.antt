@@ -1,6 +1,6 @@
 use Rattle.std.proofs.Common.{◌≡◌, List, ℕ, OnOk, subst}
 use Rattle.mseed_join.proofs.Verdicts.{join_lines}
-use Rattle.mseed_audit.proofs.Prefixes.{prefix_trans}
+use Rattle.mseed_text.proofs.Prefixes.{prefix_trans}
 use Rattle.mseed_join.proofs.text.push_join.Goals as goal
 
 pub returns-in_err-push_total_line-clause-prefix : goal.returns-in_err-push_total_line-clause-prefix

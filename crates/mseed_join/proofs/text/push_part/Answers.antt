@@ -1,5 +1,5 @@
 use Rattle.std.proofs.Common.{◌≡◌, List, ℕ, OnOk, subst}
-use Rattle.mseed_audit.proofs.Prefixes.{prefix_behind, prefix_trans}
+use Rattle.mseed_text.proofs.Prefixes.{prefix_behind, prefix_trans}
 use Rattle.mseed_join.proofs.Channels.{part_lines}
 use Rattle.mseed_join.proofs.text.push_part.Goals as goal
 

@@ -1,4 +1,4 @@
-use Rattle.mseed_audit.proofs.Prefixes.{prefix_behind}
+use Rattle.mseed_text.proofs.Prefixes.{prefix_behind}
 use Rattle.mseed_join.proofs.Verdicts.{verdicts_more}
 use Rattle.mseed_join.proofs.text.push_verdicts.Goals as goal
 

@@ -1,4 +1,4 @@
-use Rattle.std.proofs.Common.{◌≡◌, ◌∙◌, List, ℕ, get_or, refl, subst, ap, rules}
+use Rattle.std.proofs.Common.{◌∙◌, List, ℕ, get_or, refl, subst, ap, rules}
 use Rattle.mseed_audit.specs.declared.channel.Channel.{Channel}
 use Rattle.mseed_audit.specs.Places.{ArePlaces}
 use Rattle.mseed_audit.proofs.ByKey.{itself, made_by_key}
