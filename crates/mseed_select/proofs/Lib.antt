@@ -1,0 +1,11 @@
+pub mod Copied
+pub mod Trims
+pub mod Fitting
+pub mod Pieces
+pub mod Cuts
+pub mod Matched
+pub mod Asking
+pub mod Sampled
+pub mod Halving
+pub mod Digits
+pub mod Wording

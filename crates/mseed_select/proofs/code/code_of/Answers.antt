@@ -1,0 +1,19 @@
+use Rattle.std.proofs.Common.{◌≡◌, ℕ, suc, ◌-◌, take, drop, get_or, true, false, sym, ap, ◌∙◌, arith}
+use Rattle.std.specs.List.{list_all}
+use Rattle.mseed_record.specs.Header.{is_blank}
+use Rattle.mseed_select.proofs.Trims.{code_of_none, code_of_is}
+use Rattle.mseed_select.proofs.code.code_of.Goals as goal
+
+pub returns-then-not-is_blank : goal.returns-then-not-is_blank
+returns-then-not-is_blank c =
+    let end = c.loop-end.end in
+    let last : suc (end - 1) ≡ end = omega arith in
+    let blanks : list_all is_blank (drop (suc (end - 1)) c.args.code.now) ≡ true = rw last c.loop-end.invariant.1 in
+    let other : is_blank (get_or c.args.code.now (end - 1) 0) ≡ false = cc in
+    sym (code_of_is c.args.code.now (end - 1) (omega arith) blanks other ∙ ap (λ (n : ℕ). take n c.args.code.now) last)
+
+pub returns : goal.returns
+returns c =
+    let none : c.loop-end.end ≡ 0 = omega arith in
+    let blanks = rw none at c.loop-end.invariant.1 in
+    sym (code_of_none c.args.code.now blanks)

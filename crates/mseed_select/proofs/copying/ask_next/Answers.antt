@@ -1,0 +1,23 @@
+use Rattle.std.proofs.Common.{◌++◌, ◌∷◌, [], ◌∙◌, ℕ, List, ap, rules}
+use Rattle.mseed_record.specs.View.{View}
+use Rattle.mseed_record.specs.Viewing.{view_of}
+use Rattle.mseed_stream.specs.Walk.{HasHandedOut}
+use Rattle.mseed_select.specs.Selecting.{selection_of}
+use Rattle.mseed_select.specs.private.Copying.{bytes_by}
+use Rattle.mseed_select.proofs.copying.ask_next.Goals as goal
+
+pub returns-in_ok-answer-in-Ok-Some : goal.returns-in_ok-answer-in-Ok-Some
+returns-in_ok-answer-in-Ok-Some g c = λ views before.
+    let view : View = view_of c.in-Ok-Some.view in
+    let some = c.in-Ok-Some.field-0-is in
+    let called = rw some at c.in-Ok-Some.ensures.called in
+    let handed : HasHandedOut (g.R.Source.read c.next.new.source) c.next.follows.lender-at-none (views ++ view ∷ []) =
+    search rules in
+    record {
+      view = view;
+      handed = handed;
+      called = called;
+      answered = c.in_ok-answer-in-Ok-Some.ensures.answer;
+      bytes = c.in_ok-answer-in-Ok-Some.ensures.ok
+          ∙ ap (λ (xs : List ℕ). xs ++ bytes_by (selection_of c.args.selector.now) view) c.requires.written;
+    }

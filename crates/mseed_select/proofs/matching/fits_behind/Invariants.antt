@@ -1,0 +1,9 @@
+use Rattle.std.proofs.Common.{◌≡◌, ◌+◌, ◌∷◌, length}
+use Rattle.mseed_select.specs.Pattern.{fits}
+use Rattle.mseed_select.proofs.matching.fits_behind.Given as goal
+
+abbrev pub invariant-pieces : goal.invariant-pieces
+invariant-pieces l = fits (42 ∷ l.fn.field) l.fn.code ≡ fits (42 ∷ l.behind) l.left
+
+abbrev pub decreases-pieces : goal.decreases-pieces
+decreases-pieces l = length l.behind + length l.left

@@ -1,0 +1,12 @@
+use Rattle.std.proofs.Common.{ℕ, List, eqb, rules, tests}
+use Rattle.std.proofs.lemmas.Iterator.Search.{any_from_yields_List}
+use Rattle.std.proofs.lemmas.Iterator.Splits.{YieldsList-from_slice_split}
+use Rattle.mseed_select.specs.Pattern.{matches}
+use Rattle.mseed_select.proofs.patterns.Patterns.is_any.Goals as goal
+
+pub returns : goal.returns
+returns c =
+    any_from_yields_List (λ (pattern : List ℕ). matches pattern c.args.codes.now) _ _ _ c.any.ensures.ran
+    (YieldsList-from_slice_split _ (λ (x : ℕ). eqb x 44) c.args.self.now.text.now c.split.ensures.rest
+    c.split.ensures.done c.split.ensures.closure (λ x b q k. search (rules, tests)))
+    (λ x b q k. search (rules, tests))

@@ -1,0 +1,7 @@
+pub mod Pattern
+pub mod Word
+pub mod Selection
+pub mod Selecting
+pub mod Select
+pub mod Halves
+pub mod private

@@ -1,0 +1,5 @@
+-- Words of private functions and of proofs alone, which change as the code does: no public contract is stated by them.
+pub mod Parts
+pub mod Pieces
+pub mod Copying
+pub mod Ranges

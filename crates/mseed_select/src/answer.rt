@@ -1,0 +1,12 @@
+//! Whether a record is asked for.
+
+/// Whether a record is asked for.
+#[derive(Clone, Copy, Debug, PartialEq, Eq)]
+pub enum Answer {
+    /// It is.
+    AskedFor,
+    /// It isn't: it is of another channel, or stands outside the window.
+    Left,
+    /// It isn't, since its start isn't known and a window is given; its channel is asked for.
+    NoTime,
+}

@@ -1,0 +1,30 @@
+//! The records of an archive that are asked for, byte for byte: by channel, and by the time in which they stand.
+#![tactic(auto)]
+
+mod answer;
+mod clock;
+mod clocks;
+mod code;
+mod copying;
+mod counts;
+mod date;
+mod dates;
+mod fault;
+mod fields;
+mod law;
+mod matching;
+mod numbers;
+mod parts;
+mod patterns;
+mod selected;
+mod selector;
+mod word;
+
+pub use answer::Answer;
+pub use copying::select;
+pub use fault::{BadPatterns, BadTime, BadWindow, SelectFault};
+pub use law::{asked_for_exactly, fits_exactly, samples_in_window, two_halves};
+pub use patterns::Patterns;
+pub use selected::Selected;
+pub use selector::Selector;
+pub use word::read_time;

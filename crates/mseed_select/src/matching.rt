@@ -1,0 +1,105 @@
+//! Whether a pattern matches a channel.
+ghost use Rattle.std.specs.Prelude.{◌≡◌, ◌==◌, ◌||◌, ◌∷◌};
+ghost use Rattle.mseed_select.specs.Pattern.{fits, fits_location, matches};
+ghost use Rattle.mseed_select.specs.private.Pieces.{IsPiece};
+
+use crate::code::code_of;
+use crate::fields::fields_of;
+use mseed_record::Codes;
+
+/// What is left of a field and of a code, where they go on at the field's first `*`.
+#[derive(Clone, Copy)]
+pub(crate) enum Piece<'a> {
+    /// The field has no `*`, and fits the code.
+    Whole,
+    /// The field doesn't fit the code.
+    Fails,
+    /// What stands behind the `*`, and the characters that are left for the `*` and for that.
+    Star(&'a [u8], &'a [u8]),
+}
+
+/// Whether a pattern matches a channel: each of its four fields fits the channel's code.
+pub(crate) fn matches(pattern: &[u8], codes: &Codes) -> bool
+    ensures { result ≡ matches pattern.now codes.now }
+{
+    match fields_of(pattern) {
+        Some(fields) => {
+            fits(fields.network, code_of(codes.network()))
+                && fits(fields.station, code_of(codes.station()))
+                && fits_location(fields.location, code_of(codes.location()))
+                && fits(fields.channel, code_of(codes.channel()))
+        }
+        None => false,
+    }
+}
+
+/// Whether a field fits a location: `--` is the empty one too.
+fn fits_location(field: &[u8], code: &[u8]) -> bool
+    ensures { result ≡ fits_location field.now code.now }
+{
+    match field {
+        [b'-', b'-'] if code.is_empty() => true,
+        _ => fits(field, code),
+    }
+}
+
+/// Whether a field fits a code: `*` takes any characters, none too, `?` takes one, and any other character itself.
+fn fits(field: &[u8], code: &[u8]) -> bool
+    ensures { result ≡ fits field.now code.now }
+{
+    match piece_of(field, code) {
+        Piece::Whole => true,
+        Piece::Fails => false,
+        Piece::Star(behind, left) => fits_behind(behind, left),
+    }
+}
+
+/// Whether a `*` and the field behind it fit a code. Each `*` takes as few characters as the next piece of the field
+/// lets it: whatever fits behind a later place of the piece fits behind its first one too, with more for the next `*`.
+/// So no `*` is asked again once the next one is reached.
+fn fits_behind(field: &[u8], code: &[u8]) -> bool
+    ensures { result ≡ fits (42 ∷ field.now) code.now }
+{
+    let mut behind = field;
+    let mut left = code;
+    'pieces: loop {
+        match piece_of(behind, left) {
+            Piece::Whole => return true,
+            Piece::Star(next, others) => {
+                behind = next;
+                left = others;
+            }
+            Piece::Fails => match left {
+                [] => return false,
+                [_, others @ ..] => left = others,
+            },
+        }
+    }
+}
+
+/// Takes the characters before a field's first `*` off a code.
+fn piece_of<'a>(field: &'a [u8], code: &'a [u8]) -> Piece<'a>
+    ensures { IsPiece result field.now code.now }
+{
+    let [c, behind @ ..] = field else {
+        return if code.is_empty() {
+            Piece::Whole
+        } else {
+            Piece::Fails
+        };
+    };
+    if *c == b'*' {
+        return Piece::Star(behind, code);
+    }
+    match code {
+        [x, others @ ..] if takes(*c, *x) => piece_of(behind, others),
+        _ => Piece::Fails,
+    }
+}
+
+/// Whether a character of a pattern that is no `*` takes a character.
+fn takes(c: u8, x: u8) -> bool
+    ensures { result ≡ (c == 63 || c == x) }
+{
+    c == b'?' || c == x
+}
