@@ -112,9 +112,9 @@ def measured(copy: Copy) -> Cases:
     rows = {row.split()[0]: row.split()[1:] for row in rows}
     yield Fact("what was proved has another row", True,
                all(re.fullmatch(r"0\.0 0\.[0-9]", " ".join(rows[at])) for at in prove.below("mseed")))
-    listed = {line.split()[0] for line in (CRATES / "minutes.txt").read_text(encoding="utf-8").splitlines()[1:]}
-    yield Fact("the repository's has all that the program and the library for C stand on", set(),
-               {"mseed", "mseed_c", *prove.below("mseed"), *prove.below("mseed_c")} - listed)
+    listed = [line.split()[0] for line in (CRATES / "minutes.txt").read_text(encoding="utf-8").splitlines()[1:]]
+    yield Fact("the repository's has rows of crates alone, and each once", [],
+               [at for at in listed if at not in prove.lines() or listed.count(at) > 1])
 
 
 def interrupted(copy: Copy) -> Cases:
