@@ -1,6 +1,8 @@
 -- Frames that are filled word by word, where the codes of the frame that is being filled aren't written yet.
 use Rattle.std.proofs.Common.{◌≡◌, ◌≢◌, ℕ, ◌+◌, ◌-◌, ◌*◌, ◌/◌, ◌%◌, ◌^◌, ◌<◌, ◌≤◌, List, length, drop, ℤ, arith, refl}
-use Rattle.std.proofs.Common.{ap, sym, ◌∙◌, subst, ⊎_elim, cond, eqb, bit_or, replicate}
+use Rattle.std.proofs.Common.{ap, sym, ◌∙◌, subst, ⊎_elim, cond, eqb, bit_or, replicate, lit<}
+use Rattle.std.proofs.Math.Nat.{add-mul, mod-eq_of_lt, mul-lt-mul_of_pos_right, mul_assoc, pow-le-pow_right, zero-mul}
+use Rattle.std.proofs.lemmas.Nat.{or_shifted, pow-add, pow_pos, shl_whole}
 use Rattle.std.proofs.lemmas.Bool.{cases_eq, ne_eqb, eq-eqb}
 use Rattle.byteorder.specs.Endian.{big_bytes}
 use Rattle.mseed_steim.specs.declared.scheme.Scheme.{Scheme}
@@ -115,3 +117,104 @@ pub coded : (s : Scheme) (ds : List ℤ) (p q : List ℕ) (head codes index used
     → Filling s ds q index used words
 coded s ds p q head codes index used words f says =
     filling_same s ds f.whole q index used words (λ k. says k ∙ sym (f.same k)) f.filling
+
+-- The codes of the frame that is being filled are at hand, side by side; where they stand, nothing is behind the last.
+pub record Pushing (s : Scheme) (ds : List ℤ) (p : List ℕ) (head codes index used : ℕ) : Type 0 where
+  pub coding : Coding s ds p head (codes * 2 ^ (30 - 2 * ((index - 1) % 16))) index used (index - 3 - (index - 1) / 16)
+  pub small : codes < 2 ^ (2 * ((index - 1) % 16) + 2)
+
+-- at first
+pub pushing_none : (s : Scheme) (ds : List ℤ) (p : List ℕ) (n : ℕ) → p ≡ replicate n 0 → Pushing s ds p 0 0 3 0
+pushing_none s ds p n e = record { coding = coding_none s ds p n e; small = omega arith }
+
+-- past a frame's first word, where the codes of the frame before it are written
+pub pushing_past : (s : Scheme) (ds : List ℤ) (p q : List ℕ) (head codes index used : ℕ) → index % 16 ≡ 0
+    → ((k : ℕ) → word_at q k ≡ cond (eqb k head) codes (word_at p k)) → Pushing s ds p head codes index used
+    → Pushing s ds q index 0 (index + 1) used
+pushing_past s ds p q head codes index used first says f =
+    let from = f.coding.filling.from in
+    let last : 30 - 2 * ((index - 1) % 16) ≡ 0 = omega (arith, first, from) in
+    let whole : codes * 2 ^ (30 - 2 * ((index - 1) % 16)) ≡ codes = rw last (omega arith) in
+    let none : 0 ≡ 0 * 2 ^ (30 - 2 * ((index + 1 - 1) % 16)) = sym (zero-mul (2 ^ (30 - 2 * ((index + 1 - 1) % 16)))) in
+    let words : index - 3 - (index - 1) / 16 ≡ index + 1 - 3 - (index + 1 - 1) / 16 = omega (arith, first, from) in
+    let next = coding_past s ds p q head codes index used (index - 3 - (index - 1) / 16) first says
+    (subst (λ (c : ℕ). Coding s ds p head c index used (index - 3 - (index - 1) / 16)) whole f.coding) in
+    let place : 2 * ((index + 1 - 1) % 16) + 2 ≡ 2 = omega (arith, first) in
+    record {
+      coding = subst (λ (w : ℕ). Coding s ds q index (0 * 2 ^ (30 - 2 * ((index + 1 - 1) % 16))) (index + 1) used w) words
+          (subst (λ (c : ℕ). Coding s ds q index c (index + 1) used (index - 3 - (index - 1) / 16)) none next);
+      small = rw place (omega arith);
+    }
+
+-- one more code behind the others, and where it stands
+pushed_small : (codes code m : ℕ) → codes < 2 ^ (2 * m + 2) → code < 4 → codes * 4 + code < 2 ^ (2 * (m + 1) + 2)
+pushed_small codes code m h l =
+    let more : 2 * (m + 1) + 2 ≡ 2 * m + 2 + 2 = omega arith in
+    let power : 2 ^ (2 * (m + 1) + 2) ≡ 2 ^ (2 * m + 2) * 4 = ap (λ (n : ℕ). 2 ^ n) more ∙ pow-add 2 (2 * m + 2) 2 in
+    omega (arith, power, h, l)
+
+pushed_at : (codes code m : ℕ) → codes < 2 ^ (2 * m + 2) → code < 4 → m < 15
+    → (codes * 4 + code) * 2 ^ (30 - 2 * (m + 1))
+    ≡ bit_or (codes * 2 ^ (30 - 2 * m)) ((code * 2 ^ (30 - 2 * (m + 1))) % 2 ^ 32)
+pushed_at codes code m h l few =
+    let r = 30 - 2 * (m + 1) in
+    let above : 30 - 2 * m ≡ 2 + r = omega (arith, few) in
+    let power : 2 ^ (30 - 2 * m) ≡ 4 * 2 ^ r = ap (λ (n : ℕ). 2 ^ n) above ∙ pow-add 2 2 r in
+    let here : (code * 2 ^ r) % 2 ^ 32 ≡ code * 2 ^ r = shl_whole code 2 r 32 l (omega (arith, few)) in
+    let low : code * 2 ^ r < 2 ^ (30 - 2 * m) = rw power (mul-lt-mul_of_pos_right l (pow_pos r)) in
+    let whole : (codes * 4 + code) * 2 ^ r ≡ codes * 4 * 2 ^ r + code * 2 ^ r = add-mul (codes * 4) code (2 ^ r) in
+    let same : codes * 4 * 2 ^ r ≡ codes * 2 ^ (30 - 2 * m) = mul_assoc codes 4 (2 ^ r) ∙ ap (λ (n : ℕ). codes * n)
+    (sym power) in
+    rw (here, or_shifted codes (30 - 2 * m) (code * 2 ^ r) low, whole, same) refl
+
+-- with the last of them where it stands, the codes are those that belong into the frame's first word
+pub pushed_low : (codes m : ℕ) → codes < 2 ^ (2 * m + 2) → m < 16 → codes * 2 ^ (30 - 2 * m) < 2 ^ 32
+pushed_low codes m h few =
+    let all : 2 * m + 2 + (30 - 2 * m) ≡ 32 = omega (arith, few) in
+    let power : 2 ^ (2 * m + 2) * 2 ^ (30 - 2 * m) ≡ 2 ^ 32 = sym (pow-add 2 (2 * m + 2) (30 - 2 * m))
+    ∙ ap (λ (n : ℕ). 2 ^ n) all in
+    rw power at (mul-lt-mul_of_pos_right h (pow_pos (30 - 2 * m)))
+
+thirty : (m : ℕ) → m < 15 → 2 * m + 2 ≤ 30
+thirty m h = omega (arith, h)
+
+-- one more data word
+pub pushing_more : (s : Scheme) (ds : List ℤ) (p q : List ℕ) (head codes index used code word n new : ℕ)
+    → index % 16 ≢ 0 → 4 * (index + 1) ≤ length q → code < 4 → Pushing s ds p head codes index used
+    → IsFullest s (drop used ds) code word n → ((k : ℕ) → word_at q k ≡ cond (eqb k index) word (word_at p k))
+    → new ≡ (codes * 4 % 2 ^ 32 + code) % 2 ^ 32 → Pushing s ds q head new (index + 1) (used + n)
+pushing_more s ds p q head codes index used code word n new plain room low f full says e =
+    let m = (index - 1) % 16 in
+    let from = f.coding.filling.from in
+    let few : m < 15 = omega (arith, plain, from) in
+    let place : index % 16 ≡ m + 1 = omega (arith, plain, from) in
+    let next : (index + 1 - 1) % 16 ≡ m + 1 = omega (arith, place) in
+    let most : 2 ^ (2 * m + 2) ≤ 2 ^ 30 = pow-le-pow_right (lit< tt) (thirty m few) in
+    let short : codes * 4 % 2 ^ 32 ≡ codes * 4 = mod-eq_of_lt (omega (arith, most, f.small)) in
+    let sum : new ≡ codes * 4 + code = e ∙ ap (λ (c : ℕ). (c + code) % 2 ^ 32) short
+    ∙ mod-eq_of_lt (omega (arith, most, f.small, low)) in
+    let small : new < 2 ^ (2 * (m + 1) + 2) = rw sum (pushed_small codes code m f.small low) in
+    let placed : new * 2 ^ (30 - 2 * (m + 1))
+    ≡ bit_or (codes * 2 ^ (30 - 2 * m)) ((code * 2 ^ (30 - 2 * (index % 16))) % 2 ^ 32) =
+    rw (place, sum) (pushed_at codes code m f.small low few) in
+    let words : index - 3 - (index - 1) / 16 + 1 ≡ index + 1 - 3 - (index + 1 - 1) / 16 = omega (arith, plain, from) in
+    let coding = coding_more s ds p q head (codes * 2 ^ (30 - 2 * m)) index used (index - 3 - (index - 1) / 16) code word
+    n (new * 2 ^ (30 - 2 * (m + 1))) plain room (pushed_low new (m + 1) small (omega (arith, few))) low f.coding full says
+    placed in
+    record {
+      coding = subst (λ (w : ℕ). Coding s ds q head (new * 2 ^ (30 - 2 * ((index + 1 - 1) % 16))) (index + 1) (used + n) w)
+          words (subst (λ (i : ℕ). Coding s ds q head (new * 2 ^ (30 - 2 * i)) (index + 1) (used + n)
+          (index - 3 - (index - 1) / 16 + 1)) (sym next) coding);
+      small = subst (λ (i : ℕ). new < 2 ^ (2 * i + 2)) (sym next) small;
+    }
+
+-- once the codes are written where they stand, the frames are filled
+pub pushed : (s : Scheme) (ds : List ℤ) (p q : List ℕ) (head codes index used all : ℕ)
+    → Pushing s ds p head codes index used → all ≡ codes * 2 ^ (30 - 2 * ((index - 1) % 16)) % 2 ^ 32
+    → ((k : ℕ) → word_at q k ≡ cond (eqb k head) all (word_at p k))
+    → Filling s ds q index used (index - 3 - (index - 1) / 16)
+pushed s ds p q head codes index used all f e says =
+    let short : all ≡ codes * 2 ^ (30 - 2 * ((index - 1) % 16)) = e
+    ∙ mod-eq_of_lt (pushed_low codes ((index - 1) % 16) f.small (omega arith)) in
+    coded s ds p q head (codes * 2 ^ (30 - 2 * ((index - 1) % 16))) index used (index - 3 - (index - 1) / 16) f.coding
+    (subst (λ (c : ℕ). (k : ℕ) → word_at q k ≡ cond (eqb k head) c (word_at p k)) short says)

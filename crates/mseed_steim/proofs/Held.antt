@@ -13,7 +13,6 @@ use Rattle.mseed_steim.specs.Packing.{CanSpell, IsFullest}
 use Rattle.mseed_steim.specs.private.Rows.{row_with, row_for}
 use Rattle.mseed_steim.specs.private.Ahead.{size_of, near, near_size, raised, most_one, most_two, most_with, IsMost}
 use Rattle.mseed_steim.specs.private.Ahead.{IsAhead, Tells, taken}
-use Rattle.mseed_steim.specs.declared.ahead.Ahead.{Ahead}
 use Rattle.mseed_steim.proofs.Below.{eight}
 use Rattle.mseed_steim.proofs.Rows.{row_is, spelled_fits}
 use Rattle.mseed_steim.proofs.Sizes.{one_3, two_6}
@@ -235,25 +234,11 @@ zero_at (suc n) zero = refl
 zero_at (suc n) (suc i) = zero_at n i
 
 -- nothing is reported
-pub tells_none : (s : Scheme) (ds : List ℤ) (begin : ℕ) → Tells s ds (record { begin = begin; most = replicate 80 0 })
-tells_none s ds begin = (
-  λ i h. subst (λ (m : ℕ). IsAhead s (drop (begin + i) ds) m) (sym (zero_at 80 i))
-      (λ some. absurd (omega (arith, some))),
+pub tells_none : (s : Scheme) (ds : List ℤ) → Tells s ds (replicate 80 0)
+tells_none s ds = (
+  λ i h. subst (λ (m : ℕ). IsAhead s (drop i ds) m) (sym (zero_at 80 i)) (λ some. absurd (omega (arith, some))),
   λ i low h. zero_at 80 i,
 )
-
--- what was found of the differences behind a place
-pub tells_again : (s : Scheme) (ds : List ℤ) (begin : ℕ) (most : List ℕ)
-    → ((i : ℕ) → i < 80 → IsAhead s (drop i (drop begin ds)) (get_or most i 0))
-    → ((i : ℕ) → 57 ≤ i → i < 80 → get_or most i 0 ≡ 0)
-    → Tells s ds (record { begin = begin; most = most })
-tells_again s ds begin most h none =
-    (λ i l. subst (λ (xs : List ℤ). IsAhead s xs (get_or most i 0)) (drop-drop i begin ds) (h i l), none)
-
--- what is reported of a place
-pub tells_at : (s : Scheme) (ds : List ℤ) (a : Ahead) (place i : ℕ) → Tells s ds a → i < 80 → a.begin + i ≡ place
-    → IsAhead s (drop place ds) (get_or a.most i 0)
-tells_at s ds a place i reported h e = subst (λ (n : ℕ). IsAhead s (drop n ds) (get_or a.most i 0)) e (reported.0 i h)
 
 -- no word takes more than seven
 pub fullest_few : (s : Scheme) (ds : List ℤ) (code word used : ℕ) → IsFullest s ds code word used → used ≤ 7
@@ -263,3 +248,15 @@ fullest_few s ds code word used full =
     let fits = spelled_fits s (take used ds) (omega (arith, long, some)) (code, (word, full.spelled)) in
     let row = row_is s (length (take used ds)) fits.row fits.found in
     omega (arith, row.0.most, row.1, long)
+
+-- what is left of the differences behind some of those that were left
+pub rest_of : (ds left : List ℤ) (at : ℕ) → left ≡ drop (length ds - length left) ds
+    → drop at left ≡ drop (length ds - length left + at) ds
+rest_of ds left at e = ap (λ (xs : List ℤ). drop at xs) e ∙ drop-drop at (length ds - length left) ds
+
+-- where two or more are held, the place is one of which is reported
+pub word_known : (s : Scheme) (ds : List ℤ) (most : List ℕ) (at held : ℕ) → Tells s ds most → at ≤ 64
+    → held ≡ get_or most at 0 → 2 ≤ held → at < 57
+word_known s ds most at held reported to e some = ⊎_elim (λ (h : at < 57). h)
+    (λ (h : 57 ≤ at). absurd (omega (arith, some, e, reported.1 at h (omega (arith, to)))))
+    (cases_lt at 57)

@@ -22,21 +22,76 @@ by_row s table none k row found same layout r e =
 pub layouts_two : (none : Layout) (k : ℕ) → k < 8 → InTable Two LAYOUTS_TWO none k
 layouts_two none = eight (InTable Two LAYOUTS_TWO none)
     (λ r e. cc)
-    (by_row Two LAYOUTS_TWO none 1 _ refl refl (refl, refl, refl, eight _ refl refl refl refl refl refl refl refl))
-    (by_row Two LAYOUTS_TWO none 2 _ refl refl (refl, refl, refl, eight _ refl refl refl refl refl refl refl refl))
-    (by_row Two LAYOUTS_TWO none 3 _ refl refl (refl, refl, refl, eight _ refl refl refl refl refl refl refl refl))
-    (by_row Two LAYOUTS_TWO none 4 _ refl refl (refl, refl, refl, eight _ refl refl refl refl refl refl refl refl))
-    (by_row Two LAYOUTS_TWO none 5 _ refl refl (refl, refl, refl, eight _ refl refl refl refl refl refl refl refl))
-    (by_row Two LAYOUTS_TWO none 6 _ refl refl (refl, refl, refl, eight _ refl refl refl refl refl refl refl refl))
-    (by_row Two LAYOUTS_TWO none 7 _ refl refl (refl, refl, refl, eight _ refl refl refl refl refl refl refl refl))
+    (by_row Two LAYOUTS_TWO none 1 _ refl refl (
+      refl,
+      eight _ refl refl refl refl refl refl refl refl,
+      refl,
+      eight _ refl refl refl refl refl refl refl refl,
+    ))
+    (by_row Two LAYOUTS_TWO none 2 _ refl refl (
+      refl,
+      eight _ refl refl refl refl refl refl refl refl,
+      refl,
+      eight _ refl refl refl refl refl refl refl refl,
+    ))
+    (by_row Two LAYOUTS_TWO none 3 _ refl refl (
+      refl,
+      eight _ refl refl refl refl refl refl refl refl,
+      refl,
+      eight _ refl refl refl refl refl refl refl refl,
+    ))
+    (by_row Two LAYOUTS_TWO none 4 _ refl refl (
+      refl,
+      eight _ refl refl refl refl refl refl refl refl,
+      refl,
+      eight _ refl refl refl refl refl refl refl refl,
+    ))
+    (by_row Two LAYOUTS_TWO none 5 _ refl refl (
+      refl,
+      eight _ refl refl refl refl refl refl refl refl,
+      refl,
+      eight _ refl refl refl refl refl refl refl refl,
+    ))
+    (by_row Two LAYOUTS_TWO none 6 _ refl refl (
+      refl,
+      eight _ refl refl refl refl refl refl refl refl,
+      refl,
+      eight _ refl refl refl refl refl refl refl refl,
+    ))
+    (by_row Two LAYOUTS_TWO none 7 _ refl refl (
+      refl,
+      eight _ refl refl refl refl refl refl refl refl,
+      refl,
+      eight _ refl refl refl refl refl refl refl refl,
+    ))
 
 pub layouts_one : (none : Layout) (k : ℕ) → k < 8 → InTable One LAYOUTS_ONE none k
 layouts_one none = eight (InTable One LAYOUTS_ONE none)
     (λ r e. cc)
-    (by_row One LAYOUTS_ONE none 1 _ refl refl (refl, refl, refl, eight _ refl refl refl refl refl refl refl refl))
-    (by_row One LAYOUTS_ONE none 2 _ refl refl (refl, refl, refl, eight _ refl refl refl refl refl refl refl refl))
-    (by_row One LAYOUTS_ONE none 3 _ refl refl (refl, refl, refl, eight _ refl refl refl refl refl refl refl refl))
-    (by_row One LAYOUTS_ONE none 4 _ refl refl (refl, refl, refl, eight _ refl refl refl refl refl refl refl refl))
+    (by_row One LAYOUTS_ONE none 1 _ refl refl (
+      refl,
+      eight _ refl refl refl refl refl refl refl refl,
+      refl,
+      eight _ refl refl refl refl refl refl refl refl,
+    ))
+    (by_row One LAYOUTS_ONE none 2 _ refl refl (
+      refl,
+      eight _ refl refl refl refl refl refl refl refl,
+      refl,
+      eight _ refl refl refl refl refl refl refl refl,
+    ))
+    (by_row One LAYOUTS_ONE none 3 _ refl refl (
+      refl,
+      eight _ refl refl refl refl refl refl refl refl,
+      refl,
+      eight _ refl refl refl refl refl refl refl refl,
+    ))
+    (by_row One LAYOUTS_ONE none 4 _ refl refl (
+      refl,
+      eight _ refl refl refl refl refl refl refl refl,
+      refl,
+      eight _ refl refl refl refl refl refl refl refl,
+    ))
     (λ r e. cc)
     (λ r e. cc)
     (λ r e. cc)

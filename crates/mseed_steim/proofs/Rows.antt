@@ -5,7 +5,7 @@ use Rattle.std.proofs.Common.{length-append, lit<, Bool, T, ◌&&◌, ltb}
 use lib.Dec.{ltb→lt}
 use mir.ValLaws.{and_both}
 use Rattle.std.proofs.Math.Nat.{pow-le-pow_right}
-use Rattle.std.proofs.lemmas.Bool.{cond_both, eqb-true, cases_lt}
+use Rattle.std.proofs.lemmas.Bool.{cond_both, eqb-true, cases_lt, ne_eqb}
 use Rattle.std.proofs.lemmas.Int.{ints}
 use Rattle.std.proofs.lemmas.List.{take_at, drop_at}
 use Rattle.std.proofs.lemmas.List.Elements.{All-take, All-drop, All-weaker}
@@ -181,6 +181,27 @@ spelled_fits s ds h (c, (w, Spells.row g d e p)) =
     let found : HasRow s c d g = group_has s c d (group_of s c d) g (groups_have s c d) e in
     let range : All (IsWithin found.row.width) ds = subst (λ (x : ℕ). All (IsWithin x) ds) found.same p.range in
     record { row = found.row; found = rw p.count found.found; range = range }
+
+-- a word that spells some differences, or none, has one of four codes
+grouped_code : (s : Scheme) (code dnib : ℕ) (g : Group) → group_of s code dnib ≡ Some g → code < 4
+grouped_code One code dnib g e = ⊎_elim (λ (h : code < 4). h) (λ (more : 4 ≤ code).
+    let none : group_of One code dnib ≡ None = rw (
+      ne_eqb code 1 (λ q. omega (arith, q, more)),
+      ne_eqb code 2 (λ q. omega (arith, q, more)),
+      ne_eqb code 3 (λ q. omega (arith, q, more)),
+    ) refl in cc)
+    (cases_lt code 4)
+grouped_code Two code dnib g e = ⊎_elim (λ (h : code < 4). h) (λ (more : 4 ≤ code).
+    let none : group_of Two code dnib ≡ None = rw (
+      ne_eqb code 1 (λ q. omega (arith, q, more)),
+      ne_eqb code 2 (λ q. omega (arith, q, more)),
+      ne_eqb code 3 (λ q. omega (arith, q, more)),
+    ) refl in cc)
+    (cases_lt code 4)
+
+pub spelled_code : (s : Scheme) (code word : ℕ) (ds : List ℤ) → Spells s code word ds → code < 4
+spelled_code s code word ds (empty e q) = omega (arith, e)
+spelled_code s code word ds (Spells.row g d e p) = grouped_code s code d g e
 
 -- a word with 0 in the bits that may be anything is that of its row
 plain_sum : (s : Scheme) (c d word : ℕ) (g : Group) (ds : List ℤ) → HasRow s c d g → IsGroup g d word ds

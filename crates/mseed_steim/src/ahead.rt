@@ -13,10 +13,13 @@ use std::simd::prelude::*;
 const AHEAD: usize = 64;
 
 /// How many places are reported: for a word eight differences are read.
-const KNOWN: usize = AHEAD - 7;
+pub(crate) const KNOWN: usize = AHEAD - 7;
 
 /// How many bytes it takes to tell of each place among them how many a word takes there.
-const ROOM: usize = AHEAD + 16;
+pub(crate) const ROOM: usize = AHEAD + 16;
+
+/// By place, the most differences that are held from there on.
+pub(crate) type Most = [u8; ROOM];
 
 /// Half the size of a difference in Steim-1, and its size in Steim-2; 32767 where that is larger.
 #[inline(always)]
@@ -98,7 +101,7 @@ fn most_with(scheme: Scheme, sizes: u16x16) -> u8x16
 
 /// The most differences of words that hold two or more, by one of them.
 #[inline(always)]
-fn put_most(scheme: Scheme, sizes: &[u16; AHEAD], most: &mut [u8; ROOM])
+fn put_most(scheme: Scheme, sizes: &[u16; AHEAD], most: &mut Most)
     requires { (i : ℕ) → i < 64 → slice_index sizes.now i < 32768 }
     ensures { (i : ℕ) → i < 64 → slice_index most.new i ≡ most_with scheme (slice_index sizes.now i) }
 {
@@ -136,7 +139,7 @@ fn most_from(held: &[u8]) -> u8x16
 
 /// The same from each place on, in the place of the items.
 #[inline(always)]
-fn bound(held: &mut [u8; ROOM])
+fn bound(held: &mut Most)
     ensures { (i : ℕ) → i < 64 → IsMost held.old i (slice_index held.new i) }
 {
     for turn in 0..AHEAD / 16 {
@@ -146,7 +149,7 @@ fn bound(held: &mut [u8; ROOM])
 }
 
 /// The most differences that are held from each of the first 57 places on; nothing is reported of others.
-fn look_ahead(scheme: Scheme, diffs: &[i32], most: &mut [u8; ROOM])
+fn look_ahead(scheme: Scheme, diffs: &[i32], most: &mut Most)
     requires { 64 ≤ length diffs.now }
     ensures ahead { (i : ℕ) → i < 80 → IsAhead scheme (drop i diffs.now) (slice_index most.new i) }
     ensures none { (i : ℕ) → 57 ≤ i → i < 80 → slice_index most.new i ≡ 0 }
@@ -160,65 +163,14 @@ fn look_ahead(scheme: Scheme, diffs: &[i32], most: &mut [u8; ROOM])
     }
 }
 
-/// What has been found ahead: the most differences that are held, from each of some places on.
-#[derive(Drop)]
-pub(crate) struct Ahead {
-    begin: usize,
-    most: [u8; ROOM],
-}
-
-impl Ahead {
-    /// What is found from the first of the differences on.
-    pub(crate) fn of(scheme: Scheme, diffs: &[i32]) -> Self
-        ensures tells { Tells scheme diffs.now result }
-        ensures begin { result.begin ≡ 0 }
-    {
-        let mut most = [0; ROOM];
-        if AHEAD <= diffs.len() {
-            look_ahead(scheme, diffs, &mut most);
-        }
-        Ahead { begin: 0, most }
+/// The most differences that are held from each of the first 57 places on; less than two where nothing is known of them:
+/// at others, and where fewer than 64 differences are left.
+pub(crate) fn look(scheme: Scheme, diffs: &[i32], most: &mut Most)
+    ensures { Tells scheme diffs.now most.new }
+{
+    if diffs.len() < AHEAD {
+        *most = [0; ROOM];
+        return;
     }
-
-    /// The most differences that are held from a place on; less than two where nothing is reported of them.
-    #[inline(always)]
-    pub(crate) fn most_at(&mut self, scheme: Scheme, diffs: &[i32], place: usize) -> usize
-        requires tells { Tells scheme diffs.now self.old }
-        requires inside { place ≤ length diffs.now }
-        requires from { self.old.begin ≤ place }
-        requires to { place ≤ self.old.begin + 64 }
-        ensures tells { Tells scheme diffs.now self.new }
-        ensures ahead { IsAhead scheme (drop place diffs.now) result }
-        ensures from { self.new.begin ≤ place }
-        ensures to { place < self.new.begin + 57 }
-    {
-        let most = self.most[place - self.begin];
-        if 2 <= most {
-            return usize::from(most);
-        }
-        self.look_again(scheme, diffs, place)
-    }
-
-    /// The same, where two or more aren't known: what lies ahead is looked at once nothing is known there.
-    fn look_again(&mut self, scheme: Scheme, diffs: &[i32], place: usize) -> usize
-        requires tells { Tells scheme diffs.now self.old }
-        requires inside { place ≤ length diffs.now }
-        requires from { self.old.begin ≤ place }
-        requires to { place ≤ self.old.begin + 64 }
-        ensures tells { Tells scheme diffs.now self.new }
-        ensures ahead { IsAhead scheme (drop place diffs.now) result }
-        ensures from { self.new.begin ≤ place }
-        ensures to { place < self.new.begin + 57 }
-    {
-        if place - self.begin < KNOWN {
-            return usize::from(self.most[place - self.begin]);
-        }
-        self.begin = place;
-        if diffs.len() - place < AHEAD {
-            self.most = [0; ROOM];
-        } else {
-            look_ahead(scheme, &diffs[place..], &mut self.most);
-        }
-        usize::from(self.most[0])
-    }
+    look_ahead(scheme, diffs, most);
 }

@@ -11,28 +11,34 @@ use crate::row::Row;
 use crate::scheme::Scheme;
 use crate::unpack::{LANES, lanes_of};
 
-/// A row, the bits of one of its differences, its dnib where it stands in a word, and what each of its differences
-/// counts for; nothing behind the last.
+/// How the differences of a row are joined.
 struct Layout {
-    row: Row,
-    mask: u32,
-    head: u32,
+    /// The bits of one difference, in each lane.
+    masks: [u32; LANES],
+    /// What each difference counts for; nothing behind the last.
     places: [u32; LANES],
+    row: Row,
+    /// The dnib where it stands in a word.
+    head: u32,
+    /// Makes it 128 bytes, so that a row is found by a shift, and begins it at a multiple of 16, so that the lanes are
+    /// read where they are used.
+    spare: [u128; 2],
 }
 
 /// The layout of a row: its code, its dnib, how many differences it has and of how many bits, and the rest.
 macro_rules! layout {
     ($code:literal, $dnib:literal, $count:literal of $width:literal, $mask:literal, $head:literal, $places:expr) => {
         Layout {
+            masks: [$mask; LANES],
+            places: $places,
             row: Row {
                 code: $code,
                 dnib: $dnib,
                 count: $count,
                 width: $width,
             },
-            mask: $mask,
             head: $head,
-            places: $places,
+            spare: [0; 2],
         }
     };
 }
@@ -87,7 +93,7 @@ fn join(scheme: Scheme, layout: &Layout, diffs: &[i32]) -> u32
 {
     let mut word = 0u32;
     for index in 0..lanes_of(scheme) {
-        let digit = diffs[index].cast_unsigned() & layout.mask;
+        let digit = diffs[index].cast_unsigned() & layout.masks[index];
         word = word.wrapping_add(digit.wrapping_mul(layout.places[index]));
     }
     word

@@ -1,7 +1,7 @@
 //! Differences packed into words that are as full as words can be.
 
 ghost use Rattle.std.specs.Prelude.{◌≡◌, ◌⊎◌, ◌↔◌, ℕ, ◌+◌, ◌-◌, ◌*◌, ◌%◌, ◌^◌, ◌<◌, ◌≤◌, ◌==◌, if◌then◌else◌};
-ghost use Rattle.std.specs.Prelude.{bit_or, Err, IfOk};
+ghost use Rattle.std.specs.Prelude.{Err, IfOk};
 ghost use Rattle.std.specs.Prelude.{MatchResult, length, take, drop};
 ghost use Rattle.std.specs.List.{AllByRecursion};
 ghost use Rattle.mseed_steim.specs.declared.scheme.Scheme.TheVariants.{Two};
@@ -12,8 +12,8 @@ ghost use Rattle.mseed_steim.specs.Packing.{IsEmptyWord, IsFarthest, IsFewest, I
 ghost use Rattle.mseed_steim.specs.Packing.{IsTooLargeAt, LeavesRoom, PacksRun};
 ghost use Rattle.mseed_steim.specs.Runs.{SpellsRun};
 
-use crate::ahead::Ahead;
-use crate::data_words::WORD;
+use crate::ahead::{KNOWN, ROOM, look};
+use crate::data_words::{FRAME, WORD};
 use crate::layout::word_ahead;
 use crate::row::{fullest_row, word_of};
 use crate::scheme::Scheme;
@@ -82,13 +82,21 @@ fn write_word(frames: &mut [u8], index: usize, word: u32)
     BigEndian::write_u32(&mut frames[WORD * index..], word);
 }
 
-/// A frame's codes with that of one more of its data words, so many bits above the last.
+/// A frame's codes so far, and one more behind them.
 #[inline(always)]
-fn with_code(codes: u32, code: u8, shift: u32) -> u32
-    requires { shift < 32 }
-    ensures { result ≡ bit_or codes ((code * 2 ^ shift) % 2 ^ 32) }
+fn with_code(codes: u32, code: u8) -> u32
+    ensures { result ≡ (codes * 4 % 2 ^ 32 + code) % 2 ^ 32 }
 {
-    codes | u32::from(code) << shift
+    codes.wrapping_mul(4).wrapping_add(u32::from(code))
+}
+
+/// The codes of the data words of a frame up to one where they stand: none of the others.
+#[inline(always)]
+fn codes_to(codes: u32, index: usize) -> u32
+    requires { 0 < index }
+    ensures { result ≡ codes * 2 ^ (30 - 2 * ((index - 1) % 16)) % 2 ^ 32 }
+{
+    codes << (30 - 2 * ((index - 1) % FRAME) as u32)
 }
 
 /// The same, by one relation, from which the clauses of [`pack_words`] follow.
@@ -99,38 +107,49 @@ fn pack_run(scheme: Scheme, diffs: &[i32], frames: &mut [u8]) -> Result<Packed, 
     ensures { IsRunPacked scheme diffs.now frames.new result }
 {
     frames.fill(0);
-    let mut used = 0;
-    let mut words = 0;
-    // The frame that is being filled: its first word, the codes that belong there, and how many bits are left for more.
+    let mut index = 3;
+    // The frame that is being filled: its first word, and the codes that belong there.
     let mut head = 0;
     let mut codes = 0;
-    let mut room = 26;
-    let mut ahead = Ahead::of(scheme, diffs);
-    for index in 3..frames.len() / WORD {
-        if room == 0 {
+    // The differences from the place where was looked ahead last, how many of them are packed, and what was found.
+    let mut left = diffs;
+    let mut at = 0;
+    let mut most = [0; ROOM];
+    look(scheme, left, &mut most);
+    while index < frames.len() / WORD {
+        if index == head + FRAME {
             write_word(frames, head, codes);
             head = index;
             codes = 0;
-            room = 30;
+            index += 1;
             continue;
         }
-        let most = ahead.most_at(scheme, diffs, used);
-        if most < 2 && used == diffs.len() {
-            break;
-        }
-        match next_word(scheme, most, &diffs[used..]) {
-            Ok((code, word, count)) => {
-                write_word(frames, index, word);
-                room -= 2;
-                codes = with_code(codes, code, room);
-                used += count;
-                words += 1;
+        let held = usize::from(most[at]);
+        if held < 2 {
+            if at == left.len() {
+                break;
             }
-            Err(_) => return Err(TooLargeAt { index: used }),
+            if KNOWN <= at {
+                left = &left[at..];
+                at = 0;
+                look(scheme, left, &mut most);
+                continue;
+            }
         }
+        let Ok((code, word, count)) = next_word(scheme, held, &left[at..]) else {
+            let index = diffs.len() - left.len() + at;
+            return Err(TooLargeAt { index });
+        };
+        write_word(frames, index, word);
+        codes = with_code(codes, code);
+        at += count;
+        index += 1;
     }
-    write_word(frames, head, codes);
-    Ok(Packed { used, words })
+    write_word(frames, head, codes_to(codes, index));
+    Ok(Packed {
+        used: diffs.len() - left.len() + at,
+        words: index - 3 - (index - 1) / FRAME,
+    })
 }
 
 /// Packs differences into frames, from the first on: each data word in turn takes the largest number of

@@ -3,8 +3,7 @@ use Rattle.std.specs.Prelude.{◌≡◌, ◌↔◌, ℕ, ◌+◌, ◌-◌, ◌*�
 use Rattle.std.specs.Prelude.{drop, ℤ, pos, negsuc, slice_index_or, Some}
 use Rattle.mseed_steim.specs.declared.row.Row.{Row}
 use Rattle.mseed_steim.specs.declared.layout.Layout.{Layout}
-use Rattle.mseed_steim.specs.declared.ahead.Ahead.{Ahead}
-use Rattle.mseed_steim.specs.private.Rows.{row_for, IsBestRow, ArePlaces}
+use Rattle.mseed_steim.specs.private.Rows.{row_for, AreMasks, ArePlaces, IsBestRow}
 use Rattle.mseed_steim.specs.declared.scheme.Scheme.{Scheme}
 use Rattle.mseed_steim.specs.declared.scheme.Scheme.TheVariants.{One, Two}
 
@@ -56,12 +55,12 @@ IsAhead scheme ds most =
 -- a row's bits of one difference, its dnib where it stands in a word, and what its differences count for
 abbrev pub IsLayout : Scheme → Layout → Type 0
 IsLayout scheme layout =
-    (row_for scheme layout.row.count ≡ Some layout.row) × (layout.mask ≡ 2 ^ layout.row.width - 1)
+    (row_for scheme layout.row.count ≡ Some layout.row) × AreMasks layout.row.width layout.masks
     × (layout.head ≡ layout.row.dnib * 2 ^ 30)
     × ArePlaces layout.row.width layout.row.count layout.places
 
--- What was found from a place on is so of the differences, and nothing is reported of the last places.
-abbrev pub Tells : Scheme → List ℤ → Ahead → Type 0
-Tells scheme ds ahead =
-    ((i : ℕ) → i < 80 → IsAhead scheme (drop (ahead.begin + i) ds) (slice_index_or ahead.most i 0))
-    × ((i : ℕ) → 57 ≤ i → i < 80 → slice_index_or ahead.most i 0 ≡ 0)
+-- What was found from each of the first places on is so of the differences, and nothing is reported of the last places.
+abbrev pub Tells : Scheme → List ℤ → List ℕ → Type 0
+Tells scheme ds most =
+    ((i : ℕ) → i < 80 → IsAhead scheme (drop i ds) (slice_index_or most i 0))
+    × ((i : ℕ) → 57 ≤ i → i < 80 → slice_index_or most i 0 ≡ 0)

@@ -47,3 +47,7 @@ IsBestRow scheme ds high (Some row) =
 abbrev pub ArePlaces : ℕ → ℕ → List ℕ → Type 0
 ArePlaces width count places = (i : ℕ) → i < 8
     → slice_index_or places i 0 ≡ (if nat_lt i count then 2 ^ (width * (count - 1 - i)) else 0)
+
+-- the bits of one difference of a width, in each lane
+abbrev pub AreMasks : ℕ → List ℕ → Type 0
+AreMasks width masks = (i : ℕ) → i < 8 → slice_index_or masks i 0 ≡ 2 ^ width - 1

@@ -20,9 +20,9 @@ loop-index-preserved c =
     let digit : c.cast_unsigned.result ≡ of_z w32 (get_or c.args.diffs.now i (pos 0)) =
     rw to_z-of_z at c.cast_unsigned.ensures in
     placed_next layout.row.width layout.row.count i c.args.diffs.now c.loop-index.word c.cast_unsigned.result
-    layout.mask (get_or layout.places i 0) is.wide is.narrow is.room
-    (omega (arith, is.most, c.requires.eight)) c.loop-index.invariant fits digit c.requires.layout.1
-    (c.requires.layout.3 i lane)
+    (get_or layout.masks i 0) (get_or layout.places i 0) is.wide is.narrow is.room
+    (omega (arith, is.most, c.requires.eight)) c.loop-index.invariant fits digit
+    (c.requires.layout.1 i lane) (c.requires.layout.3 i lane)
 
 pub returns : goal.returns
 returns c =

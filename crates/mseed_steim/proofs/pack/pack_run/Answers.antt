@@ -1,89 +1,88 @@
-use Rattle.std.proofs.Common.{rules, ◌≡◌, ◌-◌, ◌+◌, ◌*◌, ◌/◌, ◌<◌, ◌≤◌, ◌⊎◌, arith, inl, inr, drop, length, ◌%◌, refl}
-use Rattle.std.proofs.Common.{◌≢◌}
-use Rattle.std.proofs.lemmas.List.{take_rest, length-drop}
+use Rattle.std.proofs.Common.{◌≡◌, ◌≢◌, ◌⊎◌, ℕ, ℤ, ◌+◌, ◌-◌, ◌*◌, ◌/◌, ◌%◌, ◌<◌, ◌≤◌, ◌∙◌, List, arith, ap, sym, subst}
+use Rattle.std.proofs.Common.{inl, inr, drop, length, take, refl, ⊎_elim}
+use Rattle.std.proofs.lemmas.List.{take_rest, length-drop, drop-drop}
 use Rattle.mseed_steim.specs.declared.pack.Packed.{Packed}
-use Rattle.mseed_steim.specs.Frames.{word_count, words_from}
+use Rattle.mseed_steim.specs.Frames.{word_count}
 use Rattle.mseed_steim.specs.Packing.{IsFullest, IsTooLargeAt, IsFirstTooLarge, LeavesRoom}
-use Rattle.mseed_steim.proofs.Packs.{refused_packed, rest_shorter}
+use Rattle.mseed_steim.specs.private.Ahead.{IsAhead, Tells}
+use Rattle.mseed_steim.proofs.Packs.{refused_packed}
+use Rattle.mseed_steim.proofs.Rows.{spelled_code}
 use Rattle.mseed_steim.proofs.Filling.{Filling, filled, filling_refused}
-use Rattle.mseed_steim.proofs.Held.{fullest_few}
-use Rattle.mseed_steim.proofs.Coding.{coding_none, coding_past, coding_more, coded}
-use Rattle.mseed_steim.proofs.pack.pack_run.Goals.{else-loop-index-test}
-use Rattle.mseed_steim.proofs.pack.pack_run.Goals.{then-loop-index-test+else-room-eq0+then-most-lt2+then-used-diffs}
+use Rattle.mseed_steim.proofs.Held.{fullest_few, rest_of, word_known}
+use Rattle.mseed_steim.proofs.Coding.{Pushing, pushing_none, pushing_past, pushing_more, pushed}
+use Rattle.mseed_steim.proofs.pack.pack_run.Goals.{else-held-lt2, else-loop-index-test}
+use Rattle.mseed_steim.proofs.pack.pack_run.Goals.{then-held-lt2+else-at-left+else-at-ge-KNOWN}
+use Rattle.mseed_steim.proofs.pack.pack_run.Goals.{then-loop-index-test+else-index-head+then-held-lt2+then-at-left}
 use Rattle.mseed_steim.proofs.pack.pack_run.Goals as goal
 
 pub loop-index-init : goal.loop-index-init
-loop-index-init c = record {
-  coding = coding_none c.args.scheme c.args.diffs.now c.fill.new.self (length c.args.frames.now)
-      (c.fill.ensures.after (λ y e. e));
-  tells = c.of-ahead.ensures.tells;
-  from = omega (arith, c.of-ahead.ensures.begin);
-  to = omega arith;
-  room = refl;
-}
-
-pub loop-index-preserved-then-room-eq0 : goal.loop-index-preserved-then-room-eq0
-loop-index-preserved-then-room-eq0 c =
-    let from = c.loop-index.invariant.coding.filling.from in
-    let first : c.loop-index.index % 16 ≡ 0 = omega (arith, c.if-room-eq0.true, c.loop-index.invariant.room, from) in
+loop-index-init c =
+    let ds = c.args.diffs.now in
+    let none : length ds - length ds ≡ 0 = omega arith in
+    let zero : 0 ≡ length ds - length ds + 0 = omega arith in
     record {
-      coding = coding_past c.args.scheme c.args.diffs.now c.loop-index.frames c.write_word.new.frames c.loop-index.head
-          c.loop-index.codes c.loop-index.index c.loop-index.used c.loop-index.words first c.write_word.ensures
-          c.loop-index.invariant.coding;
-      room = omega (arith, first, from);
+      pushing = subst (λ (n : ℕ). Pushing c.args.scheme ds c.fill.new.self 0 0 3 n) zero
+          (pushing_none c.args.scheme ds c.fill.new.self (length c.args.frames.now) (c.fill.ensures.after (λ y e. e)));
+      left = rw none refl;
+      tells = c.look.ensures;
+      to = omega arith;
+      inside = omega (arith, c.fill.ensures.len, c.requires.some, c.requires.whole);
+      frame = omega (arith, c.fill.ensures.len, c.requires.some, c.requires.whole);
+    }
+
+pub loop-index-preserved-then-index-head : goal.loop-index-preserved-then-index-head
+loop-index-preserved-then-index-head c =
+    let coding = c.loop-index.invariant.pushing.coding in
+    let at = coding.at in
+    let end : c.loop-index.index ≡ c.loop-index.head + 16 = c.if-index-head.true in
+    let first : c.loop-index.index % 16 ≡ 0 = omega (arith, at, end) in
+    record {
+      pushing = pushing_past c.args.scheme c.args.diffs.now c.loop-index.frames c.write_word.new.frames
+          c.loop-index.head c.loop-index.codes c.loop-index.index
+          (length c.args.diffs.now - length c.loop-index.left.now + c.loop-index.at) first c.write_word.ensures
+          c.loop-index.invariant.pushing;
+      left = c.loop-index.invariant.left;
       tells = c.loop-index.invariant.tells;
-      from = c.loop-index.invariant.from;
       to = c.loop-index.invariant.to;
+      inside = omega (arith, c.loop-index-test.true, c.write_word.auto.frames);
+      frame = omega (
+        arith,
+        c.loop-index-test.true,
+        first,
+        c.write_word.auto.frames,
+        c.loop-index.auto.frames,
+        c.fill.ensures.len,
+        c.requires.whole,
+      );
     }
 
 pub next_word-requires-clause-ahead : goal.next_word-requires-clause-ahead
-next_word-requires-clause-ahead c = rw (take_rest c.args.diffs.now c.loop-index.used) c.most_at-most.ensures.ahead
+next_word-requires-clause-ahead c =
+    let left = c.loop-index.left.now in
+    subst (λ (xs : List ℤ). IsAhead c.args.scheme xs c.from-held.result) (sym (take_rest left c.loop-index.at))
+    (subst (λ (m : ℕ). IsAhead c.args.scheme (drop c.loop-index.at left) m) (sym c.from-held.ensures)
+    (c.loop-index.invariant.tells.0 c.loop-index.at (omega (arith, c.loop-index.invariant.to))))
 
-pub loop-index-preserved : goal.loop-index-preserved
-loop-index-preserved c =
-    let full : IsFullest c.args.scheme (drop c.loop-index.used c.args.diffs.now) c.in-Ok.code c.in-Ok.word
-    c.in-Ok.count = rw (take_rest c.args.diffs.now c.loop-index.used) at c.in-Ok.ensures.fullest in
-    let small : c.in-Ok.code < 4 = search rules in
-    let room : 4 * (c.loop-index.index + 1) ≤ length c.write_word-in-Ok.new.frames =
-    omega (
-      arith,
-      c.write_word-in-Ok.auto.frames,
-      c.loop-index.auto.frames,
-      c.fill.ensures.len,
-      c.loop-index-test.true,
-    ) in
-    let from = c.loop-index.invariant.coding.filling.from in
-    let plain : c.loop-index.index % 16 ≢ 0 =
-    λ e. c.if-room-eq0.false (omega (arith, e, c.loop-index.invariant.room, from)) in
-    let shift : c.loop-index.room - 2 ≡ 30 - 2 * (c.loop-index.index % 16) =
-    omega (arith, c.loop-index.invariant.room, plain, from) in
-    let few = fullest_few c.args.scheme (drop c.loop-index.used c.args.diffs.now) c.in-Ok.code c.in-Ok.word
-    c.in-Ok.count full in
-    record {
-      coding = coding_more c.args.scheme c.args.diffs.now c.loop-index.frames c.write_word-in-Ok.new.frames
-          c.loop-index.head c.loop-index.codes c.loop-index.index c.loop-index.used c.loop-index.words c.in-Ok.code
-          c.in-Ok.word c.in-Ok.count c.with_code-codes.result
-          plain room (omega arith) small c.loop-index.invariant.coding full c.write_word-in-Ok.ensures
-          (rw shift at c.with_code-codes.ensures);
-      room = omega (arith, shift, plain, from);
-      tells = c.most_at-most.ensures.tells;
-      from = omega (arith, c.most_at-most.ensures.from);
-      to = omega (arith, c.most_at-most.ensures.to, few);
-    }
-
-pub returns-in-Err : goal.returns-in-Err
-returns-in-Err c =
-    let large : IsTooLargeAt c.args.scheme (drop c.loop-index.used c.args.diffs.now) 0 =
-    rw (take_rest c.args.diffs.now c.loop-index.used) at c.in-Err.ensures.refused in
-    let same : length c.loop-index.invariant.coding.whole ≡ length c.loop-index.frames =
-    c.loop-index.invariant.coding.long in
-    let count : word_count c.loop-index.invariant.coding.whole ≡ length c.fill.new.self / 4 =
-    omega (arith, same, c.loop-index.auto.frames, c.fill.ensures.len, c.requires.whole) in
-    let both : IsFirstTooLarge c.args.scheme c.args.diffs.now c.loop-index.used × LeavesRoom _ _ _ =
-    filling_refused c.args.scheme c.args.diffs.now c.loop-index.invariant.coding.whole c.loop-index.frames
-    c.loop-index.index c.loop-index.used c.loop-index.words c.loop-index.invariant.coding.filling
-    (omega (arith, count)) (λ e. let from = c.loop-index.invariant.coding.filling.from in
-    c.if-room-eq0.false (omega (arith, e, c.loop-index.invariant.room, from))) (omega (arith, same)) large in
+pub returns-in_default : goal.returns-in_default
+returns-in_default c =
+    let s = c.args.scheme in
+    let ds = c.args.diffs.now in
+    let left = c.loop-index.left.now in
+    let at = c.loop-index.at in
+    let used = length ds - length left + at in
+    let coding = c.loop-index.invariant.pushing.coding in
+    let rest : take (length left - at) (drop at left) ≡ drop used ds = take_rest left at
+    ∙ rest_of ds left at c.loop-index.invariant.left in
+    let large : IsTooLargeAt s (drop used ds) 0 =
+    subst (λ (xs : List ℤ). IsTooLargeAt s xs 0) rest c.in_default.ensures.refused in
+    let same : length coding.whole ≡ length c.loop-index.frames = coding.long in
+    let begin = coding.at in
+    let from = coding.filling.from in
+    let plain : c.loop-index.index % 16 ≢ 0 = λ e. c.if-index-head.false (omega (arith, e, begin, from)) in
+    let both : IsFirstTooLarge s ds used × LeavesRoom _ _ _ =
+    filling_refused s ds coding.whole c.loop-index.frames c.loop-index.index used
+    (c.loop-index.index - 3 - (c.loop-index.index - 1) / 16) coding.filling
+    (omega (arith, same, c.loop-index-test.true)) plain (omega (arith, same)) large in
     record {
       packed = tt;
       spelled = tt;
@@ -94,35 +93,71 @@ returns-in-Err c =
       codes = tt;
       fewest = tt;
       farthest = tt;
-      refused = refused_packed Packed c.args.scheme c.args.diffs.now c.loop-index.used _ both;
+      refused = refused_packed Packed s ds used _ both;
     }
 
-pub overflow_add-words : goal.overflow_add-words
-overflow_add-words c =
-    let filling = c.loop-index.invariant.coding.filling in
-    let shorter = rest_shorter c.args.scheme
-    (words_from c.loop-index.invariant.coding.whole 3 (c.loop-index.index - 3)) c.args.diffs.now
-    (drop c.loop-index.used c.args.diffs.now) filling.run in
-    let count = filling.count in
-    let inside = filling.inside in
-    record { fits = omega (arith, shorter, count, inside, length-drop c.loop-index.used c.args.diffs.now) }
+pub loop-index-preserved : goal.loop-index-preserved
+loop-index-preserved c =
+    let s = c.args.scheme in
+    let ds = c.args.diffs.now in
+    let left = c.loop-index.left.now in
+    let at = c.loop-index.at in
+    let used = length ds - length left + at in
+    let here : IsFullest s (drop at left) c.in-Ok.code c.in-Ok.word c.in-Ok.count =
+    subst (λ (xs : List ℤ). IsFullest s xs c.in-Ok.code c.in-Ok.word c.in-Ok.count) (take_rest left at)
+    c.in-Ok.ensures.fullest in
+    let full : IsFullest s (drop used ds) c.in-Ok.code c.in-Ok.word c.in-Ok.count =
+    subst (λ (xs : List ℤ). IsFullest s xs c.in-Ok.code c.in-Ok.word c.in-Ok.count)
+    (rest_of ds left at c.loop-index.invariant.left) here in
+    let small = spelled_code s c.in-Ok.code c.in-Ok.word (take c.in-Ok.count (drop used ds)) full.spelled in
+    let coding = c.loop-index.invariant.pushing.coding in
+    let begin = coding.at in
+    let from = coding.filling.from in
+    let plain : c.loop-index.index % 16 ≢ 0 = λ e. c.if-index-head.false (omega (arith, e, begin, from)) in
+    let room : 4 * (c.loop-index.index + 1) ≤ length c.write_word-in-loop-index.new.frames =
+    omega (arith, c.write_word-in-loop-index.auto.frames, c.loop-index-test.true) in
+    let few = fullest_few s (drop at left) c.in-Ok.code c.in-Ok.word c.in-Ok.count here in
+    let known : at < 57 = elim c.if-held-lt2.branch [
+      | then-held-lt2+else-at-left+else-at-ge-KNOWN w ↦ omega (arith, w.if-at-ge-KNOWN.false)
+      | else-held-lt2 w ↦ word_known s left c.loop-index.most at c.from-held.result c.loop-index.invariant.tells
+          c.loop-index.invariant.to c.from-held.ensures (omega (arith, w.if-held-lt2.false))
+    ] in
+    let next : used + c.in-Ok.count ≡ length ds - length left + (at + c.in-Ok.count) = omega arith in
+    record {
+      pushing = subst (λ (n : ℕ). Pushing s ds c.write_word-in-loop-index.new.frames c.loop-index.head
+          c.with_code-codes.result (c.loop-index.index + 1) n) next
+          (pushing_more s ds c.loop-index.frames c.write_word-in-loop-index.new.frames c.loop-index.head
+          c.loop-index.codes c.loop-index.index used c.in-Ok.code c.in-Ok.word c.in-Ok.count c.with_code-codes.result
+          plain room small c.loop-index.invariant.pushing full c.write_word-in-loop-index.ensures
+          c.with_code-codes.ensures);
+      left = c.loop-index.invariant.left;
+      tells = c.loop-index.invariant.tells;
+      to = omega (arith, known, few);
+      inside = omega (arith, c.loop-index-test.true, c.write_word-in-loop-index.auto.frames);
+      frame = omega (arith, c.loop-index.invariant.frame, c.write_word-in-loop-index.auto.frames);
+    }
 
 pub returns : goal.returns
 returns c =
-    let filling : Filling c.args.scheme c.args.diffs.now c.write_word-2.new.frames c.loop-index.index c.loop-index.used
-    c.loop-index.words =
-    coded c.args.scheme c.args.diffs.now c.loop-index.frames c.write_word-2.new.frames c.loop-index.head
-    c.loop-index.codes c.loop-index.index c.loop-index.used c.loop-index.words c.loop-index.invariant.coding
-    c.write_word-2.ensures in
-    let count : word_count c.write_word-2.new.frames ≡ length c.fill.new.self / 4 =
-    omega (arith, c.write_word-2.auto.frames, c.loop-index.auto.frames, c.fill.ensures.len, c.requires.whole) in
-    let end : (c.loop-index.used ≡ length c.args.diffs.now)
-    ⊎ (c.loop-index.index ≡ word_count c.write_word-2.new.frames) = elim c.loop-index-test.branch [
-      | else-loop-index-test w ↦ inr (omega (arith, count, w.loop-index-test.false, c.loop-index.auto.index-end))
-      | then-loop-index-test+else-room-eq0+then-most-lt2+then-used-diffs w ↦ inl w.if-used-diffs.true
+    let s = c.args.scheme in
+    let ds = c.args.diffs.now in
+    let left = c.loop-index.left.now in
+    let used = length ds - length left + c.loop-index.at in
+    let words = c.loop-index.index - 3 - (c.loop-index.index - 1) / 16 in
+    let filling : Filling s ds c.write_word-2.new.frames c.loop-index.index used words =
+    pushed s ds c.loop-index.frames c.write_word-2.new.frames c.loop-index.head c.loop-index.codes c.loop-index.index used
+    c.codes_to.result c.loop-index.invariant.pushing c.codes_to.ensures c.write_word-2.ensures in
+    let count : word_count c.write_word-2.new.frames ≡ length c.loop-index.frames / 4 =
+    omega (arith, c.write_word-2.auto.frames) in
+    let long : length left ≡ length ds - (length ds - length left) =
+    ap (λ (xs : List ℤ). length xs) c.loop-index.invariant.left ∙ length-drop (length ds - length left) ds in
+    let end : (used ≡ length ds) ⊎ (c.loop-index.index ≡ word_count c.write_word-2.new.frames) =
+    elim c.loop-index-test.branch [
+      | else-loop-index-test w ↦ inr (omega (arith, count, w.loop-index-test.false, c.loop-index.invariant.inside))
+      | then-loop-index-test+else-index-head+then-held-lt2+then-at-left w ↦ inl (omega (arith, long, w.if-at-left.true))
     ] in
-    let done = filled c.args.scheme c.args.diffs.now c.write_word-2.new.frames c.loop-index.index c.loop-index.used
-    c.loop-index.words filling (omega (arith, count, c.loop-index.auto.index-end)) end in record {
+    let done = filled s ds c.write_word-2.new.frames c.loop-index.index used words filling
+    (omega (arith, count, c.loop-index.invariant.inside)) end in record {
       packed = done.packed;
       spelled = done.spelled;
       inside = done.inside;

@@ -1,13 +1,18 @@
-use Rattle.std.proofs.Common.{◌≡◌, ◌≤◌, ◌+◌, ◌-◌, ◌*◌, ◌%◌}
+use Rattle.std.proofs.Common.{◌≡◌, ◌≤◌, ◌+◌, ◌-◌, ◌*◌, ◌/◌, if◌then◌else◌, drop, length, nat_lt}
 use Rattle.mseed_steim.specs.private.Ahead.{Tells}
-use Rattle.mseed_steim.proofs.Coding.{Coding}
+use Rattle.mseed_steim.proofs.Coding.{Pushing}
 use Rattle.mseed_steim.proofs.pack.pack_run.Given as goal
 
 abbrev pub invariant-loop-index : goal.invariant-loop-index
 invariant-loop-index l = record {
-  coding : Coding l.scheme l.diffs l.frames l.head l.codes l.index l.used l.words;
-  room : l.room ≡ 30 - 2 * ((l.index - 1) % 16);
-  tells : Tells l.scheme l.diffs l.ahead;
-  from : l.ahead.begin ≤ l.used;
-  to : l.used ≤ l.ahead.begin + 64;
+  pushing : Pushing l.scheme l.diffs l.frames l.head l.codes l.index (length l.diffs - length l.left + l.at);
+  left : l.left ≡ drop (length l.diffs - length l.left) l.diffs;
+  tells : Tells l.scheme l.left l.most;
+  to : l.at ≤ 64;
+  inside : l.index ≤ length l.frames / 4;
+  frame : l.head + 16 ≤ length l.frames / 4;
 }
+
+-- a word is filled, or what lies ahead is looked at behind the last place that is known
+abbrev pub decreases-loop-index : goal.decreases-loop-index
+decreases-loop-index l = 2 * (length l.frames - l.index) + (if nat_lt l.at 57 then 0 else 1)
