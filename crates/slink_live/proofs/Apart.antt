@@ -1,5 +1,5 @@
 -- What is due to a link is by the rings of the places that it was granted: a record of others changes nothing of it.
-use Rattle.std.proofs.Common.{◌≡◌, ◌≢◌, ℕ, suc, ◌<◌, ◌⊎◌, ◌==◌, ◌∙◌, ap, ap₂, subst, refl, sym, arith, inl, inr}
+use Rattle.std.proofs.Common.{◌≡◌, ℕ, suc, ◌⊎◌, ◌==◌, ◌∙◌, ap, ap₂, refl, sym, arith, inl, inr}
 use Rattle.std.proofs.Common.{Bool, ◌&&◌, List, [], ◌∷◌, length, Option, Some, None, slice_get, if◌then◌else◌}
 use Rattle.slink_feed.specs.declared.grant.Grant.{Grant}
 use Rattle.slink_feed.specs.declared.session.Phase.{Phase}
@@ -9,14 +9,24 @@ use Rattle.slink_feed.specs.Session.{sent_in, sent_of}
 use Rattle.slink_feed.specs.Window.{Window, record_at}
 use Rattle.slink_live.specs.declared.places.Places.{Places}
 use Rattle.slink_live.specs.declared.ready.Wishes.{Wishes}
-use Rattle.slink_live.specs.Awake.{HasAll, IsClosable, IsLost, IsSettled, Sleeps, has_all, is_lost, is_over, waits}
+use Rattle.slink_live.specs.Awake.{AreSame, IsClosable, IsLost, IsSettled, Sleeps, has_all, is_lost, is_over, waits}
 use Rattle.slink_live.specs.Awake.{writes}
 use Rattle.slink_live.specs.Served.{LinkState}
-use Rattle.slink_live.specs.private.Granting.{Has, LeavesOut, StaysBut}
+use Rattle.slink_live.specs.private.Granting.{LeavesOut, StaysBut}
 
 -- The rings of the places with a grant are the same.
-abbrev AreAlike : List Window → List Window → Grants → Type 0
+abbrev pub AreAlike : List Window → List Window → Grants → Type 0
 AreAlike old new gs = (k : ℕ) → (grant_at gs k ≡ None) ⊎ (slice_get new k ≡ slice_get old k)
+
+granted_or : (o : Option Grant) → (o ≡ None) ⊎ ((g : Grant) × (o ≡ Some g))
+granted_or None = inl refl
+granted_or (Some g) = inr (g, refl)
+
+pub alike_by : (old new : List Window) (gs : Grants) → AreSame gs old new → AreAlike old new gs
+alike_by old new gs same k = elim (granted_or (grant_at gs k)) [
+  | inl none ↦ inl none
+  | inr some ↦ inr (same k some.0 some.1)
+]
 
 same_some : (v w : Window) → Some v ≡ Some w → v ≡ w
 same_some v w e = cc e
@@ -60,7 +70,7 @@ alike_in Phases.Closed old new s long alike k = refl
 -- What a link's session gives is the same.
 module _ (old new : List Window) (s : State) (long : length new ≡ length old)
     (alike : s.phase ≡ Phases.Streaming → AreAlike old new s.grants) where
-  sent_alike : (k : ℕ) → sent new s k ≡ sent old s k
+  pub sent_alike : (k : ℕ) → sent new s k ≡ sent old s k
   sent_alike = alike_in s.phase old new s long alike
 
   waits_on : IsWaiting old s → IsWaiting new s
@@ -69,27 +79,28 @@ module _ (old new : List Window) (s : State) (long : length new ≡ length old)
   waited : IsWaiting new s → IsWaiting old s
   waited waiting k lt = sym (sent_alike k) ∙ waiting k (omega (arith, lt, long))
 
-  was_lost : IsLost new s → IsLost old s
-  was_lost lost = record {
-    streams = lost.streams;
-    k = lost.k;
-    place = record {
-      ring = lost.place.ring;
-      grant = lost.place.grant;
-      there = elim (alike lost.streams lost.k) [
-        | inl none ↦ absurd (let bad : None ≡ Some lost.place.grant = sym none ∙ lost.place.granted in cc bad)
-        | inr same ↦ sym same ∙ lost.place.there
-      ];
-      granted = lost.place.granted;
-      left = lost.place.left;
-    };
-  }
+pub was_lost : (old new : List Window) (s : State) → (s.phase ≡ Phases.Streaming → AreAlike old new s.grants)
+    → IsLost new s → IsLost old s
+was_lost old new s alike lost = record {
+  streams = lost.streams;
+  k = lost.k;
+  place = record {
+    ring = lost.place.ring;
+    grant = lost.place.grant;
+    there = elim (alike lost.streams lost.k) [
+      | inl none ↦ absurd (let bad : None ≡ Some lost.place.grant = sym none ∙ lost.place.granted in cc bad)
+      | inr same ↦ sym same ∙ lost.place.there
+    ];
+    granted = lost.place.granted;
+    left = lost.place.left;
+  };
+}
 
 module _ (old new : List Window) (l : LinkState) (long : length new ≡ length old)
     (alike : l.session.state.phase ≡ Phases.Streaming → AreAlike old new l.session.state.grants) where
   was_closable : (is_ended : Bool) → IsClosable new is_ended l → IsClosable old is_ended l
   was_closable is_ended (is_over over) = is_over over
-  was_closable is_ended (is_lost lost) = is_lost (was_lost old new l.session.state long alike lost)
+  was_closable is_ended (is_lost lost) = is_lost (was_lost old new l.session.state alike lost)
   was_closable is_ended (has_all ended all) = has_all ended (record {
     streams = all.streams;
     waits = waited old new l.session.state long alike all.waits;
@@ -112,16 +123,10 @@ module _ (old new : List Window) (l : LinkState) (long : length new ≡ length o
     streams = settled.streams;
   }
 
-granted_or : (o : Option Grant) → (o ≡ None) ⊎ ((g : Grant) × (o ≡ Some g))
-granted_or None = inl refl
-granted_or (Some g) = inr (g, refl)
-
 -- A link that is sent no records of the places that got some.
 pub settled_apart : (old new : List Window) (places : Places) (o : Option LinkState) (l : LinkState)
     → length new ≡ length old → StaysBut places old new → LeavesOut places o → o ≡ Some l
     → (is_ended : Bool) (w : Wishes) → IsSettled old is_ended l w → IsSettled new is_ended l w
 settled_apart old new places o l long stays out is =
-    settled_on old new l long (λ streams k. elim (granted_or (grant_at l.session.state.grants k)) [
-      | inl none ↦ inl none
-      | inr some ↦ inr (stays k (out l is streams k some.0 some.1))
-    ])
+    settled_on old new l long (λ streams. alike_by old new l.session.state.grants
+    (λ k g granted. stays k (out l is streams k g granted)))

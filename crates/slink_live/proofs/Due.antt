@@ -1,5 +1,5 @@
 -- Of which places of a link a record is due.
-use Rattle.std.proofs.Common.{◌≡◌, ◌≢◌, ◌↔◌, ◌⊎◌, ℕ, ◌+◌, ◌<◌, ◌≤◌, ◌∙◌, ap, subst, sym, refl, arith, inl, inr, Bool}
+use Rattle.std.proofs.Common.{◌≡◌, ◌≢◌, ◌↔◌, ◌⊎◌, ℕ, ◌+◌, ◌<◌, ◌∙◌, ap, subst, sym, refl, arith, inl, inr, Bool}
 use Rattle.std.proofs.Common.{true, false, List, length, length-append, Option, Some, None, slice_get}
 use Rattle.std.specs.Bool.{OnFalse, OnTrue}
 use Rattle.std.proofs.lemmas.Bool.Decides.{eqb_tells}

@@ -1,41 +1,20 @@
 -- Which places concern the links in their slots.
-use Rattle.std.proofs.Common.{◌≡◌, ◌≢◌, ℕ, ◌+◌, ◌<◌, ◌≤◌, ◌⊎◌, ◌∙◌, ap, subst, refl, sym, arith, inl, inr}
+use Rattle.std.proofs.Common.{◌≡◌, ℕ, ◌<◌, ◌∙◌, subst, refl, sym, inl, inr}
 use Rattle.std.proofs.Common.{get_or-set_other, get_or-set_same, length-set, List, length, set, get_or}
-use Rattle.std.proofs.Common.{Option, Some, None, IfSome, option_map, drop, true, false}
+use Rattle.std.proofs.Common.{Option, Some, None, IfSome}
 use Rattle.std.proofs.lemmas.Bool.Decides.{eqb_tells}
-use Rattle.std.specs.Option.{is_some}
 use Rattle.slink_feed.specs.declared.grant.Grant.{Grant}
 use Rattle.slink_feed.specs.declared.session.Phase.TheVariants as Phases
-use Rattle.slink_feed.specs.declared.session.Sent.{Sent}
 use Rattle.slink_feed.specs.Serving.{Standing}
-use Rattle.slink_feed.specs.Session.{Fits, Grants, State, grant_at, sent}
+use Rattle.slink_feed.specs.Session.{Fits, grant_at}
 use Rattle.slink_feed.specs.Window.{Window}
 use Rattle.slink_live.specs.declared.places.Places.{Places}
-use Rattle.slink_live.specs.Happening.{Happening}
-use Rattle.slink_live.specs.Served.{AllFit, LinkState, link_state}
-use Rattle.slink_live.specs.Story.{Asks, IsNew, none_called, one_called}
-use Rattle.slink_live.specs.private.Calling.{HasFilled, HasTaken}
-use Rattle.slink_live.specs.private.Granting.{AreCovered, Covers, CoversIn, Has, LeavesOut, no_places}
+use Rattle.slink_live.specs.Served.{AllFit, LinkState}
+use Rattle.slink_live.specs.Story.{Asks, none_called, one_called}
+use Rattle.slink_live.specs.private.Calling.{HasFilled}
+use Rattle.slink_live.specs.private.Granting.{AreCovered, Covers, CoversIn, no_places}
 use Rattle.slink_live.proofs.Fairness.{grants_no_more, streams_no_more}
 use Rattle.slink_live.proofs.Steps.{link_fits, same_default}
-
--- one slot changed, and its places with it
-pub covered_set : (links : List (Option LinkState)) (granted : List Places) (j : ℕ) (new : Option LinkState)
-    (places : Places) → AreCovered links granted → j < length links → CoversIn places new
-    → AreCovered (set links j new) (set granted j places)
-covered_set links granted j new places covered lt here = record {
-  count = length-set granted j places ∙ (covered.count ∙ sym (length-set links j new));
-  each = λ k. elim (eqb_tells k j) [
-    | inl same ↦ λ l is. subst (λ i. Covers (get_or (set granted j places) i no_places) l) (sym same.1)
-        (subst (λ (p : Places). Covers p l)
-        (sym (get_or-set_same granted j places no_places (omega (arith, lt, covered.count))))
-        (here l (sym (get_or-set_same links j new None lt)
-        ∙ subst (λ i. get_or (set links j new) i None ≡ Some l) same.1 is)))
-    | inr other ↦ λ l is. subst (λ (p : Places). Covers p l)
-        (sym (get_or-set_other granted j k places no_places other.1))
-        (covered.each k l (sym (get_or-set_other links j k new None other.1) ∙ is))
-  ];
-}
 
 -- one slot changed, and is sent no records of further places
 pub covered_still : (links : List (Option LinkState)) (granted : List Places) (j : ℕ) (new : Option LinkState)
@@ -53,23 +32,6 @@ covered_still links granted j new covered lt here = record {
 
 pub covers_none : (places : Places) (o : Option LinkState) → o ≡ None → CoversIn places o
 covers_none places o none l is = absurd (let bad : None ≡ Some l = sym none ∙ is in cc bad)
-
--- a link that is new
-pub covers_new : (places : Places) (l : LinkState) → IsNew l.session → CoversIn places (Some l)
-covers_new places l fresh m is streams =
-    let same : l ≡ m = let both : Some l ≡ Some m = is in cc both in
-    let phase : m.session.state.phase ≡ Phases.Fresh =
-    subst (λ (x : LinkState). x.session.state.phase ≡ Phases.Fresh) same (ap (λ (s : State). s.phase) fresh.state) in
-    absurd (let bad : Phases.Fresh ≡ Phases.Streaming = sym phase ∙ streams in cc bad)
-
--- one that took bytes
-pub covers_taken : (places : Places) (k : ℕ) (o new : Option LinkState) (log last : List Happening)
-    → CoversIn places o → HasTaken k o new log last → CoversIn places new
-covers_taken places k None new log last covers h m is = covers_none places new h.0 m is
-covers_taken places k (Some l) new log last covers h m is =
-    let both : Some (link_state l.session l.place (drop h.0 l.pending)) ≡ Some m = sym h.1 ∙ is in
-    let same : link_state l.session l.place (drop h.0 l.pending) ≡ m = cc both in
-    subst (Covers places) same (covers l refl)
 
 -- one whose session was called for packets
 asked_streams : (feed : List Window) (s : Standing) (place : ℕ) (way : List ℕ) (last : Standing) (turn : ℕ)
@@ -107,34 +69,6 @@ covers_filled places feed (Some l) new covers h m is streams k g granted =
     (λ none. asked_grants feed l.session l.place l.pending h.0.session h.0.place h.0.pending h.2 k none) g there in
     covers l refl
     (asked_streams feed l.session l.place l.pending h.0.session h.0.place h.0.pending h.2 on) k before.0 before.1
-
--- Of the places that concern a slot none is among others.
-pub left_out : (covering others : Places) (o : Option LinkState) → CoversIn covering o
-    → ((k : ℕ) → Has covering k → ¬ (Has others k)) → LeavesOut others o
-left_out covering others o covers apart l is streams k g granted = apart k (covers l is streams k g granted)
-
--- Where no place has a grant so far, or each that has is among these.
-pub has_more : (places more : Places) (gs : Grants) (n : ℕ)
-    → ((j : ℕ) (g : Grant) → j < n → grant_at gs j ≡ Some g → Has places j) → Has more n
-    → ((j : ℕ) → j ≢ n → Has places j → Has more j)
-    → (j : ℕ) (g : Grant) → j < n + 1 → grant_at gs j ≡ Some g → Has more j
-has_more places more gs n before here others j g lt granted = elim (eqb_tells j n) [
-  | inl same ↦ subst (Has more) (sym same.1) here
-  | inr other ↦ others j other.1 (before j g (omega (arith, lt, other.1)) granted)
-]
-
-pub has_same : (places : Places) (gs : Grants) (n : ℕ)
-    → ((j : ℕ) (g : Grant) → j < n → grant_at gs j ≡ Some g → Has places j)
-    → is_some (option_map (λ (g : Grant). g.position) (grant_at gs n)) ≡ false
-    → (j : ℕ) (g : Grant) → j < n + 1 → grant_at gs j ≡ Some g → Has places j
-has_same places gs n before none j g lt granted = elim (eqb_tells j n) [
-  | inl same ↦ absurd (
-      let there : grant_at gs n ≡ Some g = subst (λ i. grant_at gs i ≡ Some g) same.1 granted in
-      let bad : true ≡ false =
-      sym (ap (λ (o : Option Grant). is_some (option_map (λ (g : Grant). g.position) o)) there) ∙ none in
-      cc bad)
-  | inr other ↦ before j g (omega (arith, lt, other.1)) granted
-]
 
 -- A call saw the link in a slot.
 module _ {slots links : List (Option LinkState)} (same : slots ≡ links) {granted : List Places}

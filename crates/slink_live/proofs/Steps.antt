@@ -172,12 +172,6 @@ module _ {s0 s : ServerState} (same : s0 ≡ s) (j : ℕ) (lt : j < length s0.li
       (subst (P s0.intake.feed) (link ∙ sym (same_default s0.links j None o lt))
       (subst (λ (f : List Window). P f o) rings h))
 
-  pub seen_fits : {feed : List Window} {o : Option LinkState} → feed ≡ s0.intake.feed → o ≡ get_or s0.links j o
-      → IsSound s → IfSome o (λ l. Fits feed l.session.state)
-  seen_fits {feed} {o} rings link sound =
-      link_fits feed o (λ l is. subst (λ (f : List Window). Fits f l.session.state) (sym rings)
-      ((sound_in same sound).fit j l (same_default s0.links j None o lt ∙ (sym link ∙ is))))
-
   pub reads_at : {feed : List Window} {o : Option LinkState} (new : Option LinkState) (log mid last : List Happening)
       → feed ≡ s0.intake.feed → o ≡ get_or s0.links j o → HasReceived feed j o new log mid → Closes mid last
       → ReadsFrom (get_or s.links j None) j log last

@@ -24,6 +24,10 @@ pub record IsLost (feed : List Window) (s : State) : Type 0 where
   pub k : ℕ
   pub place : HasLeft feed s.grants k
 
+-- The rings of the places that were granted are the same.
+abbrev pub AreSame : Grants → List Window → List Window → Type 0
+AreSame grants old new = (k : ℕ) (g : Grant) → grant_at grants k ≡ Some g → slice_get new k ≡ slice_get old k
+
 -- Its session is over, and nothing is pending.
 pub record IsOver (l : LinkState) : Type 0 where
   pub closed : l.session.state.phase ≡ Closed

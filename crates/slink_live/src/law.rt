@@ -1,9 +1,10 @@
 //! Laws of what links are sent.
-ghost use Rattle.std.specs.Prelude.{◌≡◌, ◌≢◌, ◌∷◌, ◌++◌, ℕ, List, Option, Some, slice_get};
+ghost use Rattle.std.specs.Prelude.{◌≡◌, ◌≢◌, ◌∷◌, ◌++◌, ℕ, List, Option, Some, length, slice_get};
 ghost use Rattle.slink_wire.specs.Place.{Fields};
 ghost use Rattle.slink_feed.specs.Window.{Shows, Window};
 ghost use Rattle.slink_feed.specs.Serving.{Standing};
-ghost use Rattle.slink_feed.specs.Session.{State};
+ghost use Rattle.slink_feed.specs.Session.{State, sent};
+ghost use Rattle.slink_live.specs.Awake.{AreSame, IsLost};
 ghost use Rattle.slink_live.specs.Fairness.{HasDue, IsAmong, TakesTurns};
 ghost use Rattle.slink_live.specs.Happening.{Happening, input_of, those_of};
 ghost use Rattle.slink_live.specs.Input.{IsFed, IsInput, fed, places_of};
@@ -59,4 +60,12 @@ pub fn in_turns()
     ensures between { (feed : List Window) (s t : State) (place turn k j : ℕ) (mid : List ℕ)
         → TakesTurns feed s place (k ∷ mid) t turn → IsTurn feed t turn k → j ≢ k → HasDue feed t j
         → IsAmong j mid }
+{}
+
+/// What is due to a link is by the rings of the places that it was granted: records of other places change nothing of
+/// it, nor of whether the next record of one of its places left its ring.
+pub fn other_places_change_nothing()
+    ensures due { (old new : List Window) (s : State) (k : ℕ) → length new ≡ length old → AreSame s.grants old new
+        → sent new s k ≡ sent old s k }
+    ensures lost { (old new : List Window) (s : State) → AreSame s.grants old new → IsLost new s → IsLost old s }
 {}

@@ -15,7 +15,7 @@ mod server;
 pub use fault::InputFault;
 pub use law::{
     a_link_is_sent_stretches, each_moment_has_a_story, in_turns, input_in_order,
-    no_other_link_matters,
+    no_other_link_matters, other_places_change_nothing,
 };
 pub use log::Log;
 pub use ready::{Event, Ready, Wishes};
