@@ -13,6 +13,7 @@ pub mod pack;
 pub mod parts;
 pub mod record;
 pub mod repacks;
+pub mod selecting;
 pub mod steim;
 pub mod stream;
 pub mod stretches;

@@ -1,0 +1,56 @@
+//! Calls of `mseed_select`.
+ghost use Rattle.std.specs.Prelude.{◌≡◌};
+ghost use Rattle.mseed_stream.specs.Device.{nothing_read};
+
+use mseed_record::RecordView;
+use mseed_select::{
+    Answer, BadTime, BadWindow, Patterns, SelectFault, Selected, Selector, read_time, select,
+};
+use mseed_stream::{Counted, Sink, Source};
+use mseed_time::Micros;
+use std::alloc::Global;
+
+/// Whether a text is patterns of channels, such as `XX_STA__BH?,IU_ANMO_00_*`.
+pub fn are_patterns(text: &[u8]) -> bool {
+    Patterns::read(text).is_ok()
+}
+
+/// The microseconds from 1970-01-01T00:00:00 to a time, such as `2024-05-14T03:20`.
+pub fn micros_of(word: &[u8]) -> Result<i64, BadTime> {
+    Ok(read_time(word)?.get())
+}
+
+/// What asks for the records of some channels from a time on.
+pub fn from_on(patterns: Patterns<'_>, from: Micros) -> Result<Selector<'_>, BadWindow> {
+    Selector::new(Some(patterns), Some(from), None)
+}
+
+/// Whether a record is asked for.
+pub fn is_wanted(selector: &Selector, view: &RecordView) -> bool {
+    selector.asks_for(view) == Answer::AskedFor
+}
+
+/// The records of a slice that are asked for, one behind another.
+pub fn selected_of(
+    alloc: Global,
+    selector: &Selector,
+    bytes: &[u8],
+) -> Result<Vec<u8>, SelectFault> {
+    let mut source = Counted::new(bytes);
+    let mut sink = Counted::new(Vec::new(alloc));
+    select(alloc, selector, &mut source, &mut sink)?;
+    Ok(sink.into_inner())
+}
+
+/// Writes the records of an archive that are asked for, and answers how many of the channels lack a time.
+pub fn without_time<R: Source, W: Sink>(
+    alloc: Global,
+    selector: &Selector,
+    source: &mut R,
+    sink: &mut W,
+) -> Result<u64, SelectFault>
+    requires { R.read source.old ≡ nothing_read }
+{
+    let selected: Selected = select(alloc, selector, source, sink)?;
+    Ok(selected.without_time)
+}
