@@ -12,10 +12,9 @@ ghost use Rattle.mseed_join.specs.private.Taking.{IsBehindKey, IsLineStep, IsRea
 ghost use Rattle.mseed_join.specs.private.Taking.{passed_by};
 
 use crate::lines::{read_channel_line, read_counts_line, read_fault_line, read_faults_line};
-use crate::numbers::LIMIT;
 use crate::writing::HEADER;
 use mseed_audit::{Channel, Finding};
-use mseed_parts::{JoinFault, Part, joined_in_turn, joining_laws, one_part};
+use mseed_parts::{JoinFault, Part, joined_in_turn, joining_laws, one_part, sum};
 use mseed_record::Codes;
 use mseed_stream::StreamFault;
 use mseed_time::Micros;
@@ -268,11 +267,11 @@ impl<A: Allocator + Copy> Joint<A> {
             None => {}
         }
         match sum(self.so_far.faults, faults) {
-            Some(all) => {
+            Ok(all) => {
                 self.so_far.faults = all;
                 Ok(Reported::Nothing)
             }
-            None => Err(LineFault::Bad),
+            Err(_) => Err(LineFault::Bad),
         }
     }
 
@@ -293,14 +292,14 @@ impl<A: Allocator + Copy> Joint<A> {
             return Ok(Reported::Nothing);
         }
         match sum(self.so_far.faults, 1) {
-            Some(all) => {
+            Ok(all) => {
                 self.so_far.faults = all;
                 Ok(Reported::Passed {
                     part: self.parts,
                     fault,
                 })
             }
-            None => Err(LineFault::Bad),
+            Err(_) => Err(LineFault::Bad),
         }
     }
 }
@@ -315,17 +314,6 @@ fn fault_behind(bytes: u64, fault: &StreamFault) -> StreamFault
         StreamFault::Read(_) => StreamFault::Read(bytes),
         StreamFault::Turns(_) => StreamFault::Turns(bytes),
         StreamFault::Memory => StreamFault::Memory,
-    }
-}
-
-/// A sum that doesn't pass the limit.
-fn sum(a: u64, b: u64) -> Option<u64>
-    ensures value { IfSome result (λ n. (n ≡ a + b) × (a + b < 2 ^ 63)) }
-    ensures none { IfNone result (a + b < 2 ^ 63 → ⊥) }
-{
-    match a.checked_add(b) {
-        Some(n) => { if n <= LIMIT { Some(n) } else { None } }
-        None => None,
     }
 }
 

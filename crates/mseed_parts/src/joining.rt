@@ -14,12 +14,16 @@ use mseed_audit::{Channel, Finding, Findings, Head};
 /// No count, number or offset is larger.
 const LARGEST: u64 = 0x7fff_ffff_ffff_ffff;
 
-/// A number would pass the limit.
-#[derive(Clone, Copy)]
-pub(crate) struct TooLarge;
+/// A sum of two numbers of a part would pass 2^63 - 1.
+#[derive(Clone, Copy, Debug, PartialEq, Eq)]
+pub struct TooLarge;
 
-/// A sum that doesn't pass the limit.
-pub(crate) fn sum(a: u64, b: u64) -> Result<u64, TooLarge>
+/// The sum of two numbers of a part: of records, samples, findings, faults or bytes.
+///
+/// # Errors
+///
+/// `TooLarge` exactly where it would pass 2^63 - 1.
+pub fn sum(a: u64, b: u64) -> Result<u64, TooLarge>
     ensures value { IfOk result (λ n. n ≡ a + b) }
     ensures fits { IsOk result ↔ a + b < 2 ^ 63 }
 {

@@ -6,5 +6,6 @@ mod joining;
 mod law;
 mod part;
 
+pub use joining::{TooLarge, sum};
 pub use law::{findings_add_up, joined_in_turn, joining_laws, one_part, parts_add_up};
 pub use part::{JoinFault, Part};

@@ -1,4 +1,5 @@
 use Rattle.std.proofs.Common.{refl}
+use Rattle.std.proofs.lemmas.Bool.{false≢true}
 use Rattle.mseed_join.proofs.Steps.{fault_kept, fault_passed, fault_refused, fault_skipped, some_behind}
 use Rattle.mseed_join.proofs.joint.Joint.take_fault.Goals as goal
 
@@ -10,12 +11,12 @@ returns-then-not-self g c =
     fault_kept c.args.self.now _ c.if-not-self.true c.in-None.is c.args.fault refl refl
     (some_behind _ _ _ c.args.fault c.fault_behind.ensures c.bytes.ensures) c.args.bytes
 
-pub returns-in-Some-sum : goal.returns-in-Some-sum
-returns-in-Some-sum g c =
-    fault_passed c.args.self.now _ c.if-not-self.false c.in-None.is c.args.fault c.in-Some-sum.ensures.value.1 refl
-    c.in-Some-sum.ensures.value.0 refl c.args.bytes
+pub returns-in-Ok : goal.returns-in-Ok
+returns-in-Ok g c =
+    fault_passed c.args.self.now _ c.if-not-self.false c.in-None.is c.args.fault (c.in-Ok.ensures.fits.0 refl) refl
+    c.in-Ok.ensures.value refl c.args.bytes
 
-pub returns-in-None-sum : goal.returns-in-None-sum
-returns-in-None-sum g c =
+pub returns-in-Err : goal.returns-in-Err
+returns-in-Err g c =
     fault_refused c.joining_laws.ensures.one c.args.self.now c.if-not-self.false c.in-None.is c.args.fault
-    c.in-None-sum.ensures.none c.args.bytes
+    (λ few. false≢true (c.in-Err.ensures.fits.1 few)) c.args.bytes

@@ -1,4 +1,5 @@
 use Rattle.std.proofs.Common.{refl}
+use Rattle.std.proofs.lemmas.Bool.{false≢true}
 use Rattle.mseed_join.proofs.Steps.{faults_added, faults_refused, faults_skipped}
 use Rattle.mseed_join.proofs.joint.Joint.take_faults.Goals as goal
 
@@ -6,11 +7,12 @@ pub returns-in-Some : goal.returns-in-Some
 returns-in-Some g c =
     faults_skipped c.args.self.now _ c.in-Some.is c.args.bytes c.requires c.args.faults
 
-pub returns-in-Some-sum : goal.returns-in-Some-sum
-returns-in-Some-sum g c =
-    faults_added c.args.self.now _ c.in-None.is c.args.bytes c.requires c.args.faults c.in-Some-sum.ensures.value.1 refl
-    c.in-Some-sum.ensures.value.0 refl
+pub returns-in-Ok : goal.returns-in-Ok
+returns-in-Ok g c =
+    faults_added c.args.self.now _ c.in-None.is c.args.bytes c.requires c.args.faults (c.in-Ok.ensures.fits.0 refl) refl
+    c.in-Ok.ensures.value refl
 
-pub returns-in-None-sum : goal.returns-in-None-sum
-returns-in-None-sum g c =
-    faults_refused c.joining_laws.ensures.one c.args.self.now c.in-None.is c.args.faults c.in-None-sum.ensures.none
+pub returns-in-Err : goal.returns-in-Err
+returns-in-Err g c =
+    faults_refused c.joining_laws.ensures.one c.args.self.now c.in-None.is c.args.faults
+    (λ few. false≢true (c.in-Err.ensures.fits.1 few))
