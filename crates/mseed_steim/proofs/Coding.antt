@@ -141,7 +141,8 @@ pushing_past s ds p q head codes index used first says f =
     (subst (λ (c : ℕ). Coding s ds p head c index used (index - 3 - (index - 1) / 16)) whole f.coding) in
     let place : 2 * ((index + 1 - 1) % 16) + 2 ≡ 2 = omega (arith, first) in
     record {
-      coding = subst (λ (w : ℕ). Coding s ds q index (0 * 2 ^ (30 - 2 * ((index + 1 - 1) % 16))) (index + 1) used w) words
+      coding = subst (λ (w : ℕ). Coding s ds q index (0 * 2 ^ (30 - 2 * ((index + 1 - 1) % 16))) (index + 1) used w)
+          words
           (subst (λ (c : ℕ). Coding s ds q index c (index + 1) used (index - 3 - (index - 1) / 16)) none next);
       small = rw place (omega arith);
     }
@@ -197,12 +198,14 @@ pushing_more s ds p q head codes index used code word n new plain room low f ful
     let placed : new * 2 ^ (30 - 2 * (m + 1))
     ≡ bit_or (codes * 2 ^ (30 - 2 * m)) ((code * 2 ^ (30 - 2 * (index % 16))) % 2 ^ 32) =
     rw (place, sum) (pushed_at codes code m f.small low few) in
-    let words : index - 3 - (index - 1) / 16 + 1 ≡ index + 1 - 3 - (index + 1 - 1) / 16 = omega (arith, plain, from) in
-    let coding = coding_more s ds p q head (codes * 2 ^ (30 - 2 * m)) index used (index - 3 - (index - 1) / 16) code word
-    n (new * 2 ^ (30 - 2 * (m + 1))) plain room (pushed_low new (m + 1) small (omega (arith, few))) low f.coding full says
-    placed in
+    let words : index - 3 - (index - 1) / 16 + 1 ≡ index + 1 - 3 - (index + 1 - 1) / 16 =
+    omega (arith, plain, from) in
+    let coding = coding_more s ds p q head (codes * 2 ^ (30 - 2 * m)) index used (index - 3 - (index - 1) / 16) code
+    word n (new * 2 ^ (30 - 2 * (m + 1))) plain room (pushed_low new (m + 1) small (omega (arith, few))) low f.coding
+    full says placed in
     record {
-      coding = subst (λ (w : ℕ). Coding s ds q head (new * 2 ^ (30 - 2 * ((index + 1 - 1) % 16))) (index + 1) (used + n) w)
+      coding = subst (λ (w : ℕ).
+          Coding s ds q head (new * 2 ^ (30 - 2 * ((index + 1 - 1) % 16))) (index + 1) (used + n) w)
           words (subst (λ (i : ℕ). Coding s ds q head (new * 2 ^ (30 - 2 * i)) (index + 1) (used + n)
           (index - 3 - (index - 1) / 16 + 1)) (sym next) coding);
       small = subst (λ (i : ℕ). new < 2 ^ (2 * i + 2)) (sym next) small;

@@ -145,8 +145,8 @@ returns c =
     let used = length ds - length left + c.loop-index.at in
     let words = c.loop-index.index - 3 - (c.loop-index.index - 1) / 16 in
     let filling : Filling s ds c.write_word-2.new.frames c.loop-index.index used words =
-    pushed s ds c.loop-index.frames c.write_word-2.new.frames c.loop-index.head c.loop-index.codes c.loop-index.index used
-    c.codes_to.result c.loop-index.invariant.pushing c.codes_to.ensures c.write_word-2.ensures in
+    pushed s ds c.loop-index.frames c.write_word-2.new.frames c.loop-index.head c.loop-index.codes c.loop-index.index
+    used c.codes_to.result c.loop-index.invariant.pushing c.codes_to.ensures c.write_word-2.ensures in
     let count : word_count c.write_word-2.new.frames ≡ length c.loop-index.frames / 4 =
     omega (arith, c.write_word-2.auto.frames) in
     let long : length left ≡ length ds - (length ds - length left) =
