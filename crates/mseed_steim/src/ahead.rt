@@ -3,7 +3,8 @@
 ghost use Rattle.std.specs.Prelude.{◌≡◌, ◌⊎◌, ◌↔◌, ◌≤◌, ◌<◌, ◌+◌, ℕ, ℤ, List, pos, drop, length, map, slice_index};
 ghost use Rattle.std.specs.Prelude.{slice_index_or};
 ghost use Rattle.std.specs.Simd.Lanes.{Each1};
-ghost use Rattle.mseed_steim.specs.private.Ahead.{near_size, raised, most_one, most_two, most_with};
+ghost use Rattle.mseed_steim.specs.declared.scheme.Scheme.TheVariants.{One, Two};
+ghost use Rattle.mseed_steim.specs.private.Ahead.{near_size, size_of, raised, most_one, most_two, most_with};
 ghost use Rattle.mseed_steim.specs.private.Ahead.{IsAhead, IsMost, Tells};
 
 use crate::scheme::Scheme;
@@ -21,30 +22,89 @@ pub(crate) const ROOM: usize = AHEAD + 16;
 /// By place, the most differences that are held from there on.
 pub(crate) type Most = [u8; ROOM];
 
-/// Half the size of a difference in Steim-1, and its size in Steim-2; 32767 where that is larger.
+/// Half the size of a difference, or 32767 where that is larger.
 #[inline(always)]
-fn near_size(scheme: Scheme, difference: i32) -> u16
-    ensures { result ≡ near_size scheme difference }
+fn half_size(difference: i32) -> u16
+    ensures { result ≡ near_size One difference }
 {
     let size = if difference < 0 {
         !difference
     } else {
         difference
     };
-    match scheme {
-        Scheme::One => (size >> 1).min(32767) as u16,
-        Scheme::Two => size.min(32767) as u16,
+    (size >> 1).min(32767) as u16
+}
+
+/// A difference, or the nearest to it of the numbers of 16 bits.
+#[inline(always)]
+fn cut_off(difference: i32) -> i16
+    ensures { size_of result ≡ near_size Two difference }
+{
+    if difference < -32768 {
+        -32768
+    } else if difference > 32767 {
+        32767
+    } else {
+        difference as i16
     }
 }
 
-/// The sizes of so many differences.
+/// The number, or the one below its opposite where it's negative.
+#[inline(always)]
+fn size_of(number: i16) -> u16
+    ensures { result ≡ size_of number }
+{
+    let size = if number < 0 { !number } else { number };
+    size as u16
+}
+
+/// Half the sizes of so many differences.
+#[inline(always)]
+fn put_half_sizes(diffs: &[i32], sizes: &mut [u16; AHEAD])
+    requires { 64 ≤ length diffs.now }
+    ensures { (i : ℕ) → i < 64 → slice_index sizes.new i ≡ near_size One (slice_index_or diffs.now i (pos 0)) }
+{
+    for index in 0..AHEAD {
+        sizes[index] = half_size(diffs[index]);
+    }
+}
+
+/// So many differences, cut off at 16 bits.
+#[inline(always)]
+fn put_cut(diffs: &[i32], cut: &mut [i16; AHEAD])
+    requires { 64 ≤ length diffs.now }
+    ensures { (i : ℕ) → i < 64
+        → size_of (slice_index_or cut.new i (pos 0)) ≡ near_size Two (slice_index_or diffs.now i (pos 0)) }
+{
+    for index in 0..AHEAD {
+        cut[index] = cut_off(diffs[index]);
+    }
+}
+
+/// The sizes of so many numbers of 16 bits.
+#[inline(always)]
+fn put_each_size(numbers: &[i16; AHEAD], sizes: &mut [u16; AHEAD])
+    ensures { (i : ℕ) → i < 64 → slice_index sizes.new i ≡ size_of (slice_index_or numbers.now i (pos 0)) }
+{
+    for index in 0..AHEAD {
+        sizes[index] = size_of(numbers[index]);
+    }
+}
+
+/// The sizes of so many differences, in Steim-1 half of them; 32767 where that is larger. In Steim-2 the differences
+/// are cut off at 16 bits before anything else, in a loop of their own, so that sizes are found eight at once.
 #[inline(always)]
 fn put_sizes(scheme: Scheme, diffs: &[i32], sizes: &mut [u16; AHEAD])
     requires { 64 ≤ length diffs.now }
     ensures { (i : ℕ) → i < 64 → slice_index sizes.new i ≡ near_size scheme (slice_index_or diffs.now i (pos 0)) }
 {
-    for index in 0..AHEAD {
-        sizes[index] = near_size(scheme, diffs[index]);
+    match scheme {
+        Scheme::One => put_half_sizes(diffs, sizes),
+        Scheme::Two => {
+            let mut cut = [0; AHEAD];
+            put_cut(diffs, &mut cut);
+            put_each_size(&cut, sizes);
+        }
     }
 }
 
@@ -163,8 +223,8 @@ fn look_ahead(scheme: Scheme, diffs: &[i32], most: &mut Most)
     }
 }
 
-/// The most differences that are held from each of the first 57 places on; less than two where nothing is known of them:
-/// at others, and where fewer than 64 differences are left.
+/// The most differences that are held from each of the first 57 places on; less than two where nothing is known of
+/// them: at others, and where fewer than 64 differences are left.
 pub(crate) fn look(scheme: Scheme, diffs: &[i32], most: &mut Most)
     ensures { Tells scheme diffs.now most.new }
 {

@@ -1,0 +1,32 @@
+use Rattle.std.proofs.Common.{◌≡◌, ◌<◌, ◌≤◌, ◌∙◌, ℕ, arith, rules, ap, sym, get_or, pos, length, ⊎_elim}
+use Rattle.std.proofs.Common.{FitsSigned, w16, w32}
+use Rattle.std.proofs.lemmas.Bool.{cases_lt}
+use Rattle.std.proofs.lemmas.Grind.{get_or-set_at}
+use Rattle.std.proofs.lemmas.Int.{to_z-of_z}
+use Rattle.std.proofs.lemmas.List.{get_or-set_other}
+use Rattle.mseed_steim.specs.declared.scheme.Scheme.TheVariants.{Two}
+use Rattle.mseed_steim.specs.private.Ahead.{near_size, size_of}
+use Rattle.mseed_steim.proofs.ahead.put_cut.Goals as goal
+
+pub loop-index-preserved : goal.loop-index-preserved
+loop-index-preserved c =
+    let index = c.loop-index.index in
+    let cut = c.loop-index.cut in
+    let diffs = c.args.diffs.now in
+    let value = c.cut_off.result in
+    let long : length cut ≡ 64 = c.loop-index.invariant.room in
+    let fits : FitsSigned w16 value = search rules in
+    let held : FitsSigned w32 (get_or diffs index (pos 0)) = search rules in
+    let said : size_of value ≡ near_size Two (get_or diffs index (pos 0)) =
+    rw (to_z-of_z w32 (get_or diffs index (pos 0)) held) at c.cut_off.ensures in
+    rw (to_z-of_z w16 value fits) (record {
+      room = search rules;
+      done = λ i h. ⊎_elim
+          (λ (less : i < index). ap size_of (get_or-set_other cut index i value (pos 0) (λ e. omega (arith, e, less)))
+          ∙ c.loop-index.invariant.done i less)
+          (λ (more : index ≤ i).
+          let same : i ≡ index = omega (arith, h, more) in
+          ap size_of (get_or-set_at cut index i value (pos 0) same (omega (arith, long, c.loop-index-test.true)))
+          ∙ said ∙ sym (ap (λ (n : ℕ). near_size Two (get_or diffs n (pos 0))) same))
+          (cases_lt i index);
+    })
