@@ -48,6 +48,11 @@ pub each_at_back : {X : Type 0} (P : X → Type 0) (xs ys : List X) → AllByRec
 each_at_back P [] ys all = all
 each_at_back P (x ∷ xs) ys all = each_at_back P xs ys all.1
 
+pub each_more : {X : Type 0} (P : X → Type 0) (xs : List X) (x : X) → AllByRecursion P xs → P x
+    → AllByRecursion P (xs ++ x ∷ [])
+each_more P [] x all here = (here, tt)
+each_more P (y ∷ ys) x all here = (all.0, each_more P ys x all.1 here)
+
 -- a stretch of sound records
 pub record IsSoundStretch (s : List View) : Type 0 where
   pub stretch : IsStretch s
@@ -179,19 +184,19 @@ made e f c d n m l s k l' s' k' p q r =
     (λ j. ap (λ (x : 7 ≤ e). make e c n x s k) (le_prop l a) ∙ ap (λ (x : e ≤ 12). make e c n a x k) (le_prop s b)
     ∙ ap (λ (x : n < 1_000_000). make e c n a b x) (le_prop k j)) k')) l' s'
 
-one_next : (o a b : Options) (n : ℕ) → IsNumberedOn o n a → IsNumberedOn o n b → a ≡ b
+pub one_next : (o a b : Options) (n : ℕ) → IsNumberedOn o n a → IsNumberedOn o n b → a ≡ b
 one_next o a b n on other =
     made a.exponent b.exponent a.encoding b.encoding a.first_sequence b.first_sequence a.long a.short a.numbered b.long
     b.short b.numbered (on.exponent_is ∙ sym other.exponent_is) (on.encoding_is ∙ sym other.encoding_is)
     (on.sequence_is ∙ sym other.sequence_is)
 
-ends_apart : {X : Type 0} (xs : List X) (x : X) → [] ≡ xs ++ x ∷ [] → ⊥
+pub ends_apart : {X : Type 0} (xs : List X) (x : X) → [] ≡ xs ++ x ∷ [] → ⊥
 ends_apart {X} xs x e =
     let size : 0 ≡ length (xs ++ x ∷ []) = ap (λ (ys : List X). length ys) e in
     let long : length (xs ++ x ∷ []) ≡ length xs + 1 = length-append xs (x ∷ []) in
     omega (arith, size, long)
 
-snoc_one : {X : Type 0} (xs ys : List X) (x y : X) → xs ++ x ∷ [] ≡ ys ++ y ∷ [] → (xs ≡ ys) × (x ≡ y)
+pub snoc_one : {X : Type 0} (xs ys : List X) (x y : X) → xs ++ x ∷ [] ≡ ys ++ y ∷ [] → (xs ≡ ys) × (x ≡ y)
 snoc_one {X} [] [] x y e = (refl, ap (λ (zs : List X). get_or zs 0 x) e)
 snoc_one {X} [] (z ∷ ys) x y e = absurd (ends_apart ys y (ap (λ (zs : List X). drop 1 zs) e))
 snoc_one {X} (z ∷ xs) [] x y e = absurd (ends_apart xs x (sym (ap (λ (zs : List X). drop 1 zs) e)))

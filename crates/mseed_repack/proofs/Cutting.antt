@@ -1,190 +1,128 @@
 -- Records that are cut into stretches, one after another.
-use Rattle.std.proofs.Common.{◌≡◌, ℕ, zero, suc, ◌+◌, ◌-◌, ◌<◌, ◌≤◌, List, [], ◌∷◌, ◌++◌, length, take, drop, map}
-use Rattle.std.proofs.Common.{refl, sym, subst, ◌∙◌, arith}
+use Rattle.std.proofs.Common.{◌≡◌, ℕ, suc, ◌+◌, ◌<◌, ◌≤◌, List, [], ◌∷◌, ◌++◌, length, take, drop, refl, sym, ap}
+use Rattle.std.proofs.Common.{subst, ◌∙◌, arith, append_assoc, length-append}
 use Rattle.std.specs.List.{AllByRecursion}
-use Rattle.std.proofs.lemmas.List.{drop-drop, drop_all, length-drop, take_all}
+use Rattle.std.proofs.lemmas.List.{drop_at, take_at}
 use Rattle.mseed_record.specs.View.{View}
-use Rattle.mseed_record.specs.Viewing.{view_of}
-use Rattle.mseed_record.specs.declared.view.RecordView.{RecordView}
+use Rattle.mseed_audit.specs.Follows.{IsSound}
 use Rattle.mseed_stretches.specs.Clocks.{IsStretchOf}
-use Rattle.mseed_stretches.specs.Stretches.{AreStretches, AreStretchesUpTo, IsFirstStretch}
+use Rattle.mseed_stretches.specs.Stretches.{EndsBefore, GoesOn, IsFirstStretch, IsStretch}
 use Rattle.mseed_stretches.specs.declared.stretch.Stretch.{Stretch}
-use Rattle.mseed_stretches.proofs.Cuts.{one_first, stretches_more}
-use Rattle.mseed_repack.specs.private.Reading.{samples_of, steps_of}
-use Rattle.mseed_repack.specs.private.Restretching.{AreStretchesWithin}
-use Rattle.mseed_repack.proofs.Prefixes.{each_behind, each_leading, steps_between}
+use Rattle.mseed_stretches.proofs.Passing.{stretch_on}
+use Rattle.mseed_repack.specs.private.Planning.{IsBegunBy, IsCut, IsCutUpTo}
+use Rattle.mseed_repack.specs.private.Reading.{samples_of}
 
--- of records those before it are stretches, of each of which something holds, and the others are left
-pub record IsCut (P : List View → Type 0) (rs : List RecordView) (from : ℕ) : Type 0 where
-  pub done : List (List View)
-  pub cut : AreStretchesUpTo (map view_of rs) done (map view_of (drop from rs))
-  pub each : AllByRecursion P done
-  pub inside : from ≤ length rs
+-- what is kept of the first of some records tells how it begins
+pub begun : (s : Stretch) (vs rest : List View) (v : View) → vs ≡ v ∷ rest → IsStretchOf s (v ∷ []) → IsBegunBy s vs
+begun s vs rest v e h = subst (λ (us : List View). IsBegunBy s us) (sym e) h
 
-pub cut_none : (P : List View → Type 0) (rs : List RecordView) → IsCut P rs 0
-cut_none P rs = record { done = []; cut = refl; each = tt; inside = omega arith }
+-- the stretches so far are cut, this one goes on, and these records are left
+pub record IsCutSo (most : ℕ) (ns : List ℕ) (all left : List View) (s : Stretch) : Type 0 where
+  pub own : List View
+  pub cut : IsCutUpTo most ns all (own ++ left)
+  pub stretch : IsStretch own
+  pub kept : IsStretchOf s own
+  pub inside : length own + length left ≤ length all
+  pub sound : AllByRecursion IsSound left
 
-pub each_more : (P : List View → Type 0) (ss : List (List View)) (s : List View) → AllByRecursion P ss → P s
-    → AllByRecursion P (ss ++ s ∷ [])
-each_more P [] s all one = (one, tt)
-each_more P (t ∷ ts) s all one = (all.0, each_more P ts s all.1 one)
+counted : (s : Stretch) (vs : List View) → IsStretchOf s vs → (s.records ≡ length vs) × (s.samples ≡ samples_of vs)
+counted s [] is = absurd is
+counted s (v ∷ vs) is = (is.records_is, is.samples_is)
 
--- the stretch that was cut from those that are left
-abbrev pub IsNextCut : List RecordView → ℕ → ℕ → Type 0
-IsNextCut rs from n =
-    IsFirstStretch (map view_of (drop from rs)) (map view_of (take n (drop from rs)))
-    (map view_of (drop n (drop from rs)))
-
-behind_it : (rs : List RecordView) (from n : ℕ) → drop n (drop from rs) ≡ drop (from + n) rs
-behind_it rs from n = drop-drop n from rs
-
--- what a slice from an index on is
-abbrev pub behind : List RecordView → ℕ → List RecordView
-behind rs from = take (length rs - from) (drop from rs)
-
-pub behind_is : (rs : List RecordView) (from : ℕ) → behind rs from ≡ drop from rs
-behind_is rs from =
-    let long = length-drop from rs in
-    take_all (length rs - from) (drop from rs) (omega (arith, long))
-
--- what holds of each record holds of those of a slice, and of those of its stretch
-pub each_sliced : (P : View → Type 0) (rs : List RecordView) (from : ℕ) → AllByRecursion P (map view_of rs)
-    → AllByRecursion P (map view_of (behind rs from))
-each_sliced P rs from all =
-    subst (λ (qs : List RecordView). AllByRecursion P (map view_of qs)) (sym (behind_is rs from))
-    (each_behind P rs from all)
-
-pub each_cut : (P : View → Type 0) (rs : List RecordView) (from n : ℕ) → AllByRecursion P (map view_of rs)
-    → AllByRecursion P (map view_of (take n (behind rs from)))
-each_cut P rs from n all = each_leading P (behind rs from) n (each_sliced P rs from all)
-
-pub steps_cut : (rs : List RecordView) (from n room : ℕ) → steps_of (map view_of rs) ≤ room
-    → steps_of (map view_of (take n (behind rs from))) ≤ room
-steps_cut rs from n room le =
-    subst (λ (qs : List RecordView). steps_of (map view_of (take n qs)) ≤ room) (sym (behind_is rs from))
-    (let most = steps_between rs from n in omega (arith, most, le))
-
-pub some_sliced : (rs : List RecordView) (from : ℕ) → from < length rs → 0 < length (behind rs from)
-some_sliced rs from lt =
-    subst (λ (qs : List RecordView). 0 < length qs) (sym (behind_is rs from))
-    (let long = length-drop from rs in omega (arith, lt, long))
-
-pub few_sliced : (rs : List RecordView) (from most : ℕ) → length rs ≤ most → length (behind rs from) ≤ most
-few_sliced rs from most le =
-    subst (λ (qs : List RecordView). length qs ≤ most) (sym (behind_is rs from))
-    (let long = length-drop from rs in omega (arith, le, long))
-
-pub inside_sliced : (rs : List RecordView) (from n : ℕ) → n ≤ length (behind rs from) → n ≤ length (drop from rs)
-inside_sliced rs from n le = subst (λ (qs : List RecordView). n ≤ length qs) (behind_is rs from) le
-
--- the records of its stretch
-pub of_cut : (P : List View → Type 0) (rs : List RecordView) (from n : ℕ) → P (map view_of (take n (behind rs from)))
-    → P (map view_of (take n (drop from rs)))
-of_cut P rs from n one = subst (λ (qs : List RecordView). P (map view_of (take n qs))) (behind_is rs from) one
-
-pub cut_of : (P : List View → Type 0) (rs : List RecordView) (from n : ℕ) → P (map view_of (take n (drop from rs)))
-    → P (map view_of (take n (behind rs from)))
-cut_of P rs from n one = subst (λ (qs : List RecordView). P (map view_of (take n qs))) (sym (behind_is rs from)) one
-
--- the stretch of a slice
-abbrev pub IsFirstCut : List RecordView → ℕ → Type 0
-IsFirstCut qs n = IsFirstStretch (map view_of qs) (map view_of (take n qs)) (map view_of (drop n qs))
-
-pub sliced : (rs : List RecordView) (from n : ℕ) → IsFirstCut (behind rs from) n → IsNextCut rs from n
-sliced rs from n first = subst (λ (qs : List RecordView). IsFirstCut qs n) (behind_is rs from) first
-
-pub cut_next : (rs : List RecordView) (from n : ℕ) (done : List (List View))
-    → AreStretchesUpTo (map view_of rs) done (map view_of (drop from rs)) → IsNextCut rs from n
-    → AreStretchesUpTo (map view_of rs) (done ++ map view_of (take n (drop from rs)) ∷ [])
-    (map view_of (drop (from + n) rs))
-cut_next rs from n done cut first =
-    subst (λ (qs : List RecordView). AreStretchesUpTo (map view_of rs)
-    (done ++ map view_of (take n (drop from rs)) ∷ []) (map view_of qs)) (behind_it rs from n)
-    (stretches_more (map view_of rs) done (map view_of (take n (drop from rs))) (map view_of (drop from rs))
-    (map view_of (drop n (drop from rs))) cut first)
-
-pub inside_next : (rs : List RecordView) (from n : ℕ) → from ≤ length rs → n ≤ length (drop from rs)
-    → from + n ≤ length rs
-inside_next rs from n inside le = let long = length-drop from rs in omega (arith, inside, le, long)
-
-pub cut_more : (P : List View → Type 0) (rs : List RecordView) (from n : ℕ) → IsCut P rs from → IsNextCut rs from n
-    → n ≤ length (drop from rs) → P (map view_of (take n (drop from rs))) → IsCut P rs (from + n)
-cut_more P rs from n h first le one = record {
-  done = h.done ++ map view_of (take n (drop from rs)) ∷ [];
-  cut = cut_next rs from n h.done h.cut first;
-  each = each_more P h.done (map view_of (take n (drop from rs))) h.each one;
-  inside = inside_next rs from n h.inside le;
+pub cut_first : {all left : List View} {v : View} {s : Stretch} → all ≡ v ∷ left → AllByRecursion IsSound all
+    → IsStretchOf s (v ∷ []) → IsCutSo 0 [] all left s
+cut_first {all = all} {left = left} {v = v} e sound kept = record {
+  own = v ∷ [];
+  cut = e;
+  stretch = tt;
+  kept = kept;
+  inside = let size : length all ≡ suc (length left) = ap (λ (vs : List View). length vs) e in omega (arith, size);
+  sound = (subst (λ (vs : List View). AllByRecursion IsSound vs) e sound).1;
 }
 
--- a stretch has a record
-pub some_cut : (rs : List RecordView) (from n : ℕ) → IsNextCut rs from n → 0 < n
-some_cut rs from zero first = absurd first.stretch
-some_cut rs from (suc n) first = omega arith
+-- there is room to count one more
+pub few_more : {most : ℕ} {ns : List ℕ} {all left rest : List View} {s : Stretch} {v : View}
+    → IsCutSo most ns all left s → left ≡ v ∷ rest → s.records < length all
+few_more {left = left} {rest = rest} {s = s} h e =
+    let size : length left ≡ suc (length rest) = ap (λ (vs : List View). length vs) e in
+    let count = (counted s h.own h.kept).0 in
+    let inside = h.inside in
+    omega (arith, size, count, inside)
 
--- none is left
-pub cut_whole : (rs : List RecordView) (from : ℕ) (done : List (List View)) → length rs ≤ from
-    → AreStretchesUpTo (map view_of rs) done (map view_of (drop from rs)) → AreStretches (map view_of rs) done
-cut_whole rs from done le cut =
-    subst (λ (qs : List RecordView). AreStretchesUpTo (map view_of rs) done (map view_of qs)) (drop_all from rs le) cut
+pub sound_next : {most : ℕ} {ns : List ℕ} {all left rest : List View} {s : Stretch} {v : View}
+    → IsCutSo most ns all left s → left ≡ v ∷ rest → IsSound v
+sound_next h e = (subst (λ (vs : List View). AllByRecursion IsSound vs) e h.sound).0
 
--- nothing has no stretch
-none_first : (s rest : List View) → IsFirstStretch [] s rest → ⊥
-none_first [] rest first = first.stretch
-none_first (v ∷ s) rest first = let e : [] ≡ v ∷ (s ++ rest) = first.parts in cc
+-- the next record goes on with it
+pub cut_on : {most : ℕ} {ns : List ℕ} {all left rest : List View} {s new : Stretch} {v : View}
+    → (h : IsCutSo most ns all left s) → left ≡ v ∷ rest → GoesOn h.own v → IsStretchOf new (h.own ++ v ∷ [])
+    → IsCutSo most ns all rest new
+cut_on {most = most} {ns = ns} {all = all} {left = left} {rest = rest} {v = v} h e go kept = record {
+  own = h.own ++ v ∷ [];
+  cut = subst (λ (vs : List View). IsCutUpTo most ns all vs)
+      (ap (λ (vs : List View). h.own ++ vs) e ∙ sym (append_assoc h.own (v ∷ []) rest)) h.cut;
+  stretch = stretch_on h.own v h.stretch go;
+  kept = kept;
+  inside =
+      let size : length left ≡ suc (length rest) = ap (λ (vs : List View). length vs) e in
+      let long = length-append h.own (v ∷ []) in
+      let inside = h.inside in
+      omega (arith, size, long, inside);
+  sound = (subst (λ (vs : List View). AllByRecursion IsSound vs) e h.sound).1;
+}
 
--- what holds of each stretch of records holds of any that is cut from them
-pub at_stretch : (P : List View → Type 0) (vs : List View) (ss : List (List View)) → AreStretches vs ss
-    → AllByRecursion P ss → (before : List (List View)) (left s rest : List View) → AreStretchesUpTo vs before left
-    → IsFirstStretch left s rest → P s
-at_stretch P vs [] are all [] left s rest cut first =
-    absurd (none_first s rest (subst (λ (us : List View). IsFirstStretch us s rest) (sym cut ∙ are) first))
-at_stretch P vs (t ∷ ts) (more, (begin, are)) all [] left s rest cut first =
-    let same = one_first vs t s more rest begin
-    (subst (λ (us : List View). IsFirstStretch us s rest) (sym cut) first) in
-    subst P same.0 all.0
-at_stretch P vs [] are all (b ∷ bs) left s rest (next, (begin, cut)) first =
-    absurd (none_first b next (subst (λ (us : List View). IsFirstStretch us b next) are begin))
-at_stretch P vs (t ∷ ts) (more, (begin, are)) all (b ∷ bs) left s rest (next, (start, cut)) first =
-    let same = one_first vs t b more next begin start in
-    at_stretch P more ts are all.1 bs left s rest
-    (subst (λ (us : List View). AreStretchesUpTo us bs left) (sym same.1) cut) first
+-- one more stretch behind those that were cut
+upto_more : (most n : ℕ) (ns : List ℕ) (vs left : List View) → IsCutUpTo most ns vs left
+    → IsFirstStretch left (take n left) (drop n left) → samples_of (take n left) ≤ most
+    → IsCutUpTo most (ns ++ n ∷ []) vs (drop n left)
+upto_more most n [] vs left e first few =
+    subst (λ (us : List View). IsCutUpTo most (n ∷ []) us (drop n left)) (sym e) (first, few, refl)
+upto_more most n (m ∷ ns) vs left (begin, less, more) first few =
+    (begin, less, upto_more most n ns (drop m vs) left more first few)
 
--- the most samples of a stretch
+upto_within : (most next : ℕ) (ns : List ℕ) (vs left : List View) → most ≤ next → IsCutUpTo most ns vs left
+    → IsCutUpTo next ns vs left
+upto_within most next [] vs left le e = e
+upto_within most next (n ∷ ns) vs left le (first, few, more) =
+    (first, omega (arith, few, le), upto_within most next ns (drop n vs) left le more)
 
-within_more : (most next : ℕ) → most ≤ next → (ss : List (List View))
-    → AllByRecursion (λ (s : List View). samples_of s ≤ most) ss
-    → AllByRecursion (λ (s : List View). samples_of s ≤ next) ss
-within_more most next le [] all = tt
-within_more most next le (s ∷ ss) all = let one = all.0 in (omega (arith, one, le), within_more most next le ss all.1)
+ended : {most next : ℕ} {ns : List ℕ} {all left : List View} {s : Stretch} → (h : IsCutSo most ns all left s)
+    → EndsBefore h.own left → most ≤ next → s.samples ≤ next → IsCutUpTo next (ns ++ s.records ∷ []) all left
+ended {most = most} {next = next} {ns = ns} {all = all} {left = left} {s = s} h ends le few =
+    let own : List View = h.own in
+    let n : ℕ = s.records in
+    let count = counted s own h.kept in
+    let front : take n (own ++ left) ≡ own = take_at own left n (sym count.0) in
+    let back : drop n (own ++ left) ≡ left = drop_at own left n (sym count.0) in
+    let size : samples_of (take n (own ++ left)) ≡ samples_of own = ap samples_of front in
+    let first : IsFirstStretch (own ++ left) own left = record { stretch = h.stretch; parts = refl; ends = ends } in
+    subst (λ (us : List View). IsCutUpTo next (ns ++ n ∷ []) all us) back
+    (upto_more next n ns all (own ++ left) (upto_within most next ns all (own ++ left) le h.cut)
+    (subst (λ (us : List View). IsFirstStretch (own ++ left) us (drop n (own ++ left))) (sym front)
+    (subst (λ (us : List View). IsFirstStretch (own ++ left) own us) (sym back) first))
+    (omega (arith, size, count.1, few)))
 
-pub room_next : (rs : List RecordView) (from n most next : ℕ) → IsCut (λ (s : List View). samples_of s ≤ most) rs from
-    → IsNextCut rs from n → n ≤ length (drop from rs) → most ≤ next
-    → samples_of (map view_of (take n (drop from rs))) ≤ next
-    → IsCut (λ (s : List View). samples_of s ≤ next) rs (from + n)
-room_next rs from n most next h first le more one =
-    cut_more (λ (s : List View). samples_of s ≤ next) rs from n (record {
-      done = h.done;
-      cut = h.cut;
-      each = within_more most next more h.done h.each;
-      inside = h.inside;
-    }) first le one
+-- the next record begins another
+pub cut_off : {most next : ℕ} {ns : List ℕ} {all left rest : List View} {s new : Stretch} {v : View}
+    → (h : IsCutSo most ns all left s) → left ≡ v ∷ rest → ¬ (GoesOn h.own v) → most ≤ next → s.samples ≤ next
+    → IsStretchOf new (v ∷ []) → IsCutSo next (ns ++ s.records ∷ []) all rest new
+cut_off {next = next} {ns = ns} {all = all} {left = left} {rest = rest} {s = s} {v = v} h e stops le few kept =
+    record {
+      own = v ∷ [];
+      cut = subst (λ (vs : List View). IsCutUpTo next (ns ++ s.records ∷ []) all vs) e
+          (ended h (subst (λ (vs : List View). EndsBefore h.own vs) (sym e) stops) le few);
+      stretch = tt;
+      kept = kept;
+      inside =
+          let size : length left ≡ suc (length rest) = ap (λ (vs : List View). length vs) e in
+          let inside = h.inside in
+          omega (arith, size, inside);
+      sound = (subst (λ (vs : List View). AllByRecursion IsSound vs) e h.sound).1;
+    }
 
-pub within_is : (rs : List RecordView) (from most : ℕ) → length rs ≤ from
-    → IsCut (λ (s : List View). samples_of s ≤ most) rs from → AreStretchesWithin most (map view_of rs)
-within_is rs from most le h = λ before left s rest cut first.
-    at_stretch (λ (t : List View). samples_of t ≤ most) (map view_of rs) h.done (cut_whole rs from h.done le h.cut)
-    h.each before left s rest cut first
-
-pub samples_kept : (s : Stretch) (vs : List View) → IsStretchOf s vs → s.samples ≡ samples_of vs
-samples_kept s [] is = absurd is
-samples_kept s (v ∷ vs) is = is.samples_is
-
--- there is room for the stretch that is cut next
-pub room_cut : (rs : List RecordView) (from n most room : ℕ) (done : List (List View))
-    → AreStretchesUpTo (map view_of rs) done (map view_of (drop from rs)) → IsNextCut rs from n
-    → AreStretchesWithin most (map view_of rs) → most ≤ room
-    → samples_of (map view_of (take n (behind rs from))) ≤ room
-room_cut rs from n most room done cut first within le =
-    let one = within done (map view_of (drop from rs)) (map view_of (take n (drop from rs)))
-    (map view_of (drop n (drop from rs))) cut first in
-    cut_of (λ (s : List View). samples_of s ≤ room) rs from n (omega (arith, one, le))
+-- or none is left
+pub cut_last : {most next : ℕ} {ns : List ℕ} {all left : List View} {s : Stretch} → (h : IsCutSo most ns all left s)
+    → left ≡ [] → most ≤ next → s.samples ≤ next → IsCut next (ns ++ s.records ∷ []) all
+cut_last {next = next} {ns = ns} {all = all} {s = s} h e le few =
+    subst (λ (vs : List View). IsCutUpTo next (ns ++ s.records ∷ []) all vs) e
+    (ended h (subst (λ (vs : List View). EndsBefore h.own vs) (sym e) tt) le few)

@@ -9,11 +9,9 @@ pub mod Outlines
 pub mod Judged
 pub mod Written
 pub mod ReadBack
-pub mod Prefixes
-pub mod Cutting
-pub mod Lengths
 pub mod Stretched
-pub mod Restretched
+pub mod Planning
+pub mod Cutting
 pub mod Walks
 pub mod Archives
 pub mod Standings

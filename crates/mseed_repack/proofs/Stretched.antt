@@ -13,7 +13,7 @@ use Rattle.mseed_pack.specs.declared.options.Options.{Options}
 use Rattle.mseed_repack.specs.Repack.{StretchFits, StretchMisfits}
 use Rattle.mseed_repack.specs.Restretch.{IsNumberedOn}
 use Rattle.mseed_repack.specs.private.Reading.{AreOf}
-use Rattle.mseed_repack.specs.private.Restretching.{IsBegunBy}
+use Rattle.mseed_repack.specs.private.Planning.{IsBegunBy}
 
 pub series_is : (s : Stretch) (vs : List View) (xs : List ℤ) (ss : List (ℕ × LeapStep)) → IsBegunBy s vs
     → AreOf s.codes vs xs ss

@@ -1,12 +1,10 @@
 -- Records that a walk has gone over.
 use Rattle.std.proofs.Common.{◌≡◌, ℕ, ◌+◌, ◌≤◌, ℤ, List, [], ◌∷◌, ◌++◌, length, refl, sym, ap, subst, ◌∙◌, arith}
-use Rattle.std.proofs.Common.{append_assoc, append-nil, length-append, map, set, take, ◌<◌}
+use Rattle.std.proofs.Common.{append_assoc, append-nil, drop, ◌-◌, ◌<◌}
 use Rattle.std.specs.List.{AllByRecursion}
-use Rattle.std.proofs.lemmas.List.{map-append, take_more_set}
+use Rattle.std.proofs.lemmas.List.{drop-drop, drop_all}
 use Rattle.mseed_time.specs.declared.outcome.LeapStep.{LeapStep}
 use Rattle.mseed_record.specs.View.{View}
-use Rattle.mseed_record.specs.Viewing.{view_of}
-use Rattle.mseed_record.specs.declared.view.RecordView.{RecordView}
 use Rattle.mseed_steim.specs.Reading.{count_of}
 use Rattle.mseed_repack.specs.private.Reading.{samples_of, step_count, steps_of}
 use Rattle.mseed_repack.specs.declared.outline.Nearness.{Nearness}
@@ -75,10 +73,6 @@ pub steps_so_far : {P : List View → Type 0} {all rest : List View} {v : View} 
     → steps_of h.gone + step_count v ≤ steps_of all
 steps_so_far h = omega (arith, so_far steps_of steps_append h)
 
-pub count_so_far : {P : List View → Type 0} {all rest : List View} {v : View} → (h : IsNext P all v rest)
-    → length h.gone + 1 ≤ length all
-count_so_far h = omega (arith, so_far (λ vs. length vs) (λ us vs. length-append us vs) h)
-
 -- what is read, and what is known, of the records that were gone over, whatever their key is
 abbrev pub AreReadSo : ℕ → ℕ → List ℤ → List (ℕ × LeapStep) → List View → Type 0
 AreReadSo m k samples steps vs = (key : List ℕ) → IsRead key vs m k samples steps
@@ -86,19 +80,13 @@ AreReadSo m k samples steps vs = (key : List ℕ) → IsRead key vs m k samples 
 abbrev pub AreOutlinedSo : ℕ → ℕ → Nearness → List (ℕ × LeapStep) → List View → Type 0
 AreOutlinedSo m k nearness steps vs = (key : List ℕ) → IsOutlined key vs m k nearness steps
 
--- they were put into a list
-pub record AreGatheredSo (count : ℕ) (out : List RecordView) (vs : List View) : Type 0 where
-  pub records : map view_of (take count out) ≡ vs
-  pub count_is : count ≡ length vs
+-- what is left behind so many records
+pub dropped_more : (t : ℕ) (vs rest : List View) (v : View) → drop t vs ≡ v ∷ rest → rest ≡ drop (t + 1) vs
+dropped_more t vs rest v e = ap (λ (ws : List View). drop 1 ws) (sym e) ∙ drop-drop 1 t vs
 
-pub gathered_none : (out : List RecordView) → AreGatheredSo 0 out []
-gathered_none out = record { records = refl; count_is = refl }
-
-pub gathered_more : (count : ℕ) (r : RecordView) (out : List RecordView) (vs : List View) → count < length out
-    → AreGatheredSo count out vs → AreGatheredSo (count + 1) (set out count r) (vs ++ view_of r ∷ [])
-gathered_more count r out vs room h = record {
-  records = ap (λ (qs : List RecordView). map view_of qs) (take_more_set out count r room)
-      ∙ map-append view_of (take count out) (r ∷ [])
-      ∙ ap (λ (us : List View). us ++ view_of r ∷ []) h.records;
-  count_is = let long = length-append vs (view_of r ∷ []) in omega (arith, long, h.count_is);
-}
+pub dropped_all : (t n : ℕ) (vs : List View) → t < n → drop t vs ≡ [] → drop n vs ≡ []
+dropped_all t n vs lt e =
+    let behind : ℕ = n - t in
+    let same : n ≡ t + behind = omega (arith, lt) in
+    ap (λ (m : ℕ). drop m vs) same ∙ sym (drop-drop behind t vs) ∙ ap (λ (ws : List View). drop behind ws) e
+    ∙ drop_all behind [] (omega arith)

@@ -118,19 +118,14 @@ pub record IsPackedInPart (o : Options) (vs : List View) (text : List ℕ) : Typ
   pub taken : ℕ
   pub text_is : text ≡ take taken (concat records)
 
--- the texts of the first things, and of the next one's a part
-pub record IsTextUpTo {X : Type 0} (Own Part : X → List ℕ → Type 0) (xs : List X) (text : List ℕ) : Type 0 where
-  pub prefix : List X
-  pub next : X
-  pub back : List X
-  pub parts : xs ≡ prefix ++ next ∷ back
-  pub before : List ℕ
-  pub packed : AreTexts Own prefix before
-  pub own : List ℕ
-  pub part : Part next own
-  pub text_is : text ≡ before ++ own
+-- or those of the first ones, and a part of the next one's
+abbrev pub IsTextUpTo : {X : Type 0} → (X → List ℕ → Type 0) → (X → List ℕ → Type 0) → List X → List ℕ → Type 0
+IsTextUpTo Own Part [] text = ⊥
+IsTextUpTo Own Part (x ∷ xs) text =
+    Part x text
+    ⊎ ((own : List ℕ) × ((rest : List ℕ) × ((text ≡ own ++ rest) × Own x own × IsTextUpTo Own Part xs rest)))
 
--- the same of the records that their series are packed into
+-- of those records a part
 abbrev pub IsPartPacked : Options → List View → List Channel → List ℕ → Type 0
 IsPartPacked o views channels text =
     IsTextUpTo (λ (c : Channel) own. IsSeriesText o (records_in views c.0) own)

@@ -2,7 +2,7 @@
 pub mod Archives
 pub mod Judging
 pub mod Outline
+pub mod Planning
 pub mod Reading
-pub mod Repacking
 pub mod Restretching
 pub mod Trails

@@ -3,7 +3,8 @@ ghost use Rattle.std.specs.Prelude.{◌≡◌, ◌↔◌, ◌≤◌, ◌^◌, Is
 ghost use Rattle.std.specs.List.{AllByRecursion};
 ghost use Rattle.mseed_record.specs.Viewing.{view_of};
 ghost use Rattle.mseed_audit.specs.Follows.{IsSound};
-ghost use Rattle.mseed_repack.specs.private.Restretching.{AreCutInto, AreLengths, AreStretchesWithin};
+ghost use Rattle.mseed_stretches.specs.Stretches.{AreStretches};
+ghost use Rattle.mseed_repack.specs.private.Planning.{IsCut, IsReadable, stretches_by};
 ghost use Rattle.mseed_repack.specs.Restretch.{IsChannelRepacking};
 
 use crate::channel_fault::ChannelFault;
@@ -12,6 +13,7 @@ use crate::numbering::pack_stretches;
 use crate::reading::count_steps;
 use crate::room::room_for;
 use crate::stretching::cut_stretches;
+use crate::walk::{Row, Walk};
 use mseed_pack::{Options, Packer};
 use mseed_record::RecordView;
 use mseed_stream::Sink;
@@ -38,11 +40,12 @@ pub fn repack_channel<A: Allocator + Copy, W: Sink>(
     ensures { IsChannelRepacking options.now (map view_of records.now) result
         (W.written output.old) (W.written output.new) }
 {
-    if !are_sound(records) {
+    let row = Row { records, index: 0 };
+    if !are_sound(row) {
         return Err(ChannelFault::Broken);
     }
     let mut lengths = Vec::new(alloc);
-    match cut_stretches(records, &mut lengths) {
+    match cut_stretches(row, &mut lengths) {
         Ok(most) => repack_cut(alloc, records, &lengths, most, options, output),
         Err(_) => Err(ChannelFault::Memory),
     }
@@ -57,16 +60,14 @@ fn repack_cut<A: Allocator + Copy, W: Sink>(
     options: &Options,
     output: &mut W,
 ) -> Result<(), ChannelFault>
-    requires few { length records.now ≤ 2 ^ 40 }
     requires sound { AllByRecursion IsSound (map view_of records.now) }
-    requires lengths { AreLengths lengths.now (map view_of records.now) }
-    requires most { AreStretchesWithin most (map view_of records.now) }
+    requires cut { IsCut most lengths.now (map view_of records.now) }
     ensures { IsChannelRepacking options.now (map view_of records.now) result
         (W.written output.old) (W.written output.new) }
 {
     match room_for(alloc, most, count_steps(records)) {
         Ok(mut room) => repack_within(
-            records,
+            Row { records, index: 0 },
             lengths,
             options,
             &mut room.samples,
@@ -77,18 +78,21 @@ fn repack_cut<A: Allocator + Copy, W: Sink>(
     }
 }
 
-/// The same with lists that have room for the samples of one stretch and for the leap seconds of all.
-fn repack_within<W: Sink>(
-    records: &[RecordView],
+/// The same with lists that have room for the samples and leap seconds of each stretch.
+fn repack_within<'a, R: Walk<'a>, W: Sink>(
+    records: R,
     lengths: &[usize],
     options: &Options,
     samples: &mut [i32],
     steps: &mut [(u64, LeapStep)],
     output: &mut W,
 ) -> Result<(), ChannelFault>
-    requires { AreCutInto lengths.now (map view_of records.now) (length samples.old) (length steps.old) }
-    ensures { IsChannelRepacking options.now (map view_of records.now) result
-        (W.written output.old) (W.written output.new) }
+    requires led { R.leads records }
+    requires sound { AllByRecursion IsSound (R.left records) }
+    requires are { AreStretches (R.left records) (stretches_by lengths.now (R.left records)) }
+    requires readable { AllByRecursion (IsReadable (length samples.old) (length steps.old))
+        (stretches_by lengths.now (R.left records)) }
+    ensures { IsChannelRepacking options.now (R.left records) result (W.written output.old) (W.written output.new) }
 {
     match fit_stretches(records, lengths, options, samples, steps) {
         Ok(()) => {}
@@ -110,11 +114,13 @@ fn repack_within<W: Sink>(
 }
 
 /// Whether each of some records is sound.
-pub(crate) fn are_sound(records: &[RecordView]) -> bool
-    ensures { IsTrue result ↔ AllByRecursion IsSound (map view_of records.now) }
+pub(crate) fn are_sound<'a, R: Walk<'a>>(records: R) -> bool
+    requires { R.leads records }
+    ensures { IsTrue result ↔ AllByRecursion IsSound (R.left records) }
 {
-    for view in records {
-        if !is_sound_record(view) {
+    let mut rest = records;
+    while let Some(view) = rest.next() {
+        if !is_sound_record(&view) {
             return false;
         }
     }

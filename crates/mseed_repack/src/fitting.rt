@@ -1,13 +1,12 @@
 //! Whether the stretches of a channel can be packed.
-ghost use Rattle.std.specs.Prelude.{length, map, IfErr, OnOk};
-ghost use Rattle.mseed_record.specs.Viewing.{view_of};
-ghost use Rattle.mseed_repack.specs.private.Restretching.{AreCutInto};
-ghost use Rattle.mseed_repack.specs.Restretch.{ChannelFits, ChannelMisfits};
+ghost use Rattle.std.specs.Prelude.{length, IfErr, OnOk};
+ghost use Rattle.std.specs.List.{AllByRecursion};
+ghost use Rattle.mseed_repack.specs.Repack.{StretchFits};
+ghost use Rattle.mseed_repack.specs.private.Planning.{IsFirstMisfit, IsReadable, stretches_by};
 
 use crate::series::fit_series;
-use crate::walk::Row;
+use crate::walk::{Part, Walk, behind};
 use mseed_pack::{Options, PackFault};
-use mseed_record::RecordView;
 use mseed_time::LeapStep;
 
 /// The first stretch of a channel that can't be packed: its number, from 1, and why.
@@ -17,39 +16,39 @@ pub(crate) struct Misfit {
     pub(crate) fault: PackFault,
 }
 
-/// Whether each stretch of a channel's records can be packed, by how many records each has. Each record is sound, and
-/// there is room for the samples of one stretch and for the leap seconds of all.
-pub(crate) fn fit_stretches(
-    records: &[RecordView],
+/// Whether each stretch of a channel's records can be packed, by how many records each has. There is room for the
+/// samples and for the leap seconds of each.
+pub(crate) fn fit_stretches<'a, R: Walk<'a>>(
+    records: R,
     lengths: &[usize],
     options: &Options,
     samples: &mut [i32],
     steps: &mut [(u64, LeapStep)],
 ) -> Result<(), Misfit>
-    requires { AreCutInto lengths.now (map view_of records.now) (length samples.old) (length steps.old) }
-    ensures ok { OnOk result (ChannelFits options.now (map view_of records.now)) }
-    ensures err { IfErr result (λ misfit.
-        ChannelMisfits options.now misfit.number misfit.fault (map view_of records.now)) }
+    requires led { R.leads records }
+    requires readable { AllByRecursion (IsReadable (length samples.old) (length steps.old))
+        (stretches_by lengths.now (R.left records)) }
+    ensures ok { OnOk result (AllByRecursion (StretchFits options.now) (stretches_by lengths.now (R.left records))) }
+    ensures err { IfErr result (λ misfit. IsFirstMisfit options.now misfit.number misfit.fault
+        (stretches_by lengths.now (R.left records))) }
 {
-    let mut from = 0;
+    let mut rest = records;
     for (number, count) in lengths.iter().enumerate() {
-        let stretch = &records[from..][..*count];
-        match fit_series(
-            Row {
-                records: stretch,
-                index: 0,
-            },
-            options,
-            samples,
-            steps,
-        ) {
+        let stretch = Part {
+            rest,
+            count: *count,
+        };
+        match fit_series(stretch, options, samples, steps) {
             Ok(()) => {}
             Err(fault) => return Err(Misfit {
                 number: number as u64 + 1,
                 fault,
             }),
         }
-        from += *count;
+        if number + 1 == lengths.len() {
+            return Ok(());
+        }
+        rest = behind(rest, *count);
     }
     Ok(())
 }

@@ -1,14 +1,13 @@
 //! Packing a channel stretch by stretch, with sequence numbers that run on.
-ghost use Rattle.std.specs.Prelude.{length, map, IfErr, OnOk};
-ghost use Rattle.mseed_record.specs.Viewing.{view_of};
-ghost use Rattle.mseed_repack.specs.private.Restretching.{AreCutInto};
-ghost use Rattle.mseed_repack.specs.Repack.{Wrote};
-ghost use Rattle.mseed_repack.specs.Restretch.{ChannelFits, IsChannelPart, IsChannelText, IsNumberedOn};
+ghost use Rattle.std.specs.Prelude.{length, IfErr, OnOk};
+ghost use Rattle.std.specs.List.{AllByRecursion};
+ghost use Rattle.mseed_repack.specs.Repack.{StretchFits, Wrote};
+ghost use Rattle.mseed_repack.specs.Restretch.{IsNumberedOn};
+ghost use Rattle.mseed_repack.specs.private.Planning.{IsPartOn, IsReadable, IsTextOn, stretches_by};
 
 use crate::series::pack_series;
-use crate::walk::Row;
+use crate::walk::{Part, Walk, behind};
 use mseed_pack::{Options, Packer};
-use mseed_record::RecordView;
 use mseed_stream::{Failed, Sink};
 use mseed_time::LeapStep;
 
@@ -17,8 +16,8 @@ use mseed_time::LeapStep;
 /// # Errors
 ///
 /// `Failed` where the output failed: a part was written.
-pub(crate) fn pack_stretches<W: Sink>(
-    records: &[RecordView],
+pub(crate) fn pack_stretches<'a, R: Walk<'a>, W: Sink>(
+    records: R,
     lengths: &[usize],
     options: &Options,
     samples: &mut [i32],
@@ -26,25 +25,30 @@ pub(crate) fn pack_stretches<W: Sink>(
     packer: &mut Packer,
     output: &mut W,
 ) -> Result<(), Failed>
-    requires cut { AreCutInto lengths.now (map view_of records.now) (length samples.old) (length steps.old) }
-    requires fits { ChannelFits options.now (map view_of records.now) }
-    ensures ok { OnOk result (Wrote (IsChannelText options.now (map view_of records.now)) 0
+    requires led { R.leads records }
+    requires readable { AllByRecursion (IsReadable (length samples.old) (length steps.old))
+        (stretches_by lengths.now (R.left records)) }
+    requires fits { AllByRecursion (StretchFits options.now) (stretches_by lengths.now (R.left records)) }
+    ensures ok { OnOk result (Wrote (IsTextOn options.now (stretches_by lengths.now (R.left records))) 0
         (W.written output.old) (W.written output.new)) }
-    ensures err { IfErr result (λ _. Wrote (IsChannelPart options.now (map view_of records.now)) 1
+    ensures err { IfErr result (λ _. Wrote (IsPartOn options.now (stretches_by lengths.now (R.left records))) 1
         (W.written output.old) (W.written output.new)) }
 {
     let mut next = *options;
-    let mut from = 0;
-    for count in lengths {
-        let row = Row {
-            records: &records[from..][..*count],
-            index: 0,
+    let mut rest = records;
+    for (number, count) in lengths.iter().enumerate() {
+        let stretch = Part {
+            rest,
+            count: *count,
         };
-        match pack_series(row, &next, samples, steps, packer, output) {
+        match pack_series(stretch, &next, samples, steps, packer, output) {
             Ok(written) => next = numbered_on(&next, written),
             Err(failed) => return Err(failed),
         }
-        from += *count;
+        if number + 1 == lengths.len() {
+            return Ok(());
+        }
+        rest = behind(rest, *count);
     }
     Ok(())
 }

@@ -7,7 +7,7 @@ ghost use Rattle.mseed_audit.specs.Follows.{IsSound};
 ghost use Rattle.mseed_audit.specs.Judging.{step_in};
 ghost use Rattle.mseed_audit.specs.Series.{AreSteps, step_at};
 ghost use Rattle.mseed_repack.specs.private.Reading.{CanBeRead, step_count, steps_of};
-ghost use Rattle.mseed_repack.specs.private.Restretching.{AreOfAny};
+ghost use Rattle.mseed_repack.specs.private.Planning.{AreOfAny};
 
 use crate::walk::Walk;
 use mseed_record::RecordView;

@@ -3,22 +3,23 @@ ghost use Rattle.std.specs.Prelude.{◌≡◌, ◌≤◌, ◌^◌, length, map, 
 ghost use Rattle.mseed_record.specs.Viewing.{view_of};
 ghost use Rattle.mseed_stream.specs.Device.{BytesRead, nothing_read};
 ghost use Rattle.mseed_audit.specs.Channels.{added_from};
+ghost use Rattle.mseed_audit.specs.Follows.{IsContinuous};
 ghost use Rattle.mseed_audit.specs.Verdict.{AreVerdicts};
 ghost use Rattle.mseed_repack.specs.private.Archives.{HasRoomForSeries, IsAudited};
 ghost use Rattle.mseed_repack.specs.private.Reading.{samples_written};
-ghost use Rattle.mseed_repack.specs.private.Repacking.{FailsToFit, FailsToPack, IsFirstBroken, PacksAnew};
-ghost use Rattle.mseed_repack.specs.Repack.{AreContinuous, ArePackedInto, CanBePacked, IsArchiveOf, IsRepacking, Wrote};
-ghost use Rattle.mseed_repack.specs.declared.fault.RepackFault.{RepackFault};
+ghost use Rattle.mseed_repack.specs.Repack.{AreContinuous, CanBePacked, CantBePacked, IsArchiveOf, IsFirst};
+ghost use Rattle.mseed_repack.specs.Repack.{IsRepacking, records_in};
 
 use crate::archive::Archive;
 use crate::fault::RepackFault;
+use crate::fitting::fit_stretches;
 use crate::judging::judge;
+use crate::packing::{WHOLE, pack_channels};
 use crate::reading::count_steps;
 use crate::room::room_for;
-use crate::series::{fit_series, pack_series};
 use crate::trail::lay_trails;
 use mseed_audit::Verdict;
-use mseed_pack::{Options, Packer};
+use mseed_pack::{Options, PackFault};
 use mseed_record::{Codes, RecordView};
 use mseed_stream::{Sink, Source, read_all_in};
 use mseed_time::LeapStep;
@@ -65,8 +66,8 @@ fn repack_judged<A: Allocator + Copy, W: Sink>(
     ensures { (read : BytesRead) → IsArchiveOf read (map view_of views.now) channels.now
         → IsRepacking options.now result read (W.written output.old) (W.written output.new) }
 {
-    if let Err(fault) = refuse_broken(views, channels) {
-        return Err(fault);
+    if let Err(channel) = refuse_broken(views, channels) {
+        return Err(RepackFault::Broken(channel));
     }
     match lay_trails(alloc, views, channels) {
         Ok(trails) => repack_archive(alloc, &trails.archive(views, channels), options, output),
@@ -75,14 +76,15 @@ fn repack_judged<A: Allocator + Copy, W: Sink>(
 }
 
 /// Refuses the first channel that is broken.
-fn refuse_broken(views: &[RecordView], channels: &[(Codes, Verdict)]) -> Result<(), RepackFault>
+fn refuse_broken(views: &[RecordView], channels: &[(Codes, Verdict)]) -> Result<(), Codes>
     requires { AreVerdicts (added_from 0 (map view_of views.now)) channels.now }
     ensures ok { OnOk result (AreContinuous (map view_of views.now) channels.now) }
-    ensures err { IfErr result (IsFirstBroken (map view_of views.now) channels.now) }
+    ensures err { IfErr result (λ codes. IsFirst (λ k. IsContinuous (records_in (map view_of views.now) k))
+        (λ k. ¬ (IsContinuous (records_in (map view_of views.now) k))) codes channels.now) }
 {
     for channel in channels {
         if !channel.1.is_continuous() {
-            return Err(RepackFault::Broken(channel.0));
+            return Err(channel.0);
         }
     }
     Ok(())
@@ -97,17 +99,25 @@ fn repack_archive<A: Allocator + Copy, W: Sink>(
 ) -> Result<(), RepackFault>
     requires audited { IsAudited archive.now }
     requires continuous { AreContinuous (map view_of archive.now.views.now) archive.now.channels.now }
-    ensures { PacksAnew result options.now (map view_of archive.now.views.now) archive.now.channels.now
-        (W.written output.old) (W.written output.new) }
+    ensures { (read : BytesRead) → IsArchiveOf read (map view_of archive.now.views.now) archive.now.channels.now
+        → IsRepacking options.now result read (W.written output.old) (W.written output.new) }
 {
     match room_for(alloc, longest(archive.channels), count_steps(archive.views)) {
-        Ok(mut room) => repack_within(archive, options, &mut room.samples, &mut room.steps, output),
+        Ok(mut room) => repack_within(
+            alloc,
+            archive,
+            options,
+            &mut room.samples,
+            &mut room.steps,
+            output,
+        ),
         Err(_) => Err(RepackFault::Memory),
     }
 }
 
 /// The same with lists that have room for the samples of a channel and for all leap seconds.
-fn repack_within<W: Sink>(
+fn repack_within<A: Allocator + Copy, W: Sink>(
+    alloc: A,
     archive: &Archive,
     options: &Options,
     samples: &mut [i32],
@@ -115,12 +125,16 @@ fn repack_within<W: Sink>(
     output: &mut W,
 ) -> Result<(), RepackFault>
     requires { HasRoomForSeries archive.now (length samples.old) (length steps.old) }
-    ensures { PacksAnew result options.now (map view_of archive.now.views.now) archive.now.channels.now
-        (W.written output.old) (W.written output.new) }
+    ensures { (read : BytesRead) → IsArchiveOf read (map view_of archive.now.views.now) archive.now.channels.now
+        → IsRepacking options.now result read (W.written output.old) (W.written output.new) }
 {
-    match fit_all(archive, options, samples, steps) {
-        Ok(()) => pack_all(archive, options, samples, steps, output),
-        Err(fault) => Err(fault),
+    if let Err((channel, fault)) = fit_all(archive, options, samples, steps) {
+        return Err(RepackFault::Misfit(channel, fault));
+    }
+    let none: Vec<Vec<usize, A>, A> = Vec::new(alloc);
+    match pack_channels(archive, &none, options, samples, steps, output) {
+        Ok(()) => Ok(()),
+        Err(_) => Err(RepackFault::Write),
     }
 }
 
@@ -151,46 +165,18 @@ fn fit_all(
     options: &Options,
     samples: &mut [i32],
     steps: &mut [(u64, LeapStep)],
-) -> Result<(), RepackFault>
+) -> Result<(), (Codes, PackFault)>
     requires { HasRoomForSeries archive.now (length samples.old) (length steps.old) }
     ensures ok { OnOk result (All (λ c. CanBePacked options.now (map view_of archive.now.views.now) c.0)
         archive.now.channels.now) }
-    ensures err { IfErr result (FailsToFit options.now (map view_of archive.now.views.now)
-        archive.now.channels.now) }
+    ensures err { IfErr result (λ misfit. IsFirst (CanBePacked options.now (map view_of archive.now.views.now))
+        (CantBePacked options.now (map view_of archive.now.views.now) misfit.1) misfit.0 archive.now.channels.now) }
 {
     for number in 0..archive.channels.len() {
         let trail = archive.trail(number);
-        match fit_series(trail, options, samples, steps) {
+        match fit_stretches(trail, &WHOLE, options, samples, steps) {
             Ok(()) => {}
-            Err(fault) => return Err(RepackFault::Misfit(*trail.codes, fault)),
-        }
-    }
-    Ok(())
-}
-
-/// Writes the records of all channels.
-fn pack_all<W: Sink>(
-    archive: &Archive,
-    options: &Options,
-    samples: &mut [i32],
-    steps: &mut [(u64, LeapStep)],
-    output: &mut W,
-) -> Result<(), RepackFault>
-    requires room { HasRoomForSeries archive.now (length samples.old) (length steps.old) }
-    requires fit { All (λ c. CanBePacked options.now (map view_of archive.now.views.now) c.0)
-        archive.now.channels.now }
-    ensures ok { OnOk result (Wrote
-        (ArePackedInto options.now (map view_of archive.now.views.now) archive.now.channels.now) 0
-        (W.written output.old) (W.written output.new)) }
-    ensures err { IfErr result (FailsToPack options.now (map view_of archive.now.views.now)
-        archive.now.channels.now (W.written output.old) (W.written output.new)) }
-{
-    let mut packer = Packer::new();
-    for number in 0..archive.channels.len() {
-        let trail = archive.trail(number);
-        match pack_series(trail, options, samples, steps, &mut packer, output) {
-            Ok(_) => {}
-            Err(_) => return Err(RepackFault::Write),
+            Err(misfit) => return Err((*trail.codes, misfit.fault)),
         }
     }
     Ok(())

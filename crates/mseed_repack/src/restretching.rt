@@ -1,20 +1,17 @@
 //! Packing an archive anew by the stretches of its channels.
-ghost use Rattle.std.specs.Prelude.{◌≡◌, ◌≤◌, ◌^◌, length, map, IfErr, OnOk};
+ghost use Rattle.std.specs.Prelude.{◌≡◌, ◌≤◌, ◌^◌, length, map};
 ghost use Rattle.mseed_record.specs.Viewing.{view_of};
-ghost use Rattle.mseed_stream.specs.Device.{nothing_read};
+ghost use Rattle.mseed_stream.specs.Device.{BytesRead, nothing_read};
 ghost use Rattle.mseed_audit.specs.Channels.{added_from};
 ghost use Rattle.mseed_audit.specs.Verdict.{AreVerdicts};
-ghost use Rattle.mseed_repack.specs.private.Archives.{HasRoomForTrail, HasRoomForRecords, IsAudited, records_on};
-ghost use Rattle.mseed_repack.specs.private.Restretching.{AreLengths, AreReady, AreStretchesWithin};
-ghost use Rattle.mseed_repack.specs.private.Restretching.{IsPartIfFit, IsTextIfFit, PacksByStretches};
-ghost use Rattle.mseed_repack.specs.Repack.{Wrote};
-ghost use Rattle.mseed_repack.specs.ByStretches.{AreStretched, IsPartStretched, IsRestretching, Stands, kept_of};
-ghost use Rattle.mseed_repack.specs.declared.standing.Standing.{Standing};
+ghost use Rattle.mseed_repack.specs.private.Archives.{HasRoomForSteps, IsAudited};
+ghost use Rattle.mseed_repack.specs.private.Planning.{AreReady};
+ghost use Rattle.mseed_repack.specs.Repack.{IsArchiveOf};
+ghost use Rattle.mseed_repack.specs.ByStretches.{IsRestretching};
 
-use crate::archive::{Archive, Trail};
-use crate::gathering::gather;
+use crate::archive::Archive;
 use crate::judging::judge;
-use crate::numbering::pack_stretches;
+use crate::packing::pack_channels;
 use crate::reading::count_steps;
 use crate::refusing::{Left, left_of, refusal_unless, tell_left};
 use crate::room::blank_steps;
@@ -22,9 +19,9 @@ use crate::standing::{Standing, stand_all};
 use crate::stretches_fault::StretchesFault;
 use crate::trail::lay_trails;
 use mseed_audit::Verdict;
-use mseed_pack::{Options, Packer};
+use mseed_pack::Options;
 use mseed_record::{Codes, RecordView};
-use mseed_stream::{Failed, Sink, Source, read_all_in};
+use mseed_stream::{Sink, Source, read_all_in};
 use mseed_time::LeapStep;
 use std::alloc::Allocator;
 
@@ -75,7 +72,8 @@ fn restretch<A: Allocator + Copy, W: Sink, E: Sink>(
 ) -> Result<Left, StretchesFault>
     requires few { length views.now ≤ 2 ^ 40 }
     requires verdicts { AreVerdicts (added_from 0 (map view_of views.now)) channels.now }
-    ensures { PacksByStretches result options.now leave (map view_of views.now) channels.now
+    ensures { (read : BytesRead) → IsArchiveOf read (map view_of views.now) channels.now
+        → IsRestretching options.now leave result read
         (W.written output.old) (W.written output.new) (E.written errors.old) (E.written errors.new) }
 {
     match lay_trails(alloc, views, channels) {
@@ -101,62 +99,42 @@ fn restretch_archive<A: Allocator + Copy, W: Sink, E: Sink>(
     errors: &mut E,
 ) -> Result<Left, StretchesFault>
     requires { IsAudited archive.now }
-    ensures { PacksByStretches result options.now leave (map view_of archive.now.views.now) archive.now.channels.now
+    ensures { (read : BytesRead) → IsArchiveOf read (map view_of archive.now.views.now) archive.now.channels.now
+        → IsRestretching options.now leave result read
         (W.written output.old) (W.written output.new) (E.written errors.old) (E.written errors.new) }
 {
-    let mut steps = match blank_steps(alloc, count_steps(archive.views)) {
-        Ok(steps) => steps,
-        Err(_) => return Err(StretchesFault::Memory),
-    };
-    let mut records = match archive.views.to_vec(alloc) {
-        Ok(records) => records,
-        Err(_) => return Err(StretchesFault::Memory),
-    };
-    restretch_within(
-        alloc,
-        archive,
-        options,
-        leave,
-        &mut records,
-        &mut steps,
-        output,
-        errors,
-    )
+    match blank_steps(alloc, count_steps(archive.views)) {
+        Ok(mut steps) => restretch_within(
+            alloc, archive, options, leave, &mut steps, output, errors,
+        ),
+        Err(_) => Err(StretchesFault::Memory),
+    }
 }
 
-/// The same with lists that have room for the records of a channel and for all leap seconds.
-fn restretch_within<'a, A: Allocator + Copy, W: Sink, E: Sink>(
+/// The same with a list that has room for all leap seconds.
+fn restretch_within<A: Allocator + Copy, W: Sink, E: Sink>(
     alloc: A,
-    archive: &Archive<'_, 'a>,
+    archive: &Archive,
     options: &Options,
     leave: bool,
-    records: &mut [RecordView<'a>],
     steps: &mut [(u64, LeapStep)],
     output: &mut W,
     errors: &mut E,
 ) -> Result<Left, StretchesFault>
-    requires { HasRoomForRecords archive.now (length records.old) (length steps.old) }
-    ensures { PacksByStretches result options.now leave (map view_of archive.now.views.now) archive.now.channels.now
+    requires { HasRoomForSteps archive.now (length steps.old) }
+    ensures { (read : BytesRead) → IsArchiveOf read (map view_of archive.now.views.now) archive.now.channels.now
+        → IsRestretching options.now leave result read
         (W.written output.old) (W.written output.new) (E.written errors.old) (E.written errors.new) }
 {
     let mut samples = Vec::new(alloc);
     let mut lengths = Vec::new(alloc);
-    match stand_all(
-        alloc,
-        archive,
-        options,
-        &mut lengths,
-        records,
-        &mut samples,
-        steps,
-    ) {
+    match stand_all(alloc, archive, options, &mut lengths, &mut samples, steps) {
         Ok(standings) => restretch_standing(
             archive,
             &standings,
             &lengths,
             options,
             leave,
-            records,
             &mut samples,
             steps,
             output,
@@ -167,107 +145,30 @@ fn restretch_within<'a, A: Allocator + Copy, W: Sink, E: Sink>(
 }
 
 /// The same by what is found of the channels, and how many records each stretch has of those that fit.
-fn restretch_standing<'a, A: Allocator, W: Sink, E: Sink>(
-    archive: &Archive<'_, 'a>,
+fn restretch_standing<A: Allocator, W: Sink, E: Sink>(
+    archive: &Archive,
     standings: &[Standing],
     lengths: &[Vec<usize, A>],
     options: &Options,
     leave: bool,
-    records: &mut [RecordView<'a>],
     samples: &mut [i32],
     steps: &mut [(u64, LeapStep)],
     output: &mut W,
     errors: &mut E,
 ) -> Result<Left, StretchesFault>
-    requires { AreReady options.now archive.now standings.now (map (λ own. own.items) lengths.now)
-        (length records.old) (length samples.old) (length steps.old) }
-    ensures { PacksByStretches result options.now leave (map view_of archive.now.views.now) archive.now.channels.now
+    requires audited { IsAudited archive.now }
+    requires ready { AreReady options.now (length samples.old) (length steps.old) (map view_of archive.now.views.now)
+        archive.now.channels.now standings.now (map (λ own. own.items) lengths.now) }
+    ensures { (read : BytesRead) → IsArchiveOf read (map view_of archive.now.views.now) archive.now.channels.now
+        → IsRestretching options.now leave result read
         (W.written output.old) (W.written output.new) (E.written errors.old) (E.written errors.new) }
 {
     if let Some(fault) = refusal_unless(leave, archive.channels, standings) {
         return Err(fault);
     }
     tell_left(archive.channels, standings, errors);
-    match pack_kept(
-        archive, standings, lengths, options, records, samples, steps, output,
-    ) {
+    match pack_channels(archive, lengths, options, samples, steps, output) {
         Ok(()) => Ok(left_of(standings)),
         Err(_) => Err(StretchesFault::Write),
-    }
-}
-
-/// Writes the records of the channels that fit, by how many records each of their stretches has.
-fn pack_kept<'a, A: Allocator, W: Sink>(
-    archive: &Archive<'_, 'a>,
-    standings: &[Standing],
-    lengths: &[Vec<usize, A>],
-    options: &Options,
-    records: &mut [RecordView<'a>],
-    samples: &mut [i32],
-    steps: &mut [(u64, LeapStep)],
-    output: &mut W,
-) -> Result<(), Failed>
-    requires { AreReady options.now archive.now standings.now (map (λ own. own.items) lengths.now)
-        (length records.old) (length samples.old) (length steps.old) }
-    ensures ok { OnOk result (Wrote (AreStretched options.now (map view_of archive.now.views.now)
-        (kept_of archive.now.channels.now standings.now)) 0 (W.written output.old) (W.written output.new)) }
-    ensures err { IfErr result (λ _. Wrote (IsPartStretched options.now (map view_of archive.now.views.now)
-        (kept_of archive.now.channels.now standings.now)) 1 (W.written output.old) (W.written output.new)) }
-{
-    let mut packer = Packer::new();
-    for number in 0..archive.channels.len() {
-        match pack_if_fit(
-            archive.trail(number),
-            &standings[number],
-            &lengths[number],
-            options,
-            records,
-            samples,
-            steps,
-            &mut packer,
-            output,
-        ) {
-            Ok(()) => {}
-            Err(failed) => return Err(failed),
-        }
-    }
-    Ok(())
-}
-
-/// Writes the records of a channel, if it fits, by how many records each of its stretches has.
-fn pack_if_fit<'a, W: Sink>(
-    trail: Trail<'_, 'a>,
-    standing: &Standing,
-    lengths: &[usize],
-    options: &Options,
-    records: &mut [RecordView<'a>],
-    samples: &mut [i32],
-    steps: &mut [(u64, LeapStep)],
-    packer: &mut Packer,
-    output: &mut W,
-) -> Result<(), Failed>
-    requires places { HasRoomForTrail trail (length records.old) (length steps.old) }
-    requires stands { Stands options.now (records_on trail) standing.now }
-    requires lengths { standing.now ≡ Standing.Fit → AreLengths lengths.now (records_on trail) }
-    requires samples_fit { standing.now ≡ Standing.Fit → AreStretchesWithin (length samples.old) (records_on trail) }
-    ensures ok { OnOk result (Wrote (IsTextIfFit options.now (records_on trail.entry) standing.now) 0
-        (W.written output.old) (W.written output.new)) }
-    ensures err { IfErr result (λ _. Wrote (IsPartIfFit options.now (records_on trail.entry) standing.now) 1
-        (W.written output.old) (W.written output.new)) }
-{
-    match *standing {
-        Standing::Fit => {
-            let count = gather(trail, records);
-            pack_stretches(
-                &records[..count],
-                lengths,
-                options,
-                samples,
-                steps,
-                packer,
-                output,
-            )
-        }
-        Standing::Broken | Standing::Misfit(_, _) => Ok(()),
     }
 }

@@ -6,7 +6,7 @@ ghost use Rattle.mseed_audit.specs.Series.{IsSeriesOf};
 ghost use Rattle.mseed_pack.specs.Traces.{trace_of};
 ghost use Rattle.mseed_repack.specs.private.Outline.{with_samples};
 ghost use Rattle.mseed_repack.specs.private.Reading.{AreOf, CanBeRead, IsSoundWalk};
-ghost use Rattle.mseed_repack.specs.private.Restretching.{AreOfAny, IsBegunBy, IsStretchText};
+ghost use Rattle.mseed_repack.specs.private.Planning.{AreOfAny, IsBegunBy, IsStretchText};
 ghost use Rattle.mseed_repack.specs.Repack.{IsPackedInPart, Wrote};
 ghost use Rattle.mseed_repack.specs.Repack.{StretchFits, StretchMisfits};
 

@@ -1,12 +1,11 @@
 //! Cutting records into stretches.
-ghost use Rattle.std.specs.Prelude.{◌≡◌, ◌≤◌, ◌^◌, [], length, map, IfOk};
+ghost use Rattle.std.specs.Prelude.{◌≡◌, ◌≤◌, ◌^◌, [], length, IfOk};
 ghost use Rattle.std.specs.List.{AllByRecursion};
-ghost use Rattle.mseed_record.specs.Viewing.{view_of};
 ghost use Rattle.mseed_audit.specs.Follows.{IsSound};
-ghost use Rattle.mseed_repack.specs.private.Restretching.{AreLengths, AreStretchesWithin};
+ghost use Rattle.mseed_repack.specs.private.Planning.{IsCut};
 
-use mseed_record::RecordView;
-use mseed_stretches::first_stretch;
+use crate::walk::Walk;
+use mseed_stretches::Stretch;
 use std::alloc::{AllocError, Allocator};
 
 /// Cuts some records, each of which is sound, into stretches: puts into the list, which is empty, how many records each
@@ -15,23 +14,32 @@ use std::alloc::{AllocError, Allocator};
 /// # Errors
 ///
 /// `AllocError` where there is no memory for the list.
-pub(crate) fn cut_stretches<A: Allocator>(
-    records: &[RecordView],
+pub(crate) fn cut_stretches<'a, A: Allocator, R: Walk<'a>>(
+    records: R,
     lengths: &mut Vec<usize, A>,
 ) -> Result<usize, AllocError>
-    requires few { length records.now ≤ 2 ^ 40 }
-    requires sound { AllByRecursion IsSound (map view_of records.now) }
+    requires led { R.leads records }
+    requires few { length (R.left records) ≤ 2 ^ 40 }
+    requires sound { AllByRecursion IsSound (R.left records) }
     requires none { lengths.old.items ≡ [] }
-    ensures lengths { IfOk result (λ _. AreLengths lengths.new.items (map view_of records.now)) }
-    ensures most { IfOk result (λ most. AreStretchesWithin most (map view_of records.now)) }
+    ensures { IfOk result (λ most. IsCut most lengths.new.items (R.left records)) }
 {
+    let mut rest = records;
+    let mut stretch = match rest.next() {
+        Some(first) => Stretch::begin(&first),
+        None => return Ok(0),
+    };
     let mut most = 0;
-    let mut from = 0;
-    while from < records.len() {
-        let stretch = first_stretch(&records[from..]);
-        most = most.max(stretch.samples as usize);
-        lengths.push(stretch.records as usize)?;
-        from += stretch.records as usize;
+    while let Some(view) = rest.next() {
+        if stretch.goes_on(&view) {
+            stretch = stretch.with(&view);
+        } else {
+            most = most.max(stretch.samples as usize);
+            lengths.push(stretch.records as usize)?;
+            stretch = Stretch::begin(&view);
+        }
     }
+    most = most.max(stretch.samples as usize);
+    lengths.push(stretch.records as usize)?;
     Ok(most)
 }

@@ -1,5 +1,5 @@
 //! Records that are gone over one after another.
-ghost use Rattle.std.specs.Prelude.{List, drop, map};
+ghost use Rattle.std.specs.Prelude.{◌≡◌, List, drop, map, take};
 ghost use Rattle.std.specs.Iterator.{YieldsFirstBy};
 ghost use Rattle.mseed_record.specs.View.{View};
 ghost use Rattle.mseed_record.specs.Viewing.{view_of};
@@ -41,4 +41,46 @@ impl<'r, 'a> Walk<'a> for Row<'r, 'a> {
         self.index += 1;
         Some(view)
     }
+}
+
+/// The first so many of the records of a walk.
+#[derive(Clone, Copy)]
+pub(crate) struct Part<R> {
+    pub(crate) rest: R,
+    pub(crate) count: usize,
+}
+
+impl<'a, R: Walk<'a>> Walk<'a> for Part<R> {
+    ghost left = { λ s. take s.count (R.left s.rest) };
+
+    ghost leads = { λ s. R.leads s.rest };
+
+    fn next(&mut self) -> Option<RecordView<'a>> {
+        if self.count == 0 {
+            return None;
+        }
+        match self.rest.next() {
+            Some(view) => {
+                self.count -= 1;
+                Some(view)
+            }
+            None => None,
+        }
+    }
+}
+
+/// What is left of a walk behind so many records.
+pub(crate) fn behind<'a, R: Walk<'a>>(records: R, count: usize) -> R
+    requires { R.leads records }
+    ensures leads { R.leads result }
+    ensures left { R.left result ≡ drop count (R.left records) }
+{
+    let mut rest = records;
+    for turn in 0..count {
+        match rest.next() {
+            Some(_) => {}
+            None => return rest,
+        }
+    }
+    rest
 }

@@ -17,7 +17,7 @@ go_more b (x ∷ xs) v all go = (
   go_more (b ++ x ∷ []) xs v all.1 (subst (λ (vs : List View). GoesOn vs v) (sym (append_assoc b (x ∷ []) xs)) go),
 )
 
-stretch_on : (s : List View) (v : View) → IsStretch s → GoesOn s v → IsStretch (s ++ v ∷ [])
+pub stretch_on : (s : List View) (v : View) → IsStretch s → GoesOn s v → IsStretch (s ++ v ∷ [])
 stretch_on [] v is go = absurd is
 stretch_on (x ∷ xs) v is go = go_more (x ∷ []) xs v is go
 

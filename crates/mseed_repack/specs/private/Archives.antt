@@ -4,7 +4,8 @@ use Rattle.mseed_record.specs.View.{View}
 use Rattle.mseed_record.specs.Viewing.{view_of}
 use Rattle.mseed_audit.specs.Channels.{added_from}
 use Rattle.mseed_audit.specs.Verdict.{AreVerdicts}
-use Rattle.mseed_repack.specs.private.Reading.{channel_in, samples_written, steps_of}
+use Rattle.mseed_repack.specs.private.Planning.{IsReadable}
+use Rattle.mseed_repack.specs.private.Reading.{channel_in, steps_of}
 use Rattle.mseed_repack.specs.private.Trails.{AreLaid, AreNexts, IsOfAt}
 use Rattle.mseed_repack.specs.Repack.{AreContinuous, Channel, records_in}
 use Rattle.mseed_repack.specs.declared.archive.Archive.{Archive}
@@ -34,22 +35,13 @@ pub record IsTrailOf (a : Archive) (number : ℕ) (t : Trail) : Type 0 where
   pub led : IsLed t
   pub records_are : records_on t ≡ records_in (map view_of a.views.now) channel.0
 
--- each channel is continuous, and there is room for so many samples of one, and for so many leap seconds
+-- each channel is continuous, and there is room to read it
 pub record HasRoomForSeries (a : Archive) (room places : ℕ) : Type 0 where
   pub audited : IsAudited a
   pub continuous : AreContinuous (map view_of a.views.now) a.channels.now
-  pub samples_fit : All (λ c. samples_written c.1 ≤ room) a.channels.now
-  pub steps_fit : steps_of (map view_of a.views.now) ≤ places
+  pub readable : All (λ c. IsReadable room places (records_in (map view_of a.views.now) c.0)) a.channels.now
 
--- there is room for so many records, and for so many leap seconds
-pub record HasRoomForRecords (a : Archive) (room places : ℕ) : Type 0 where
+-- there is room for so many leap seconds
+pub record HasRoomForSteps (a : Archive) (places : ℕ) : Type 0 where
   pub audited : IsAudited a
-  pub records_fit : length a.views.now ≤ room
   pub steps_fit : steps_of (map view_of a.views.now) ≤ places
-
--- the same of the records of one channel
-pub record HasRoomForTrail (t : Trail) (room places : ℕ) : Type 0 where
-  pub led : IsLed t
-  pub few : length (records_on t) ≤ 2 ^ 40
-  pub records_fit : length (records_on t) ≤ room
-  pub steps_fit : steps_of (records_on t) ≤ places

@@ -1,10 +1,10 @@
-use Rattle.std.proofs.Common.{drop, map}
-use Rattle.mseed_record.specs.Viewing.{view_of}
-use Rattle.mseed_repack.specs.private.Restretching.{AreLengths}
-use Rattle.mseed_repack.proofs.Restretched.{IsFitSo}
+use Rattle.std.proofs.Common.{drop}
+use Rattle.mseed_repack.specs.private.Planning.{stretches_by}
+use Rattle.mseed_repack.proofs.Planning.{IsFitSo}
 use Rattle.mseed_repack.proofs.fitting.fit_stretches.Given as goal
 
 abbrev pub invariant-loop-number : goal.invariant-loop-number
-invariant-loop-number l =
-    IsFitSo l.options l.records l.from l.number
-    × AreLengths (drop l.number l.lengths) (map view_of (drop l.from l.records))
+invariant-loop-number g l =
+    g.R.Walk.leads l.rest
+    × IsFitSo l.options (stretches_by l.lengths (g.R.Walk.left l.fn.records))
+    (stretches_by (drop l.number l.lengths) (g.R.Walk.left l.rest)) l.number

@@ -1,10 +1,11 @@
-use Rattle.std.proofs.Common.{drop, map}
-use Rattle.mseed_record.specs.Viewing.{view_of}
-use Rattle.mseed_repack.specs.private.Restretching.{AreLengths}
-use Rattle.mseed_repack.proofs.Restretched.{IsPackedSo}
+use Rattle.std.proofs.Common.{drop}
+use Rattle.mseed_repack.specs.private.Planning.{stretches_by}
+use Rattle.mseed_repack.proofs.Planning.{IsPackedSo}
 use Rattle.mseed_repack.proofs.numbering.pack_stretches.Given as goal
 
-abbrev pub invariant-loop-count : goal.invariant-loop-count
-invariant-loop-count g l =
-    IsPackedSo l.options l.records l.from l.next (g.W.Sink.written l.fn.output) (g.W.Sink.written l.output)
-    × AreLengths (drop l.count-index l.lengths) (map view_of (drop l.from l.records))
+abbrev pub invariant-loop-number : goal.invariant-loop-number
+invariant-loop-number g l =
+    g.R.Walk.leads l.rest
+    × IsPackedSo l.options (stretches_by l.lengths (g.R.Walk.left l.fn.records))
+    (stretches_by (drop l.number l.lengths) (g.R.Walk.left l.rest)) l.next (g.W.Sink.written l.fn.output)
+    (g.W.Sink.written l.output)

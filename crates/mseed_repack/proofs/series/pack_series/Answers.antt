@@ -2,7 +2,7 @@ use Rattle.std.proofs.Common.{subst}
 use Rattle.mseed_audit.specs.Series.{Trace}
 use Rattle.mseed_pack.specs.Fitting.{Fits}
 use Rattle.mseed_pack.specs.Traces.{trace_of}
-use Rattle.mseed_repack.proofs.Restretched.{emitted_part, emitted_stretch}
+use Rattle.mseed_repack.proofs.Planning.{emitted_part, emitted_stretch}
 use Rattle.mseed_repack.proofs.series.pack_series.Goals as goal
 
 pub pack_fitting-requires-clause-fits : goal.pack_fitting-requires-clause-fits

@@ -1,9 +1,9 @@
-use Rattle.std.proofs.Common.{length, map}
+use Rattle.std.proofs.Common.{length, map, take}
 use Rattle.mseed_record.specs.Viewing.{view_of}
-use Rattle.mseed_repack.proofs.Standings.{AreJudgedSo}
+use Rattle.mseed_repack.specs.private.Planning.{AreReady}
 use Rattle.mseed_repack.proofs.standing.stand_all.Given as goal
 
 abbrev pub invariant-loop-number : goal.invariant-loop-number
 invariant-loop-number g l =
-    AreJudgedSo l.options (map view_of l.archive.views.now) l.archive.channels.now l.number l.standings.items
-    (length l.samples.items) (map (λ own. own.items) l.lengths.items)
+    AreReady l.options (length l.samples.items) (length l.steps) (map view_of l.archive.views.now)
+    (take l.number l.archive.channels.now) l.standings.items (map (λ own. own.items) l.lengths.items)
