@@ -1,6 +1,6 @@
 -- Where nothing is sent of any place.
-use Rattle.std.proofs.Common.{◌≡◌, ◌≢◌, ℕ, ◌+◌, ◌%◌, ◌^◌, ◌<◌, ◌⊎◌, ◌==◌, ◌&&◌, ◌∙◌, arith, ap, inl, inr, refl, subst, sym, length}
-use Rattle.std.proofs.Common.{List, Option, Some, None, slice_get, Bool, true, false, not, ◌↔◌}
+use Rattle.std.proofs.Common.{◌≡◌, ◌≢◌, ℕ, ◌+◌, ◌%◌, ◌^◌, ◌<◌, ◌⊎◌, ◌==◌, ◌&&◌, ◌∙◌, arith, ap, inl, inr, refl, subst}
+use Rattle.std.proofs.Common.{length, sym, List, Option, Some, None, slice_get, Bool, true, false, not, ◌↔◌}
 use Rattle.std.specs.Option.{is_some}
 use Rattle.std.proofs.lemmas.Bool.Decides.{eqb_tells}
 use Rattle.slink_wire.specs.Packet.{packet_bytes}

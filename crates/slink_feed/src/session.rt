@@ -205,8 +205,8 @@ impl Session {
         self.course.is_waiting(feed)
     }
 
-    /// Whether the session streams, and was granted the place at an index of the feed, and its next record isn't the one
-    /// that comes next: then a call for the place gives it, or says that it left the ring. While that is so of one
+    /// Whether the session streams, and was granted the place at an index of the feed, and its next record isn't the
+    /// one that comes next: then a call for the place gives it, or says that it left the ring. While that is so of one
     /// place, nothing is sent of those of which it isn't.
     ///
     /// It is lent the same feed at every call, whose rings keep their indices.

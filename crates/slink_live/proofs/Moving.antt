@@ -1,6 +1,6 @@
 -- What a call makes of a server that changes the link in a slot.
-use Rattle.std.proofs.Common.{◌≡◌, ℕ, ◌+◌, ◌<◌, ◌≤◌, ◌∙◌, ap, subst, refl, sym, arith, List, ◌++◌, ◌∷◌, [], get_or, length}
-use Rattle.std.proofs.Common.{length-set, set, not, ◌&&◌, Bool, Option, Some, None, IfSome}
+use Rattle.std.proofs.Common.{◌≡◌, ℕ, ◌+◌, ◌<◌, ◌≤◌, ◌∙◌, ap, subst, refl, sym, arith, List, ◌++◌, ◌∷◌, [], get_or}
+use Rattle.std.proofs.Common.{length, length-set, set, not, ◌&&◌, Bool, Option, Some, None, IfSome}
 use Rattle.slink_feed.specs.Session.{Fits}
 use Rattle.slink_feed.specs.Window.{Window}
 use Rattle.slink_live.specs.declared.link.Settled.{Settled}
@@ -14,9 +14,11 @@ use Rattle.slink_live.specs.Turns.{Closes, ReadsFrom, WritesTo}
 use Rattle.slink_live.specs.private.Calling.{HasFilled, HasReceived, HasTaken, IfRested, IsOutcome}
 use Rattle.slink_live.specs.private.Granting.{Changes}
 use Rattle.slink_live.specs.private.Keeping.{KeepsServing, Settles, Tends}
-use Rattle.slink_live.proofs.Settling.{closes_keeps, opened_in, received_tends, rested_tends, seen_closes, seen_empty, seen_wants}
+use Rattle.slink_live.proofs.Settling.{closes_keeps, opened_in, received_tends, rested_tends, seen_closes}
+use Rattle.slink_live.proofs.Settling.{seen_empty, seen_wants}
 use Rattle.slink_live.proofs.Settling.{taken_tends}
-use Rattle.slink_live.proofs.Steps.{filled_keeps, opened_keeps, reads_at, received_keeps, same_default, sound_in, taken_keeps}
+use Rattle.slink_live.proofs.Steps.{filled_keeps, opened_keeps, reads_at, received_keeps, same_default, sound_in}
+use Rattle.slink_live.proofs.Steps.{taken_keeps}
 use Rattle.slink_live.proofs.Steps.{writes_at}
 
 module _ {s0 s : ServerState} (same : s0 ≡ s) (j : ℕ) (lt : j < length s0.links) (sound : IsSound s) where
@@ -76,7 +78,8 @@ module _ {s0 s : ServerState} (same : s0 ≡ s) (j : ℕ) (lt : j < length s0.li
     writes_on {log} {mid} {last} c closes = writes_at same j lt c.link log mid last o_is c.happened closes
 
     pub takes_on : {t : ServerState} {log mid last : List Happening}
-        → Changes j (λ o l. HasTaken j o l log mid) s0.links links → Settles j (moved links) t mid last → Tends s t log last
+        → Changes j (λ o l. HasTaken j o l log mid) s0.links links → Settles j (moved links) t mid last
+        → Tends s t log last
     takes_on {t} {log} {mid} {last} c settles = taken_tends same j lt sound {feed = s0.intake.feed} refl o_is c.link
         c.happened
         (subst (λ (x : List (Option LinkState)). Settles j (record s0 { links = x }) t mid last) c.is settles)
@@ -93,8 +96,8 @@ module _ {s0 s : ServerState} (same : s0 ≡ s) (j : ℕ) (lt : j < length s0.li
     pub opened_on : {log opened : List Happening} (l : LinkState) → links ≡ set s0.links j (Some l)
         → get_or s.links j None ≡ None → IsNew l.session → l.pending ≡ [] → l.place ≡ 0
         → Fits s.intake.feed l.session.state → opened ≡ log ++ Opened j ∷ [] → KeepsServing s (moved links) log opened
-    opened_on {log} {opened} l is free fresh none begins fits now = by_set (λ x. KeepsServing s x log opened) (Some l) is
-        (opened_keeps same j lt (Some l) sound l refl free fresh none begins fits now)
+    opened_on {log} {opened} l is free fresh none begins fits now = by_set (λ x. KeepsServing s x log opened) (Some l)
+        is (opened_keeps same j lt (Some l) sound l refl free fresh none begins fits now)
 
     pub opens_on : {t : ServerState} {log opened mid last : List Happening} {wanted : Bool} (l : LinkState)
         → links ≡ set s0.links j (Some l) → get_or s.links j None ≡ None → IsNew l.session → l.pending ≡ []
@@ -115,7 +118,8 @@ module _ {s0 s : ServerState} (same : s0 ≡ s) (j : ℕ) (lt : j < length s0.li
     filled_on {feed} {log} result rings c = by_set (λ x. KeepsServing s x log log) c.link c.is
         (filled_keeps same j lt c.link sound rings o_is c.happened.0 refl)
 
-    pub empty_on : {feed : List Window} {log : List Happening} → feed ≡ s0.intake.feed → IsFilled links feed settled.Empty
+    pub empty_on : {feed : List Window} {log : List Happening} → feed ≡ s0.intake.feed
+        → IsFilled links feed settled.Empty
         → Settles j s (moved links) log log
     empty_on {feed} {log} rings c = by_set (λ x. Settles j s x log log) c.link c.is
         (seen_empty same j lt sound rings o_is c.link c.happened.0 c.happened.1 refl)

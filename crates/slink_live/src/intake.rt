@@ -81,8 +81,8 @@ impl Intake {
         512 * self.records
     }
 
-    /// Takes bytes of the input, at most 8,192. Each record goes to its ring as soon as it is whole. The answer is which
-    /// places got some.
+    /// Takes bytes of the input, at most 8,192. Each record goes to its ring as soon as it is whole. The answer is
+    /// which places got some.
     ///
     /// # Errors
     ///

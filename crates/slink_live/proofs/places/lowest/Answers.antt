@@ -4,7 +4,8 @@ use Rattle.slink_live.proofs.places.lowest.Goals as goal
 
 pub returns-else-bits-eq0-clause-some : goal.returns-else-bits-eq0-clause-some
 returns-else-bits-eq0-clause-some c =
-    let lowest = bit_at-trailing_zeros w32 c.args.bits (omega (arith, c.if-bits-eq0.false)) (omega (arith, c.ranges.bits.fits)) in
+    let lowest =
+    bit_at-trailing_zeros w32 c.args.bits (omega (arith, c.if-bits-eq0.false)) (omega (arith, c.ranges.bits.fits)) in
     (lowest.1, lowest.2)
 
 pub returns-else-bits-eq0-clause-few : goal.returns-else-bits-eq0-clause-few

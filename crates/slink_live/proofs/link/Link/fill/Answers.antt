@@ -66,14 +66,15 @@ loop-ask-preserved c = record {
       (due_turn c.args.feed.now c.loop-ask.self.session.state c.loop-ask.due c.loop-ask.self.place c.in-Some.k
       c.loop-ask.invariant.due c.in-Some.ensures.some c.in-Some.ensures.first));
   fits = c.ask_due-due.ensures.fits;
-  grown = elim (grown_by c.args.feed.now c.in-Some.k c.loop-ask.self c.ask_due-due.new.self c.ask_due-due.ensures.gives) [
-    | inl shut ↦ inl shut
-    | inr more ↦ elim c.loop-ask.invariant.grown [
-      | inl shut ↦ absurd (
-          let bad : Closed ≡ Streaming = sym shut ∙ c.loop-ask.invariant.due.streams in cc bad)
-      | inr before ↦ inr (omega (arith, before, more))
-    ]
-  ];
+  grown = elim (grown_by c.args.feed.now c.in-Some.k c.loop-ask.self c.ask_due-due.new.self
+      c.ask_due-due.ensures.gives) [
+        | inl shut ↦ inl shut
+        | inr more ↦ elim c.loop-ask.invariant.grown [
+          | inl shut ↦ absurd (
+              let bad : Closed ≡ Streaming = sym shut ∙ c.loop-ask.invariant.due.streams in cc bad)
+          | inr before ↦ inr (omega (arith, before, more))
+        ]
+      ];
   due = elim c.ask_due-due.ensures.due [
     | inl shut ↦ absurd (c.if-is_closed.ensures.no shut)
     | inr due ↦ due
