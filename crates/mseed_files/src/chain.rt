@@ -1,0 +1,234 @@
+//! Files one behind another, as one reader.
+ghost use Rattle.std.specs.Prelude.{◌≡◌, ◌<◌, ◌≤◌, ◌+◌, ℕ, List, [], ◌∷◌, ◌++◌, None, Some, Ok, true, false, length};
+ghost use Rattle.std.specs.Prelude.{IfOk, IfErr, IfSome, OnOk, OnErr, IsTrue, slice_index, take, vec_len, vec_capacity};
+ghost use Rattle.std.specs.Io.{ReadsAtMost};
+ghost use Rattle.std.specs.Io.KnownBytes.{Consumes, Keeps, ReadConsumes};
+ghost use Rattle.mseed_files.specs.Standing.{GoesOn, HasEnded, IsPlace, Standing, remaining_of, unread};
+
+use crate::open::Open;
+use crate::place::Place;
+use std::alloc::{AllocError, Allocator, Global};
+use std::io;
+use std::io::{ErrorKind, Read};
+use std::marker::Model;
+
+/// Files one behind another, as one reader. One of them is open at a time.
+///
+/// The end of a file that others follow is no end, and neither is an empty file. A file that can't be opened, or a read
+/// that fails, is an error of that read; a further read tries again.
+///
+/// Contracts see it as a `Standing`.
+#[derive(Drop)]
+pub struct Chain<O: Open, A: Allocator = Global> {
+    opener: O,
+    // Where each file that was opened begins. There is room for all files.
+    begins: Vec<u64, A>,
+    // The last one of those, while it's open.
+    file: Option<O::File>,
+    // How many bytes were read.
+    bytes: u64,
+    // The file that failed last.
+    failed: Option<usize>,
+}
+
+impl<O: Open, A: Allocator> Model for Chain<O, A> {
+    ghost use Rattle.std.specs.Prelude.{◌≤◌, is_some, length};
+    ghost use Rattle.std.specs.Vec.{vec_capacity, vec_len, vec_capacity};
+    ghost use Rattle.mseed_files.specs.Standing.{IsAlong, Standing, left_in};
+
+    ghost Value = { Standing };
+
+    ghost view = { λ c. record {
+      contents = O.contents c.opener;
+      begins = c.begins.items;
+      is_open = is_some c.file;
+      left = left_in O.File.remaining c.file;
+      bytes = c.bytes;
+      failed = c.failed;
+    } };
+
+    ghost invariant = { λ c. (length (O.contents c.opener) ≤ vec_capacity c.begins)
+        × IsAlong (O.contents c.opener) c.begins.items (is_some c.file) (left_in O.File.remaining c.file)
+        c.bytes };
+}
+
+impl<O: Open + Drop, A: Allocator> Chain<O, A> {
+    /// All files that the opener has, none of which was opened yet.
+    ///
+    /// # Errors
+    ///
+    /// Where there is no memory for where they begin.
+    pub fn new(alloc: A, opener: O) -> Result<Chain<O, A>, AllocError>
+        ensures { IfOk result (λ chain. chain ≡ unread (O.contents opener)) }
+    {
+        let begins = Vec::with_capacity(alloc, opener.count())?;
+        Ok(Chain {
+            opener,
+            begins,
+            file: None,
+            bytes: 0,
+            failed: None,
+        })
+    }
+}
+
+impl<O: Open, A: Allocator> Chain<O, A> {
+    /// The file for which a read failed last, by its number, if one did.
+    pub fn failed(&self) -> Option<usize>
+        ensures { result ≡ self.now.failed }
+    {
+        self.failed
+    }
+
+    /// How many bytes were read.
+    pub fn bytes(&self) -> u64
+        ensures { result ≡ self.now.bytes }
+    {
+        self.bytes
+    }
+
+    /// Where the byte lies before which so many bytes were read: in the last file of those that were opened that
+    /// doesn't begin behind it. None where no file was opened.
+    #[tactic(auto, using(crate::proofs::Opening::placed))]
+    pub fn place_of(&self, offset: u64) -> Option<Place>
+        ensures place { IfSome result (IsPlace self.now offset) }
+        ensures none { result ≡ None → self.now.begins ≡ [] }
+    {
+        place_in(&self.begins, offset)
+    }
+
+    /// Whether there is a file to be read: the next one is opened where none is open.
+    ///
+    /// # Errors
+    ///
+    /// Where it can't be opened.
+    #[tactic(auto, using(crate::proofs::Opening::none_left, crate::proofs::Opening::opened_keeps))]
+    fn has_file(&mut self) -> io::Result<bool>
+        ensures found { IfOk result (λ found. found ≡ self.new.is_open) }
+        ensures goes_on { GoesOn result self.old self.new }
+        ensures known { Keeps (remaining_of self.old) (remaining_of self.new) }
+        ensures ended { result ≡ Ok false → HasEnded self.new }
+        ensures opens { length self.old.begins ≤ length self.new.begins }
+        ensures within { length self.new.begins ≤ length self.new.contents }
+        ensures next { self.old.is_open ≡ false → result ≡ Ok true → length self.old.begins < length self.new.begins }
+    {
+        if self.file.is_some() {
+            return Ok(true);
+        }
+        let index = self.begins.len();
+        if index == self.opener.count() {
+            return Ok(false);
+        }
+        match self.opener.open(index) {
+            Ok(file) => {
+                put(&mut self.begins, self.bytes);
+                self.file = Some(file);
+                Ok(true)
+            }
+            Err(error) => {
+                self.failed = Some(index);
+                Err(error)
+            }
+        }
+    }
+}
+
+/// Puts a number into a list that has room for it.
+fn put<A: Allocator>(numbers: &mut Vec<u64, A>, number: u64)
+    requires { vec_len numbers.old < vec_capacity numbers.old }
+    ensures items { numbers.new.items ≡ numbers.old.items ++ number ∷ [] }
+    ensures capacity { vec_capacity numbers.old ≤ vec_capacity numbers.new }
+{
+    match numbers.push(number) {
+        Ok(()) => {}
+        Err(_) => unreachable!(),
+    }
+}
+
+/// The last of the files that don't begin behind an offset, by where they begin, and the offset within it.
+fn place_in(begins: &[u64], offset: u64) -> Option<Place>
+    ensures opened { IfSome result (λ p. p.file < length begins.now) }
+    ensures offset { IfSome result (λ p. slice_index begins.now p.file + p.offset ≡ offset) }
+    ensures last { IfSome result (λ p. (next : ℕ) → p.file < next → next < length begins.now
+        → offset < slice_index begins.now next) }
+    ensures none { result ≡ None → (file : ℕ) → file < length begins.now → offset < slice_index begins.now file }
+{
+    let mut file = begins.len();
+    while file > 0 {
+        file -= 1;
+        if begins[file] <= offset {
+            return Some(Place {
+                file,
+                offset: offset - begins[file],
+            });
+        }
+    }
+    None
+}
+
+impl<O: Open, A: Allocator> Chain<O, A> {
+    /// Reads the file that is open, and closes it at its end.
+    ///
+    /// # Errors
+    ///
+    /// Where the read fails, or 2^64 bytes might have been read by it in all.
+    fn read_file(&mut self, buf: &mut [u8]) -> io::Result<usize>
+        requires is_open { IsTrue self.old.is_open }
+        requires room { 0 < length buf.old }
+        ensures bound { ReadsAtMost result buf.new }
+        ensures known { IfOk result (λ n. Consumes (remaining_of self.old) (remaining_of self.new) (take n buf.new)) }
+        ensures kept { OnErr result (Keeps (remaining_of self.old) (remaining_of self.new)) }
+        ensures length { length buf.new ≡ length buf.old }
+        ensures goes_on { GoesOn result self.old self.new }
+        ensures closed { result ≡ Ok 0 → self.new.is_open ≡ false }
+        ensures opened { self.new.begins ≡ self.old.begins }
+    {
+        let most = self.bytes.checked_add(buf.len() as u64);
+        let read = match (&mut self.file, most) {
+            (Some(file), Some(_)) => file.read(buf),
+            _ => Err(io::Error::from(ErrorKind::FileTooLarge)),
+        };
+        match read {
+            Ok(0) => {
+                self.file = None;
+                Ok(0)
+            }
+            Ok(n) => {
+                self.bytes += n as u64;
+                Ok(n)
+            }
+            Err(error) => {
+                self.failed = Some(self.begins.len() - 1);
+                Err(error)
+            }
+        }
+    }
+}
+
+impl<O: Open, A: Allocator> Read for Chain<O, A> {
+    ghost use Rattle.mseed_files.specs.Standing.{remaining_of};
+
+    ghost remaining = { remaining_of };
+
+    fn read(&mut self, buf: &mut [u8]) -> io::Result<usize>
+        ensures bound { ReadsAtMost result buf.new }
+
+        // What is told is what is left of the file that is open, and then the files behind it.
+        ensures bytes { ReadConsumes (remaining_of self.old) (remaining_of self.new) result buf.new }
+
+        // The end is told once no file is left, and no file is told for another.
+        ensures end { result ≡ Ok 0 → 0 < length buf.new → HasEnded self.new }
+        ensures goes_on { GoesOn result self.old self.new }
+    {
+        if buf.is_empty() {
+            return Ok(0);
+        }
+        while self.has_file()? {
+            match self.read_file(buf)? {
+                0 => {}
+                n => return Ok(n),
+            }
+        }
+        Ok(0)
+    }
+}
