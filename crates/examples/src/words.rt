@@ -9,7 +9,10 @@ use std::alloc::Global;
 pub fn requested(alloc: Global, words: &[&str]) -> Result<Request, Refusal>
     ensures { IfOk result CanBeCalled }
 {
-    read(alloc, words)
+    match read(alloc, words) {
+        Ok(command) => Ok(command.request),
+        Err(refusal) => Err(refusal),
+    }
 }
 
 /// Of how many places records are requested: of none, unless they are served or fetched.

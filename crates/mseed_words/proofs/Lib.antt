@@ -3,3 +3,4 @@ pub mod Called
 pub mod Digits
 pub mod PlaceWords
 pub mod Different
+pub mod Further

@@ -1,4 +1,5 @@
 pub mod Options
+pub mod Files
 pub mod Found
 pub mod Numbers
 pub mod Places

@@ -9,6 +9,7 @@ use Rattle.clap.specs.Faults.{fault_of}
 use Rattle.mseed_pack.specs.declared.options.Encoding.{Encoding}
 use Rattle.mseed_pack.specs.declared.options.Encoding.TheVariants.{Int16, Int32, Steim1, Steim2}
 use Rattle.mseed_words.specs.Options.{the_command}
+use Rattle.mseed_words.specs.Files.{files_of}
 use Rattle.mseed_words.specs.Found.{asks, has_only}
 use Rattle.mseed_words.specs.Numbers.{number_in, number_within}
 use Rattle.mseed_words.specs.FeedWords.{CanFetch, CanLive, CanServe, fetching_of, living_of, serving_of}
@@ -52,9 +53,10 @@ abbrev pub encoding_in : Option Text → Option Encoding
 encoding_in None = Some Steim2
 encoding_in (Some word) = encoding_named word
 
--- what packing anew takes: its word, a length and an encoding, and two flags
+-- what packing anew takes: its word, files, a length and an encoding, and two flags
 abbrev pub packing_names : List Text
-packing_names = codes "command" ∷ codes "length" ∷ codes "encoding" ∷ codes "stretches" ∷ codes "leave" ∷ []
+packing_names =
+    codes "command" ∷ codes "place" ∷ codes "length" ∷ codes "encoding" ∷ codes "stretches" ∷ codes "leave" ∷ []
 
 abbrev pub packing_with : Option ℕ → Option Encoding → Option Packing
 packing_with None encoding = None
@@ -75,9 +77,9 @@ packing_of rows =
     (encoding_in (first_of (codes "encoding") rows))) (asks (codes "stretches") rows) (asks (codes "leave") rows)
     else None
 
--- a command that takes its word alone
+-- a command that takes its word and files alone
 abbrev pub showing_of : List Row → Option Request
-showing_of rows = if has_only (codes "command" ∷ []) rows then Some Show else None
+showing_of rows = if has_only (codes "command" ∷ codes "place" ∷ []) rows then Some Show else None
 
 -- what an audit writes: with a line for each finding or without, the text of the audit or its part
 abbrev pub auditing_by : Bool → Bool → Request
@@ -86,9 +88,9 @@ auditing_by true false = AuditEach
 auditing_by false true = AuditPart
 auditing_by true true = AuditPartEach
 
--- what auditing takes: its word and two flags
+-- what auditing takes: its word, files and two flags
 abbrev pub auditing_names : List Text
-auditing_names = codes "command" ∷ codes "each" ∷ codes "part" ∷ []
+auditing_names = codes "command" ∷ codes "place" ∷ codes "each" ∷ codes "part" ∷ []
 
 abbrev pub auditing_of : List Row → Option Request
 auditing_of rows =
@@ -98,7 +100,8 @@ auditing_of rows =
 
 -- what joining takes
 abbrev pub joining_names : List Text
-joining_names = codes "command" ∷ codes "each" ∷ codes "part" ∷ codes "past-faults" ∷ codes "expect" ∷ []
+joining_names =
+    codes "command" ∷ codes "place" ∷ codes "each" ∷ codes "part" ∷ codes "past-faults" ∷ codes "expect" ∷ []
 
 -- how many parts there have to be, where a number is given: at least one
 abbrev pub expected_by : ℕ → Option (Option ℕ)
@@ -167,15 +170,29 @@ CanBeCalled (Serve serving) = CanServe serving
 CanBeCalled (Live living) = CanLive living
 CanBeCalled (Fetch fetching) = CanFetch fetching
 
--- the words ask for this
-pub record AsksFor (words : List Text) (request : Request) : Type 0 where
+-- what is requested, and of which files: of none where standard input is read
+abbrev pub command_with : Option Request → List Row → Option (Request × List Text)
+command_with None rows = None
+command_with (Some request) rows = option_map (λ files. (request, files)) (files_of request rows)
+
+abbrev pub command_of : List Row → Option (Request × List Text)
+command_of rows = command_with (request_of rows) rows
+
+-- the words ask for this, of these files
+pub record AsksFor (words : List Text) (request : Request) (files : List Text) : Type 0 where
   pub taken : faults_in words ≡ []
-  pub request_is : request_of (entries_in words) ≡ Some request
+  pub command_is : command_of (entries_in words) ≡ Some (request, files)
 
 -- `clap` takes them, but they ask for nothing that there is
 pub record AsksForNothing (words : List Text) : Type 0 where
   pub taken : faults_in words ≡ []
-  pub no_request : request_of (entries_in words) ≡ None
+  pub no_request : command_of (entries_in words) ≡ None
+
+-- why nothing is answered, by what was asked for: nothing that there is, unless memory was refused
+abbrev pub IsUnasked : {T : Type 0} → Refusal → Option T → Type 0
+IsUnasked (refusal.Text text) asked = ⊥
+IsUnasked refusal.NoRequest asked = asked ≡ None
+IsUnasked refusal.Memory asked = ⊤
 
 -- `clap` refuses them
 abbrev pub AreRefused : List Text → Type 0

@@ -61,7 +61,7 @@ fn is_taken(matches: &ArgMatches<'_>, id: &str, names: &[&str]) -> bool
 }
 
 /// Whether a name is one of these.
-fn is_among(id: &str, names: &[&str]) -> bool
+pub(crate) fn is_among(id: &str, names: &[&str]) -> bool
     ensures { result ≡ list_any (λ name. bytes_eq name.now id.now) names.now }
 {
     names.iter().any(|name| *name == id)

@@ -2,6 +2,7 @@
 #![tactic(auto)]
 
 mod feed_words;
+mod files;
 mod found;
 mod help;
 mod host_words;
@@ -14,5 +15,5 @@ mod words;
 
 pub use places::Places;
 pub use refusal::Refusal;
-pub use request::{Endpoint, Fetching, Joining, Living, Packing, Request, Serving};
+pub use request::{Command, Endpoint, Fetching, Joining, Living, Packing, Request, Serving};
 pub use words::read;

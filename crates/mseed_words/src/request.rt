@@ -3,10 +3,20 @@ use crate::places::Places;
 use mseed_pack::Encoding;
 use slink_links::{Address, Host, Timeout};
 
-/// What the words of a command line request.
+/// What the words of a command line request, and of which files.
+#[derive(Drop)]
+pub struct Command<'a> {
+    /// What is done.
+    pub request: Request,
+    /// The words that name the files whose bytes, one behind another, are the input; `-` is standard input. Without
+    /// one standard input is read.
+    pub files: Vec<&'a str>,
+}
+
+/// What is done with an input, or with a feed.
 #[derive(Drop)]
 pub enum Request {
-    /// Audit the archive on standard input.
+    /// Audit the archive.
     Audit,
     /// Audit it, and tell each finding.
     AuditEach,
@@ -14,15 +24,15 @@ pub enum Request {
     AuditPart,
     /// Audit it, tell each finding, and write its part.
     AuditPartEach,
-    /// Join the parts on standard input, and write what the audit of their archives says.
+    /// Join the parts, and write what the audit of their archives says.
     Join(Joining),
     /// Join them so, and tell each border with a finding.
     JoinEach(Joining),
     /// Join them, and write their joint part.
     JoinPart(Joining),
-    /// List the records on standard input.
+    /// List the records.
     Show,
-    /// Pack the archive on standard input anew.
+    /// Pack the archive anew.
     Repack(Packing),
     /// Pack it anew, each channel as a list of stretches.
     RepackStretches {

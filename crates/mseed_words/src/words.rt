@@ -1,41 +1,93 @@
 //! What the words of the command line ask for.
-ghost use Rattle.std.specs.Prelude.{◌≡◌, ◌≤◌, IfErr, IfOk, IfSome, List, OnOk, [], map, option_map};
+ghost use Rattle.std.specs.Prelude.{◌≡◌, ◌≤◌, Err, IfErr, IfOk, IfSome, List, None, OnOk, Some, [], map, option_map};
 ghost use Rattle.clap.specs.Matches.{found_of};
 ghost use Rattle.clap.specs.Walk.{Text, rows_of};
 ghost use Rattle.clap.specs.Kinds.{HasKind};
-ghost use Rattle.mseed_words.specs.Words.{AsksFor, CanBeCalled, IsRefusal, auditing_by, auditing_of, encoding_in};
+ghost use Rattle.mseed_words.specs.Files.{files_of};
+ghost use Rattle.mseed_words.specs.Words.{AsksFor, CanBeCalled, IsRefusal, IsUnasked, auditing_by, auditing_of};
+ghost use Rattle.mseed_words.specs.Words.{command_of, encoding_in};
 ghost use Rattle.mseed_words.specs.Words.{encoding_named, entries_in, expected_by, expected_in, exponent_by};
 ghost use Rattle.mseed_words.specs.Words.{exponent_in, faults_in, joining_by, joining_of, joining_with, packing_by};
 ghost use Rattle.mseed_words.specs.Words.{packing_of, packing_with, request_named, request_of, serving_by, showing_of};
 
 use crate::feed_words::{fetching_of, living_of, serving_of};
+use crate::files::{can_be_files, takes_files};
 use crate::found::{asks, has_only, text_of};
 use crate::numbers::{number_in, number_within};
 use crate::options::command;
 use crate::refusal::Refusal;
-use crate::request::{Joining, Packing, Request};
+use crate::request::{Command, Joining, Packing, Request};
 use clap::error::ErrorKind;
 use clap::{ArgMatches, Error};
 use mseed_pack::Encoding;
 use std::alloc::Global;
 
-/// Reads the words of a command line, those after the program's name: what they request.
+/// Reads the words of a command line, those after the program's name: what they request, and of which files. A word
+/// that isn't text stands for itself by another that can be no word.
 ///
 /// # Errors
 ///
 /// `Refusal::Text` where they aren't those of a command line, or ask for the help or the version; `Refusal::NoRequest`
 /// where they are, but request nothing that there is; `Refusal::Memory` where an allocation was refused.
-pub fn read(alloc: Global, words: &[&str]) -> Result<Request, Refusal>
-    ensures request { IfOk result (AsksFor (map (λ word. word.now) words.now)) }
-    ensures range { IfOk result CanBeCalled }
-    ensures refused { IfErr result (IsRefusal (map (λ word. word.now) words.now)) }
+pub fn read<'a>(alloc: Global, words: &'a [&'a str]) -> Result<Command<'a>, Refusal>
+    ensures request { IfOk result (λ command. AsksFor (map (λ word. word.now) words.entry.now) command.request
+        (map (λ file. file.now) command.files.items)) }
+    ensures range { IfOk result (λ command. CanBeCalled command.request) }
+    ensures refused { IfErr result (IsRefusal (map (λ word. word.now) words.entry.now)) }
 {
     match matches_of(alloc, words) {
-        Ok(matches) => match request_of(&matches) {
-            Some(request) => Ok(request),
-            None => Err(Refusal::NoRequest),
-        },
+        Ok(matches) => command_of(alloc, &matches),
         Err(error) => Err(refusal_of(alloc, &error)),
+    }
+}
+
+/// What was read asks for, and of which files.
+///
+/// # Errors
+///
+/// `NoRequest` where it asks for nothing that there is, and `Memory` where there is no room for the files.
+fn command_of<'a>(alloc: Global, matches: &ArgMatches<'a>) -> Result<Command<'a>, Refusal>
+    ensures command { IfOk result (λ command. command_of (rows_of (found_of matches.now))
+        ≡ Some (command.request, map (λ file. file.now) command.files.items)) }
+    ensures range { IfOk result (λ command. CanBeCalled command.request) }
+    ensures refused { IfErr result (λ refusal. IsUnasked refusal (command_of (rows_of (found_of matches.now)))) }
+{
+    let request = match request_of(matches) {
+        Some(request) => request,
+        None => return Err(Refusal::NoRequest),
+    };
+    match files_of(alloc, &request, matches) {
+        Ok(files) => Ok(Command { request, files }),
+        Err(refusal) => Err(refusal),
+    }
+}
+
+/// The files of what is requested: the further words, where it takes files.
+///
+/// # Errors
+///
+/// `NoRequest` where the further words can't be files, and `Memory` where there is no room for them.
+fn files_of<'a>(
+    alloc: Global,
+    request: &Request,
+    matches: &ArgMatches<'a>,
+) -> Result<Vec<&'a str>, Refusal>
+    ensures files { IfOk result (λ files. files_of request.now (rows_of (found_of matches.now))
+        ≡ Some (map (λ file. file.now) files.items)) }
+    ensures refused { IfErr result (λ refusal. IsUnasked refusal
+        (files_of request.now (rows_of (found_of matches.now)))) }
+{
+    let mut files = Vec::new(alloc);
+    if !takes_files(request) {
+        return Ok(files);
+    }
+    let words = matches.get_raw("place").unwrap_or(&[]);
+    if !can_be_files(words) {
+        return Err(Refusal::NoRequest);
+    }
+    match files.extend_from_slice(words) {
+        Ok(()) => Ok(files),
+        Err(_) => Err(Refusal::Memory),
     }
 }
 
@@ -110,7 +162,7 @@ fn auditing_of(matches: &ArgMatches<'_>) -> Option<Request>
     ensures value { result ≡ auditing_of (rows_of (found_of matches.now)) }
     ensures range { IfSome result CanBeCalled }
 {
-    if !has_only(matches, &["command", "each", "part"]) {
+    if !has_only(matches, &["command", "place", "each", "part"]) {
         return None;
     }
     Some(auditing_by(asks(matches, "each"), asks(matches, "part")))
@@ -136,7 +188,7 @@ fn joining_of(matches: &ArgMatches<'_>) -> Option<Request>
 {
     if !has_only(
         matches,
-        &["command", "each", "part", "past-faults", "expect"],
+        &["command", "place", "each", "part", "past-faults", "expect"],
     ) {
         return None;
     }
@@ -194,12 +246,12 @@ fn expected_by(number: u32) -> Option<Option<u64>>
     }
 }
 
-/// The command that lists takes its word alone.
+/// The command that lists takes its word and files alone.
 fn showing_of(matches: &ArgMatches<'_>) -> Option<Request>
     ensures value { result ≡ showing_of (rows_of (found_of matches.now)) }
     ensures range { IfSome result CanBeCalled }
 {
-    if has_only(matches, &["command"]) {
+    if has_only(matches, &["command", "place"]) {
         Some(Request::Show)
     } else {
         None
@@ -213,7 +265,14 @@ fn packing_of(matches: &ArgMatches<'_>) -> Option<Request>
 {
     if !has_only(
         matches,
-        &["command", "length", "encoding", "stretches", "leave"],
+        &[
+            "command",
+            "place",
+            "length",
+            "encoding",
+            "stretches",
+            "leave",
+        ],
     ) {
         return None;
     }

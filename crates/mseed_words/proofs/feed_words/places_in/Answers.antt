@@ -8,6 +8,7 @@ use Rattle.mseed_words.specs.FeedWords.{called_in, called_with, place_named, pla
 use Rattle.mseed_words.specs.Found.{further_in}
 use Rattle.mseed_words.specs.Places.{Called, places_of}
 use Rattle.mseed_words.specs.declared.feed_words.Naming.{Naming}
+use Rattle.mseed_words.proofs.Further.{further_is, texts_of}
 use Rattle.mseed_words.proofs.feed_words.places_in.Goals as goal
 
 -- the place of the two options, with what is given of its number
@@ -19,15 +20,6 @@ first_is sta net from rows place first s n p f =
     f ∙ ap (λ (q : Option Fields). called_with q from) (p
     ∙ (ap (λ (t : Option Text). place_named t net) s
     ∙ ap (λ (t : Option Text). place_named (first_of (codes "station") rows) t) n))
-
--- the further places, where any are given
-abbrev texts_of : Bor (List (Bor Text)) → List Text
-texts_of words = map (λ (word : Bor Text). word.now) words.now
-
-further_is : (found : Option (Bor (List (Bor Text)))) (none : Bor (List (Bor Text))) → texts_of none ≡ []
-    → texts_of (unwrap_or found none) ≡ unwrap_or (option_map texts_of found) []
-further_is None none e = e
-further_is (Some words) none e = refl
 
 -- all places
 all_are : (naming : Naming) (from : Option Text) (rows : List Row) (first : Option Called) (further : List Text)
