@@ -270,8 +270,6 @@ def words() -> Cases:
         ("another word", "unpack"),
         ("an option of another command", "audit", "--port", "18000"),
         ("an option and no command", "--length=512"),
-        ("two words", "audit", "audit"),
-        ("two words of another command", "show", "show"),
         ("a capital letter", "Audit"),
         ("a space behind", "audit "),
         ("an empty word", ""),

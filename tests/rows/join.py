@@ -465,7 +465,7 @@ def words() -> Cases:
                   "fetch --port 1 --station STA --network XX --expect 2",
                   "audit --past-faults", "audit --part --past-faults", "audit --each --past-faults", "show --part",
                   "show --past-faults", "repack --part", "repack --past-faults", "--part", "--past-faults", "Join",
-                  "join join", "join audit", "audit join", "join XX_STB", "join --length 512", "join --encoding int32",
+                  "join --length 512", "join --encoding int32",
                   "join --port 18000", "join --station STA", "join --network XX", "join --capacity 1", "join --first 0",
                   "join --from 0", "join --connections 1", "join --tries 1",
                   "serve --port 1 --station STA --network XX --part",
@@ -473,7 +473,6 @@ def words() -> Cases:
                   "serve --port 1 --station STA --network XX --past-faults",
                   "fetch --port 1 --station STA --network XX --past-faults"):
         yield Row(given, text, given.split(), 3, b"", BAD_VALUE, left=len(text))
-    yield Row("join and a word that is not UTF-8", text, ["join", b"\xff"], 3, b"", BAD_VALUE, left=len(text))
     for given, about in (("join --part --part", "part"), ("join --each --each", "each"),
                          ("join --expect 2 --expect 2", "expect"), ("join --expect", "expect"),
                          ("join --past-faults --past-faults", "past-faults"), ("join --past-faults=1", "past-faults")):

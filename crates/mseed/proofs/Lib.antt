@@ -1,3 +1,4 @@
+pub mod Asking
 pub mod Encodings
 pub mod Fills
 pub mod OneFilling

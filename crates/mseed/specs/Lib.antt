@@ -1,9 +1,11 @@
+pub mod Asked
 pub mod Outcome
 pub mod Run
 pub mod Done
 pub mod Joined
 pub mod Repacked
 pub mod Restretched
+pub mod Files
 pub mod Filling
 pub mod Plans
 pub mod Live

@@ -1,9 +1,10 @@
 //! The command line.
-ghost use Rattle.std.specs.Prelude.{◌≡◌, map, nat_lt, if◌then◌else◌};
+ghost use Rattle.std.specs.Prelude.{◌≡◌, ℕ, List, [], ◌∷◌, map, nat_lt, if◌then◌else◌};
 ghost use Rattle.mseed_stream.specs.Device.{nothing_read};
 ghost use Rattle.mseed_stream.specs.Telling.{Tells};
 ghost use Rattle.mseed_words.specs.Words.{AreRefused, AsksFor, AsksForNothing, CanBeCalled};
 ghost use Rattle.mseed_words.specs.declared.request.Request.{Request};
+ghost use Rattle.mseed.specs.Asked.{CanBeDone, HasRun, IsLeft};
 ghost use Rattle.mseed.specs.Done.{EndsRefused, EndsShow, bad_value};
 ghost use Rattle.mseed.specs.Joined.{EndsJoin};
 ghost use Rattle.mseed.specs.Live.{CanBeServed};
@@ -12,7 +13,7 @@ ghost use Rattle.mseed.specs.Repacked.{AreOptionsOf, EndsRepack};
 ghost use Rattle.mseed.specs.Restretched.{EndsStretches};
 ghost use Rattle.mseed.specs.Run.{HasCarriedOut, HasRefusedRequest, HasRefusedWords, UnlessMemoryLacks, streams};
 
-use crate::outcome::{BAD_COMMAND, BROKEN, DONE, FAULT, Run};
+use crate::outcome::{Asked, BAD_COMMAND, BROKEN, DONE, FAULT, Run};
 use crate::planning::{plan_fetch, plan_serve};
 use crate::refusal::{refuse_to_join, refuse_to_repack, refuse_to_stretch};
 use mseed_audit::{AuditFault, EachFault, Summary, audit, audit_each};
@@ -21,7 +22,7 @@ use mseed_pack::Options;
 use mseed_repack::{Left, RepackFault, StretchesFault, repack, repack_stretches};
 use mseed_show::{ShowFault, show};
 use mseed_stream::{Sink, Source, StreamFault, tell};
-use mseed_words::{Packing, Refusal, Request};
+use mseed_words::{Command, Packing, Refusal, Request};
 use std::alloc::{Allocator, Global};
 
 /// Carries out what the words of the command line ask for, those after the program's name.
@@ -37,33 +38,67 @@ use std::alloc::{Allocator, Global};
 /// where the input is no whole archive, where a channel can't be packed, or where the output failed; `errors` takes a
 /// line that says so. `serve` fills a feed with the records of `input` and answers how it is to be served, or status 2
 /// with a line where they aren't all the feed's or don't end where a record ends. `fetch` answers what is to be
-/// fetched. Other words are a bad command line: status 3. Where there was no memory for the words, status 2. The input
-/// is one of which nothing was read yet.
-pub fn run<R: Source, W: Sink, E: Sink>(
+/// fetched. Where files are named nothing is done yet: they are left to be read. Other words are a bad command line:
+/// status 3. Where there was no memory for the words, status 2. The input is one of which nothing was read yet.
+#[tactic(auto, using(crate::proofs::Asking::called_is, crate::proofs::Asking::left_is))]
+pub fn run<'a, R: Source, W: Sink, E: Sink>(
     alloc: Global,
-    words: &[&str],
+    words: &'a [&'a str],
     input: &mut R,
     output: &mut W,
     errors: &mut E,
-) -> Run
+) -> Asked<'a>
     requires { R.read input.old ≡ nothing_read }
-    ensures called { (request : Request) → AsksFor (map (λ word. word.now) words.now) request
-        → UnlessMemoryLacks (HasCarriedOut request) result
+    ensures called { (request : Request) → AsksFor (map (λ word. word.now) words.entry.now) request []
+        → HasRun result (UnlessMemoryLacks (HasCarriedOut request))
         (streams (R.read input.old) (W.written output.old) (E.written errors.old))
         (streams (R.read input.new) (W.written output.new) (E.written errors.new)) }
-    ensures bad { AsksForNothing (map (λ word. word.now) words.now)
-        → UnlessMemoryLacks HasRefusedRequest result
+    ensures files { (request : Request) (file : List ℕ) (files : List (List ℕ))
+        → AsksFor (map (λ word. word.now) words.entry.now) request (file ∷ files)
+        → IsLeft request (file ∷ files) result
         (streams (R.read input.old) (W.written output.old) (E.written errors.old))
         (streams (R.read input.new) (W.written output.new) (E.written errors.new)) }
-    ensures refused { AreRefused (map (λ word. word.now) words.now)
-        → UnlessMemoryLacks HasRefusedWords result
+    ensures bad { AsksForNothing (map (λ word. word.now) words.entry.now)
+        → HasRun result (UnlessMemoryLacks HasRefusedRequest)
         (streams (R.read input.old) (W.written output.old) (E.written errors.old))
         (streams (R.read input.new) (W.written output.new) (E.written errors.new)) }
-    ensures served { CanBeServed result }
+    ensures refused { AreRefused (map (λ word. word.now) words.entry.now)
+        → HasRun result (UnlessMemoryLacks HasRefusedWords)
+        (streams (R.read input.old) (W.written output.old) (E.written errors.old))
+        (streams (R.read input.new) (W.written output.new) (E.written errors.new)) }
+    ensures served { CanBeDone result }
 {
     match mseed_words::read(alloc, words) {
-        Ok(request) => carry_out(alloc, request, input, output, errors),
-        Err(refusal) => Run::Status(refuse(errors, &refusal)),
+        Ok(command) => carry_out_unless_files(alloc, command, input, output, errors),
+        Err(refusal) => Asked::Done(Run::Status(refuse(errors, &refusal))),
+    }
+}
+
+/// Does what is requested, unless it is to be done with files.
+fn carry_out_unless_files<'a, R: Source, W: Sink, E: Sink>(
+    alloc: Global,
+    command: Command<'a>,
+    input: &mut R,
+    output: &mut W,
+    errors: &mut E,
+) -> Asked<'a>
+    requires unread { R.read input.old ≡ nothing_read }
+    requires called { CanBeCalled command.request }
+    ensures done { map (λ file. file.now) command.entry.files.items ≡ []
+        → HasRun result (HasCarriedOut command.entry.request)
+        (streams (R.read input.old) (W.written output.old) (E.written errors.old))
+        (streams (R.read input.new) (W.written output.new) (E.written errors.new)) }
+    ensures files { (file : List ℕ) (files : List (List ℕ))
+        → map (λ file. file.now) command.entry.files.items ≡ file ∷ files
+        → IsLeft command.entry.request (file ∷ files) result
+        (streams (R.read input.old) (W.written output.old) (E.written errors.old))
+        (streams (R.read input.new) (W.written output.new) (E.written errors.new)) }
+    ensures served { CanBeDone result }
+{
+    if command.files.is_empty() {
+        Asked::Done(carry_out(alloc, command.request, input, output, errors))
+    } else {
+        Asked::Files(command)
     }
 }
 

@@ -6,6 +6,7 @@ ghost use Rattle.std.specs.Prelude.{IfOk};
 ghost use Rattle.mseed.specs.Live.{CanBeServed};
 
 mod command;
+mod files;
 mod fill_fault;
 mod filling;
 mod live;
@@ -13,12 +14,14 @@ mod outcome;
 mod planning;
 mod refusal;
 
+use files::{run_over_files, texts_of};
+use mseed_files::words_of;
 use mseed_stream::{Buffered, Counted, Sink};
-use outcome::Run;
+use outcome::{Asked, Run};
 use std::alloc::{AllocError, Global};
-use std::io::{BufReader, ErrorKind};
+use std::io;
+use std::io::BufReader;
 use std::process::ExitCode;
-use std::{env, io};
 
 /// So many bytes of the input are read at once.
 const ROOM: usize = 1 << 17;
@@ -33,8 +36,7 @@ fn main(rt: HostRuntime) -> ExitCode {
             let mut output = Counted::new(io::writer(&rt));
             slink_links::fetch(&rt, &mut plan, &mut output, &mut errors)
         }
-        Err(error) if error.kind() == ErrorKind::OutOfMemory => command::refuse_memory(&mut errors),
-        Err(_) => command::refuse_words(&mut errors),
+        Err(_) => command::refuse_memory(&mut errors),
     };
     ExitCode::from(status)
 }
@@ -45,29 +47,19 @@ fn main(rt: HostRuntime) -> ExitCode {
 ///
 /// # Errors
 ///
-/// `OutOfMemory` where there was no room for the words, and `InvalidData` where one isn't UTF-8.
-/// Nothing was read or written then.
+/// Where there was no room for the words or a buffer. Nothing was read or written then.
 fn run_with_words<E: Sink>(rt: &HostRuntime, errors: &mut E) -> io::Result<Run>
     ensures { IfOk result CanBeServed }
 {
     let words = words_of(rt)?;
-    let lent = lend(rt.alloc(), &words)?;
+    let texts = texts_of(rt.alloc(), &words)?;
+    let lent = lend(rt.alloc(), &texts)?;
     let mut input = Buffered::new(BufReader::with_capacity(rt.alloc(), ROOM, rt.reader())?);
     let mut output = Counted::new(io::writer(rt));
-    Ok(command::run(rt.alloc(), &lent, &mut input, &mut output, errors))
-}
-
-/// The words of the command line, those after the program's name.
-///
-/// # Errors
-///
-/// `OutOfMemory` where there was no room for them, and `InvalidData` where one isn't UTF-8.
-fn words_of(rt: &HostRuntime) -> io::Result<Vec<String>> {
-    let mut words = Vec::new(rt.alloc());
-    for word in env::args(rt)?.skip(1) {
-        words.push(word)?;
+    match command::run(rt.alloc(), &lent, &mut input, &mut output, errors) {
+        Asked::Done(run) => Ok(run),
+        Asked::Files(command) => run_over_files(rt, command, &words, errors),
     }
-    Ok(words)
 }
 
 /// The words, lent.

@@ -1,5 +1,5 @@
 //! What a command leaves to do, and the exit statuses.
-use mseed_words::Living;
+use mseed_words::{Command, Living};
 use slink_links::{FetchPlan, ServePlan};
 use std::alloc::{Allocator, Global};
 
@@ -15,7 +15,16 @@ pub const FAULT: u8 = 2;
 /// A bad command line.
 pub const BAD_COMMAND: u8 = 3;
 
-/// What `run` answers.
+/// What the words of a command line come to.
+#[derive(Drop)]
+pub enum Asked<'a, A: Allocator = Global> {
+    /// What was asked for was run over one input.
+    Done(Run<A>),
+    /// It is to be carried out over files.
+    Files(Command<'a>),
+}
+
+/// What a command that was carried out answers.
 #[derive(Drop)]
 pub enum Run<A: Allocator = Global> {
     /// The command is done, with this exit status.

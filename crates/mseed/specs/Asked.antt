@@ -1,0 +1,26 @@
+-- What `run` comes to, by what the words ask for, and of which files.
+use Rattle.std.specs.Prelude.{◌≡◌, List, ℕ, map}
+use Rattle.mseed_words.specs.Words.{CanBeCalled}
+use Rattle.mseed_words.specs.declared.request.Request.{Request}
+use Rattle.mseed.specs.Live.{CanBeServed}
+use Rattle.mseed.specs.Run.{IsIdle, LacksMemory, Streams}
+use Rattle.mseed.specs.declared.outcome.Asked.{Asked}
+use Rattle.mseed.specs.declared.outcome.Asked.TheVariants.{Done, Files}
+use Rattle.mseed.specs.declared.outcome.Run.{Run}
+
+-- it was run over one input, and this holds of what that came to
+abbrev pub HasRun : {A : Type 0} → Asked A → (Run A → Streams → Streams → Type 0) → Streams → Streams → Type 0
+HasRun (Done run) P old new = P run old new
+HasRun (Files command) P old new = ⊥
+
+-- nothing was read or written: it is to be carried out over these files, unless there was no memory for the words
+abbrev pub IsLeft : {A : Type 0} → Request → List (List ℕ) → Asked A → Streams → Streams → Type 0
+IsLeft request files (Done run) old new = LacksMemory run old new
+IsLeft request files (Files command) old new =
+    (command.request ≡ request) × (map (λ file. file.now) command.files.items ≡ files) × IsIdle old new
+    × (new.errors ≡ old.errors)
+
+-- what is left to be done can be done
+abbrev pub CanBeDone : {A : Type 0} → Asked A → Type 0
+CanBeDone (Done run) = CanBeServed run
+CanBeDone (Files command) = CanBeCalled command.request
