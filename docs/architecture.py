@@ -23,6 +23,7 @@ CRATES = {
     "mseed_steim": (1, "words, frames, samples"),
     "mseed_stream": (2, "devices, the cutter"),
     "mseed_text": (2, "lines of text"),
+    "mseed_select": (3, "records that are asked for"),
     "mseed_audit": (1.5, "findings, verdicts, text"),
     "mseed_parts": (0, "parts of audits, joined"),
     "mseed_join": (0, "the text of parts"),
