@@ -1,6 +1,6 @@
 """The manual pages: each is without a warning of mandoc or man, each command that it shows prints what stands there,
 and the options that the pages name are those of the program's help. The help names the commands of the pages, and says
-at once how a file is read; the version is that of the file VERSION."""
+at once how a file is named; the version is that of the file VERSION."""
 
 from __future__ import annotations
 
@@ -22,11 +22,11 @@ def texts(named: set[str]) -> Cases:
     options = set(re.findall(r"--([a-z][a-z-]*)", found["--help"]))
     yield Fact("the options of the pages, and of the help", named, options)
     first = found["--help"].splitlines()[1]
-    yield holds("the help says at once how a file is read", "mseed audit < my.mseed" in first, first)
+    yield holds("the help says at once how a file is named", "mseed audit my.mseed" in first, first)
     for page in PAGES:
         command = page.stem.partition("-")[2]
         if command:
-            example = re.search(rf"^ +mseed {command} .*[<>] ", found["--help"], re.MULTILINE)
+            example = re.search(rf"^ +mseed {command} .*\.(mseed|part)$", found["--help"], re.MULTILINE)
             yield holds(f"the help has an example of {command}", example, found["--help"])
     version = (ROOT / "VERSION").read_text(encoding="utf-8")
     yield Fact("the version is that of VERSION", f"mseed {version}", found["--version"])

@@ -3,10 +3,10 @@
 /// The number of the release, as in the file `VERSION`.
 pub const VERSION: &str = "0.1.0";
 
-/// What the program does, and how it is given a file.
+/// What the program does, and how files are named.
 pub const ABOUT: &str =
     "Audits, joins audits, lists, repacks, serves and fetches seismic waveforms in miniSEED.
-A file is read from standard input: mseed audit < my.mseed";
+Files are named after the command: mseed audit my.mseed";
 
 /// Each command by what it reads and writes, its options, its statuses and an example.
 pub const COMMANDS: &str = "Commands:
@@ -14,27 +14,27 @@ pub const COMMANDS: &str = "Commands:
           reads an archive, writes a line for each channel; status 1: a channel is broken
           options: --each, first a line for each record with a finding;
           --part, in place of the lines what audits of further archives can be joined with
-            mseed audit < my.mseed
-  join    the audit of archives one behind another, from a part of each
-          reads the parts that audit --part wrote, one behind another in the archives' order,
+            mseed audit my.mseed
+  join    the audit of archives one after another, from a part of each
+          reads the parts that audit --part wrote, one after another in the archives' order,
           writes the lines of an audit, with its statuses
           options: --part, in place of the lines the joint part; or --each, first a line for
           each finding between the end of a channel in one archive and its begin in a later one;
-          --past-faults, go on behind a part that ends with a fault, tell the fault and count it: status 2;
+          --past-faults, go on after a part that ends with a fault, tell the fault and count it: status 2;
           --expect, how many parts there have to be: with fewer or more no audit is written, status 2
-            mseed join --expect 31 < january.parts
+            mseed join --expect 31 january/*.part
   show    lists the records
           reads an archive, writes a line for each record
-            mseed show < my.mseed
+            mseed show my.mseed
   repack  packs each channel anew, in records of one length and one encoding
           reads an archive, writes an archive, which is bytes, to a terminal too: name a file
-          behind >; status 1: a channel isn't continuous
+          after >; status 1: a channel isn't continuous
           options: --length, --encoding; --stretches, take each channel as a list of stretches, so
           that a channel may have gaps and its clock may drift; with it --leave, leave out and tell
           the channels that can't be packed: status 1 or 2
-            mseed repack --length 4096 --encoding steim1 < my.mseed > packed.mseed
+            mseed repack --length 4096 --encoding steim1 my.mseed > packed.mseed
   serve   sends the records of stations to clients, over SeedLink 3
-          reads an archive of records of 512 bytes, writes nothing
+          reads an archive of records of 512 bytes from standard input, writes nothing
           options: --port, --station and --network, which it needs, --address, --timeout,
           --capacity, --first, --connections; further stations as NET_STA;
           --live, serve many clients at once while the archive comes, --clients of them:
@@ -50,12 +50,16 @@ pub const COMMANDS: &str = "Commands:
           numbers are ahead and tell each hole, in which records may be lost unseen
             mseed fetch --port 18000 --station ANMO --network IU > fetched.mseed
 
-What is read is standard input, and what is written standard output; messages go to standard error.
+Files:
+  audit, join, show and repack read the files that are named, one after another, as one input;
+  - is standard input, and after -- each word is a file. Where no file is named, and by serve,
+  what is read is standard input. What is written is standard output; messages go to standard
+  error.
 
 Statuses:
   0  done; of audit: each channel is continuous
   1  of audit: a channel is broken; of repack: one isn't continuous, and nothing was written, or
      with --leave the others
-  2  a fault: of the input, the output or a connection, a request that can't be met, or out of
-     memory; a line says which
+  2  a fault: of the input, the output or a connection, a file that can't be read, a request that
+     can't be met, or out of memory; a line says which
   3  a bad command line, this help, or the version";

@@ -203,7 +203,7 @@ fn with_places<'a>(alloc: Global, command: Command<'a>) -> Result<Command<'a>, A
 {
     let word = Arg::new(alloc, "command").help("audit, join, show, repack, serve or fetch");
     let places = Arg::new(alloc, "place").action(ArgAction::Append).help(
-        "serve, fetch: further stations, NET_STA; of fetch also NET_STA:HEX",
+        "audit, join, show, repack: files; serve, fetch: further stations, NET_STA; of fetch also NET_STA:HEX",
     );
     command.arg(word)?.arg(places)
 }
