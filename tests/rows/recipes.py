@@ -1,6 +1,6 @@
-"""The recipes of the pages that join parts, or read what `cat` and `tail` read, as they stand there, and
-bench/audit_by_cores.sh: over files of any name they come to what a second program says (models/auditing.py); and where a job is killed, a file
-or a folder can't be read or a machine is down, they say so, and name no channel continuous."""
+"""The recipes of the pages that join parts, read what `tail` reads, or read files by a pattern, as they stand there, and
+bench/audit_by_cores.sh: over files of any name they come to what a second program says (models/auditing.py); and where
+a job is killed, a file or a folder can't be read or a machine is down, they say so, and name no channel continuous."""
 
 from __future__ import annotations
 
@@ -24,6 +24,8 @@ ODD = ["a b", "it's", 'say "so"', "line\nend", "$HOME `x`", "-dash", "star*", "b
        "caf\u00e9", "{}", "#1", "a;b&c|d"]
 LACKS = rf"^mseed: {len(ODD) - 1} parts, not {len(ODD)}$"
 BAD = r"^mseed: bad part at line \d+$"
+# The blocks that are recipes of this kind.
+JOINING = re.compile(r"mseed join\b|\$.*; (cat|tail) [^;]*\|\s*\S*mseed |\$ mseed [^|;\n]*\*")
 # Where they stand.
 EXPECTED = [("README.md", "audit"), ("README.md", "join"), ("docs/cookbook.md", "Files on all cores, joined"),
             ("docs/cookbook.md", "Files on all cores, joined"), ("docs/cookbook.md", "One large archive on all cores"),
@@ -44,13 +46,14 @@ class Recipe(NamedTuple):
 
 
 def recipes() -> Iterator[Recipe]:
-    """Those of the pages: the blocks of commands that join parts, or read through a pipe what a file holds."""
+    """Those of the pages: the blocks of commands that join parts, read through a pipe what a file holds, or read the
+    files of a pattern."""
     for document in ("README.md", "docs/cookbook.md"):
         heading = ""
         blocks = r"^#+ ([^\n]*)|^(```(?:console|sh)\n)(.*?^)```"
         for found in re.finditer(blocks, (ROOT / document).read_text(encoding="utf-8"), re.MULTILINE | re.DOTALL):
             heading, block = found[1] or heading, found[3] or ""
-            if re.search(r"mseed join\b|\$.*; (cat|tail) [^;]*\|\s*\S*mseed ", block) and "tools/" not in block:
+            if JOINING.search(block) and "tools/" not in block:
                 commands = [command for command, _ in examples(found[2] + block + "```")]
                 yield Recipe(document, heading, "\n".join(commands) if commands else block)
 
