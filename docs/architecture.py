@@ -38,6 +38,7 @@ CRATES = {
     "slink_live_tcp": (5, "an input and links over TCP"),
     "slink_model": (3, "schedules over cut links"),
     "mseed_c": (0, "the calls for C"),
+    "mseed_files": (2.75, "files, one after another"),
     "mseed_words": (4, "what words request"),
     "mseed": (2, "the command"),
 }
