@@ -3,7 +3,7 @@
 # make show             lists the records of a sample archive, or of FILE=..
 # make repack           packs the channels of one anew, into packed.mseed or OUT=..
 # make lib              the library for C, C++ and Python, in crates/mseed_c/out/lib
-# make install          the program, its manual pages, the tools, and what make lib built, below /usr/local or PREFIX=..
+# make install          the program, its manual pages and completion, the tools, and what make lib built, below /usr/local or PREFIX=..
 # make uninstall        removes what make install put there, and nothing else
 # make test             the whole gate, then all row files of the tests, and a tenth of tests/must-fail
 # make edits            tries all wrong bodies of tests/must-fail: docs/developing.md

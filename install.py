@@ -49,8 +49,10 @@ def filled(path: str, source: Path, prefix: str) -> Thing:
 
 
 def program(built: Path, prefix: str) -> Iterator[Thing]:
-    """The program, its manual pages, and the tools, which are on the path as `mseed-sds` and the like."""
+    """The program, its manual pages, its completion for bash, and the tools, which are on the path as `mseed-sds` and
+    the like."""
     yield copied(f"{prefix}/bin/mseed", built, 0o755)
+    yield copied(f"{prefix}/share/bash-completion/completions/mseed", ROOT / "completion" / "mseed.bash")
     for page in sorted((ROOT / "man").glob("*.1")):
         yield filled(f"{prefix}/share/man/man1/{page.name}", page, prefix)
     for source in sorted((ROOT / "tools" / "mseed_tools").rglob("*.py")):

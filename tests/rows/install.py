@@ -102,6 +102,8 @@ def staged(folder: Path) -> Cases:
     yield Fact("the program", "records 0 channels 0\n", run([f"{root}{prefix}/bin/mseed", "audit"]))
     pages = [(root / "opt/mseed/share/man/man1" / page.name).read_text(encoding="utf-8")
              for page in (ROOT / "man").glob("*.1")]
+    completion = root / "opt/mseed/share/bash-completion/completions/mseed"
+    yield holds("the completion for bash is there", completion.is_file(), completion)
     yield holds("the pages have the version", pages and all(VERSION in page and "@" not in page for page in pages))
     yield from from_c(folder, {"PKG_CONFIG_LIBDIR": f"{lib}/pkgconfig", "PKG_CONFIG_SYSROOT_DIR": str(root)}, lib)
     yield Fact("Python", f"{root}{python_dir}/mseed/__init__.py {VERSION} records 0 channels 0\n",

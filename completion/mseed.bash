@@ -1,0 +1,50 @@
+# Completion of mseed for bash: commands, the options of each, their values, and files.
+
+# The commands, where none is there yet, else the options of one.
+_mseed_words()
+{
+    case $1 in
+        "") echo audit join show repack serve fetch --help --version ;;
+        audit) echo --each --part ;;
+        join) echo --part --each --past-faults --expect ;;
+        repack) echo --length --encoding --stretches --leave ;;
+        serve) echo --port --station --network --address --timeout --capacity --first --connections --live --clients ;;
+        fetch) echo --port --station --network --address --timeout --from --tries --tell-next --holes ;;
+    esac
+}
+
+_mseed()
+{
+    local word=${COMP_WORDS[COMP_CWORD]} before=${COMP_WORDS[COMP_CWORD - 1]} command= ended= proposed= at
+
+    # Where nothing is proposed, bash proposes files, as after a redirection.
+    COMPREPLY=()
+    [[ $before == *[\<\>] ]] && return
+
+    # Bash parts --length=512 at the sign.
+    [ "$word" = = ] && word=
+    [ "$before" = = ] && before=${COMP_WORDS[COMP_CWORD - 2]}
+    for ((at = 1; at < COMP_CWORD; at++)); do
+        case ${COMP_WORDS[at]} in
+            --) ended=yes ;;
+            audit | join | show | repack | serve | fetch) command=${command:-${COMP_WORDS[at]}} ;;
+        esac
+    done
+    case $command in
+        "" | serve | fetch) compopt +o bashdefault +o default 2> /dev/null ;;
+    esac
+    [ "$ended" ] && return
+    case $before in
+        --length) proposed='128 256 512 1024 2048 4096' ;;
+        --encoding) proposed='int16 int32 steim1 steim2' ;;
+        --address) [ "$command" = fetch ] && mapfile -t COMPREPLY < <(compgen -A hostname -- "$word") ;;
+        --expect | --port | --station | --network | --timeout | --capacity | --first | --connections | --clients | \
+            --from | --tries)
+            compopt +o bashdefault +o default 2> /dev/null
+            ;;
+        *) [[ ! $command || $word == -* ]] && proposed=$(_mseed_words "$command") ;;
+    esac
+    [ "$proposed" ] && mapfile -t COMPREPLY < <(compgen -W "$proposed" -- "$word")
+}
+
+complete -o bashdefault -o default -F _mseed mseed
