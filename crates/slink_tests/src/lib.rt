@@ -11,4 +11,6 @@ mod live_tcp;
 #[cfg(test)]
 mod model;
 #[cfg(test)]
+mod tcp_events;
+#[cfg(test)]
 mod wire;
