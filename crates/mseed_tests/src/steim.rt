@@ -6,6 +6,7 @@ mod frames;
 mod integers;
 mod memory;
 mod packed;
+mod packed_series;
 mod record;
 mod steim;
 mod widen;
