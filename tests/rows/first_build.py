@@ -65,7 +65,7 @@ def by_memory() -> Cases:
     build.left = sorted(build.on, key=build.ways.get, reverse=True)
     build.costs, build.cores = {crate: prove.Cost(1, 2) for crate in build.on}, 4
     low = {crate for crate in libraries if not build.on[crate]}
-    for free, wanted in [(0.5, 1), (3.9, 1), (4, len(low)), (64, len(low))]:
+    for free, wanted in [(0.5, 1), (3.9, 1), (4, 2), (64, len(low))]:
         build.free = free
         found = build.ready(libraries)
         yield Fact(f"with {free} GB so many of 2 GB are begun", (wanted, set()), (len(found), set(found) - low))
