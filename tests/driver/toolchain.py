@@ -10,9 +10,7 @@ from typing import Sequence
 from driver.program import CRATES, ROOT
 
 TOOLCHAIN = "the toolchain, rt"
-# The crate and those that it stands on.
-BELOW = ["mseed_time", "mseed_record", "mseed_stream", "mseed_steim", "mseed_audit", "mseed_pack", "slink_wire",
-         "slink_feed", "slink_model"]
+CRATE = "slink_model"
 
 
 def is_installed() -> bool:
@@ -23,10 +21,15 @@ def is_installed() -> bool:
 def copied(folder: Path, more: str = "") -> Path:
     """A copy of the crate and of those below it, with another line in crates.txt: the folder of its crates."""
     shutil.copy(ROOT / "HANDLES", folder)
-    lines = (ROOT / "crates.txt").read_text(encoding="utf-8").splitlines()
-    kept = [line for line in lines if line.partition(":")[0] in BELOW]
-    (folder / "crates.txt").write_text("\n".join([*kept, more]) + "\n", encoding="utf-8")
-    for crate in BELOW:
+    text = (ROOT / "crates.txt").read_text(encoding="utf-8")
+    lines = {line.partition(":")[0]: line for line in text.splitlines() if ":" in line and line[0] != "#"}
+    below, left = set(), [CRATE]
+    while left:
+        crate = left.pop()
+        below.add(crate)
+        left += {word for word in lines[crate].partition(":")[2].split() if word in lines} - below
+    (folder / "crates.txt").write_text("\n".join([*(lines[crate] for crate in sorted(below)), more]) + "\n", encoding="utf-8")
+    for crate in below:
         for part in ("src", "specs", "proofs"):
             shutil.copytree(CRATES / crate / part, folder / "crates" / crate / part)
     return folder / "crates"

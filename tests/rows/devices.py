@@ -69,7 +69,7 @@ def errors(failing: str) -> Cases:
     """A standard error that takes each prefix of a line and no more."""
     for status, line, settings, words in (
         (3, BAD_VALUE, {}, []),
-        (3, BAD_VALUE, {}, ["audit", "audit"]),
+        (3, BAD_VALUE, {}, ["audit", ""]),
         (3, BAD_VALUE, {}, ["unpack"]),
         (2, WRITE_FAILED, {"WRITE_ROOM": 0}, ["audit"]),
         (2, WRITE_FAILED, {"WRITE_ROOM": 0}, ["show"]),

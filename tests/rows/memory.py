@@ -85,13 +85,14 @@ def rows() -> Cases:
         return
     for name, archive, words, status in (
         ("two audit", TWO, "audit", 0),
+        ("two audit in files", b"", f"audit {SAMPLES}/two_records.mseed {SAMPLES}/two_records.mseed", 1),
         ("two repack", TWO, "repack", 0),
         ("four repack", FOUR, "repack", 1),
         ("four repack --stretches", FOUR, "repack --stretches", 0),
         ("two repack --length 500", TWO, "repack --length 500", 3),
         ("two show", TWO, "show", 0),
         ("two show --bogus", TWO, "show --bogus", 3),
-        ("two show show", TWO, "show show", 3),
+        ("two show --length", TWO, "show --length 512", 3),
         ("an ended serve --live", b"", f"serve --live --port {free_port()} --station STA --network XX", 0),
     ):
         yield from refuses(name, Row(name, archive, words.split(), status), refusing, is_listing=words == "show")

@@ -135,7 +135,7 @@ def words() -> Cases:
     for encoding in ("steim3", "Steim2", "int", "", "11"):
         yield from both(replace(bad, name=f"encoding '{encoding}'", words=["repack", f"--encoding={encoding}"]))
     yield from both(replace(bad, name="an option of another command", words=["repack", "--port", "1"]))
-    yield from both(replace(bad, name="a further place", words=["repack", "repack"]))
+    yield from both(replace(bad, name="a file without a name", words=["repack", ""]))
     yield from both(replace(bad, name="a length for the audit", words=["audit", "--length", "512"]))
     yield from both(replace(bad, name="an encoding for the listing", words=["show", "--encoding", "steim2"]))
 

@@ -122,7 +122,7 @@ def words() -> Cases:
     """Options that there aren't, or not together."""
     bad = Row("", FIRST, [], 3, b"", BAD_VALUE)
     for line in ("repack --leave", "audit --stretches", "repack --stretches --port 1", "repack --stretches --length 500",
-                 "show --leave", "repack --stretches more"):
+                 "show --leave", "repack --stretches - -"):
         yield from both(replace(bad, name=line, words=line.split()))
 
 
