@@ -108,7 +108,8 @@ read_one laws o views c records each continuous can into =
 
 gathered : Laws → (o : Options) (views : List View) (cs : List Channel) (text : List ℕ) → AllByRecursion IsView views
     → AllByRecursion (λ (c : Channel). IsContinuous (records_in views c.0)) cs
-    → AllByRecursion (λ (c : Channel). CanBePacked o views c.0) cs → ArePackedInto o views cs text → Gathered o views cs text
+    → AllByRecursion (λ (c : Channel). CanBePacked o views c.0) cs → ArePackedInto o views cs text
+    → Gathered o views cs text
 gathered laws o views [] text each continuous fit e = record { packed = []; keys = refl; text_is = e; each = tt }
 gathered laws o views (c ∷ cs) text each continuous fit (own, (rest, a)) =
     let is = a.1 in

@@ -59,7 +59,8 @@ exact_each added cs are =
     (All-from_recursion (λ (c : Channel). lookup (same_key c.0) cs ≡ Some c.1) cs (found cs are.ascending))
 
 -- a list about one of its members
-pub cut_at : (cs : List Channel) (i : ℕ) (d : Channel) → i < length cs → cs ≡ take i cs ++ get_or cs i d ∷ drop (suc i) cs
+pub cut_at : (cs : List Channel) (i : ℕ) (d : Channel) → i < length cs
+    → cs ≡ take i cs ++ get_or cs i d ∷ drop (suc i) cs
 cut_at cs i d lt = sym (take-append-drop (suc i) cs)
     ∙ ap (λ (xs : List Channel). xs ++ drop (suc i) cs) (take-suc cs i d lt)
     ∙ append_assoc (take i cs) (get_or cs i d ∷ []) (drop (suc i) cs)
