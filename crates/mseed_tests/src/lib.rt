@@ -13,4 +13,6 @@ mod records;
 #[cfg(test)]
 mod repack;
 #[cfg(test)]
+mod select;
+#[cfg(test)]
 mod steim;
