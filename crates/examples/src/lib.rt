@@ -3,6 +3,7 @@
 
 pub mod audits;
 pub mod feed;
+pub mod files;
 pub mod join;
 pub mod links;
 pub mod listing;

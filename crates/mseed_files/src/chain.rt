@@ -81,7 +81,7 @@ impl<O: Open, A: Allocator> Chain<O, A> {
     }
 
     /// How many bytes were read.
-    pub fn bytes(&self) -> u64
+    pub fn bytes_read(&self) -> u64
         ensures { result ≡ self.now.bytes }
     {
         self.bytes
