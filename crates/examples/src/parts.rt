@@ -1,6 +1,6 @@
 //! Calls of `mseed_parts`.
 use mseed_audit::{Channel, Finding, Memory};
-use mseed_parts::{JoinFault, Part};
+use mseed_parts::{JoinFault, Part, TooLarge, sum};
 use mseed_record::Codes;
 use std::alloc::Global;
 
@@ -33,15 +33,15 @@ pub fn joint_counts(one: Part, other: &Part) -> Result<(u64, u64), JoinFault> {
     Ok((joint.records(), joint.bytes()))
 }
 
-/// How many samples all channels of a part have; `None` where the sum doesn't fit.
+/// How many samples all channels of a part have; `None` where that would pass 2^63 - 1.
 pub fn samples_of(alloc: Global, part: Part) -> Result<Option<u64>, Memory> {
     let channels = part.into_channels(alloc)?;
-    let mut sum: u64 = 0;
+    let mut samples = 0;
     for (_, channel) in channels.as_slice() {
-        match sum.checked_add(channel.samples) {
-            Some(more) => sum = more,
-            None => return Ok(None),
+        match sum(samples, channel.samples) {
+            Ok(more) => samples = more,
+            Err(TooLarge) => return Ok(None),
         }
     }
-    Ok(Some(sum))
+    Ok(Some(samples))
 }
