@@ -112,6 +112,7 @@ impl<A: Allocator + Copy> Joint<A> {
     /// # Errors
     ///
     /// `Bad` where no parts that can be joined go on so, `Memory` where there was no room for a channel that is new.
+    #[inline(always)]
     pub(crate) fn take_line(&mut self, line: &[u8]) -> Result<Reported, LineFault>
         requires parts { self.old.parts < 2 ^ 63 }
         requires ended { (body : List ℕ) × HasNoEnd body × (line.now ≡ body ++ codes "\n") }

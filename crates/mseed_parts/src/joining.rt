@@ -23,6 +23,7 @@ pub struct TooLarge;
 /// # Errors
 ///
 /// `TooLarge` exactly where it would pass 2^63 - 1.
+#[inline(always)]
 pub fn sum(a: u64, b: u64) -> Result<u64, TooLarge>
     ensures value { IfOk result (λ n. n ≡ a + b) }
     ensures fits { IsOk result ↔ a + b < 2 ^ 63 }
