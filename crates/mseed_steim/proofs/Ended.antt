@@ -12,10 +12,10 @@ use Rattle.mseed_steim.specs.Frames.{word_count, data_words, first_constant, las
 use Rattle.mseed_steim.specs.private.Items.{items_of}
 use Rattle.mseed_steim.specs.Samples.{IsSample, AreSums, IsFrameFault, short, last_differs, IsChecked, IsPayloadReading}
 use Rattle.mseed_steim.specs.Samples.{EndsOnConstant}
-use Rattle.mseed_steim.specs.private.Sums.{fold, met_in, lack, walk}
+use Rattle.mseed_steim.specs.private.Sums.{IsKept, fold, met_in, lack, the_sample, walk}
 use Rattle.mseed_steim.proofs.Walking.{words_none}
 use Rattle.mseed_steim.proofs.Given.{items_given, words_small}
-use Rattle.mseed_steim.proofs.Folded.{last_of, Lacks, lacks}
+use Rattle.mseed_steim.proofs.Folded.{last_of, kept_all, Lacks, lacks}
 use Rattle.mseed_steim.proofs.Framed.{Met, Begins, begins, all_met, is_lacking, is_fault, constant_fits}
 
 -- the last of samples by its place, and what stands before it
@@ -33,10 +33,10 @@ before_last x (s ∷ ss) = let found = before_last s ss in (x ∷ found.0, ap (�
 -- a walk that met all samples, from what it answers
 pub walked : (s : Scheme) (p : List ℕ) (n : ℕ) (sum : Sum) → 0 < n → ((i : ℕ) → get_or p i 0 < 256)
     → Ok sum ≡ fold n (record { met = 0; last = first_constant p }) (items_of s (data_words p))
-    → Met s p n (met_in n (record { met = 0; last = first_constant p }) (items_of s (data_words p))) sum.last
+    → Met s p n (met_in the_sample n (record { met = 0; last = first_constant p }) (items_of s (data_words p))) sum.last
 walked s p n sum h octets e =
     let b = subst (λ (r : Result Sum ReadFault). Begins n (first_constant p)
-    (met_in n (record { met = 0; last = first_constant p }) (items_of s (data_words p)))
+    (met_in the_sample n (record { met = 0; last = first_constant p }) (items_of s (data_words p)))
     (items_of s (data_words p)) r) (sym e) (begins n (first_constant p) (items_of s (data_words p)) h) in
     all_met s p n _ (items_of s (data_words p)) sum (items_given s (data_words p) (words_small p octets 3 _))
     (constant_fits p octets 1) b
@@ -84,7 +84,7 @@ walk_fault s p n f h octets e o =
     let l = subst (λ (o : Option ReadFault). Lacks n 0 (items_of s (data_words p)) o) (sym o)
     (lacks n 0 (items_of s (data_words p)) (omega arith)) in
     let b = subst (λ (r : Result Sum ReadFault). Begins n (first_constant p)
-    (met_in n (record { met = 0; last = first_constant p }) (items_of s (data_words p)))
+    (met_in the_sample n (record { met = 0; last = first_constant p }) (items_of s (data_words p)))
     (items_of s (data_words p)) r) (sym e) (begins n (first_constant p) (items_of s (data_words p)) h) in
     is_fault s p n _ (items_of s (data_words p)) f h (items_given s (data_words p) (words_small p octets 3 _))
     (constant_fits p octets 1) b l
@@ -102,7 +102,7 @@ get_pushed (x ∷ prefix) last = get_end x (prefix ++ last ∷ []) ∙ ap (λ (z
 -- samples that were put in their places
 pub filled_met : (s : Scheme) (p : List ℕ) (n : ℕ) (sum : Sum) (out : List ℤ) → 0 < n → ((i : ℕ) → get_or p i 0 < 256)
     → Ok sum ≡ fold n (record { met = 0; last = first_constant p }) (items_of s (data_words p))
-    → out ≡ met_in n (record { met = 0; last = first_constant p }) (items_of s (data_words p))
+    → out ≡ met_in the_sample n (record { met = 0; last = first_constant p }) (items_of s (data_words p))
     → sum.last ≡ last_constant p → IsPayloadReading (Frames s) Big p n out × EndsOnConstant (Frames s) p out
 filled_met s p n sum out h octets e put same =
     let m = walked s p n sum h octets e in
@@ -131,11 +131,13 @@ walk_checked s p n constants (Err f) (Ok ends) h octets e first last same met fa
 walk_checked s p n constants (Ok sum) (Err g) h octets e first last same met fault = fault
 walk_checked s p n constants (Err f) (Err g) h octets e first last same met fault = fault
 
--- and where they are
-pub walk_filled : (s : Scheme) (p : List ℕ) (n : ℕ) (walked : Result Sum ReadFault) (out : List ℤ) → 0 < n
-    → ((i : ℕ) → get_or p i 0 < 256) → walked ≡ walk s p n
-    → OnOk walked (out ≡ met_in n (record { met = 0; last = first_constant p }) (items_of s (data_words p)))
-    → IsOkAnd walked (λ sum. sum.last ≡ last_constant p)
-    → IsPayloadReading (Frames s) Big p n out × EndsOnConstant (Frames s) p out
-walk_filled s p n (Ok sum) out h octets e kept met = filled_met s p n sum out h octets e kept met
-walk_filled s p n (Err f) out h octets e kept met = absurd met
+-- and where something is
+pub walk_kept : (keep : ℤ → ℤ → ℤ) (s : Scheme) (p : List ℕ) (n : ℕ) (walked : Result Sum ReadFault) (out : List ℤ)
+    → 0 < n → ((i : ℕ) → get_or p i 0 < 256) → walked ≡ walk s p n
+    → OnOk walked (out ≡ met_in keep n (record { met = 0; last = first_constant p }) (items_of s (data_words p)))
+    → IsOkAnd walked (λ sum. sum.last ≡ last_constant p) → IsKept keep (Frames s) Big p n out (Ok tt)
+walk_kept keep s p n (Ok sum) out h octets e kept met =
+    let all = met_in the_sample n (record { met = 0; last = first_constant p }) (items_of s (data_words p)) in
+    let whole = filled_met s p n sum all h octets e refl met in
+    (all, (whole.0, whole.1, kept ∙ kept_all keep n (first_constant p) (items_of s (data_words p)) h))
+walk_kept keep s p n (Err f) out h octets e kept met = absurd met

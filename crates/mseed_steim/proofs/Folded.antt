@@ -2,7 +2,8 @@
 use Rattle.std.proofs.Math.Seq.{drop-cons, take-suc-set, take-length}
 use Rattle.std.proofs.Math.ListN.{set}
 use Rattle.std.proofs.Common.{take, drop, get_or, append_assoc, append-nil, ◌≡◌, ℕ, ◌+◌, ◌<◌, ◌≤◌, ◌^◌, List, [], ◌∷◌}
-use Rattle.std.proofs.Common.{◌++◌, map, length, ℤ, pos, negsuc, ◌+ℤ◌, arith, refl, ap, sym, ◌∙◌, subst, false, true}
+use Rattle.std.proofs.Common.{◌++◌, map, length, ℤ, pos, negsuc, ◌+ℤ◌, ◌-ℤ◌, arith, refl, ap, sym, ◌∙◌, subst, false}
+use Rattle.std.proofs.Common.{true}
 use Rattle.std.proofs.Common.{Option, Some, None, Result, Ok, Err, All, ⊎_elim, eqb, suc}
 use Rattle.std.proofs.lemmas.Int.{ints}
 use Rattle.std.proofs.lemmas.Bool.{ne_eqb, eq-eqb, cases_lt}
@@ -12,8 +13,9 @@ use Rattle.mseed_steim.specs.declared.differences.BadWordAt.{BadWordAt}
 use Rattle.mseed_steim.specs.declared.fault.ReadFault.{ReadFault}
 use Rattle.mseed_steim.specs.declared.fault.ReadFault.TheVariants.{Short, BadWord, Overflow}
 use Rattle.mseed_steim.specs.declared.sum.Sum.{Sum}
-use Rattle.mseed_steim.specs.Samples.{IsSample, Adds}
-use Rattle.mseed_steim.specs.private.Sums.{fits, fold, met_in, lack, one_more}
+use Rattle.mseed_steim.specs.Samples.{IsSample, Adds, differences_from, steps_of}
+use Rattle.mseed_steim.specs.private.Sums.{fits, fold, kept_from, kept_of, met_in, lack, one_more, the_difference}
+use Rattle.mseed_steim.specs.private.Sums.{the_sample}
 use Rattle.mseed_steim.proofs.Folds.{fold_enough, fold_add, fold_over, fold_bad, fold_short}
 
 -- the last of some samples, or the one before them
@@ -60,41 +62,120 @@ more_folded n m l d items mets r fit (over k ds x ss more e count less same adds
     (omega arith) (refl, adds) (All-cons IsSample (l +ℤ d) ss fit all) not
 
 -- the samples that a walk meets
-pub met_enough : (n : ℕ) (s : Sum) (items : List (Result ℤ BadWordAt)) → s.met ≡ n → met_in n s items ≡ []
+pub met_enough : (keep : ℤ → ℤ → ℤ) (n : ℕ) (s : Sum) (items : List (Result ℤ BadWordAt)) → s.met ≡ n
+    → met_in keep n s items ≡ []
 unfolding met_in
-met_enough n s [] e = refl
-met_enough n s (Ok d ∷ more) e = rw (eq-eqb s.met n e) refl
-met_enough n s (Err at ∷ more) e = refl
+met_enough keep n s [] e = refl
+met_enough keep n s (Ok d ∷ more) e = rw (eq-eqb s.met n e) refl
+met_enough keep n s (Err at ∷ more) e = refl
 
-pub met_first : (n : ℕ) (s : Sum) (d : ℤ) (more : List (Result ℤ BadWordAt)) → s.met < n → s.met ≡ 0
-    → met_in n s (Ok d ∷ more) ≡ s.last ∷ met_in n (one_more s s.last) more
+pub met_first : (keep : ℤ → ℤ → ℤ) (n : ℕ) (s : Sum) (d : ℤ) (more : List (Result ℤ BadWordAt)) → s.met < n
+    → s.met ≡ 0 → met_in keep n s (Ok d ∷ more) ≡ s.last ∷ met_in keep n (one_more s s.last) more
 unfolding met_in
-met_first n s d more h e =
+met_first keep n s d more h e =
     let less : eqb s.met n ≡ false = ne_eqb s.met n (λ (z : s.met ≡ n). omega arith) in
     rw (less, eq-eqb s.met 0 e) refl
 
-pub met_add : (n : ℕ) (s : Sum) (d : ℤ) (more : List (Result ℤ BadWordAt)) → s.met < n → 0 < s.met
-    → fits (s.last +ℤ d) ≡ true → met_in n s (Ok d ∷ more) ≡ (s.last +ℤ d) ∷ met_in n (one_more s (s.last +ℤ d)) more
+pub met_add : (keep : ℤ → ℤ → ℤ) (n : ℕ) (s : Sum) (d : ℤ) (more : List (Result ℤ BadWordAt)) → s.met < n
+    → 0 < s.met → fits (s.last +ℤ d) ≡ true
+    → met_in keep n s (Ok d ∷ more) ≡ keep d (s.last +ℤ d) ∷ met_in keep n (one_more s (s.last +ℤ d)) more
 unfolding met_in
-met_add n s d more h p e =
+met_add keep n s d more h p e =
     let less : eqb s.met n ≡ false = ne_eqb s.met n (λ (z : s.met ≡ n). omega arith) in
     let some : eqb s.met 0 ≡ false = ne_eqb s.met 0 (λ (z : s.met ≡ 0). omega arith) in
     rw (less, some, e) refl
 
+met_over : (keep : ℤ → ℤ → ℤ) (n : ℕ) (s : Sum) (d : ℤ) (more : List (Result ℤ BadWordAt)) → s.met < n → 0 < s.met
+    → fits (s.last +ℤ d) ≡ false → met_in keep n s (Ok d ∷ more) ≡ []
+unfolding met_in
+met_over keep n s d more h p e =
+    let less : eqb s.met n ≡ false = ne_eqb s.met n (λ (z : s.met ≡ n). omega arith) in
+    let some : eqb s.met 0 ≡ false = ne_eqb s.met 0 (λ (z : s.met ≡ 0). omega arith) in
+    rw (less, some, e) refl
+
+met_none : (keep : ℤ → ℤ → ℤ) (n : ℕ) (s : Sum) → met_in keep n s [] ≡ []
+unfolding met_in
+met_none keep n s = refl
+
+met_bad : (keep : ℤ → ℤ → ℤ) (n : ℕ) (s : Sum) (at : BadWordAt) (more : List (Result ℤ BadWordAt))
+    → met_in keep n s (Err at ∷ more) ≡ []
+unfolding met_in
+met_bad keep n s at more = refl
+
+-- where two lists of what is kept are both empty
+both_empty : (keep : ℤ → ℤ → ℤ) (l : ℤ) (xs ys : List ℤ) → xs ≡ [] → ys ≡ [] → xs ≡ kept_from keep l ys
+both_empty keep l xs ys e h = e ∙ sym (ap (kept_from keep l) h)
+
+-- what is kept is kept of the samples
+kept_later : (keep : ℤ → ℤ → ℤ) (n : ℕ) (s : Sum) (items : List (Result ℤ BadWordAt)) → 0 < s.met → s.met ≤ n
+    → met_in keep n s items ≡ kept_from keep s.last (met_in the_sample n s items)
+kept_later keep n s [] p h = both_empty keep s.last _ _ (met_none keep n s) (met_none the_sample n s)
+kept_later keep n s (Err at ∷ more) p h =
+    both_empty keep s.last _ _ (met_bad keep n s at more) (met_bad the_sample n s at more)
+kept_later keep n s (Ok d ∷ more) p h = ⊎_elim
+    (λ (less : s.met < n). (elim (fits (s.last +ℤ d)) as (λ b. fits (s.last +ℤ d) ≡ b
+    → met_in keep n s (Ok d ∷ more) ≡ kept_from keep s.last (met_in the_sample n s (Ok d ∷ more))) [
+      | true ↦ λ e.
+          let back : (s.last +ℤ d) -ℤ s.last ≡ d = omega (arith, ints) in
+          let later = kept_later keep n (one_more s (s.last +ℤ d)) more (omega arith) (omega arith) in
+          met_add keep n s d more less p e ∙ ap (λ (zs : List ℤ). keep d (s.last +ℤ d) ∷ zs) later
+          ∙ sym (ap (kept_from keep s.last) (met_add the_sample n s d more less p e)
+          ∙ ap (λ (z : ℤ). keep z (s.last +ℤ d) ∷ kept_from keep (s.last +ℤ d)
+          (met_in the_sample n (one_more s (s.last +ℤ d)) more)) back)
+      | false ↦ λ e. both_empty keep s.last _ _ (met_over keep n s d more less p e)
+          (met_over the_sample n s d more less p e)
+    ]) refl)
+    (λ (most : n ≤ s.met). both_empty keep s.last _ _ (met_enough keep n s (Ok d ∷ more) (omega arith))
+    (met_enough the_sample n s (Ok d ∷ more) (omega arith)))
+    (cases_lt s.met n)
+
+pub kept_all : (keep : ℤ → ℤ → ℤ) (n : ℕ) (x : ℤ) (items : List (Result ℤ BadWordAt)) → 0 < n
+    → met_in keep n (record { met = 0; last = x }) items
+    ≡ kept_of keep (met_in the_sample n (record { met = 0; last = x }) items)
+kept_all keep n x [] h =
+    met_none keep n (record { met = 0; last = x }) ∙ sym (ap (kept_of keep)
+    (met_none the_sample n (record { met = 0; last = x })))
+kept_all keep n x (Err at ∷ more) h =
+    met_bad keep n (record { met = 0; last = x }) at more ∙ sym (ap (kept_of keep)
+    (met_bad the_sample n (record { met = 0; last = x }) at more))
+kept_all keep n x (Ok d ∷ more) h =
+    let first : Sum = record { met = 0; last = x } in
+    met_first keep n first d more h refl
+    ∙ ap (λ (zs : List ℤ). x ∷ zs) (kept_later keep n (one_more first x) more (omega arith) (omega arith))
+    ∙ sym (ap (kept_of keep) (met_first the_sample n first d more h refl))
+
+-- of samples themselves, and of their differences
+samples_from : (l : ℤ) (ss : List ℤ) → kept_from the_sample l ss ≡ ss
+samples_from l [] = refl
+samples_from l (s ∷ ss) = ap (λ (zs : List ℤ). s ∷ zs) (samples_from s ss)
+
+pub samples_are : (ss : List ℤ) → kept_of the_sample ss ≡ ss
+samples_are [] = refl
+samples_are (s ∷ ss) = ap (λ (zs : List ℤ). s ∷ zs) (samples_from s ss)
+
+steps_from : (l : ℤ) (ss : List ℤ) → kept_from the_difference l ss ≡ differences_from l ss
+steps_from l [] = refl
+steps_from l (s ∷ ss) = ap (λ (zs : List ℤ). (s -ℤ l) ∷ zs) (steps_from s ss)
+
+pub steps_are : (ss : List ℤ) → kept_of the_difference ss ≡ steps_of ss
+steps_are [] = refl
+steps_are (s ∷ ss) = ap (λ (zs : List ℤ). s ∷ zs) (steps_from s ss)
+
 enough : (n : ℕ) (s : Sum) (items : List (Result ℤ BadWordAt)) → s.met ≡ n
-    → Folds n s.met s.last items (met_in n s items) (fold n s items)
-enough n s items e = subst (λ r. Folds n s.met s.last items (met_in n s items) r) (sym (fold_enough n s items e))
-    (done s [] [] items refl (omega arith) refl tt (All-nil IsSample) e refl (met_enough n s items e))
+    → Folds n s.met s.last items (met_in the_sample n s items) (fold n s items)
+enough n s items e = subst (λ r. Folds n s.met s.last items (met_in the_sample n s items) r)
+    (sym (fold_enough n s items e))
+    (done s [] [] items refl (omega arith) refl tt (All-nil IsSample) e refl (met_enough the_sample n s items e))
 
 pub folds : (n : ℕ) (s : Sum) (items : List (Result ℤ BadWordAt)) → 0 < s.met → s.met ≤ n
-    → Folds n s.met s.last items (met_in n s items) (fold n s items)
+    → Folds n s.met s.last items (met_in the_sample n s items) (fold n s items)
 folds n s [] p h = ⊎_elim
-    (λ (less : s.met < n). subst (λ r. Folds n s.met s.last [] (met_in n s []) r)
+    (λ (less : s.met < n). subst (λ r. Folds n s.met s.last [] (met_in the_sample n s []) r)
     (sym (fold_short n s (λ (z : s.met ≡ n). omega arith))) (short s.met [] refl (omega arith) less))
     (λ (most : n ≤ s.met). enough n s [] (omega arith))
     (cases_lt s.met n)
 folds n s (Err at ∷ more) p h = ⊎_elim
-    (λ (less : s.met < n). subst (λ r. Folds n s.met s.last (Err at ∷ more) (met_in n s (Err at ∷ more)) r)
+    (λ (less : s.met < n). subst (λ r. Folds n s.met s.last (Err at ∷ more) (met_in the_sample n s (Err at ∷ more)) r)
     (sym (fold_bad n s at more less)) (bad [] at more refl (omega arith)))
     (λ (most : n ≤ s.met). enough n s (Err at ∷ more) (omega arith))
     (cases_lt s.met n)
@@ -102,13 +183,14 @@ folds n s (Ok d ∷ more) p h = ⊎_elim
     (λ (less : s.met < n).
     let later = folds n (one_more s (s.last +ℤ d)) more (omega arith) (omega arith) in
     (elim (fits (s.last +ℤ d)) as (λ b. fits (s.last +ℤ d) ≡ b
-    → Folds n s.met s.last (Ok d ∷ more) (met_in n s (Ok d ∷ more)) (fold n s (Ok d ∷ more))) [
-      | true ↦ λ e. subst (λ r. Folds n s.met s.last (Ok d ∷ more) (met_in n s (Ok d ∷ more)) r)
+    → Folds n s.met s.last (Ok d ∷ more) (met_in the_sample n s (Ok d ∷ more)) (fold n s (Ok d ∷ more))) [
+      | true ↦ λ e. subst (λ r. Folds n s.met s.last (Ok d ∷ more) (met_in the_sample n s (Ok d ∷ more)) r)
           (sym (fold_add n s d more less p e))
           (subst (λ (xs : List ℤ). Folds n s.met s.last (Ok d ∷ more) xs (fold n (one_more s (s.last +ℤ d)) more))
-          (sym (met_add n s d more less p e)) (more_folded n s.met s.last d more _ _ (fits_sample (s.last +ℤ d) e)
+          (sym (met_add the_sample n s d more less p e))
+          (more_folded n s.met s.last d more _ _ (fits_sample (s.last +ℤ d) e)
           later))
-      | false ↦ λ e. subst (λ r. Folds n s.met s.last (Ok d ∷ more) (met_in n s (Ok d ∷ more)) r)
+      | false ↦ λ e. subst (λ r. Folds n s.met s.last (Ok d ∷ more) (met_in the_sample n s (Ok d ∷ more)) r)
           (sym (fold_over n s d more less p e)) (over s.met [] d [] more refl (omega arith) less refl tt
           (All-nil IsSample)
           (fits_not (s.last +ℤ d) e))
@@ -208,11 +290,11 @@ take_put out i k z xs h e =
     ∙ append_assoc (take i out) (z ∷ []) xs
 
 -- all places are filled
-pub all_kept : (n : ℕ) (s : Sum) (out : List ℤ) (items : List (Result ℤ BadWordAt)) → length out ≡ n → s.met ≡ n
-    → out ≡ take s.met out ++ met_in n s items
-all_kept n s out items room e =
+pub all_kept : (keep : ℤ → ℤ → ℤ) (n : ℕ) (s : Sum) (out : List ℤ) (items : List (Result ℤ BadWordAt))
+    → length out ≡ n → s.met ≡ n → out ≡ take s.met out ++ met_in keep n s items
+all_kept keep n s out items room e =
     let whole : take s.met out ≡ out = ap (λ (k : ℕ). take k out) (e ∙ sym room) ∙ take-length out in
-    sym (ap (λ (xs : List ℤ). take s.met out ++ xs) (met_enough n s items e) ∙ append-nil (take s.met out) ∙ whole)
+    sym (ap (λ (xs : List ℤ). take s.met out ++ xs) (met_enough keep n s items e) ∙ append-nil (take s.met out) ∙ whole)
 
 -- behind all differences there is none
 pub no_more : (ds : List ℤ) → drop (length ds) ds ≡ []

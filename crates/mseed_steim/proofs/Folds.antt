@@ -70,11 +70,19 @@ pub goes_from : (n : ℕ) (s t : Sum) (items later behind : List (Result ℤ Bad
 goes_from n s t items later behind (Ok next) e h = e ∙ h
 goes_from n s t items later behind (Err fault) e h = e ∙ h
 
-pub keeps_from : (n : ℕ) (s t : Sum) (before between after : List ℤ) (items later behind : List (Result ℤ BadWordAt))
-    (r : Result Sum ReadFault) → take t.met between ++ met_in n t later ≡ take s.met before ++ met_in n s items
-    → Keeps n t between later behind after r → Keeps n s before items behind after r
-keeps_from n s t before between after items later behind (Ok next) e h = h ∙ e
-keeps_from n s t before between after items later behind (Err fault) e h = tt
+pub keeps_from : (keep : ℤ → ℤ → ℤ) (n : ℕ) (s t : Sum) (before between after : List ℤ)
+    (items later behind : List (Result ℤ BadWordAt)) (r : Result Sum ReadFault)
+    → take t.met between ++ met_in keep n t later ≡ take s.met before ++ met_in keep n s items
+    → Keeps keep n t between later behind after r → Keeps keep n s before items behind after r
+keeps_from keep n s t before between after items later behind (Ok next) e h = h ∙ e
+keeps_from keep n s t before between after items later behind (Err fault) e h = tt
+
+pub keeps_same : (keep : ℤ → ℤ → ℤ) (n : ℕ) (s : Sum) (before between after : List ℤ)
+    (items behind : List (Result ℤ BadWordAt)) (r : Result Sum ReadFault) → take s.met between ≡ take s.met before
+    → Keeps keep n s between items behind after r → Keeps keep n s before items behind after r
+keeps_same keep n s before between after items behind r e h =
+    keeps_from keep n s s before between after items items behind r
+    (ap (λ (xs : List ℤ). xs ++ met_in keep n s items) e) h
 
 -- no more is needed, whatever stands behind
 pub fold_done : (n : ℕ) (s : Sum) (items later : List (Result ℤ BadWordAt)) → s.met ≡ n
@@ -90,12 +98,12 @@ word_goes_on n s w ds a r e h rest =
     subst (λ (items : List (Result ℤ BadWordAt)). GoesOn n a items (items_of s rest) r)
     (sym (items_group s (w ∷ rest) rest w ds refl e)) (h (items_of s rest))
 
-pub word_keeps : (n : ℕ) (s : Scheme) (w : DataWord) (ds : List ℤ) (a : Sum) (before after : List ℤ)
-    (r : Result Sum ReadFault) → differences_of s w.code w.bits ≡ Some ds
-    → ((more : List (Result ℤ BadWordAt)) → Keeps n a before (map Ok ds ++ more) more after r)
-    → (rest : List DataWord) → Keeps n a before (items_of s (w ∷ rest)) (items_of s rest) after r
-word_keeps n s w ds a before after r e h rest =
-    subst (λ (items : List (Result ℤ BadWordAt)). Keeps n a before items (items_of s rest) after r)
+pub word_keeps : (keep : ℤ → ℤ → ℤ) (n : ℕ) (s : Scheme) (w : DataWord) (ds : List ℤ) (a : Sum)
+    (before after : List ℤ) (r : Result Sum ReadFault) → differences_of s w.code w.bits ≡ Some ds
+    → ((more : List (Result ℤ BadWordAt)) → Keeps keep n a before (map Ok ds ++ more) more after r)
+    → (rest : List DataWord) → Keeps keep n a before (items_of s (w ∷ rest)) (items_of s rest) after r
+word_keeps keep n s w ds a before after r e h rest =
+    subst (λ (items : List (Result ℤ BadWordAt)). Keeps keep n a before items (items_of s rest) after r)
     (sym (items_group s (w ∷ rest) rest w ds refl e)) (h (items_of s rest))
 
 pub bad_word : (n : ℕ) (s : Scheme) (w : DataWord) (a : Sum) → differences_of s w.code w.bits ≡ None → a.met < n
@@ -114,3 +122,15 @@ first_goes_on n s p w a t r cut step rest =
     goes_from n a t (items_of s (words_from p 3 13 ++ rest)) (items_of s (words_from p 4 12 ++ rest)) (items_of s rest)
     r
     (ap (λ (ws : List DataWord). fold n a (items_of s (ws ++ rest))) cut ∙ step (words_from p 4 12 ++ rest))
+
+pub first_keeps : (keep : ℤ → ℤ → ℤ) (n : ℕ) (s : Scheme) (p : List ℕ) (w : DataWord) (a t : Sum)
+    (before between after : List ℤ) (r : Result Sum ReadFault) → words_from p 3 13 ≡ w ∷ words_from p 4 12
+    → ((rest : List DataWord) → take t.met between ++ met_in keep n t (items_of s rest)
+    ≡ take a.met before ++ met_in keep n a (items_of s (w ∷ rest))) → (rest : List DataWord)
+    → Keeps keep n t between (items_of s (words_from p 4 12 ++ rest)) (items_of s rest) after r
+    → Keeps keep n a before (items_of s (words_from p 3 13 ++ rest)) (items_of s rest) after r
+first_keeps keep n s p w a t before between after r cut step rest =
+    keeps_from keep n a t before between after (items_of s (words_from p 3 13 ++ rest))
+    (items_of s (words_from p 4 12 ++ rest)) (items_of s rest) r
+    (step (words_from p 4 12 ++ rest)
+    ∙ ap (λ (ws : List DataWord). take a.met before ++ met_in keep n a (items_of s (ws ++ rest))) (sym cut))

@@ -14,7 +14,7 @@ use Rattle.mseed_steim.specs.declared.sum.Sum.{Sum}
 use Rattle.mseed_steim.specs.Frames.{word_at, data_words, first_constant}
 use Rattle.mseed_steim.specs.Runs.{Gives}
 use Rattle.mseed_steim.specs.Samples.{IsSample, Adds, StartsAndAdds, AreSums, IsFrameFault, short, bad_word, overflow}
-use Rattle.mseed_steim.specs.private.Sums.{fold, met_in}
+use Rattle.mseed_steim.specs.private.Sums.{fold, met_in, the_sample}
 use Rattle.mseed_steim.proofs.Given.{word_small}
 use Rattle.mseed_steim.proofs.Folds.{fold_first, fold_bad, fold_short}
 use Rattle.mseed_steim.proofs.Folded.{last_of, Folds, done, short as short_folds, bad as bad_folds, over as over_folds}
@@ -48,16 +48,17 @@ pub data Begins (n : ℕ) (x : ℤ) (mets : List ℤ) : List (Result ℤ BadWord
       → Begins n x mets (Err at ∷ items) (Err (BadWord at.frame at.word))
 
 pub begins : (n : ℕ) (x : ℤ) (items : List (Result ℤ BadWordAt)) → 0 < n
-    → Begins n x (met_in n (record { met = 0; last = x }) items) items (fold n (record { met = 0; last = x }) items)
-begins n x [] h = subst (λ r. Begins n x (met_in n (record { met = 0; last = x }) []) [] r)
+    → Begins n x (met_in the_sample n (record { met = 0; last = x }) items) items
+    (fold n (record { met = 0; last = x }) items)
+begins n x [] h = subst (λ r. Begins n x (met_in the_sample n (record { met = 0; last = x }) []) [] r)
     (sym (fold_short n (record { met = 0; last = x }) (λ e. omega arith))) none
 begins n x (Err at ∷ items) h =
-    subst (λ r. Begins n x (met_in n (record { met = 0; last = x }) (Err at ∷ items)) (Err at ∷ items) r)
+    subst (λ r. Begins n x (met_in the_sample n (record { met = 0; last = x }) (Err at ∷ items)) (Err at ∷ items) r)
     (sym (fold_bad n (record { met = 0; last = x }) at items h)) (broken at items)
 begins n x (Ok d ∷ items) h =
-    subst (λ r. Begins n x (met_in n (record { met = 0; last = x }) (Ok d ∷ items)) (Ok d ∷ items) r)
+    subst (λ r. Begins n x (met_in the_sample n (record { met = 0; last = x }) (Ok d ∷ items)) (Ok d ∷ items) r)
     (sym (fold_first n (record { met = 0; last = x }) d items h refl))
-    (some d items _ _ (met_first n (record { met = 0; last = x }) d items h refl)
+    (some d items _ _ (met_first the_sample n (record { met = 0; last = x }) d items h refl)
     (folds n (record { met = 1; last = x }) items (omega arith) (omega arith)))
 
 -- the samples of a walk that met them all

@@ -18,12 +18,14 @@ use Rattle.mseed_steim.specs.declared.fault.ReadFault.TheVariants.{Short, BadWor
 use Rattle.mseed_steim.specs.Frames.{last_constant}
 use Rattle.mseed_steim.specs.Samples.{bytes_of, form_of, BeginsWith, IsPayloadReading, EndsOnConstant, IsPayloadFault}
 use Rattle.mseed_steim.specs.Samples.{IsSample, AreEnds, short, bad_word, overflow, last_differs, IsFrameFault}
-use Rattle.mseed_steim.specs.Samples.{IsChecked, IsFilled}
+use Rattle.mseed_steim.specs.Samples.{IsChecked, IsFilled, steps_of}
+use Rattle.mseed_steim.specs.private.Sums.{IsKept, the_difference, the_sample}
 use Rattle.mseed_steim.specs.Reading.{count_of, IsReading, EndsOnConstants, HasOneReading, IsReadable, IsFault}
 use Rattle.mseed_steim.specs.Reading.{blockette_100, encoding, little_steim, data_offset, in_payload, Denies, HoldsIn}
 use Rattle.mseed_steim.specs.Reading.{IsAnswer, is_little_steim, IsWhole, IsRefusal}
 use Rattle.mseed_steim.proofs.Words.{residue_one}
 use Rattle.mseed_steim.proofs.Runs.{sums_one, fault_one, not_short, not_bad, not_in}
+use Rattle.mseed_steim.proofs.Folded.{samples_are, steps_are}
 use Rattle.mseed_steim.proofs.Ended.{get_pushed}
 
 begins_one : (order : Order) (w : ℕ) (p : List ℕ) (place : ℕ) (ss ts : List ℤ) → 0 < w → length ss ≡ length ts
@@ -264,6 +266,23 @@ payload_filled v form p n order out (Ok done) some holds count ordered h =
     payload_read v form p n order out some holds count ordered h.0 h.1
 payload_filled v form p n order out (Err f) some holds count ordered h = payload_lacks v form p n f holds count h
 
+-- where samples are kept, they are filled in
+pub kept_filled : (form : Form) (order : Order) (p : List ℕ) (n : ℕ) (out : List ℤ) (r : Result (Unit {0}) ReadFault)
+    → IsKept the_sample form order p n out r → IsFilled form order p n out r
+kept_filled form order p n out (Ok done) h =
+    subst (λ (xs : List ℤ). IsPayloadReading form order p n xs × EndsOnConstant form p xs)
+    (sym (h.1.2 ∙ samples_are h.0)) (h.1.0, h.1.1)
+kept_filled form order p n out (Err f) h = h
+
+-- and where differences are, the steps of the samples
+pub payload_stepped : (v : View) (form : Form) (p : List ℕ) (n : ℕ) (order : Order) (out : List ℤ)
+    (r : Result (Unit {0}) ReadFault) → 0 < count_of v → HoldsIn v form p → n ≡ count_of v → order ≡ v.payload_order
+    → IsKept the_difference form order p n out r
+    → MatchResult r (λ _. (s : List ℤ) × (IsWhole v s × (out ≡ steps_of s))) (λ f. IsFault v f)
+payload_stepped v form p n order out (Ok done) some holds count ordered h =
+    (h.0, (payload_read v form p n order h.0 some holds count ordered h.1.0 h.1.1, h.1.2 ∙ steps_are h.0))
+payload_stepped v form p n order out (Err f) some holds count ordered h = payload_lacks v form p n f holds count h
+
 -- what the answer of a read means
 pub read_only : {X : Type 0} (v : View) (items : X → List ℤ) (r : Result X ReadFault) → 0 < count_of v
     → MatchResult r (λ x. IsWhole v (items x)) (λ f. IsRefusal v f) → (s : List ℤ) → IsWhole v s
@@ -312,3 +331,22 @@ pub filled_denies : (v : View) (out : List ℤ) (r : Result (Unit {0}) ReadFault
     → MatchResult r (λ _. IsWhole v out) (λ f. IsFault v f) → IfErr r (λ f. Denies v f)
 filled_denies v out (Ok done) some h = tt
 filled_denies v out (Err f) some h = fault_denies v f some h
+
+-- and what that of a fill with steps does
+pub stepped_only : (v : View) (out : List ℤ) (r : Result (Unit {0}) ReadFault) → 0 < count_of v
+    → MatchResult r (λ _. (s : List ℤ) × (IsWhole v s × (out ≡ steps_of s))) (λ f. IsFault v f) → (s : List ℤ)
+    → IsWhole v s → IsOk r × (out ≡ steps_of s)
+stepped_only v out (Ok done) some h s w = (refl, h.1.1 ∙ ap steps_of (reading_one v h.0 s h.1.0.0 w.0))
+stepped_only v out (Err f) some h s w = absurd (denied v f s (fault_denies v f some h) w.0 w.1)
+
+pub stepped_fault : (v : View) (out : List ℤ) (r : Result (Unit {0}) ReadFault) → 0 < count_of v
+    → MatchResult r (λ _. (s : List ℤ) × (IsWhole v s × (out ≡ steps_of s))) (λ f. IsFault v f) → (f : ReadFault)
+    → (r ≡ Err f) ↔ IsFault v f
+stepped_fault v out (Ok done) some h f = filled_fault v h.0 (Ok done) some h.1.0 f
+stepped_fault v out (Err g) some h f = filled_fault v out (Err g) some h f
+
+pub stepped_denies : (v : View) (out : List ℤ) (r : Result (Unit {0}) ReadFault) → 0 < count_of v
+    → MatchResult r (λ _. (s : List ℤ) × (IsWhole v s × (out ≡ steps_of s))) (λ f. IsFault v f)
+    → IfErr r (λ f. Denies v f)
+stepped_denies v out (Ok done) some h = tt
+stepped_denies v out (Err f) some h = fault_denies v f some h

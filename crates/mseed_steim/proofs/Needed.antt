@@ -56,28 +56,30 @@ needed_on n s ds count k rest r inside e goes_on met = ⊎_elim
     enough_on n s ds count k rest r enough.1 (omega (arith, inside, enough.0)) goes_on met)
     (all_or_enough count (n - s.met) k e)
 
-enough_kept : (n : ℕ) (s : Sum) (ds : List ℤ) (count k : ℕ) (before after : List ℤ) (rest : List (Result ℤ BadWordAt))
+enough_kept : (keep : ℤ → ℤ → ℤ) (n : ℕ) (s : Sum) (ds : List ℤ) (count k : ℕ) (before after : List ℤ)
+    (rest : List (Result ℤ BadWordAt))
     (r : Result Sum ReadFault) → k ≤ count → s.met + k ≡ n
-    → ((more : List (Result ℤ BadWordAt)) → Keeps n s before (map Ok (take k ds) ++ more) more after r)
-    → IfOk r (λ next. next.met ≡ s.met + k) → Keeps n s before (map Ok (take count ds) ++ rest) rest after r
-enough_kept n s ds count k before after rest (Ok next) less all kept met =
+    → ((more : List (Result ℤ BadWordAt)) → Keeps keep n s before (map Ok (take k ds) ++ more) more after r)
+    → IfOk r (λ next. next.met ≡ s.met + k) → Keeps keep n s before (map Ok (take count ds) ++ rest) rest after r
+enough_kept keep n s ds count k before after rest (Ok next) less all kept met =
     let behind = map Ok (drop k (take count ds)) ++ rest in
     ap (λ (xs : List ℤ). take next.met after ++ xs)
-    (met_enough n next rest (met ∙ all) ∙ sym (met_enough n next behind (met ∙ all)))
+    (met_enough keep n next rest (met ∙ all) ∙ sym (met_enough keep n next behind (met ∙ all)))
     ∙ kept behind
-    ∙ ap (λ (items : List (Result ℤ BadWordAt)). take s.met before ++ met_in n s items)
+    ∙ ap (λ (items : List (Result ℤ BadWordAt)). take s.met before ++ met_in keep n s items)
     (sym (cut k count ds rest less))
-enough_kept n s ds count k before after rest (Err fault) less all kept met = tt
+enough_kept keep n s ds count k before after rest (Err fault) less all kept met = tt
 
 -- and what it keeps is what one over all keeps
-pub needed_kept : (n : ℕ) (s : Sum) (ds : List ℤ) (count k : ℕ) (before after : List ℤ)
+pub needed_kept : (keep : ℤ → ℤ → ℤ) (n : ℕ) (s : Sum) (ds : List ℤ) (count k : ℕ) (before after : List ℤ)
     (rest : List (Result ℤ BadWordAt)) (r : Result Sum ReadFault) → s.met ≤ n → k ≡ min count (n - s.met)
-    → ((more : List (Result ℤ BadWordAt)) → Keeps n s before (map Ok (take k ds) ++ more) more after r)
-    → IfOk r (λ next. next.met ≡ s.met + k) → Keeps n s before (map Ok (take count ds) ++ rest) rest after r
-needed_kept n s ds count k before after rest r inside e kept met = ⊎_elim
-    (λ (all : k ≡ count). subst (λ (m : ℕ). Keeps n s before (map Ok (take m ds) ++ rest) rest after r) all (kept rest))
+    → ((more : List (Result ℤ BadWordAt)) → Keeps keep n s before (map Ok (take k ds) ++ more) more after r)
+    → IfOk r (λ next. next.met ≡ s.met + k) → Keeps keep n s before (map Ok (take count ds) ++ rest) rest after r
+needed_kept keep n s ds count k before after rest r inside e kept met = ⊎_elim
+    (λ (all : k ≡ count). subst (λ (m : ℕ). Keeps keep n s before (map Ok (take m ds) ++ rest) rest after r) all
+    (kept rest))
     (λ (enough : (k ≡ n - s.met) × (k ≤ count)).
-    enough_kept n s ds count k before after rest r enough.1 (omega (arith, inside, enough.0)) kept met)
+    enough_kept keep n s ds count k before after rest r enough.1 (omega (arith, inside, enough.0)) kept met)
     (all_or_enough count (n - s.met) k e)
 
 -- the first of them go no further than all do

@@ -13,8 +13,8 @@ use Rattle.std.proofs.lemmas.Int.{ints, to_z-of_z}
 use Rattle.mseed_steim.specs.private.Lanes.{total, span}
 use Rattle.mseed_steim.specs.declared.differences.BadWordAt.{BadWordAt}
 use Rattle.mseed_steim.specs.declared.sum.Sum.{Sum}
-use Rattle.mseed_steim.specs.private.Sums.{fold, met_in, sums}
-use Rattle.mseed_steim.proofs.Far.{abs_sum, goes_far, near_signed, total_near}
+use Rattle.mseed_steim.specs.private.Sums.{fold, kept_along, met_in, sums, the_sample}
+use Rattle.mseed_steim.proofs.Far.{abs_sum, goes_far, keeps_far, near_signed, sums_kept, total_near}
 use Rattle.mseed_steim.proofs.FrameItems.{span-append}
 
 -- a list of four
@@ -295,35 +295,64 @@ padded_total ds k =
     let none : total ds +ℤ pos 0 ≡ total ds = omega (arith, ints) in
     total_more ds (replicate k (pos 0)) ∙ ap (λ (z : ℤ). total ds +ℤ z) (total_zeros k) ∙ none
 
+-- what stands before a part that is put in its places
+pub put_front : (k rest : ℕ) (out after : List ℤ) → k ≤ length out → take k (put_mid k rest out after) ≡ take k out
+put_front k rest out after inside =
+    let first : length (take k out) ≡ k = length-take-le k out inside in
+    take_at (take k out) (after ++ post_of k rest out) k first
+
+-- while the limits of 32 bits are out of reach, a walk goes on from the sum of the differences
+pub goes_next : (n : ℕ) (ds : List ℤ) (s next : Sum) (more : List (Result ℤ BadWordAt)) → next.met ≡ s.met + length ds
+    → next.last ≡ s.last +ℤ total ds → 0 < s.met → s.met + length ds ≤ n → nat_abs s.last + span ds < 2 ^ 31
+    → fold n s (map Ok ds ++ more) ≡ fold n next more
+goes_next n ds s next more met last some room near =
+    let far = goes_far n ds s more some room near in
+    rw (← met, ← last) at far
+
+-- and what is kept of them is put in its places
+pub put_kept : (keep : ℤ → ℤ → ℤ) (n rest : ℕ) (ds : List ℤ) (s next : Sum) (out after : List ℤ)
+    (more : List (Result ℤ BadWordAt)) → next.met ≡ s.met + length ds → next.last ≡ s.last +ℤ total ds → 0 < s.met
+    → s.met + length ds ≤ n → nat_abs s.last + span ds < 2 ^ 31 → s.met ≤ length out → length ds ≤ length after
+    → take (length ds) after ≡ kept_along keep s.last ds
+    → take next.met (put_mid s.met rest out after) ++ met_in keep n next more
+    ≡ take s.met out ++ met_in keep n s (map Ok ds ++ more)
+put_kept keep n rest ds s next out after more met last some room near inside filled put =
+    let behind : List ℤ = post_of s.met rest out in
+    let first : length (take s.met out) ≡ s.met = length-take-le s.met out inside in
+    let at : next.met ≡ length (take s.met out) + length ds = omega (arith, first, met) in
+    let places : take next.met (put_mid s.met rest out after) ≡ take s.met out ++ kept_along keep s.last ds =
+    ap (λ (m : ℕ). take m (take s.met out ++ (after ++ behind))) at
+    ∙ take-append-add (take s.met out) (after ++ behind) (length ds)
+    ∙ ap (λ (ys : List ℤ). take s.met out ++ ys) (take-append-le (length ds) after behind filled ∙ put) in
+    let far = rw (← met, ← last) at (keeps_far keep n ds s more some room near) in
+    ap (λ (ys : List ℤ). ys ++ met_in keep n next more) places
+    ∙ append_assoc (take s.met out) (kept_along keep s.last ds) (met_in keep n next more)
+    ∙ ap (λ (ys : List ℤ). take s.met out ++ ys) (sym far)
+
 -- what is put by whole turns, as far as the differences go
 pub whole_kept : (n count k rest : ℕ) (ds : List ℤ) (s : Sum) (out after : List ℤ) (z : ℤ)
     (more : List (Result ℤ BadWordAt)) → length ds ≡ count → 0 < s.met → s.met + count ≤ n
     → nat_abs s.last + span ds < 2 ^ 31 → s.met ≤ length out → count ≤ length after
     → take (length (ds ++ replicate k (pos 0))) after ≡ sums s.last (ds ++ replicate k (pos 0))
     → z ≡ s.last +ℤ total ds
-    → take (s.met + count) (put_mid s.met rest out after) ++ met_in n (record { met = s.met + count; last = z }) more
-    ≡ take s.met out ++ met_in n s (map Ok ds ++ more)
+    → take (s.met + count) (put_mid s.met rest out after)
+    ++ met_in the_sample n (record { met = s.met + count; last = z }) more
+    ≡ take s.met out ++ met_in the_sample n s (map Ok ds ++ more)
 whole_kept n count k rest ds s out after z more long some room near inside filled put moved =
     let whole : List ℤ = ds ++ replicate k (pos 0) in
-    let behind : List ℤ = post_of s.met rest out in
-    let first : length (take s.met out) ≡ s.met = length-take-le s.met out inside in
-    let at : s.met + count ≡ length (take s.met out) + count = omega (arith, first) in
     let few : count ≤ length whole = omega (arith, long, length-append ds (replicate k (pos 0))) in
     let kept : take count after ≡ sums s.last ds =
     sym (take-take count (length whole) after few) ∙ ap (take count) (put ∙ sums_more s.last ds (replicate k (pos 0)))
     ∙ take_at (sums s.last ds) (sums (s.last +ℤ total ds) (replicate k (pos 0))) count
     (length-sums s.last ds ∙ long) in
-    let places : take (s.met + count) (put_mid s.met rest out after) ≡ take s.met out ++ sums s.last ds =
-    ap (λ (m : ℕ). take m (take s.met out ++ (after ++ behind))) at
-    ∙ take-append-add (take s.met out) (after ++ behind) count
-    ∙ ap (λ (ys : List ℤ). take s.met out ++ ys) (take-append-le count after behind filled ∙ kept) in
-    let far = (goes_far n ds s more some (omega (arith, long, room)) near).1 in
-    ap (λ (ys : List ℤ). ys ++ met_in n (record { met = s.met + count; last = z }) more) places
-    ∙ append_assoc (take s.met out) (sums s.last ds) (met_in n (record { met = s.met + count; last = z }) more)
-    ∙ ap (λ (ys : List ℤ). take s.met out ++ ys) (rw (moved, sym long) (sym far))
+    put_kept the_sample n rest ds s (record { met = s.met + count; last = z }) out after more
+    (ap (λ (k : ℕ). s.met + k) (sym long)) moved some (omega (arith, long, room)) near inside
+    (omega (arith, long, filled))
+    (ap (λ (k : ℕ). take k after) long ∙ kept ∙ sym (sums_kept s.last ds))
 
 pub whole_goes_on : (n count : ℕ) (ds : List ℤ) (s : Sum) (z : ℤ) (more : List (Result ℤ BadWordAt))
     → length ds ≡ count → 0 < s.met → s.met + count ≤ n → nat_abs s.last + span ds < 2 ^ 31 → z ≡ s.last +ℤ total ds
     → fold n s (map Ok ds ++ more) ≡ fold n (record { met = s.met + count; last = z }) more
 whole_goes_on n count ds s z more long some room near moved =
-    rw (moved, sym long) ((goes_far n ds s more some (omega (arith, long, room)) near).0)
+    goes_next n ds s (record { met = s.met + count; last = z }) more (ap (λ (k : ℕ). s.met + k) (sym long)) moved some
+    (omega (arith, long, room)) near

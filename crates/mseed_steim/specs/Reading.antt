@@ -31,6 +31,10 @@ pub record IsReading (v : View) (samples : List ℤ) : Type 0 where
 abbrev pub EndsOnConstants : View → List ℤ → Type 0
 EndsOnConstants v samples = (form : Form) → form_of v.encoding ≡ Some form → EndsOnConstant form (payload_of v) samples
 
+-- its samples stand in Steim frames
+abbrev pub IsSteim : View → Type 0
+IsSteim v = (scheme : Scheme) × (form_of v.encoding ≡ Some (Frames scheme))
+
 -- no two lists of samples are a record's reading
 abbrev pub HasOneReading : View → Type 0
 HasOneReading v = (s t : List ℤ) → IsReading v s → IsReading v t → s ≡ t

@@ -1,6 +1,6 @@
 -- The samples that a payload's bytes say (SEED manual, chapter 8, blockette 1000, field 4, and appendix B).
 use Rattle.std.specs.Prelude.{◌≡◌, ◌≢◌, ⊤, ℕ, ◌+◌, ◌-◌, ◌*◌, ◌/◌, ◌^◌, ◌<◌, ◌≤◌, ◌==◌, if◌then◌else◌, List, [], ◌∷◌}
-use Rattle.std.specs.Prelude.{◌++◌, length, slice_get, ℤ, ◌+ℤ◌, Option, Some, None, Result, Ok, Err, All}
+use Rattle.std.specs.Prelude.{◌++◌, length, slice_get, ℤ, ◌+ℤ◌, ◌-ℤ◌, Option, Some, None, Result, Ok, Err, All}
 use Rattle.mseed_time.specs.declared.order.Order.{Order}
 use Rattle.mseed_time.specs.declared.order.Order.TheVariants.{Big}
 use Rattle.mseed_time.specs.Fields.{number_at}
@@ -119,3 +119,14 @@ abbrev pub IsFilled : Form → Order → List ℕ → ℕ → List ℤ → Resul
 IsFilled form order payload n samples (Ok done) = IsPayloadReading form order payload n samples
     × EndsOnConstant form payload samples
 IsFilled form order payload n samples (Err fault) = IsPayloadFault form payload n fault
+
+-- each number less the one before it
+abbrev pub differences_from : ℤ → List ℤ → List ℤ
+differences_from before [] = []
+differences_from before (x ∷ xs) = (x -ℤ before) ∷ differences_from x xs
+
+-- The steps of some numbers: the first of them, and then of each what it is more than the one before it. They are the
+-- numbers' running sums again.
+abbrev pub steps_of : List ℤ → List ℤ
+steps_of [] = []
+steps_of (x ∷ xs) = x ∷ differences_from x xs

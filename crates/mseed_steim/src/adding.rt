@@ -4,7 +4,7 @@ ghost use Rattle.std.specs.Prelude.{◌≡◌, ◌+◌, ◌*◌, ◌^◌, ◌≤
 ghost use Rattle.std.specs.Prelude.{drop, take, length, pos, slice_index_or};
 ghost use Rattle.mseed_steim.specs.declared.differences.BadWordAt.{BadWordAt};
 ghost use Rattle.mseed_steim.specs.private.Lanes.{span, total};
-ghost use Rattle.mseed_steim.specs.private.Sums.{fold, met_in, sums};
+ghost use Rattle.mseed_steim.specs.private.Sums.{fold, met_in, sums, the_sample};
 
 use crate::sum::Sum;
 use crate::unpack::Room;
@@ -81,8 +81,8 @@ pub(crate) fn put_whole(
     ensures goes_on { (more : List (Result ℤ BadWordAt))
         → fold samples sum (map Ok (take count differences.old) ++ more) ≡ fold samples result more }
     ensures kept { (more : List (Result ℤ BadWordAt))
-        → take result.met out.new ++ met_in samples result more
-        ≡ take sum.met out.old ++ met_in samples sum (map Ok (take count differences.old) ++ more) }
+        → take result.met out.new ++ met_in the_sample samples result more
+        ≡ take sum.met out.old ++ met_in the_sample samples sum (map Ok (take count differences.old) ++ more) }
     ensures met { result.met ≡ sum.met + count }
     ensures places { length out.new ≡ samples }
 {

@@ -1,28 +1,28 @@
-//! Differences that are added up frame by frame, with each sample put in its place.
+//! Differences that are added up frame by frame, with what is kept of each put in its place.
 
-ghost use Rattle.std.specs.Prelude.{◌≡◌, ◌+◌, ◌-◌, ◌*◌, ◌^◌, ◌≤◌, ◌<◌, ◌∷◌, ◌++◌, ℕ, List, ℤ, nat_abs, Result, Ok};
-ghost use Rattle.std.specs.Prelude.{IfNone, IfOk, IfSome, OnOk, drop, map, min, take, length};
+ghost use Rattle.std.specs.Prelude.{◌≡◌, ◌+◌, ◌-◌, ◌*◌, ◌^◌, ◌≤◌, ◌<◌, ◌∷◌, ◌++◌, ℕ, List, ℤ, Result, Ok};
+ghost use Rattle.std.specs.Prelude.{IfNone, IfOk, IfSome, OnOk, drop, map, take, length};
 ghost use Rattle.mseed_steim.specs.declared.differences.BadWordAt.{BadWordAt};
 ghost use Rattle.mseed_steim.specs.private.Digits.{digits};
 ghost use Rattle.mseed_steim.specs.Frames.{DataWord, data_words, words_from, word_count};
 ghost use Rattle.mseed_steim.specs.private.Items.{items_of};
-ghost use Rattle.mseed_steim.specs.private.Lanes.{Begins, span};
+ghost use Rattle.mseed_steim.specs.private.Lanes.{Begins};
 ghost use Rattle.mseed_steim.specs.private.Reads.{as_data};
 ghost use Rattle.mseed_steim.specs.private.Sums.{GoesOn, Keeps, fold, met_in};
 
-use crate::adding::{TURN, put_whole};
-use crate::data_words::{FRAME, Word, Words};
+use crate::data_words::{FRAME, Word, Words, first_word};
 use crate::fault::ReadFault;
 use crate::frame::{FROM_1, FROM_4, REACH};
 use crate::group::{Group, group_of};
+use crate::keep::{Keeper, kept_at};
 use crate::lanes::Rows;
 use crate::scheme::Scheme;
-use crate::sum::{Sum, Walked, add_digit, add_near, reach_of};
-use crate::unpack::{FEW, PLACES, Room, unpack_frame, unpack_wide};
+use crate::sum::{Sum, Walked, add_difference, next_difference, reach_of};
+use crate::unpack::{FEW, PLACES, Room, unpack_wide};
 
 /// The differences of a group, one by one: as far as they are needed, and no sum leaves 32 bits.
 #[inline(always)]
-fn put_each(word: u32, group: Group, samples: usize, sum: Sum, out: &mut [i32]) -> Walked
+fn put_each<K: Keeper>(word: u32, group: Group, samples: usize, sum: Sum, out: &mut [i32]) -> Walked
     requires places { length out.old ≡ samples }
     requires met { sum.met ≤ samples }
     ensures goes_on { (more : List (Result ℤ BadWordAt))
@@ -30,16 +30,17 @@ fn put_each(word: u32, group: Group, samples: usize, sum: Sum, out: &mut [i32]) 
     ensures met { IfOk result (λ next. next.met ≤ samples) }
     ensures places { length out.new ≡ samples }
     ensures kept { (more : List (Result ℤ BadWordAt))
-        → Keeps samples sum out.old (map Ok (digits group.width word group.count) ++ more) more out.new result }
+        → Keeps K.kept samples sum out.old (map Ok (digits group.width word group.count) ++ more) more out.new result }
 {
     let mut sum = sum;
     for i in 0..group.count {
         if sum.met == samples {
             return Ok(sum);
         }
-        match add_digit(word, group, i, samples, sum) {
+        let difference = next_difference(word, group, i);
+        match add_difference(difference, samples, sum) {
             Ok(next) => {
-                out[sum.met] = next.last;
+                out[sum.met] = kept_at::<K>(sum.met, difference, next.last);
                 sum = next;
             }
             Err(fault) => return Err(fault),
@@ -50,13 +51,20 @@ fn put_each(word: u32, group: Group, samples: usize, sum: Sum, out: &mut [i32]) 
 
 /// The differences of a word, as far as they are needed.
 #[inline(always)]
-fn put_word(scheme: Scheme, word: Word, samples: usize, sum: Sum, out: &mut [i32]) -> Walked
+fn put_word<K: Keeper>(
+    scheme: Scheme,
+    word: Word,
+    samples: usize,
+    sum: Sum,
+    out: &mut [i32],
+) -> Walked
     requires places { length out.old ≡ samples }
     requires met { sum.met ≤ samples }
     ensures goes_on { (rest : List DataWord)
         → GoesOn samples sum (items_of scheme (as_data word ∷ rest)) (items_of scheme rest) result }
     ensures kept { (rest : List DataWord)
-        → Keeps samples sum out.old (items_of scheme (as_data word ∷ rest)) (items_of scheme rest) out.new result }
+        → Keeps K.kept samples sum out.old (items_of scheme (as_data word ∷ rest))
+        (items_of scheme rest) out.new result }
     ensures met { IfOk result (λ next. next.met ≤ samples) }
     ensures places { length out.new ≡ samples }
 {
@@ -64,26 +72,33 @@ fn put_word(scheme: Scheme, word: Word, samples: usize, sum: Sum, out: &mut [i32
         return Ok(sum);
     }
     match group_of(scheme, word.code, word.bits) {
-        Some(group) => put_each(word.bits, group, samples, sum, out),
+        Some(group) => put_each::<K>(word.bits, group, samples, sum, out),
         None => Err(ReadFault::BadWord(word.frame, word.place)),
     }
 }
 
 /// The differences of some words, as far as they are needed.
 #[cold]
-fn put_all(scheme: Scheme, words: Words<'_>, samples: usize, sum: Sum, out: &mut [i32]) -> Walked
+fn put_all<K: Keeper>(
+    scheme: Scheme,
+    words: Words<'_>,
+    samples: usize,
+    sum: Sum,
+    out: &mut [i32],
+) -> Walked
     requires places { length out.old ≡ samples }
     requires met { sum.met ≤ samples }
     ensures goes_on { (rest : List DataWord)
         → GoesOn samples sum (items_of scheme (words.entry ++ rest)) (items_of scheme rest) result }
     ensures kept { (rest : List DataWord)
-        → Keeps samples sum out.old (items_of scheme (words.entry ++ rest)) (items_of scheme rest) out.new result }
+        → Keeps K.kept samples sum out.old (items_of scheme (words.entry ++ rest))
+        (items_of scheme rest) out.new result }
     ensures met { IfOk result (λ next. next.met ≤ samples) }
     ensures places { length out.new ≡ samples }
 {
     let mut sum = sum;
     for word in words {
-        match put_word(scheme, word, samples, sum, out) {
+        match put_word::<K>(scheme, word, samples, sum, out) {
             Ok(next) => sum = next,
             Err(fault) => return Err(fault),
         }
@@ -91,40 +106,16 @@ fn put_all(scheme: Scheme, words: Words<'_>, samples: usize, sum: Sum, out: &mut
     Ok(sum)
 }
 
-/// Differences that are all needed, while the limits of 32 bits are out of reach.
-#[inline(always)]
-fn put_some(differences: &[i32], samples: usize, sum: Sum, out: &mut [i32]) -> Sum
-    requires places { length out.old ≡ samples }
-    requires some { 0 < sum.met }
-    requires left { sum.met + length differences.now ≤ samples }
-    requires near { nat_abs sum.last + span differences.now < 2 ^ 31 }
-    ensures goes_on { (more : List (Result ℤ BadWordAt))
-        → fold samples sum (map Ok differences.now ++ more) ≡ fold samples result more }
-    ensures kept { (more : List (Result ℤ BadWordAt))
-        → take result.met out.new ++ met_in samples result more
-        ≡ take sum.met out.old ++ met_in samples sum (map Ok differences.now ++ more) }
-    ensures met { result.met ≡ sum.met + length differences.now }
-    ensures places { length out.new ≡ samples }
-{
-    let mut sum = sum;
-    for i in 0..differences.len() {
-        let next = add_near(differences[i], samples, sum);
-        out[sum.met] = next.last;
-        sum = next;
-    }
-    sum
-}
-
 /// Differences that are all needed, as far as no sum leaves 32 bits.
 #[inline(always)]
-fn put_checked(differences: &[i32], samples: usize, sum: Sum, out: &mut [i32]) -> Walked
+fn put_checked<K: Keeper>(differences: &[i32], samples: usize, sum: Sum, out: &mut [i32]) -> Walked
     requires places { length out.old ≡ samples }
     requires some { 0 < sum.met }
     requires left { sum.met + length differences.now ≤ samples }
     ensures goes_on { (more : List (Result ℤ BadWordAt))
         → GoesOn samples sum (map Ok differences.now ++ more) more result }
     ensures kept { (more : List (Result ℤ BadWordAt))
-        → Keeps samples sum out.old (map Ok differences.now ++ more) more out.new result }
+        → Keeps K.kept samples sum out.old (map Ok differences.now ++ more) more out.new result }
     ensures met { IfOk result (λ next. next.met ≡ sum.met + length differences.now) }
     ensures places { length out.new ≡ samples }
 {
@@ -133,7 +124,7 @@ fn put_checked(differences: &[i32], samples: usize, sum: Sum, out: &mut [i32]) -
         let Some(next) = last.checked_add(differences[i]) else {
             return Err(ReadFault::Overflow(sum.met + i));
         };
-        out[sum.met + i] = next;
+        out[sum.met + i] = K::keep(differences[i], next);
         last = next;
     }
     Ok(Sum {
@@ -142,57 +133,8 @@ fn put_checked(differences: &[i32], samples: usize, sum: Sum, out: &mut [i32]) -
     })
 }
 
-/// The first of some differences, as far as they are needed, while the limits of 32 bits are out of reach.
-#[inline(always)]
-fn put_needed(
-    differences: &mut Room,
-    count: usize,
-    samples: usize,
-    sum: Sum,
-    out: &mut [i32],
-) -> Sum
-    requires few { count ≤ 120 }
-    requires places { length out.old ≡ samples }
-    requires some { 0 < sum.met }
-    requires met { sum.met ≤ samples }
-    requires near { nat_abs sum.last + span (take count differences.old) < 2 ^ 31 }
-    ensures goes_on { (more : List (Result ℤ BadWordAt))
-        → fold samples sum (map Ok (take count differences.old) ++ more) ≡ fold samples result more }
-    ensures kept { (more : List (Result ℤ BadWordAt))
-        → take result.met out.new ++ met_in samples result more
-        ≡ take sum.met out.old ++ met_in samples sum (map Ok (take count differences.old) ++ more) }
-    ensures met { result.met ≡ sum.met + min count (samples - sum.met) }
-    ensures places { length out.new ≡ samples }
-{
-    let needed = count.min(samples - sum.met);
-    put_some(&differences[..needed], samples, sum, out)
-}
-
-/// The same in lanes, where there is room for a turn more.
-#[inline(always)]
-fn put_near(differences: &mut Room, count: usize, samples: usize, sum: Sum, out: &mut [i32]) -> Sum
-    requires few { count ≤ 120 }
-    requires places { length out.old ≡ samples }
-    requires some { 0 < sum.met }
-    requires met { sum.met ≤ samples }
-    requires near { nat_abs sum.last + span (take count differences.old) < 2 ^ 31 }
-    ensures goes_on { (more : List (Result ℤ BadWordAt))
-        → fold samples sum (map Ok (take count differences.old) ++ more) ≡ fold samples result more }
-    ensures kept { (more : List (Result ℤ BadWordAt))
-        → take result.met out.new ++ met_in samples result more
-        ≡ take sum.met out.old ++ met_in samples sum (map Ok (take count differences.old) ++ more) }
-    ensures met { result.met ≡ sum.met + min count (samples - sum.met) }
-    ensures places { length out.new ≡ samples }
-{
-    if samples - sum.met < count + TURN {
-        put_needed(differences, count, samples, sum, out)
-    } else {
-        put_whole(differences, count, samples, sum, out)
-    }
-}
-
 /// Differences that are all needed, of any width, as far as no sum leaves 32 bits.
-fn put_unpacked(
+fn put_unpacked<K: Keeper>(
     differences: &mut Room,
     count: usize,
     samples: usize,
@@ -206,20 +148,20 @@ fn put_unpacked(
     ensures goes_on { (more : List (Result ℤ BadWordAt))
         → GoesOn samples sum (map Ok (take count differences.old) ++ more) more result }
     ensures kept { (more : List (Result ℤ BadWordAt))
-        → Keeps samples sum out.old (map Ok (take count differences.old) ++ more) more out.new result }
+        → Keeps K.kept samples sum out.old (map Ok (take count differences.old) ++ more) more out.new result }
     ensures met { IfOk result (λ next. next.met ≡ sum.met + count) }
     ensures places { length out.new ≡ samples }
 {
     if reach_of(&differences[..count]) < (1 << 31) - u64::from(sum.last.unsigned_abs()) {
-        return Ok(put_near(differences, count, samples, sum, out));
+        return Ok(K::put_near(differences, count, samples, sum, out));
     }
-    put_checked(&differences[..count], samples, sum, out)
+    put_checked::<K>(&differences[..count], samples, sum, out)
 }
 
 /// The differences of a frame, of any width, as far as they are needed. None where its words have to be looked at:
 /// where none was met before, few are needed, or a word is bad.
 #[cold]
-fn put_wide(
+fn put_wide<K: Keeper>(
     scheme: Scheme,
     frame: &[u8; 64],
     begin: Rows,
@@ -237,24 +179,24 @@ fn put_wide(
         (items_of scheme rest) walked) }
     ensures kept { IfSome result (λ walked. (p : List ℕ) (k from : ℕ) (rest : List DataWord) → Begins begin from
         → frame.now ≡ take 64 (drop (64 * k) p)
-        → Keeps samples sum out.old (items_of scheme (words_from p (16 * k + from) (16 - from) ++ rest))
+        → Keeps K.kept samples sum out.old (items_of scheme (words_from p (16 * k + from) (16 - from) ++ rest))
         (items_of scheme rest) out.new walked) }
     ensures met { IfSome result (λ walked. IfOk walked (λ next. next.met ≤ samples)) }
     ensures places { length out.new ≡ samples }
-    ensures none { IfNone result (out.new ≡ out.old) }
+    ensures none { IfNone result (take sum.met out.new ≡ take sum.met out.old) }
 {
     let left = samples - sum.met;
     if sum.met == 0 || left < FEW {
         return None;
     }
     let count = unpack_wide(scheme, frame, begin, differences)?;
-    Some(put_unpacked(differences, count.min(left), samples, sum, out))
+    Some(put_unpacked::<K>(differences, count.min(left), samples, sum, out))
 }
 
 /// The differences of a frame at once, as far as they are needed. None where its words have to be looked at: where none
 /// was met before, a word is bad or its differences wide, or the limits of 32 bits are within reach.
 #[inline(always)]
-fn put_at_once(
+fn put_at_once<K: Keeper>(
     scheme: Scheme,
     frame: &[u8; 64],
     begin: Rows,
@@ -272,22 +214,21 @@ fn put_at_once(
         ≡ fold samples next (items_of scheme rest)) }
     ensures kept { IfSome result (λ next. (p : List ℕ) (k from : ℕ) (rest : List DataWord) → Begins begin from
         → frame.now ≡ take 64 (drop (64 * k) p)
-        → take next.met out.new ++ met_in samples next (items_of scheme rest)
+        → take next.met out.new ++ met_in K.kept samples next (items_of scheme rest)
         ≡ take sum.met out.old
-        ++ met_in samples sum (items_of scheme (words_from p (16 * k + from) (16 - from) ++ rest))) }
+        ++ met_in K.kept samples sum (items_of scheme (words_from p (16 * k + from) (16 - from) ++ rest))) }
     ensures met { IfSome result (λ next. next.met ≤ samples) }
     ensures places { length out.new ≡ samples }
-    ensures none { IfNone result (out.new ≡ out.old) }
+    ensures none { IfNone result (take sum.met out.new ≡ take sum.met out.old) }
 {
     if sum.met == 0 || sum.last.unsigned_abs() >= (1 << 31) - REACH {
         return None;
     }
-    let count = unpack_frame(scheme, frame, begin, differences)?;
-    Some(put_near(differences, count, samples, sum, out))
+    K::put_frame(scheme, frame, begin, samples, sum, differences, out)
 }
 
 /// The differences of the first frame, as far as they are needed.
-fn put_first_frame(
+fn put_first_frame<K: Keeper>(
     scheme: Scheme,
     payload: &[u8],
     frame: &[u8; 64],
@@ -303,7 +244,7 @@ fn put_first_frame(
         → GoesOn samples (record { met = 0; last = first })
         (items_of scheme (words_from payload.now 3 13 ++ rest)) (items_of scheme rest) result }
     ensures kept { (rest : List DataWord)
-        → Keeps samples (record { met = 0; last = first }) out.old
+        → Keeps K.kept samples (record { met = 0; last = first }) out.old
         (items_of scheme (words_from payload.now 3 13 ++ rest)) (items_of scheme rest) out.new result }
     ensures met { IfOk result (λ next. next.met ≤ samples) }
     ensures places { length out.new ≡ samples }
@@ -312,26 +253,22 @@ fn put_first_frame(
         met: 0,
         last: first,
     };
-    let mut words = Words::between(payload, 3, FRAME);
-    let Some(word) = words.next() else {
-        return Ok(none);
-    };
-    let sum = match put_word(scheme, word, samples, none, out) {
+    let sum = match put_word::<K>(scheme, first_word(payload), samples, none, out) {
         Ok(sum) => sum,
         Err(fault) => return Err(fault),
     };
-    if let Some(sum) = put_at_once(scheme, frame, FROM_4, samples, sum, differences, out) {
+    if let Some(sum) = put_at_once::<K>(scheme, frame, FROM_4, samples, sum, differences, out) {
         return Ok(sum);
     }
-    match put_wide(scheme, frame, FROM_4, samples, sum, differences, out) {
+    match put_wide::<K>(scheme, frame, FROM_4, samples, sum, differences, out) {
         Some(walked) => walked,
-        None => put_all(scheme, words, samples, sum, out),
+        None => put_all::<K>(scheme, Words::between(payload, 4, FRAME), samples, sum, out),
     }
 }
 
 /// The differences of a later frame that aren't added up at once, as far as they are needed.
 #[cold]
-fn put_frame(
+fn put_other<K: Keeper>(
     scheme: Scheme,
     payload: &[u8],
     frame: &[u8; 64],
@@ -349,23 +286,23 @@ fn put_frame(
         → GoesOn samples sum
         (items_of scheme (words_from payload.now (16 * index) 16 ++ rest)) (items_of scheme rest) result }
     ensures kept { (rest : List DataWord)
-        → Keeps samples sum out.old
+        → Keeps K.kept samples sum out.old
         (items_of scheme (words_from payload.now (16 * index) 16 ++ rest)) (items_of scheme rest) out.new result }
     ensures met { IfOk result (λ next. next.met ≤ samples) }
     ensures places { length out.new ≡ samples }
 {
-    match put_wide(scheme, frame, FROM_1, samples, sum, differences, out) {
+    match put_wide::<K>(scheme, frame, FROM_1, samples, sum, differences, out) {
         Some(walked) => walked,
         None => {
             let words = Words::between(payload, FRAME * index, FRAME * (index + 1));
-            put_all(scheme, words, samples, sum, out)
+            put_all::<K>(scheme, words, samples, sum, out)
         }
     }
 }
 
 /// The differences of the frames behind the first one. They are added up at once, where that can't go wrong; else
 /// difference by difference, and where a word is bad or few are needed, word by word.
-fn put_later_frames(
+fn put_later_frames<K: Keeper>(
     scheme: Scheme,
     payload: &[u8],
     samples: usize,
@@ -378,7 +315,7 @@ fn put_later_frames(
     requires met { sum.met ≤ samples }
     ensures folded { result ≡ fold samples sum
         (items_of scheme (words_from payload.now 16 (word_count payload.now - 16))) }
-    ensures kept { OnOk result (out.new ≡ take sum.met out.old ++ met_in samples sum
+    ensures kept { OnOk result (out.new ≡ take sum.met out.old ++ met_in K.kept samples sum
         (items_of scheme (words_from payload.now 16 (word_count payload.now - 16)))) }
 {
     let (frames, _) = payload.as_chunks::<64>();
@@ -388,11 +325,19 @@ fn put_later_frames(
             return Ok(sum);
         }
         let frame = &frames[index];
-        if let Some(next) = put_at_once(scheme, frame, FROM_1, samples, sum, differences, out) {
+        if let Some(next) = put_at_once::<K>(
+            scheme,
+            frame,
+            FROM_1,
+            samples,
+            sum,
+            differences,
+            out,
+        ) {
             sum = next;
             continue;
         }
-        match put_frame(
+        match put_other::<K>(
             scheme,
             payload,
             frame,
@@ -413,9 +358,9 @@ fn put_later_frames(
     }
 }
 
-/// The sum of so many samples, of which this is the first, each put in its place, or what comes first in place
-/// of one.
-pub(crate) fn put_words(
+/// The sum of so many samples, of which this is the first, with what is kept of each put in its place, or what comes
+/// first in place of one.
+pub(crate) fn put_words<K: Keeper>(
     payload: &[u8],
     scheme: Scheme,
     samples: usize,
@@ -427,13 +372,13 @@ pub(crate) fn put_words(
     ensures folded { result
         ≡ fold samples (record { met = 0; last = first }) (items_of scheme (data_words payload.now)) }
     ensures kept { OnOk result (out.new
-        ≡ met_in samples (record { met = 0; last = first }) (items_of scheme (data_words payload.now))) }
+        ≡ met_in K.kept samples (record { met = 0; last = first }) (items_of scheme (data_words payload.now))) }
 {
     let (frames, _) = payload.as_chunks::<64>();
     let frame = &frames[0];
     let mut room = [0; PLACES];
-    match put_first_frame(scheme, payload, frame, samples, first, &mut room, out) {
-        Ok(sum) => put_later_frames(scheme, payload, samples, sum, &mut room, out),
+    match put_first_frame::<K>(scheme, payload, frame, samples, first, &mut room, out) {
+        Ok(sum) => put_later_frames::<K>(scheme, payload, samples, sum, &mut room, out),
         Err(fault) => Err(fault),
     }
 }

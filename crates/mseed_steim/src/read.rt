@@ -1,26 +1,29 @@
 //! Samples that are kept.
 
-ghost use Rattle.std.specs.Prelude.{◌≡◌, ◌≢◌, ◌↔◌, ◌<◌, List, ℤ, Err, IsOk, IfOk, IfErr, OnOk, MatchResult, length};
+ghost use Rattle.std.specs.Prelude.{◌≡◌, ◌≢◌, ◌↔◌, ◌<◌, List, ℤ, Err, IsOk, IfOk, IfErr, IsTrue, OnOk, MatchResult};
+ghost use Rattle.std.specs.Prelude.{length};
 ghost use Rattle.mseed_time.specs.declared.order.Order.TheVariants.{Big};
 ghost use Rattle.mseed_record.specs.Viewing.{view_of};
 ghost use Rattle.mseed_steim.specs.declared.form.Form.TheVariants.{Integers, Frames};
 ghost use Rattle.mseed_steim.specs.declared.fault.ReadFault.{ReadFault};
 ghost use Rattle.mseed_steim.specs.declared.fault.ReadFault.TheVariants.{Memory};
-ghost use Rattle.mseed_steim.specs.Reading.{count_of, IsFault, IsWhole, IsRefusal, Denies};
-ghost use Rattle.mseed_steim.specs.Samples.{IsFilled};
+ghost use Rattle.mseed_steim.specs.Reading.{count_of, IsFault, IsSteim, IsWhole, IsRefusal, Denies};
+ghost use Rattle.mseed_steim.specs.Samples.{IsFilled, steps_of};
+ghost use Rattle.mseed_steim.specs.private.Sums.{IsKept};
 
 use crate::check::{check_samples, constants_of, ends_of_walk, payload_of};
 use crate::fault::ReadFault;
-use crate::form::{Form, Width, integer_at};
+use crate::form::{Form, Width, form_of, integer_at};
+use crate::keep::{Keeper, Samples, Steps};
 use crate::put::put_words;
 use crate::scheme::Scheme;
 use mseed_record::RecordView;
 use mseed_time::Order;
 use std::alloc::{AllocError, Allocator};
 
-/// Fills in so many samples of Steim frames.
+/// Fills in what is kept of so many samples of Steim frames.
 #[tactic(auto, using(crate::proofs::Ended::no_frame))]
-fn fill_frames(
+fn fill_frames<K: Keeper>(
     payload: &[u8],
     scheme: Scheme,
     samples: usize,
@@ -28,12 +31,12 @@ fn fill_frames(
 ) -> Result<(), ReadFault>
     requires some { 0 < samples }
     requires room { length out.old ≡ samples }
-    ensures { IsFilled (Frames scheme) Big payload.now samples out.new result }
+    ensures { IsKept K.kept (Frames scheme) Big payload.now samples out.new result }
 {
     let Some(constants) = constants_of(payload) else {
         return Err(ReadFault::Short(0));
     };
-    let walked = put_words(payload, scheme, samples, constants.first, out);
+    let walked = put_words::<K>(payload, scheme, samples, constants.first, out);
     match ends_of_walk(payload, scheme, samples, constants, walked) {
         Ok(_) => Ok(()),
         Err(fault) => Err(fault),
@@ -76,7 +79,7 @@ fn fill_record(view: &RecordView<'_>, out: &mut [i32]) -> Result<(), ReadFault>
     let samples = usize::from(view.samples());
     match form {
         Form::Integers(width) => fill_integers(payload, width, view.payload_order(), samples, out),
-        Form::Frames(scheme) => fill_frames(payload, scheme, samples, out),
+        Form::Frames(scheme) => fill_frames::<Samples>(payload, scheme, samples, out),
     }
 }
 
@@ -102,6 +105,60 @@ pub fn fill_samples(view: &RecordView<'_>, out: &mut [i32]) -> Result<(), ReadFa
     ensures denied { IfErr result (λ fault. Denies (view_of view.now) fault) }
 {
     fill_record(view, out)
+}
+
+/// Whether a record's samples stand in Steim frames.
+pub fn is_steim(view: &RecordView<'_>) -> bool
+    ensures { IsTrue result ↔ IsSteim (view_of view.now) }
+{
+    matches!(form_of(view.encoding()), Some(Form::Frames(_)))
+}
+
+/// Fills in the steps of the samples of a record of Steim frames.
+#[inline(always)]
+fn fill_steps(view: &RecordView<'_>, out: &mut [i32]) -> Result<(), ReadFault>
+    requires some { 0 < count_of (view_of view.now) }
+    requires steim { IsSteim (view_of view.now) }
+    requires places { length out.old ≡ count_of (view_of view.now) }
+    ensures { MatchResult result (λ _. (s : List ℤ) × (IsWhole (view_of view.now) s × (out.new ≡ steps_of s)))
+        (λ fault. IsFault (view_of view.now) fault) }
+{
+    let (form, payload) = match payload_of(view) {
+        Ok(found) => found,
+        Err(fault) => return Err(fault),
+    };
+    match form {
+        Form::Integers(_) => unreachable!(),
+        Form::Frames(scheme) => {
+            fill_frames::<Steps>(payload, scheme, usize::from(view.samples()), out)
+        }
+    }
+}
+
+/// Fills in the steps of a record's samples: the first sample, and of each one behind it its difference from the one
+/// before. The samples are those of the record's one reading, where it ends on the payload's constant. The record is
+/// one of Steim frames, whose differences have 32 bits at the most, and has at least one sample, and there are as many
+/// places as it has.
+///
+/// # Errors
+///
+/// Those of [`fill_samples`]: the first reason, in the order of [`ReadFault`], why the record has no such reading.
+/// What the places hold is then open.
+#[inline(never)]
+pub fn fill_differences(view: &RecordView<'_>, out: &mut [i32]) -> Result<(), ReadFault>
+    requires some { 0 < count_of (view_of view.now) }
+    requires steim { IsSteim (view_of view.now) }
+    requires places { length out.old ≡ count_of (view_of view.now) }
+    // What is filled in are the steps of a reading that ends on its constants.
+    ensures reading { OnOk result ((s : List ℤ) × (IsWhole (view_of view.now) s × (out.new ≡ steps_of s))) }
+    // There's no other, and where there is one, its steps are filled in.
+    ensures only { (s : List ℤ) → IsWhole (view_of view.now) s → IsOk result × (out.new ≡ steps_of s) }
+    // A fault is answered exactly where it is the first.
+    ensures fault { (f : ReadFault) → (result ≡ Err f) ↔ IsFault (view_of view.now) f }
+    // A fault says that there's no reading, or that the only one ends elsewhere.
+    ensures denied { IfErr result (λ fault. Denies (view_of view.now) fault) }
+{
+    fill_steps(view, out)
 }
 
 /// So many zeros.

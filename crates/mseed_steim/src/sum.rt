@@ -4,8 +4,8 @@ ghost use Rattle.std.specs.Prelude.{◌≡◌, ◌+◌, ◌-◌, ◌^◌, ◌≤
 ghost use Rattle.std.specs.Prelude.{Ok, IfOk, length};
 ghost use Rattle.mseed_steim.specs.declared.differences.BadWordAt.{BadWordAt};
 ghost use Rattle.mseed_steim.specs.private.Digits.{digits};
-ghost use Rattle.mseed_steim.specs.private.Lanes.{span};
-ghost use Rattle.mseed_steim.specs.private.Sums.{GoesOn, fold, met_in};
+ghost use Rattle.mseed_steim.specs.private.Lanes.{span, total};
+ghost use Rattle.mseed_steim.specs.private.Sums.{GoesOn, fold, kept_at, met_in};
 
 use crate::fault::ReadFault;
 use crate::group::Group;
@@ -26,8 +26,9 @@ pub(crate) fn add_difference(difference: i32, samples: usize, sum: Sum) -> Walke
     requires { sum.met < samples }
     ensures goes_on { (more : List (Result ℤ BadWordAt)) → GoesOn samples sum (Ok difference ∷ more) more result }
     ensures met { IfOk result (λ next. next.met ≡ sum.met + 1) }
-    ensures kept { IfOk result (λ next. (more : List (Result ℤ BadWordAt))
-        → met_in samples sum (Ok difference ∷ more) ≡ next.last ∷ met_in samples next more) }
+    ensures kept { IfOk result (λ next. (keep : ℤ → ℤ → ℤ) (more : List (Result ℤ BadWordAt))
+        → met_in keep samples sum (Ok difference ∷ more)
+        ≡ kept_at keep sum.met difference next.last ∷ met_in keep samples next more) }
 {
     if sum.met == 0 {
         return Ok(Sum { met: 1, ..sum });
@@ -49,8 +50,9 @@ pub(crate) fn add_near(difference: i32, samples: usize, sum: Sum) -> Sum
     requires near { nat_abs sum.last + nat_abs difference < 2 ^ 31 }
     ensures goes_on { (more : List (Result ℤ BadWordAt))
         → fold samples sum (Ok difference ∷ more) ≡ fold samples result more }
-    ensures kept { (more : List (Result ℤ BadWordAt))
-        → met_in samples sum (Ok difference ∷ more) ≡ result.last ∷ met_in samples result more }
+    ensures kept { (keep : ℤ → ℤ → ℤ) (more : List (Result ℤ BadWordAt))
+        → met_in keep samples sum (Ok difference ∷ more)
+        ≡ keep difference result.last ∷ met_in keep samples result more }
     ensures met { result.met ≡ sum.met + 1 }
     ensures last { result.last ≡ sum.last +ℤ difference }
 {
@@ -83,6 +85,7 @@ pub(crate) fn add_some(differences: &[i32], samples: usize, sum: Sum) -> Sum
     ensures goes_on { (more : List (Result ℤ BadWordAt))
         → fold samples sum (map Ok differences.now ++ more) ≡ fold samples result more }
     ensures met { result.met ≡ sum.met + length differences.now }
+    ensures last { result.last ≡ sum.last +ℤ total differences.now }
 {
     let mut sum = sum;
     for i in 0..differences.len() {
@@ -115,20 +118,25 @@ pub(crate) fn add_checked(differences: &[i32], samples: usize, sum: Sum) -> Walk
 
 /// The next difference of a group in the low bits of a word.
 #[inline(always)]
-pub(crate) fn add_digit(word: u32, group: Group, index: u32, samples: usize, sum: Sum) -> Walked
+pub(crate) fn next_difference(word: u32, group: Group, index: u32) -> i32
+    requires { index < group.count }
+    ensures { digits group.width word (group.count - index)
+        ≡ result ∷ digits group.width word (group.count - (index + 1)) }
+{
+    read_digit(word, group.width, group.count - 1 - index)
+}
+
+/// The next difference of a group added.
+#[inline(always)]
+fn add_digit(word: u32, group: Group, index: u32, samples: usize, sum: Sum) -> Walked
     requires inside { index < group.count }
     requires left { sum.met < samples }
     ensures goes_on { (more : List (Result ℤ BadWordAt))
         → GoesOn samples sum (map Ok (digits group.width word (group.count - index)) ++ more)
         (map Ok (digits group.width word (group.count - (index + 1))) ++ more) result }
     ensures met { IfOk result (λ next. next.met ≡ sum.met + 1) }
-    ensures kept { IfOk result (λ next. (more : List (Result ℤ BadWordAt))
-        → met_in samples sum (map Ok (digits group.width word (group.count - index)) ++ more)
-        ≡ next.last ∷ met_in samples next
-        (map Ok (digits group.width word (group.count - (index + 1))) ++ more)) }
 {
-    let difference = read_digit(word, group.width, group.count - 1 - index);
-    add_difference(difference, samples, sum)
+    add_difference(next_difference(word, group, index), samples, sum)
 }
 
 /// The sum where no difference is left: short, unless all samples have been met.

@@ -6,7 +6,7 @@
 //! differences of the next word.
 
 ghost use Rattle.std.specs.Prelude.{◌≡◌, ◌<◌, ◌≤◌, ◌+◌, ◌-◌, ◌*◌, ◌^◌, ℕ, List, [], ◌∷◌, ◌++◌, ℤ, Ok, IfSome, map};
-ghost use Rattle.std.specs.Prelude.{take, drop, slice_index, slice_index_or};
+ghost use Rattle.std.specs.Prelude.{take, drop, length, slice_index, slice_index_or};
 ghost use Rattle.std.specs.Simd.Lanes.{Each1, sum_l};
 ghost use Rattle.mseed_steim.specs.private.Digits.{digit_at, digits};
 ghost use Rattle.mseed_steim.specs.Frames.{DataWord, words_from};
@@ -158,10 +158,10 @@ fn digit_by(word: u32, lift: u32, fall: u32) -> i32
 
 /// The differences of a word, from a place on.
 #[inline(always)]
-fn spread(word: u32, by: &Unpacking, lanes: usize, at: usize, differences: &mut Room)
+fn spread(word: u32, by: &Unpacking, lanes: usize, at: usize, differences: &mut [i32])
     requires low { by.now.fall < 32 }
     requires few { lanes ≤ 8 }
-    requires room { at + 8 ≤ 128 }
+    requires room { at + 8 ≤ length differences.old }
     ensures { (width : ℕ) → by.now.count ≤ lanes → Unpacks by.now.count width by.now
         → take (at + by.now.count) differences.new ≡ take at differences.old ++ digits width word by.now.count }
 {
@@ -250,11 +250,11 @@ fn unpack_five(
     rows: &[u64; 2],
     first: usize,
     met: usize,
-    differences: &mut Room,
+    differences: &mut [i32],
 ) -> usize
     requires lanes { lanes ≤ 8 }
     requires inside { first + 5 ≤ 16 }
-    requires room { met ≤ 80 }
+    requires room { met + 40 ≤ length differences.old }
     ensures few { result ≤ met + 40 }
     ensures unpacked { (frame : List ℕ) (from : ℕ) → bits.now ≡ map (word_at frame) words
         → ((word : ℕ) → word < 16 → row_of rows.now word ≡ row_at frame from word)
@@ -277,9 +277,10 @@ fn unpack_all(
     lanes: usize,
     bits: &[u32; 16],
     rows: &[u64; 2],
-    differences: &mut Room,
+    differences: &mut [i32],
 ) -> usize
     requires lanes { lanes ≤ 8 }
+    requires room { 120 ≤ length differences.old }
     ensures few { result ≤ 120 }
     ensures unpacked { (frame : List ℕ) (from : ℕ) → bits.now ≡ map (word_at frame) words
         → ((word : ℕ) → word < 16 → row_of rows.now word ≡ row_at frame from word)
@@ -294,8 +295,9 @@ fn unpack_all(
 /// The differences of a frame's words of these rows, in their order: how many there are. Words without the code 3 have
 /// no more of them in Steim-2 than in Steim-1.
 #[inline(always)]
-fn unpack_words(scheme: Scheme, frame: &[u8; 64], rows: u8x16, differences: &mut Room) -> usize
-    requires { Each1 (λ r. r < 16) rows }
+fn unpack_words(scheme: Scheme, frame: &[u8; 64], rows: u8x16, differences: &mut [i32]) -> usize
+    requires rows { Each1 (λ r. r < 16) rows }
+    requires room { 120 ≤ length differences.old }
     ensures few { result ≤ 120 }
     ensures unpacked { (from : ℕ) → 0 < from → rows ≡ map (row_at frame.now from) words
         → AreGood scheme frame.now from → take result differences.new ≡ unpacked scheme frame.now from 1 15 }
@@ -315,9 +317,10 @@ fn unpack_narrow(
     scheme: Scheme,
     frame: &[u8; 64],
     begin: Rows,
-    differences: &mut Room,
+    differences: &mut [i32],
 ) -> Option<usize>
-    requires { (from : ℕ) × Begins begin from }
+    requires begins { (from : ℕ) × Begins begin from }
+    requires room { 120 ≤ length differences.old }
     ensures { IfSome result (λ count. AreNarrow scheme begin frame.now (take count differences.new) count) }
 {
     let rows = rows_in(frame, begin);
@@ -333,9 +336,10 @@ pub(crate) fn unpack_frame(
     scheme: Scheme,
     frame: &[u8; 64],
     begin: Rows,
-    differences: &mut Room,
+    differences: &mut [i32],
 ) -> Option<usize>
-    requires { (from : ℕ) × Begins begin from }
+    requires begins { (from : ℕ) × Begins begin from }
+    requires room { 120 ≤ length differences.old }
     ensures { IfSome result (λ count. AreNarrow scheme begin frame.now (take count differences.new) count) }
 {
     match scheme {
@@ -350,9 +354,10 @@ fn unpack_all_widths(
     scheme: Scheme,
     frame: &[u8; 64],
     begin: Rows,
-    differences: &mut Room,
+    differences: &mut [i32],
 ) -> Option<usize>
-    requires { (from : ℕ) × Begins begin from }
+    requires begins { (from : ℕ) × Begins begin from }
+    requires room { 120 ≤ length differences.old }
     ensures { IfSome result (λ count. AreUnpacked scheme begin frame.now (take count differences.new) count) }
 {
     let rows = rows_in(frame, begin);
@@ -368,9 +373,10 @@ pub(crate) fn unpack_wide(
     scheme: Scheme,
     frame: &[u8; 64],
     begin: Rows,
-    differences: &mut Room,
+    differences: &mut [i32],
 ) -> Option<usize>
-    requires { (from : ℕ) × Begins begin from }
+    requires begins { (from : ℕ) × Begins begin from }
+    requires room { 120 ≤ length differences.old }
     ensures { IfSome result (λ count. AreUnpacked scheme begin frame.now (take count differences.new) count) }
 {
     match scheme {

@@ -1,5 +1,5 @@
 -- How many differences words hold, by the sizes of single differences.
-use Rattle.std.specs.Prelude.{◌≡◌, ◌↔◌, ℕ, ◌+◌, ◌-◌, ◌*◌, ◌/◌, ◌^◌, ◌<◌, ◌≤◌, ◌==◌, nat_lt, if◌then◌else◌, List, length}
+use Rattle.std.specs.Prelude.{◌≡◌, ◌↔◌, ℕ, ◌+◌, ◌*◌, ◌/◌, ◌^◌, ◌<◌, ◌≤◌, ◌==◌, nat_lt, if◌then◌else◌, List, length}
 use Rattle.std.specs.Prelude.{drop, ℤ, pos, negsuc, slice_index_or, Some}
 use Rattle.mseed_steim.specs.declared.row.Row.{Row}
 use Rattle.mseed_steim.specs.declared.layout.Layout.{Layout}

@@ -1,10 +1,10 @@
 use Rattle.std.proofs.Common.{◌≡◌, ◌≢◌, ◌⊎◌, ℕ, ℤ, ◌+◌, ◌-◌, ◌*◌, ◌/◌, ◌%◌, ◌<◌, ◌≤◌, ◌∙◌, List, arith, ap, sym, subst}
-use Rattle.std.proofs.Common.{inl, inr, drop, length, take, refl, ⊎_elim}
-use Rattle.std.proofs.lemmas.List.{take_rest, length-drop, drop-drop}
+use Rattle.std.proofs.Common.{inl, inr, drop, length, take, refl}
+use Rattle.std.proofs.lemmas.List.{take_rest, length-drop}
 use Rattle.mseed_steim.specs.declared.pack.Packed.{Packed}
 use Rattle.mseed_steim.specs.Frames.{word_count}
 use Rattle.mseed_steim.specs.Packing.{IsFullest, IsTooLargeAt, IsFirstTooLarge, LeavesRoom}
-use Rattle.mseed_steim.specs.private.Ahead.{IsAhead, Tells}
+use Rattle.mseed_steim.specs.private.Ahead.{IsAhead}
 use Rattle.mseed_steim.proofs.Packs.{refused_packed}
 use Rattle.mseed_steim.proofs.Rows.{spelled_code}
 use Rattle.mseed_steim.proofs.Filling.{Filling, filled, filling_refused}

@@ -1,53 +1,52 @@
-use Rattle.std.proofs.Common.{◌≡◌, ◌+◌, ◌-◌, ◌*◌, ◌/◌, ◌<◌, ◌++◌, ◌∙◌, List, take, length, ap, sym, arith, refl, inl}
+use Rattle.std.proofs.Common.{◌≡◌, ◌+◌, ◌-◌, ◌*◌, ◌/◌, ◌<◌, ◌++◌, ◌∙◌, ℕ, List, ℤ, take, length, ap, sym, arith, refl}
+use Rattle.std.proofs.Common.{inl}
 use Rattle.mseed_steim.specs.Frames.{DataWord, words_from, word_count}
 use Rattle.mseed_steim.specs.private.Items.{items_of}
 use Rattle.mseed_steim.specs.private.Sums.{fold, met_in}
 use Rattle.mseed_steim.proofs.Walking.{frame_cut, words_none, words_skip, no_items, frame_at}
 use Rattle.mseed_steim.proofs.Folds.{fold_enough, fold_short}
 use Rattle.mseed_steim.proofs.Folded.{all_kept}
-use Rattle.mseed_steim.proofs.put.put_later_frames.Goals.{Else-sum-samples}
 use Rattle.mseed_steim.proofs.put.put_later_frames.Goals as goal
 
 pub returns-then-sum-samples-clause-folded : goal.returns-then-sum-samples-clause-folded
-returns-then-sum-samples-clause-folded c =
+returns-then-sum-samples-clause-folded g c =
     sym (c.loop-index.invariant.same ∙ fold_enough c.args.samples c.loop-index.sum _ c.if-sum-samples.true)
 
 pub returns-then-sum-samples-clause-kept : goal.returns-then-sum-samples-clause-kept
-returns-then-sum-samples-clause-kept c =
-    all_kept c.args.samples c.loop-index.sum c.loop-index.out _ c.loop-index.invariant.places c.if-sum-samples.true
+returns-then-sum-samples-clause-kept g c =
+    all_kept g.K.Keeper.kept c.args.samples c.loop-index.sum c.loop-index.out _ c.loop-index.invariant.places
+    c.if-sum-samples.true
     ∙ c.loop-index.invariant.kept
 
 pub put_at_once-requires-clause-begins : goal.put_at_once-requires-clause-begins
-put_at_once-requires-clause-begins c = (1, inl (refl, refl))
+put_at_once-requires-clause-begins g c = (1, inl (refl, refl))
 
-pub put_frame-requires-clause-at : goal.put_frame-requires-clause-at
-put_frame-requires-clause-at c =
+pub put_other-requires-clause-at : goal.put_other-requires-clause-at
+put_other-requires-clause-at g c =
     let inside : c.loop-index.index < length c.args.payload.now / 64 = omega arith in
     rw c.as_chunks.ensures.front (frame_at (length c.args.payload.now / 64) c.args.payload.now c.loop-index.index
     inside)
 
 -- the first word of a frame, its codes, is no data word
-skip : (c : Else-sum-samples)
-    → words_from c.args.payload.now (16 * c.loop-index.index) (word_count c.args.payload.now - 16 * c.loop-index.index)
-    ≡ words_from c.args.payload.now (16 * c.loop-index.index + 1) 15 ++ words_from c.args.payload.now
-    (16 * (c.loop-index.index + 1)) (word_count c.args.payload.now - 16 * (c.loop-index.index + 1))
-skip c =
-    frame_cut c.args.payload.now c.loop-index.index (omega arith)
-    ∙ ap (λ (ws : List DataWord). ws ++ words_from c.args.payload.now
-    (16 * (c.loop-index.index + 1)) (word_count c.args.payload.now - 16 * (c.loop-index.index + 1)))
-    (words_skip c.args.payload.now (16 * c.loop-index.index) 15 (omega arith))
+skip : (p : List ℕ) (k : ℕ) → k < length p / 64
+    → words_from p (16 * k) (word_count p - 16 * k)
+    ≡ words_from p (16 * k + 1) 15 ++ words_from p (16 * (k + 1)) (word_count p - 16 * (k + 1))
+skip p k inside =
+    frame_cut p k (omega arith)
+    ∙ ap (λ (ws : List DataWord). ws ++ words_from p (16 * (k + 1)) (word_count p - 16 * (k + 1)))
+    (words_skip p (16 * k) 15 (omega arith))
 
 pub returns-in-Err-clause-folded : goal.returns-in-Err-clause-folded
-returns-in-Err-clause-folded c =
+returns-in-Err-clause-folded g c =
     sym (c.loop-index.invariant.same
     ∙ ap (λ (ws : List DataWord). fold c.args.samples c.loop-index.sum (items_of c.args.scheme ws))
     (frame_cut c.args.payload.now c.loop-index.index (omega arith))
     ∙ c.in-Err.ensures.goes_on _)
 
 pub loop-index-preserved-in-Some : goal.loop-index-preserved-in-Some
-loop-index-preserved-in-Some c =
-    let parts = skip (goal.at.loop-index-preserved-in-Some c).Else-sum-samples in
+loop-index-preserved-in-Some g c =
     let inside : c.loop-index.index < length c.args.payload.now / 64 = omega arith in
+    let parts = skip c.args.payload.now c.loop-index.index inside in
     record {
       places = c.in-Some.ensures.places;
       met = c.in-Some.ensures.met;
@@ -61,40 +60,45 @@ loop-index-preserved-in-Some c =
           (rw c.as_chunks.ensures.front (frame_at (length c.args.payload.now / 64) c.args.payload.now
           c.loop-index.index
           inside))
-          ∙ ap (λ (ws : List DataWord). take c.loop-index.sum.met c.loop-index.out ++ met_in c.args.samples
+          ∙ ap (λ (ws : List DataWord). take c.loop-index.sum.met c.loop-index.out
+          ++ met_in g.K.Keeper.kept c.args.samples
           c.loop-index.sum (items_of c.args.scheme ws)) (sym parts)
           ∙ c.loop-index.invariant.kept;
     }
 
 pub loop-index-preserved : goal.loop-index-preserved
-loop-index-preserved c =
+loop-index-preserved g c =
     let parts = frame_cut c.args.payload.now c.loop-index.index (omega arith) in
     let rest = words_from c.args.payload.now (16 * (c.loop-index.index + 1))
     (word_count c.args.payload.now - 16 * (c.loop-index.index + 1)) in
-    let kept = rw c.in_default.ensures.none at (c.in-Ok.ensures.kept rest) in
+    let none = ap (λ (xs : List ℤ). xs ++ met_in g.K.Keeper.kept c.args.samples c.loop-index.sum
+    (items_of c.args.scheme (words_from c.args.payload.now (16 * c.loop-index.index) 16 ++ rest)))
+    c.in_default.ensures.none in
     record {
       places = c.in-Ok.ensures.places;
       met = c.in-Ok.ensures.met;
       same = c.loop-index.invariant.same
           ∙ ap (λ (ws : List DataWord). fold c.args.samples c.loop-index.sum (items_of c.args.scheme ws)) parts
           ∙ c.in-Ok.ensures.goes_on _;
-      kept = kept
-          ∙ ap (λ (ws : List DataWord). take c.loop-index.sum.met c.loop-index.out ++ met_in c.args.samples
+      kept = c.in-Ok.ensures.kept rest ∙ none
+          ∙ ap (λ (ws : List DataWord). take c.loop-index.sum.met c.loop-index.out
+          ++ met_in g.K.Keeper.kept c.args.samples
           c.loop-index.sum (items_of c.args.scheme ws)) (sym parts)
           ∙ c.loop-index.invariant.kept;
     }
 
 pub returns-then-sum-samples-2-clause-folded : goal.returns-then-sum-samples-2-clause-folded
-returns-then-sum-samples-2-clause-folded c =
+returns-then-sum-samples-2-clause-folded g c =
     sym (c.loop-index.invariant.same ∙ fold_enough c.args.samples c.loop-index.sum _ c.if-sum-samples-2.true)
 
 pub returns-then-sum-samples-2-clause-kept : goal.returns-then-sum-samples-2-clause-kept
-returns-then-sum-samples-2-clause-kept c =
-    all_kept c.args.samples c.loop-index.sum c.loop-index.out _ c.loop-index.invariant.places c.if-sum-samples-2.true
+returns-then-sum-samples-2-clause-kept g c =
+    all_kept g.K.Keeper.kept c.args.samples c.loop-index.sum c.loop-index.out _ c.loop-index.invariant.places
+    c.if-sum-samples-2.true
     ∙ c.loop-index.invariant.kept
 
 pub returns-else-sum-samples-2-clause-folded : goal.returns-else-sum-samples-2-clause-folded
-returns-else-sum-samples-2-clause-folded c =
+returns-else-sum-samples-2-clause-folded g c =
     let over : word_count c.args.payload.now - 16 * c.loop-index.index ≡ 0 = omega arith in
     let none = no_items c.args.scheme (words_from c.args.payload.now (16 * c.loop-index.index)
     (word_count c.args.payload.now - 16 * c.loop-index.index))

@@ -5,14 +5,14 @@ use Rattle.mseed_steim.specs.private.Sums.{fold, met_in}
 use Rattle.mseed_steim.proofs.put.put_later_frames.Given as goal
 
 abbrev pub invariant-loop-index : goal.invariant-loop-index
-invariant-loop-index l = record {
+invariant-loop-index g l = record {
   places : length l.out ≡ l.samples;
   met : l.sum.met ≤ l.samples;
   same : fold l.samples l.fn.sum (items_of l.scheme (words_from l.payload 16 (word_count l.payload - 16)))
       ≡ fold l.samples l.sum (items_of l.scheme
       (words_from l.payload (16 * l.index) (word_count l.payload - 16 * l.index)));
-  kept : take l.sum.met l.out ++ met_in l.samples l.sum
+  kept : take l.sum.met l.out ++ met_in g.K.Keeper.kept l.samples l.sum
       (items_of l.scheme (words_from l.payload (16 * l.index) (word_count l.payload - 16 * l.index)))
-      ≡ take l.fn.sum.met l.fn.out ++ met_in l.samples l.fn.sum
+      ≡ take l.fn.sum.met l.fn.out ++ met_in g.K.Keeper.kept l.samples l.fn.sum
       (items_of l.scheme (words_from l.payload 16 (word_count l.payload - 16)));
 }

@@ -6,22 +6,24 @@ use Rattle.mseed_steim.proofs.Folded.{met_enough}
 use Rattle.mseed_steim.proofs.put.put_word.Goals as goal
 
 pub returns-then-samples-sum-clause-goes_on : goal.returns-then-samples-sum-clause-goes_on
-returns-then-samples-sum-clause-goes_on c = λ rest. fold_done c.args.samples c.args.sum _ _ (omega arith)
+returns-then-samples-sum-clause-goes_on g c = λ rest. fold_done c.args.samples c.args.sum _ _ (omega arith)
 
 pub returns-then-samples-sum-clause-kept : goal.returns-then-samples-sum-clause-kept
-returns-then-samples-sum-clause-kept c = λ rest.
+returns-then-samples-sum-clause-kept g c = λ rest.
     ap (λ (xs : List ℤ). take c.args.sum.met c.args.out.now ++ xs)
-    (met_enough c.args.samples c.args.sum (items_of c.args.scheme rest) (omega arith)
-    ∙ sym (met_enough c.args.samples c.args.sum (items_of c.args.scheme (as_data c.args.word ∷ rest)) (omega arith)))
+    (met_enough g.K.Keeper.kept c.args.samples c.args.sum (items_of c.args.scheme rest) (omega arith)
+    ∙ sym (met_enough g.K.Keeper.kept c.args.samples c.args.sum (items_of c.args.scheme (as_data c.args.word ∷ rest))
+    (omega arith)))
 
 pub returns-in-Some-clause-goes_on : goal.returns-in-Some-clause-goes_on
-returns-in-Some-clause-goes_on c = word_goes_on c.args.samples c.args.scheme (as_data c.args.word) _ c.args.sum
+returns-in-Some-clause-goes_on g c = word_goes_on c.args.samples c.args.scheme (as_data c.args.word) _ c.args.sum
     c.put_each.result c.in-Some.ensures c.put_each.ensures.goes_on
 
 pub returns-in-Some-clause-kept : goal.returns-in-Some-clause-kept
-returns-in-Some-clause-kept c = word_keeps c.args.samples c.args.scheme (as_data c.args.word) _ c.args.sum
+returns-in-Some-clause-kept g c = word_keeps g.K.Keeper.kept c.args.samples c.args.scheme
+    (as_data c.args.word) _ c.args.sum
     c.args.out.now c.put_each.new.out c.put_each.result c.in-Some.ensures c.put_each.ensures.kept
 
 pub returns-in-None-clause-goes_on : goal.returns-in-None-clause-goes_on
-returns-in-None-clause-goes_on c = bad_word c.args.samples c.args.scheme (as_data c.args.word) c.args.sum
+returns-in-None-clause-goes_on g c = bad_word c.args.samples c.args.scheme (as_data c.args.word) c.args.sum
     c.in-None.ensures (omega arith)

@@ -7,14 +7,14 @@ use Rattle.mseed_steim.proofs.Walking.{first_cut}
 use Rattle.mseed_steim.proofs.put.put_words.Goals as goal
 
 pub returns-in-Err-clause-folded : goal.returns-in-Err-clause-folded
-returns-in-Err-clause-folded c =
+returns-in-Err-clause-folded g c =
     let step = rw (to_z-of_z w32 c.args.first c.ranges.first) at
     (c.in-Err.ensures.goes_on (words_from c.args.payload.now 16 (word_count c.args.payload.now - 16))) in
     sym (ap (λ (ws : List DataWord). fold c.args.samples (record { met = 0; last = c.args.first })
     (items_of c.args.scheme ws)) (first_cut c.args.payload.now c.requires.framed) ∙ step)
 
 pub returns-in-Ok : goal.returns-in-Ok
-returns-in-Ok c =
+returns-in-Ok g c =
     let rest = words_from c.args.payload.now 16 (word_count c.args.payload.now - 16) in
     let cut = first_cut c.args.payload.now c.requires.framed in
     let step = rw (to_z-of_z w32 c.args.first c.ranges.first) at (c.in-Ok.ensures.goes_on rest) in

@@ -20,9 +20,9 @@ returns-clause-goes_on c = λ more.
     (near_fits (c.args.sum.last +ℤ c.args.difference) (inside c.args.sum.last c.args.difference c.requires.near)))
 
 pub returns-clause-kept : goal.returns-clause-kept
-returns-clause-kept c = λ more.
+returns-clause-kept c = λ keep more.
     rw (wrapped c.args.sum.last c.args.difference (search rules) (search rules) c.requires.near)
-    (met_add c.args.samples c.args.sum c.args.difference more c.requires.left c.requires.some
+    (met_add keep c.args.samples c.args.sum c.args.difference more c.requires.left c.requires.some
     (near_fits (c.args.sum.last +ℤ c.args.difference) (inside c.args.sum.last c.args.difference c.requires.near)))
 
 pub returns-clause-last : goal.returns-clause-last

@@ -1,9 +1,9 @@
 use Rattle.std.proofs.Common.{◌≡◌, ◌+◌, ◌++◌, ◌∙◌, List, ℤ, ◌+ℤ◌, Result, Ok, map, drop, length, get_or, pos}
 use Rattle.std.proofs.Common.{arith, ap, rules, w32, FitsSigned}
-use Rattle.std.proofs.lemmas.Int.{to_z-of_z}
+use Rattle.std.proofs.lemmas.Int.{ints, to_z-of_z}
 use Rattle.mseed_steim.specs.declared.differences.BadWordAt.{BadWordAt}
 use Rattle.mseed_steim.specs.private.Sums.{fold}
-use Rattle.mseed_steim.proofs.Far.{abs_sum, span_step}
+use Rattle.mseed_steim.proofs.Far.{abs_sum, span_step, total_step}
 use Rattle.mseed_steim.proofs.Folded.{drop_step, no_more}
 use Rattle.mseed_steim.proofs.sum.add_some.Goals as goal
 
@@ -24,6 +24,8 @@ loop-i-preserved c =
     record {
       met = let met = c.add_near-sum.ensures.met in omega (arith, met);
       near = rw next (omega (arith, step, sum, c.loop-i.invariant.near));
+      moved = let totals = total_step c.args.differences.now c.loop-i.i (pos 0) c.loop-i-test.true in
+          rw next (omega (arith, ints, totals, c.loop-i.invariant.moved));
       same = λ more.
           let rest = map Ok (drop (c.loop-i.i + 1) c.args.differences.now) ++ more in
           c.loop-i.invariant.same more
@@ -37,3 +39,10 @@ returns-clause-goes_on c =
     let all : c.loop-i.i ≡ length c.args.differences.now = omega arith in
     let none = no_more c.args.differences.now in
     rw (all, none) at c.loop-i.invariant.same
+
+pub returns-clause-last : goal.returns-clause-last
+returns-clause-last c =
+    let all : c.loop-i.i ≡ length c.args.differences.now = omega arith in
+    let none = no_more c.args.differences.now in
+    let moved = rw (all, none) at c.loop-i.invariant.moved in
+    omega (arith, ints, moved)

@@ -11,7 +11,6 @@ use Rattle.mseed_steim.proofs.unpack.unpack_five.Goals as goal
 pub loop-index-init : goal.loop-index-init
 unfolding unpacked
 loop-index-init c = record {
-  long = c.told-differences;
   few = omega arith;
   so_far = λ frame from ws rows narrow fit. rw append-nil refl;
 }
@@ -27,7 +26,6 @@ loop-index-preserved c =
     let inside : place < 16 = omega (arith, c.loop-index-test.true, c.requires.inside) in
     let prefix : List ℤ = take c.args.met c.args.differences.now in
     record {
-      long = c.spread.array_long;
       few = omega (arith, most, enough, c.loop-index.invariant.few);
       so_far = λ f from ws rows narrow fit.
           let row : c.row_in.result ≡ row_at f from place = c.row_in.ensures ∙ rows place inside in

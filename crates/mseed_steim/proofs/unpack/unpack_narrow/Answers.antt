@@ -7,8 +7,8 @@ use Rattle.mseed_steim.proofs.unpack.unpack_narrow.Goals as goal
 pub returns : goal.returns
 returns c =
     let frame = c.args.frame.now in
-    let from = c.requires.0 in
-    let begins = c.requires.1 in
+    let from = c.requires.begins.0 in
+    let begins = c.requires.begins.1 in
     let few = subst (λ (n : ℕ). n < 128)
     (c.count_narrow.ensures (row_at frame from) (c.rows_in-rows.ensures.rows from begins)) (omega arith) in
     let good = narrow_good c.args.scheme frame from c.fits-frame few in

@@ -20,10 +20,10 @@ returns-then-has_no_code_3-clause-unpacked c = λ from some rows good.
     let bits = c.words_of-bits.ensures in
     let other = rw bits at (OnTrue_at c.if-has_no_code_3.true c.has_no_code_3.ensures) in
     c.unpack_all.ensures.unpacked c.args.frame.now from bits
-    (λ word less. in_halves c.args.frame.now c.args.rows from word c.requires rows less) good
+    (λ word less. in_halves c.args.frame.now c.args.rows from word c.requires.rows rows less) good
     (no_more_than_4 c.args.scheme c.args.frame.now from c.fits-frame some other good)
 
 pub returns-clause-unpacked : goal.returns-clause-unpacked
 returns-clause-unpacked c = λ from some rows good.
     c.unpack_all-2.ensures.unpacked c.args.frame.now from c.words_of-bits.ensures
-    (λ word less. in_halves c.args.frame.now c.args.rows from word c.requires rows less) good (inl (omega arith))
+    (λ word less. in_halves c.args.frame.now c.args.rows from word c.requires.rows rows less) good (inl (omega arith))

@@ -16,4 +16,4 @@ returns-clause-goes_on c = λ reach ds more near m.
     let wrapped = wrapping_add_is w32 c.args.sum.last c.args.moved.by last by
     ∙ int_wrap_fits w32 (c.args.sum.last +ℤ c.args.moved.by)
     (near_signed (c.args.sum.last +ℤ c.args.moved.by) sum) in
-    rw (wrapped, ← m.count_is, ← m.by_is) ((goes_far c.args.samples ds c.args.sum more c.requires.some room far).0)
+    rw (wrapped, ← m.count_is, ← m.by_is) (goes_far c.args.samples ds c.args.sum more c.requires.some room far)

@@ -2,10 +2,10 @@ use Rattle.std.proofs.Common.{◌≡◌, ◌<◌, ◌+◌, ◌++◌, ◌∙◌, 
 use Rattle.std.proofs.Common.{arith, ap, sym, rules, w32, FitsSigned}
 use Rattle.std.proofs.lemmas.Int.{to_z-of_z}
 use Rattle.mseed_steim.specs.declared.differences.BadWordAt.{BadWordAt}
-use Rattle.mseed_steim.specs.private.Sums.{fold, met_in}
+use Rattle.mseed_steim.specs.private.Sums.{fold, met_in, the_sample}
 use Rattle.mseed_steim.proofs.Far.{abs_sum, span_step}
 use Rattle.mseed_steim.proofs.Folded.{drop_step, take_put}
-use Rattle.mseed_steim.proofs.put.put_some.Goals as goal
+use Rattle.mseed_steim.proofs.keep.put_some.Goals as goal
 
 pub add_near-next-requires-clause-near : goal.add_near-next-requires-clause-near
 add_near-next-requires-clause-near c =
@@ -34,11 +34,11 @@ loop-i-preserved c =
           ∙ (rw to_z-of_z at (c.add_near-next.ensures.goes_on rest));
       kept = λ more.
           let rest = map Ok (drop (c.loop-i.i + 1) c.args.differences.now) ++ more in
-          let met = rw to_z-of_z at (c.add_near-next.ensures.kept rest) in
+          let met = rw to_z-of_z at (c.add_near-next.ensures.kept the_sample rest) in
           rw to_z-of_z (take_put c.loop-i.out c.loop-i.sum.met c.add_near-next.result.met c.add_near-next.result.last
-          (met_in c.args.samples c.add_near-next.result rest) inside c.add_near-next.ensures.met
+          (met_in the_sample c.args.samples c.add_near-next.result rest) inside c.add_near-next.ensures.met
           ∙ ap (λ (xs : List ℤ). take c.loop-i.sum.met c.loop-i.out ++ xs) (sym met
-          ∙ ap (λ (items : List (Result ℤ BadWordAt)). met_in c.args.samples c.loop-i.sum items)
+          ∙ ap (λ (items : List (Result ℤ BadWordAt)). met_in the_sample c.args.samples c.loop-i.sum items)
           (sym (drop_step c.args.differences.now c.loop-i.i (pos 0) more c.loop-i-test.true)))
           ∙ c.loop-i.invariant.kept more);
     }

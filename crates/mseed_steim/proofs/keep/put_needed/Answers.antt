@@ -1,7 +1,8 @@
 use Rattle.std.proofs.Common.{◌≡◌, ◌≤◌, take, length, arith, rules, Ok}
 use Rattle.std.proofs.lemmas.List.{length-take-le}
+use Rattle.mseed_steim.specs.private.Sums.{the_sample}
 use Rattle.mseed_steim.proofs.Needed.{needed_kept, needed_on, span_first}
-use Rattle.mseed_steim.proofs.put.put_needed.Goals as goal
+use Rattle.mseed_steim.proofs.keep.put_needed.Goals as goal
 
 pub put_some-requires-clause-near : goal.put_some-requires-clause-near
 put_some-requires-clause-near c =
@@ -24,7 +25,8 @@ returns-clause-kept c = λ more.
     let all : length ds ≡ 128 = search rules in
     let long : length (take c.min-needed.result ds) ≡ c.min-needed.result = length-take-le c.min-needed.result ds
     (omega (arith, all, c.min-needed.ensures, c.requires.few)) in
-    needed_kept c.args.samples c.args.sum ds c.args.count c.min-needed.result c.args.out.now c.put_some.new.out more
+    needed_kept the_sample c.args.samples c.args.sum ds c.args.count c.min-needed.result c.args.out.now
+    c.put_some.new.out more
     (Ok c.put_some.result) c.requires.met c.min-needed.ensures c.put_some.ensures.kept
     (rw long at c.put_some.ensures.met)
 

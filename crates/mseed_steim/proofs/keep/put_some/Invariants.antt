@@ -1,8 +1,8 @@
 use Rattle.std.proofs.Common.{◌≡◌, ◌+◌, ◌≤◌, ◌++◌, map, take, drop, length, List, ℤ, nat_abs, Result, Ok}
 use Rattle.mseed_steim.specs.declared.differences.BadWordAt.{BadWordAt}
 use Rattle.mseed_steim.specs.private.Lanes.{span}
-use Rattle.mseed_steim.specs.private.Sums.{fold, met_in}
-use Rattle.mseed_steim.proofs.put.put_some.Given as goal
+use Rattle.mseed_steim.specs.private.Sums.{fold, met_in, the_sample}
+use Rattle.mseed_steim.proofs.keep.put_some.Given as goal
 
 abbrev pub invariant-loop-i : goal.invariant-loop-i
 invariant-loop-i l = record {
@@ -13,6 +13,6 @@ invariant-loop-i l = record {
       → fold l.samples l.fn.sum (map Ok l.differences ++ more) ≡ fold l.samples l.sum
       (map Ok (drop l.i l.differences) ++ more);
   kept : (more : List (Result ℤ BadWordAt))
-      → take l.sum.met l.out ++ met_in l.samples l.sum (map Ok (drop l.i l.differences) ++ more)
-      ≡ take l.fn.sum.met l.fn.out ++ met_in l.samples l.fn.sum (map Ok l.differences ++ more);
+      → take l.sum.met l.out ++ met_in the_sample l.samples l.sum (map Ok (drop l.i l.differences) ++ more)
+      ≡ take l.fn.sum.met l.fn.out ++ met_in the_sample l.samples l.fn.sum (map Ok l.differences ++ more);
 }
