@@ -7,8 +7,7 @@ use Rattle.std.proofs.lemmas.Bool.{lt-ltb}
 use Rattle.mseed_steim.specs.declared.differences.BadWordAt.{BadWordAt}
 use Rattle.mseed_steim.specs.declared.sum.Sum.{Sum}
 use Rattle.mseed_steim.specs.private.Lanes.{total, span}
-use Rattle.mseed_steim.specs.private.Sums.{fits, fold, kept_along, met_in, one_more, sums, the_difference}
-use Rattle.mseed_steim.specs.private.Sums.{the_sample}
+use Rattle.mseed_steim.specs.private.Sums.{fits, fold, kept_along, met_in, one_more, sums, the_sample}
 use Rattle.mseed_steim.proofs.Folds.{fold_add}
 use Rattle.mseed_steim.proofs.Folded.{met_add}
 
@@ -67,9 +66,12 @@ pub sums_kept : (l : ℤ) (ds : List ℤ) → kept_along the_sample l ds ≡ sum
 sums_kept l [] = refl
 sums_kept l (d ∷ ds) = ap (λ (zs : List ℤ). (l +ℤ d) ∷ zs) (sums_kept (l +ℤ d) ds)
 
-pub differences_kept : (l : ℤ) (ds : List ℤ) → kept_along the_difference l ds ≡ ds
-differences_kept l [] = refl
-differences_kept l (d ∷ ds) = ap (λ (zs : List ℤ). d ∷ zs) (differences_kept (l +ℤ d) ds)
+pub differences_kept : (keep : ℤ → ℤ → ℤ) → ((d s : ℤ) → keep d s ≡ d) → (l : ℤ) (ds : List ℤ)
+    → kept_along keep l ds ≡ ds
+differences_kept keep e l [] = refl
+differences_kept keep e l (d ∷ ds) =
+    ap (λ (z : ℤ). z ∷ kept_along keep (l +ℤ d) ds) (e d (l +ℤ d))
+    ∙ ap (λ (zs : List ℤ). d ∷ zs) (differences_kept keep e (l +ℤ d) ds)
 
 pub near_signed : (z : ℤ) → nat_abs z < 2 ^ 31 → FitsSigned w32 z
 near_signed (pos n) h = record { sfits = omega (arith, h) }

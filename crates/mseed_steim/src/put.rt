@@ -14,7 +14,7 @@ use crate::data_words::{FRAME, Word, Words, first_word};
 use crate::fault::ReadFault;
 use crate::frame::{FROM_1, FROM_4, REACH};
 use crate::group::{Group, group_of};
-use crate::keep::{Keeper, kept_at};
+use crate::keep::{Keeper, keep, kept_at, put_frame, put_near};
 use crate::lanes::Rows;
 use crate::scheme::Scheme;
 use crate::sum::{Sum, Walked, add_difference, next_difference, reach_of};
@@ -124,7 +124,7 @@ fn put_checked<K: Keeper>(differences: &[i32], samples: usize, sum: Sum, out: &m
         let Some(next) = last.checked_add(differences[i]) else {
             return Err(ReadFault::Overflow(sum.met + i));
         };
-        out[sum.met + i] = K::keep(differences[i], next);
+        out[sum.met + i] = keep::<K>(differences[i], next);
         last = next;
     }
     Ok(Sum {
@@ -153,7 +153,7 @@ fn put_unpacked<K: Keeper>(
     ensures places { length out.new ≡ samples }
 {
     if reach_of(&differences[..count]) < (1 << 31) - u64::from(sum.last.unsigned_abs()) {
-        return Ok(K::put_near(differences, count, samples, sum, out));
+        return Ok(put_near::<K>(differences, count, samples, sum, out));
     }
     put_checked::<K>(&differences[..count], samples, sum, out)
 }
@@ -224,7 +224,7 @@ fn put_at_once<K: Keeper>(
     if sum.met == 0 || sum.last.unsigned_abs() >= (1 << 31) - REACH {
         return None;
     }
-    K::put_frame(scheme, frame, begin, samples, sum, differences, out)
+    put_frame::<K>(scheme, frame, begin, samples, sum, differences, out)
 }
 
 /// The differences of the first frame, as far as they are needed.
