@@ -1,4 +1,7 @@
 //! Why a stream wasn't read to its end.
+ghost use Rattle.std.specs.Prelude.{◌≡◌};
+ghost use Rattle.mseed_stream.specs.Fault.{offset_of};
+
 use mseed_record::FrameFault;
 
 /// Why an input wasn't read to its end.
@@ -20,4 +23,20 @@ pub enum StreamFault {
     Turns(u64),
     /// An allocation was refused.
     Memory,
+}
+
+impl StreamFault {
+    /// Returns behind how many bytes of the input the fault lies: the offset, in bytes, of what is no record, or of the
+    /// record that is cut off. A read that failed and memory that was refused lie in no byte of the input, and have
+    /// none.
+    pub fn offset(&self) -> Option<u64>
+        ensures { result ≡ offset_of self.now }
+    {
+        match self {
+            StreamFault::Frame(offset, _) => Some(*offset),
+            StreamFault::Truncated(offset, _) => Some(*offset),
+            StreamFault::Turns(offset) => Some(*offset),
+            StreamFault::Read(_) | StreamFault::Memory => None,
+        }
+    }
 }
