@@ -13,7 +13,7 @@ joined_status joined = if joined.fault then 2 else if nat_lt 0 joined.broken the
 
 -- the line of a fault
 abbrev pub join_fault_text : JoinsFault → List ℕ
-join_fault_text (Line number) = codes "mseed: bad part at line " ++ decimal number ++ codes "\n"
+join_fault_text (Line number offset) = codes "mseed: bad part at line " ++ decimal number ++ codes "\n"
 join_fault_text (Count parts expected) =
     codes "mseed: " ++ decimal parts ++ codes " parts, not " ++ decimal expected ++ codes "\n"
 join_fault_text (Stream fault) = codes "mseed: " ++ fault_line fault

@@ -79,7 +79,7 @@ pub fn refuse_to_join<E: Sink>(errors: &mut E, fault: &JoinsFault) -> u8
     ensures reported { Tells (join_fault_text fault.now) (E.written errors.old) (E.written errors.new) }
 {
     match fault {
-        JoinsFault::Line(number) => {
+        JoinsFault::Line { number, .. } => {
             tell_number(errors, b"mseed: bad part at line ", *number, b"\n")
         }
         JoinsFault::Count(parts, expected) => tell_miscount(errors, *parts, *expected),

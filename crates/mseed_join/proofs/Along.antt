@@ -205,7 +205,8 @@ begun_so past h now s lines j l =
 -- the first bytes that are held are wrong
 pub wrong_line : {A : Type 0} → (past : Bool) (h now : BytesRead) (s : Stage) (lines : LinesRead) (j : Joint A)
     (n : ℕ) → (l : IsLooked past h now s lines j) → IsOfOneLine (take n lines.held)
-    → (Begins past (l.by.passed ++ take n lines.held) → ⊥) → IsBadBehind past h now s (lines.lines + 1)
+    → (Begins past (l.by.passed ++ take n lines.held) → ⊥)
+    → IsBadBehind past h now s (lines.lines + 1) (length l.by.passed)
 wrong_line past h now s lines j n l one refused = record {
   bytes = l.by.passed ++ lines.held;
   reported = l.by.reported ∙ append_assoc h.bytes l.by.passed lines.held;
@@ -246,16 +247,16 @@ fails past h now s lines j l held = record {
 }
 
 long_line : {A : Type 0} → (past : Bool) (h now : BytesRead) (s : Stage) (lines : LinesRead) (j : Joint A)
-    → IsLooked past h now s lines j → HasNoEnd (take 512 lines.held) → 512 ≤ length lines.held
-    → IsBadBehind past h now s (lines.lines + 1)
+    → (l : IsLooked past h now s lines j) → HasNoEnd (take 512 lines.held) → 512 ≤ length lines.held
+    → IsBadBehind past h now s (lines.lines + 1) (length l.by.passed)
 long_line past h now s lines j l no_end long =
     wrong_line past h now s lines j 512 l (IsOfOneLine.begun (take 512 lines.held) no_end)
     (too_long past s l.by.passed (take 512 lines.held) l.read.stage no_end
     (omega (arith, long, length-take 512 lines.held)))
 
 unended_line : {A : Type 0} → (past : Bool) (h now : BytesRead) (s : Stage) (lines : LinesRead) (j : Joint A)
-    → IsLooked past h now s lines j → now.is_at_end ≡ true → HasNoEnd lines.held → lines.held ≢ []
-    → IsBadBehind past h now s (lines.lines + 1)
+    → (l : IsLooked past h now s lines j) → now.is_at_end ≡ true → HasNoEnd lines.held → lines.held ≢ []
+    → IsBadBehind past h now s (lines.lines + 1) (length l.by.passed)
 unended_line past h now s lines j l at_end no_end some = record {
   bytes = l.by.passed ++ lines.held;
   reported = l.by.reported ∙ append_assoc h.bytes l.by.passed lines.held;
@@ -273,8 +274,8 @@ all_passed past h now s lines j l held =
     l.by.reported ∙ ap (λ (t : List ℕ). h.bytes ++ l.by.passed ++ t) held ∙ append-nil (h.bytes ++ l.by.passed)
 
 lacking : {A : Type 0} → (past : Bool) (h now : BytesRead) (s : Stage) (lines : LinesRead) (j : Joint A)
-    → IsLooked past h now s lines j → now.is_at_end ≡ true → lines.held ≡ [] → can_end j.place ≡ false
-    → IsBadBehind past h now s (lines.lines + 1)
+    → (l : IsLooked past h now s lines j) → now.is_at_end ≡ true → lines.held ≡ [] → can_end j.place ≡ false
+    → IsBadBehind past h now s (lines.lines + 1) (length l.by.passed)
 lacking past h now s lines j l at_end held e = record {
   bytes = l.by.passed;
   reported = all_passed past h now s lines j l held;
@@ -314,8 +315,8 @@ over_at past h now s r Unended l lies e = absurd (let no : false ≡ true = e in
 over_at past h now s r Nothing l lies e = has_ended past h now s r l lies.0 lies.1 e
 
 pub bad_at : {A : Type 0} → (past : Bool) (h now : BytesRead) (s : Stage) (lines : LinesRead) (j : Joint A) (a : Ahead)
-    → IsLooked past h now s lines j → LiesAhead a lines now.is_at_end → a ≢ WholeLine → is_over a j.place ≡ false
-    → IsBadBehind past h now s (lines.lines + 1)
+    → (l : IsLooked past h now s lines j) → LiesAhead a lines now.is_at_end → a ≢ WholeLine
+    → is_over a j.place ≡ false → IsBadBehind past h now s (lines.lines + 1) (length l.by.passed)
 bad_at past h now s lines j WholeLine l lies other e = absurd (other refl)
 bad_at past h now s lines j TooLong l lies other e = long_line past h now s lines j l lies.0 lies.1
 bad_at past h now s lines j Unended l lies other e = unended_line past h now s lines j l lies.0 lies.1 lies.2
@@ -339,15 +340,20 @@ line_taken past h now s t line lines after j r tells l same held c goes taken =
     }
 
 -- a bad line is the one behind those that were passed
-pub bad_next : (past : Bool) (h now : BytesRead) (s : Stage) (n lines : ℕ) → n ≡ lines
-    → IsBadBehind past h now s (lines + 1) → IsBadBehind past h now s (n + 1)
-bad_next past h now s n lines same bad = subst (λ (k : ℕ). IsBadBehind past h now s (k + 1)) (sym same) bad
+-- it begins where what was passed ends
+pub bad_next : (past : Bool) (h now : BytesRead) (s : Stage) (lines : LinesRead) (by : IsReadBy h now lines)
+    (n offset : ℕ) → n ≡ lines.lines → offset + length lines.held ≡ lines.bytes
+    → IsBadBehind past h now s (lines.lines + 1) (length by.passed) → IsBadBehind past h now s (n + 1) offset
+bad_next past h now s lines by n offset same place bad =
+    let there : offset ≡ length by.passed = omega (arith, place, by.bytes) in
+    subst (λ (m : ℕ). IsBadBehind past h now s (n + 1) m) (sym there)
+    (subst (λ (k : ℕ). IsBadBehind past h now s (k + 1) (length by.passed)) (sym same) bad)
 
 -- a whole line that is refused
 pub whole_line : {A : Type 0} → (past : Bool) (h now : BytesRead) (s : Stage) (lines : LinesRead) (j : Joint A)
     (line : List ℕ) → (l : IsLooked past h now s lines j) → IsLineAhead lines.size lines.held
     → line ≡ take lines.size lines.held → (Begins j.past (l.by.passed ++ line) → ⊥)
-    → IsBadBehind past h now s (lines.lines + 1)
+    → IsBadBehind past h now s (lines.lines + 1) (length l.by.passed)
 whole_line past h now s lines j line l a same refused =
     let whole_one : IsOfOneLine (take lines.size lines.held) =
     subst IsOfOneLine (sym a.line.2) (IsOfOneLine.whole a.line.0 a.line.1) in
@@ -397,7 +403,7 @@ pub failed : {A : Type 0} → (past : Bool) (expected : Option ℕ) (h now : Byt
     (fault : PartsFault) (reported at : BytesWritten) → IsNextStep {A = A} past h s (Err fault) now r
     → AreReported (passed_lines past (parts_at s)) reported at
     → IsReadOutcome {A = A} (Err fault) past expected h now reported at
-failed past expected h now s r (BadLine k) reported at step are = (
+failed past expected h now s r (BadLine k offset) reported at step are = (
   step.bytes,
   (
     step.reported,
@@ -467,7 +473,7 @@ all_read past expected h now s r (Err (Count parts due)) reported at e are f = (
     },
   ),
 )
-all_read past expected h now s r (Err (BadLine k)) reported at e are f = absurd f
+all_read past expected h now s r (Err (BadLine k offset)) reported at e are f = absurd f
 all_read past expected h now s r (Err (Stream fault)) reported at e are f = absurd f
 all_read past expected h now s r (Err Memory) reported at e are f = absurd f
 

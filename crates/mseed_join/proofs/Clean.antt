@@ -75,13 +75,13 @@ pub all_read : (text : List ℕ) (input : BytesRead) → IsReadOf text input →
 all_read text input read done =
     read.bytes ∙ ap (λ (xs : List ℕ). input.bytes ++ xs) (read.all done) ∙ append-nil input.bytes
 
-pub none_bad : (past : Bool) (text : List ℕ) (input : BytesRead) (line : ℕ) (ws : List Written) (joint : Written)
-    → Spells text ws → IsJointOf past ws joint → IsReadOf text input → IsBadLine past input.bytes input.is_at_end line
-    → ⊥
-none_bad past text input _ ws joint spells joined read (wrong lines line rest count is are begins one not) =
+pub none_bad : (past : Bool) (text : List ℕ) (input : BytesRead) (line offset : ℕ) (ws : List Written)
+    (joint : Written) → Spells text ws → IsJointOf past ws joint → IsReadOf text input
+    → IsBadLine past input.bytes input.is_at_end line offset → ⊥
+none_bad past text input _ _ ws joint spells joined read (wrong lines line rest count is are begins one not) =
     not (begun past text input.bytes rest (lines ++ line) read.rest ws joint spells joined read.bytes is)
-none_bad past text input _ ws joint spells joined read (unended lines line count done is are begins some plain) =
+none_bad past text input _ _ ws joint spells joined read (unended lines line count done is are begins some plain) =
     not_unended input.bytes lines line
     (subst IsClosed (all_read text input read done) (texts_closed text ws spells)) is some plain
-none_bad past text input _ ws joint spells joined read (lacks count done are begins none) =
+none_bad past text input _ _ ws joint spells joined read (lacks count done are begins none) =
     none ws (subst (λ (xs : List ℕ). Spells xs ws) (all_read text input read done) spells)

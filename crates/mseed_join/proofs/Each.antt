@@ -35,7 +35,7 @@ use Rattle.mseed_join.proofs.Bordering.{lines_append}
 -- by any step that ends reading
 pub stopped_by : {A : Type 0} → (past : Bool) (h now : BytesRead) (s : Stage) (r : Reader A) (fault : PartsFault)
     → IsNextStep {A = A} past h s (Err fault) now r → IsStoppedAt h now s
-stopped_by past h now s r (BadLine k) step =
+stopped_by past h now s r (BadLine k offset) step =
     record { bytes = step.bytes; reported = step.reported; count = step.count; before = step.before }
 stopped_by past h now s r (Miscount parts due) step = absurd step
 stopped_by past h now s r (Unread fault) step = step.1.stopped
@@ -125,14 +125,14 @@ fault_each past expected h now s r fault result first old new reported at text f
     (IsFlushed.short failed emitted) =
     short_each past expected h now s first old new reported at text found begin (stopped_by past h now s r fault step)
     borders are before same failed emitted
-fault_each past expected h now s r (BadLine k) result first old new reported at text found begin step borders are
+fault_each past expected h now s r (BadLine k offset) result first old new reported at text found begin step borders are
     before same (IsFlushed.all bytes fine) =
     let all : step.bytes ≡ now.bytes = all_bytes h now step.bytes begin step.reported in (
       found,
       (
         record {
           bad = record {
-            bad = subst (λ (b : List ℕ). IsBadLine past b now.is_at_end k) all step.bad;
+            bad = subst (λ (b : List ℕ). IsBadLine past b now.is_at_end k offset) all step.bad;
             count = step.count;
             behind = step.behind;
             stage = s;
@@ -178,7 +178,7 @@ pub cut_each : (past : Bool) (expected : Option ℕ) (h now : BytesRead) (s : St
     → AreGathered first old text (border_lines found) → old.failures ≡ first.failures
     → IsCutShort fault old new (text ++ border_lines more)
     → IsJoinEachOutcome past expected (Err fault) now first new reported at
-cut_each past expected h now s (Line k) first old new reported at text found more begin stop borders are before same
+cut_each past expected h now s (Line k offset) first old new reported at text found more begin stop borders are before same
     cut = absurd cut
 cut_each past expected h now s (Count n d) first old new reported at text found more begin stop borders are before same
     cut = absurd cut
@@ -251,7 +251,7 @@ finished_each past expected h now s r (Miscount parts due) result first old new 
         lines_written first old new text found before bytes same fine,
       ),
     )
-finished_each past expected h now s r (BadLine k) result first old new reported at text found begin e f borders are
+finished_each past expected h now s r (BadLine k offset) result first old new reported at text found begin e f borders are
     before same (IsFlushed.all bytes fine) = absurd f
 finished_each past expected h now s r (Unread fault) result first old new reported at text found begin e f borders are
     before same (IsFlushed.all bytes fine) = absurd f

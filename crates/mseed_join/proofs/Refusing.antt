@@ -19,7 +19,10 @@ refused_so A form past expected fault start h old reported now begin outcome =
   where
     by : (f : PartsFault) → IsReadOutcome {A = A} (Err f) past expected nothing_read h reported now
         → IsJoinOutcome form past expected (Err (refusal f)) h old old reported now
-    by (Line k) o = (refl, subst (λ (b : List ℕ). AreBadParts past b h.is_at_end k reported now) (sym o.1.0) o.1.1)
+    by (Line k offset) o = (
+      refl,
+      subst (λ (b : List ℕ). AreBadParts past b h.is_at_end k offset reported now) (sym o.1.0) o.1.1,
+    )
     by (Count parts due) o = (
       refl,
       o.1.1,

@@ -74,17 +74,17 @@ says_read back single says archive ws vs joint input h a parted fits read by rep
     says archive ws joint h a parted (subst (λ (us : List Written). IsJointOf false us joint) one joined) read by
 
 abbrev pub NoneBad : Type 0
-NoneBad = (past : Bool) (text : List ℕ) (input : BytesRead) (line : ℕ) (ws : List Written) (joint : Written)
-    → Spells text ws → IsJointOf past ws joint → IsReadOf text input → IsBadLine past input.bytes input.is_at_end line
-    → ⊥
+NoneBad = (past : Bool) (text : List ℕ) (input : BytesRead) (line offset : ℕ) (ws : List Written)
+    (joint : Written) → Spells text ws → IsJointOf past ws joint → IsReadOf text input
+    → IsBadLine past input.bytes input.is_at_end line offset → ⊥
 
 abbrev pub CanJoin : Type 0
 CanJoin = (archive : List ℕ) (ws : List Written) (h : BytesRead) (a : Audited h) → AreParted archive ws
     → length archive < 2 ^ 63 → IsReadOf archive h → EndsByBytes a.end → (joint : Written) × IsJointOf false ws joint
 
 pub never_bad : ReadsBack → NoneBad → CanJoin → (archive : List ℕ) (ws : List Written) (input h : BytesRead)
-    (a : Audited h) (line : ℕ) → AreParted archive ws → IsWithinLimits archive → IsReadOf archive h → EndsByBytes a.end
-    → IsReadOf (texts ws) input → IsBadLine false input.bytes input.is_at_end line → ⊥
-never_bad back bad can archive ws input h a line parted fits read by reported is =
+    (a : Audited h) (line offset : ℕ) → AreParted archive ws → IsWithinLimits archive → IsReadOf archive h → EndsByBytes a.end
+    → IsReadOf (texts ws) input → IsBadLine false input.bytes input.is_at_end line offset → ⊥
+never_bad back bad can archive ws input h a line offset parted fits read by reported is =
     let joint = can archive ws h a parted fits.size read by in
-    bad false (texts ws) input line ws joint.0 (spelled back archive ws parted fits) joint.1 reported is
+    bad false (texts ws) input line offset ws joint.0 (spelled back archive ws parted fits) joint.1 reported is

@@ -88,15 +88,17 @@ pub data IsOfOneLine : List ℕ → Type 0 where
   begun : (bytes : List ℕ) → HasNoEnd bytes → IsOfOneLine bytes
   whole : (line : List ℕ) → HasNoEnd line → IsOfOneLine (line ++ 10 ∷ [])
 
--- The first bad line of what was read, by its number: no text of parts that can be joined goes on so. At the input's
--- end a last line without its LF is bad, and so is the lack of the next line.
-pub data IsBadLine (past : Bool) (bytes : List ℕ) (at_end : Bool) : ℕ → Type 0 where
+-- The first bad line of what was read, by its number and the offset at which it begins, the length of the lines before
+-- it: no text of parts that can be joined goes on so. At the input's end a last line without its LF is bad, and so is
+-- the lack of the next line.
+pub data IsBadLine (past : Bool) (bytes : List ℕ) (at_end : Bool) : ℕ → ℕ → Type 0 where
   wrong : (lines line rest : List ℕ) (count : ℕ) → bytes ≡ lines ++ line ++ rest → AreLines lines count
-      → Begins past lines → IsOfOneLine line → ¬ (Begins past (lines ++ line)) → IsBadLine past bytes at_end (count + 1)
+      → Begins past lines → IsOfOneLine line → ¬ (Begins past (lines ++ line))
+      → IsBadLine past bytes at_end (count + 1) (length lines)
   unended : (lines line : List ℕ) (count : ℕ) → at_end ≡ true → bytes ≡ lines ++ line → AreLines lines count
-      → Begins past lines → line ≢ [] → HasNoEnd line → IsBadLine past bytes at_end (count + 1)
+      → Begins past lines → line ≢ [] → HasNoEnd line → IsBadLine past bytes at_end (count + 1) (length lines)
   lacks : (count : ℕ) → at_end ≡ true → AreLines bytes count → Begins past bytes
-      → ((ws : List Written) → Spells bytes ws → ⊥) → IsBadLine past bytes at_end (count + 1)
+      → ((ws : List Written) → Spells bytes ws → ⊥) → IsBadLine past bytes at_end (count + 1) (length bytes)
 
 -- No line of what was read is bad: it is whole lines with which parts that can be joined begin, and the first bytes of
 -- a line that isn't too long, which has no end yet.

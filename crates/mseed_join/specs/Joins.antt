@@ -55,8 +55,8 @@ abbrev pub IsJoinOutcome : Form → Bool → Option ℕ → Result Answer JoinsF
     → BytesWritten → BytesWritten → Type 0
 IsJoinOutcome form past expected (Ok answer) h old new reported now =
     (w : Written) × (IsRead past expected h w reported now × IsJointWritten answer form w old new)
-IsJoinOutcome form past expected (Err (Line k)) h old new reported now =
-    (new ≡ old) × AreBadParts past h.bytes h.is_at_end k reported now
+IsJoinOutcome form past expected (Err (Line k offset)) h old new reported now =
+    (new ≡ old) × AreBadParts past h.bytes h.is_at_end k offset reported now
 IsJoinOutcome form past expected (Err (Count parts due)) h old new reported now =
     (new ≡ old) × (h.is_at_end ≡ true) × AreMiscounted past expected h.bytes parts due reported now
 IsJoinOutcome form past expected (Err (Stream fault)) h old new reported now =

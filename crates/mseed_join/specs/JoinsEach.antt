@@ -36,9 +36,9 @@ pub record AreLinesWritten (found : List Border) (old new : BytesWritten) : Type
   pub fine : new.failures ≡ old.failures
 
 -- the first bad line, and what is found at the borders of the lines before it
-pub record AreBadEach (past : Bool) (h : BytesRead) (k : ℕ) (found : List Border) (reported now : BytesWritten)
+pub record AreBadEach (past : Bool) (h : BytesRead) (k offset : ℕ) (found : List Border) (reported now : BytesWritten)
     : Type 0 where
-  pub bad : AreBadParts past h.bytes h.is_at_end k reported now
+  pub bad : AreBadParts past h.bytes h.is_at_end k offset reported now
   pub borders : AreBordersOf past (parts_at bad.stage) found
 
 -- the whole input was read: it is so many parts, where another number is expected, and this is found at their borders
@@ -68,8 +68,8 @@ abbrev pub IsJoinEachOutcome : Bool → Option ℕ → Result Answer JoinsFault 
 IsJoinEachOutcome past expected (Ok answer) h old new reported now =
     (w : Written) × ((found : List Border) × (IsReadEach past expected h w found reported now
     × IsEachWritten answer w found old new))
-IsJoinEachOutcome past expected (Err (Line k)) h old new reported now =
-    (found : List Border) × (AreBadEach past h k found reported now × AreLinesWritten found old new)
+IsJoinEachOutcome past expected (Err (Line k offset)) h old new reported now =
+    (found : List Border) × (AreBadEach past h k offset found reported now × AreLinesWritten found old new)
 IsJoinEachOutcome past expected (Err (Count parts due)) h old new reported now =
     (found : List Border) × (AreMiscountedEach past expected h parts due found reported now
     × AreLinesWritten found old new)

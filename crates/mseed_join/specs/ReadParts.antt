@@ -39,8 +39,9 @@ pub record AreMiscounted (past : Bool) (expected : Option ℕ) (bytes : List ℕ
   pub differ : parts ≢ due
 
 -- the first bad line; of the lines before it each fault that was passed was reported
-pub record AreBadParts (past : Bool) (bytes : List ℕ) (at_end : Bool) (k : ℕ) (old new : BytesWritten) : Type 0 where
-  pub bad : IsBadLine past bytes at_end k
+pub record AreBadParts (past : Bool) (bytes : List ℕ) (at_end : Bool) (k offset : ℕ) (old new : BytesWritten)
+    : Type 0 where
+  pub bad : IsBadLine past bytes at_end k offset
   pub count : ℕ
   pub behind : k ≡ count + 1
   pub stage : Stage
@@ -71,8 +72,8 @@ abbrev pub IsReadOutcome : {A : Type 0} → Result (JointPart A) PartsFault → 
 IsReadOutcome (Ok joint) past expected old h s new =
     (bytes : List ℕ) × (ReadMore old h bytes × (h.is_at_end ≡ true)
     × ((read : AreReadParts past bytes (written_of joint) s new) × AreExpected expected (length read.parts)))
-IsReadOutcome (Err (Line k)) past expected old h s new =
-    (bytes : List ℕ) × (ReadMore old h bytes × AreBadParts past bytes h.is_at_end k s new)
+IsReadOutcome (Err (Line k offset)) past expected old h s new =
+    (bytes : List ℕ) × (ReadMore old h bytes × AreBadParts past bytes h.is_at_end k offset s new)
 IsReadOutcome (Err (Count parts due)) past expected old h s new =
     (bytes : List ℕ) × (ReadMore old h bytes × (h.is_at_end ≡ true)
     × AreMiscounted past expected bytes parts due s new)

@@ -93,9 +93,9 @@ pub fn one_text()
 
 /// No line of the texts of parts that can be joined is bad, however much of them was read.
 pub fn no_bad_line()
-    ensures { (past : Bool) (text : List ℕ) (input : BytesRead) (line : ℕ) (ws : List Written) (joint : Written)
-        → Spells text ws → IsJointOf past ws joint → IsReadOf text input
-        → IsBadLine past input.bytes input.is_at_end line → ⊥ }
+    ensures { (past : Bool) (text : List ℕ) (input : BytesRead) (line offset : ℕ) (ws : List Written)
+        (joint : Written) → Spells text ws → IsJointOf past ws joint → IsReadOf text input
+        → IsBadLine past input.bytes input.is_at_end line offset → ⊥ }
 {}
 
 /// Parts of archives can be joined where the archives one behind another can be audited: no number passes 2^63 - 1.
@@ -114,9 +114,9 @@ pub fn parts_can_be_joined()
 pub fn joined_texts()
     ensures spells { (archive : List ℕ) (ws : List Written) → AreParted archive ws → IsWithinLimits archive
         → Spells (texts ws) ws }
-    ensures never_bad { (archive : List ℕ) (ws : List Written) (input h : BytesRead) (a : Audited h) (line : ℕ)
-        → AreParted archive ws → IsWithinLimits archive → IsReadOf archive h → EndsByBytes a.end
-        → IsReadOf (texts ws) input → IsBadLine false input.bytes input.is_at_end line → ⊥ }
+    ensures never_bad { (archive : List ℕ) (ws : List Written) (input h : BytesRead) (a : Audited h)
+        (line offset : ℕ) → AreParted archive ws → IsWithinLimits archive → IsReadOf archive h → EndsByBytes a.end
+        → IsReadOf (texts ws) input → IsBadLine false input.bytes input.is_at_end line offset → ⊥ }
     ensures says { (archive : List ℕ) (ws vs : List Written) (joint : Written) (input h : BytesRead) (a : Audited h)
         → AreParted archive ws → IsWithinLimits archive → IsReadOf archive h → EndsByBytes a.end
         → IsReadOf (texts ws) input → input.is_at_end ≡ true → Spells input.bytes vs → IsJointOf false vs joint

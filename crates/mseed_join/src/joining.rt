@@ -37,10 +37,14 @@ pub struct Joined {
 /// Why parts weren't joined, or what they are joined to wasn't written whole.
 #[derive(Clone, Copy, Debug, PartialEq, Eq, Error)]
 pub enum JoinsFault {
-    /// The line of this number, from 1 over all parts, is bad. Nothing was written, or by `join_each` the lines of the
-    /// borders before it.
-    #[error("bad part at line {0}")]
-    Line(u64),
+    /// A line is bad. Nothing was written, or by `join_each` the lines of the borders before it.
+    #[error("bad part at line {number}")]
+    Line {
+        /// Its number, from 1 over all parts.
+        number: u64,
+        /// The offset, in bytes of the input, at which it begins: where the input ends and lacks it, the input's length.
+        offset: u64,
+    },
     /// So many parts were read, and so many were expected. Nothing was written, or by `join_each` the lines of their
     /// borders.
     #[error("{0} parts, not {1}")]
@@ -113,7 +117,7 @@ pub(crate) fn refused(fault: PartsFault) -> JoinsFault
     ensures { result ≡ refusal fault }
 {
     match fault {
-        PartsFault::Line(line) => JoinsFault::Line(line),
+        PartsFault::Line { number, offset } => JoinsFault::Line { number, offset },
         PartsFault::Count(parts, expected) => JoinsFault::Count(parts, expected),
         PartsFault::Stream(fault) => JoinsFault::Stream(fault),
         PartsFault::Memory => JoinsFault::Memory,

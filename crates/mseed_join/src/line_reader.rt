@@ -174,6 +174,13 @@ impl<A: Allocator> LineReader<A> {
         self.lines
     }
 
+    /// Returns the offset, in bytes from the input's beginning, of what wasn't passed yet.
+    pub(crate) fn offset(&self) -> u64
+        ensures { result + length self.now.held ≡ self.now.bytes }
+    {
+        self.bytes - (self.end - self.begin) as u64
+    }
+
     /// What lies ahead, where the bytes that are held tell it.
     #[tactic(auto, using(crate::proofs::LineEnds::no_end_in_few))]
     fn see(&mut self) -> Option<Ahead>

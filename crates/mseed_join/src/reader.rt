@@ -16,9 +16,14 @@ use thiserror::Error;
 /// Why parts weren't read whole.
 #[derive(Clone, Copy, Debug, PartialEq, Eq, Error)]
 pub enum PartsFault {
-    /// The line of this number, from 1 over all parts, is bad.
-    #[error("bad part at line {0}")]
-    Line(u64),
+    /// A line is bad.
+    #[error("bad part at line {number}")]
+    Line {
+        /// Its number, from 1 over all parts.
+        number: u64,
+        /// The offset, in bytes of the input, at which it begins: where the input ends and lacks it, the input's length.
+        offset: u64,
+    },
     /// So many parts were read, and so many were expected.
     #[error("{0} parts, not {1}")]
     Count(u64, u64),
@@ -75,20 +80,21 @@ impl<A: Allocator + Copy> Reader<A> {
             Err(fault) => return Err(PartsFault::Stream(fault)),
         };
         let number = self.lines.lines() + 1;
+        let offset = self.lines.offset();
         match ahead {
             Ahead::Line => match self.joint.take_line(self.lines.line()) {
                 Ok(reported) => {
                     self.lines.pass();
                     Ok(Some(reported))
                 }
-                Err(LineFault::Bad) => Err(PartsFault::Line(number)),
+                Err(LineFault::Bad) => Err(PartsFault::Line { number, offset }),
                 Err(LineFault::Memory) => Err(PartsFault::Memory),
             },
             other => {
                 if self.is_over(other) {
                     Ok(None)
                 } else {
-                    Err(PartsFault::Line(number))
+                    Err(PartsFault::Line { number, offset })
                 }
             }
         }

@@ -58,10 +58,10 @@ pub record HasEnded {A : Type 0} (past : Bool) (h now : BytesRead) (s : Stage) (
   pub stopped : IsStoppedAt h now s
 
 -- a bad line, behind those that were passed
-pub record IsBadBehind (past : Bool) (h now : BytesRead) (s : Stage) (k : ℕ) : Type 0 where
+pub record IsBadBehind (past : Bool) (h now : BytesRead) (s : Stage) (k offset : ℕ) : Type 0 where
   pub bytes : List ℕ
   pub reported : now.bytes ≡ h.bytes ++ bytes
-  pub bad : IsBadLine past bytes now.is_at_end k
+  pub bad : IsBadLine past bytes now.is_at_end k offset
   pub count : ℕ
   pub behind : k ≡ count + 1
   pub before : AreLinesRead bytes count s
@@ -78,7 +78,7 @@ abbrev pub IsNextStep : {A : Type 0} → Bool → BytesRead → Stage → Result
 IsNextStep past h s (Ok (Some reported)) now r =
     (t : Stage) × (IsAlong past h now t r × IsReportedMore past s t reported × (now.is_at_end ≡ false))
 IsNextStep past h s (Ok None) now r = HasEnded past h now s r
-IsNextStep past h s (Err (BadLine k)) now r = IsBadBehind past h now s k
+IsNextStep past h s (Err (BadLine k offset)) now r = IsBadBehind past h now s k offset
 IsNextStep past h s (Err (Count parts due)) now r = ⊥
 IsNextStep past h s (Err (Stream fault)) now r = IsStreamFault fault h now × IsFailedAt past h now s
 IsNextStep past h s (Err Memory) now r = IsStoppedAt h now s
@@ -88,6 +88,6 @@ IsNextStep past h s (Err Memory) now r = IsStoppedAt h now s
 abbrev pub IsFinished : {A : Type 0} → Joint A → Option ℕ → Result (JointPart A) PartsFault → Type 0
 IsFinished j expected (Ok joint) = (joint ≡ j.so_far) × AreExpected expected j.parts
 IsFinished j expected (Err (Count parts due)) = (parts ≡ j.parts) × (expected ≡ Some due) × (parts ≢ due)
-IsFinished j expected (Err (BadLine k)) = ⊥
+IsFinished j expected (Err (BadLine k offset)) = ⊥
 IsFinished j expected (Err (Stream fault)) = ⊥
 IsFinished j expected (Err Memory) = ⊥

@@ -16,7 +16,7 @@ pub record MovesOn (old new : BytesWritten) (text next line : List ℕ) : Type 0
 
 -- a prefix of a text was written before the fault
 abbrev pub IsCutShort : JoinsFault → BytesWritten → BytesWritten → List ℕ → Type 0
-IsCutShort (Line k) old new text = ⊥
+IsCutShort (Line k offset) old new text = ⊥
 IsCutShort (Count parts due) old new text = ⊥
 IsCutShort (Stream fault) old new text = ⊥
 IsCutShort Write old new text = (new.failures ≡ old.failures + 1) × EmittedPart old new text

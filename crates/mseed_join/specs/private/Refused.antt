@@ -7,7 +7,7 @@ use Rattle.mseed_join.specs.declared.reader.PartsFault.TheVariants.{Stream as Un
 use Rattle.mseed_join.specs.declared.reader.PartsFault.TheVariants.{Memory as NoMemory}
 
 abbrev pub refusal : PartsFault → JoinsFault
-refusal (BadLine k) = Line k
+refusal (BadLine k offset) = Line k offset
 refusal (Miscount parts due) = Count parts due
 refusal (Unread fault) = Stream fault
 refusal NoMemory = Memory

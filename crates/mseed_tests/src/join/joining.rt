@@ -234,17 +234,17 @@ fn counts_parts(rt: HostRuntime) {
     }
 }
 
-/// Texts that are no parts, and their first bad lines.
-static BAD_LINES: [(&str, u64); 5] = [
-    ("mseed part 2\n", 1),
-    ("mseed part 1\n", 2),
-    ("mseed part 1\nrecords 1 bytes\n", 2),
-    ("mseed part 1\nrecords 1 bytes 128", 2),
-    ("mseed part 1\nrecords 1 bytes 128\nfaults 0\n", 3),
+/// Texts that are no parts, their first bad lines, and where these begin.
+static BAD_LINES: [(&str, u64, u64); 5] = [
+    ("mseed part 2\n", 1, 0),
+    ("mseed part 1\n", 2, 13),
+    ("mseed part 1\nrecords 1 bytes\n", 2, 13),
+    ("mseed part 1\nrecords 1 bytes 128", 2, 13),
+    ("mseed part 1\nrecords 1 bytes 128\nfaults 0\n", 3, 33),
 ];
 
-/// Whether the audit of a text is refused at this line, with nothing written.
-fn is_bad_at(alloc: Global, text: &str, line: u64) -> bool {
+/// Whether the audit of a text is refused at this line, which begins at an offset, with nothing written.
+fn is_bad_at(alloc: Global, text: &str, number: u64, offset: u64) -> bool {
     let outcome = outcome_of(
         alloc,
         alloc,
@@ -252,13 +252,13 @@ fn is_bad_at(alloc: Global, text: &str, line: u64) -> bool {
         (Some(Form::Audit), false, None),
         ALL,
     );
-    outcome.answer == Err(JoinsFault::Line(line)) && outcome.written.is_empty()
+    outcome.answer == Err(JoinsFault::Line { number, offset }) && outcome.written.is_empty()
 }
 
 #[test]
 fn names_bad_lines(rt: HostRuntime) {
-    for (text, line) in &BAD_LINES {
-        assert!(rt; is_bad_at(rt.alloc(), text, *line), "{text}");
+    for (text, number, offset) in &BAD_LINES {
+        assert!(rt; is_bad_at(rt.alloc(), text, *number, *offset), "{text}");
     }
 }
 

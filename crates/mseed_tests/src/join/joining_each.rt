@@ -31,7 +31,10 @@ static ROWS: [Row; 9] = [
         (None, false, Some(1)),
         BORDER,
         "",
-        Err(JoinsFault::Line(7)),
+        Err(JoinsFault::Line {
+            number: 7,
+            offset: 312,
+        }),
     ),
     (SOUND, (None, false, Some(2)), EACH, "", BROKEN),
     (

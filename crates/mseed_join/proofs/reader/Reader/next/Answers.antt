@@ -54,7 +54,7 @@ returns-in-Err-Bad-clause-step g c = λ past h s along.
     let refused = rw c.in-Err-Bad.field-0-is at c.in-Err-Bad.ensures.step l.by.passed s l.read in
     let lies = c.in-Ok.ensures.ahead in
     let line : IsLineAhead c.look.new.self.size c.look.new.self.held = rw c.in-Line.is at lies in
-    bad_next past h _ s _ _ c.lines-number.ensures.value
+    bad_next past h _ s c.look.new.self l.by _ _ c.lines-number.ensures.value c.offset-offset.ensures
     (whole_line past h _ s c.look.new.self c.args.self.now.joint c.line.result.now l line c.line.ensures refused)
 
 pub returns-then-is_over-clause-step : goal.returns-then-is_over-clause-step
@@ -65,7 +65,7 @@ returns-then-is_over-clause-step g c = λ past h s along.
 pub returns-else-is_over-clause-step : goal.returns-else-is_over-clause-step
 returns-else-is_over-clause-step g c = λ past h s along.
     let l = looked past h _ _ _ _ s _ _ along c.look.ensures.more in
-    bad_next past h _ s _ _ c.lines-number.ensures.value
+    bad_next past h _ s c.look.new.self l.by _ _ c.lines-number.ensures.value c.offset-offset.ensures
     (bad_at past h _ s c.look.new.self c.args.self.now.joint c.in-Ok.ahead l c.in-Ok.ensures.ahead
     c.in_default.not-Line (sym c.is_over.ensures ∙ c.if-is_over.false))
 
