@@ -31,7 +31,7 @@ pub fn is_sound<R: Source, W: Sink>(
     requires { R.read source.old ≡ nothing_read }
 {
     let summary = audit(alloc, source, sink)?;
-    Ok(summary.broken == 0 && !summary.fault)
+    Ok(summary.broken == 0 && summary.end.is_none())
 }
 
 /// The text of a slice's audit, with a line for each record with a finding before it.

@@ -1,6 +1,6 @@
 -- What an audit of a whole input comes to, by what its calls ensure.
 use Rattle.std.proofs.Common.{◌≡◌, ℕ, suc, ◌+◌, ◌<◌, ◌++◌, List, [], ◌∷◌, length, take, Option, refl, ap, ◌∙◌, subst}
-use Rattle.std.proofs.Common.{is_some, Ok, Err}
+use Rattle.std.proofs.Common.{Ok, Err}
 use Rattle.mseed_record.specs.View.{View}
 use Rattle.mseed_stream.specs.Device.{BytesRead, BytesWritten}
 use Rattle.mseed_stream.specs.declared.fault.StreamFault.{StreamFault}
@@ -24,9 +24,9 @@ pub finished : (s : Summary) (held : Held) (end : Option StreamFault) (bytes : �
     → IsGathered held end bytes h views
     → ((added : List Added) → IsAuditOf held added → AreVerdicts added verdicts)
     → next ≡ text ++ audit_text slice records end → slice ≡ verdicts → records ≡ held.added
-    → s.records ≡ held.added → s.channels ≡ length verdicts → s.broken ≡ broken_count verdicts → s.fault ≡ is_some end
+    → s.records ≡ held.added → s.channels ≡ length verdicts → s.broken ≡ broken_count verdicts → s.end ≡ end
     → IsFinished s h views text next
-finished s held end bytes h views verdicts slice records text next found are is same number counted size broken fault =
+finished s held end bytes h views verdicts slice records text next found are is same number counted size broken last =
     let count : held.added ≡ length views = found.audit.number ∙ added_length 0 views in record {
       audited = record {
         views = views;
@@ -36,7 +36,7 @@ finished s held end bytes h views verdicts slice records text next found are is 
         are_verdicts = are (added_from 0 views) found.audit;
       };
       views_are = refl;
-      summary = record { records = counted ∙ count; channels = size; broken = broken; fault = fault };
+      summary = record { records = counted ∙ count; channels = size; broken = broken; end = last };
       text_is = is ∙ ap (λ (vs : List (List ℕ × Verdict)). text ++ audit_text vs records end) same
           ∙ ap (λ (n : ℕ). text ++ audit_text verdicts n end) (number ∙ count);
     }

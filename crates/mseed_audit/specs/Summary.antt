@@ -1,5 +1,5 @@
 -- What an audit of a whole input writes and answers.
-use Rattle.std.specs.Prelude.{◌≡◌, ◌<◌, ◌+◌, ℕ, List, [], ◌∷◌, ◌++◌, length, take, Option, Result, Ok, Err, is_some}
+use Rattle.std.specs.Prelude.{◌≡◌, ◌<◌, ◌+◌, ℕ, List, [], ◌∷◌, ◌++◌, length, take, Option, Result, Ok, Err}
 use Rattle.std.specs.List.{concat}
 use Rattle.mseed_record.specs.View.{View}
 use Rattle.mseed_stream.specs.Device.{BytesRead, BytesWritten}
@@ -36,7 +36,7 @@ pub record IsSummary {h : BytesRead} (s : Summary) (a : Audited h) : Type 0 wher
   pub records : s.records ≡ length a.views
   pub channels : s.channels ≡ length a.verdicts
   pub broken : s.broken ≡ broken_count a.verdicts
-  pub fault : s.fault ≡ is_some a.end
+  pub end : s.end ≡ a.end
 
 -- the whole text was written
 pub record IsWritten {h : BytesRead} (s : Summary) (a : Audited h) (old new : BytesWritten) : Type 0 where

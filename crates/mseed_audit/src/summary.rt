@@ -23,8 +23,8 @@ pub struct Summary {
     pub channels: u64,
     /// Those of them that are broken.
     pub broken: u64,
-    /// Whether the text ends with the line of a fault.
-    pub fault: bool,
+    /// The fault with which the input ends, if with one. Its line is the last of the text.
+    pub end: Option<StreamFault>,
 }
 
 /// Why an audit's text wasn't written whole.
@@ -112,7 +112,7 @@ pub(crate) fn push_finished<A: Allocator + Copy>(
             records,
             channels: verdicts.as_slice().len() as u64,
             broken: count_broken(verdicts.as_slice()),
-            fault: end.is_some(),
+            end: *end,
         }),
         Err(_) => Err(Memory),
     }

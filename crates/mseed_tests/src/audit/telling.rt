@@ -4,7 +4,7 @@ use super::devices::{Filling, sink_with};
 use crate::records::{BHN, FIRST, LATE, put, two, with};
 use linked_list_allocator::LocalHeap;
 use mseed_audit::{EachFault, Summary, audit_each};
-use mseed_stream::Counted;
+use mseed_stream::{Counted, StreamFault};
 use std::alloc::{Allocator, Global};
 use std::process::Abort;
 
@@ -55,7 +55,7 @@ fn tells_each_finding(rt: HostRuntime) {
         records: 2,
         channels: 1,
         broken: 1,
-        fault: false,
+        end: None,
     };
     let bytes = two(&with(LATE));
     assert!(rt; is_reported(rt.alloc(), &bytes, 1 << 20, Ok(summary), GAP.as_bytes()));
@@ -63,7 +63,7 @@ fn tells_each_finding(rt: HostRuntime) {
         records: 6,
         channels: 2,
         broken: 2,
-        fault: true,
+        end: Some(StreamFault::Truncated(768, 1)),
     };
     assert!(rt; is_reported(rt.alloc(), &many(), 1 << 20, Ok(summary), MANY.as_bytes()));
 }

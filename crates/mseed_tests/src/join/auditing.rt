@@ -3,7 +3,7 @@
 use crate::records::{FIRST, LATE, put, with};
 use mseed_audit::Summary;
 use mseed_join::{audit_part, audit_part_each};
-use mseed_stream::Counted;
+use mseed_stream::{Counted, StreamFault};
 use std::alloc::Global;
 
 /// The part of the first record.
@@ -42,7 +42,7 @@ fn summary(records: u64, is_broken: bool) -> Summary {
         records,
         channels: 1,
         broken: u64::from(is_broken),
-        fault: is_broken,
+        end: is_broken.then_some(StreamFault::Truncated(256, 1)),
     }
 }
 
