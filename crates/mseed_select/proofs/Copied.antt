@@ -22,7 +22,8 @@ use Rattle.mseed_select.specs.declared.fault.SelectFault.{SelectFault}
 use Rattle.mseed_select.specs.declared.fault.SelectFault.TheVariants.{Write, Memory}
 use Rattle.mseed_select.specs.declared.selected.Selected.{Selected}
 use Rattle.mseed_select.specs.private.Copying.{AreGathered, HasCopied, IsCopying, IsGatheredAlso, IsNext}
-use Rattle.mseed_select.specs.private.Copying.{IsPrefixWritten, bytes_by, counts_of, one_if}
+use Rattle.mseed_select.specs.private.Copying.{IsPrefixWritten, bytes_by}
+use Rattle.mseed_select.specs.Counting.{counts_of, one_if}
 
 -- nothing was taken
 pub gathered_all : (s : BytesWritten) (text : List ℕ) → AreGathered s s text text
@@ -115,8 +116,8 @@ count_more p views v = sum_by-append (λ (w : View). cond (p w) 1 0) views (v �
     ∙ ap (λ (n : ℕ). count_by p views + n) (one_alone (p v))
 
 abbrev made : ℕ → ℕ → ℕ → Counts
-made records written without_time =
-    record { records = records; written = written; without_time = without_time }
+made records asked_for without_time =
+    record { records = records; asked_for = asked_for; without_time = without_time }
 
 counts_are : (a b c d e f : ℕ) → a ≡ b → c ≡ d → e ≡ f → made a c e ≡ made b d f
 counts_are a b c d e f p q r = ap (λ (n : ℕ). made n c e) p ∙ ap (λ (n : ℕ). made b n e) q
@@ -125,14 +126,14 @@ counts_are a b c d e f p q r = ap (λ (n : ℕ). made n c e) p ∙ ap (λ (n : �
 -- what is counted of one more
 pub counts_more : (s : Selection) (views : List View) (v : View) (old new : Counts) (answer : Answer)
     → old ≡ counts_of s views → answer ≡ answer_of s v
-    → new ≡ made (old.records + 1) (old.written + one_if (is_asked answer))
+    → new ≡ made (old.records + 1) (old.asked_for + one_if (is_asked answer))
     (old.without_time + one_if (is_without_time answer))
     → new ≡ counts_of s (views ++ v ∷ [])
 counts_more s views v old new answer before answered e =
     let n : ℕ = count_by (asks_for s) views in
     let m : ℕ = count_by (lacks_time s) views in
     let is : new ≡ made (length views + 1) (n + one_if (asks_for s v)) (m + one_if (lacks_time s v)) =
-    e ∙ ap (λ (k : Counts). made (k.records + 1) (k.written + one_if (is_asked answer))
+    e ∙ ap (λ (k : Counts). made (k.records + 1) (k.asked_for + one_if (is_asked answer))
     (k.without_time + one_if (is_without_time answer))) before
     ∙ ap (λ (a : Answer). made (length views + 1) (n + one_if (is_asked a)) (m + one_if (is_without_time a)))
     answered in

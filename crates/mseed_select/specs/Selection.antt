@@ -17,6 +17,10 @@ pub record Selection : Type 0 where
   pub from : Option ℤ
   pub until : Option ℤ
 
+-- all records are asked for
+abbrev pub everything : Selection
+everything = record { channels = None; from = None; until = None }
+
 -- the rate of a record, by its header
 abbrev pub rate_in : View → Option Ratio
 rate_in v = rate_of (factor_at v.order v.bytes) (multiplier_at v.order v.bytes)

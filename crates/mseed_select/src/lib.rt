@@ -2,6 +2,7 @@
 #![tactic(auto)]
 
 mod answer;
+mod choice;
 mod clock;
 mod clocks;
 mod code;
@@ -21,7 +22,9 @@ mod selector;
 mod word;
 
 pub use answer::Answer;
+pub use choice::{All, Choice};
 pub use copying::select;
+pub use counts::Counts;
 pub use fault::{BadPatterns, BadTime, BadWindow, SelectFault};
 pub use law::{asked_for_exactly, fits_exactly, samples_in_window, two_halves};
 pub use patterns::Patterns;

@@ -1,6 +1,5 @@
 -- What was written of the records that are asked for, and what is gathered of them.
-use Rattle.std.specs.Prelude.{◌≡◌, ℕ, ◌+◌, ◌<◌, Bool, if◌then◌else◌, List, [], ◌∷◌, ◌++◌, length, Result, Ok, Err}
-use Rattle.std.specs.List.{count_by}
+use Rattle.std.specs.Prelude.{◌≡◌, ℕ, ◌+◌, ◌<◌, if◌then◌else◌, List, [], ◌∷◌, ◌++◌, Result, Ok, Err}
 use Rattle.mseed_record.specs.View.{View}
 use Rattle.mseed_stream.specs.Device.{BytesRead, BytesWritten}
 use Rattle.mseed_stream.specs.Standing.{Standing}
@@ -8,16 +7,11 @@ use Rattle.mseed_stream.specs.Walk.{AreAllViews, AreViews, HasHandedOut}
 use Rattle.mseed_select.specs.declared.answer.Answer.{Answer}
 use Rattle.mseed_select.specs.declared.copying.Step.{Step}
 use Rattle.mseed_select.specs.declared.copying.Step.TheVariants.{Judged, Ended}
-use Rattle.mseed_select.specs.declared.counts.Counts.{Counts}
 use Rattle.mseed_select.specs.declared.fault.SelectFault.{SelectFault}
 use Rattle.mseed_select.specs.declared.fault.SelectFault.TheVariants.{Write, Memory}
 use Rattle.mseed_select.specs.declared.selected.Selected.{Selected}
 use Rattle.mseed_select.specs.Select.{AreCounted, EmittedFirst, EmittedPart, IsSelected, selected_bytes}
-use Rattle.mseed_select.specs.Selection.{Selection, answer_of, asks_for, lacks_time}
-
--- 1 where a test holds
-abbrev pub one_if : Bool → ℕ
-one_if b = if b then 1 else 0
+use Rattle.mseed_select.specs.Selection.{Selection, answer_of, asks_for}
 
 -- the bytes of a record where it is asked for
 abbrev pub bytes_by : Selection → View → List ℕ
@@ -54,14 +48,6 @@ abbrev pub IsNext : Selection → Result Step SelectFault → List View → ℕ 
 IsNext s (Ok (Judged answer)) views offset old new c Adds Fails = IsOneMore s answer views old new c Adds
 IsNext s (Ok (Ended end)) views offset old new c Adds Fails = AreAllViews new views end × Adds []
 IsNext s (Err fault) views offset old new c Adds Fails = Fails fault × AreViews new.bytes offset views
-
--- what is counted of some records
-abbrev pub counts_of : Selection → List View → Counts
-counts_of s views = record {
-  records = length views;
-  written = count_by (asks_for s) views;
-  without_time = count_by (lacks_time s) views;
-}
 
 -- the records up to the end that are asked for were written or are gathered
 pub record HasCopied (s : Selection) (found : Selected) (h : BytesRead) (old new : BytesWritten) (text : List ℕ)

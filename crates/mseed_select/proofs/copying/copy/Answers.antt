@@ -50,7 +50,7 @@ returns-in-Ended g c =
         fine = next.1.fine ∙ c.records.invariant.2;
         counted = record {
           records = ap (λ (k : Counts). k.records) before.2;
-          written = ap (λ (k : Counts). k.written) before.2;
+          written = ap (λ (k : Counts). k.asked_for) before.2;
           without_time = ap (λ (k : Counts). k.without_time) before.2;
         };
       },
@@ -118,9 +118,9 @@ add-requires g c =
     let before = c.records.invariant.3.1 in
     let more = rw c.in-Judged.is at c.in_ok-answer.ensures views before.0 in
     let records = ap (λ (k : Counts). k.records) before.2 in
-    let written = ap (λ (k : Counts). k.written) before.2 in
+    let asked_for = ap (λ (k : Counts). k.asked_for) before.2 in
     let without_time = ap (λ (k : Counts). k.without_time) before.2 in record {
       records = omega (arith, records, before.0.called, before.0.along.read.reads, before.0.along.read.few_reads);
-      written = omega (arith, records, written, count_by-le-length (asks_for s) views);
+      asked_for = omega (arith, records, asked_for, count_by-le-length (asks_for s) views);
       without_time = omega (arith, records, without_time, count_by-le-length (lacks_time s) views);
     }

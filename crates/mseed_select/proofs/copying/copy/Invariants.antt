@@ -4,7 +4,8 @@ use Rattle.mseed_stream.specs.Cutting.{IsAlong}
 use Rattle.mseed_stream.specs.Walk.{HasHandedOut}
 use Rattle.mseed_select.specs.Select.{selected_bytes}
 use Rattle.mseed_select.specs.Selecting.{selection_of}
-use Rattle.mseed_select.specs.private.Copying.{AreGathered, counts_of}
+use Rattle.mseed_select.specs.private.Copying.{AreGathered}
+use Rattle.mseed_select.specs.Counting.{counts_of}
 use Rattle.mseed_select.proofs.copying.copy.Given as goal
 
 abbrev pub invariant-records : goal.invariant-records
