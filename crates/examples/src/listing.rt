@@ -2,7 +2,8 @@
 ghost use Rattle.std.specs.Prelude.{◌≡◌};
 ghost use Rattle.mseed_stream.specs.Device.{nothing_read};
 
-use mseed_show::{ShowFault, show};
+use mseed_select::Selector;
+use mseed_show::{ShowFault, show, show_selected};
 use mseed_stream::{Counted, Sink, Source};
 use std::alloc::Global;
 
@@ -24,4 +25,17 @@ pub fn is_whole<R: Source, W: Sink>(
 {
     let end = show(alloc, source, sink)?;
     Ok(end.is_none())
+}
+
+/// Lists the records of an archive that are asked for, and answers how many of their channels lack a time.
+pub fn untimed_among<R: Source, W: Sink>(
+    alloc: Global,
+    selector: &Selector,
+    source: &mut R,
+    sink: &mut W,
+) -> Result<u64, ShowFault>
+    requires { R.read source.old ≡ nothing_read }
+{
+    let shown = show_selected(alloc, selector, source, sink)?;
+    Ok(shown.without_time)
 }

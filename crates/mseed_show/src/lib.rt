@@ -6,4 +6,4 @@ mod lines;
 mod listing;
 
 pub use fault::ShowFault;
-pub use listing::show;
+pub use listing::{Shown, show, show_selected};

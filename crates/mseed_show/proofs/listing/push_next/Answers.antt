@@ -3,7 +3,7 @@ use Rattle.mseed_record.specs.View.{View}
 use Rattle.mseed_record.specs.Viewing.{view_of}
 use Rattle.mseed_stream.specs.Device.{BytesRead, BytesWritten}
 use Rattle.mseed_show.specs.private.Gathering.{AreGathered}
-use Rattle.mseed_show.specs.Listing.{record_line}
+use Rattle.mseed_show.specs.private.Gathering.{line_by}
 use Rattle.mseed_text.proofs.Gathered.{gathered_all}
 use Rattle.mseed_show.proofs.Gathered.{next_err, next_written, none_left}
 use Rattle.mseed_show.proofs.listing.push_next.Goals as goal
@@ -17,24 +17,25 @@ returns-in-Some g c = λ views before.
     let is = c.in-Some.ensures.record in
     let same : view.bytes ≡ take (length c.bytes-size.result.now) lent =
     is.1 ∙ ap (λ (xs : List ℕ). take (length xs) lent) (sym c.bytes-size.ensures.value) in
-    let line : c.push_record_line.new.text.items ≡ text ++ record_line c.args.cutter.now.offset view =
-    c.in_ok-push_record_line.ensures.ok ∙ ap (λ (n : ℕ). text ++ record_line n view) c.offset-offset.ensures in
+    let line : c.push_record.new.text.items ≡ text ++ line_by (g.C.Choice.selection c.args.choice.now) c.args.cutter.now.offset view =
+    c.in_ok-answer.ensures.ok ∙ ap (λ (n : ℕ). text ++ line_by (g.C.Choice.selection c.args.choice.now) n view) c.offset-offset.ensures in
     record {
       view = view;
+      answered = c.in_ok-answer.ensures.answer;
       handed = c.pass.ensures.handed views view before is.0 same;
       called = omega (arith, ap (λ (h : BytesRead). h.calls) c.pass.ensures.reported);
       line = record {
-        lines = subst (λ (xs : List ℕ). AreGathered written written c.push_record_line.new.text.items xs) line
-            (gathered_all written c.push_record_line.new.text.items);
+        lines = subst (λ (xs : List ℕ). AreGathered written written c.push_record.new.text.items xs) line
+            (gathered_all written c.push_record.new.text.items);
         fine = refl;
       };
     }
 
-pub returns-in_err-push_record_line : goal.returns-in_err-push_record_line
-returns-in_err-push_record_line g c = λ views before.
-    next_err c.from_residual.result _ views c.args.cutter.now.offset (g.R.Source.read c.args.input.now)
+pub returns-in_err-answer : goal.returns-in_err-answer
+returns-in_err-answer g c = λ views before.
+    next_err (g.C.Choice.selection c.args.choice.now) c.from_residual.result _ views c.args.cutter.now.offset (g.R.Source.read c.args.input.now)
     (g.R.Source.read c.args.input.now) c.args.cutter.now
-    (g.W.Sink.written c.args.output.now) c.args.text.now.items c.push_record_line.new.text.items before.records
+    (g.W.Sink.written c.args.output.now) c.args.text.now.items c.push_record.new.text.items before.records
     c.from_residual.ensures.1 (λ e q. q)
 
 pub ask_next-requires-clause-written : goal.ask_next-requires-clause-written
@@ -43,7 +44,7 @@ ask_next-requires-clause-written g c = none_left c.write_beyond.new.text.items c
 pub returns : goal.returns
 returns g c = λ views before.
     let rest : List ℕ = c.write_beyond.new.text.items in
-    next_written c.ask_next.result views c.args.cutter.now.offset (g.R.Source.read c.args.input.now)
+    next_written (g.C.Choice.selection c.args.choice.now) c.ask_next.result views c.args.cutter.now.offset (g.R.Source.read c.args.input.now)
     (g.R.Source.read c.ask_next.new.input) c.ask_next.new.cutter
     (g.W.Sink.written c.args.output.now) (g.W.Sink.written c.write_beyond.new.output) c.args.text.now.items rest
     c.ask_next.new.text.items

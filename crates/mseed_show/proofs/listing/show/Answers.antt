@@ -1,41 +1,29 @@
-use Rattle.std.proofs.Common.{◌∙◌}
-use Rattle.mseed_stream.specs.Device.{BytesWritten}
-use Rattle.mseed_show.specs.declared.fault.ShowFault.{ShowFault}
-use Rattle.mseed_show.specs.declared.fault.ShowFault.TheVariants.{Memory}
-use Rattle.mseed_show.proofs.Gathered.{end_short, listed, memory_short, shown_err}
+use Rattle.std.proofs.Common.{List, subst}
+use Rattle.mseed_record.specs.View.{View}
+use Rattle.mseed_stream.specs.Device.{BytesRead, BytesWritten}
+use Rattle.mseed_select.specs.Halves.{Placed}
+use Rattle.mseed_show.specs.Show.{IsListed, IsShowFault}
+use Rattle.mseed_show.proofs.Gathered.{asked_all}
 use Rattle.mseed_show.proofs.listing.show.Goals as goal
 
-pub returns-in_err-write_out : goal.returns-in_err-write_out
-returns-in_err-write_out g c =
-    let gathered = c.in_ok-records.ensures in
-    let fault : ShowFault = c.in_err-write_out.field-0.0 in
-    let first : BytesWritten = g.W.Sink.written c.args.output.now in
-    let new : BytesWritten = g.W.Sink.written c.write_out.new.output in
-    let ends = end_short fault c.in_ok-records.records c.in_ok-records.end _ first _ new _ _ gathered.0 gathered.1
-    c.in_ok-push_end.ensures.ok c.in_err-write_out.ensures.err in record {
-      shown = shown_err c.from_residual-in_err-write_out.result _ fault _ first new
-          c.from_residual-in_err-write_out.ensures.1 (λ e q. q) ends;
-    }
-
-pub returns-in_err-push_end : goal.returns-in_err-push_end
-returns-in_err-push_end g c =
-    let gathered = c.in_ok-records.ensures in
-    let first : BytesWritten = g.W.Sink.written c.args.output.now in
-    let new : BytesWritten = g.W.Sink.written c.list.new.output in
-    let ends = memory_short c.in_ok-records.records c.in_ok-records.end _ first new _ gathered.0 gathered.1 in record {
-      shown = shown_err c.from_residual-in_err-push_end.result _ Memory _ first new
-          c.from_residual-in_err-push_end.ensures.1 (λ e q. q ∙ c.in_err-push_end.ensures.err) ends;
-    }
-
-pub returns : goal.returns
-returns g c =
-    let gathered = c.in_ok-records.ensures in
-    let first : BytesWritten = g.W.Sink.written c.args.output.now in
-    let old : BytesWritten = g.W.Sink.written c.list.new.output in
-    let new : BytesWritten = g.W.Sink.written c.write_out.new.output in record {
+pub returns-in-Ok : goal.returns-in-Ok
+returns-in-Ok g c =
+    let read : BytesRead = g.R.Source.read c.show_selected.new.input in
+    let old : BytesWritten = g.W.Sink.written c.args.output.now in
+    let new : BytesWritten = g.W.Sink.written c.show_selected.new.output in
+    let o = c.in-Ok.ensures.shown in record {
       shown = (
-        gathered.0,
-        listed c.in_ok-records.records c.in_ok-records.end _ first old new _ _ gathered.0 gathered.1
-            c.in_ok-push_end.ensures.ok c.in_ok-write_out.ensures.ok c.in_ok-write_out.ensures.fine,
+        o.0,
+        subst (λ (listed : List View → List Placed). IsListed listed c.in-Ok.shown.end read old new o.0) asked_all
+            o.1.0,
       );
+    }
+
+pub returns-in-Err : goal.returns-in-Err
+returns-in-Err g c =
+    let read : BytesRead = g.R.Source.read c.show_selected.new.input in
+    let old : BytesWritten = g.W.Sink.written c.args.output.now in
+    let new : BytesWritten = g.W.Sink.written c.show_selected.new.output in record {
+      shown = subst (λ (listed : List View → List Placed). IsShowFault listed c.in-Err.fault read old new) asked_all
+          c.in-Err.ensures.shown;
     }
