@@ -5,10 +5,11 @@ ghost use Rattle.mseed_audit.specs.Text.{why_text};
 
 use mseed_audit::{
     Audit, AuditFault, BadStep, Channel, ChannelList, EachFault, Memory, NotContinuous, Series,
-    Verdict, Why, audit, audit_each, gather, gather_each, is_of, push_total_line,
-    push_verdict_line, put_why, series,
+    Verdict, Why, audit, audit_each, audit_each_selected, audit_selected, gather, gather_each,
+    is_of, push_total_line, push_verdict_line, put_why, series,
 };
 use mseed_record::{Codes, RecordView};
+use mseed_select::Selector;
 use mseed_stream::{Counted, Sink, Source};
 use mseed_text::{Line, push_line};
 use mseed_time::{LeapStep, Micros, Rate};
@@ -31,7 +32,7 @@ pub fn is_sound<R: Source, W: Sink>(
     requires { R.read source.old ≡ nothing_read }
 {
     let summary = audit(alloc, source, sink)?;
-    Ok(summary.broken == 0 && summary.end.is_none())
+    Ok(summary.broken == 0 && !summary.fault)
 }
 
 /// The text of a slice's audit, with a line for each record with a finding before it.
@@ -40,6 +41,33 @@ pub fn audit_each_in(alloc: Global, bytes: &[u8]) -> Result<Vec<u8>, EachFault> 
     let mut sink = Counted::new(Vec::new(alloc));
     audit_each(alloc, &mut source, &mut sink)?;
     Ok(sink.into_inner())
+}
+
+/// Audits the records of an archive that are asked for, and answers how many of their channels are broken. The text
+/// goes to a sink.
+pub fn broken_among<R: Source, W: Sink>(
+    alloc: Global,
+    selector: &Selector,
+    source: &mut R,
+    sink: &mut W,
+) -> Result<u64, AuditFault>
+    requires { R.read source.old ≡ nothing_read }
+{
+    let found = audit_selected(alloc, selector, source, sink)?;
+    Ok(found.summary.broken)
+}
+
+/// The audit of the records of a slice that are asked for, with a line for each that has a finding, and how many lack a
+/// time.
+pub fn audit_asked(
+    alloc: Global,
+    selector: &Selector,
+    bytes: &[u8],
+) -> Result<(Vec<u8>, u64), EachFault> {
+    let mut source = Counted::new(bytes);
+    let mut sink = Counted::new(Vec::new(alloc));
+    let found = audit_each_selected(alloc, selector, &mut source, &mut sink)?;
+    Ok((sink.into_inner(), found.without_time))
 }
 
 /// Audits two records that stand one behind another, and says how many channels are broken.
@@ -60,6 +88,18 @@ pub fn broken_of_two(alloc: Global, one: &RecordView, other: &RecordView) -> Res
 pub fn finding_of(alloc: Global, record: &RecordView) -> Result<Option<Why>, Memory> {
     let mut audit = Audit::new(alloc);
     audit.add_judged(record, 0)
+}
+
+/// Audits the second of two records alone, and answers the number by which its finding is told.
+pub fn number_of_second(
+    alloc: Global,
+    one: &RecordView,
+    other: &RecordView,
+) -> Result<u64, Memory> {
+    let mut audit = Audit::new(alloc);
+    audit.pass();
+    audit.add(other, one.bytes().len() as u64)?;
+    Ok(audit.added())
 }
 
 /// Whether a record would open a channel of which an audit knows nothing yet.

@@ -1,5 +1,5 @@
 -- How a command ends: by a status and, where it failed, by a line on standard error.
-use Rattle.std.specs.Prelude.{◌≡◌, ℕ, List, nat_lt, if◌then◌else◌, Result, Ok, Err, codes, is_some}
+use Rattle.std.specs.Prelude.{◌≡◌, ℕ, List, nat_lt, if◌then◌else◌, Result, Ok, Err, codes}
 use Rattle.mseed_stream.specs.Device.{BytesWritten}
 use Rattle.mseed_stream.specs.Telling.{Tells}
 use Rattle.mseed_audit.specs.declared.summary.Summary.{Summary}
@@ -23,7 +23,7 @@ Ends done failed line (Err fault) status old new = (status ≡ failed fault) × 
 
 -- the exit status of an audit that was written: 2 for a fault of the input, else 1 for a broken channel, else 0
 abbrev pub summary_status : Summary → ℕ
-summary_status s = if is_some s.end then 2 else if nat_lt 0 s.broken then 1 else 0
+summary_status s = if s.fault then 2 else if nat_lt 0 s.broken then 1 else 0
 
 abbrev pub audit_fault_text : AuditFault → List ℕ
 audit_fault_text (Write taken) = write_failed

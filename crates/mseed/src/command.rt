@@ -173,7 +173,7 @@ fn audited<E: Sink>(outcome: Result<Summary, AuditFault>, errors: &mut E) -> u8
     ensures { EndsAudit outcome result (E.written errors.old) (E.written errors.new) }
 {
     match outcome {
-        Ok(summary) => verdict_status(summary.end.is_some(), summary.broken),
+        Ok(summary) => verdict_status(summary.fault, summary.broken),
         Err(AuditFault::Write(_)) => write_failed(errors),
         Err(AuditFault::Memory) => refuse_memory(errors),
     }
@@ -184,7 +184,7 @@ fn audited_each<E: Sink>(outcome: Result<Summary, EachFault>, errors: &mut E) ->
     ensures { EndsEach outcome result (E.written errors.old) (E.written errors.new) }
 {
     match outcome {
-        Ok(summary) => verdict_status(summary.end.is_some(), summary.broken),
+        Ok(summary) => verdict_status(summary.fault, summary.broken),
         Err(EachFault::Write) => write_failed(errors),
         Err(EachFault::Memory) => refuse_memory(errors),
     }

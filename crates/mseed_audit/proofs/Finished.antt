@@ -7,11 +7,11 @@ use Rattle.std.specs.Cmp.Lexicographic.{slice_cmp}
 use Rattle.std.specs.List.Sorted.{IsStrictlySortedBy}
 use Rattle.mseed_audit.specs.declared.channel.Channel.{Channel}
 use Rattle.mseed_audit.specs.declared.verdict.Verdict.{Verdict}
-use Rattle.mseed_audit.specs.Channels.{Added, Placed, same_key, records_of, views_in}
+use Rattle.mseed_audit.specs.Channels.{Added, Placed, channel_in, numbered, same_key, views_in}
 use Rattle.mseed_audit.specs.Follows.{IsContinuous}
-use Rattle.mseed_audit.specs.Verdict.{IsVerdict, IsVerdictAt, IsExactAt, says_continuous, AreVerdicts}
+use Rattle.mseed_audit.specs.Verdict.{IsVerdict, IsVerdictAt, IsExactAt, says_continuous, AreVerdicts, AreVerdictsAmong}
 use Rattle.std.proofs.lemmas.Map.Made.{keys_of-map_values, lookup-map_values}
-use Rattle.mseed_audit.specs.Audit.{AreChannels, Held, StandsAt, IsAuditOf, verdict_of}
+use Rattle.mseed_audit.specs.Audit.{AreChannels, Held, StandsAt, IsAuditAmong, verdict_of}
 use Rattle.mseed_audit.proofs.Kept.{stands_verdict}
 
 verdict_at : (o : Option Channel) (ps : List Placed) → StandsAt o ps → IsVerdictAt (option_map verdict_of o) ps
@@ -27,24 +27,24 @@ pub exact_at : AreExact → (o : Option Verdict) (ps : List Placed) → IsVerdic
 exact_at exact None ps is = tt
 exact_at exact (Some verdict) ps is = exact verdict ps is
 
-pub finished : AreExact → (h : Held) (added : List Added) (verdicts : List (List ℕ × Verdict))
+pub finished : AreExact → (h : Held) (ps : List Placed) (count : ℕ) (verdicts : List (List ℕ × Verdict))
     → IsStrictlySortedBy (slice_cmp nat_cmp) (keys_of verdicts)
     → ((key : List ℕ) → lookup (same_key key) verdicts ≡ option_map verdict_of (lookup (same_key key) h.channels))
-    → IsAuditOf h added → AreVerdicts added verdicts
-finished exact h added verdicts sorted found is =
-    let each : (key : List ℕ) → IsVerdictAt (lookup (same_key key) verdicts) (records_of key added) =
-    λ key. subst (λ (o : Option Verdict). IsVerdictAt o (records_of key added)) (sym (found key))
-    (verdict_at (lookup (same_key key) h.channels) (records_of key added) (is.each key)) in record {
+    → IsAuditAmong h ps count → AreVerdictsAmong ps verdicts
+finished exact h ps count verdicts sorted found is =
+    let each : (key : List ℕ) → IsVerdictAt (lookup (same_key key) verdicts) (channel_in key ps) =
+    λ key. subst (λ (o : Option Verdict). IsVerdictAt o (channel_in key ps)) (sym (found key))
+    (verdict_at (lookup (same_key key) h.channels) (channel_in key ps) (is.each key)) in record {
       ascending = sorted;
       each = each;
-      exact = λ key. exact_at exact (lookup (same_key key) verdicts) (records_of key added) (each key);
+      exact = λ key. exact_at exact (lookup (same_key key) verdicts) (channel_in key ps) (each key);
     }
 
 -- channels in their order are enough for it
 pub channels_finished : AreExact → (added : List Added) (channels : List (List ℕ × Channel))
     → AreChannels added channels → AreVerdicts added (map (λ e. (e.0, verdict_of e.1)) channels)
 channels_finished exact added channels is =
-    finished exact (record { channels = channels; added = length added }) added
+    finished exact (record { channels = channels; added = length added }) (numbered 1 added) (length added)
     (map (λ e. (e.0, verdict_of e.1)) channels)
     (subst (λ (keys : List (List ℕ)). IsStrictlySortedBy (slice_cmp nat_cmp) keys)
     (sym (keys_of-map_values verdict_of channels)) is.ascending)

@@ -28,3 +28,4 @@ pub mod Rosters
 pub mod Steps
 pub mod Telling
 pub mod Views
+pub mod Channelwise

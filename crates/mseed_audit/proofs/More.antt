@@ -1,14 +1,15 @@
 -- One more record of an archive.
 use Rattle.std.proofs.Common.{◌≡◌, ℕ, ◌+◌, ◌&&◌, nat_lt, List, [], ◌∷◌, ◌++◌, length, Bool, true, false, if◌then◌else◌}
-use Rattle.std.proofs.Common.{cond, sym, ap, subst, refl, append-nil, ◌∙◌, rules, arith}
+use Rattle.std.proofs.Common.{cond, sym, ap, subst, refl, append-nil, ◌∙◌, rules, arith, Result, Ok, Err, OnOk}
 use Rattle.std.specs.List.{filter}
 use Rattle.std.proofs.lemmas.List.Elements.{filter-append}
 use Rattle.std.specs.Map.{lookup}
 use Rattle.std.proofs.lemmas.List.{length-append}
 use Rattle.mseed_record.specs.Header.{key_at}
 use Rattle.mseed_steim.specs.Reading.{count_of}
-use Rattle.mseed_audit.specs.Channels.{Added, Placed, numbered, same_key, is_of, records_of, with_record}
-use Rattle.mseed_audit.specs.Audit.{Held, StandsAt, IsAuditOf}
+use Rattle.mseed_audit.specs.declared.channel.Channel.{Channel}
+use Rattle.mseed_audit.specs.Channels.{Added, Placed, channel_in, numbered, same_key, is_of, records_of, with_record}
+use Rattle.mseed_audit.specs.Audit.{Held, StandsAt, IsAuditAmong, IsAuditOf}
 
 abbrev pub placed_at : Added → ℕ → Placed
 placed_at a n = record { view = a.view; offset = a.offset; number = n }
@@ -41,16 +42,42 @@ silent_more key ps p none =
     ap (λ (b : Bool). if b && same_key key (key_at p.view.bytes) then ps ++ p ∷ [] else ps) no
 
 -- an audit that takes a record in
-pub audit_more : (h new : Held) (added : List Added) (a : Added) → IsAuditOf h added → new.added ≡ h.added + 1
-    → ((key : List ℕ) (ps : List Placed) → StandsAt (lookup (same_key key) h.channels) ps
-    → StandsAt (lookup (same_key key) new.channels) (with_record key ps (placed_at a (h.added + 1))))
-    → IsAuditOf new (added ++ a ∷ [])
-audit_more h new added a is number stands = record {
-  number = number ∙ omega (arith, is.number, length-append added (a ∷ []));
+pub audit_more : (h new : Held) (ps : List Placed) (count : ℕ) (p : Placed) → IsAuditAmong h ps count
+    → new.added ≡ h.added + 1
+    → ((key : List ℕ) (qs : List Placed) → StandsAt (lookup (same_key key) h.channels) qs
+    → StandsAt (lookup (same_key key) new.channels) (with_record key qs p))
+    → IsAuditAmong new (ps ++ p ∷ []) (count + 1)
+audit_more h new ps count p is number stands = record {
+  number = omega (arith, number, is.number);
   each = λ key.
-      let more : records_of key (added ++ a ∷ []) ≡ with_record key (records_of key added) (placed_at a (h.added + 1)) =
-      records_more key added a ∙ ap (λ (n : ℕ). with_record key (records_of key added) (placed_at a n))
-      (omega (arith, is.number)) in
-      subst (λ (ps : List Placed). StandsAt (lookup (same_key key) new.channels) ps) (sym more)
-      (stands key (records_of key added) (is.each key));
+      subst (λ (qs : List Placed). StandsAt (lookup (same_key key) new.channels) qs) (sym (filter_more key ps p))
+      (stands key (channel_in key ps) (is.each key));
 }
+
+-- one that passes a record
+pub audit_passed : (h new : Held) (ps : List Placed) (count : ℕ) → IsAuditAmong h ps count
+    → new.added ≡ h.added + 1 → new.channels ≡ h.channels → IsAuditAmong new ps (count + 1)
+audit_passed h new ps count is number same = record {
+  number = omega (arith, number, is.number);
+  each = λ key.
+      subst (λ (cs : List (List ℕ × Channel)). StandsAt (lookup (same_key key) cs) (channel_in key ps)) (sym same)
+      (is.each key);
+}
+
+-- one that passes none
+pub audit_all : (h new : Held) (added : List Added) (a : Added) → IsAuditOf h added
+    → IsAuditAmong new (numbered 1 added ++ placed_at a (h.added + 1) ∷ []) (length added + 1)
+    → IsAuditOf new (added ++ a ∷ [])
+audit_all h new added a is more =
+    let numbers : numbered 1 (added ++ a ∷ []) ≡ numbered 1 added ++ placed_at a (h.added + 1) ∷ [] =
+    numbered_more 1 added a ∙ ap (λ (n : ℕ). numbered 1 added ++ placed_at a n ∷ []) (omega (arith, is.number)) in
+    let size : length (added ++ a ∷ []) ≡ length added + 1 = length-append added (a ∷ []) in
+    subst (λ (qs : List Placed). IsAuditAmong new qs (length (added ++ a ∷ []))) (sym numbers)
+    (subst (λ (n : ℕ). IsAuditAmong new (numbered 1 added ++ placed_at a (h.added + 1) ∷ []) n) (sym size) more)
+
+-- where it could
+pub audit_all_ok : {X E : Type 0} (r : Result X E) (h new : Held) (added : List Added) (a : Added) → IsAuditOf h added
+    → OnOk r (IsAuditAmong new (numbered 1 added ++ placed_at a (h.added + 1) ∷ []) (length added + 1))
+    → OnOk r (IsAuditOf new (added ++ a ∷ []))
+audit_all_ok (Ok x) h new added a is more = audit_all h new added a is more
+audit_all_ok (Err e) h new added a is more = tt

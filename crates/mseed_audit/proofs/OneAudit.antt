@@ -1,5 +1,5 @@
 -- What was read has one audit.
-use Rattle.std.proofs.Common.{◌≡◌, ℕ, List, length, Option, sym, ap, subst, ◌∙◌}
+use Rattle.std.proofs.Common.{◌≡◌, ℕ, List, length, Option, sym, ap, subst, ◌∙◌, is_some}
 use Rattle.mseed_record.specs.View.{View}
 use Rattle.mseed_stream.specs.Device.{BytesRead}
 use Rattle.mseed_stream.specs.Walk.{AreAllViews}
@@ -44,5 +44,6 @@ summary_one a b s t same h k =
     let channels : s.channels ≡ t.channels =
     h.channels ∙ ap (λ (vs : List (List ℕ × Verdict)). length vs) same.verdicts ∙ sym k.channels in
     let broken : s.broken ≡ t.broken = h.broken ∙ ap broken_count same.verdicts ∙ sym k.broken in
+    let fault : s.fault ≡ t.fault = h.fault ∙ ap (λ (o : Option StreamFault). is_some o) same.end ∙ sym k.fault in
     let end : s.end ≡ t.end = h.end ∙ same.end ∙ sym k.end in
-    λ i. record { records = records i; channels = channels i; broken = broken i; end = end i }
+    λ i. record { records = records i; channels = channels i; broken = broken i; fault = fault i; end = end i }

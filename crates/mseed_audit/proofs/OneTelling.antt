@@ -30,7 +30,7 @@ use Rattle.mseed_audit.proofs.OneAudit.{HasOneInput, audited_one, text_one}
 use Rattle.mseed_audit.proofs.OneVerdict.{HasOneFault, found_one, findings_same}
 use Rattle.mseed_audit.proofs.Telling.{lines_behind}
 
-of_one : HasOneFault → Excludes → (channel : List Placed) (v : View) (a b : Option Why) → IsFoundOf channel v a
+pub of_one : HasOneFault → Excludes → (channel : List Placed) (v : View) (a b : Option Why) → IsFoundOf channel v a
     → IsFoundOf channel v b → a ≡ b
 of_one only excludes channel v a b h k = go (count_of v) refl
   where

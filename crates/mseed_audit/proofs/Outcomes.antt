@@ -1,72 +1,90 @@
 -- What an audit of a whole input comes to, by what its calls ensure.
 use Rattle.std.proofs.Common.{◌≡◌, ℕ, suc, ◌+◌, ◌<◌, ◌++◌, List, [], ◌∷◌, length, take, Option, refl, ap, ◌∙◌, subst}
-use Rattle.std.proofs.Common.{Ok, Err}
+use Rattle.std.proofs.Common.{Ok, Err, sym, arith, is_some}
+use Rattle.std.specs.List.{count_by, filter}
 use Rattle.mseed_record.specs.View.{View}
 use Rattle.mseed_stream.specs.Device.{BytesRead, BytesWritten}
 use Rattle.mseed_stream.specs.declared.fault.StreamFault.{StreamFault}
+use Rattle.mseed_select.specs.Selection.{Selection, asks_for, everything, lacks_time}
 use Rattle.mseed_audit.specs.declared.verdict.Verdict.{Verdict}
+use Rattle.mseed_audit.specs.declared.passed.Passed.{Passed}
+use Rattle.mseed_audit.specs.declared.summary.AuditFault.{AuditFault}
 use Rattle.mseed_audit.specs.declared.summary.AuditFault.TheVariants.{Write}
-use Rattle.mseed_audit.specs.declared.summary.Summary.{Summary}
-use Rattle.mseed_audit.specs.Channels.{Added, added_from}
-use Rattle.mseed_audit.specs.Verdict.{AreVerdicts}
-use Rattle.mseed_audit.specs.Audit.{Held, IsAuditOf}
+use Rattle.mseed_audit.specs.declared.summary.SelectedSummary.{SelectedSummary}
+use Rattle.mseed_audit.specs.Channels.{Added, Placed, added_from, numbered}
+use Rattle.mseed_audit.specs.Verdict.{AreVerdictsAmong}
+use Rattle.mseed_audit.specs.Audit.{Held, IsAuditAmong}
 use Rattle.mseed_audit.specs.Text.{audit_text}
-use Rattle.mseed_audit.specs.Summary.{IsGathered, IsOutcome, broken_count, text_of}
-use Rattle.mseed_audit.specs.private.Gathered.{IsFinished}
-
-pub added_length : (offset : ℕ) (views : List View) → length (added_from offset views) ≡ length views
-added_length offset [] = refl
-added_length offset (v ∷ views) = ap suc (added_length (offset + length v.bytes) views)
+use Rattle.mseed_audit.specs.Scope.{Scope, asked, asked_of, placed_of, whole}
+use Rattle.mseed_audit.specs.Selected.{IsSelectedOutcome}
+use Rattle.mseed_audit.specs.Summary.{broken_count, text_in}
+use Rattle.mseed_audit.specs.private.Gathered.{HasEnded, IsFinished}
+pub use Rattle.mseed_audit.proofs.Views.{added_length}
 
 -- the audit's text was added, and what it says in numbers is answered
-pub finished : (s : Summary) (held : Held) (end : Option StreamFault) (bytes : ℕ) (h : BytesRead) (views : List View)
-    (verdicts slice : List (List ℕ × Verdict)) (records : ℕ) (text next : List ℕ)
-    → IsGathered held end bytes h views
-    → ((added : List Added) → IsAuditOf held added → AreVerdicts added verdicts)
-    → next ≡ text ++ audit_text slice records end → slice ≡ verdicts → records ≡ held.added
-    → s.records ≡ held.added → s.channels ≡ length verdicts → s.broken ≡ broken_count verdicts → s.end ≡ end
-    → IsFinished s h views text next
-finished s held end bytes h views verdicts slice records text next found are is same number counted size broken last =
-    let count : held.added ≡ length views = found.audit.number ∙ added_length 0 views in record {
+pub finished : (s : Selection) (found : SelectedSummary) (held : Held) (p : Passed) (end : Option StreamFault)
+    (bytes : ℕ) (h : BytesRead) (views : List View) (verdicts slice : List (List ℕ × Verdict)) (records : ℕ)
+    (text next : List ℕ) → HasEnded s held p end bytes h views
+    → ((ps : List Placed) (count : ℕ) → IsAuditAmong held ps count → AreVerdictsAmong ps verdicts)
+    → next ≡ text ++ audit_text slice records end → slice ≡ verdicts
+    → records + p.left + p.without_time ≡ held.added
+    → found.summary.records ≡ records → found.summary.channels ≡ length verdicts
+    → found.summary.broken ≡ broken_count verdicts → found.summary.fault ≡ is_some end → found.summary.end ≡ end
+    → found.without_time ≡ p.without_time
+    → IsFinished s found h views text next
+finished s found held p end bytes h views verdicts slice records text next ended are is same number counted size broken
+    fault last time =
+    let judged : records ≡ length (asked_of s views) =
+    omega (arith, number, ended.passed.all, ended.all.audit.number, added_length 0 views) in record {
       audited = record {
         views = views;
         end = end;
         verdicts = verdicts;
-        all = found.all;
-        are_verdicts = are (added_from 0 views) found.audit;
+        all = ended.all.all;
+        are_verdicts = are (asked_of s views) (length (added_from 0 views)) ended.all.audit;
       };
       views_are = refl;
-      summary = record { records = counted ∙ count; channels = size; broken = broken; end = last };
+      summary = record { records = counted ∙ judged; channels = size; broken = broken; fault = fault; end = last };
+      without_time = time ∙ ended.passed.without_time;
       text_is = is ∙ ap (λ (vs : List (List ℕ × Verdict)). text ++ audit_text vs records end) same
-          ∙ ap (λ (n : ℕ). text ++ audit_text verdicts n end) (number ∙ count);
+          ∙ ap (λ (n : ℕ). text ++ audit_text verdicts n end) judged;
     }
 
 -- as the whole text
-whole : {h : BytesRead} (s : Summary) (views : List View) (start text bytes : List ℕ)
-    (f : IsFinished s h views start text) → start ≡ [] → bytes ≡ text → bytes ≡ text_of f.audited
-whole s views start text bytes f empty same =
-    same ∙ f.text_is ∙ ap (λ (xs : List ℕ). xs ++ text_of f.audited) empty
+all_text : (s : Selection) {h : BytesRead} (found : SelectedSummary) (views : List View) (start text bytes : List ℕ)
+    (f : IsFinished s found h views start text) → start ≡ [] → bytes ≡ text → bytes ≡ text_in (asked s) f.audited
+all_text s found views start text bytes f empty same =
+    same ∙ f.text_is ∙ ap (λ (xs : List ℕ). xs ++ text_in (asked s) f.audited) empty
+
+pub timed : (s : Selection) {h : BytesRead} (found : SelectedSummary) (views : List View) (start text : List ℕ)
+    (f : IsFinished s found h views start text) → found.without_time ≡ count_by (lacks_time s) f.audited.views
+timed s found views start text f =
+    f.without_time ∙ ap (λ (vs : List View). count_by (lacks_time s) vs) (sym f.views_are)
 
 -- which was written
-pub written : {h : BytesRead} (s : Summary) (views : List View) (start text bytes : List ℕ) (old new : BytesWritten)
-    → IsFinished s h views start text → start ≡ [] → bytes ≡ text → new.bytes ≡ old.bytes ++ bytes
-    → new.failures ≡ old.failures → IsOutcome (Ok s) h old new
-written s views start text bytes old new f empty same wrote fine = (
+pub written : (s : Selection) {h : BytesRead} (found : SelectedSummary) (views : List View)
+    (start text bytes : List ℕ) (old new : BytesWritten) → IsFinished s found h views start text → start ≡ []
+    → bytes ≡ text → new.bytes ≡ old.bytes ++ bytes
+    → new.failures ≡ old.failures → IsSelectedOutcome s (Ok found) h old new
+written s found views start text bytes old new f empty same wrote fine = (
   f.audited,
-  record {
-    summary = f.summary;
-    text = wrote ∙ ap (λ (xs : List ℕ). old.bytes ++ xs) (whole s views start text bytes f empty same);
-    fine = fine;
-  },
+  (
+    record {
+      summary = f.summary;
+      text = wrote ∙ ap (λ (xs : List ℕ). old.bytes ++ xs) (all_text s found views start text bytes f empty same);
+      fine = fine;
+    },
+    timed s found views start text f,
+  ),
 )
 
 -- or a part of it
-pub cut_off : {h : BytesRead} (s : Summary) (taken : ℕ) (views : List View) (start text bytes : List ℕ)
-    (old new : BytesWritten) → IsFinished s h views start text → start ≡ [] → bytes ≡ text
-    → new.bytes ≡ old.bytes ++ take taken bytes → taken < length bytes → new.failures ≡ old.failures + 1
-    → IsOutcome (Err (Write taken)) h old new
-cut_off s taken views start text bytes old new f empty same wrote part failed =
-    let is : bytes ≡ text_of f.audited = whole s views start text bytes f empty same in (
+pub cut_off : (s : Selection) {h : BytesRead} (found : SelectedSummary) (taken : ℕ) (views : List View)
+    (start text bytes : List ℕ) (old new : BytesWritten) → IsFinished s found h views start text → start ≡ []
+    → bytes ≡ text → new.bytes ≡ old.bytes ++ take taken bytes → taken < length bytes
+    → new.failures ≡ old.failures + 1 → IsSelectedOutcome s (Err (Write taken)) h old new
+cut_off s found taken views start text bytes old new f empty same wrote part failed =
+    let is : bytes ≡ text_in (asked s) f.audited = all_text s found views start text bytes f empty same in (
       f.audited,
       record {
         text = wrote ∙ ap (λ (xs : List ℕ). old.bytes ++ take taken xs) is;
@@ -74,3 +92,21 @@ cut_off s taken views start text bytes old new f empty same wrote part failed =
         failed = failed;
       },
     )
+
+-- ---- where all records are asked for
+asked_each : (ps : List Placed) → filter (λ p. asks_for everything p.view) ps ≡ ps
+asked_each [] = refl
+asked_each (p ∷ ps) = ap (λ (qs : List Placed). p ∷ qs) (asked_each ps)
+
+numbered_length : (n : ℕ) (added : List Added) → length (numbered n added) ≡ length added
+numbered_length n [] = refl
+numbered_length n (a ∷ rest) = ap suc (numbered_length (n + 1) rest)
+
+-- all are judged
+pub asked_all : asked everything ≡ whole
+asked_all = λ i. record {
+  judged = λ views. asked_each (placed_of views) i;
+  count = λ views.
+      (ap (λ (ps : List Placed). length ps) (asked_each (placed_of views)) ∙ numbered_length 1 (added_from 0 views)
+      ∙ added_length 0 views) i;
+}

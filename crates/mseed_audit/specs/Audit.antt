@@ -19,7 +19,7 @@ use Rattle.mseed_audit.specs.declared.finding.Why.TheVariants.{RateChange}
 use Rattle.mseed_audit.specs.declared.tail.Tail.{Tail}
 use Rattle.mseed_audit.specs.declared.verdict.Verdict.{Verdict}
 use Rattle.mseed_audit.specs.declared.verdict.Verdict.TheVariants.{Continuous, Broken}
-use Rattle.mseed_audit.specs.Channels.{Added, Placed, same_key, records_of, sample_count}
+use Rattle.mseed_audit.specs.Channels.{Added, Placed, channel_in, numbered, same_key, records_of, sample_count}
 use Rattle.mseed_audit.specs.Judging.{known_rate, IsFound, step_in, why_by}
 use Rattle.mseed_audit.specs.Verdict.{AreFindings}
 
@@ -108,15 +108,20 @@ verdict_by (Counted count first head tail) records samples = Broken first count
 abbrev pub verdict_of : Channel → Verdict
 verdict_of c = verdict_by c.findings c.records c.samples
 
--- what a clause sees of an audit: what is kept of each channel, by its key, and how many records were added
+-- what a clause sees of an audit: what is kept of each channel, by its key, and how many records were added or passed
 pub record Held : Type 0 where
   pub channels : List (List ℕ × Channel)
   pub added : ℕ
 
+-- The audit holds what these records say, of so many that came: each has its number and offset among all that came,
+-- those that the audit passed too.
+pub record IsAuditAmong (h : Held) (ps : List Placed) (count : ℕ) : Type 0 where
+  pub number : h.added ≡ count
+  pub each : (key : List ℕ) → StandsAt (lookup (same_key key) h.channels) (channel_in key ps)
+
 -- the audit holds what these records, added one after another, say
-pub record IsAuditOf (h : Held) (added : List Added) : Type 0 where
-  pub number : h.added ≡ length added
-  pub each : (key : List ℕ) → StandsAt (lookup (same_key key) h.channels) (records_of key added)
+abbrev pub IsAuditOf : Held → List Added → Type 0
+IsAuditOf h added = IsAuditAmong h (numbered 1 added) (length added)
 
 -- something is kept of the channel with this key: of an audit of some records, one of them is of the channel
 abbrev pub HoldsKey : Held → List ℕ → Type 0

@@ -30,9 +30,13 @@ same_key key other = is_eq (slice_cmp nat_cmp key other)
 abbrev pub is_of : List ℕ → View → Bool
 is_of key v = nat_lt 0 (count_of v) && same_key key (key_at v.bytes)
 
+-- the records of a channel among others
+abbrev pub channel_in : List ℕ → List Placed → List Placed
+channel_in key ps = filter (λ p. is_of key p.view) ps
+
 -- the records of a channel, in their order; numbers count from 1, and count silent records too
 abbrev pub records_of : List ℕ → List Added → List Placed
-records_of key added = filter (λ p. is_of key p.view) (numbered 1 added)
+records_of key added = channel_in key (numbered 1 added)
 
 -- and with one more record of the archive, which may be of another channel
 abbrev pub with_record : List ℕ → List Placed → Placed → List Placed

@@ -1,5 +1,5 @@
 -- What an audit writes that tells each record with a finding, and what it answers.
-use Rattle.std.specs.Prelude.{◌≡◌, ◌⊎◌, ℕ, ◌+◌, List, ◌++◌, Option, Result, Ok, Err}
+use Rattle.std.specs.Prelude.{◌≡◌, ◌⊎◌, ℕ, ◌+◌, List, [], ◌++◌, Option, Result, Ok, Err}
 use Rattle.mseed_record.specs.View.{View}
 use Rattle.mseed_stream.specs.Device.{BytesRead, BytesWritten}
 use Rattle.mseed_stream.specs.Walk.{AreViews}
@@ -9,72 +9,96 @@ use Rattle.mseed_audit.specs.declared.summary.Summary.{Summary}
 use Rattle.mseed_audit.specs.declared.each.EachFault.{EachFault}
 use Rattle.mseed_audit.specs.declared.each.EachFault.TheVariants.{Write, Memory}
 use Rattle.mseed_audit.specs.Audit.{Held}
-use Rattle.mseed_audit.specs.Channels.{added_from}
-use Rattle.mseed_audit.specs.Summary.{Audited, IsGathered, IsSummary, text_of}
+use Rattle.mseed_audit.specs.Scope.{Scope, whole}
+use Rattle.mseed_audit.specs.Summary.{AuditedIn, IsGatheredIn, IsSummaryIn, text_in, text_of}
 use Rattle.mseed_audit.specs.Text.{reported_lines}
-use Rattle.mseed_audit.specs.Reported.{Reported, AreReportedOf}
+use Rattle.mseed_audit.specs.Reported.{Reported, AreReported}
 
--- what was read is audited so, and this is reported of its records
-pub record AuditedEach (h : BytesRead) : Type 0 where
-  pub audited : Audited h
+-- what was read is audited so, and this is reported of its judged records
+pub record AuditedEachIn (scope : Scope) (h : BytesRead) : Type 0 where
+  pub audited : AuditedIn scope h
   pub reported : List Reported
-  pub are_reported : AreReportedOf (added_from 0 audited.views) reported
+  pub are_reported : AreReported [] (scope.judged audited.views) reported
+
+abbrev pub AuditedEach : BytesRead → Type 0
+AuditedEach h = AuditedEachIn whole h
 
 -- the lines of the records with a finding, and then the text of the audit
+abbrev pub each_text_in : (scope : Scope) → {h : BytesRead} → AuditedEachIn scope h → List ℕ
+each_text_in scope a = reported_lines a.reported ++ text_in scope a.audited
+
 abbrev pub each_text : {h : BytesRead} → AuditedEach h → List ℕ
 each_text a = reported_lines a.reported ++ text_of a.audited
 
 -- the whole text was written
-pub record IsEachWritten {h : BytesRead} (s : Summary) (a : AuditedEach h) (old new : BytesWritten) : Type 0 where
-  pub summary : IsSummary s a.audited
-  pub text : new.bytes ≡ old.bytes ++ each_text a
+pub record IsEachWrittenIn (scope : Scope) {h : BytesRead} (s : Summary) (a : AuditedEachIn scope h)
+    (old new : BytesWritten) : Type 0 where
+  pub summary : IsSummaryIn scope s a.audited
+  pub text : new.bytes ≡ old.bytes ++ each_text_in scope a
   pub fine : new.failures ≡ old.failures
 
 -- what was written is so of a text: the lines of the first records, or the whole
-pub record IsCutShort (Emitted : List ℕ → Type 0) (h : BytesRead) (offset : ℕ) (views : List View)
+pub record IsCutShortIn (scope : Scope) (Emitted : List ℕ → Type 0) (h : BytesRead) (offset : ℕ) (views : List View)
     (reported : List Reported) : Type 0 where
   pub shown : AreViews h.bytes offset views
-  pub are_reported : AreReportedOf (added_from 0 views) reported
-  pub prefix : Emitted (reported_lines reported) ⊎ ((a : AuditedEach h) × Emitted (each_text a))
+  pub are_reported : AreReported [] (scope.judged views) reported
+  pub prefix : Emitted (reported_lines reported) ⊎ ((a : AuditedEachIn scope h) × Emitted (each_text_in scope a))
 
-abbrev pub EndsShort : (List ℕ → Type 0) → BytesRead → Type 0
-EndsShort Emitted h = (offset : ℕ) × ((views : List View)
-    × ((reported : List Reported) × IsCutShort Emitted h offset views reported))
+abbrev pub EndsShortIn : Scope → (List ℕ → Type 0) → BytesRead → Type 0
+EndsShortIn scope Emitted h = (offset : ℕ) × ((views : List View)
+    × ((reported : List Reported) × IsCutShortIn scope Emitted h offset views reported))
 
 -- By the outcome. An output that failed isn't called again.
+abbrev pub IsEachOutcomeIn : Scope → Result Summary EachFault → BytesRead → BytesWritten → BytesWritten → Type 0
+IsEachOutcomeIn scope (Ok summary) h old new =
+    (a : AuditedEachIn scope h) × IsEachWrittenIn scope summary a old new
+IsEachOutcomeIn scope (Err Write) h old new =
+    (new.failures ≡ old.failures + 1) × EndsShortIn scope (EmittedPart old new) h
+IsEachOutcomeIn scope (Err Memory) h old new =
+    (new.failures ≡ old.failures) × EndsShortIn scope (EmittedFirst old new) h
+
 abbrev pub IsEachOutcome : Result Summary EachFault → BytesRead → BytesWritten → BytesWritten → Type 0
-IsEachOutcome (Ok summary) h old new = (a : AuditedEach h) × IsEachWritten summary a old new
-IsEachOutcome (Err Write) h old new = (new.failures ≡ old.failures + 1) × EndsShort (EmittedPart old new) h
-IsEachOutcome (Err Memory) h old new = (new.failures ≡ old.failures) × EndsShort (EmittedFirst old new) h
+IsEachOutcome result h old new = IsEachOutcomeIn whole result h old new
 
 -- ---- the lines, as records are added
--- all records up to the end were added, and the lines of those with a finding were written or are gathered
-pub record HasLines (held : Held) (end : Option StreamFault) (bytes : ℕ) (h : BytesRead) (old new : BytesWritten)
-    (text : List ℕ) (views : List View) (reported : List Reported) : Type 0 where
-  pub all : IsGathered held end bytes h views
-  pub are_reported : AreReportedOf (added_from 0 views) reported
+-- all records up to the end came, and the lines of those with a finding were written or are gathered
+pub record HasLinesIn (scope : Scope) (held : Held) (end : Option StreamFault) (bytes : ℕ) (h : BytesRead)
+    (old new : BytesWritten) (text : List ℕ) (views : List View) (reported : List Reported) : Type 0 where
+  pub all : IsGatheredIn scope held end bytes h views
+  pub are_reported : AreReported [] (scope.judged views) reported
   pub lines : AreGathered old new text (reported_lines reported)
   pub fine : new.failures ≡ old.failures
 
+abbrev pub HasLines : Held → Option StreamFault → ℕ → BytesRead → BytesWritten → BytesWritten → List ℕ → List View
+    → List Reported → Type 0
+HasLines held end bytes h old new text views reported =
+    HasLinesIn whole held end bytes h old new text views reported
+
 -- what was written is so of the lines of the first records
-pub record HasLinesShort (Emitted : List ℕ → Type 0) (h : BytesRead) (offset : ℕ) (views : List View)
-    (reported : List Reported) : Type 0 where
+pub record HasLinesShortIn (scope : Scope) (Emitted : List ℕ → Type 0) (h : BytesRead) (offset : ℕ)
+    (views : List View) (reported : List Reported) : Type 0 where
   pub shown : AreViews h.bytes offset views
-  pub are_reported : AreReportedOf (added_from 0 views) reported
+  pub are_reported : AreReported [] (scope.judged views) reported
   pub prefix : Emitted (reported_lines reported)
 
+abbrev pub EndsInLinesIn : Scope → (List ℕ → Type 0) → BytesRead → Type 0
+EndsInLinesIn scope Emitted h =
+    (offset : ℕ) × ((views : List View)
+    × ((reported : List Reported) × HasLinesShortIn scope Emitted h offset views reported))
+
 abbrev pub EndsInLines : (List ℕ → Type 0) → BytesRead → Type 0
-EndsInLines Emitted h =
-    (offset : ℕ) × ((views : List View) × ((reported : List Reported) × HasLinesShort Emitted h offset views reported))
+EndsInLines Emitted h = EndsInLinesIn whole Emitted h
 
 -- By the fault: an output that failed isn't called again.
-abbrev pub IsLinesFault : EachFault → BytesRead → BytesWritten → BytesWritten → Type 0
-IsLinesFault Write h old new = (new.failures ≡ old.failures + 1) × EndsInLines (EmittedPart old new) h
-IsLinesFault Memory h old new = (new.failures ≡ old.failures) × EndsInLines (EmittedFirst old new) h
+abbrev pub IsLinesFaultIn : Scope → EachFault → BytesRead → BytesWritten → BytesWritten → Type 0
+IsLinesFaultIn scope Write h old new =
+    (new.failures ≡ old.failures + 1) × EndsInLinesIn scope (EmittedPart old new) h
+IsLinesFaultIn scope Memory h old new =
+    (new.failures ≡ old.failures) × EndsInLinesIn scope (EmittedFirst old new) h
 
 -- by the outcome: the audit, how the input ends, and how many bytes the records have; the last lines are left in a text
 abbrev pub IsTelling : Result (Held × Option StreamFault × ℕ) EachFault → BytesRead → BytesWritten → BytesWritten
     → List ℕ → Type 0
 IsTelling (Ok found) h old new text =
     (views : List View) × ((reported : List Reported) × HasLines found.0 found.1 found.2 h old new text views reported)
-IsTelling (Err fault) h old new text = IsLinesFault fault h old new
+IsTelling (Err fault) h old new text = IsLinesFaultIn whole fault h old new

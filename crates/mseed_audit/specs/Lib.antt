@@ -8,5 +8,7 @@ pub mod Series
 pub mod Summary
 pub mod Text
 pub mod Reported
+pub mod Scope
+pub mod Selected
 pub mod Verdict
 pub mod private

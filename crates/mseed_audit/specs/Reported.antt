@@ -8,7 +8,8 @@ use Rattle.mseed_audit.specs.declared.finding.Finding.{Finding}
 use Rattle.mseed_audit.specs.declared.finding.Why.{Why}
 use Rattle.mseed_audit.specs.declared.verdict.Verdict.{Verdict}
 use Rattle.mseed_audit.specs.declared.verdict.Verdict.TheVariants.{Continuous, Broken}
-use Rattle.mseed_audit.specs.Channels.{Added, Placed, is_of, numbered, same_key}
+use Rattle.mseed_audit.specs.Channels.{Added, Placed, numbered, same_key}
+pub use Rattle.mseed_audit.specs.Channels.{channel_in}
 use Rattle.mseed_audit.specs.Judging.{IsFound}
 
 -- the last of these records, or, of none, the one before them
@@ -20,10 +21,6 @@ last_of before (p ∷ ps) = last_of (Some p.view) ps
 pub record IsFoundOf (channel : List Placed) (v : View) (why : Option Why) : Type 0 where
   pub silent : count_of v ≡ 0 → why ≡ None
   pub judged : 0 < count_of v → IsFound (last_of None channel) v why
-
--- the records of a channel among others
-abbrev pub channel_in : List ℕ → List Placed → List Placed
-channel_in key ps = filter (λ p. is_of key p.view) ps
 
 -- what is found of a record behind these records of the archive
 abbrev pub IsFoundBehind : List Placed → View → Option Why → Type 0

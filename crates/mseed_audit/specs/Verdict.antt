@@ -11,7 +11,7 @@ use Rattle.mseed_audit.specs.declared.finding.Why.{Why}
 use Rattle.mseed_audit.specs.declared.finding.Finding.{Finding}
 use Rattle.mseed_audit.specs.declared.verdict.Verdict.{Verdict}
 use Rattle.mseed_audit.specs.declared.verdict.Verdict.TheVariants.{Continuous, Broken}
-use Rattle.mseed_audit.specs.Channels.{Added, Placed, same_key, records_of, sample_count, views_in}
+use Rattle.mseed_audit.specs.Channels.{Added, Placed, channel_in, numbered, same_key, sample_count, views_in}
 use Rattle.mseed_audit.specs.Follows.{IsContinuous}
 use Rattle.mseed_audit.specs.Judging.{IsFound, known_rate}
 
@@ -59,8 +59,12 @@ abbrev pub IsExactAt : Option Verdict → List Placed → Type 0
 IsExactAt None ps = ⊤
 IsExactAt (Some verdict) ps = IsTrue (says_continuous verdict) ↔ IsContinuous (views_in ps)
 
--- the verdicts on all channels with samples, in the ascending order of their keys
-pub record AreVerdicts (added : List Added) (verdicts : List (List ℕ × Verdict)) : Type 0 where
+-- the verdicts on all channels that have samples among these records, in the ascending order of their keys
+pub record AreVerdictsAmong (ps : List Placed) (verdicts : List (List ℕ × Verdict)) : Type 0 where
   pub ascending : IsStrictlySortedBy (slice_cmp nat_cmp) (keys_of verdicts)
-  pub each : (key : List ℕ) → IsVerdictAt (lookup (same_key key) verdicts) (records_of key added)
-  pub exact : (key : List ℕ) → IsExactAt (lookup (same_key key) verdicts) (records_of key added)
+  pub each : (key : List ℕ) → IsVerdictAt (lookup (same_key key) verdicts) (channel_in key ps)
+  pub exact : (key : List ℕ) → IsExactAt (lookup (same_key key) verdicts) (channel_in key ps)
+
+-- the verdicts on all channels of an archive
+abbrev pub AreVerdicts : List Added → List (List ℕ × Verdict) → Type 0
+AreVerdicts added verdicts = AreVerdictsAmong (numbered 1 added) verdicts

@@ -5,10 +5,10 @@ ghost use Rattle.mseed_record.specs.Header.{key_at};
 ghost use Rattle.mseed_record.specs.Viewing.{view_of};
 ghost use Rattle.mseed_steim.specs.Reading.{count_of};
 ghost use Rattle.mseed_audit.specs.Audit.{AreChannels};
-ghost use Rattle.mseed_audit.specs.Channels.{Added, numbered, records_of};
+ghost use Rattle.mseed_audit.specs.Channels.{Added, Placed, numbered, records_of};
 ghost use Rattle.mseed_audit.specs.private.Kept.{IsLearnt};
 ghost use Rattle.mseed_audit.specs.Reported.{IsFoundBehind};
-ghost use Rattle.mseed_audit.specs.Verdict.{AreVerdicts};
+ghost use Rattle.mseed_audit.specs.Verdict.{AreVerdicts, AreVerdictsAmong};
 
 use crate::channel::{Channel, Lead};
 use crate::finding::Why;
@@ -26,7 +26,8 @@ pub struct Memory;
 /// The audit of records as they come, of any number of channels. It keeps one value of a fixed size for each
 /// channel with samples, and no record.
 ///
-/// Contracts see an audit as what is `Held`, and say by `IsAuditOf` of which records it is the audit.
+/// Contracts see an audit as what is `Held`, and say by `IsAuditOf` of which records it is the audit, or, where it passed
+/// some, by `IsAuditAmong`.
 #[derive(Drop)]
 pub struct Audit<A: Allocator = Global> {
     roster: Roster<A>,
@@ -75,7 +76,7 @@ impl<A: Allocator> Model for Channels<A> {
 }
 
 impl<A: Allocator + Copy> Audit<A> {
-    ghost use Rattle.mseed_audit.specs.Audit.{IsAuditOf, HoldsKey};
+    ghost use Rattle.mseed_audit.specs.Audit.{HoldsKey, IsAuditAmong, IsAuditOf};
 
     /// An audit of no record. It takes no memory.
     pub fn new(alloc: A) -> Audit<A>
@@ -87,7 +88,7 @@ impl<A: Allocator + Copy> Audit<A> {
         }
     }
 
-    /// How many records were added, silent ones too.
+    /// Returns how many records were added, silent ones too, or passed.
     pub fn added(&self) -> u64
         ensures { result ≡ self.now.added }
     {
@@ -114,6 +115,13 @@ impl<A: Allocator + Copy> Audit<A> {
         requires { self.old.added < 2 ^ 40 }
         ensures adds { (added : List Added) → IsAuditOf self.old added
             → OnOk result (IsAuditOf self.new (added ++ record { view = view_of view.now; offset = offset } ∷ [])) }
+        ensures among { (ps : List Placed) (count : ℕ) → IsAuditAmong self.old ps count → OnOk result
+            (IsAuditAmong self.new (ps ++ record {
+              view = view_of view.now;
+              offset = offset;
+              number = self.old.added + 1;
+            }
+            ∷ []) (count + 1)) }
         ensures number { OnOk result (self.new.added ≡ self.old.added + 1) }
         ensures unchanged { OnErr result (self.new ≡ self.old) }
         ensures memory { (count_of (view_of view.now) ≡ 0)
@@ -136,10 +144,15 @@ impl<A: Allocator + Copy> Audit<A> {
     #[inline(always)]
     pub(crate) fn add_sound(&mut self, view: &RecordView) -> Result<(), Option<Lead>>
         requires { self.old.added < 2 ^ 40 }
-        ensures adds { OnOk result ((added : List Added) (offset : ℕ) → IsAuditOf self.old added
-            → IsAuditOf self.new (added ++ record { view = view_of view.now; offset = offset } ∷ [])) }
-        ensures sound { OnOk result ((added : List Added) → IsAuditOf self.old added
-            → IsFoundBehind (numbered 1 added) (view_of view.now) None) }
+        ensures among { OnOk result ((ps : List Placed) (count offset : ℕ) → IsAuditAmong self.old ps count
+            → IsAuditAmong self.new (ps ++ record {
+              view = view_of view.now;
+              offset = offset;
+              number = self.old.added + 1;
+            }
+            ∷ []) (count + 1)) }
+        ensures sound { OnOk result ((ps : List Placed) (count : ℕ) → IsAuditAmong self.old ps count
+            → IsFoundBehind ps (view_of view.now) None) }
         ensures number { OnOk result (self.new.added ≡ self.old.added + 1) }
         ensures unchanged { OnErr result (self.new ≡ self.old) }
         ensures learnt { IfErr result (λ lead. IsLearnt lead (view_of view.now)) }
@@ -158,6 +171,13 @@ impl<A: Allocator + Copy> Audit<A> {
         requires { self.old.added < 2 ^ 40 }
         ensures adds { (added : List Added) → IsAuditOf self.old added
             → OnOk result (IsAuditOf self.new (added ++ record { view = view_of view.now; offset = offset } ∷ [])) }
+        ensures among { (ps : List Placed) (count : ℕ) → IsAuditAmong self.old ps count → OnOk result
+            (IsAuditAmong self.new (ps ++ record {
+              view = view_of view.now;
+              offset = offset;
+              number = self.old.added + 1;
+            }
+            ∷ []) (count + 1)) }
         ensures found { (added : List Added) → IsAuditOf self.old added
             → IfOk result (λ why. IsFoundBehind (numbered 1 added) (view_of view.now) why) }
         ensures number { OnOk result (self.new.added ≡ self.old.added + 1) }
@@ -179,10 +199,15 @@ impl<A: Allocator + Copy> Audit<A> {
     ) -> Result<Option<Why>, Memory>
         requires few { self.old.added < 2 ^ 40 }
         requires learnt { IsLearnt lead (view_of view.now) }
-        ensures adds { (added : List Added) → IsAuditOf self.old added
-            → OnOk result (IsAuditOf self.new (added ++ record { view = view_of view.now; offset = offset } ∷ [])) }
-        ensures found { (added : List Added) → IsAuditOf self.old added
-            → IfOk result (λ why. IsFoundBehind (numbered 1 added) (view_of view.now) why) }
+        ensures among { (ps : List Placed) (count : ℕ) → IsAuditAmong self.old ps count → OnOk result
+            (IsAuditAmong self.new (ps ++ record {
+              view = view_of view.now;
+              offset = offset;
+              number = self.old.added + 1;
+            }
+            ∷ []) (count + 1)) }
+        ensures found { (ps : List Placed) (count : ℕ) → IsAuditAmong self.old ps count
+            → IfOk result (λ why. IsFoundBehind ps (view_of view.now) why) }
         ensures number { OnOk result (self.new.added ≡ self.old.added + 1) }
         ensures unchanged { OnErr result (self.new ≡ self.old) }
         ensures memory { (count_of (view_of view.now) ≡ 0)
@@ -194,10 +219,23 @@ impl<A: Allocator + Copy> Audit<A> {
         Ok(why)
     }
 
+    /// Passes a record that isn't judged: it is counted, so that the numbers of those that come after it are those
+    /// among all, and nothing else is kept of it.
+    pub fn pass(&mut self)
+        requires { self.old.added < 2 ^ 40 }
+        ensures passes { (ps : List Placed) (count : ℕ) → IsAuditAmong self.old ps count
+            → IsAuditAmong self.new ps (count + 1) }
+        ensures channels { self.new.channels ≡ self.old.channels }
+        ensures number { self.new.added ≡ self.old.added + 1 }
+    {
+        self.added += 1;
+    }
+
     /// What the audit says of the records that were added: of each channel with samples its verdict, which says
     /// that the channel is continuous exactly where it is. It takes no memory.
     pub fn finish(self) -> Verdicts<A>
-        ensures { (added : List Added) → IsAuditOf self added → AreVerdicts added result }
+        ensures verdicts { (added : List Added) → IsAuditOf self added → AreVerdicts added result }
+        ensures among { (ps : List Placed) (count : ℕ) → IsAuditAmong self ps count → AreVerdictsAmong ps result }
     {
         continuous_exactly();
         Verdicts {

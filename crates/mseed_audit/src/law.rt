@@ -1,6 +1,8 @@
 //! Laws: what the definitions determine, they determine once.
 ghost use Rattle.std.specs.Prelude.{◌≡◌, ◌↔◌, ◌++◌, List, ℕ, ℤ, length, map, Option, None, IsTrue};
+ghost use Rattle.std.specs.List.{filter};
 ghost use Rattle.std.specs.Map.{lookup};
+ghost use Rattle.mseed_record.specs.Header.{key_at};
 ghost use Rattle.mseed_record.specs.View.{View};
 ghost use Rattle.mseed_time.specs.declared.outcome.LeapStep.{LeapStep};
 ghost use Rattle.mseed_audit.specs.declared.channel.Channel.{Channel};
@@ -9,7 +11,10 @@ ghost use Rattle.mseed_audit.specs.declared.finding.Finding.{Finding};
 ghost use Rattle.mseed_audit.specs.declared.verdict.Verdict.{Verdict};
 ghost use Rattle.mseed_audit.specs.Audit.{AreChannels, verdict_of};
 ghost use Rattle.mseed_audit.specs.Channels.{Added, Placed, records_of, same_key, views_in};
-ghost use Rattle.mseed_audit.specs.Each.{AuditedEach, each_text};
+ghost use Rattle.mseed_audit.specs.Each.{AuditedEach, AuditedEachIn, each_text};
+ghost use Rattle.mseed_audit.specs.Scope.{HasNoWindow, asked};
+ghost use Rattle.mseed_select.specs.Pattern.{is_of_channels};
+ghost use Rattle.mseed_select.specs.Selection.{Selection};
 ghost use Rattle.mseed_audit.specs.Text.{reported_lines};
 ghost use Rattle.mseed_audit.specs.Reported.{Reported, AreReportedOf, finding_count, findings_in, reported_with};
 ghost use Rattle.mseed_audit.specs.Follows.{IsContinuous};
@@ -17,7 +22,7 @@ ghost use Rattle.mseed_audit.specs.Judging.{IsFound};
 ghost use Rattle.mseed_audit.specs.Series.{Trace, AreJoined, IsBadStep, IsSeriesOf};
 ghost use Rattle.mseed_stream.specs.Device.{BytesRead, IsPrefixOf};
 ghost use Rattle.mseed_audit.specs.declared.summary.Summary.{Summary};
-ghost use Rattle.mseed_audit.specs.Summary.{Audited, IsSummary, text_of};
+ghost use Rattle.mseed_audit.specs.Summary.{Audited, AuditedIn, IsSummary, text_of};
 ghost use Rattle.mseed_audit.specs.Verdict.{AreFindings, AreVerdicts, IsVerdict, says_continuous};
 
 use mseed_steim::{one_fault, one_reading};
@@ -115,3 +120,16 @@ pub fn one_bad_step()
     ensures { (size : ℕ) (steps : List (ℕ × LeapStep)) (i j : ℕ) → IsBadStep size steps i
         → IsBadStep size steps j → i ≡ j }
 {}
+
+/// Without a window, the audit of the records that are asked for says of each channel that is asked for what the audit
+/// of all records says of it, and nothing else: so its line is the same to the letter, and so are the lines of its
+/// findings.
+pub fn selected_channels()
+    ensures verdicts { (s : Selection) (h : BytesRead) (a : AuditedIn (asked s) h) (b : Audited h) → HasNoWindow s
+        → a.verdicts ≡ filter (λ e. is_of_channels s.channels e.0) b.verdicts }
+    ensures reported { (s : Selection) (h : BytesRead) (a : AuditedEachIn (asked s) h) (b : AuditedEach h)
+        → HasNoWindow s → a.reported ≡ filter (λ t. is_of_channels s.channels (key_at t.view.bytes)) b.reported }
+{
+    one_fault();
+    one_input();
+}

@@ -9,6 +9,7 @@ mod channel_series;
 mod each;
 mod finding;
 mod law;
+mod passed;
 mod roster;
 mod summary;
 mod tail;
@@ -20,13 +21,13 @@ pub use audits::{Audit, Channels, Memory, Verdicts};
 pub use channel::{Channel, Findings, Head};
 pub use channel_list::ChannelList;
 pub use channel_series::{BadStep, Series};
-pub use each::{EachFault, audit_each, gather_each};
+pub use each::{EachFault, audit_each, audit_each_selected, gather_each};
 pub use finding::{Finding, Why};
 pub use law::{
     channels_have_verdicts, continuous_exactly, findings_reported, one_audit, one_bad_step,
-    one_finding, one_list_of_verdicts, one_series, one_telling, one_verdict,
+    one_finding, one_list_of_verdicts, one_series, one_telling, one_verdict, selected_channels,
 };
-pub use summary::{AuditFault, Summary, audit, gather};
+pub use summary::{AuditFault, SelectedSummary, Summary, audit, audit_selected, gather};
 pub use tail::Tail;
 pub use text::{push_total_line, push_verdict_line, put_why};
 pub use verdict::Verdict;

@@ -65,7 +65,7 @@ impl Digest {
         self.number(summary.records);
         self.number(summary.channels);
         self.number(summary.broken);
-        self.number(u64::from(summary.end.is_some()));
+        self.number(u64::from(summary.fault));
     }
 
     /// The number.

@@ -1,5 +1,5 @@
 -- What an audit of an archive that lies in memory answers.
-use Rattle.std.specs.Prelude.{◌≡◌, ℕ, true, nat_lt, if◌then◌else◌, List, [], ◌++◌, length, is_some}
+use Rattle.std.specs.Prelude.{◌≡◌, ℕ, true, nat_lt, if◌then◌else◌, List, [], ◌++◌, length}
 use Rattle.mseed_stream.specs.Device.{BytesRead}
 use Rattle.mseed_audit.specs.Summary.{Audited, IsSummary, text_of}
 use Rattle.mseed_audit.specs.Each.{AuditedEach, each_text}
@@ -18,7 +18,7 @@ pub record IsReadOf (bytes : List ℕ) (h : BytesRead) : Type 0 where
 
 -- the status that the command answers: 2 for a fault, 1 where some channel is broken, else 0
 abbrev pub status_of : Summary → ℕ
-status_of s = if is_some s.end then 2 else (if nat_lt 0 s.broken then 1 else 0)
+status_of s = if s.fault then 2 else (if nat_lt 0 s.broken then 1 else 0)
 
 -- the numbers of a summary, and the length of the whole text
 abbrev pub totals_of : Summary → ℕ → Totals

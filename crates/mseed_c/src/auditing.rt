@@ -145,7 +145,7 @@ fn totals_of(summary: &Summary, length: usize) -> Totals
 fn status_of(summary: &Summary) -> u32
     ensures { result ≡ status_of summary.now }
 {
-    if summary.end.is_some() {
+    if summary.fault {
         2
     } else if summary.broken > 0 {
         1

@@ -1,6 +1,6 @@
 -- The part of what was read, by what is kept of its channels, and what is written of it.
 use Rattle.std.proofs.Common.{◌≡◌, ℕ, ◌+◌, ◌<◌, ◌++◌, List, [], ◌∷◌, length, map, take, Option, refl, sym, ap, ◌∙◌}
-use Rattle.std.proofs.Common.{subst, arith, inr, Err}
+use Rattle.std.proofs.Common.{subst, arith, inr, is_some, Err}
 use Rattle.std.proofs.lemmas.List.{length-append, length-map}
 use Rattle.std.specs.List.{concat}
 use Rattle.mseed_record.specs.View.{View}
@@ -70,15 +70,16 @@ pub pushed : (s : Summary) (held : Held) (end : Option StreamFault) (bytes : ℕ
       faults = 0;
       end = end;
     }) → s.records ≡ held.added → s.channels ≡ length channels → s.broken ≡ broken_count (map verdict_at channels)
-    → s.end ≡ end → IsPushed s h views text next
+    → s.fault ≡ is_some end → s.end ≡ end → IsPushed s h views text next
 pushed s held end bytes h views channels slice records text next found are verdicts same number is counted size broken
-    last = record {
+    fault last = record {
       parted = parted_of held end bytes h views channels found are verdicts;
       views_are = refl;
       summary = record {
         records = counted ∙ (found.audit.number ∙ added_length 0 views);
         channels = size ∙ sym (length-map channels verdict_at);
         broken = broken;
+        fault = fault;
         end = last;
       };
       text_is = is ∙ (λ i. text ++ part_text (record {

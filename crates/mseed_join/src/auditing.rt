@@ -107,6 +107,7 @@ fn push_audited<A: Allocator + Copy>(
             records,
             channels: channels.as_slice().len() as u64,
             broken: count_broken(channels.as_slice()),
+            fault: end.is_some(),
             end: *end,
         }),
         Err(_) => Err(Memory),

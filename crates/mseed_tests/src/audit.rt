@@ -7,6 +7,7 @@ pub(crate) mod devices;
 mod framing;
 mod growing;
 mod keeping;
+mod selecting;
 mod telling;
 mod times;
 mod writing;

@@ -26,7 +26,7 @@ static MANY: &str = "0 XX_STA__BHZ record 1 start fault hour time hour\n\
 const BAD_HOUR: (usize, &[u8]) = (24, &[24]);
 
 /// The records of the second row, and a byte behind them.
-fn many() -> [u8; 769] {
+pub(super) fn many() -> [u8; 769] {
     let mut bytes = [b'0'; 769];
     put(&mut bytes, 0, &with(&[BAD_HOUR]));
     put(&mut bytes, 128, &with(BHN));
@@ -55,6 +55,7 @@ fn tells_each_finding(rt: HostRuntime) {
         records: 2,
         channels: 1,
         broken: 1,
+        fault: false,
         end: None,
     };
     let bytes = two(&with(LATE));
@@ -63,6 +64,7 @@ fn tells_each_finding(rt: HostRuntime) {
         records: 6,
         channels: 2,
         broken: 2,
+        fault: true,
         end: Some(StreamFault::Truncated(768, 1)),
     };
     assert!(rt; is_reported(rt.alloc(), &many(), 1 << 20, Ok(summary), MANY.as_bytes()));

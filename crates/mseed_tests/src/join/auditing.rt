@@ -42,6 +42,7 @@ fn summary(records: u64, is_broken: bool) -> Summary {
         records,
         channels: 1,
         broken: u64::from(is_broken),
+        fault: is_broken,
         end: is_broken.then_some(StreamFault::Truncated(256, 1)),
     }
 }

@@ -1,50 +1,19 @@
-use Rattle.mseed_stream.specs.Device.{BytesRead, BytesWritten}
-use Rattle.mseed_stream.proofs.Calls.{writes_on}
-use Rattle.mseed_audit.specs.declared.each.EachFault.TheVariants.{Memory}
-use Rattle.mseed_audit.proofs.Gathers.{each_short, each_written, lines_outcome, memory_short}
+use Rattle.std.proofs.Common.{Ok, Err, subst}
+use Rattle.mseed_audit.specs.Scope.{Scope}
+use Rattle.mseed_audit.specs.Each.{IsEachOutcomeIn}
+use Rattle.mseed_audit.proofs.Outcomes.{asked_all}
 use Rattle.mseed_audit.proofs.each.audit_each.Goals as goal
 
-pub returns-in-Ok-write_out-clause-outcome : goal.returns-in-Ok-write_out-clause-outcome
-returns-in-Ok-write_out-clause-outcome g c =
-    let read : BytesRead = g.R.Source.read c.gather_each.new.source in
-    let found = c.in-Ok.ensures.reported in
-    let lines = found.1.1 in
-    let write = c.in-Ok-write_out.ensures in
-    each_written c.in-Ok-push_finished.summary found.0 found.1.0 (g.W.Sink.written c.args.sink.now)
-    (g.W.Sink.written c.gather_each.new.sink) (g.W.Sink.written c.write_out.new.sink) c.gather_each.new.text.items
-    c.push_finished.new.text.items (c.in-Ok-push_finished.ensures read found.0 _ lines.all) lines.are_reported
-    lines.lines write.ok lines.fine write.fine
-
-pub returns-clause-outcome : goal.returns-clause-outcome
-returns-clause-outcome g c =
-    let read : BytesRead = g.R.Source.read c.gather_each.new.source in
-    let found = c.in-Ok.ensures.reported in
-    let lines = found.1.1 in
-    each_short c.in-Err-write_out.fault c.in-Ok-push_finished.summary found.0 found.1.0
-    (g.W.Sink.written c.args.sink.now) (g.W.Sink.written c.gather_each.new.sink)
-    (g.W.Sink.written c.write_out.new.sink) c.gather_each.new.text.items c.push_finished.new.text.items
-    (c.in-Ok-push_finished.ensures read found.0 _ lines.all) lines.are_reported lines.lines lines.fine
-    c.in-Err-write_out.ensures.err
-
-pub returns-in-Err-push_finished-clause-outcome : goal.returns-in-Err-push_finished-clause-outcome
-returns-in-Err-push_finished-clause-outcome g c =
-    let found = c.in-Ok.ensures.reported in
-    let lines = found.1.1 in
-    let read : BytesRead = g.R.Source.read c.gather_each.new.source in
-    let first : BytesWritten = g.W.Sink.written c.args.sink.now in
-    let old : BytesWritten = g.W.Sink.written c.gather_each.new.sink in
-    lines_outcome Memory read first old
-    (memory_short read first old c.gather_each.new.text.items lines.all.all.offset found.0 found.1.0
-    lines.all.all.records lines.fine lines.lines lines.are_reported)
+pub returns-in-Ok-clause-outcome : goal.returns-in-Ok-clause-outcome
+returns-in-Ok-clause-outcome g c =
+    let o = c.in-Ok.ensures.outcome in
+    subst (λ (scope : Scope). IsEachOutcomeIn scope (Ok c.in-Ok.found.summary)
+    (g.R.Source.read c.audit_each_selected.new.source)
+    (g.W.Sink.written c.args.sink.now) (g.W.Sink.written c.audit_each_selected.new.sink)) asked_all (o.0, o.1.0)
 
 pub returns-in-Err-clause-outcome : goal.returns-in-Err-clause-outcome
 returns-in-Err-clause-outcome g c =
-    lines_outcome c.in-Err.fault (g.R.Source.read c.gather_each.new.source) (g.W.Sink.written c.args.sink.now)
-    (g.W.Sink.written c.gather_each.new.sink) c.in-Err.ensures.reported
-
-pub returns-in-Ok-write_out-clause-writes : goal.returns-in-Ok-write_out-clause-writes
-returns-in-Ok-write_out-clause-writes g c =
-    writes_on _ _ _ _ _ _ _ _ _ c.in-Ok.ensures.writes c.in-Ok-write_out.ensures.writes
-
-pub returns-clause-writes : goal.returns-clause-writes
-returns-clause-writes g c = writes_on _ _ _ _ _ _ _ _ _ c.in-Ok.ensures.writes c.in-Err-write_out.ensures.writes
+    subst (λ (scope : Scope). IsEachOutcomeIn scope (Err c.in-Err.fault)
+    (g.R.Source.read c.audit_each_selected.new.source)
+    (g.W.Sink.written c.args.sink.now) (g.W.Sink.written c.audit_each_selected.new.sink)) asked_all
+    c.in-Err.ensures.outcome

@@ -8,39 +8,39 @@ use Rattle.mseed_stream.proofs.Handed.{views_stay}
 use Rattle.mseed_audit.proofs.Views.{one_more, reads_whole}
 use Rattle.mseed_audit.proofs.summary.add_next.Goals as goal
 
-pub returns-in_ok-add_reported-in-Some-clause-next : goal.returns-in_ok-add_reported-in-Some-clause-next
-returns-in_ok-add_reported-in-Some-clause-next g c = λ views before is.
+pub returns-in_ok-judge-in-Some-clause-next : goal.returns-in_ok-judge-in-Some-clause-next
+returns-in_ok-judge-in-Some-clause-next g c = λ views before is.
     let view : View = view_of c.in-Some.view in
     let lent : List ℕ = g.R.Source.lent c.args.source.now in
     let shown = c.in-Some.ensures.record in
     let same : view.bytes ≡ take (length c.bytes-size.result.now) lent =
     shown.1 ∙ ap (λ (xs : List ℕ). take (length xs) lent) (sym c.bytes-size.ensures.value) in
     let calls = ap (λ (h : BytesRead). h.calls) c.pass.ensures.reported in
-    one_more c.args.lines views view c.offset-offset.result _ _ c.args.cutter.now _ c.args.audit.now _
-    c.args.text.now.items _ before is c.requires.few c.offset-offset.ensures c.in_ok-add_reported-in-Some.ensures
+    one_more (g.C.Choice.selection c.args.choice.now) c.args.lines views view c.offset-offset.result _ _
+    c.args.cutter.now _ c.args.audit.now _ c.args.passed.now _ c.args.text.now.items _ before is c.requires.few c.offset-offset.ensures c.in_ok-judge-in-Some.ensures
     (c.pass.ensures.handed views view before shown.0 same) (omega (arith, calls))
 
-pub returns-in_ok-add_reported-in-Some-clause-reads : goal.returns-in_ok-add_reported-in-Some-clause-reads
-returns-in_ok-add_reported-in-Some-clause-reads g c = λ goes_on.
+pub returns-in_ok-judge-in-Some-clause-reads : goal.returns-in_ok-judge-in-Some-clause-reads
+returns-in_ok-judge-in-Some-clause-reads g c = λ goes_on.
     reads_whole (g.R.Source.read c.args.source.now) (g.R.Source.read c.pass.new.source) _ _ _ _ _
     c.pass.ensures.reported c.pass.ensures.known c.pass.ensures.beside (c.requires.along.going_on goes_on)
 
-pub returns-in_err-add_reported-in-Some-clause-reads : goal.returns-in_err-add_reported-in-Some-clause-reads
-returns-in_err-add_reported-in-Some-clause-reads g c = λ goes_on.
+pub returns-in_err-judge-in-Some-clause-reads : goal.returns-in_err-judge-in-Some-clause-reads
+returns-in_err-judge-in-Some-clause-reads g c = λ goes_on.
     reads_none (g.R.Source.read c.args.source.now) _ _ (c.requires.along.going_on goes_on)
 
-pub returns-in_ok-add_reported-in-Ok-Some-clause-next : goal.returns-in_ok-add_reported-in-Ok-Some-clause-next
-returns-in_ok-add_reported-in-Ok-Some-clause-next g c = λ views before is.
+pub returns-in_ok-judge-in-Ok-Some-clause-next : goal.returns-in_ok-judge-in-Ok-Some-clause-next
+returns-in_ok-judge-in-Ok-Some-clause-next g c = λ views before is.
     let view : View = view_of c.in-Ok-Some.view in
     let called = rw c.in-Ok-Some.field-0-is at c.in-Ok-Some.ensures.called in
     let handed : HasHandedOut (g.R.Source.read c.next.new.source) c.next.follows.lender-at-none (views ++ view ∷ []) =
     search rules in
-    one_more c.args.lines views view c.offset-offset.result _ _ c.args.cutter.now _ c.args.audit.now _
-    c.args.text.now.items _ before is c.requires.few c.offset-offset.ensures c.in_ok-add_reported-in-Ok-Some.ensures
+    one_more (g.C.Choice.selection c.args.choice.now) c.args.lines views view c.offset-offset.result _ _
+    c.args.cutter.now _ c.args.audit.now _ c.args.passed.now _ c.args.text.now.items _ before is c.requires.few c.offset-offset.ensures c.in_ok-judge-in-Ok-Some.ensures
     handed called
 
-pub returns-in_err-add_reported-in-Ok-Some-clause-next : goal.returns-in_err-add_reported-in-Ok-Some-clause-next
-returns-in_err-add_reported-in-Ok-Some-clause-next g c = λ views before is.
+pub returns-in_err-judge-in-Ok-Some-clause-next : goal.returns-in_err-judge-in-Ok-Some-clause-next
+returns-in_err-judge-in-Ok-Some-clause-next g c = λ views before is.
     let old : BytesRead = g.R.Source.read c.args.source.now in
     let new : BytesRead = g.R.Source.read c.next.new.source in
     let offset : ℕ = c.args.cutter.now.offset in

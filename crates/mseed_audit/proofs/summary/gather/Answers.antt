@@ -1,37 +1,15 @@
-use Rattle.std.proofs.Common.{◌++◌, ◌∷◌, [], List}
-use Rattle.mseed_record.specs.View.{View}
-use Rattle.mseed_stream.proofs.Calls.{reads_on}
+use Rattle.std.proofs.Common.{subst}
+use Rattle.mseed_stream.specs.Device.{BytesRead}
+use Rattle.mseed_audit.specs.Scope.{Scope}
+use Rattle.mseed_audit.specs.Summary.{IsGatheredIn}
+use Rattle.mseed_audit.proofs.Outcomes.{asked_all}
 use Rattle.mseed_audit.proofs.summary.gather.Goals as goal
 
-pub records-preserved : goal.records-preserved
-records-preserved g c =
-    let views : List View = c.records.invariant.added.0 in
-    let before = c.records.invariant.added.1 in
-    let next = rw c.in-Added.is at c.in_ok-add_next.ensures.next views before.0 before.1 in
-    let reads = reads_on (g.R.Source.read c.args.source.now) (g.R.Source.read c.records.source)
-    (g.R.Source.read c.add_next.new.source) _ _ _ _ _ _ c.records.invariant.more c.records.invariant.beside
-    (c.in_ok-add_next.ensures.reads before.0.goes_on) in
-    record {
-      along = next.handed.along;
-      few = next.few;
-      added = (views ++ next.view ∷ [], (next.handed, next.audit));
-      more = reads.more;
-      beside = reads.beside;
-    }
-
-pub returns-in_err-add_next-clause-reads : goal.returns-in_err-add_next-clause-reads
-returns-in_err-add_next-clause-reads g c =
-    reads_on _ _ _ _ _ _ _ _ _ c.records.invariant.more c.records.invariant.beside
-    (c.add_next.ensures.reads c.records.invariant.added.1.0.goes_on)
-
-pub returns-in-Ended-clause-gathered : goal.returns-in-Ended-clause-gathered
-returns-in-Ended-clause-gathered g c =
-    let views : List View = c.records.invariant.added.0 in
-    let before = c.records.invariant.added.1 in
-    let next = rw c.in-Ended.is at c.in_ok-add_next.ensures.next views before.0 before.1 in
-    (views, rw (← c.offset-bytes.ensures) at next.0)
-
-pub returns-in-Ended-clause-reads : goal.returns-in-Ended-clause-reads
-returns-in-Ended-clause-reads g c =
-    reads_on _ _ _ _ _ _ _ _ _ c.records.invariant.more c.records.invariant.beside
-    (c.add_next.ensures.reads c.records.invariant.added.1.0.goes_on)
+pub returns-in-Ok-clause-gathered : goal.returns-in-Ok-clause-gathered
+returns-in-Ok-clause-gathered g c =
+    let read : BytesRead = g.R.Source.read c.gather_selected.new.source in
+    let found = c.in-Ok.found in
+    let o = c.in-Ok.ensures.gathered in (
+      o.0,
+      subst (λ (scope : Scope). IsGatheredIn scope found.audit found.end found.bytes read o.0) asked_all o.1.all,
+    )

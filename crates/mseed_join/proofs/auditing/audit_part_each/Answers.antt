@@ -1,5 +1,6 @@
 use Rattle.std.proofs.Common.{take}
 use Rattle.mseed_stream.specs.Device.{BytesRead}
+use Rattle.mseed_audit.specs.Scope.{whole}
 use Rattle.mseed_audit.proofs.Gathers.{memory_short}
 use Rattle.mseed_stream.proofs.Calls.{writes_on}
 use Rattle.mseed_join.proofs.Parting.{reported_cut_off, reported_written}
@@ -9,7 +10,7 @@ pub returns-in-Err-clause-outcome : goal.returns-in-Err-clause-outcome
 returns-in-Err-clause-outcome g c =
     let found = c.in_ok-audit.ensures.reported in
     let lines = found.1.1 in
-    memory_short (g.R.Source.read c.gather_each.new.source) (g.W.Sink.written c.args.sink.now)
+    memory_short whole (g.R.Source.read c.gather_each.new.source) (g.W.Sink.written c.args.sink.now)
     (g.W.Sink.written c.gather_each.new.sink) c.gather_each.new.text.items lines.all.all.offset found.0 found.1.0
     lines.all.all.records lines.fine lines.lines lines.are_reported
 

@@ -16,4 +16,4 @@ returns-in-Ok g c = λ h views found.
     c.in-Ok.ensures.ok c.added-records.ensures (ap length c.as_slice-in-Ok.ensures)
     (c.count_broken.ensures
     ∙ ap (λ (cs : List (List ℕ × Channel)). broken_count (map verdict_at cs)) c.as_slice-in-Ok-2.ensures)
-    refl
+    c.is_some.ensures refl

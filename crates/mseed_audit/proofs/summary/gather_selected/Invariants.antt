@@ -2,16 +2,15 @@ use Rattle.std.proofs.Common.{◌≡◌, ◌+◌, ◌-◌, ◌^◌, ◌≤◌, L
 use Rattle.mseed_record.specs.View.{View}
 use Rattle.mseed_stream.specs.Cutting.{IsAlong, TellsMore}
 use Rattle.mseed_stream.specs.Walk.{HasHandedOut}
-use Rattle.mseed_audit.specs.Channels.{added_from}
-use Rattle.mseed_audit.specs.Audit.{IsAuditOf}
-use Rattle.mseed_audit.proofs.summary.gather.Given as goal
+use Rattle.mseed_audit.specs.private.Gathered.{IsJudged}
+use Rattle.mseed_audit.proofs.summary.gather_selected.Given as goal
 
 abbrev pub invariant-records : goal.invariant-records
 invariant-records g l = record {
   along : IsAlong (g.R.Source.read l.source) l.cutter;
   few : l.audit.added ≤ (g.R.Source.read l.source).calls;
-  added : (views : List View) × (HasHandedOut (g.R.Source.read l.source) l.cutter views
-      × IsAuditOf l.audit (added_from 0 views));
+  judged : (views : List View) × (HasHandedOut (g.R.Source.read l.source) l.cutter views
+      × IsJudged (g.C.Choice.selection l.fn.choice) l.audit l.passed views);
   more : TellsMore (g.R.Source.read l.fn.source) (g.R.Source.read l.source) (g.R.Source.remaining l.fn.source)
       (g.R.Source.remaining l.source);
   beside : g.R.Source.beside l.source ≡ g.R.Source.beside l.fn.source;
