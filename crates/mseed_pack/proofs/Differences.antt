@@ -1,9 +1,10 @@
 -- The differences of a series, one by one.
 use Rattle.std.proofs.Common.{◌≡◌, ◌∙◌, ℕ, zero, suc, ◌+◌, ◌<◌, ◌≤◌, List, [], ◌∷◌, length, get_or, set, refl, sym, ap}
-use Rattle.std.proofs.Common.{All, ⊎_elim, arith, eqb, false, ℤ, pos, ◌-ℤ◌}
+use Rattle.std.proofs.Common.{All, ⊎_elim, arith, eqb, false, ℤ, pos, negsuc, ◌-ℤ◌, FitsSigned, w32}
 use native.Mathlib.Numerals.{unary_clauses}
 use Rattle.std.proofs.lemmas.Bool.{cases_lt, eqb-false}
 use Rattle.std.proofs.lemmas.Grind.{get_or-set_at}
+use Rattle.std.proofs.lemmas.Int.{ints}
 use Rattle.std.proofs.lemmas.List.{get_or-set_other}
 use Rattle.std.proofs.lemmas.List.Elements.{All-get_or}
 use Rattle.mseed_steim.specs.Spelling.{IsWithin}
@@ -36,6 +37,10 @@ pub difference_fits : (xs : List ℤ) (i : ℕ) → i < length xs → All (IsWit
     → IsWithin 32 (get_or (differences xs) i (pos 0))
 difference_fits xs i inside all =
     All-get_or (IsWithin 32) (differences xs) i (pos 0) (omega (arith, inside, length-differences xs)) all
+
+pub within_fits : (z : ℤ) → IsWithin 32 z → FitsSigned w32 z
+within_fits (pos n) h = let high = h.1 in record { sfits = omega (arith, ints, high) }
+within_fits (negsuc n) h = let low = h.0 in record { sfits = omega (arith, ints, low) }
 
 pub some_items : (n : ℕ) → eqb n 0 ≡ false → 0 < n
 some_items n e = let not : n ≡ 0 → ⊥ = eqb-false n 0 e in omega (arith, not)

@@ -239,8 +239,8 @@ fills_by s xs first end n used words size p ds e order inside count long some wh
     }
 
 -- the same, of what a window holds of the samples that are left
-pub fills_from : (s : Scheme) (l : Left) (w : Window) (n used words : ℕ) (old p : List ℕ) → AreLeft l → AreFrames old
-    → HoldsDifferences l.samples.now w → w.first ≤ l.first → l.first + n ≤ w.end → length w.differences ≡ 7056
+pub fills_from : (s : Scheme) (xs : List ℤ) (l : Left) (w : Window) (n used words : ℕ) (old p : List ℕ) → AreLeft xs l
+    → AreFrames old → HoldsDifferences xs w → w.first ≤ l.first → l.first + n ≤ w.end → length w.differences ≡ 7056
     → n ≡ min (l.end - l.first) (7 * (length old / 4)) → length p ≡ length old
     → PacksRun s (take words (data_words p)) (slice_range w.differences (l.first - w.first) (l.first - w.first + n))
     (drop used (slice_range w.differences (l.first - w.first) (l.first - w.first + n)))
@@ -250,11 +250,11 @@ pub fills_from : (s : Scheme) (l : Left) (w : Window) (n used words : ℕ) (old 
     ⊎ (words ≡ length (data_words p))
     → AllByRecursion IsEmptyWord (drop words (data_words p))
     → ((k : ℕ) → k < word_count p → (k < 3) ⊎ (k % 16 ≡ 0) → code_at p k ≡ 0)
-    → Fills s l.samples.now l.first l.end n used words p
-fills_from s l w n used words old p left frames held low high room count size packed fits whole behind codes =
-    fills_by s l.samples.now l.first l.end n used words (length old) p
+    → Fills s xs l.first l.end n used words p
+fills_from s xs l w n used words old p left frames held low high room count size packed fits whole behind codes =
+    fills_by s xs l.first l.end n used words (length old) p
     (slice_range w.differences (l.first - w.first) (l.first - w.first + n))
-    (held_part l.samples.now w l.first n held low high room) left.some left.inside count size frames.long frames.whole
+    (held_part xs w l.first n held low high room) left.some left.inside count size frames.long frames.whole
     packed fits whole behind codes
 
 -- no difference of a part is too large, where none of all is

@@ -95,15 +95,15 @@ length_flat w (z ∷ zs) = omega (
 )
 
 -- some are taken, and all of them stand before the end
-pub taken : (w : Width) (left : Left) (size r count : ℕ) → r ≡ bytes_in w
-    → count ≡ min (left.end - left.first) (size / r) → AreLeft left → 64 ≤ size → size ≤ 4032
+pub taken : (w : Width) (xs : List ℤ) (left : Left) (size r count : ℕ) → r ≡ bytes_in w
+    → count ≡ min (left.end - left.first) (size / r) → AreLeft xs left → 64 ≤ size → size ≤ 4032
     → AreTaken left (record { samples = count; frames = 0 })
-taken Short left size r count e m l long short =
+taken Short xs left size r count e m l long short =
     let some = l.some in
     let most : count ≡ min (left.end - left.first) (size / 2) =
     m ∙ ap (λ (n : ℕ). min (left.end - left.first) (size / n)) e in
     record { some = omega (arith, most); within = omega (arith, most); few = omega (arith, most) }
-taken Long left size r count e m l long short =
+taken Long xs left size r count e m l long short =
     let some = l.some in
     let most : count ≡ min (left.end - left.first) (size / 4) =
     m ∙ ap (λ (n : ℕ). min (left.end - left.first) (size / n)) e in

@@ -4,6 +4,7 @@ pub mod Stretches
 pub mod Traces
 pub mod Packing
 pub mod Fitting
+pub mod Supplies
 pub mod Outcome
 pub mod ReadBack
 pub mod FewestWords

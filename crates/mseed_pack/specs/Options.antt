@@ -1,5 +1,5 @@
 -- How a series is packed.
-use Rattle.std.specs.Prelude.{ℕ, ◌==◌, nat_lt, not, is_some, if◌then◌else◌, Option, Some, None}
+use Rattle.std.specs.Prelude.{⊤, ℕ, ◌==◌, nat_lt, not, is_some, if◌then◌else◌, Option, Some, None}
 use Rattle.mseed_time.specs.Btime.{is_within}
 use Rattle.mseed_pack.specs.declared.options.Encoding.{Encoding}
 use Rattle.mseed_pack.specs.declared.options.Encoding.TheVariants.{Int16, Int32, Steim1, Steim2}
@@ -21,6 +21,13 @@ encoding_of code =
     else if code == 10 then Some Steim1
     else if code == 11 then Some Steim2
     else None
+
+-- an encoding of differences in frames: either Steim
+abbrev pub IsSteim : Encoding → Type 0
+IsSteim Int16 = ⊥
+IsSteim Int32 = ⊥
+IsSteim Steim1 = ⊤
+IsSteim Steim2 = ⊤
 
 -- the first option that can't be
 abbrev pub first_bad_option : ℕ → ℕ → ℕ → Option BadOption

@@ -1,13 +1,13 @@
 //! Records that are gathered, to be written at once.
-ghost use Rattle.std.specs.Prelude.{◌≡◌, ◌^◌, ◌<◌, ◌≤◌, length, take, drop};
+ghost use Rattle.std.specs.Prelude.{◌≡◌, ◌^◌, ◌<◌, ◌≤◌, ℤ, List, length, take, drop};
 ghost use Rattle.mseed_audit.specs.Series.{AreSteps};
 ghost use Rattle.mseed_pack.specs.private.Standing.{CanGoOn, ComesTo, StandsAt, IsStretch};
 
 use crate::options::Options;
+use crate::payload::Filler;
 use crate::record::{length_of, write_record};
-use crate::series_view::SeriesView;
+use crate::series_head::SeriesHead;
 use crate::stretch::{Stretch, first_stretch, next_stretch};
-use crate::window::Window;
 
 /// How far a packing has come: so many records hold so many samples. The next one stands in the stretch, or behind it.
 #[derive(Clone, Copy)]
@@ -20,7 +20,7 @@ pub(crate) struct Place {
 /// A series, and how it is packed.
 #[derive(Clone, Copy)]
 pub(crate) struct Job<'a> {
-    pub(crate) series: &'a SeriesView<'a>,
+    pub(crate) head: &'a SeriesHead<'a>,
     pub(crate) options: &'a Options,
 }
 
@@ -32,24 +32,34 @@ pub(crate) struct Batch {
 }
 
 /// The place before the first record.
-pub(crate) fn first_place(series: &SeriesView) -> Place
-    requires { AreSteps (length series.now.samples.now) series.now.steps.now }
-    ensures standing { StandsAt series.now.steps.now (length series.now.samples.now) result }
+pub(crate) fn first_place(head: &SeriesHead) -> Place
+    requires { AreSteps head.now.count head.now.steps.now }
+    ensures standing { StandsAt head.now.steps.now head.now.count result }
     ensures number { result.number ≡ 0 }
     ensures first { result.first ≡ 0 }
 {
     Place {
-        stretch: first_stretch(series.steps, series.samples.len()),
+        stretch: first_stretch(head.steps, head.count),
         number: 0,
         first: 0,
     }
 }
 
 /// Gathers records from a place on, one behind another, until no sample is left or no room for a record.
-pub(crate) fn gather(job: &Job, place: Place, window: &mut Window, out: &mut [u8]) -> Batch
-    requires on { CanGoOn job.now place window.old }
+pub(crate) fn gather<S, F: Filler<S>>(
+    job: &Job,
+    place: Place,
+    filler: &mut F,
+    supply: &mut S,
+    out: &mut [u8],
+) -> Batch
+    requires on { (samples : List ℤ) × CanGoOn F.stands job.now filler.old supply.old place samples }
     requires long { 4096 ≤ length out.old }
-    ensures to { ComesTo job.now place result.next window.new (take result.bytes out.new) }
+    ensures to { (samples : List ℤ) → CanGoOn F.stands job.now filler.old supply.old place samples
+        → ComesTo F.stands job.now filler.new supply.new place result.next (take result.bytes out.new) samples }
+    ensures standing { StandsAt job.now.head.now.steps.now job.now.head.now.count result.next }
+    ensures some { place.first < result.next.first }
+    ensures beside { F.beside supply.new ≡ F.beside supply.old }
     ensures within { result.bytes ≤ length out.new }
     ensures behind { drop result.bytes out.new ≡ drop result.bytes out.old }
 {
@@ -57,23 +67,34 @@ pub(crate) fn gather(job: &Job, place: Place, window: &mut Window, out: &mut [u8
     let mut next = place;
     let mut bytes = 0;
     while length <= out.len() - bytes {
-        if next.first == job.series.samples.len() {
+        if next.first == job.head.count {
             return Batch { bytes, next };
         }
-        next = put_record(job, next, window, &mut out[bytes..bytes + length]);
+        next = put_record(job, next, filler, supply, &mut out[bytes..bytes + length]);
         bytes += length;
     }
     Batch { bytes, next }
 }
 
 /// Puts the record at a place, and answers the place behind it.
-fn put_record(job: &Job, place: Place, window: &mut Window, out: &mut [u8]) -> Place
-    requires on { CanGoOn job.now place window.old }
+fn put_record<S, F: Filler<S>>(
+    job: &Job,
+    place: Place,
+    filler: &mut F,
+    supply: &mut S,
+    out: &mut [u8],
+) -> Place
+    requires on { (samples : List ℤ) × CanGoOn F.stands job.now filler.old supply.old place samples }
     requires size { length out.old ≡ 2 ^ job.now.options.now.exponent }
-    ensures { ComesTo job.now place result window.new out.new }
+    ensures to { (samples : List ℤ) → CanGoOn F.stands job.now filler.old supply.old place samples
+        → ComesTo F.stands job.now filler.new supply.new place result out.new samples }
+    ensures standing { StandsAt job.now.head.now.steps.now job.now.head.now.count result }
+    ensures some { place.first < result.first }
+    ensures beside { F.beside supply.new ≡ F.beside supply.old }
 {
-    let stretch = stretch_at(job.series, place.stretch, place.first);
-    let count = write_record(job, stretch, place.number, place.first, window, out);
+    let stretch = stretch_at(job.head, place.stretch, place.first);
+    let place = Place { stretch, ..place };
+    let count = write_record(job, place, filler, supply, out);
     Place {
         stretch,
         number: place.number + 1,
@@ -82,18 +103,18 @@ fn put_record(job: &Job, place: Place, window: &mut Window, out: &mut [u8]) -> P
 }
 
 /// The stretch in which a sample stands: this one, or where it stands at this one's end, the next.
-fn stretch_at(series: &SeriesView, stretch: Stretch, first: usize) -> Stretch
-    requires standing { IsStretch series.now.steps.now (length series.now.samples.now) stretch }
+fn stretch_at(head: &SeriesHead, stretch: Stretch, first: usize) -> Stretch
+    requires standing { IsStretch head.now.steps.now head.now.count stretch }
     requires begun { stretch.begin ≤ first }
     requires inside { first ≤ stretch.end }
-    requires more { first < length series.now.samples.now }
-    ensures standing { IsStretch series.now.steps.now (length series.now.samples.now) result }
+    requires more { first < head.now.count }
+    ensures standing { IsStretch head.now.steps.now head.now.count result }
     ensures begun { result.begin ≤ first }
     ensures inside { first < result.end }
-    ensures most { result.end ≤ length series.now.samples.now }
+    ensures most { result.end ≤ head.now.count }
 {
     if first == stretch.end {
-        next_stretch(series.steps, series.samples.len(), stretch)
+        next_stretch(head.steps, head.count, stretch)
     } else {
         stretch
     }

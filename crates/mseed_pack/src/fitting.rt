@@ -1,6 +1,6 @@
 //! Whether a series can be packed.
-ghost use Rattle.std.specs.Prelude.{◌≡◌, ◌↔◌, ◌<◌, ◌≤◌, ◌*◌, ℕ, IsTrue, OnOk, IfErr, IfSome, IfNone, None, All};
-ghost use Rattle.std.specs.Prelude.{length, pos, slice_index_or, ◌^◌, nat_abs, ◌+ℤ◌, ◌-ℤ◌, ◌<ℤ◌, ◌≢◌, FitsSigned};
+ghost use Rattle.std.specs.Prelude.{◌≡◌, ◌↔◌, ◌<◌, ◌≤◌, ◌*◌, ℕ, ℤ, IsTrue, OnOk, IfErr, IfSome, IfNone, None, All};
+ghost use Rattle.std.specs.Prelude.{List, length, pos, slice_index_or, ◌^◌, nat_abs, ◌+ℤ◌, ◌-ℤ◌, ◌<ℤ◌, ◌≢◌, FitsSigned};
 ghost use Rattle.std.specs.Int.{w16};
 ghost use Rattle.mseed_time.specs.Btime.{IsInstant};
 ghost use Rattle.mseed_time.specs.Naming.{IsOutside};
@@ -11,11 +11,14 @@ ghost use Rattle.mseed_pack.specs.Stretches.{differences};
 ghost use Rattle.mseed_pack.specs.private.Filling.{IsUnder};
 ghost use Rattle.mseed_pack.specs.Fitting.{Fits, IsDifferenceOf, IsFirstNot, IsMisfit, IsSampleOf};
 ghost use Rattle.mseed_pack.specs.Outcome.{IsTrace};
-ghost use Rattle.mseed_pack.specs.Traces.{trace_of};
+ghost use Rattle.mseed_pack.specs.declared.options.Options.{Options};
+ghost use Rattle.mseed_pack.specs.Traces.{headed, trace_of};
+ghost use Rattle.mseed_pack.specs.private.Heads.{IsHeadFit};
 
 use crate::clock::time_at;
 use crate::fault::PackFault;
 use crate::options::{Encoding, Options};
+use crate::series_head::SeriesHead;
 use crate::series_view::SeriesView;
 use crate::stretch::{Stretch, first_stretch, next_stretch};
 use mseed_audit::Series;
@@ -98,26 +101,59 @@ fn know_rate(rate: Rate)
     ensures multiplier_counts { rate.multiplier ≢ pos 0 }
 {}
 
+/// Whether a series that begins so can be packed, but for its samples: with any that the encoding holds, it can.
+///
+/// # Errors
+///
+/// The first reason why it can't, whatever its samples are: it's empty; it has more than 500,000 samples a second; a
+/// sample's instant, once it is rounded to a ten-thousandth of a second, lies in no year from 1900 to 2100.
+pub fn fit_head(head: &SeriesHead) -> Result<(), PackFault>
+    requires steps { AreSteps head.now.count head.now.steps.now }
+    ensures fits { OnOk result ((samples : List ℤ) (options : Options) → length samples ≡ head.now.count
+        → All (IsSampleOf options.encoding) samples → All (IsDifferenceOf options.encoding) (differences samples)
+        → Fits (headed head.now samples) options) }
+    ensures fault { IfErr result (λ fault. (samples : List ℤ) (options : Options) → length samples ≡ head.now.count
+        → IsMisfit (headed head.now samples) options fault) }
+{
+    match head_misfit(head) {
+        Some(fault) => Err(fault),
+        None => Ok(()),
+    }
+}
+
+/// The first reason why a series that begins so can't be packed, whatever its samples are.
+fn head_misfit(head: &SeriesHead) -> Option<PackFault>
+    requires { AreSteps head.now.count head.now.steps.now }
+    ensures none { IfNone result ((samples : List ℤ) → length samples ≡ head.now.count
+        → IsHeadFit (headed head.now samples)) }
+    ensures some { IfSome result (λ fault. (samples : List ℤ) (options : Options) → length samples ≡ head.now.count
+        → IsMisfit (headed head.now samples) options fault) }
+{
+    if head.count == 0 {
+        return Some(PackFault::Empty);
+    }
+    if is_too_fast(head.rate) {
+        return Some(PackFault::RateTooHigh);
+    }
+    if has_time_outside(head.start, head.rate, head.steps, head.count) {
+        return Some(PackFault::TimeOutOfRange);
+    }
+    None
+}
+
 /// The first reason why a series can't be packed.
 fn misfit(series: &SeriesView, options: &Options) -> Option<PackFault>
     requires { AreSteps (length series.now.samples.now) series.now.steps.now }
     ensures none { IfNone result (Fits (trace_of series.now) options.now) }
     ensures some { IfSome result (λ fault. IsMisfit (trace_of series.now) options.now fault) }
 {
-    let samples = series.samples;
-    if samples.is_empty() {
-        return Some(PackFault::Empty);
+    if let Some(fault) = head_misfit(&series.head()) {
+        return Some(fault);
     }
-    if is_too_fast(series.rate) {
-        return Some(PackFault::RateTooHigh);
-    }
-    if has_time_outside(series.start, series.rate, series.steps, samples.len()) {
-        return Some(PackFault::TimeOutOfRange);
-    }
-    if let Some(index) = first_large_sample(samples, options.encoding) {
+    if let Some(index) = first_large_sample(series.samples, options.encoding) {
         return Some(PackFault::SampleTooLarge(index));
     }
-    if let Some(index) = first_large_difference(samples, options.encoding) {
+    if let Some(index) = first_large_difference(series.samples, options.encoding) {
         return Some(PackFault::DifferenceTooLarge(index));
     }
     None

@@ -1,16 +1,16 @@
 //! Samples as Steim frames.
-ghost use Rattle.std.specs.Prelude.{◌≡◌, ℕ, ◌+◌, ◌-◌, ◌*◌, ◌/◌, ◌%◌, ◌^◌, ◌<◌, ◌≤◌, ◌==◌, if◌then◌else◌, length, All};
-ghost use Rattle.std.specs.Prelude.{pos, slice_index_or, slice_range};
+ghost use Rattle.std.specs.Prelude.{◌≡◌, ℕ, ℤ, List, ◌+◌, ◌-◌, ◌*◌, ◌/◌, ◌%◌, ◌<◌, ◌≤◌, ◌==◌, if◌then◌else◌, length, min};
+ghost use Rattle.std.specs.Prelude.{pos, slice_index_or};
 ghost use Rattle.mseed_steim.specs.Frames.{word_at};
-ghost use Rattle.mseed_steim.specs.Spelling.{IsWithin};
-ghost use Rattle.mseed_pack.specs.private.Filling.{AreFrames, AreLeft, AreSet, AreTaken, HoldsDifferences, width_of};
-ghost use Rattle.mseed_pack.specs.Packing.{HoldsFrames};
-ghost use Rattle.mseed_pack.specs.Stretches.{differences};
+ghost use Rattle.mseed_pack.specs.private.Filling.{AreFrames, AreLeft, AreSet, AreTaken, GoesOn, Holds, HoldsInFrames};
+ghost use Rattle.mseed_pack.specs.private.Filling.{Begins, Runs, width_of};
 
-use crate::payload::{Filled, Left};
+use crate::options::Encoding;
+use crate::payload::{Filled, Filler, Left};
+use crate::supply::Supply;
 use crate::window::Window;
 use byteorder::{BigEndian, ByteOrder};
-use mseed_steim::{Packed, Scheme, pack_words};
+use mseed_steim::{Scheme, pack_words};
 
 /// Bytes of a word.
 const WORD: usize = 4;
@@ -18,93 +18,149 @@ const WORD: usize = 4;
 /// The most differences that a word holds.
 const MOST: usize = 7;
 
+/// What frames are filled from: the differences that were taken, and the sample before the next one. Before all others
+/// that is the first one itself, whose difference is 0.
+#[derive(Drop)]
+pub(crate) struct Frames {
+    pub(crate) window: Window,
+    pub(crate) before: i32,
+}
+
+impl Frames {
+    /// Before any samples.
+    pub(crate) fn new() -> Frames {
+        Frames {
+            window: Window::new(),
+            before: 0,
+        }
+    }
+
+    /// Begins with the first sample of a series, whatever was filled in before.
+    pub(crate) fn begin(&mut self, first: i32)
+        ensures before { self.new.before ≡ first }
+        ensures low { self.new.window.first ≡ 0 }
+        ensures high { self.new.window.end ≡ 0 }
+    {
+        self.window.forget();
+        self.before = first;
+    }
+}
+
+impl<S: Supply> Filler<S> for Frames {
+    ghost use Rattle.mseed_pack.specs.private.Filling.{GoesOnIn};
+
+    ghost stands = { λ s supply encoding samples place. GoesOnIn S.supplies s supply encoding samples place };
+
+    ghost beside = { S.beside };
+
+    fn fill(
+        &mut self,
+        encoding: Encoding,
+        left: Left,
+        supply: &mut S,
+        payload: &mut [u8],
+    ) -> Filled {
+        match encoding {
+            Encoding::Steim1 => fill_frames(Scheme::One, left, self, supply, payload),
+            Encoding::Steim2 => fill_frames(Scheme::Two, left, self, supply, payload),
+            Encoding::Int16 | Encoding::Int32 => unreachable!(),
+        }
+    }
+}
+
 /// Packs the samples from one on, as many as there is room for, into Steim frames. Their differences are taken through
 /// the window.
-pub(crate) fn fill_frames(
+pub(crate) fn fill_frames<S: Supply>(
     scheme: Scheme,
-    left: &Left,
-    window: &mut Window,
+    left: Left,
+    frames: &mut Frames,
+    supply: &mut S,
     payload: &mut [u8],
 ) -> Filled
-    requires left { AreLeft left.now }
     requires frames { AreFrames payload.old }
-    requires fits { All (IsWithin (width_of scheme)) (differences left.now.samples.now) }
-    requires held { HoldsDifferences left.now.samples.now window.old }
-    ensures held { HoldsDifferences left.now.samples.now window.new }
-    ensures holds { HoldsFrames scheme (slice_range (differences left.now.samples.now) left.now.first left.now.end)
-        (slice_range left.now.samples.now left.now.first (left.now.first + result.samples)) result.frames payload.new }
-    ensures taken { AreTaken left.now result }
+    requires left { (samples : List ℤ) × (GoesOn S.supplies frames.old supply.old (width_of scheme) samples left.first
+        × AreLeft samples left) }
+    ensures filled { (samples : List ℤ) → GoesOn S.supplies frames.old supply.old (width_of scheme) samples left.first
+        → AreLeft samples left → HoldsInFrames scheme samples left result payload.new
+        × GoesOn S.supplies frames.new supply.new (width_of scheme) samples (left.first + result.samples) }
+    ensures taken { AreTaken left result }
+    ensures beside { S.beside supply.new ≡ S.beside supply.old }
 {
     let count = (left.end - left.first).min(MOST * (payload.len() / WORD));
-    window.hold(left.samples, left.first, count);
-    let at = left.first - window.first;
-    match pack_words(scheme, &window.differences[at..at + count], payload) {
-        Ok(packed) => finish(left.samples, left.first, packed, payload),
+    frames.window.hold(supply, left.first, count);
+    pack_held(scheme, left, count, frames, payload)
+}
+
+/// The same of what the window holds, which is so many of the samples that are left: all, or as many as there is room
+/// for.
+fn pack_held(
+    scheme: Scheme,
+    left: Left,
+    count: usize,
+    frames: &mut Frames,
+    payload: &mut [u8],
+) -> Filled
+    requires frames { AreFrames payload.old }
+    requires held { (samples : List ℤ) × Holds frames.old (width_of scheme) samples left count }
+    requires count { count ≡ min (left.end - left.first) (7 * (length payload.old / 4)) }
+    ensures filled { (samples : List ℤ) → Holds frames.old (width_of scheme) samples left count
+        → HoldsInFrames scheme samples left result payload.new
+        × (frames.new.before ≡ slice_index_or samples (left.first + result.samples - 1) (pos 0)) }
+    ensures taken { AreTaken left result }
+    ensures few { result.samples ≤ count }
+    ensures window { frames.new.window ≡ frames.old.window }
+{
+    let at = left.first - frames.window.first;
+    let diffs = &frames.window.differences[at..at + count];
+    match pack_words(scheme, diffs, payload) {
+        Ok(packed) => {
+            frames.before = put_ends(frames.before, &diffs[..packed.used], payload);
+            Filled {
+                samples: packed.used,
+                frames: frames_of(packed.words),
+            }
+        }
         // Each difference fits the scheme.
-        Err(_) => Filled {
-            samples: 0,
-            frames: 0,
-        },
+        Err(_) => unreachable!(),
     }
 }
 
-/// Writes the first and the last sample into the frames in which so many were packed from one on.
-fn finish(samples: &[i32], first: usize, packed: Packed, payload: &mut [u8]) -> Filled
-    requires some { 0 < packed.used }
-    requires inside { first + packed.used ≤ length samples.now }
-    requires few { packed.words ≤ 1008 }
+/// How many frames hold so many data words: 15 each, the first one two fewer.
+fn frames_of(words: usize) -> u8
+    requires { words ≤ 1008 }
+    ensures { result ≡ (words + 16) / 15 }
+{
+    ((words + 16) / 15) as u8
+}
+
+/// Writes the first and the last of the samples with these differences, the first of which is that from the sample
+/// before, into the frames in which they are packed. Answers the last.
+fn put_ends(before: i32, diffs: &[i32], payload: &mut [u8]) -> i32
+    requires some { 0 < length diffs.now }
     requires long { 64 ≤ length payload.old }
-    ensures set { AreSet payload.old payload.new (slice_index_or samples.now first (pos 0))
-        (slice_index_or samples.now (first + packed.used - 1) (pos 0)) }
-    ensures samples { result.samples ≡ packed.used }
-    ensures frames { result.frames ≡ (packed.words + 16) / 15 }
+    requires run { (samples : List ℤ) × ((place : ℕ) × Begins samples place before diffs.now) }
+    ensures { (samples : List ℤ) (place : ℕ) → Begins samples place before diffs.now
+        → AreSet payload.old payload.new (slice_index_or samples place (pos 0))
+        (slice_index_or samples (place + length diffs.now - 1) (pos 0))
+        × (result ≡ slice_index_or samples (place + length diffs.now - 1) (pos 0)) }
 {
-    let last = first + packed.used - 1;
-    put_constants(payload, samples[first], samples[last]);
-    // A frame has 15 data words, the first one two fewer.
-    let frames = (packed.words + 16) / 15;
-    Filled {
-        samples: packed.used,
-        frames: frames as u8,
-    }
+    let first = before + diffs[0];
+    let last = last_behind(first, &diffs[1..]);
+    put_constants(payload, first, last);
+    last
 }
 
-/// Writes the differences of the samples from one on.
-pub(crate) fn put_differences(samples: &[i32], first: usize, out: &mut [i32])
-    requires inside { first + length out.old ≤ length samples.now }
-    requires fits { All (IsWithin 32) (differences samples.now) }
-    ensures { out.new ≡ slice_range (differences samples.now) first (first + length out.old) }
+/// The last of the samples behind one, by their differences; that one, where there is none.
+fn last_behind(first: i32, diffs: &[i32]) -> i32
+    requires { (samples : List ℤ) × ((place : ℕ) × Runs samples place first diffs.now) }
+    ensures { (samples : List ℤ) (place : ℕ) → Runs samples place first diffs.now
+        → result ≡ slice_index_or samples (place + length diffs.now) (pos 0) }
 {
-    if out.is_empty() {
-        return;
+    let mut last = first;
+    for difference in diffs {
+        last += *difference;
     }
-    out[0] = difference_at(samples, first);
-    for index in 1..out.len() {
-        out[index] = difference_behind(samples, first + index);
-    }
-}
-
-/// The difference of a sample from the one before it; of the first one, 0.
-fn difference_at(samples: &[i32], index: usize) -> i32
-    requires inside { index < length samples.now }
-    requires fits { IsWithin 32 (slice_index_or (differences samples.now) index (pos 0)) }
-    ensures { result ≡ slice_index_or (differences samples.now) index (pos 0) }
-{
-    if index == 0 {
-        0
-    } else {
-        difference_behind(samples, index)
-    }
-}
-
-/// The difference of a sample from the one that stands before it.
-fn difference_behind(samples: &[i32], index: usize) -> i32
-    requires some { 0 < index }
-    requires inside { index < length samples.now }
-    requires fits { IsWithin 32 (slice_index_or (differences samples.now) index (pos 0)) }
-    ensures { result ≡ slice_index_or (differences samples.now) index (pos 0) }
-{
-    samples[index] - samples[index - 1]
+    last
 }
 
 /// Writes the first and the last sample into the words 1 and 2 of some frames.

@@ -26,20 +26,20 @@ fn bytes_in(width: Width) -> usize
 }
 
 /// Writes the samples from one on, as many as there is room for, as big-endian integers, and zeros behind them.
-pub(crate) fn fill_integers(width: Width, left: &Left, payload: &mut [u8]) -> Filled
-    requires left { AreLeft left.now }
+pub(crate) fn fill_integers(width: Width, samples: &[i32], left: Left, payload: &mut [u8]) -> Filled
+    requires left { AreLeft samples.now left }
     requires frames { AreFrames payload.old }
-    requires fits { All (IsWithin (8 * bytes_in width)) left.now.samples.now }
-    ensures holds { HoldsIntegers (bytes_in width) (left.now.end - left.now.first)
-        (slice_range left.now.samples.now left.now.first (left.now.first + result.samples)) result.frames payload.new }
-    ensures taken { AreTaken left.now result }
+    requires fits { All (IsWithin (8 * bytes_in width)) samples.now }
+    ensures holds { HoldsIntegers (bytes_in width) (left.end - left.first)
+        (slice_range samples.now left.first (left.first + result.samples)) result.frames payload.new }
+    ensures taken { AreTaken left result }
 {
     let bytes = bytes_in(width);
     let count = (left.end - left.first).min(payload.len() / bytes);
     for index in 0..count {
         put_sample(
             width,
-            left.samples,
+            samples,
             left.first + index,
             &mut payload[bytes * index..],
         );

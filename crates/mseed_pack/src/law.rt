@@ -23,9 +23,10 @@ ghost use Rattle.mseed_pack.specs.ReadBack.{Packed, ReadsAs, StandsIn, records_o
 ghost use Rattle.mseed_pack.specs.Traces.{trace_of};
 
 use crate::batch::{Job, first_place, gather};
+use crate::listed::Listed;
 use crate::options::Options;
+use crate::payloads::Payloads;
 use crate::series_view::SeriesView;
-use crate::window::Window;
 use mseed_audit::{continuous_exactly, one_series};
 use mseed_record::header_reads_back;
 use mseed_steim::{one_packing as one_run, one_reading, packed_spells};
@@ -57,11 +58,17 @@ pub fn a_packing_exists(series: &SeriesView, options: &Options)
     ensures { (records : List (List ℕ)) × IsPacking (trace_of series.now) options.now records }
 {
     let mut records = [0; LONGEST];
-    let mut window = Window::new();
-    let job = Job { series, options };
-    let mut place = first_place(series);
-    while place.first < series.samples.len() {
-        place = gather(&job, place, &mut window, &mut records).next;
+    let mut payloads = Payloads::new();
+    let mut list = Listed::of(series.samples);
+    let head = series.head();
+    payloads.begin(head.first);
+    let job = Job {
+        head: &head,
+        options,
+    };
+    let mut place = first_place(&head);
+    while place.first < head.count {
+        place = gather(&job, place, &mut payloads, &mut list, &mut records).next;
     }
 }
 

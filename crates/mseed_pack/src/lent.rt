@@ -1,15 +1,17 @@
 //! Packing into a room that the caller lends.
-ghost use Rattle.std.specs.Prelude.{◌≡◌, ◌≤◌, ◌<◌, ◌++◌, List, ℕ, length, take, drop};
+ghost use Rattle.std.specs.Prelude.{◌≡◌, ◌≤◌, ◌<◌, ◌++◌, List, ℤ, length, take, drop};
 ghost use Rattle.mseed_audit.specs.Series.{AreSteps};
 ghost use Rattle.mseed_pack.specs.Fitting.{Fits};
 ghost use Rattle.mseed_pack.specs.Outcome.{FillsRoom};
-ghost use Rattle.mseed_pack.specs.private.Standing.{CanGoOn, ComesTo};
+ghost use Rattle.mseed_pack.specs.private.Filling.{StandsInList};
+ghost use Rattle.mseed_pack.specs.private.Standing.{CanGoOn, IsFilledTo, StandsAt};
 ghost use Rattle.mseed_pack.specs.Traces.{trace_of};
 
 use crate::batch::{Batch, Job, Place, first_place, gather};
+use crate::listed::Listed;
 use crate::options::Options;
+use crate::payloads::Payloads;
 use crate::series_view::SeriesView;
-use crate::window::Window;
 
 /// The bytes of the longest record.
 const LONGEST: usize = 4096;
@@ -23,13 +25,19 @@ pub fn pack_into(series: &SeriesView, options: &Options, room: &mut [u8]) -> u64
     ensures { FillsRoom (trace_of series.now) options.now result room.old room.new }
 {
     let mut records = [0; LONGEST];
-    let mut window = Window::new();
-    let job = Job { series, options };
-    let mut place = first_place(series);
+    let mut payloads = Payloads::new();
+    let mut list = Listed::of(series.samples);
+    let head = series.head();
+    payloads.begin(head.first);
+    let job = Job {
+        head: &head,
+        options,
+    };
+    let mut place = first_place(&head);
     let mut filled = 0;
-    while place.first < series.samples.len() {
+    while place.first < head.count {
         let left = &mut room[filled..];
-        let batch = fill_on(&job, place, &mut window, &mut records, left);
+        let batch = fill_on(&job, place, &mut payloads, &mut list, &mut records, left);
         filled += batch.bytes.min(room.len() - filled);
         place = batch.next;
     }
@@ -40,20 +48,22 @@ pub fn pack_into(series: &SeriesView, options: &Options, room: &mut [u8]) -> u64
 fn fill_on(
     job: &Job,
     place: Place,
-    window: &mut Window,
+    payloads: &mut Payloads,
+    list: &mut Listed,
     records: &mut [u8],
     room: &mut [u8],
 ) -> Batch
-    requires on { CanGoOn job.now place window.old }
+    requires on { (samples : List ℤ) × CanGoOn StandsInList job.now payloads.old list.old place samples }
     requires long { 4096 ≤ length records.old }
-    ensures { (bytes : List ℕ) × (ComesTo job.now place result.next window.new bytes
-        × (room.new ≡ take (length room.old) bytes ++ drop (length bytes) room.old)
-        × (result.bytes ≡ length bytes)) }
+    ensures to { (samples : List ℤ) → CanGoOn StandsInList job.now payloads.old list.old place samples
+        → IsFilledTo job.now payloads.new list.new place result room.old room.new samples }
+    ensures standing { StandsAt job.now.head.now.steps.now job.now.head.now.count result.next }
+    ensures some { place.first < result.next.first }
 {
     if LONGEST <= room.len() {
-        return gather(job, place, window, room);
+        return gather(job, place, payloads, list, room);
     }
-    let batch = gather(job, place, window, records);
+    let batch = gather(job, place, payloads, list, records);
     overwrite(&records[..batch.bytes], room);
     batch
 }

@@ -11,21 +11,28 @@ mod frames;
 mod integers;
 mod law;
 mod lent;
+mod listed;
 mod options;
 mod packing;
 mod payload;
+mod payloads;
 mod record;
+mod series_head;
 mod series_view;
 mod stretch;
+mod supply;
 mod window;
 
 pub use fault::PackFault;
-pub use fitting::{fit, fit_view};
+pub use fitting::{fit, fit_head, fit_view};
 pub use law::{
     a_packing_exists, a_stretch_keeps_time, a_stretch_reads_back, archive_reads_back,
     called_continuous, fewest_words, one_length, one_misfit, one_packing, one_prefix, reads_back,
 };
 pub use lent::pack_into;
+pub use listed::Listed;
 pub use options::{BadOption, Encoding, Options};
 pub use packing::{Packer, pack, pack_view};
+pub use series_head::SeriesHead;
 pub use series_view::SeriesView;
+pub use supply::Supply;

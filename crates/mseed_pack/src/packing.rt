@@ -1,5 +1,5 @@
 //! Packing a series.
-ghost use Rattle.std.specs.Prelude.{◌≡◌, ◌≤◌, IfErr, IfOk, List, length, ℕ};
+ghost use Rattle.std.specs.Prelude.{◌≡◌, ◌^◌, ◌<◌, ◌≤◌, IfErr, IfOk, List, length, ℕ, ℤ};
 ghost use Rattle.std.specs.List.{AllByRecursion};
 ghost use Rattle.mseed_stream.specs.Calls.{WritesOn};
 ghost use Rattle.mseed_audit.specs.Series.{AreSteps};
@@ -9,16 +9,23 @@ ghost use Rattle.mseed_pack.specs.Outcome.{IsOutcome, IsTrace, EmittedAll, Emitt
 ghost use Rattle.mseed_pack.specs.Packing.{IsPacking};
 ghost use Rattle.mseed_pack.specs.ReadBack.{ReadsAs};
 ghost use Rattle.mseed_pack.specs.declared.options.Encoding.TheVariants.{Steim2};
-ghost use Rattle.mseed_pack.specs.Traces.{trace_of};
+ghost use Rattle.mseed_pack.specs.Options.{IsSteim};
+ghost use Rattle.mseed_pack.specs.Supplies.{SuppliesFitting};
+ghost use Rattle.mseed_pack.specs.Traces.{headed, trace_of};
+ghost use Rattle.mseed_pack.specs.private.Standing.{CanBegin};
 
 use crate::batch::{Job, first_place, gather};
 use crate::fault::PackFault;
 use crate::fitting::fit_view;
 use crate::law::{fewest_words, reads_back};
+use crate::listed::Listed;
 use crate::options::Options;
+use crate::payload::Filler;
+use crate::payloads::Payloads;
 use crate::record::length_of;
+use crate::series_head::SeriesHead;
 use crate::series_view::SeriesView;
-use crate::window::Window;
+use crate::supply::Supply;
 use mseed_audit::Series;
 use mseed_stream::{Sink, write_all_of};
 use std::alloc::Allocator;
@@ -112,7 +119,7 @@ fn pack_if_fit<W: Sink>(
 #[derive(Drop)]
 pub struct Packer {
     records: [u8; GATHERED],
-    window: Window,
+    payloads: Payloads,
 }
 
 impl Packer {
@@ -120,7 +127,7 @@ impl Packer {
     pub fn new() -> Packer {
         Packer {
             records: [0; GATHERED],
-            window: Window::new(),
+            payloads: Payloads::new(),
         }
     }
 
@@ -146,17 +153,91 @@ impl Packer {
         ensures writes { WritesOn (W.written sink.old) (W.written sink.new) (W.contents sink.old) (W.contents sink.new)
             (W.beside sink.old) (W.beside sink.new) }
     {
-        self.window.forget();
-        let length = length_of(options);
-        let job = Job { series, options };
-        let mut place = first_place(series);
-        while place.first < series.samples.len() {
-            let batch = gather(&job, place, &mut self.window, &mut self.records);
-            if let Err(taken) = write_all_of(sink, &self.records[..batch.bytes]) {
-                return Err(u128::from(place.number) * length as u128 + taken as u128);
-            }
-            place = batch.next;
-        }
-        Ok(place.number)
+        let head = series.head();
+        let job = Job {
+            head: &head,
+            options,
+        };
+        let mut list = Listed::of(series.samples);
+        self.payloads.begin(head.first);
+        write_records(&job, &mut self.payloads, &mut list, &mut self.records, sink)
     }
+
+    /// [`Packer::pack_fitting`] in either Steim, of a series whose samples come from a supply, from the first on: what
+    /// is written is the same, and no list holds the samples. The numbers of samples before its leap seconds rise
+    /// strictly, from 1 to at most the number of samples.
+    ///
+    /// # Errors
+    ///
+    /// How many bytes the sink accepted before it failed.
+    pub fn pack_supplied<S: Supply, W: Sink>(
+        &mut self,
+        head: &SeriesHead,
+        options: &Options,
+        supply: &mut S,
+        sink: &mut W,
+    ) -> Result<u64, u128>
+        requires steim { IsSteim options.now.encoding }
+        requires steps { AreSteps head.now.count head.now.steps.now }
+        // There are samples that it supplies, and that are a series that fits.
+        requires supplied { (samples : List ℤ)
+            × SuppliesFitting S.supplies supply.old head.now options.now samples }
+        ensures ok { IfOk result (λ count. (samples : List ℤ)
+            → SuppliesFitting S.supplies supply.old head.now options.now samples
+            → EmittedAll (headed head.now samples) options.now count (W.written sink.old) (W.written sink.new)) }
+        ensures err { IfErr result (λ taken. (samples : List ℤ)
+            → SuppliesFitting S.supplies supply.old head.now options.now samples
+            → EmittedPrefix (headed head.now samples) options.now taken (W.written sink.old) (W.written sink.new)) }
+        ensures writes { WritesOn (W.written sink.old) (W.written sink.new) (W.contents sink.old) (W.contents sink.new)
+            (W.beside sink.old) (W.beside sink.new) }
+        ensures beside { S.beside supply.new ≡ S.beside supply.old }
+    {
+        know_count(head.count);
+        let job = Job { head, options };
+        let frames = &mut self.payloads.frames;
+        frames.begin(head.first);
+        write_records(&job, frames, supply, &mut self.records, sink)
+    }
+}
+
+/// A number of samples has 64 bits.
+fn know_count(count: usize)
+    ensures { count < 2 ^ 64 }
+{}
+
+/// Writes the records of a series to a sink, gathered in a room, and answers how many there are.
+///
+/// # Errors
+///
+/// How many bytes the sink accepted before it failed.
+fn write_records<S, F: Filler<S>, W: Sink>(
+    job: &Job,
+    filler: &mut F,
+    supply: &mut S,
+    room: &mut [u8],
+    sink: &mut W,
+) -> Result<u64, u128>
+    requires steps { AreSteps job.now.head.now.count job.now.head.now.steps.now }
+    requires begins { (samples : List ℤ) × CanBegin F.stands job.now filler.old supply.old samples }
+    requires long { 4096 ≤ length room.old }
+    ensures ok { IfOk result (λ count. (samples : List ℤ) → CanBegin F.stands job.now filler.old supply.old samples
+        → EmittedAll (headed job.now.head.now samples) job.now.options.now count (W.written sink.old)
+        (W.written sink.new)) }
+    ensures err { IfErr result (λ taken. (samples : List ℤ) → CanBegin F.stands job.now filler.old supply.old samples
+        → EmittedPrefix (headed job.now.head.now samples) job.now.options.now taken (W.written sink.old)
+        (W.written sink.new)) }
+    ensures writes { WritesOn (W.written sink.old) (W.written sink.new) (W.contents sink.old) (W.contents sink.new)
+        (W.beside sink.old) (W.beside sink.new) }
+    ensures beside { F.beside supply.new ≡ F.beside supply.old }
+{
+    let length = length_of(job.options);
+    let mut place = first_place(job.head);
+    while place.first < job.head.count {
+        let batch = gather(job, place, filler, supply, room);
+        if let Err(taken) = write_all_of(sink, &room[..batch.bytes]) {
+            return Err(u128::from(place.number) * length as u128 + taken as u128);
+        }
+        place = batch.next;
+    }
+    Ok(place.number)
 }

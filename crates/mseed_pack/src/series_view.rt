@@ -1,5 +1,6 @@
 //! A series where it lies.
 
+use crate::series_head::SeriesHead;
 use mseed_audit::Series;
 use mseed_record::Codes;
 use mseed_time::{LeapStep, Micros, Rate};
@@ -22,9 +23,9 @@ pub struct SeriesView<'a> {
 }
 
 impl<'a> SeriesView<'a> {
-    ghost use Rattle.std.specs.Prelude.{◌≡◌, length};
+    ghost use Rattle.std.specs.Prelude.{◌≡◌, length, pos, slice_index_or};
     ghost use Rattle.mseed_audit.specs.Series.{AreSteps};
-    ghost use Rattle.mseed_pack.specs.Traces.{trace_of};
+    ghost use Rattle.mseed_pack.specs.Traces.{headed, trace_of};
 
     /// The view of a series.
     pub fn of<A: Allocator + Copy>(series: &'a Series<A>) -> SeriesView<'a>
@@ -37,6 +38,26 @@ impl<'a> SeriesView<'a> {
             rate: series.rate(),
             samples: series.samples(),
             steps: series.steps(),
+        }
+    }
+
+    /// The series without its samples.
+    pub fn head(&self) -> SeriesHead<'a>
+        ensures trace { headed result self.now.samples.now ≡ trace_of self.now }
+        ensures count { result.count ≡ length self.now.samples.now }
+        ensures first { result.first ≡ slice_index_or self.now.samples.now 0 (pos 0) }
+    {
+        let first = match self.samples.first() {
+            Some(first) => *first,
+            None => 0,
+        };
+        SeriesHead {
+            codes: self.codes,
+            start: self.start,
+            rate: self.rate,
+            count: self.samples.len(),
+            first,
+            steps: self.steps,
         }
     }
 }

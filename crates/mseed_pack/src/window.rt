@@ -1,10 +1,8 @@
 //! A window over the differences of a series.
-ghost use Rattle.std.specs.Prelude.{◌≡◌, ℤ, ◌+◌, ◌≤◌, List, length, min, All};
-ghost use Rattle.mseed_steim.specs.Spelling.{IsWithin};
-ghost use Rattle.mseed_pack.specs.private.Filling.{HoldsDifferences};
-ghost use Rattle.mseed_pack.specs.Stretches.{differences};
+ghost use Rattle.std.specs.Prelude.{◌≡◌, ℤ, ◌+◌, ◌^◌, ◌<◌, ◌≤◌, List, length, min};
+ghost use Rattle.mseed_pack.specs.private.Filling.{Draws, HoldsDifferences};
 
-use crate::frames::put_differences;
+use crate::supply::Supply;
 
 /// How many differences a window holds: the most that are looked at for a record, of whose 1008 words none holds more
 /// than seven.
@@ -23,7 +21,8 @@ pub(crate) struct Window {
 impl Window {
     /// A window that holds nothing.
     pub(crate) fn new() -> Window
-        ensures { (samples : List ℤ) → HoldsDifferences samples result }
+        ensures first { result.first ≡ 0 }
+        ensures end { result.end ≡ 0 }
     {
         Window {
             differences: [0; ROOM],
@@ -34,57 +33,62 @@ impl Window {
 
     /// Lets go of all, so that it holds none of any samples.
     pub(crate) fn forget(&mut self)
-        ensures { (samples : List ℤ) → HoldsDifferences samples self.new }
+        ensures first { self.new.first ≡ 0 }
+        ensures end { self.new.end ≡ 0 }
     {
         self.first = 0;
         self.end = 0;
     }
 
-    /// Makes it hold the differences of so many samples from one on.
-    pub(crate) fn hold(&mut self, samples: &[i32], first: usize, count: usize)
-        requires held { HoldsDifferences samples.now self.old }
-        requires inside { first + count ≤ length samples.now }
+    /// Makes it hold the differences of so many samples from one on. It takes what it lacks from the supply, from
+    /// which its own differences came.
+    pub(crate) fn hold<S: Supply>(&mut self, supply: &mut S, first: usize, count: usize)
+        requires drawn { (samples : List ℤ) × (Draws S.supplies samples supply.old self.old first
+            × (first + count ≤ length samples) × (length samples < 2 ^ 64)) }
         requires few { count ≤ 7056 }
-        requires fits { All (IsWithin 32) (differences samples.now) }
-        ensures held { HoldsDifferences samples.now self.new }
-        ensures first { self.new.first ≤ first }
-        ensures end { first + count ≤ self.new.end }
+        ensures drawn { (samples : List ℤ) → Draws S.supplies samples supply.old self.old first
+            → first + count ≤ length samples
+            → Draws S.supplies samples supply.new self.new first × (first + count ≤ self.new.end) }
+        ensures beside { S.beside supply.new ≡ S.beside supply.old }
     {
-        if self.first <= first && first + count <= self.end {
+        if first + count <= self.end {
             return;
         }
         self.begin_at(first);
-        self.fill_up(samples);
+        self.fill_up(supply);
     }
 
-    /// Lets go of the differences before that of a sample, or of all where it holds none for that one.
+    /// Lets go of the differences before that of a sample.
     fn begin_at(&mut self, first: usize)
-        requires { self.old.end ≤ self.old.first + 7056 }
-        ensures held { (samples : List ℤ) → HoldsDifferences samples self.old → first ≤ length samples
-            → HoldsDifferences samples self.new }
+        requires few { self.old.end ≤ self.old.first + 7056 }
+        requires low { self.old.first ≤ first }
+        requires high { first ≤ self.old.end }
+        ensures held { (samples : List ℤ) → HoldsDifferences samples self.old → HoldsDifferences samples self.new }
         ensures first { self.new.first ≡ first }
+        ensures end { self.new.end ≡ self.old.end }
     {
-        if self.first <= first && first <= self.end {
-            let kept = first - self.first..self.end - self.first;
-            self.differences.copy_within(kept, 0);
-            self.first = first;
-            return;
-        }
+        let kept = first - self.first..self.end - self.first;
+        self.differences.copy_within(kept, 0);
         self.first = first;
-        self.end = first;
     }
 
-    /// Takes as many differences more as it has room for.
-    fn fill_up(&mut self, samples: &[i32])
-        requires held { HoldsDifferences samples.now self.old }
-        requires fits { All (IsWithin 32) (differences samples.now) }
-        ensures held { HoldsDifferences samples.now self.new }
+    /// Takes differences until it has no room for more, or none is left.
+    fn fill_up<S: Supply>(&mut self, supply: &mut S)
+        requires { (samples : List ℤ) × (HoldsDifferences samples self.old
+            × S.supplies supply.old samples self.old.end × (length samples < 2 ^ 64)) }
         ensures first { self.new.first ≡ self.old.first }
-        ensures end { self.new.end ≡ min (length samples.now) (self.old.first + 7056) }
+        ensures held { (samples : List ℤ) → HoldsDifferences samples self.old → S.supplies supply.old samples self.old.end
+            → HoldsDifferences samples self.new × S.supplies supply.new samples self.new.end
+            × (self.old.end ≤ self.new.end) × (min (length samples) (self.old.first + 7056) ≤ self.new.end) }
+        ensures beside { S.beside supply.new ≡ S.beside supply.old }
     {
-        let end = samples.len().min(self.first + ROOM);
-        let (held, all) = (self.end - self.first, end - self.first);
-        put_differences(samples, self.end, &mut self.differences[held..all]);
-        self.end = end;
+        while self.end - self.first < ROOM {
+            let held = self.end - self.first;
+            let count = supply.fill(&mut self.differences[held..]);
+            if count == 0 {
+                return;
+            }
+            self.end += count;
+        }
     }
 }

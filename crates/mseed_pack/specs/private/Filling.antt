@@ -1,12 +1,18 @@
 -- Steps of filling a payload.
-use Rattle.std.specs.Prelude.{◌≡◌, ℕ, ◌+◌, ◌-◌, ◌*◌, ◌%◌, ◌^◌, ◌<◌, ◌≤◌, List, length, slice_index_or, ℤ, pos}
-use Rattle.std.specs.Prelude.{neg_ℤ, ◌≤ℤ◌, ◌<ℤ◌}
+use Rattle.std.specs.Prelude.{◌≡◌, ℕ, ◌+◌, ◌-◌, ◌*◌, ◌%◌, ◌^◌, ◌<◌, ◌≤◌, List, length, slice_index_or, slice_range, ℤ}
+use Rattle.std.specs.Prelude.{pos, neg_ℤ, ◌≤ℤ◌, ◌<ℤ◌, All}
 use Rattle.byteorder.specs.Endian.{big_bytes}
-use Rattle.mseed_steim.specs.Spelling.{residue}
+use Rattle.mseed_steim.specs.Spelling.{IsWithin, residue}
+use Rattle.mseed_pack.specs.declared.frames.Frames.{Frames}
 use Rattle.mseed_pack.specs.declared.integers.Width.{Width}
+use Rattle.mseed_pack.specs.declared.listed.Listed.{Listed}
+use Rattle.mseed_pack.specs.declared.options.Encoding.{Encoding}
+use Rattle.mseed_pack.specs.declared.options.Encoding.TheVariants.{Int16, Int32, Steim1, Steim2}
 use Rattle.mseed_pack.specs.declared.payload.Filled.{Filled}
 use Rattle.mseed_pack.specs.declared.payload.Left.{Left}
+use Rattle.mseed_pack.specs.declared.payloads.Payloads.{Payloads}
 use Rattle.mseed_pack.specs.declared.window.Window.{Window}
+use Rattle.mseed_pack.specs.Packing.{HoldsFrames, HoldsSamples}
 use Rattle.mseed_pack.specs.Stretches.{differences}
 use Rattle.mseed_pack.specs.declared.integers.Width.TheVariants.{Two as Short, Four as Long}
 use Rattle.mseed_steim.specs.declared.scheme.Scheme.{Scheme}
@@ -47,9 +53,9 @@ abbrev pub IsUnder : ℤ → ℤ → Type 0
 IsUnder limit z = (neg_ℤ limit ≤ℤ z) × (z <ℤ limit)
 
 -- some are left
-pub record AreLeft (left : Left) : Type 0 where
+pub record AreLeft (samples : List ℤ) (left : Left) : Type 0 where
   pub some : left.first < left.end
-  pub inside : left.end ≤ length left.samples.now
+  pub inside : left.end ≤ length samples
 
 -- frames, as a record's payload has them
 pub record AreFrames (payload : List ℕ) : Type 0 where
@@ -62,3 +68,83 @@ pub record AreTaken (left : Left) (filled : Filled) : Type 0 where
   pub some : 0 < filled.samples
   pub within : left.first + filled.samples ≤ left.end
   pub few : filled.samples < 2 ^ 16
+
+-- the payload holds so many of those that are left, as the encoding has them
+abbrev pub IsFilled : Encoding → List ℤ → Left → Filled → List ℕ → Type 0
+IsFilled encoding samples left filled payload =
+    HoldsSamples encoding (slice_range (differences samples) left.first left.end)
+    (slice_range samples left.first (left.first + filled.samples)) filled.frames payload
+
+-- the same, in frames
+abbrev pub HoldsInFrames : Scheme → List ℤ → Left → Filled → List ℕ → Type 0
+HoldsInFrames scheme samples left filled payload =
+    HoldsFrames scheme (slice_range (differences samples) left.first left.end)
+    (slice_range samples left.first (left.first + filled.samples)) filled.frames payload
+
+-- a list of these samples, of which so many were given, supplies their differences
+pub record IsListed (list : Listed) (samples : List ℤ) (given : ℕ) : Type 0 where
+  pub samples_are : list.samples.now ≡ samples
+  pub given_is : list.given ≡ given
+  pub inside : given ≤ length samples
+  pub fits : All (IsWithin 32) (differences samples)
+
+-- the window holds differences of the samples around a place, and the supply goes on behind them
+pub record Draws {S : Type 0} (supplies : S → List ℤ → ℕ → Type 0) (samples : List ℤ) (supply : S) (window : Window)
+    (place : ℕ) : Type 0 where
+  pub held : HoldsDifferences samples window
+  pub supplied : supplies supply samples window.end
+  pub low : window.first ≤ place
+  pub high : place ≤ window.end
+
+-- frames go on at a place of the samples, whose differences have at most so many bits
+pub record GoesOn {S : Type 0} (supplies : S → List ℤ → ℕ → Type 0) (frames : Frames) (supply : S) (width : ℕ)
+    (samples : List ℤ) (place : ℕ) : Type 0 where
+  pub draws : Draws supplies samples supply frames.window place
+  pub before : frames.before ≡ slice_index_or samples (place - 1) (pos 0)
+  pub fit : All (IsWithin 32) samples
+  pub differences_fit : All (IsWithin width) (differences samples)
+  pub few : length samples < 2 ^ 64
+
+-- frames hold differences of some of the samples that are left, so many from the first on
+pub record Holds (frames : Frames) (width : ℕ) (samples : List ℤ) (left : Left) (count : ℕ) : Type 0 where
+  pub held : HoldsDifferences samples frames.window
+  pub low : frames.window.first ≤ left.first
+  pub high : left.first + count ≤ frames.window.end
+  pub before : frames.before ≡ slice_index_or samples (left.first - 1) (pos 0)
+  pub fit : All (IsWithin 32) samples
+  pub differences_fit : All (IsWithin width) (differences samples)
+  pub are_left : AreLeft samples left
+
+-- frames go on so in an encoding, which is either Steim
+abbrev pub GoesOnIn : {S : Type 0} → (S → List ℤ → ℕ → Type 0) → Frames → S → Encoding → List ℤ → ℕ → Type 0
+GoesOnIn supplies frames supply Int16 samples place = ⊥
+GoesOnIn supplies frames supply Int32 samples place = ⊥
+GoesOnIn supplies frames supply Steim1 samples place = GoesOn supplies frames supply 32 samples place
+GoesOnIn supplies frames supply Steim2 samples place = GoesOn supplies frames supply 30 samples place
+
+-- a list of these samples, which have at most so many bits
+abbrev pub HasIntegers : Listed → ℕ → List ℤ → Type 0
+HasIntegers list width samples = (list.samples.now ≡ samples) × All (IsWithin width) samples
+
+-- payloads go on at a place of the samples of a list
+abbrev pub StandsInList : Payloads → Listed → Encoding → List ℤ → ℕ → Type 0
+StandsInList payloads list Int16 samples place = HasIntegers list 16 samples
+StandsInList payloads list Int32 samples place = HasIntegers list 32 samples
+StandsInList payloads list Steim1 samples place = GoesOn IsListed payloads.frames list 32 samples place
+StandsInList payloads list Steim2 samples place = GoesOn IsListed payloads.frames list 30 samples place
+
+-- the differences behind a sample of this value, which has so many before it
+pub record Runs (samples : List ℤ) (place : ℕ) (value : ℤ) (diffs : List ℤ) : Type 0 where
+  pub inside : place + length diffs < length samples
+  pub fit : All (IsWithin 32) samples
+  pub value_is : value ≡ slice_index_or samples place (pos 0)
+  pub each : (k : ℕ) → k < length diffs
+      → slice_index_or diffs k (pos 0) ≡ slice_index_or (differences samples) (place + k + 1) (pos 0)
+
+-- the differences from a sample on, which has so many before it, the last of them of this value
+pub record Begins (samples : List ℤ) (place : ℕ) (before : ℤ) (diffs : List ℤ) : Type 0 where
+  pub inside : place + length diffs ≤ length samples
+  pub fit : All (IsWithin 32) samples
+  pub before_is : before ≡ slice_index_or samples (place - 1) (pos 0)
+  pub each : (k : ℕ) → k < length diffs
+      → slice_index_or diffs k (pos 0) ≡ slice_index_or (differences samples) (place + k) (pos 0)

@@ -1,17 +1,22 @@
 -- What is kept of a series' leap seconds while its samples are gone through.
-use Rattle.std.specs.Prelude.{◌≡◌, ℕ, ◌*◌, ◌^◌, ◌<◌, ◌≤◌, List, [], ◌∷◌, ◌++◌, length, nat_abs}
+use Rattle.std.specs.Prelude.{◌≡◌, ℕ, ◌+◌, ◌*◌, ◌^◌, ◌<◌, ◌≤◌, ℤ, List, [], ◌∷◌, ◌++◌, length, nat_abs}
+use Rattle.std.specs.Prelude.{slice_range, take, drop}
 use Rattle.std.specs.List.{AllByRecursion}
 use Rattle.mseed_time.specs.declared.outcome.LeapStep.{LeapStep}
 use Rattle.mseed_audit.specs.Series.{AreStepsFrom}
+use Rattle.mseed_pack.specs.declared.batch.Batch.{Batch}
 use Rattle.mseed_pack.specs.declared.batch.Job.{Job}
 use Rattle.mseed_pack.specs.declared.batch.Place.{Place}
+use Rattle.mseed_pack.specs.declared.options.Encoding.{Encoding}
+use Rattle.mseed_pack.specs.declared.listed.Listed.{Listed}
+use Rattle.mseed_pack.specs.declared.payloads.Payloads.{Payloads}
 use Rattle.mseed_pack.specs.declared.stretch.Stretch.{Stretch}
-use Rattle.mseed_pack.specs.declared.window.Window.{Window}
 use Rattle.mseed_pack.specs.Clock.{added_before}
 use Rattle.mseed_pack.specs.Fitting.{Fits}
 use Rattle.mseed_pack.specs.Outcome.{PacksOn}
-use Rattle.mseed_pack.specs.Traces.{trace_of}
-use Rattle.mseed_pack.specs.private.Filling.{HoldsDifferences}
+use Rattle.mseed_pack.specs.Packing.{IsPacked}
+use Rattle.mseed_pack.specs.Traces.{headed}
+use Rattle.mseed_pack.specs.private.Filling.{StandsInList}
 
 -- how many samples stand before the first of these leap seconds; all, where there's none
 abbrev pub end_by : List (ℕ × LeapStep) → ℕ → ℕ
@@ -38,17 +43,44 @@ pub record StandsAt (steps : List (ℕ × LeapStep)) (size : ℕ) (place : Place
   pub inside : place.first ≤ size
   pub counted : place.number ≤ place.first
 
--- there is more to pack behind a place, and the window holds differences of the samples
-pub record CanGoOn (job : Job) (place : Place) (window : Window) : Type 0 where
-  pub fits : Fits (trace_of job.series.now) job.options.now
-  pub standing : StandsAt job.series.now.steps.now (length job.series.now.samples.now) place
-  pub more : place.first < length job.series.now.samples.now
-  pub few : length job.series.now.samples.now < 2 ^ 63
-  pub held : HoldsDifferences job.series.now.samples.now window
+-- the samples are a series that fits, and with this filler and supply it's packed from its first sample on
+pub record CanBegin {F S : Type 0} (stands : F → S → Encoding → List ℤ → ℕ → Type 0) (job : Job) (filler : F) (supply : S)
+    (samples : List ℤ) : Type 0 where
+  pub count : length samples ≡ job.head.now.count
+  pub fits : Fits (headed job.head.now samples) job.options.now
+  pub stands_first : stands filler supply job.options.now.encoding samples 0
+
+-- the samples are a series that fits, and with this filler and supply it's packed on from a place that is none of its
+-- last
+pub record CanGoOn {F S : Type 0} (stands : F → S → Encoding → List ℤ → ℕ → Type 0) (job : Job) (filler : F) (supply : S)
+    (place : Place) (samples : List ℤ) : Type 0 where
+  pub count : length samples ≡ job.head.now.count
+  pub fits : Fits (headed job.head.now samples) job.options.now
+  pub standing : StandsAt job.head.now.steps.now job.head.now.count place
+  pub more : place.first < job.head.now.count
+  pub stands_there : stands filler supply job.options.now.encoding samples place.first
 
 -- some were packed from a place to the next into these bytes
-pub record ComesTo (job : Job) (place next : Place) (window : Window) (bytes : List ℕ) : Type 0 where
-  pub held : HoldsDifferences job.series.now.samples.now window
-  pub standing : StandsAt job.series.now.steps.now (length job.series.now.samples.now) next
-  pub on : PacksOn (trace_of job.series.now) job.options.now place next bytes
-  pub some : place.first < next.first
+pub record ComesTo {F S : Type 0} (stands : F → S → Encoding → List ℤ → ℕ → Type 0) (job : Job) (filler : F) (supply : S)
+    (place next : Place) (bytes : List ℕ) (samples : List ℤ) : Type 0 where
+  pub on : PacksOn (headed job.head.now samples) job.options.now place next bytes
+  pub stands_next : stands filler supply job.options.now.encoding samples next.first
+
+-- a record holds so many of them, from a place on
+pub record IsRecorded {F S : Type 0} (stands : F → S → Encoding → List ℤ → ℕ → Type 0) (job : Job) (filler : F)
+    (supply : S) (place : Place) (count : ℕ) (bytes : List ℕ) (samples : List ℤ) : Type 0 where
+  pub packed : IsPacked (headed job.head.now samples) job.options.now (record {
+    number = place.number;
+    first = place.first;
+    samples = slice_range samples place.first (place.first + count);
+    bytes = bytes;
+  })
+  pub stands_behind : stands filler supply job.options.now.encoding samples (place.first + count)
+
+-- so many bytes of records from a place on were put over a room, as many of them as it has
+pub record IsFilledTo (job : Job) (payloads : Payloads) (list : Listed) (place : Place) (batch : Batch)
+    (old new : List ℕ) (samples : List ℤ) : Type 0 where
+  pub bytes : List ℕ
+  pub to : ComesTo StandsInList job payloads list place batch.next bytes samples
+  pub room : new ≡ take (length old) bytes ++ drop (length bytes) old
+  pub count : batch.bytes ≡ length bytes

@@ -1,4 +1,4 @@
-use Rattle.std.proofs.Common.{arith, length}
+use Rattle.std.proofs.Common.{arith}
 use Rattle.mseed_pack.proofs.Steps.{end_inside, end_most}
 use Rattle.mseed_pack.proofs.batch.stretch_at.Goals as goal
 
@@ -6,7 +6,7 @@ pub returns-then-first-stretch : goal.returns-then-first-stretch
 returns-then-first-stretch c =
     let n = c.next_stretch in
     let begin = n.ensures.begin in
-    let ends = end_inside c.args.series.now.steps.now (length c.args.series.now.samples.now) n.result n.ensures.stretch
+    let ends = end_inside c.args.head.now.steps.now c.args.head.now.count n.result n.ensures.stretch
     (omega (arith, begin, c.if-first-stretch.true, c.requires.more)) in
     record {
       standing = n.ensures.stretch;
@@ -20,5 +20,5 @@ returns-else-first-stretch c = record {
   standing = c.requires.standing;
   begun = c.requires.begun;
   inside = omega (arith, c.requires.inside, c.if-first-stretch.false);
-  most = end_most c.args.series.now.steps.now (length c.args.series.now.samples.now) c.args.stretch c.requires.standing;
+  most = end_most c.args.head.now.steps.now c.args.head.now.count c.args.stretch c.requires.standing;
 }

@@ -14,10 +14,10 @@ pub loop-index-preserved : goal.loop-index-preserved
 loop-index-preserved c =
     let w : ℕ = bytes_in c.args.width in
     let r : ℕ = c.bytes_in-bytes.result in
-    let xs = c.args.left.now.samples.now in
+    let xs = c.args.samples.now in
     let p = c.loop-index.payload in
     let index = c.loop-index.index in
-    let first = c.args.left.now.first in
+    let first = c.args.left.first in
     let old = c.args.payload.now in
     let size = length old in
     let same : r ≡ w = c.loop-index.invariant.bytes_are in
@@ -59,10 +59,10 @@ loop-index-init c =
       bytes_are = c.bytes_in-bytes.ensures;
       written = ap (λ (n : ℕ). drop n c.args.payload.now) (sym none)
           ∙ ap (λ (l : List ℕ). l ++ drop (w * 0) c.args.payload.now)
-          (sym (flat_none w c.args.left.now.samples.now c.args.left.now.first));
+          (sym (flat_none w c.args.samples.now c.args.left.first));
     }
 
 pub returns-clause-taken : goal.returns-clause-taken
 returns-clause-taken c =
-    taken c.args.width c.args.left.now (length c.args.payload.now) c.bytes_in-bytes.result c.min-count.result
+    taken c.args.width c.args.samples.now c.args.left (length c.args.payload.now) c.bytes_in-bytes.result c.min-count.result
     c.bytes_in-bytes.ensures c.min-count.ensures c.requires.left c.requires.frames.long c.requires.frames.short

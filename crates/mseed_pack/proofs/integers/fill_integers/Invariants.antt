@@ -8,6 +8,6 @@ abbrev pub invariant-loop-index : goal.invariant-loop-index
 invariant-loop-index l = record {
   bytes_are : l.bytes ≡ bytes_in l.width;
   written : l.payload ≡ flat_map (λ (z : ℤ). integer_bytes (bytes_in l.width) z)
-      (slice_range l.left.samples.now l.left.first (l.left.first + l.index))
+      (slice_range l.samples l.left.first (l.left.first + l.index))
       ++ drop (bytes_in l.width * l.index) l.fn.payload;
 }

@@ -1,73 +1,99 @@
-use Rattle.std.proofs.Common.{◌≡◌, ℕ, ◌+◌, List, ◌++◌, length, drop, sym, ap, subst, ◌∙◌, arith}
+use Rattle.std.proofs.Common.{w32, ◌≡◌, ℕ, ◌+◌, List, ◌++◌, length, drop, sym, ap, subst, ◌∙◌, arith, rules}
 use Rattle.std.proofs.Common.{ℤ, [], length-append}
 use Rattle.std.proofs.lemmas.List.{drop_all}
 use Rattle.std.specs.List.{concat}
+use Rattle.std.proofs.lemmas.Int.{to_z-of_z}
+use Rattle.mseed_audit.specs.Series.{Trace}
+use Rattle.mseed_pack.specs.Fitting.{Fits}
 use Rattle.mseed_pack.specs.Packing.{PacksUpTo}
-use Rattle.mseed_pack.specs.Traces.{trace_of}
+use Rattle.mseed_pack.specs.Traces.{headed}
+use Rattle.mseed_pack.proofs.Begun.{list_begun}
 use Rattle.mseed_pack.proofs.Growing.{concat_all, packs_none}
 use Rattle.mseed_pack.proofs.Overwritten.{over, over_none, over_more}
 use Rattle.mseed_pack.proofs.lent.pack_into.Goals as goal
 
 pub loop-place-init : goal.loop-place-init
 loop-place-init c =
+    let xs = c.args.series.now.samples.now in
     let first = c.first_place-place.ensures.first in
+    let begins = list_begun c.begin.new.self c.of-list.result c.args.options.now.encoding xs c.of-list.ensures.samples
+    c.of-list.ensures.given (search rules) (record {
+      before = c.begin.ensures.before ∙ to_z-of_z w32 _ (search rules) ∙ c.head-head.ensures.first;
+      low = c.begin.ensures.low;
+      high = c.begin.ensures.high;
+    }) c.requires.fits.samples c.requires.fits.differences_fit in
     record {
-      held = c.new-window.ensures c.args.series.now.samples.now;
       standing = c.first_place-place.ensures.standing;
+      stands_there = rw first begins;
       written = (
         [],
         (
           sym c.first_place-place.ensures.number,
-          subst (λ (n : ℕ). PacksUpTo (trace_of c.args.series.now) c.args.options.now []
-              (drop n c.args.series.now.samples.now)) (sym first)
-              (packs_none (trace_of c.args.series.now) c.args.options.now),
+          subst (λ (n : ℕ). PacksUpTo (headed c.head-head.result xs) c.args.options.now [] (drop n xs)) (sym first)
+              (packs_none (headed c.head-head.result xs) c.args.options.now),
           over_none c.args.room.now,
           omega arith,
         ),
       );
     }
 
+pub fill_on-batch-requires-clause-on : goal.fill_on-batch-requires-clause-on
+fill_on-batch-requires-clause-on c = (
+  c.args.series.now.samples.now,
+  record {
+    count = sym c.head-head.ensures.count;
+    fits = subst (λ (s : Trace). Fits s c.args.options.now) (sym c.head-head.ensures.trace) c.requires.fits;
+    standing = c.loop-place.invariant.standing;
+    more = c.loop-place-test.true;
+    stands_there = c.loop-place.invariant.stands_there;
+  },
+)
+
 pub loop-place-preserved : goal.loop-place-preserved
 loop-place-preserved c =
     let before = c.loop-place.invariant.written in
-    let on = c.fill_on-batch.ensures in
-    let packs = on.1.0.on in
+    let on = c.fill_on-batch.ensures.to c.args.series.now.samples.now (record {
+      count = sym c.head-head.ensures.count;
+      fits = subst (λ (s : Trace). Fits s c.args.options.now) (sym c.head-head.ensures.trace) c.requires.fits;
+      standing = c.loop-place.invariant.standing;
+      more = c.loop-place-test.true;
+      stands_there = c.loop-place.invariant.stands_there;
+    }) in
+    let packs = on.to.on in
+    let count = on.count in
     let p = c.loop-place.room in
     let n = c.loop-place.filled in
     let records : List (List ℕ) = before.0 ++ packs.records in
-    let all : concat records ≡ concat before.0 ++ on.0 = concat_all before.0 packs.records
+    let all : concat records ≡ concat before.0 ++ on.bytes = concat_all before.0 packs.records
     ∙ ap (λ (l : List ℕ). concat before.0 ++ l) (sym packs.bytes_are) in
-    let size : length (concat records) ≡ length (concat before.0) + length on.0 = ap (λ (l : List ℕ). length l) all
-    ∙ length-append (concat before.0) on.0 in
+    let size : length (concat records) ≡ length (concat before.0) + length on.bytes =
+    ap (λ (l : List ℕ). length l) all ∙ length-append (concat before.0) on.bytes in
     record {
-      held = on.1.0.held;
-      standing = on.1.0.standing;
+      standing = c.fill_on-batch.ensures.standing;
+      stands_there = on.to.stands_next;
       written = (
         records,
         (
           length-append before.0 packs.records ∙ ap (λ (m : ℕ). m + length packs.records) before.1.0
               ∙ sym packs.count_is,
           packs.packing before.0 before.1.0 before.1.1,
-          over_more (concat before.0) on.0 c.args.room.now p c.fill_on-batch.new.room n before.1.3 before.1.2
-              on.1.1 ∙ ap (λ (l : List ℕ). over l c.args.room.now) (sym all),
-          omega (arith, before.1.3, on.1.2, size, c.min-filled.ensures),
+          over_more (concat before.0) on.bytes c.args.room.now p c.fill_on-batch.new.room n before.1.3 before.1.2
+              on.room ∙ ap (λ (l : List ℕ). over l c.args.room.now) (sym all),
+          omega (arith, before.1.3, count, size, c.min-filled.ensures),
         ),
       );
     }
 
-pub loop-place-smaller : goal.loop-place-smaller
-loop-place-smaller c =
-    let some = c.fill_on-batch.ensures.1.0.some in
-    omega (arith, some, c.loop-place-test.true)
-
 pub returns : goal.returns
 returns c =
+    let xs = c.args.series.now.samples.now in
     let done = c.loop-place.invariant.written in
     record {
       records = done.0;
-      packing = subst (λ (l : List ℤ). PacksUpTo (trace_of c.args.series.now) c.args.options.now done.0 l)
-          (drop_all c.loop-place.place.first c.args.series.now.samples.now (omega (arith, c.loop-place-test.false)))
-          done.1.1;
+      packing = subst (λ (s : Trace). PacksUpTo s c.args.options.now done.0 []) c.head-head.ensures.trace
+          (subst (λ (l : List ℤ). PacksUpTo (headed c.head-head.result xs) c.args.options.now done.0 l)
+          (drop_all c.loop-place.place.first xs (omega (arith, c.head-head.ensures.count, c.loop-place-test.false)))
+          done.1.1);
       count_is = sym done.1.0;
       bytes = done.1.2;
     }

@@ -5,7 +5,7 @@ use Rattle.std.specs.Prelude.{slice_range}
 use Rattle.mseed_pack.specs.Stretches.{differences}
 use Rattle.mseed_pack.proofs.Differences.{difference_fits, length-differences, put_more, some_items}
 use Rattle.mseed_pack.proofs.Filled.{length_part, part_at}
-use Rattle.mseed_pack.proofs.frames.put_differences.Goals as goal
+use Rattle.mseed_pack.proofs.listed.put_differences.Goals as goal
 
 pub difference_at-requires : goal.difference_at-requires
 difference_at-requires c =

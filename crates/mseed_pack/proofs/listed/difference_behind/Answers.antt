@@ -1,10 +1,10 @@
-use Rattle.std.proofs.Common.{◌≡◌, ◌≢◌, ◌<◌, ◌+◌, ◌-◌, ℕ, ℤ, List, pos, negsuc, ◌-ℤ◌, arith, get_or, length, ap, sym}
+use Rattle.std.proofs.Common.{◌≡◌, ◌≢◌, ◌<◌, ◌+◌, ◌-◌, ℕ, ℤ, List, pos, ◌-ℤ◌, arith, get_or, length, ap, sym}
 use Rattle.std.proofs.Common.{subst, ◌∙◌, rules, FitsSigned, w32, to_z, of_z}
-use Rattle.std.proofs.lemmas.Int.{ints, to_z-of_z}
+use Rattle.std.proofs.lemmas.Int.{to_z-of_z}
 use Rattle.mseed_steim.specs.Spelling.{IsWithin}
 use Rattle.mseed_pack.specs.Stretches.{differences}
-use Rattle.mseed_pack.proofs.Differences.{difference_at}
-use Rattle.mseed_pack.proofs.frames.difference_behind.Goals as goal
+use Rattle.mseed_pack.proofs.Differences.{difference_at, within_fits}
+use Rattle.mseed_pack.proofs.listed.difference_behind.Goals as goal
 
 is : (xs : List ℤ) (index : ℕ) → index ≢ 0 → index < length xs
     → get_or (differences xs) index (pos 0) ≡ get_or xs index (pos 0) -ℤ get_or xs (index - 1) (pos 0)
@@ -15,10 +15,6 @@ is xs index some inside =
     difference_at xs i (omega (arith, place, inside)) in
     ap (λ (n : ℕ). get_or (differences xs) n (pos 0)) (sym place) ∙ at
     ∙ ap (λ (n : ℕ). get_or xs n (pos 0) -ℤ get_or xs i (pos 0)) place
-
-within_fits : (z : ℤ) → IsWithin 32 z → FitsSigned w32 z
-within_fits (pos n) h = let high = h.1 in record { sfits = omega (arith, ints, high) }
-within_fits (negsuc n) h = let low = h.0 in record { sfits = omega (arith, ints, low) }
 
 fits : (xs : List ℤ) (index : ℕ) → index ≢ 0 → index < length xs → IsWithin 32 (get_or (differences xs) index (pos 0))
     → FitsSigned w32 (get_or xs index (pos 0) -ℤ get_or xs (index - 1) (pos 0))

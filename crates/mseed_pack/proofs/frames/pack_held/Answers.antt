@@ -1,0 +1,100 @@
+use Rattle.std.proofs.Common.{◌≡◌, ◌+◌, ◌-◌, ℕ, pos, refl, rules, arith, length, get_or, sym, subst}
+use Rattle.std.proofs.Common.{ap, ◌∙◌, w32, to_z, of_z}
+use Rattle.std.specs.Prelude.{slice_range}
+use Rattle.std.proofs.lemmas.Int.{to_z-of_z}
+use Rattle.mseed_pack.specs.Packing.{HoldsFrames}
+use Rattle.mseed_pack.specs.private.Filling.{AreSet}
+use Rattle.mseed_pack.specs.Stretches.{differences}
+use Rattle.mseed_pack.proofs.Drawn.{begins_held}
+use Rattle.mseed_pack.proofs.Filled.{fills_from, held_part, holds, none_large, some_used_of, used_most}
+use Rattle.mseed_pack.proofs.Room.{words_fit}
+use Rattle.mseed_pack.proofs.frames.pack_held.Goals as goal
+
+pub unreachable-requires : goal.unreachable-requires
+unreachable-requires c =
+    let xs = c.requires.held.0 in
+    let h = c.requires.held.1 in
+    let l = c.args.left in
+    let n = c.args.count in
+    let w = c.args.frames.now.window in
+    let left = h.are_left in
+    let some = left.some in
+    let inside = left.inside in
+    let drawn = held_part xs w l.first n h.held h.low h.high (search rules) in
+    let large = (c.in-Err.ensures.refused c.in-Err.field-0.index).0 refl in
+    none_large c.args.scheme xs l.first n c.in-Err.field-0.index
+    (slice_range w.differences (l.first - w.first) (l.first - w.first + n)) drawn
+    (omega (arith, c.requires.count, some, inside)) h.differences_fit large.0.0
+
+pub put_ends-frames-requires : goal.put_ends-frames-requires
+put_ends-frames-requires c =
+    let xs = c.requires.held.0 in
+    let h = c.requires.held.1 in
+    let l = c.args.left in
+    let w = c.args.frames.now.window in
+    let used = c.in-Ok.packed.used in
+    let fills = fills_from c.args.scheme xs l w c.args.count used c.in-Ok.packed.words c.args.payload.now
+    c.pack_words.new.frames h.are_left c.requires.frames h.held h.low h.high (search rules) c.requires.count
+    (search rules) c.in-Ok.ensures.packed c.in-Ok.ensures.inside c.in-Ok.ensures.whole c.in-Ok.ensures.behind
+    c.in-Ok.ensures.codes in
+    let some = some_used_of _ _ _ _ _ _ _ _ fills in
+    let before : to_z w32 (of_z w32 c.args.frames.now.before) ≡ c.args.frames.now.before = to_z-of_z w32 _
+    (search rules) in
+    let begins = begins_held xs w (to_z w32 (of_z w32 c.args.frames.now.before)) l.first c.args.count used h.held h.low
+    h.high (search rules) (before ∙ h.before) h.fit (used_most _ _ _ _ _ _ _ _ fills) in
+    let size : length c.pack_words.new.frames ≡ length c.args.payload.now = search rules in
+    record {
+      some = omega (arith, begins.0, some.0);
+      long = omega (arith, size, c.requires.frames.long);
+      run = (xs, (l.first, begins.1));
+    }
+
+pub frames_of-requires : goal.frames_of-requires
+frames_of-requires c =
+    let inside = c.in-Ok.ensures.inside.1 in
+    let most = words_fit c.pack_words.new.frames in
+    let size : length c.pack_words.new.frames ≡ length c.args.payload.now = search rules in
+    omega (arith, inside, most, size, c.requires.frames.short)
+
+pub returns-clause-filled : goal.returns-clause-filled
+returns-clause-filled c = λ xs h.
+    let s = c.args.scheme in
+    let l = c.args.left in
+    let w = c.args.frames.now.window in
+    let used = c.in-Ok.packed.used in
+    let words = c.in-Ok.packed.words in
+    let old = c.pack_words.new.frames in
+    let new = c.put_ends-frames.new.payload in
+    let fills = fills_from s xs l w c.args.count used words c.args.payload.now old h.are_left c.requires.frames h.held
+    h.low h.high (search rules) c.requires.count (search rules) c.in-Ok.ensures.packed c.in-Ok.ensures.inside
+    c.in-Ok.ensures.whole c.in-Ok.ensures.behind c.in-Ok.ensures.codes in
+    let before : to_z w32 (of_z w32 c.args.frames.now.before) ≡ c.args.frames.now.before = to_z-of_z w32 _
+    (search rules) in
+    let begins = begins_held xs w (to_z w32 (of_z w32 c.args.frames.now.before)) l.first c.args.count used h.held h.low
+    h.high (search rules) (before ∙ h.before) h.fit (used_most _ _ _ _ _ _ _ _ fills) in
+    let put = c.put_ends-frames.ensures xs l.first begins.1 in
+    let set : AreSet old new (get_or xs l.first (pos 0)) (get_or xs (l.first + used - 1) (pos 0)) =
+    subst (λ (m : ℕ). AreSet old new (get_or xs l.first (pos 0)) (get_or xs (l.first + m - 1) (pos 0))) begins.0
+    put.0 in (
+      subst (λ (m : ℕ). HoldsFrames s (slice_range (differences xs) l.first l.end)
+          (slice_range xs l.first (l.first + used)) m new) (sym c.frames_of.ensures)
+          (holds s xs l.first l.end c.args.count used words old new fills (search rules) set),
+      to_z-of_z w32 _ (search rules) ∙ put.1 ∙ ap (λ (m : ℕ). get_or xs (l.first + m - 1) (pos 0)) begins.0,
+    )
+
+pub returns-clause-taken : goal.returns-clause-taken
+returns-clause-taken c =
+    let xs = c.requires.held.0 in
+    let h = c.requires.held.1 in
+    let l = c.args.left in
+    let fills = fills_from c.args.scheme xs l c.args.frames.now.window c.args.count c.in-Ok.packed.used
+    c.in-Ok.packed.words c.args.payload.now c.pack_words.new.frames h.are_left c.requires.frames h.held h.low h.high
+    (search rules) c.requires.count (search rules) c.in-Ok.ensures.packed c.in-Ok.ensures.inside c.in-Ok.ensures.whole
+    c.in-Ok.ensures.behind c.in-Ok.ensures.codes in
+    let some = some_used_of _ _ _ _ _ _ _ _ fills in
+    let few = used_most _ _ _ _ _ _ _ _ fills in
+    record {
+      some = some.0;
+      within = some.1;
+      few = omega (arith, few, c.requires.count, c.requires.frames.short);
+    }

@@ -1,0 +1,68 @@
+use Rattle.std.proofs.Common.{◌≡◌, ◌+◌, ◌-◌, ℕ, ℤ, List, length, sym, subst, arith}
+use Rattle.std.specs.Prelude.{slice_range}
+use Rattle.mseed_pack.specs.declared.options.Encoding.{Encoding}
+use Rattle.mseed_pack.specs.declared.payload.Filled.{Filled}
+use Rattle.mseed_pack.specs.declared.payload.Left.{Left}
+use Rattle.mseed_pack.specs.Packing.{HoldsIntegers}
+use Rattle.mseed_pack.specs.Stretches.{differences}
+use Rattle.mseed_pack.specs.private.Filling.{AreLeft, IsFilled, StandsInList}
+use Rattle.mseed_pack.proofs.Differences.{length-differences}
+use Rattle.mseed_pack.proofs.Filled.{length_part}
+use Rattle.mseed_pack.proofs.payloads.PayloadsFillerListed.fill.Goals as goal
+
+-- integers, of as many as are left
+integers : (bytes : ℕ) (xs list : List ℤ) (l : Left) (r : Filled) (payload : List ℕ) → list ≡ xs → AreLeft xs l
+    → HoldsIntegers bytes (l.end - l.first) (slice_range list l.first (l.first + r.samples)) r.frames payload
+    → HoldsIntegers bytes (length (slice_range (differences xs) l.first l.end))
+    (slice_range xs l.first (l.first + r.samples)) r.frames payload
+integers bytes xs list l r payload same left holds =
+    let some = left.some in
+    let inside = left.inside in
+    let size = length_part (differences xs) l.first l.end (omega (arith, some))
+    (omega (arith, inside, length-differences xs)) in
+    subst (λ (n : ℕ). HoldsIntegers bytes n (slice_range xs l.first (l.first + r.samples)) r.frames payload) (sym size)
+    (subst (λ (ys : List ℤ). HoldsIntegers bytes (l.end - l.first) (slice_range ys l.first (l.first + r.samples))
+    r.frames payload) same holds)
+
+pub returns-in-Int16-clause-filled : goal.returns-in-Int16-clause-filled
+returns-in-Int16-clause-filled c = λ xs stands left.
+    let l = c.args.left in
+    let r = c.fill_integers.result in
+    let has = subst (λ (e : Encoding). StandsInList c.args.self.now c.args.list.now e xs l.first) c.in-Int16.is stands in
+    subst (λ (e : Encoding). IsFilled e xs l r c.fill_integers.new.payload
+    × StandsInList c.args.self.now c.args.list.now e xs (l.first + r.samples)) (sym c.in-Int16.is) (
+      integers 2 xs c.args.list.now.samples.now l r c.fill_integers.new.payload has.0 left c.fill_integers.ensures.holds,
+      has,
+    )
+
+pub returns-in-Int32-clause-filled : goal.returns-in-Int32-clause-filled
+returns-in-Int32-clause-filled c = λ xs stands left.
+    let l = c.args.left in
+    let r = c.fill_integers-in-Int32.result in
+    let has = subst (λ (e : Encoding). StandsInList c.args.self.now c.args.list.now e xs l.first) c.in-Int32.is stands in
+    subst (λ (e : Encoding). IsFilled e xs l r c.fill_integers-in-Int32.new.payload
+    × StandsInList c.args.self.now c.args.list.now e xs (l.first + r.samples)) (sym c.in-Int32.is) (
+      integers 4 xs c.args.list.now.samples.now l r c.fill_integers-in-Int32.new.payload has.0 left
+          c.fill_integers-in-Int32.ensures.holds,
+      has,
+    )
+
+pub returns-in-Steim1-clause-filled : goal.returns-in-Steim1-clause-filled
+returns-in-Steim1-clause-filled c = λ xs stands left.
+    let l = c.args.left in
+    let r = c.fill_frames.result in
+    let goes = subst (λ (e : Encoding). StandsInList c.args.self.now c.args.list.now e xs l.first) c.in-Steim1.is
+    stands in
+    subst (λ (e : Encoding). IsFilled e xs l r c.fill_frames.new.payload
+    × StandsInList (record { frames = c.fill_frames.new.frames }) c.fill_frames.new.supply e xs (l.first + r.samples))
+    (sym c.in-Steim1.is) (c.fill_frames.ensures.filled xs goes left)
+
+pub returns-in-Steim2-clause-filled : goal.returns-in-Steim2-clause-filled
+returns-in-Steim2-clause-filled c = λ xs stands left.
+    let l = c.args.left in
+    let r = c.fill_frames-in-Steim2.result in
+    let goes = subst (λ (e : Encoding). StandsInList c.args.self.now c.args.list.now e xs l.first) c.in-Steim2.is
+    stands in
+    subst (λ (e : Encoding). IsFilled e xs l r c.fill_frames-in-Steim2.new.payload
+    × StandsInList (record { frames = c.fill_frames-in-Steim2.new.frames }) c.fill_frames-in-Steim2.new.supply e xs
+    (l.first + r.samples)) (sym c.in-Steim2.is) (c.fill_frames-in-Steim2.ensures.filled xs goes left)

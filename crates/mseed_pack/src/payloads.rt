@@ -1,0 +1,54 @@
+//! The samples of a list, in payloads of any encoding.
+ghost use Rattle.std.specs.Prelude.{◌≡◌};
+
+use crate::frames::{Frames, fill_frames};
+use crate::integers::{Width, fill_integers};
+use crate::listed::Listed;
+use crate::options::Encoding;
+use crate::payload::{Filled, Filler, Left};
+use mseed_steim::Scheme;
+
+/// What payloads of any encoding are filled from, beside the list.
+#[derive(Drop)]
+pub(crate) struct Payloads {
+    pub(crate) frames: Frames,
+}
+
+impl Payloads {
+    /// Before any samples.
+    pub(crate) fn new() -> Payloads {
+        Payloads {
+            frames: Frames::new(),
+        }
+    }
+
+    /// Begins with the first sample of a series, whatever was filled in before.
+    pub(crate) fn begin(&mut self, first: i32)
+        ensures before { self.new.frames.before ≡ first }
+        ensures low { self.new.frames.window.first ≡ 0 }
+        ensures high { self.new.frames.window.end ≡ 0 }
+    {
+        self.frames.begin(first);
+    }
+}
+
+impl<'a> Filler<Listed<'a>> for Payloads {
+    ghost use Rattle.mseed_pack.specs.private.Filling.{StandsInList};
+
+    ghost stands = { λ s list encoding samples place. StandsInList s list encoding samples place };
+
+    fn fill(
+        &mut self,
+        encoding: Encoding,
+        left: Left,
+        list: &mut Listed<'a>,
+        payload: &mut [u8],
+    ) -> Filled {
+        match encoding {
+            Encoding::Int16 => fill_integers(Width::Two, list.samples, left, payload),
+            Encoding::Int32 => fill_integers(Width::Four, list.samples, left, payload),
+            Encoding::Steim1 => fill_frames(Scheme::One, left, &mut self.frames, list, payload),
+            Encoding::Steim2 => fill_frames(Scheme::Two, left, &mut self.frames, list, payload),
+        }
+    }
+}

@@ -1,0 +1,22 @@
+//! Where the samples of a series come from.
+
+/// Where the samples of a series come from, as differences: each sample minus the one before it, and 0 for the first.
+pub trait Supply {
+    ghost use Rattle.std.specs.Prelude.{◌≡◌, ◌+◌, ◌≤◌, ℕ, ℤ, List, length};
+    ghost use Rattle.mseed_pack.specs.Supplies.{IsNextGiven};
+
+    /// It supplies the differences of these samples, and has given so many of them.
+    ghost supplies: { Self → List ℤ → ℕ → Type 0 };
+
+    /// What a call leaves as it was, whatever a supply says of itself by it.
+    ghost beside: { Self → ℕ } = { λ _. 0 };
+
+    /// Puts the next differences into `out`, from its beginning on, and answers how many there are. While any is left
+    /// it puts some into an `out` that isn't empty, as many as it likes. What lies behind them is then open.
+    fn fill(&mut self, out: &mut [i32]) -> usize
+        requires { (samples : List ℤ) × ((given : ℕ) × supplies self.old samples given) }
+        ensures bound { result ≤ length out.new }
+        ensures next { (samples : List ℤ) (given : ℕ) → supplies self.old samples given
+            → IsNextGiven samples given out.new result × supplies self.new samples (given + result) }
+        ensures beside { beside self.new ≡ beside self.old };
+}
