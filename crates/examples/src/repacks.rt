@@ -4,9 +4,10 @@ ghost use Rattle.std.specs.Prelude.{◌≤◌, ◌^◌, length};
 use mseed_pack::Options;
 use mseed_record::RecordView;
 use mseed_repack::{
-    ChannelFault, RepackFault, StretchesFault, repack, repack_channel, repack_stretches,
-    tell_broken, tell_misfit,
+    ChannelFault, RepackFault, StretchesFault, repack, repack_channel, repack_selected,
+    repack_selected_stretches, repack_stretches, tell_broken, tell_misfit, tell_without_time,
 };
+use mseed_select::Selector;
 use mseed_stream::Counted;
 use std::alloc::Global;
 
@@ -41,6 +42,56 @@ pub fn packed_as_far(
     let mut lines = Counted::new(Vec::new(alloc));
     repack_stretches(alloc, options, true, &mut input, &mut output, &mut lines)?;
     Ok((output.into_inner(), lines.into_inner()))
+}
+
+/// The records of an archive that are asked for, packed anew, and what says how many lack a time.
+pub fn packed_of_selected(
+    alloc: Global,
+    selector: &Selector,
+    archive: &[u8],
+    options: &Options,
+) -> Result<(Vec<u8>, Vec<u8>), RepackFault> {
+    let mut input = Counted::new(archive);
+    let mut output = Counted::new(Vec::new(alloc));
+    let mut lines = Counted::new(Vec::new(alloc));
+    repack_selected(
+        alloc,
+        selector,
+        options,
+        &mut input,
+        &mut output,
+        &mut lines,
+    )?;
+    Ok((output.into_inner(), lines.into_inner()))
+}
+
+/// The same by stretches, without the channels that can't be packed.
+pub fn packed_of_selected_as_far(
+    alloc: Global,
+    selector: &Selector,
+    archive: &[u8],
+    options: &Options,
+) -> Result<(Vec<u8>, Vec<u8>), StretchesFault> {
+    let mut input = Counted::new(archive);
+    let mut output = Counted::new(Vec::new(alloc));
+    let mut lines = Counted::new(Vec::new(alloc));
+    repack_selected_stretches(
+        alloc,
+        selector,
+        options,
+        true,
+        &mut input,
+        &mut output,
+        &mut lines,
+    )?;
+    Ok((output.into_inner(), lines.into_inner()))
+}
+
+/// The line that says that three records lack a time.
+pub fn line_of_three(alloc: Global) -> Vec<u8> {
+    let mut line = Counted::new(Vec::new(alloc));
+    tell_without_time(3, &mut line);
+    line.into_inner()
 }
 
 /// The line that says for which channel an archive is refused, where it is for one.

@@ -1,5 +1,6 @@
 pub mod Texts
 pub mod Repacks
+pub mod AskedFor
 pub mod Wholes
 pub mod OneRepacking
 pub mod Near

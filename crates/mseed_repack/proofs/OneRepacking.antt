@@ -274,7 +274,8 @@ whole_end bytes f all (by_end n rs end a d) archive few =
 whole_end bytes f all (by_turns n rs a count d) archive few =
     omega (arith, turns_fewer bytes [] n rs all a archive, count, few)
 
-never_unread : (h : BytesRead) (f : StreamFault) (views : List View) → f ≢ NoMemory → IsUnread f h → IsWhole h views → ⊥
+pub never_unread : (h : BytesRead) (f : StreamFault) (views : List View) → f ≢ NoMemory → IsUnread f h
+    → IsWhole h views → ⊥
 never_unread h f views o (inl a) w = goes_on h f o a w.ended
 never_unread h f views o (inr a) w =
     whole_end h.bytes f (bytes_in views) (broke h.bytes f o a.2) w.archive

@@ -1,5 +1,4 @@
 -- Channels that are packed by lists of stretches.
-use Rattle.std.specs.Prelude.{⊤}
 use Rattle.std.proofs.Common.{◌≡◌, ◌≢◌, inl, inr, ℕ, zero, suc, ◌+◌, ◌-◌, ◌<◌, ◌≤◌, ◌^◌, List, [], ◌∷◌, ◌++◌}
 use Rattle.std.proofs.Common.{length, take, drop, get_or, refl, sym, ap, subst, ◌∙◌, arith, append_assoc, append-nil}
 use Rattle.std.proofs.Common.{length-append}
@@ -16,13 +15,13 @@ use Rattle.mseed_pack.specs.declared.fault.PackFault.{PackFault}
 use Rattle.mseed_pack.specs.declared.options.Options.{Options}
 use Rattle.mseed_repack.specs.Repack.{AreTexts, Channel, IsPackedInPart, IsSeriesText, IsStretchPacked, IsTextUpTo}
 use Rattle.mseed_repack.specs.Repack.{StretchFits, StretchMisfits, Wrote, records_in}
-use Rattle.mseed_repack.specs.Restretch.{ArePackedOn, ChannelFits, ChannelMisfits, IsChannelPart, IsChannelText}
+use Rattle.mseed_repack.specs.Restretch.{ArePackedOn, ChannelMisfits, IsChannelPart, IsChannelText}
 use Rattle.mseed_repack.specs.Restretch.{IsNextStretch, IsNumberedOn, more, none}
 use Rattle.mseed_repack.specs.ByStretches.{AreStandings, AreStretched, IsPartStretched, kept_of}
-use Rattle.mseed_repack.specs.private.Planning.{AreReady, CanBeWritten, IsCut, IsCutUpTo, IsFirstMisfit, IsPartOn}
+use Rattle.mseed_repack.specs.private.Planning.{AreReady, CanBeWritten, IsCut, IsFirstMisfit, IsPartOn}
 use Rattle.mseed_repack.specs.private.Planning.{IsReadable, IsReady, IsStretchText, IsTextOn, planned, stretches_by}
 use Rattle.mseed_repack.specs.private.Planning.{whole}
-use Rattle.mseed_repack.specs.private.Reading.{samples_of, steps_of}
+use Rattle.mseed_repack.specs.private.Reading.{steps_of}
 use Rattle.mseed_repack.specs.declared.standing.Standing.{Standing}
 use Rattle.mseed_repack.specs.declared.standing.Standing.TheVariants.{Fit, Broken, Misfit}
 use Rattle.mseed_repack.proofs.ChannelReadBack.{each_at_back, each_in_leading, each_more, ends_apart, one_next}

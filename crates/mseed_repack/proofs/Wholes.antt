@@ -1,16 +1,15 @@
 -- A whole archive that was read.
-use Rattle.std.proofs.Common.{◌≡◌, ℕ, List, [], ◌∷◌, ◌++◌, ◌∙◌, map, refl, sym, ap, subst, arith, IsTrue}
+use Rattle.std.proofs.Common.{◌≡◌, ℕ, ◌<◌, ◌^◌, List, [], ◌∷◌, ◌++◌, ◌∙◌, length, map, refl, sym, ap, subst, arith, IsTrue}
 use Rattle.std.specs.List.{AllByRecursion}
 use Rattle.std.proofs.lemmas.List.{length-map}
-use Rattle.mseed_record.specs.View.{View, IsView}
+use Rattle.mseed_record.specs.View.{IsView}
 use Rattle.mseed_record.specs.Viewing.{view_of}
 use Rattle.mseed_record.specs.declared.view.RecordView.{RecordView}
 use Rattle.mseed_stream.specs.Archive.{IsArchive}
 use Rattle.mseed_stream.specs.Device.{BytesRead, nothing_read}
 use Rattle.mseed_stream.specs.Split.{bytes_of_each}
 use Rattle.mseed_stream.specs.Walk.{bytes_in}
-use Rattle.mseed_repack.specs.Repack.{Channel, IsArchiveOf}
-use Rattle.mseed_repack.specs.private.Judging.{IsJudged}
+use Rattle.mseed_repack.specs.Repack.{IsWhole}
 
 bytes_are : (rs : List RecordView) → bytes_of_each rs ≡ bytes_in (map view_of rs)
 bytes_are [] = refl
@@ -21,20 +20,18 @@ views_each : (rs : List RecordView) → AllByRecursion (λ (r : RecordView). IsV
 views_each [] h = tt
 views_each (r ∷ rs) h = (h.0, views_each rs h.1)
 
--- what was read, of an input of which nothing had been read, and judged is an archive
-pub archive_read : {first h : BytesRead} {bytes : List ℕ} {rs : List RecordView} {cs : List Channel}
-    → first ≡ nothing_read → h.bytes ≡ first.bytes ++ bytes → h.failures ≡ first.failures → IsTrue h.is_at_end
-    → IsJudged bytes rs cs → IsArchiveOf h (map view_of rs) cs
-archive_read {h = h} {bytes = bytes} {rs = rs} unread joined fine ended judged =
+-- bytes that were read, of an input of which nothing had been read, and are records one behind another are an archive
+pub whole_read : (rs : List RecordView) {first h : BytesRead} {bytes : List ℕ} → first ≡ nothing_read
+    → h.bytes ≡ first.bytes ++ bytes → h.failures ≡ first.failures → IsTrue h.is_at_end
+    → IsArchive bytes (bytes_of_each rs) [] → AllByRecursion (λ (r : RecordView). IsView (view_of r)) rs
+    → length rs < 2 ^ 40 → IsWhole h (map view_of rs)
+whole_read rs {h = h} {bytes = bytes} unread joined fine ended archive each few =
     let same : h.bytes ≡ bytes = joined ∙ ap (λ (x : BytesRead). x.bytes ++ bytes) unread in
     record {
-      whole = record {
-        archive = subst (λ (bs : List (List ℕ)). IsArchive h.bytes bs []) (bytes_are rs)
-            (subst (λ (xs : List ℕ). IsArchive xs (bytes_of_each rs) []) (sym same) judged.archive);
-        each = views_each rs judged.views;
-        few = omega (arith, judged.few, length-map rs view_of);
-        ended = ended;
-        fine = fine ∙ ap (λ (x : BytesRead). x.failures) unread;
-      };
-      verdicts = judged.verdicts;
+      archive = subst (λ (bs : List (List ℕ)). IsArchive h.bytes bs []) (bytes_are rs)
+          (subst (λ (xs : List ℕ). IsArchive xs (bytes_of_each rs) []) (sym same) archive);
+      each = views_each rs each;
+      few = omega (arith, few, length-map rs view_of);
+      ended = ended;
+      fine = fine ∙ ap (λ (x : BytesRead). x.failures) unread;
     }

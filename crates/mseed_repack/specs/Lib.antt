@@ -5,4 +5,5 @@ pub mod Restretch
 pub mod ByStretches
 pub mod StretchesReadBack
 pub mod Borders
+pub mod Selected
 pub mod private

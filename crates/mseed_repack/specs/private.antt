@@ -1,6 +1,5 @@
 -- Words of private functions and of proofs alone, which change as the code does: no public contract is stated by them.
 pub mod Archives
-pub mod Judging
 pub mod Outline
 pub mod Planning
 pub mod Reading

@@ -2,6 +2,7 @@
 #![tactic(auto)]
 
 mod archive;
+mod asked;
 mod channel;
 mod channel_fault;
 mod fault;
@@ -23,6 +24,7 @@ mod stretching;
 mod trail;
 mod walk;
 
+pub use asked::tell_without_time;
 pub use channel::repack_channel;
 pub use channel_fault::ChannelFault;
 pub use fault::RepackFault;
@@ -30,7 +32,7 @@ pub use law::{
     borders_are_kept, one_channel_packing, one_repacking, repacked_reads_back, stretches_read_back,
 };
 pub use refusing::{Left, tell_broken, tell_misfit};
-pub use repacking::repack;
-pub use restretching::repack_stretches;
+pub use repacking::{repack, repack_selected};
+pub use restretching::{repack_selected_stretches, repack_stretches};
 pub use standing::Standing;
 pub use stretches_fault::StretchesFault;

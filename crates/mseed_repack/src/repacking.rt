@@ -1,19 +1,22 @@
 //! Packing an archive anew.
-ghost use Rattle.std.specs.Prelude.{◌≡◌, ◌≤◌, ◌^◌, length, map, All, IfErr, OnOk};
+ghost use Rattle.std.specs.Prelude.{◌≡◌, ◌<◌, ◌≤◌, ◌^◌, length, map, All, IfErr, OnOk};
 ghost use Rattle.mseed_record.specs.Viewing.{view_of};
 ghost use Rattle.mseed_stream.specs.Device.{BytesRead, nothing_read};
+ghost use Rattle.mseed_select.specs.Selecting.{selection_of};
 ghost use Rattle.mseed_audit.specs.Channels.{added_from};
 ghost use Rattle.mseed_audit.specs.Follows.{IsContinuous};
 ghost use Rattle.mseed_audit.specs.Verdict.{AreVerdicts};
 ghost use Rattle.mseed_repack.specs.private.Archives.{HasRoomForSeries, IsAudited};
 ghost use Rattle.mseed_repack.specs.private.Reading.{samples_written};
 ghost use Rattle.mseed_repack.specs.Repack.{AreContinuous, CanBePacked, CantBePacked, IsArchiveOf, IsFirst};
-ghost use Rattle.mseed_repack.specs.Repack.{IsRepacking, records_in};
+ghost use Rattle.mseed_repack.specs.Repack.{IsRepacking, IsWhole, records_in};
+ghost use Rattle.mseed_repack.specs.Selected.{IsSelectedRepacking};
 
 use crate::archive::Archive;
+use crate::asked::keep_asked;
 use crate::fault::RepackFault;
 use crate::fitting::fit_stretches;
-use crate::judging::judge;
+use crate::judging::judge_records;
 use crate::packing::{WHOLE, pack_channels};
 use crate::reading::count_steps;
 use crate::room::room_for;
@@ -21,7 +24,8 @@ use crate::trail::lay_trails;
 use mseed_audit::Verdict;
 use mseed_pack::{Options, PackFault};
 use mseed_record::{Codes, RecordView};
-use mseed_stream::{Sink, Source, read_all_in};
+use mseed_select::Selector;
+use mseed_stream::{Sink, Source, read_all_in, split_in};
 use mseed_time::LeapStep;
 use std::alloc::Allocator;
 
@@ -43,14 +47,49 @@ pub fn repack<A: Allocator + Copy, R: Source, W: Sink>(
     ensures { IsRepacking options.now result (R.read input.new) (W.written output.old) (W.written output.new) }
 {
     let archive = read_all_in(alloc, input)?;
-    let judged = judge(alloc, &archive)?;
-    repack_judged(
-        alloc,
-        &judged.views,
-        judged.verdicts.as_slice(),
-        options,
-        output,
-    )
+    let views = split_in(alloc, &archive)?;
+    repack_records(alloc, &views, options, output)
+}
+
+/// Packs those records of the archive anew that are asked for, as [`repack`] does an archive of them alone: whole, and
+/// whatever the others hold. How many lack a time is told to `errors` before.
+///
+/// # Errors
+///
+/// Those of [`repack`]: `Stream` where the input, asked for or not, is no whole archive.
+pub fn repack_selected<A: Allocator + Copy, R: Source, W: Sink, E: Sink>(
+    alloc: A,
+    selector: &Selector<'_>,
+    options: &Options,
+    input: &mut R,
+    output: &mut W,
+    errors: &mut E,
+) -> Result<(), RepackFault>
+    requires { R.read input.old ≡ nothing_read }
+    ensures { IsSelectedRepacking (selection_of selector.now) options.now result (R.read input.new)
+        (W.written output.old) (W.written output.new) (E.written errors.old) (E.written errors.new) }
+{
+    let archive = read_all_in(alloc, input)?;
+    let mut views = split_in(alloc, &archive)?;
+    keep_asked(&mut views, selector, errors);
+    repack_records(alloc, &views, options, output)
+}
+
+/// Packs the records of an archive anew.
+fn repack_records<A: Allocator + Copy, W: Sink>(
+    alloc: A,
+    views: &[RecordView],
+    options: &Options,
+    output: &mut W,
+) -> Result<(), RepackFault>
+    requires { length views.now < 2 ^ 40 }
+    ensures { (read : BytesRead) → IsWhole read (map view_of views.now)
+        → IsRepacking options.now result read (W.written output.old) (W.written output.new) }
+{
+    match judge_records(alloc, views) {
+        Ok(verdicts) => repack_judged(alloc, views, verdicts.as_slice(), options, output),
+        Err(_) => Err(RepackFault::Memory),
+    }
 }
 
 /// Packs an archive anew of which this is what the audit says. All memory is requested before anything is written.

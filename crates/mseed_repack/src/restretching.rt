@@ -1,16 +1,19 @@
 //! Packing an archive anew by the stretches of its channels.
-ghost use Rattle.std.specs.Prelude.{◌≡◌, ◌≤◌, ◌^◌, length, map};
+ghost use Rattle.std.specs.Prelude.{◌≡◌, ◌<◌, ◌≤◌, ◌^◌, length, map};
 ghost use Rattle.mseed_record.specs.Viewing.{view_of};
 ghost use Rattle.mseed_stream.specs.Device.{BytesRead, nothing_read};
 ghost use Rattle.mseed_audit.specs.Channels.{added_from};
 ghost use Rattle.mseed_audit.specs.Verdict.{AreVerdicts};
 ghost use Rattle.mseed_repack.specs.private.Archives.{HasRoomForSteps, IsAudited};
 ghost use Rattle.mseed_repack.specs.private.Planning.{AreReady};
-ghost use Rattle.mseed_repack.specs.Repack.{IsArchiveOf};
+ghost use Rattle.mseed_repack.specs.Repack.{IsArchiveOf, IsWhole};
 ghost use Rattle.mseed_repack.specs.ByStretches.{IsRestretching};
+ghost use Rattle.mseed_repack.specs.Selected.{IsSelectedRestretching};
+ghost use Rattle.mseed_select.specs.Selecting.{selection_of};
 
 use crate::archive::Archive;
-use crate::judging::judge;
+use crate::asked::keep_asked;
+use crate::judging::judge_records;
 use crate::packing::pack_channels;
 use crate::reading::count_steps;
 use crate::refusing::{Left, left_of, refusal_unless, tell_left};
@@ -21,7 +24,8 @@ use crate::trail::lay_trails;
 use mseed_audit::Verdict;
 use mseed_pack::Options;
 use mseed_record::{Codes, RecordView};
-use mseed_stream::{Sink, Source, read_all_in};
+use mseed_select::Selector;
+use mseed_stream::{Sink, Source, read_all_in, split_in};
 use mseed_time::LeapStep;
 use std::alloc::Allocator;
 
@@ -48,16 +52,61 @@ pub fn repack_stretches<A: Allocator + Copy, R: Source, W: Sink, E: Sink>(
         (W.written output.old) (W.written output.new) (E.written errors.old) (E.written errors.new) }
 {
     let archive = read_all_in(alloc, input)?;
-    let judged = judge(alloc, &archive)?;
-    restretch(
-        alloc,
-        &judged.views,
-        judged.verdicts.as_slice(),
-        options,
-        leave,
-        output,
-        errors,
-    )
+    let views = split_in(alloc, &archive)?;
+    restretch_records(alloc, &views, options, leave, output, errors)
+}
+
+/// Packs those records of the archive anew that are asked for, as [`repack_stretches`] does an archive of them alone:
+/// whole, and whatever the others hold. How many lack a time is told to `errors` before.
+///
+/// # Errors
+///
+/// Those of [`repack_stretches`]: `Stream` where the input, asked for or not, is no whole archive.
+pub fn repack_selected_stretches<A: Allocator + Copy, R: Source, W: Sink, E: Sink>(
+    alloc: A,
+    selector: &Selector<'_>,
+    options: &Options,
+    leave: bool,
+    input: &mut R,
+    output: &mut W,
+    errors: &mut E,
+) -> Result<Left, StretchesFault>
+    requires { R.read input.old ≡ nothing_read }
+    ensures { IsSelectedRestretching (selection_of selector.now) options.now leave result (R.read input.new)
+        (W.written output.old) (W.written output.new) (E.written errors.old) (E.written errors.new) }
+{
+    let archive = read_all_in(alloc, input)?;
+    let mut views = split_in(alloc, &archive)?;
+    keep_asked(&mut views, selector, errors);
+    restretch_records(alloc, &views, options, leave, output, errors)
+}
+
+/// Packs the records of an archive anew by the stretches of their channels.
+fn restretch_records<A: Allocator + Copy, W: Sink, E: Sink>(
+    alloc: A,
+    views: &[RecordView],
+    options: &Options,
+    leave: bool,
+    output: &mut W,
+    errors: &mut E,
+) -> Result<Left, StretchesFault>
+    requires { length views.now < 2 ^ 40 }
+    ensures { (read : BytesRead) → IsWhole read (map view_of views.now)
+        → IsRestretching options.now leave result read
+        (W.written output.old) (W.written output.new) (E.written errors.old) (E.written errors.new) }
+{
+    match judge_records(alloc, views) {
+        Ok(verdicts) => restretch(
+            alloc,
+            views,
+            verdicts.as_slice(),
+            options,
+            leave,
+            output,
+            errors,
+        ),
+        Err(_) => Err(StretchesFault::Memory),
+    }
 }
 
 /// The same of records whose channels are known.

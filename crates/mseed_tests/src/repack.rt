@@ -4,8 +4,13 @@ ghost use Rattle.std.specs.Prelude.{◌≤◌, ◌^◌, length};
 use crate::records::{change, put, view, with};
 use mseed_pack::Options;
 use mseed_record::RecordView;
-use mseed_repack::{ChannelFault, Left, StretchesFault, repack_channel, repack_stretches};
-use mseed_stream::Counted;
+use mseed_repack::{
+    ChannelFault, Left, RepackFault, StretchesFault, repack_channel, repack_selected,
+    repack_selected_stretches, repack_stretches,
+};
+use mseed_select::{Patterns, Selector};
+use mseed_stream::{Counted, StreamFault};
+use mseed_time::Micros;
 use std::alloc::Global;
 use std::process::Abort;
 
@@ -108,4 +113,114 @@ fn packs_an_archive_and_leaves_out_its_log(rt: HostRuntime) {
     let (left, packed, reported) = left_of(&rt, rt.alloc(), &archive);
     assert!(rt; left == Ok(Left::Broken) && are_both(&packed));
     assert!(rt; reported.as_slice() == REPORTED);
+}
+
+/// What packing records that are asked for came to: how it went, what is written, and what is reported.
+#[derive(Drop)]
+struct Packed {
+    answer: Result<(), RepackFault>,
+    bytes: Vec<u8>,
+    lines: Vec<u8>,
+}
+
+/// Packs those records of an archive anew, from number 1 on, that are of the channels and begin before this instant.
+fn packed_before(
+    rt: &impl Abort,
+    alloc: Global,
+    channels: &[u8],
+    until: Option<Micros>,
+    archive: &[u8],
+) -> Packed {
+    let options = Options::new(7, 3, 1).expect(rt, "options");
+    let patterns = Patterns::read(channels).expect(rt, "patterns");
+    let mut input = Counted::new(archive);
+    let mut output = Counted::new(Vec::new(alloc));
+    let mut lines = Counted::new(Vec::new(alloc));
+    let answer = match Selector::new(Some(patterns), None, until) {
+        Ok(selector) => repack_selected(
+            alloc,
+            &selector,
+            &options,
+            &mut input,
+            &mut output,
+            &mut lines,
+        ),
+        Err(_) => Err(RepackFault::Memory),
+    };
+    Packed {
+        answer,
+        bytes: output.into_inner(),
+        lines: lines.into_inner(),
+    }
+}
+
+/// The instant at which the second record with a gap before it begins.
+fn apart(rt: &impl Abort) -> Micros {
+    Micros::new(1_704_067_210_000_000).expect(rt, "an instant")
+}
+
+#[test]
+fn packs_what_is_asked_for(rt: HostRuntime) {
+    let first = with(&[(0, b"000001")]);
+    // A log; and the record behind a gap, for which the channel is broken, but which begins too late.
+    let log = numbered(&[(15, b"LOG"), (52, &[0])]);
+    let archive = three(&numbered(&[]), &log, &numbered(&[(26, &[10])]));
+    let packed = packed_before(&rt, rt.alloc(), b"*_*_*_BH?", Some(apart(&rt)), &archive);
+    assert!(rt; packed.answer == Ok(()) && packed.lines.is_empty());
+    assert!(rt; packed.bytes.as_slice() == first.as_slice());
+    let all = packed_before(&rt, rt.alloc(), b"*_*_*_BH?", None, &archive);
+    assert!(rt; matches!(all.answer, Err(RepackFault::Broken(_))) && all.bytes.is_empty());
+    let none = packed_before(&rt, rt.alloc(), b"IU_*_*_*", None, &archive);
+    assert!(rt; none.answer == Ok(()) && none.bytes.is_empty());
+}
+
+/// What is reported of a record without a time.
+const WITHOUT_TIME: &[u8] = b"mseed: 1 records without a time\n";
+
+#[test]
+fn tells_what_lacks_a_time(rt: HostRuntime) {
+    let first = with(&[(0, b"000001")]);
+    // Day 0 of a year, and the same of a channel that isn't asked for.
+    let untimed = numbered(&[(22, &[0, 0])]);
+    let other = numbered(&[(15, b"BHN"), (22, &[0, 0])]);
+    let archive = three(&untimed, &other, &numbered(&[]));
+    let packed = packed_before(&rt, rt.alloc(), b"*_*_*_BHZ", Some(apart(&rt)), &archive);
+    assert!(rt; packed.answer == Ok(()) && packed.lines.as_slice() == WITHOUT_TIME);
+    assert!(rt; packed.bytes.as_slice() == first.as_slice());
+    // Without a window it is asked for, and its channel broken.
+    let all = packed_before(&rt, rt.alloc(), b"*_*_*_BHZ", None, &archive);
+    assert!(rt; matches!(all.answer, Err(RepackFault::Broken(_))) && all.lines.is_empty());
+}
+
+#[test]
+fn refuses_a_fault_behind_what_is_asked_for(rt: HostRuntime) {
+    let archive = three(&numbered(&[]), &numbered(&[(15, b"BHN")]), &numbered(&[]));
+    let cut = packed_before(&rt, rt.alloc(), b"*_*_*_BHN", None, &archive[..300]);
+    let fault = StreamFault::Truncated(256, 44);
+    assert!(rt; cut.answer == Err(RepackFault::Stream(fault)) && cut.bytes.is_empty());
+}
+
+#[test]
+fn packs_stretches_of_what_is_asked_for(rt: HostRuntime) {
+    let log = numbered(&[(15, b"LOG"), (52, &[0])]);
+    let archive = three(&numbered(&[]), &log, &numbered(&[(26, &[10])]));
+    let options = Options::new(7, 3, 1).expect(&rt, "options");
+    let patterns = Patterns::read(b"*_*_*_BHZ").expect(&rt, "patterns");
+    let Ok(selector) = Selector::new(Some(patterns), None, None) else {
+        return;
+    };
+    let mut input = Counted::new(&archive[..]);
+    let mut output = Counted::new(Vec::new(rt.alloc()));
+    let mut lines = Counted::new(Vec::new(rt.alloc()));
+    let left = repack_selected_stretches(
+        rt.alloc(),
+        &selector,
+        &options,
+        false,
+        &mut input,
+        &mut output,
+        &mut lines,
+    );
+    assert!(rt; left == Ok(Left::Nothing) && are_both(&output.into_inner()));
+    assert!(rt; lines.into_inner().is_empty());
 }

@@ -1,5 +1,5 @@
 -- What the steps of packing an archive by stretches know.
-use Rattle.std.specs.Prelude.{⊤, ◌≡◌, List}
+use Rattle.std.specs.Prelude.{⊤, List}
 use Rattle.std.specs.List.{AllByRecursion}
 use Rattle.mseed_record.specs.View.{View}
 use Rattle.mseed_audit.specs.Follows.{IsSound}

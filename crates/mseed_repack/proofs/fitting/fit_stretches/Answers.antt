@@ -1,7 +1,7 @@
-use Rattle.std.proofs.Common.{◌≡◌, ◌+◌, ℕ, List, length, drop, take, get_or, arith, refl, sym, ap, subst, ◌∙◌}
+use Rattle.std.proofs.Common.{◌+◌, ℕ, List, length, drop, take, get_or, arith, refl, sym, subst}
 use Rattle.mseed_record.specs.View.{View}
 use Rattle.mseed_repack.specs.private.Planning.{IsReadable, stretches_by}
-use Rattle.mseed_repack.proofs.Planning.{IsFitSo, fit_all, fit_more, fit_none, misfit_next, next_each, stretches_end}
+use Rattle.mseed_repack.proofs.Planning.{IsFitSo, fit_more, misfit_next, next_each}
 use Rattle.mseed_repack.proofs.Planning.{stretches_next}
 use Rattle.mseed_repack.proofs.fitting.fit_stretches.Goals as goal
 

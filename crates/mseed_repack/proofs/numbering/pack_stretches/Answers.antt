@@ -1,4 +1,4 @@
-use Rattle.std.proofs.Common.{◌≡◌, ◌+◌, ℕ, List, length, drop, take, get_or, arith, refl, sym, subst}
+use Rattle.std.proofs.Common.{◌+◌, ℕ, List, length, drop, take, get_or, arith, refl, sym, subst}
 use Rattle.mseed_record.specs.View.{View}
 use Rattle.mseed_repack.specs.private.Planning.{IsReadable, stretches_by}
 use Rattle.mseed_repack.proofs.Planning.{IsPackedSo, fits_next, next_each, packed_all, packed_more, packed_none}

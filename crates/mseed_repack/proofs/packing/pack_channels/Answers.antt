@@ -1,5 +1,5 @@
-use Rattle.std.proofs.Common.{◌≡◌, List, ℕ, length, map, arith, get_or, refl, subst}
-use Rattle.mseed_repack.specs.private.Planning.{IsReadable, stretches_by, whole}
+use Rattle.std.proofs.Common.{List, ℕ, length, map, arith, refl}
+use Rattle.mseed_repack.specs.private.Planning.{stretches_by}
 use Rattle.mseed_repack.specs.private.Archives.{records_on}
 use Rattle.mseed_repack.proofs.Archives.{texts_all, texts_next, texts_part, written_next}
 use Rattle.mseed_repack.proofs.Planning.{roomier}

@@ -3,7 +3,7 @@ use Rattle.std.proofs.Common.{ℕ, ◌≤◌, List, arith, subst, sym, ◌∙◌
 use Rattle.std.proofs.lemmas.Bool.{false≢true}
 use Rattle.mseed_steim.proofs.Fullest.{max_is}
 use Rattle.mseed_repack.specs.private.Planning.{IsCut}
-use Rattle.mseed_repack.proofs.Cutting.{IsCutSo, cut_first, cut_last, cut_off, cut_on, few_more, sound_next}
+use Rattle.mseed_repack.proofs.Cutting.{IsCutSo, cut_first, cut_last, cut_off, cut_on, few_more}
 use Rattle.mseed_repack.proofs.stretching.cut_stretches.Goals as goal
 
 pub loop-view-init : goal.loop-view-init

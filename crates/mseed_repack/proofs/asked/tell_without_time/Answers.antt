@@ -1,0 +1,16 @@
+use Rattle.std.proofs.Common.{◌∙◌, List, ℕ, subst}
+use Rattle.mseed_stream.specs.Telling.{Tells}
+use Rattle.mseed_repack.proofs.AskedFor.{none_lacks, some_lack}
+use Rattle.mseed_repack.proofs.asked.tell_without_time.Goals as goal
+
+pub returns-else-count-gt0 : goal.returns-else-count-gt0
+returns-else-count-gt0 g c = none_lacks c.args.count (g.E.Sink.written c.args.errors.now) c.if-count-gt0.false
+
+pub returns-then-count-gt0 : goal.returns-then-count-gt0
+returns-then-count-gt0 g c =
+    let a1 = rw c.new-line.ensures at c.put.ensures.text in
+    let a2 = rw a1 at c.put_count.ensures.text in
+    let a3 = rw a2 at c.put-then-count-gt0.ensures.text in
+    some_lack c.args.count (g.E.Sink.written c.args.errors.now) (g.E.Sink.written c.tell.new.errors) c.if-count-gt0.true
+    (subst (λ (line : List ℕ). Tells line (g.E.Sink.written c.args.errors.now) (g.E.Sink.written c.tell.new.errors))
+    (c.as_slice.ensures ∙ a3) c.tell.ensures)
