@@ -213,10 +213,15 @@ def finding(before: Optional[Record], record: Record) -> Optional[str]:
     return join_fault(before, record) if before else None
 
 
+def codes_of(key: bytes) -> list[str]:
+    """Network, station, location and channel, as they are printed."""
+    codes = [code.rstrip(b" \0") for code in (key[:2], key[2:7], key[7:9], key[9:])]
+    return ["".join(chr(b) if 33 <= b <= 126 else "?" for b in code) for code in codes]
+
+
 def name_of(key: bytes) -> str:
     """The name of a channel."""
-    codes = [code.rstrip(b" \0") for code in (key[:2], key[2:7], key[7:9], key[9:])]
-    return "_".join("".join(chr(b) if 33 <= b <= 126 else "?" for b in code) for code in codes)
+    return "_".join(codes_of(key))
 
 
 def time_of(instant: int) -> str:
@@ -243,10 +248,20 @@ def cut(archive: bytes) -> tuple[list[tuple[int, Record]], int, Optional[str]]:
     return records, offset, None
 
 
+def numbered(records: list[tuple[int, Record]]) -> Channel:
+    """The records with their numbers too."""
+    return [(number, offset, record) for number, (offset, record) in enumerate(records, 1)]
+
+
 def channels_of(records: list[tuple[int, Record]]) -> dict[bytes, Channel]:
     """The records with samples of each channel, by its key, with their numbers and offsets."""
+    return by_channel(numbered(records))
+
+
+def by_channel(records: Channel) -> dict[bytes, Channel]:
+    """The same of records whose numbers and offsets are given."""
     channels = {}
-    for number, (offset, record) in enumerate(records, 1):
+    for number, offset, record in records:
         if record.count:
             channels.setdefault(record.key, []).append((number, offset, record))
     return dict(sorted(channels.items()))
@@ -278,7 +293,12 @@ def start_of(start: Union[int, str]) -> str:
 def audit(archive: bytes, each: bool = False) -> tuple[bytes, int]:
     """The text and the exit status of the audit of an archive, or of one that tells each finding."""
     records, end, fault = cut(archive)
-    channels = channels_of(records)
+    return audited(numbered(records), end, fault, each)
+
+
+def audited(records: Channel, end: int, fault: Optional[str], each: bool = False) -> tuple[bytes, int]:
+    """The same of records whose numbers and offsets are given, and of how their input ended."""
+    channels = by_channel(records)
     lines, is_broken = lines_of_findings(channels) if each else [], False
     for key in channels:
         found = findings(channels[key])
@@ -323,7 +343,11 @@ def repack(archive: bytes) -> tuple[bytes, bytes, int]:
     records, end, fault = cut(archive)
     if fault:
         return b"", f"mseed: fault at {end} {fault}\n".encode(), 2
-    channels = channels_of(records)
+    return repacked(channels_of(records))
+
+
+def repacked(channels: dict[bytes, Channel]) -> tuple[bytes, bytes, int]:
+    """The same of some channels."""
     for key in channels:
         if findings(channels[key]):
             return b"", f"mseed: {name_of(key)} is broken\n".encode(), 1

@@ -5,7 +5,7 @@ from __future__ import annotations
 import dataclasses
 from typing import NamedTuple, Optional
 
-from models.auditing import Record, channels_of, cut, name_of
+from models.auditing import Channel, Record, channels_of, cut, name_of
 from models.packing import SECOND, Series, btime, fits, packed
 
 SHIFTS = {16: SECOND, 32: -SECOND}
@@ -102,7 +102,13 @@ def restretched(archive: bytes, exponent: int = 9, encoding: int = 11,
     records, end, fault = cut(archive)
     if fault:
         return b"", f"mseed: fault at {end} {fault}\n".encode(), 2
-    channels = {key: [record for _, _, record in channel] for key, channel in channels_of(records).items()}
+    return restretched_channels(channels_of(records), exponent, encoding, leave)
+
+
+def restretched_channels(numbered: dict[bytes, Channel], exponent: int = 9, encoding: int = 11,
+                         leave: bool = False) -> tuple[bytes, bytes, int]:
+    """The same of some channels."""
+    channels = {key: [record for _, _, record in channel] for key, channel in numbered.items()}
     broken = {key for key, channel in channels.items() if not all(is_sound(record) for record in channel)}
     stretches = {key: stretches_of(channel) for key, channel in channels.items() if key not in broken}
     misfits = {key: misfit_of(some, encoding) for key, some in stretches.items()}
