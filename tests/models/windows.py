@@ -25,9 +25,10 @@ CODES = [b"STA    BHZXX", b"STA    BHNXX", b"STA  00BHZXX", b"STA  10BHZXX", b"A
          b"ST\xe9AN0 HHEF?", b"AAAAA01AAAAA"]
 
 # Patterns, of which some match no channel, some several, and some by the empty field alone.
-PATTERNS = ["*_*_*_*", "XX_STA__BHZ", "XX_STA_--_BHZ", "XX_STA_*_BH?", "XX_STA_00_BHZ,XX_STA_10_BHZ", "*_ANMO_*_L*",
-            "?_*_*_*", "???_*_*_*", "*_A?B_--_*", "*_*_--_*", "*_*__*", "*_S?A_*_?*?", "xx_sta__bhz", "___", "___,*_*_00_*",
-            "**_*T*_*_*Z", "XX_ST_*_*", "XX_STAA_*_*", "*A*_*A*_*_*A*A*", "-_-_-_-", "*_*_?_*", "*_*_??_*", "X?_ST??_*_???",
+PATTERNS = ["*_*_*_*", "XX_STA__BHZ", "XX_STA_--_BHZ", "XX_STA_*_BH?", "XX_STA_00_BHZ,XX_STA_10_BHZ",
+            "*_ANMO_*_L*", "?_*_*_*", "???_*_*_*", "*_A?B_--_*", "*_*_--_*", "*_*__*", "*_S?A_*_?*?", "xx_sta__bhz",
+            "___", "___,*_*_00_*", "**_*T*_*_*Z", "XX_ST_*_*", "XX_STAA_*_*", "*A*_*A*_*_*A*A*", "-_-_-_-",
+            "*_*_?_*", "*_*_??_*", "X?_ST??_*_???",
             "*_ST*A*_*_*", "*_*_-?_*", "*_*_-*_*", "*_*_---_*"]
 
 # Where archives begin: midnights, the last day of a leap year and of another, a leap second, and the first and last

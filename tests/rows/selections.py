@@ -9,18 +9,28 @@ import subprocess
 import tempfile
 from pathlib import Path
 from random import Random
-from typing import IO, Iterator, Sequence
+from typing import IO, Callable, Iterator, Sequence
 
 from driver.batches import Batch
 from driver.program import LIMIT, PROGRAM, SAMPLES
 from driver.records import next_record, record
 from driver.rows import Cases, Fact, Row, both, holds, started
 from driver.texts import BAD_VALUE, WRITE_FAILED, About
-from models.selecting import Selection, audit, chosen, repack, select, show
+from models.selecting import Ended, Selection, audit, chosen, repack, select, show
 from models.windows import archive_for, selection_for
 
 SEED = 20260527
 ARCHIVES, WINDOWS = 400, 8
+
+# The commands that take a selection besides, and what comes of each.
+OVER_SELECTIONS: list[tuple[list[str], Callable[[bytes, Selection], Ended]]] = [
+    (["audit"], audit),
+    (["audit", "--each"], lambda archive, asked: audit(archive, asked, True)),
+    (["show"], show),
+    (["repack"], repack),
+    (["repack", "--stretches"], lambda archive, asked: repack(archive, asked, True)),
+    (["repack", "--stretches", "--leave"], lambda archive, asked: repack(archive, asked, True, True)),
+]
 
 # The samples of the first stand from 00:00:00 to 00:00:00.75, those of the second from 00:00:00.8 to 00:00:01.55.
 FIRST, SECOND = record(), next_record()
@@ -139,9 +149,9 @@ BAD_PATTERNS = ["", ",", "_", "__", "____", "XX_STA__BHZ,", ",XX_STA__BHZ", "XX_
                 "XX_STA__BHZ,,*_*_*_*", "XX_STA__BHZ;XX_STA__BHN", "XX_STA__BH\\Z", "XX_STA__BHZ\n", "*"]
 
 
-def words() -> Cases:
+def words(taking: Sequence[str]) -> Cases:
     """Which words mean something, and which commands take them."""
-    for command in (["select"], ["audit"], ["show"], ["repack"], ["audit", "--each"], ["repack", "--stretches"]):
+    for command in [["select"], *(command for command, _ in OVER_SELECTIONS if command[0] in taking)]:
         for option, bad in [("--from", BAD_TIMES), ("--until", BAD_TIMES), ("--channels", BAD_PATTERNS)]:
             chosen_words = bad if command == ["select"] else bad[:3]
             for word in chosen_words:
@@ -188,8 +198,15 @@ def awaited(stream: IO[bytes]) -> bytes:
     return os.read(stream.fileno(), len(FIRST)) if ready.select([stream], [], [], 30)[0] else b""
 
 
-def others() -> Cases:
+def others(taking: Sequence[str]) -> Cases:
     """What the other commands say of the records that are asked for."""
+    for row in worked_out():
+        if row.words[0] in taking:
+            yield row
+
+
+def worked_out() -> Iterator[Row]:
+    """The same, by hand."""
     late = record(codes=b"STA    BHNXX", second=5)
     archive = late + FIRST + late + SECOND + record(second=3)
     words = ["--channels", "XX_*__BHZ", "--from", f"{DAY}T00:00:00.8"]
@@ -213,7 +230,7 @@ def others() -> Cases:
               repack(FIRST + SECOND)[0])
 
 
-def as_in_python() -> Cases:
+def as_in_python(taking: Sequence[str]) -> Cases:
     """Made archives, by windows on both sides of their records and by patterns."""
     seen = {"all": 0, "some": 0, "none": 0, "untimed": 0, "fault": 0}
     with Batch() as batch:
@@ -224,18 +241,16 @@ def as_in_python() -> Cases:
                 asked = selection_for(source, archive)
                 yield compared(batch, f"seed {seed}", ["select"], asked, archive, select(archive, asked))
                 note(seen, archive, asked)
-            for command, ended in [(["audit"], audit(archive, asked)), (["show"], show(archive, asked)),
-                                   (["audit", "--each"], audit(archive, asked, True)),
-                                   (["repack"], repack(archive, asked)),
-                                   (["repack", "--stretches"], repack(archive, asked, True)),
-                                   (["repack", "--stretches", "--leave"], repack(archive, asked, True, True))]:
-                yield compared(batch, f"seed {seed}", command, asked, archive, ended)
+            for command, of_records in OVER_SELECTIONS:
+                if command[0] in taking:
+                    ended = of_records(archive, asked)
+                    yield compared(batch, f"seed {seed}", command, asked, archive, ended)
     yield holds("windows ask for all, some and none, and count records without a time, and faults",
                 min(seen.values()) > ARCHIVES * WINDOWS // 40, seen)
 
 
 def compared(batch: Batch, name: str, command: list[str], asked: Selection, archive: bytes,
-             ended: tuple[bytes, bytes, int]) -> Fact:
+             ended: Ended) -> Fact:
     """A run, and what must come of it."""
     came = batch.run([*command, *asked.words()], archive)
     return Fact(f"{name}: {' '.join([*command, *asked.words()])}", ended, (came.out, came.err, came.status))
@@ -251,10 +266,17 @@ def note(seen: dict[str, int], archive: bytes, asked: Selection) -> None:
 
 
 def rows() -> Cases:
-    """All of them. Where the command isn't there, that is one failure, and not thousands."""
+    """All of them. A command that isn't there, or takes no selection, is one failure, and not thousands."""
     there = Row("select of nothing", b"", ["select"], 0)
     yield there
     if there.run().status != 0:
         return
-    for make in (windows, headers, channels, faults, words, as_they_come, others, as_in_python):
+    taking = []
+    for command, ended in [("audit", audit(b"")), ("show", show(b"")), ("repack", repack(b""))]:
+        row = Row(f"{command} takes a selection", b"", [command, "--channels=___"], 0, ended[0])
+        yield row
+        taking += [command] * (row.run().status == 0)
+    for make in (windows, headers, channels, faults, as_they_come):
         yield from make()
+    for make_with in (words, others, as_in_python):
+        yield from make_with(taking)

@@ -5,6 +5,7 @@ program in Python; here the words are compared with it (models/selecting.py)."""
 from __future__ import annotations
 
 import os
+import tempfile
 from random import Random
 from typing import Callable, Sequence
 
@@ -87,15 +88,20 @@ def cut_anywhere(source: Random, archive: bytes) -> list[bytes]:
     return [archive[begin:end] for begin, end in zip([0, *cuts], [*cuts, len(archive)])]
 
 
+def is_there(command: list[str]) -> bool:
+    """Whether a command is there, and takes its options."""
+    return Row("", b"", [*command, "/dev/null"], 0).run().status == 0
+
+
 def cuts() -> Cases:
-    """Each archive is cut once, and goes to one of the commands."""
-    blamed = set()
+    """Each archive is cut once, and goes to one of the commands that are there."""
+    blamed, commands = set(), [one for one in COMMANDS if is_there(one[0])]
     with Files() as files:
         for seed in range(SEED, SEED + COUNT):
             source = Random(seed)
             archive = archive_for(source)
             pieces, given = cut_anywhere(source, archive), source.randrange(2 * MOST_FILES)
-            command, of_one = source.choice(COMMANDS)
+            command, of_one = source.choice(commands)
             out, err, status = of_one(archive)
             words = files.words(pieces, given)
             last = fault_line(archive, [(word.encode(), len(piece)) for word, piece in zip(words, pieces)])
@@ -103,12 +109,22 @@ def cuts() -> Cases:
             came = files.run_over(command, pieces, given)
             yield Fact(f"seed {seed}: {' '.join(command)}, files of {[len(piece) for piece in pieces]} bytes",
                        (out, err + last, status), (came.out, came.err, came.status))
-    yield holds("faults lie in each of the files, in standard input, and in none", len(blamed) == MOST_FILES + 2, blamed)
+    are_all = len(blamed) == MOST_FILES + 2
+    yield holds("faults lie in each of the files, in standard input, and in none", are_all, blamed)
 
 
 def rows() -> Cases:
-    """All of them. Where `select` isn't there, that is one failure, and not thousands."""
-    there = Row("select of nothing", b"", ["select", "/dev/null"], 0)
-    yield there
-    if there.run().status == 0:
+    """All of them. A command that isn't there, or no line that says in which file a fault lies, is one failure, and not
+    thousands."""
+    for command, _ in COMMANDS:
+        yield holds(f"{' '.join(command)} is there", is_there(command))
+    with tempfile.TemporaryDirectory() as folder:
+        path = os.path.join(folder, "a.mseed")
+        with open(path, "wb") as file:
+            file.write(JUNK[1])
+        tells = Row("in which file a fault lies", b"", ["show", path], 2, b"records 0\nfault at 0 notdata\n",
+                    b"mseed: fault in %b at 0\n" % os.fsencode(path))
+        yield tells
+        does_tell = tells.fault() is None
+    if does_tell:
         yield from cuts()
