@@ -4,10 +4,11 @@
 _mseed_words()
 {
     case $1 in
-        "") echo audit join show repack serve fetch --help --version ;;
-        audit) echo --each --part ;;
+        "") echo audit join show select repack serve fetch --help --version ;;
+        audit) echo --each --part --channels --from --until ;;
         join) echo --part --each --past-faults --expect ;;
-        repack) echo --length --encoding --stretches --leave ;;
+        show | select) echo --channels --from --until ;;
+        repack) echo --length --encoding --stretches --leave --channels --from --until ;;
         serve) echo --port --station --network --address --timeout --capacity --first --connections --live --clients ;;
         fetch) echo --port --station --network --address --timeout --from --tries --tell-next --holes ;;
     esac
@@ -27,7 +28,7 @@ _mseed()
     for ((at = 1; at < COMP_CWORD; at++)); do
         case ${COMP_WORDS[at]} in
             --) ended=yes ;;
-            audit | join | show | repack | serve | fetch) command=${command:-${COMP_WORDS[at]}} ;;
+            audit | join | show | select | repack | serve | fetch) command=${command:-${COMP_WORDS[at]}} ;;
         esac
     done
     case $command in
@@ -39,7 +40,7 @@ _mseed()
         --encoding) proposed='int16 int32 steim1 steim2' ;;
         --address) [ "$command" = fetch ] && mapfile -t COMPREPLY < <(compgen -A hostname -- "$word") ;;
         --expect | --port | --station | --network | --timeout | --capacity | --first | --connections | --clients | \
-            --from | --tries)
+            --from | --tries | --channels | --until)
             compopt +o bashdefault +o default 2> /dev/null
             ;;
         *) [[ ! $command || $word == -* ]] && proposed=$(_mseed_words "$command") ;;

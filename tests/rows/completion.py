@@ -12,7 +12,7 @@ from driver.program import ROOT
 from driver.rows import Cases, Fact, Row, holds
 
 COMPLETION = ROOT / "completion" / "mseed.bash"
-COMMANDS = ["audit", "join", "show", "repack", "serve", "fetch"]
+COMMANDS = ["audit", "join", "show", "select", "repack", "serve", "fetch"]
 FEED = ["serve", "fetch"]
 
 # What is proposed for the last of the words, and whether files would be, if nothing is.
@@ -57,7 +57,7 @@ def options() -> Cases:
 def values() -> Iterator[tuple[list[str], list[str], bool]]:
     """Words, what is proposed for the last of them, and whether files are."""
     yield [""], sorted([*COMMANDS, "--help", "--version"]), False
-    yield ["s"], ["serve", "show"], False
+    yield ["s"], ["select", "serve", "show"], False
     yield ["x"], [], False
     yield ["--e"], [], False
     for command in COMMANDS:
@@ -71,6 +71,10 @@ def values() -> Iterator[tuple[list[str], list[str], bool]]:
     yield ["join", "--e"], ["--each", "--expect"], False
     yield ["join", "--expect", ""], [], False
     yield ["join", "--expect", "2", ""], [], True
+    yield ["select", "--"], ["--channels", "--from", "--until"], False
+    yield ["select", "--from", ""], [], False
+    yield ["select", "--until", "2024-05-14", ""], [], True
+    yield ["show", "--channels", ""], [], False
     yield ["repack", "--length", ""], ["1024", "128", "2048", "256", "4096", "512"], False
     yield ["repack", "--length", "=", ""], ["1024", "128", "2048", "256", "4096", "512"], False
     yield ["repack", "--length", "="], ["1024", "128", "2048", "256", "4096", "512"], False
