@@ -187,17 +187,17 @@ def place_of(offset: int, sizes: Sequence[int]) -> tuple[int, int]:
 
 def fault_place(archive: bytes, sizes: Sequence[int]) -> Optional[tuple[int, int]]:
     """Which of the files with these sizes has the archive's fault, and where in it: the file in which its offset lies,
-    or, where a file ends within the record before it, that file and record."""
+    or, where the record before it begins in another one, that file and record. A record that is cut off has its own
+    place, unless a file ends within the record before it."""
     records, end, fault = cut(archive)
     if not fault:
         return None
     place = place_of(end, sizes)
-    if records and not fault.startswith("truncated"):
-        before = place_of(records[-1][0], sizes)
-        ended = place_of(end - 1, sizes)
-        if before[0] != ended[0]:
-            return before
-    return place
+    if not records:
+        return place
+    before = place_of(records[-1][0], sizes)
+    reached = place_of(end - 1, sizes) if fault.startswith("truncated") else place
+    return before if before[0] != reached[0] else place
 
 
 def fault_line(archive: bytes, files: Sequence[tuple[bytes, int]]) -> bytes:
