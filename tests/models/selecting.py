@@ -167,10 +167,10 @@ def line_of(offset: int, record: Record) -> str:
 
 
 def repack(archive: bytes, selection: Selection = Selection(), stretches: bool = False, leave: bool = False) -> Ended:
-    """Packing their channels anew into Steim-2, 512 bytes a record."""
+    """Packing their channels anew into Steim-2, 512 bytes a record. Of an archive with a fault nothing is taken."""
     found = chosen(archive, selection)
     if found.fault:
-        return b"", found.errors(f"mseed: fault at {found.end} {found.fault}\n".encode()), 2
+        return b"", f"mseed: fault at {found.end} {found.fault}\n".encode(), 2
     channels = by_channel(found.records)
     output, errors, status = restretched_channels(channels, leave=leave) if stretches else repacked(channels)
     return output, found.errors(errors), status
