@@ -2,7 +2,7 @@
 """Draws docs/architecture.svg: the crates by what they stand on, as crates.txt says, and the ways of a record.
 
     architecture.py           writes the drawing
-    architecture.py --check   compares it with what stands there, and the table of architecture.md with crates.txt
+    architecture.py --check   compares it with what stands there, and the tables of architecture.md with crates.txt
 
 A line is drawn from a crate to each one that it uses, but for those that it reaches through another. A crate's row
 is the length of its longest way down. A crate that no column is given for, boxes that overlap, or a call of a way that
@@ -54,6 +54,12 @@ WAYS = {
         ("mseed_steim", "check_samples"),
         ("mseed_time", "join"),
         ("mseed_audit", "Audit, audit"),
+    ],
+    "select: those of its records that are asked for are copied": [
+        ("mseed_stream", "Cutter"),
+        ("mseed_record", "RecordView"),
+        ("mseed_select", "Selector"),
+        ("mseed_select", "select"),
     ],
     "repack: its channels become records of one form": [
         ("mseed_stream", "read_all, split"),
@@ -176,8 +182,11 @@ def faults():
     places = sorted((depth(crate, used), CRATES[crate][0], crate) for crate in used)
     for (row, column, crate), (next_row, next_column, other) in zip(places, places[1:]):
         yield f"{crate} and {other} are drawn over one another", row == next_row and next_column < column + 1
-    rows = dict(re.findall(r"^\| `(\w+)` \|[^|]*\|([^|]*)\|", text_of("docs", "architecture.md"), re.MULTILINE))
+    page = text_of("docs", "architecture.md")
+    rows = dict(re.findall(r"^\| `(\w+)` \|[^|]*\|([^|]*)\|", page, re.MULTILINE))
+    needed = re.findall(r"^\| [^|`]* \| `(\w+)` \|$", page, re.MULTILINE)
     for crate in used:
+        yield f"docs/architecture.md doesn't say once who needs {crate} alone", needed.count(crate) != 1
         listed = re.findall(r"`(\w+)`", rows.get(crate, ""))
         yield (f"docs/architecture.md: {crate} stands on {nearest(crate, used)}, and not on {listed}",
                crate not in rows or sorted(listed) != sorted(nearest(crate, used)))
