@@ -5,7 +5,7 @@ ghost use Rattle.slink_live.specs.Happening.{Happening, Received};
 ghost use Rattle.slink_live.specs.Served.{IsServing, IsSound};
 
 use slink_feed::{Feed, Ring};
-use slink_live::{Event, InputFault, Log, Ready, Server, Wishes};
+use slink_live::{Event, InputFault, Interest, Log, Ready, Server};
 use std::alloc::{AllocError, Global};
 
 /// A server of one ring, with room for 64 links.
@@ -51,12 +51,12 @@ pub fn read_by_hand<R: Ready>(ready: &mut R, bytes: &mut [u8]) -> usize {
             0
         }
         Event::Nothing => {
-            let wishes = Wishes {
+            let interest = Interest {
                 reads: true,
                 writes: false,
                 is_streaming: false,
             };
-            ready.wants(0, wishes);
+            ready.wants(0, interest);
             0
         }
     }
@@ -76,9 +76,9 @@ pub fn log_of_a_link() -> Log {
 
 /// A log of what a device was told: that a link is read and written, that no further one is wanted, though one that
 /// dialled was gone already, and that the input is read no more.
-pub fn log_of_what_was_told(wishes: Wishes) -> Log {
+pub fn log_of_what_was_told(interest: Interest) -> Log {
     let mut log = Log::new();
-    log.wants(0, wishes);
+    log.wants(0, interest);
     log.missed(1);
     log.wants_links(false);
     log.left();

@@ -3,7 +3,7 @@ ghost use Rattle.std.specs.Prelude.{◌≡◌, ◌≢◌, ◌≤◌, [], length,
 
 use crate::digest::Digest;
 use crate::failure::Failure;
-use slink_live::{Event, Log, Ready, Wishes};
+use slink_live::{Event, Interest, Log, Ready};
 use std::alloc::Global;
 
 /// An input and links in memory. All links dial before the input comes; what a link accepts goes into a digest.
@@ -20,7 +20,7 @@ pub(crate) struct Links<'a> {
     bite: usize,
     // How many bytes each has said, and what is wanted of it.
     said: Vec<usize>,
-    wishes: Vec<Wishes>,
+    interest: Vec<Interest>,
     // The slot that is looked at first, and whether the input has ended.
     first: usize,
     is_ended: bool,
@@ -30,7 +30,7 @@ pub(crate) struct Links<'a> {
 }
 
 /// Nothing is wanted.
-const IDLE: Wishes = Wishes {
+const IDLE: Interest = Interest {
     reads: false,
     writes: false,
     is_streaming: false,
@@ -47,8 +47,8 @@ impl<'a> Links<'a> {
     ) -> Result<Links<'a>, Failure> {
         let mut said = Vec::new(alloc);
         said.resize(most, 0)?;
-        let mut wishes = Vec::new(alloc);
-        wishes.resize(most, IDLE)?;
+        let mut interest = Vec::new(alloc);
+        interest.resize(most, IDLE)?;
         Ok(Links {
             input,
             most,
@@ -57,7 +57,7 @@ impl<'a> Links<'a> {
             requests,
             bite,
             said,
-            wishes,
+            interest,
             first: 0,
             is_ended: false,
             is_over: false,
@@ -136,11 +136,11 @@ impl<'a> Links<'a> {
     fn event_of(&self, slot: usize) -> Option<Event>
         ensures { IfSome result (λ event. event ≢ Event.Nothing) }
     {
-        let wishes = self.wishes.get(slot).copied().unwrap_or(IDLE);
-        if wishes.writes {
+        let interest = self.interest.get(slot).copied().unwrap_or(IDLE);
+        if interest.writes {
             return Some(Event::Writable(slot));
         }
-        if wishes.reads && !self.left(slot).is_empty() {
+        if interest.reads && !self.left(slot).is_empty() {
             return Some(Event::Readable(slot));
         }
         None
@@ -198,18 +198,18 @@ impl Ready for Links<'_> {
     }
 
     fn close(&mut self, slot: usize) {
-        if let Some(wishes) = self.wishes.get_mut(slot) {
-            *wishes = IDLE;
+        if let Some(interest) = self.interest.get_mut(slot) {
+            *interest = IDLE;
         }
         self.digest.number(slot as u64);
         self.log.gone(slot);
     }
 
-    fn wants(&mut self, slot: usize, wishes: Wishes) {
-        if let Some(place) = self.wishes.get_mut(slot) {
-            *place = wishes;
+    fn wants(&mut self, slot: usize, interest: Interest) {
+        if let Some(place) = self.interest.get_mut(slot) {
+            *place = interest;
         }
-        self.log.wants(slot, wishes);
+        self.log.wants(slot, interest);
     }
 
     fn wants_links(&mut self, wanted: bool) {

@@ -8,7 +8,7 @@ use Rattle.slink_feed.specs.Session.{Grants, IsWaiting, State, all_done, at_next
 use Rattle.slink_feed.specs.Session.{sent_in, sent_of}
 use Rattle.slink_feed.specs.Window.{Window, record_at}
 use Rattle.slink_live.specs.declared.places.Places.{Places}
-use Rattle.slink_live.specs.declared.ready.Wishes.{Wishes}
+use Rattle.slink_live.specs.declared.ready.Interest.{Interest}
 use Rattle.slink_live.specs.Awake.{AreSame, IsClosable, IsLost, IsSettled, Sleeps, has_all, is_lost, is_over, waits}
 use Rattle.slink_live.specs.Awake.{writes}
 use Rattle.slink_live.specs.Served.{LinkState}
@@ -98,22 +98,22 @@ was_lost old new s alike lost = record {
 
 module _ (old new : List Window) (l : LinkState) (long : length new ≡ length old)
     (alike : l.session.state.phase ≡ Phases.Streaming → AreAlike old new l.session.state.grants) where
-  was_closable : (is_ended : Bool) → IsClosable new is_ended l → IsClosable old is_ended l
-  was_closable is_ended (is_over over) = is_over over
-  was_closable is_ended (is_lost lost) = is_lost (was_lost old new l.session.state alike lost)
-  was_closable is_ended (has_all ended all) = has_all ended (record {
+  was_closable : (has_ended : Bool) → IsClosable new has_ended l → IsClosable old has_ended l
+  was_closable has_ended (is_over over) = is_over over
+  was_closable has_ended (is_lost lost) = is_lost (was_lost old new l.session.state alike lost)
+  was_closable has_ended (has_all ended all) = has_all ended (record {
     streams = all.streams;
     waits = waited old new l.session.state long alike all.waits;
     none = all.none;
   })
 
-  sleeps_on : (w : Wishes) → Sleeps old l w → Sleeps new l w
+  sleeps_on : (w : Interest) → Sleeps old l w → Sleeps new l w
   sleeps_on w (writes some wants) = writes some wants
   sleeps_on w (waits none wants waiting) = waits none wants (waits_on old new l.session.state long alike waiting)
 
-  settled_on : (is_ended : Bool) (w : Wishes) → IsSettled old is_ended l w → IsSettled new is_ended l w
-  settled_on is_ended w settled = record {
-    stands = λ c. settled.stands (was_closable is_ended c);
+  settled_on : (has_ended : Bool) (w : Interest) → IsSettled old has_ended l w → IsSettled new has_ended l w
+  settled_on has_ended w settled = record {
+    stands = λ c. settled.stands (was_closable has_ended c);
     sleeps = sleeps_on w settled.sleeps;
     filled = λ room. elim (settled.filled room) [
       | inl waiting ↦ inl (waits_on old new l.session.state long alike waiting)
@@ -126,7 +126,7 @@ module _ (old new : List Window) (l : LinkState) (long : length new ≡ length o
 -- A link that is sent no records of the places that got some.
 pub settled_apart : (old new : List Window) (places : Places) (o : Option LinkState) (l : LinkState)
     → length new ≡ length old → StaysBut places old new → LeavesOut places o → o ≡ Some l
-    → (is_ended : Bool) (w : Wishes) → IsSettled old is_ended l w → IsSettled new is_ended l w
+    → (has_ended : Bool) (w : Interest) → IsSettled old has_ended l w → IsSettled new has_ended l w
 settled_apart old new places o l long stays out is =
     settled_on old new l long (λ streams. alike_by old new l.session.state.grants
     (λ k g granted. stays k (out l is streams k g granted)))

@@ -14,7 +14,7 @@ abbrev pub begun : List Window → List (Option LinkState) → ServerState
 begun feed links = record {
   intake = record { feed = feed; kept = []; records = 0 };
   links = links;
-  is_ended = false;
+  has_ended = false;
   reads = 0;
 }
 

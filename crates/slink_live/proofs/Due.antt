@@ -74,9 +74,9 @@ module _ (feed : List Window) (s : State) (due : Places) where
   }
 
   -- It is the turn of the first of them.
-  pub due_turn : (place k : ℕ) → AreDue feed s due → Has due k
-      → ((j : ℕ) → IsEarlier place j k → ¬ (Has due j)) → IsTurn feed s place k
-  due_turn place k d has first = record {
+  pub due_turn : (ring k : ℕ) → AreDue feed s due → Has due k
+      → ((j : ℕ) → IsEarlier ring j k → ¬ (Has due j)) → IsTurn feed s ring k
+  due_turn ring k d has first = record {
     within = (d.within k has).0;
     sends = sends_here feed s k d.streams (d.within k has).0 (d.ready k has);
     first = λ j lt earlier. waits_beside feed s k j d.streams (d.within k has).0 (d.ready k has) lt
@@ -169,11 +169,11 @@ gives_end feed k old new g streams lt at =
 -- The session was called where no record is due, and it may have said that all is sent.
 module _ (feed : List Window) (old new : LinkState) where
   pub asks_or : (b : Bool)
-      → OnTrue b (Asks feed old.session old.place old.pending new.session new.place new.pending)
-      → OnFalse b (new ≡ old) → Asks feed old.session old.place old.pending new.session new.place new.pending
+      → OnTrue b (Asks feed old.session old.ring old.pending new.session new.ring new.pending)
+      → OnFalse b (new ≡ old) → Asks feed old.session old.ring old.pending new.session new.ring new.pending
   asks_or true asked same = asked
   asks_or false asked same =
-      subst (λ (x : LinkState). Asks feed old.session old.place old.pending x.session x.place x.pending) (sym same)
+      subst (λ (x : LinkState). Asks feed old.session old.ring old.pending x.session x.ring x.pending) (sym same)
       none_called
 
   pub filled_or : (b : Bool) → OnTrue b (new.session.state.phase ≡ Phases.Closed) → OnFalse b (new ≡ old)

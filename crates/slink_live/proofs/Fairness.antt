@@ -81,10 +81,10 @@ due_before feed s t k j a ne e d =
       behind = d.behind;
     }
 
-due_back : (feed : List Window) (j : ℕ) (s : State) (place : ℕ) (ks : List ℕ) (t : State) (turn : ℕ)
-    → TakesTurns feed s place ks t turn → HasDue feed t j → ¬ (IsAmong j ks) → HasDue feed s j
-due_back feed j s place ks t turn (no_more u p) d none = d
-due_back feed j s place ks t turn (next_called u now last p q k a more first e on) d none =
+due_back : (feed : List Window) (j : ℕ) (s : State) (ring : ℕ) (ks : List ℕ) (t : State) (turn : ℕ)
+    → TakesTurns feed s ring ks t turn → HasDue feed t j → ¬ (IsAmong j ks) → HasDue feed s j
+due_back feed j s ring ks t turn (no_more u p) d none = d
+due_back feed j s ring ks t turn (next_called u now last p q k a more first e on) d none =
     due_before feed u now k j a (λ x. none (inl x)) e
     (due_back feed j now (k + 1) more last q on d (λ x. none (inr x)))
 
@@ -114,7 +114,7 @@ due_sends feed s j d waits =
 
 -- In a round from behind a place on, another one has not been passed.
 abbrev IsAhead : ℕ → ℕ → ℕ → Type 0
-IsAhead k place j = ((k < place) × (place ≤ j)) ⊎ ((j < k) × (k < place)) ⊎ ((j < k) × (place ≤ j))
+IsAhead k ring j = ((k < ring) × (ring ≤ j)) ⊎ ((j < k) × (k < ring)) ⊎ ((j < k) × (ring ≤ j))
 
 ahead_first : (k j : ℕ) → j ≢ k → IsAhead k (k + 1) j
 ahead_first k j ne = elim (leb_tells j k) [
@@ -122,39 +122,39 @@ ahead_first k j ne = elim (leb_tells j k) [
   | inr behind ↦ inl (omega arith, omega (arith, behind.1))
 ]
 
-ahead_on : (k place j m : ℕ) → IsAhead k place j → ¬ (IsEarlier place j m) → j ≢ m → IsAhead k (m + 1) j
-ahead_on k place j m (inl one) none ne = elim (leb_tells place m) [
+ahead_on : (k ring j m : ℕ) → IsAhead k ring j → ¬ (IsEarlier ring j m) → j ≢ m → IsAhead k (m + 1) j
+ahead_on k ring j m (inl one) none ne = elim (leb_tells ring m) [
   | inr before ↦ absurd (none (inr (inl (before.1, one.1))))
   | inl behind ↦ elim (leb_tells m j) [
     | inr passed ↦ absurd (none (inl (one.1, passed.1)))
     | inl still ↦ inl (omega (arith, one.0, behind.1), omega (arith, still.1, ne))
   ]
 ]
-ahead_on k place j m (inr (inl two)) none ne = elim (leb_tells place m) [
+ahead_on k ring j m (inr (inl two)) none ne = elim (leb_tells ring m) [
   | inl behind ↦ inr (inl (two.0, omega (arith, two.1, behind.1)))
   | inr before ↦ elim (leb_tells m j) [
     | inr passed ↦ absurd (none (inr (inr (before.1, passed.1))))
     | inl still ↦ inr (inr (two.0, omega (arith, still.1, ne)))
   ]
 ]
-ahead_on k place j m (inr (inr three)) none ne = elim (leb_tells m j) [
+ahead_on k ring j m (inr (inr three)) none ne = elim (leb_tells m j) [
   | inr passed ↦ absurd (none (inl (three.1, passed.1)))
   | inl still ↦ inr (inr (three.0, omega (arith, still.1, ne)))
 ]
 
-ahead_last : (k place j : ℕ) → IsAhead k place j → IsEarlier place j k
-ahead_last k place j (inl one) = inr (inl one)
-ahead_last k place j (inr (inl two)) = inr (inr (two.1, two.0))
-ahead_last k place j (inr (inr three)) = inl (three.1, three.0)
+ahead_last : (k ring j : ℕ) → IsAhead k ring j → IsEarlier ring j k
+ahead_last k ring j (inl one) = inr (inl one)
+ahead_last k ring j (inr (inl two)) = inr (inr (two.1, two.0))
+ahead_last k ring j (inr (inr three)) = inl (three.1, three.0)
 
 within_due : (feed : List Window) (s : State) (j : ℕ) → HasDue feed s j → j < length feed
 within_due feed s j d = slice_get_within feed j d.ring d.there
 
-ahead_all : (feed : List Window) (k j : ℕ) (s : State) (place : ℕ) (ks : List ℕ) (t : State) (turn : ℕ)
-    → TakesTurns feed s place ks t turn → HasDue feed t j → ¬ (IsAmong j ks) → IsAhead k place j
+ahead_all : (feed : List Window) (k j : ℕ) (s : State) (ring : ℕ) (ks : List ℕ) (t : State) (turn : ℕ)
+    → TakesTurns feed s ring ks t turn → HasDue feed t j → ¬ (IsAmong j ks) → IsAhead k ring j
     → IsAhead k turn j
-ahead_all feed k j s place ks t turn (no_more u p) d none ahead = ahead
-ahead_all feed k j s place ks t turn (next_called u now last p q m a more first e on) d none ahead =
+ahead_all feed k j s ring ks t turn (no_more u p) d none ahead = ahead
+ahead_all feed k j s ring ks t turn (next_called u now last p q m a more first e on) d none ahead =
     let due : HasDue feed u j = due_back feed j u p (m ∷ more) last q (next_called u now last p q m a more first e on) d
     none in
     let never : ¬ (IsEarlier p j m) = λ x. due_sends feed u j due (first.first j (within_due feed u j due) x) in
@@ -172,10 +172,10 @@ among j (k ∷ ks) = elim (eqb_tells j k) [
 ]
 
 -- Between two calls for a place each other one that has a record due at the second was called.
-pub between : (feed : List Window) (s : State) (place k : ℕ) (mid : List ℕ) (t : State) (turn : ℕ)
-    → TakesTurns feed s place (k ∷ mid) t turn → IsTurn feed t turn k → (j : ℕ) → j ≢ k → HasDue feed t j
+pub between : (feed : List Window) (s : State) (ring k : ℕ) (mid : List ℕ) (t : State) (turn : ℕ)
+    → TakesTurns feed s ring (k ∷ mid) t turn → IsTurn feed t turn k → (j : ℕ) → j ≢ k → HasDue feed t j
     → IsAmong j mid
-between feed s place k mid t turn (next_called u now last p q m a more first e on) again j ne due =
+between feed s ring k mid t turn (next_called u now last p q m a more first e on) again j ne due =
     elim (among j mid) [
       | inl is ↦ is
       | inr none ↦ absurd (due_sends feed t j due (again.first j (within_due feed t j due)
@@ -183,23 +183,23 @@ between feed s place k mid t turn (next_called u now last p q m a more first e o
     ]
 
 -- What a session is called for are turns.
-turns_last : (feed : List Window) (s : State) (place : ℕ) (ks : List ℕ) (now : State) (turn : ℕ) (last : State)
-    (k : ℕ) (answer : Sent) → TakesTurns feed s place ks now turn → IsTurn feed now turn k
-    → sent feed now k ≡ (last, answer) → TakesTurns feed s place (ks ++ k ∷ []) last (k + 1)
-turns_last feed s place ks now turn last k answer (no_more u p) first e =
+turns_last : (feed : List Window) (s : State) (ring : ℕ) (ks : List ℕ) (now : State) (turn : ℕ) (last : State)
+    (k : ℕ) (answer : Sent) → TakesTurns feed s ring ks now turn → IsTurn feed now turn k
+    → sent feed now k ≡ (last, answer) → TakesTurns feed s ring (ks ++ k ∷ []) last (k + 1)
+turns_last feed s ring ks now turn last k answer (no_more u p) first e =
     next_called u last last p (k + 1) k answer [] first e (no_more last (k + 1))
-turns_last feed s place ks now turn last k answer (next_called u v w p q m a more before x on) first e =
+turns_last feed s ring ks now turn last k answer (next_called u v w p q m a more before x on) first e =
     next_called u v last p (k + 1) m a (more ++ k ∷ []) before x
     (turns_last feed v (m + 1) more w q last k answer on first e)
 
-pub asked_turns : (feed : List Window) (s : Standing) (place : ℕ) (way : List ℕ) (last : Standing) (turn : ℕ)
-    (all : List ℕ) → Asks feed s place way last turn all
-    → (ks : List ℕ) × TakesTurns feed s.state place ks last.state turn
-asked_turns feed s place way last turn all none_called = ([], no_more s.state place)
-asked_turns feed s place way last turn all (one_called now t m k answer on a before first given held is) =
-    let earlier : (ks : List ℕ) × TakesTurns feed s.state place ks now.state m =
-    asked_turns feed s place way now m on before in
-    (earlier.0 ++ k ∷ [], turns_last feed s.state place earlier.0 now.state m t.state k answer earlier.1 first given)
+pub asked_turns : (feed : List Window) (s : Standing) (ring : ℕ) (way : List ℕ) (last : Standing) (turn : ℕ)
+    (all : List ℕ) → Asks feed s ring way last turn all
+    → (ks : List ℕ) × TakesTurns feed s.state ring ks last.state turn
+asked_turns feed s ring way last turn all none_called = ([], no_more s.state ring)
+asked_turns feed s ring way last turn all (one_called now t m k answer on a before first given held is) =
+    let earlier : (ks : List ℕ) × TakesTurns feed s.state ring ks now.state m =
+    asked_turns feed s ring way now m on before in
+    (earlier.0 ++ k ∷ [], turns_last feed s.state ring earlier.0 now.state m t.state k answer earlier.1 first given)
 
 -- What a call for a place leaves of that place: where it has no grant, all.
 leaves_here : (feed : List Window) (s : State) (k : ℕ) (p : Phase) → grant_at s.grants k ≡ None

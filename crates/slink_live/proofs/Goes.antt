@@ -20,7 +20,7 @@ goes_both a b c x y = (x.0 ++ y.0, y.1 ∙ (ap (λ z. z ++ y.0) x.1 ∙ append_a
 
 -- This happened, and then links were closed. It is nothing of an input that is read no more.
 abbrev ComesTo : ServerState → List Happening → List Happening → Type 0
-ComesTo s log last = (more : List Happening) × Closes (log ++ more) last × (s.is_ended ≡ true → input_of more ≡ [])
+ComesTo s log last = (more : List Happening) × Closes (log ++ more) last × (s.has_ended ≡ true → input_of more ≡ [])
 
 comes_closed : (s : ServerState) (log last : List Happening) → Closes log last → ComesTo s log last
 comes_closed s log last c = ([], subst (λ (x : List Happening). Closes x last) (sym (append-nil log)) c, λ e. refl)
@@ -86,7 +86,7 @@ module _ {s t : ServerState} {first log now : List Happening} (e : Event) (so_fa
       → Goes (IsClosedRightly start) first now
   said_closed start v a = further log now (Next e) (so_far.closed start v a) tt said
 
-  said_unread : s.is_ended ≡ true → (t.is_ended ≡ true) × (input_of now ≡ input_of first)
+  said_unread : s.has_ended ≡ true → (t.has_ended ≡ true) × (input_of now ≡ input_of first)
   said_unread ended =
       let at = so_far.unread ended in
       (at.0, ap input_of said ∙ (input_append log (Next e ∷ []) ∙ (append-nil (input_of log) ∙ at.1)))

@@ -34,19 +34,19 @@ pub covers_none : (places : Places) (o : Option LinkState) → o ≡ None → Co
 covers_none places o none l is = absurd (let bad : None ≡ Some l = sym none ∙ is in cc bad)
 
 -- one whose session was called for packets
-asked_streams : (feed : List Window) (s : Standing) (place : ℕ) (way : List ℕ) (last : Standing) (turn : ℕ)
-    (all : List ℕ) → Asks feed s place way last turn all → last.state.phase ≡ Phases.Streaming
+asked_streams : (feed : List Window) (s : Standing) (ring : ℕ) (way : List ℕ) (last : Standing) (turn : ℕ)
+    (all : List ℕ) → Asks feed s ring way last turn all → last.state.phase ≡ Phases.Streaming
     → s.state.phase ≡ Phases.Streaming
-asked_streams feed s place way last turn all none_called streams = streams
-asked_streams feed s place way last turn all (one_called now t m k answer on a before first given held is) streams =
-    asked_streams feed s place way now m on before (streams_no_more feed now.state t.state k answer given streams)
+asked_streams feed s ring way last turn all none_called streams = streams
+asked_streams feed s ring way last turn all (one_called now t m k answer on a before first given held is) streams =
+    asked_streams feed s ring way now m on before (streams_no_more feed now.state t.state k answer given streams)
 
-asked_grants : (feed : List Window) (s : Standing) (place : ℕ) (way : List ℕ) (last : Standing) (turn : ℕ)
-    (all : List ℕ) → Asks feed s place way last turn all → (j : ℕ) → grant_at s.state.grants j ≡ None
+asked_grants : (feed : List Window) (s : Standing) (ring : ℕ) (way : List ℕ) (last : Standing) (turn : ℕ)
+    (all : List ℕ) → Asks feed s ring way last turn all → (j : ℕ) → grant_at s.state.grants j ≡ None
     → grant_at last.state.grants j ≡ None
-asked_grants feed s place way last turn all none_called j none = none
-asked_grants feed s place way last turn all (one_called now t m k answer on a before first given held is) j none =
-    grants_no_more feed now.state t.state k j answer given (asked_grants feed s place way now m on before j none)
+asked_grants feed s ring way last turn all none_called j none = none
+asked_grants feed s ring way last turn all (one_called now t m k answer on a before first given held is) j none =
+    grants_no_more feed now.state t.state k j answer given (asked_grants feed s ring way now m on before j none)
 
 granted_before : (o : Option Grant) (q : Option Grant) → (o ≡ None → q ≡ None) → (g : Grant) → q ≡ Some g
     → (h : Grant) × (o ≡ Some h)
@@ -66,9 +66,9 @@ covers_filled places feed (Some l) new covers h m is streams k g granted =
     subst (λ (x : LinkState). grant_at x.session.state.grants k ≡ Some g) (sym same) granted in
     let before : (q : Grant) × (grant_at l.session.state.grants k ≡ Some q) =
     granted_before (grant_at l.session.state.grants k) (grant_at h.0.session.state.grants k)
-    (λ none. asked_grants feed l.session l.place l.pending h.0.session h.0.place h.0.pending h.2 k none) g there in
+    (λ none. asked_grants feed l.session l.ring l.pending h.0.session h.0.ring h.0.pending h.2 k none) g there in
     covers l refl
-    (asked_streams feed l.session l.place l.pending h.0.session h.0.place h.0.pending h.2 on) k before.0 before.1
+    (asked_streams feed l.session l.ring l.pending h.0.session h.0.ring h.0.pending h.2 on) k before.0 before.1
 
 -- A call saw the link in a slot.
 module _ {slots links : List (Option LinkState)} (same : slots ≡ links) {granted : List Places}

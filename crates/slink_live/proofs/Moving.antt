@@ -3,9 +3,9 @@ use Rattle.std.proofs.Common.{◌≡◌, ℕ, ◌+◌, ◌<◌, ◌≤◌, ◌�
 use Rattle.std.proofs.Common.{length, length-set, set, not, ◌&&◌, Bool, Option, Some, None, IfSome}
 use Rattle.slink_feed.specs.Session.{Fits}
 use Rattle.slink_feed.specs.Window.{Window}
-use Rattle.slink_live.specs.declared.link.Settled.{Settled}
-use Rattle.slink_live.specs.declared.link.Settled.TheVariants as settled
-use Rattle.slink_live.specs.declared.ready.Wishes.{Wishes}
+use Rattle.slink_live.specs.declared.link.Update.{Update}
+use Rattle.slink_live.specs.declared.link.Update.TheVariants as settled
+use Rattle.slink_live.specs.declared.ready.Interest.{Interest}
 use Rattle.slink_live.specs.Awake.{has_free}
 use Rattle.slink_live.specs.Happening.{Happening, Gone, Opened, Wants, WantsLinks}
 use Rattle.slink_live.specs.Served.{AllFit, IsSound, LinkState, ServerState}
@@ -35,9 +35,9 @@ module _ {s0 s : ServerState} (same : s0 ≡ s) (j : ℕ) (lt : j < length s0.li
   abbrev moved : List (Option LinkState) → ServerState
   moved links = record s0 { links = links }
 
-  abbrev IsFilled : List (Option LinkState) → List Window → Settled → Type 0
+  abbrev IsFilled : List (Option LinkState) → List Window → Update → Type 0
   IsFilled links feed result =
-      Changes j (λ o l. HasFilled feed o l × IsOutcome feed s0.is_ended l result) s0.links links
+      Changes j (λ o l. HasFilled feed o l × IsOutcome feed s0.has_ended l result) s0.links links
 
   module _ {links : List (Option LinkState)} where
     by_set : (P : ServerState → Type 0) (new : Option LinkState) → links ≡ set s0.links j new
@@ -94,26 +94,26 @@ module _ {s0 s : ServerState} (same : s0 ≡ s) (j : ℕ) (lt : j < length s0.li
 
     -- one came
     pub opened_on : {log opened : List Happening} (l : LinkState) → links ≡ set s0.links j (Some l)
-        → get_or s.links j None ≡ None → IsNew l.session → l.pending ≡ [] → l.place ≡ 0
+        → get_or s.links j None ≡ None → IsNew l.session → l.pending ≡ [] → l.ring ≡ 0
         → Fits s.intake.feed l.session.state → opened ≡ log ++ Opened j ∷ [] → KeepsServing s (moved links) log opened
     opened_on {log} {opened} l is free fresh none begins fits now = by_set (λ x. KeepsServing s x log opened) (Some l)
         is (opened_keeps same j lt (Some l) sound l refl free fresh none begins fits now)
 
     pub opens_on : {t : ServerState} {log opened mid last : List Happening} {wanted : Bool} (l : LinkState)
         → links ≡ set s0.links j (Some l) → get_or s.links j None ≡ None → IsNew l.session → l.pending ≡ []
-        → l.place ≡ 0 → Fits s.intake.feed l.session.state → opened ≡ log ++ Opened j ∷ []
-        → mid ≡ opened ++ WantsLinks wanted ∷ [] → wanted ≡ (not s0.is_ended && has_free links)
+        → l.ring ≡ 0 → Fits s.intake.feed l.session.state → opened ≡ log ++ Opened j ∷ []
+        → mid ≡ opened ++ WantsLinks wanted ∷ [] → wanted ≡ (not s0.has_ended && has_free links)
         → Settles j (moved links) t mid last → Tends s t log last
     opens_on {t} {log} {opened} {mid} {last} l is free fresh none begins fits came now wanted settles =
         opened_in same j lt l sound free fresh none begins fits came now
-        (wanted ∙ ap (λ (x : List (Option LinkState)). not s0.is_ended && has_free x) is)
+        (wanted ∙ ap (λ (x : List (Option LinkState)). not s0.has_ended && has_free x) is)
         (subst (λ (x : List (Option LinkState)). Settles j (record s0 { links = x }) t mid last) is settles)
 
     pub within_on : (l : LinkState) → links ≡ set s0.links j (Some l) → j < length links
     within_on l is = omega (arith, lt, length-set s0.links j (Some l), ap length is)
 
     -- its session said what is due
-    pub filled_on : {feed : List Window} {log : List Happening} (result : Settled) → feed ≡ s0.intake.feed
+    pub filled_on : {feed : List Window} {log : List Happening} (result : Update) → feed ≡ s0.intake.feed
         → IsFilled links feed result → KeepsServing s (moved links) log log
     filled_on {feed} {log} result rings c = by_set (λ x. KeepsServing s x log log) c.link c.is
         (filled_keeps same j lt c.link sound rings o_is c.happened.0 refl)
@@ -124,7 +124,7 @@ module _ {s0 s : ServerState} (same : s0 ≡ s) (j : ℕ) (lt : j < length s0.li
     empty_on {feed} {log} rings c = by_set (λ x. Settles j s x log log) c.link c.is
         (seen_empty same j lt sound rings o_is c.link c.happened.0 c.happened.1 refl)
 
-    pub wants_on : {feed : List Window} {log last : List Happening} (w : Wishes) → feed ≡ s0.intake.feed
+    pub wants_on : {feed : List Window} {log last : List Happening} (w : Interest) → feed ≡ s0.intake.feed
         → IsFilled links feed (settled.Wants w) → last ≡ log ++ Wants j w ∷ [] → Settles j s (moved links) log last
     wants_on {feed} {log} {last} w rings c e = by_set (λ x. Settles j s x log last) c.link c.is
         (seen_wants same j lt sound rings o_is c.link w c.happened.0 c.happened.1 e)
@@ -135,13 +135,13 @@ module _ {s0 s : ServerState} (same : s0 ≡ s) (j : ℕ) (lt : j < length s0.li
     ends_at ends new is = ends ∙ ap (λ (x : List (Option LinkState)). record s0 { links = set x j None }) is
 
     pub closes_on : {t : ServerState} {log last : List Happening} → t ≡ record s0 { links = set links j None }
-        → last ≡ (log ++ Gone j ∷ []) ++ WantsLinks (not s0.is_ended) ∷ [] → {feed : List Window}
+        → last ≡ (log ++ Gone j ∷ []) ++ WantsLinks (not s0.has_ended) ∷ [] → {feed : List Window}
         → feed ≡ s0.intake.feed → IsFilled links feed settled.Closes → Settles j s t log last
     closes_on ends e rings c = seen_closes same j lt sound rings o_is c.link c.happened.0 c.happened.1
         (ends_at ends c.link c.is) e
 
     pub closed_on : {t : ServerState} {log last : List Happening} → t ≡ record s0 { links = set links j None }
-        → last ≡ (log ++ Gone j ∷ []) ++ WantsLinks (not s0.is_ended) ∷ [] → {feed : List Window}
+        → last ≡ (log ++ Gone j ∷ []) ++ WantsLinks (not s0.has_ended) ∷ [] → {feed : List Window}
         → feed ≡ s0.intake.feed → IsFilled links feed settled.Closes → KeepsServing (moved links) t log last
     closed_on {t} {log} {last} ends e rings c = by_set (λ x. KeepsServing x t log last) c.link c.is
         (closes_keeps same j lt sound rings o_is c.link c.happened.0 (ends_at ends c.link c.is) e)

@@ -30,7 +30,7 @@ no_piece (Emitted k bytes) e = refl
 no_piece (Gone k) e = refl
 no_piece (Next event) e = refl
 no_piece (Missed k) e = refl
-no_piece (Wants k wishes) e = refl
+no_piece (Wants k interest) e = refl
 no_piece (WantsLinks wanted) e = refl
 no_piece Left e = refl
 
@@ -79,14 +79,14 @@ module _ (start : List Window) (k : ℕ) where
   own_story log o (opens before now t s fresh e) =
       opens (those_of k before) (those_of k now) t (own_story before None s) fresh
       (those_more k before now (Opened k) e (at_self k))
-  own_story log o (hears before now feed t new place bytes produced all emitted s fed serves e) =
-      hears (those_of k before) (those_of k now) feed t new place bytes produced all emitted (own_story before _ s)
+  own_story log o (hears before now feed t new ring bytes produced all emitted s fed serves e) =
+      hears (those_of k before) (those_of k now) feed t new ring bytes produced all emitted (own_story before _ s)
       (fed_those before feed fed) serves (those_more k before now (Received k bytes) e (at_self k))
-  own_story log o (asks now feed t new place turn produced all emitted s fed called) =
-      asks (those_of k now) feed t new place turn produced all emitted (own_story now _ s) (fed_those now feed fed)
+  own_story log o (asks now feed t new ring turn produced all emitted s fed called) =
+      asks (those_of k now) feed t new ring turn produced all emitted (own_story now _ s) (fed_those now feed fed)
       called
-  own_story log o (takes before now t place bytes produced emitted s prefix e) =
-      takes (those_of k before) (those_of k now) t place bytes produced emitted (own_story before _ s) prefix
+  own_story log o (takes before now t ring bytes produced emitted s prefix e) =
+      takes (those_of k before) (those_of k now) t ring bytes produced emitted (own_story before _ s) prefix
       (those_more k before now (Emitted k bytes) e (at_self k))
   own_story log o (goes before now x s e) =
       goes (those_of k before) (those_of k now) x (own_story before x s)
@@ -140,13 +140,13 @@ module _ (start : List Window) (k : ℕ) where
       moment b now h x e (elsewhere b now h x s other e) (each_moment b x s) before after split
   each_moment log o (opens b now t s fresh e) before after split =
       moment b now (Opened k) _ e (opens b now t s fresh e) (each_moment b None s) before after split
-  each_moment log o (hears b now feed t new place bytes produced all emitted s fed serves e) before after split =
-      moment b now (Received k bytes) _ e (hears b now feed t new place bytes produced all emitted s fed serves e)
+  each_moment log o (hears b now feed t new ring bytes produced all emitted s fed serves e) before after split =
+      moment b now (Received k bytes) _ e (hears b now feed t new ring bytes produced all emitted s fed serves e)
       (each_moment b _ s) before after split
-  each_moment log o (asks now feed t new place turn produced all emitted s fed called) before after split =
+  each_moment log o (asks now feed t new ring turn produced all emitted s fed called) before after split =
       each_moment now _ s before after split
-  each_moment log o (takes b now t place bytes produced emitted s prefix e) before after split =
-      moment b now (Emitted k bytes) _ e (takes b now t place bytes produced emitted s prefix e) (each_moment b _ s)
+  each_moment log o (takes b now t ring bytes produced emitted s prefix e) before after split =
+      moment b now (Emitted k bytes) _ e (takes b now t ring bytes produced emitted s prefix e) (each_moment b _ s)
       before
       after split
   each_moment log o (goes b now x s e) before after split =

@@ -205,13 +205,13 @@ module _ (start : List Window) where
       (ap (λ b. b ++ sent_bytes answer) eq ∙ (append_assoc (all_replies rs) (bytes_sent xs) (sent_bytes answer)
       ∙ ap (λ b. all_replies rs ++ b) (sym (bytes_last xs a))))
 
-  asks_produced : (log : List Happening) (feed : List Window) (s : Standing) (place : ℕ) (produced : List ℕ)
+  asks_produced : (log : List Happening) (feed : List Window) (s : Standing) (ring : ℕ) (produced : List ℕ)
       (last : Standing) (turn : ℕ) (all : List ℕ) → IsFed start (input_of log) feed
-      → Asks feed s place produced last turn all → ProducedOf log s produced → ProducedOf log last all
-  asks_produced log feed s place produced last turn all is_fed none_called h = h
-  asks_produced log feed s place produced last turn all is_fed
+      → Asks feed s ring produced last turn all → ProducedOf log s produced → ProducedOf log last all
+  asks_produced log feed s ring produced last turn all is_fed none_called h = h
+  asks_produced log feed s ring produced last turn all is_fed
       (one_called now t m k answer on a before first given held is) h =
-      let earlier : ProducedOf log now on = asks_produced log feed s place produced now m on is_fed before h in
+      let earlier : ProducedOf log now on = asks_produced log feed s ring produced now m on is_fed before h in
       let shut_same : t.state.phase ≢ Closed → now.state.phase ≢ Closed =
       λ alive shut. alive (sym (ap (λ (x : State × Sent). x.0.phase) given)
       ∙ (ap (λ (p : Phase). (sent_in p feed now.state k).0.phase) shut ∙ shut)) in (
@@ -238,16 +238,16 @@ module _ (start : List Window) where
         refl,
     ([], λ alive. fresh.held),
   )
-  story_tells k log o (hears before now feed s new place bytes produced all emitted served fed serves e) =
-      tells_more before now (Received k bytes) (Some (story new place all emitted)) e
+  story_tells k log o (hears before now feed s new ring bytes produced all emitted served fed serves e) =
+      tells_more before now (Received k bytes) (Some (story new ring all emitted)) e
       (serves_produced before feed s new bytes produced all serves
-      (story_tells k before (Some (story s place produced emitted)) served))
-  story_tells k log o (asks now feed s new place turn produced all emitted served fed called) =
-      asks_produced now feed s place produced new turn all fed called
-      (story_tells k now (Some (story s place produced emitted)) served)
-  story_tells k log o (takes before now s place bytes produced emitted served prefix e) =
-      tells_more before now (Emitted k bytes) (Some (story s place produced (emitted ++ bytes))) e
-      (story_tells k before (Some (story s place produced emitted)) served)
+      (story_tells k before (Some (story s ring produced emitted)) served))
+  story_tells k log o (asks now feed s new ring turn produced all emitted served fed called) =
+      asks_produced now feed s ring produced new turn all fed called
+      (story_tells k now (Some (story s ring produced emitted)) served)
+  story_tells k log o (takes before now s ring bytes produced emitted served prefix e) =
+      tells_more before now (Emitted k bytes) (Some (story s ring produced (emitted ++ bytes))) e
+      (story_tells k before (Some (story s ring produced emitted)) served)
   story_tells k log o (goes before now x served e) = tt
 
   -- what each ring showed when it was called

@@ -7,17 +7,17 @@ use Rattle.std.proofs.lemmas.Bool.Decides.{eqb_tells, leb_tells}
 use Rattle.std.proofs.lemmas.List.{get_or_past}
 use Rattle.slink_feed.specs.Session.{Fits}
 use Rattle.slink_feed.specs.Window.{Window}
-use Rattle.slink_live.specs.declared.link.Settled.{Settled}
-use Rattle.slink_live.specs.declared.link.Settled.TheVariants as settled
+use Rattle.slink_live.specs.declared.link.Update.{Update}
+use Rattle.slink_live.specs.declared.link.Update.TheVariants as settled
 use Rattle.slink_live.specs.declared.places.Places.{Places}
-use Rattle.slink_live.specs.declared.ready.Wishes.{Wishes}
+use Rattle.slink_live.specs.declared.ready.Interest.{Interest}
 use Rattle.slink_live.specs.declared.ready.Event.{Event}
 use Rattle.slink_live.specs.declared.ready.Event.TheVariants as events
 use Rattle.slink_live.specs.Awake.{Goes, IsAwake, IsAwakeIn, IsClosedRightly, IsSettled, IsTold, has_free}
 use Rattle.slink_live.specs.Awake.{further, is_lost}
 use Rattle.slink_live.specs.Happening.{Happening, Input, Opened, Received, Emitted, Gone, Next, Missed, Wants}
 use Rattle.slink_live.specs.Happening.{WantsLinks}
-use Rattle.slink_live.specs.Happening.{Left, first_wishes, is_left, told, told_by, wants_links}
+use Rattle.slink_live.specs.Happening.{Left, first_interest, is_left, told, told_by, wants_links}
 use Rattle.slink_live.specs.Served.{IntakeState, IsServing, IsSound, LinkState, ServerState}
 use Rattle.slink_live.specs.Story.{IsNew}
 use Rattle.slink_live.specs.Turns.{Closes}
@@ -50,28 +50,28 @@ module _ {s0 s : ServerState} (same : s0 ≡ s) (j : ℕ) (lt : j < length s0.li
   filled_in : HasFilled feed o new → HasFilled s0.intake.feed o new
   filled_in h = subst (λ (f : List Window). HasFilled f o new) rings h
 
-  pub seen_empty : {log last : List Happening} → HasFilled feed o new → IsOutcome feed s0.is_ended new settled.Empty
+  pub seen_empty : {log last : List Happening} → HasFilled feed o new → IsOutcome feed s0.has_ended new settled.Empty
       → last ≡ log → Settles j s seen_after log last
   seen_empty {log} {last} filled out e = settles_in (settles_empty s0 j o new log last lt stood (filled_in filled)
-      (subst (λ (f : List Window). IsOutcome f s0.is_ended new settled.Empty) rings out) e)
+      (subst (λ (f : List Window). IsOutcome f s0.has_ended new settled.Empty) rings out) e)
 
-  pub seen_wants : {log last : List Happening} (w : Wishes) → HasFilled feed o new
-      → IsOutcome feed s0.is_ended new (settled.Wants w) → last ≡ log ++ Wants j w ∷ []
+  pub seen_wants : {log last : List Happening} (w : Interest) → HasFilled feed o new
+      → IsOutcome feed s0.has_ended new (settled.Wants w) → last ≡ log ++ Wants j w ∷ []
       → Settles j s seen_after log last
   seen_wants {log} {last} w filled out e = settles_in (settles_wants s0 j o new log last w lt stood (filled_in filled)
-      (subst (λ (f : List Window). IsOutcome f s0.is_ended new (settled.Wants w)) rings out) e)
+      (subst (λ (f : List Window). IsOutcome f s0.has_ended new (settled.Wants w)) rings out) e)
 
   within : j < length (set s0.links j new)
   within = omega (arith, lt, length-set s0.links j new)
 
   pub seen_closes : {t : ServerState} {log last : List Happening} → HasFilled feed o new
-      → IsOutcome feed s0.is_ended new settled.Closes → t ≡ record seen_after
+      → IsOutcome feed s0.has_ended new settled.Closes → t ≡ record seen_after
       { links = set (set s0.links j new) j None }
-      → last ≡ (log ++ Gone j ∷ []) ++ WantsLinks (not s0.is_ended) ∷ [] → Settles j s t log last
+      → last ≡ (log ++ Gone j ∷ []) ++ WantsLinks (not s0.has_ended) ∷ [] → Settles j s t log last
   seen_closes {t} {log} {last} filled out is e =
       settles_in (subst (λ (x : ServerState). Settles j s0 x log last) (sym is)
       (settles_closes s0 j new log last lt within
-      (subst (λ (f : List Window). IsOutcome f s0.is_ended new settled.Closes) rings out) e
+      (subst (λ (f : List Window). IsOutcome f s0.has_ended new settled.Closes) rings out) e
       (λ start v. (filled_keeps {s0 = s0} {s = s0} refl j lt new {log = log} {last = log} (sound_in same sound) rings
       link filled refl).serving
       start v)))
@@ -79,9 +79,9 @@ module _ {s0 s : ServerState} (same : s0 ≡ s) (j : ℕ) (lt : j < length s0.li
   -- it was to be closed, and so it was
   pub closes_keeps : {t : ServerState} {log last : List Happening} → HasFilled feed o new
       → t ≡ record seen_after { links = set (set s0.links j new) j None }
-      → last ≡ (log ++ Gone j ∷ []) ++ WantsLinks (not s0.is_ended) ∷ [] → KeepsServing seen_after t log last
+      → last ≡ (log ++ Gone j ∷ []) ++ WantsLinks (not s0.has_ended) ∷ [] → KeepsServing seen_after t log last
   closes_keeps {t} {log} {last} filled is e =
-      closed_keeps seen_after t j log last (not s0.is_ended) within
+      closed_keeps seen_after t j log last (not s0.has_ended) within
       (filled_keeps {s0 = s0} {s = s0} refl j lt new {log = log} {last = log} (sound_in same sound) rings link filled
       refl).sound is e
 
@@ -140,7 +140,7 @@ if_rested : (s : ServerState) (j : ℕ) (o new : Option LinkState) (log mid : Li
     → IfRested s.intake.feed new
 if_rested s j None new log mid a is h room = subst (IfRested s.intake.feed) (sym h.0) tt
 if_rested s j (Some l) new log mid a is h room =
-    let settled : IsSettled s.intake.feed s.is_ended l (told j log) = a.each j l (sym is) in
+    let settled : IsSettled s.intake.feed s.has_ended l (told j log) = a.each j l (sym is) in
     subst (IfRested s.intake.feed) (sym h.1)
     (record { rests = settled.filled room; stays = λ lost. settled.stands (is_lost lost) })
 
@@ -174,16 +174,16 @@ rested_tends {s0} {s} {t} same j lt sound {o} link new {log} {mid} {last} h room
 
 -- A call saw a link to which nothing more is due.
 module _ {s0 s : ServerState} (same : s0 ≡ s) (j : ℕ) (lt : j < length s0.links) {o : Option LinkState}
-    (link : o ≡ get_or s0.links j o) (result : Settled)
-    (look : (feed : List Window) → IfRested feed o → IsOutcome feed s0.is_ended o result) where
+    (link : o ≡ get_or s0.links j o) (result : Update)
+    (look : (feed : List Window) → IfRested feed o → IsOutcome feed s0.has_ended o result) where
   outcome_in : IfRested s.intake.feed (get_or s.links j None)
-      → IsOutcome s.intake.feed s.is_ended (get_or s.links j None) result
+      → IsOutcome s.intake.feed s.has_ended (get_or s.links j None) result
   outcome_in rested =
       let stands : get_or s.links j None ≡ o =
       subst (λ (x : ServerState). get_or x.links j None ≡ o) same (sym (link ∙ sym (same_default s0.links j None o lt)))
       in
-      subst (λ (x : Option LinkState). IsOutcome s.intake.feed s.is_ended x result) (sym stands)
-      (subst (λ (b : Bool). IsOutcome s.intake.feed b o result) (ap (λ (x : ServerState). x.is_ended) same)
+      subst (λ (x : Option LinkState). IsOutcome s.intake.feed s.has_ended x result) (sym stands)
+      (subst (λ (b : Bool). IsOutcome s.intake.feed b o result) (ap (λ (x : ServerState). x.has_ended) same)
       (look s.intake.feed (subst (IfRested s.intake.feed) stands rested)))
 
   within_in : j < length s.links
@@ -192,20 +192,20 @@ module _ {s0 s : ServerState} (same : s0 ≡ s) (j : ℕ) (lt : j < length s0.li
   pub look_empty : {log last : List Happening} → result ≡ settled.Empty → last ≡ log
       → IfRested s.intake.feed (get_or s.links j None) → Settles j s s log last
   look_empty {log} {last} is e rested = rest_empty s j log last within_in
-      (subst (IsOutcome s.intake.feed s.is_ended (get_or s.links j None)) is (outcome_in rested)) e
+      (subst (IsOutcome s.intake.feed s.has_ended (get_or s.links j None)) is (outcome_in rested)) e
 
-  pub look_wants : {log last : List Happening} (w : Wishes) → result ≡ settled.Wants w → last ≡ log ++ Wants j w ∷ []
+  pub look_wants : {log last : List Happening} (w : Interest) → result ≡ settled.Wants w → last ≡ log ++ Wants j w ∷ []
       → IfRested s.intake.feed (get_or s.links j None) → Settles j s s log last
   look_wants {log} {last} w is e rested = rest_wants s j log last w within_in
-      (subst (IsOutcome s.intake.feed s.is_ended (get_or s.links j None)) is (outcome_in rested)) e
+      (subst (IsOutcome s.intake.feed s.has_ended (get_or s.links j None)) is (outcome_in rested)) e
 
   pub look_closes : {t : ServerState} {log last : List Happening} → result ≡ settled.Closes
       → t ≡ record s { links = set s.links j None }
-      → last ≡ (log ++ Gone j ∷ []) ++ WantsLinks (not s.is_ended) ∷ []
+      → last ≡ (log ++ Gone j ∷ []) ++ WantsLinks (not s.has_ended) ∷ []
       → IfRested s.intake.feed (get_or s.links j None) → Settles j s t log last
   look_closes {t} {log} {last} is ends e rested =
       subst (λ (x : ServerState). Settles j s x log last) (sym ends) (rest_closes s j log last within_in
-      (subst (IsOutcome s.intake.feed s.is_ended (get_or s.links j None)) is (outcome_in rested)) e)
+      (subst (IsOutcome s.intake.feed s.has_ended (get_or s.links j None)) is (outcome_in rested)) e)
 
 -- nothing happened
 pub tends_same : (s : ServerState) (log last : List Happening) → last ≡ log → Tends s s log last
@@ -218,7 +218,7 @@ tends_same s log last e = record {
 stays_awake : (s : ServerState) (log last : List Happening) → ((k : ℕ) → told k last ≡ told k log)
     → wants_links last ≡ wants_links log → is_left last ≡ is_left log → IsAwake s log → IsAwake s last
 stays_awake s log last each links left a = record {
-  each = λ k l is. subst (IsSettled s.intake.feed s.is_ended l) (sym (each k)) (a.each k l is);
+  each = λ k l is. subst (IsSettled s.intake.feed s.has_ended l) (sym (each k)) (a.each k l is);
   is_told = record { links = links ∙ a.is_told.links; left = left ∙ a.is_told.left };
 }
 
@@ -236,11 +236,11 @@ next_awake s e log last now a = stays_awake s log last (λ k. told_last log last
     (links_last log last (Next e) now) (left_last log last (Next e) now) a
 
 -- links are told to be wanted, or not, as they are
-pub full_tends : (s : ServerState) (log last : List Happening) → (not s.is_ended && has_free s.links) ≡ false
+pub full_tends : (s : ServerState) (log last : List Happening) → (not s.has_ended && has_free s.links) ≡ false
     → last ≡ log ++ WantsLinks false ∷ [] → Tends s s log last
 full_tends s log last none e = record {
   awake = λ a. record {
-    each = λ k l is. subst (IsSettled s.intake.feed s.is_ended l) (sym (told_last log last (WantsLinks false) e k))
+    each = λ k l is. subst (IsSettled s.intake.feed s.has_ended l) (sym (told_last log last (WantsLinks false) e k))
         (a.each k l is);
     is_told = record {
       links = links_last log last (WantsLinks false) e ∙ sym none;
@@ -250,27 +250,27 @@ full_tends s log last none e = record {
   closed = λ start v t. goes_one (WantsLinks false) tt e;
 }
 
-opened_other : (j k : ℕ) (w : Wishes) → k ≢ j → told_by k w (Opened j) ≡ w
-opened_other j k w ne = ap (λ (t : Bool). if t then first_wishes else w) (not_self j k ne)
+opened_other : (j k : ℕ) (w : Interest) → k ≢ j → told_by k w (Opened j) ≡ w
+opened_other j k w ne = ap (λ (t : Bool). if t then first_interest else w) (not_self j k ne)
 
 -- A link was taken into a slot, further ones told to be wanted or not, and then it was settled.
 pub opened_tends : (s : ServerState) (j : ℕ) (new : Option LinkState) (t : ServerState)
     (log opened mid last : List Happening) → j < length s.links → get_or s.links j None ≡ None
     → opened ≡ log ++ Opened j ∷ []
-    → mid ≡ opened ++ WantsLinks (not s.is_ended && has_free (set s.links j new)) ∷ []
+    → mid ≡ opened ++ WantsLinks (not s.has_ended && has_free (set s.links j new)) ∷ []
     → ((start : List Window) → IsServing start s log → IsServing start (record s { links = set s.links j new }) mid)
     → Settles j (record s { links = set s.links j new }) t mid last → Tends s t log last
 opened_tends s j new t log opened mid last lt free came now serves settles =
-    let wanted : Bool = not s.is_ended && has_free (set s.links j new) in
+    let wanted : Bool = not s.has_ended && has_free (set s.links j new) in
     let after : ServerState = record s { links = set s.links j new } in
-    let is_told : is_left log ≡ s.is_ended → IsTold after mid = λ left. record {
+    let is_told : is_left log ≡ s.has_ended → IsTold after mid = λ left. record {
       links = links_last opened mid (WantsLinks wanted) now;
       left = left_last opened mid (WantsLinks wanted) now ∙ (left_last log opened (Opened j) came ∙ left);
     } in
     record {
       awake = λ a. record {
         each = λ k. settles.links k (λ ne l is.
-            subst (IsSettled s.intake.feed s.is_ended l)
+            subst (IsSettled s.intake.feed s.has_ended l)
             (sym (told_last opened mid (WantsLinks wanted) now k
             ∙ (told_last log opened (Opened j) came k ∙ opened_other j k (told k log) ne)))
             (a.each k l (sym (get_or-set_other s.links j k new None ne) ∙ is)));
@@ -282,10 +282,10 @@ opened_tends s j new t log opened mid last lt free came now serves settles =
     }
 
 pub opened_in : {s0 s t : ServerState} (same : s0 ≡ s) (j : ℕ) → j < length s0.links → (l : LinkState) → IsSound s
-    → get_or s.links j None ≡ None → IsNew l.session → l.pending ≡ [] → l.place ≡ 0
+    → get_or s.links j None ≡ None → IsNew l.session → l.pending ≡ [] → l.ring ≡ 0
     → Fits s.intake.feed l.session.state → {log opened mid last : List Happening} {wanted : Bool}
     → opened ≡ log ++ Opened j ∷ [] → mid ≡ opened ++ WantsLinks wanted ∷ []
-    → wanted ≡ (not s0.is_ended && has_free (set s0.links j (Some l)))
+    → wanted ≡ (not s0.has_ended && has_free (set s0.links j (Some l)))
     → Settles j (record s0 { links = set s0.links j (Some l) }) t mid last → Tends s t log last
 opened_in {s0} {s} {t} same j lt l sound free fresh none begins fits {log} {opened} {mid} {last} {wanted} came now is
     settles =
@@ -301,7 +301,7 @@ opened_in {s0} {s} {t} same j lt l sound free fresh none begins fits {log} {open
 -- a link that is gone was closed
 pub gone_tends : (s t : ServerState) (j : ℕ) (log last earlier : List Happening) → j < length s.links
     → log ≡ earlier ++ Next (events.Gone j) ∷ [] → t ≡ record s { links = set s.links j None }
-    → last ≡ (log ++ Gone j ∷ []) ++ WantsLinks (not s.is_ended) ∷ [] → Tends s t log last
+    → last ≡ (log ++ Gone j ∷ []) ++ WantsLinks (not s.has_ended) ∷ [] → Tends s t log last
 gone_tends s t j log last earlier lt said is e =
     subst (λ (x : ServerState). Tends s x log last) (sym is) (record {
       awake = λ a. record {
@@ -317,19 +317,19 @@ pub input_tends : (s t : ServerState) (intake : IntakeState) (reads : ℕ) (byte
     → mid ≡ log ++ Input bytes ∷ [] → length intake.feed ≡ length s.intake.feed
     → StaysBut places s.intake.feed intake.feed
     → ((start : List Window) → IsServing start s log
-    → IsServing start (record { intake = intake; links = s.links; is_ended = s.is_ended; reads = reads }) mid)
-    → TendsBut places (record { intake = intake; links = s.links; is_ended = s.is_ended; reads = reads }) t mid last
+    → IsServing start (record { intake = intake; links = s.links; has_ended = s.has_ended; reads = reads }) mid)
+    → TendsBut places (record { intake = intake; links = s.links; has_ended = s.has_ended; reads = reads }) t mid last
     → Tends s t log last
 input_tends s t intake reads bytes places log mid last now long stays serves but =
     let is_told : IsTold s log
-    → IsTold (record { intake = intake; links = s.links; is_ended = s.is_ended; reads = reads }) mid = λ x. record {
+    → IsTold (record { intake = intake; links = s.links; has_ended = s.has_ended; reads = reads }) mid = λ x. record {
       links = links_last log mid (Input bytes) now ∙ x.links;
       left = left_last log mid (Input bytes) now ∙ x.left;
     } in
     record {
       awake = λ a. but.awake (is_told a.is_told) (λ k out l is.
-          subst (IsSettled intake.feed s.is_ended l) (sym (told_last log mid (Input bytes) now k))
-          (settled_apart s.intake.feed intake.feed places (get_or s.links k None) l long stays out is s.is_ended
+          subst (IsSettled intake.feed s.has_ended l) (sym (told_last log mid (Input bytes) now k))
+          (settled_apart s.intake.feed intake.feed places (get_or s.links k None) l long stays out is s.has_ended
           (told k log) (a.each k l is)));
       closed = λ start v x. goes_then (goes_one (Input bytes) tt now)
           (but.closed start (serves start v) (is_told x.is_told));

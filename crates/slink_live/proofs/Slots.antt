@@ -36,7 +36,7 @@ gone_quiet (Emitted k bytes) g = refl
 gone_quiet (Gone k) g = refl
 gone_quiet (Next event) g = absurd g
 gone_quiet (Missed k) g = absurd g
-gone_quiet (Wants k wishes) g = refl
+gone_quiet (Wants k interest) g = refl
 gone_quiet (WantsLinks wanted) g = refl
 gone_quiet Left g = refl
 
@@ -153,7 +153,7 @@ pub taken_turns : (feed : List Window) (j : ℕ) (o new : Option LinkState) (log
 taken_turns feed j None new log last h = turns_nothing feed j None new log last h.0 h.1
 taken_turns feed j (Some l) new log last h = record {
   beside = one_beside j log last (Emitted j (take h.0 l.pending)) refl (not_self j) h.2;
-  fits = λ f. some_fits feed new (link_state l.session l.place (drop h.0 l.pending)) h.1 (f l refl);
+  fits = λ f. some_fits feed new (link_state l.session l.ring (drop h.0 l.pending)) h.1 (f l refl);
   story = λ start fed s. taken_story start j log last new l h s;
 }
 
@@ -167,7 +167,7 @@ filled_turns feed j (Some l) new log h = record {
 }
 
 pub opened_turns : (feed : List Window) (j : ℕ) (o new : Option LinkState) (l : LinkState) (log last : List Happening)
-    → new ≡ Some l → o ≡ None → IsNew l.session → l.pending ≡ [] → l.place ≡ 0 → Fits feed l.session.state
+    → new ≡ Some l → o ≡ None → IsNew l.session → l.pending ≡ [] → l.ring ≡ 0 → Fits feed l.session.state
     → last ≡ log ++ Opened j ∷ [] → Turns feed j o new log last
 opened_turns feed j o new l log last is free fresh none begins fits now = record {
   beside = one_beside j log last (Opened j) refl (not_self j) now;
@@ -219,5 +219,5 @@ turns_keep s j new log last lt sound t = record {
     slots = set_each (λ k o. IsStory start k o last) s.links j new lt (t.story start (v.rest, v.fed) (v.slots j))
         (λ k ne. t.beside.others start k ne (get_or s.links k None) (v.slots k));
   };
-  stays = record { intake = refl; is_ended = refl; reads = refl; slots = length-set s.links j new };
+  stays = record { intake = refl; has_ended = refl; reads = refl; slots = length-set s.links j new };
 }

@@ -79,7 +79,7 @@ pub keeps_same : (s : ServerState) (log last : List Happening) → last ≡ log 
 keeps_same s log last same sound = record {
   sound = sound;
   serving = λ start v. subst (IsServing start s) (sym same) v;
-  stays = record { intake = refl; is_ended = refl; reads = refl; slots = refl };
+  stays = record { intake = refl; has_ended = refl; reads = refl; slots = refl };
 }
 
 -- One step, and then another.
@@ -90,7 +90,7 @@ keeps_both x y = record {
   serving = λ start v. y.serving start (x.serving start v);
   stays = record {
     intake = y.stays.intake ∙ x.stays.intake;
-    is_ended = y.stays.is_ended ∙ x.stays.is_ended;
+    has_ended = y.stays.has_ended ∙ x.stays.has_ended;
     reads = y.stays.reads ∙ x.stays.reads;
     slots = y.stays.slots ∙ x.stays.slots;
   };
@@ -114,7 +114,7 @@ keeps_quiet {s} {t} {a} {b} {c} h none other now x = record {
 
 -- the input is read no more
 abbrev pub ended : ServerState → ServerState
-ended s = record s { is_ended = true }
+ended s = record s { has_ended = true }
 
 pub ended_sound : {s : ServerState} → IsSound s → IsSound (ended s)
 ended_sound sound = record {
@@ -143,8 +143,8 @@ answers_end {s} {t} {log} {r = r} x fault = record {
   sound = x.sound;
   serving = λ start v. x.serving start (ended_serving start s log v);
   fault = fault;
-  ended = if_err_always r (t.is_ended ≡ true) x.stays.is_ended;
-  kept = λ e. x.stays.is_ended;
+  ended = if_err_always r (t.has_ended ≡ true) x.stays.has_ended;
+  kept = λ e. x.stays.has_ended;
 }
 
 reads_from : (feed : List Window) (j : ℕ) (o new : Option LinkState) (log mid last : List Happening)
@@ -205,7 +205,7 @@ module _ {s0 s : ServerState} (same : s0 ≡ s) (j : ℕ) (lt : j < length s0.li
         (seen (λ f o. HasTaken j o new log last) refl link h))
 
     pub opened_keeps : (l : LinkState) → new ≡ Some l → get_or s.links j None ≡ None → IsNew l.session
-        → l.pending ≡ [] → l.place ≡ 0 → Fits s.intake.feed l.session.state → last ≡ log ++ Opened j ∷ []
+        → l.pending ≡ [] → l.ring ≡ 0 → Fits s.intake.feed l.session.state → last ≡ log ++ Opened j ∷ []
         → KeepsServing s (record s0 { links = set s0.links j new }) log last
     opened_keeps l is free fresh none begins fits now = keeps_at
         (opened_turns s.intake.feed j (get_or s.links j None) new l log last is free fresh none begins fits now)

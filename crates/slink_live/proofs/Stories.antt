@@ -24,39 +24,39 @@ serves_behind feed s last bytes way all x (piece_served t now u bs piece rest w 
     (subst (λ y. Serves feed now rest y u (x ++ a)) (sym (append_assoc x w (reply_bytes reply)))
     (serves_behind feed now u rest (w ++ reply_bytes reply) a x more))
 
-asks_behind : (feed : List Window) (s : Standing) (place : ℕ) (way x : List ℕ) (last : Standing) (turn : ℕ)
-    (all : List ℕ) → Asks feed s place way last turn all → Asks feed s place (x ++ way) last turn (x ++ all)
-asks_behind feed s place way x last turn all none_called = none_called
-asks_behind feed s place way x last turn all (one_called now t m k answer on a before first given held is) =
-    one_called now t m k answer (x ++ on) (x ++ a) (asks_behind feed s place way x now m on before) first given held
+asks_behind : (feed : List Window) (s : Standing) (ring : ℕ) (way x : List ℕ) (last : Standing) (turn : ℕ)
+    (all : List ℕ) → Asks feed s ring way last turn all → Asks feed s ring (x ++ way) last turn (x ++ all)
+asks_behind feed s ring way x last turn all none_called = none_called
+asks_behind feed s ring way x last turn all (one_called now t m k answer on a before first given held is) =
+    one_called now t m k answer (x ++ on) (x ++ a) (asks_behind feed s ring way x now m on before) first given held
     (ap (λ y. x ++ y) is ∙ sym (append_assoc x on (sent_bytes answer)))
 
 -- called, and then called on
-pub asks_then : (feed : List Window) (s : Standing) (place : ℕ) (way : List ℕ) (now : Standing) (turn : ℕ)
-    (produced : List ℕ) → Asks feed s place way now turn produced → (last : Standing) (on : ℕ) (all : List ℕ)
-    → Asks feed now turn produced last on all → Asks feed s place way last on all
-asks_then feed s place way now turn produced before last on all none_called = before
-asks_then feed s place way now turn produced before last on all
+pub asks_then : (feed : List Window) (s : Standing) (ring : ℕ) (way : List ℕ) (now : Standing) (turn : ℕ)
+    (produced : List ℕ) → Asks feed s ring way now turn produced → (last : Standing) (on : ℕ) (all : List ℕ)
+    → Asks feed now turn produced last on all → Asks feed s ring way last on all
+asks_then feed s ring way now turn produced before last on all none_called = before
+asks_then feed s ring way now turn produced before last on all
     (one_called m t p k answer b a earlier first given held is) =
-    one_called m t p k answer b a (asks_then feed s place way now turn produced before m p b earlier) first given held
+    one_called m t p k answer b a (asks_then feed s ring way now turn produced before m p b earlier) first given held
     is
 
 -- called once
-pub asks_once : (feed : List Window) (s now : Standing) (place : ℕ) (way : List ℕ) (k : ℕ) (answer : Sent)
-    → IsTurn feed s.state place k → sent feed s.state k ≡ (now.state, answer) → now.held ≡ s.held
-    → Asks feed s place way now (k + 1) (way ++ sent_bytes answer)
-asks_once feed s now place way k answer first given held =
-    one_called s now place k answer way (way ++ sent_bytes answer) none_called first given held refl
+pub asks_once : (feed : List Window) (s now : Standing) (ring : ℕ) (way : List ℕ) (k : ℕ) (answer : Sent)
+    → IsTurn feed s.state ring k → sent feed s.state k ≡ (now.state, answer) → now.held ≡ s.held
+    → Asks feed s ring way now (k + 1) (way ++ sent_bytes answer)
+asks_once feed s now ring way k answer first given held =
+    one_called s now ring k answer way (way ++ sent_bytes answer) none_called first given held refl
 
 module _ (start : List Window) (k : ℕ) where
   -- a story by what the slot keeps
   by_link : (log : List Happening) (l : LinkState) (t : Story) → IsServed start k log (Some t)
       → Matches (Some l) (Some t) → IsServed start k log
-      (Some (story l.session l.place (t.emitted ++ l.pending) t.emitted))
+      (Some (story l.session l.ring (t.emitted ++ l.pending) t.emitted))
   by_link log l t served m =
-      subst (λ (b : List ℕ). IsServed start k log (Some (story l.session l.place b t.emitted))) m.2
+      subst (λ (b : List ℕ). IsServed start k log (Some (story l.session l.ring b t.emitted))) m.2
       (subst (λ (n : ℕ). IsServed start k log (Some (story l.session n t.produced t.emitted))) m.1
-      (subst (λ (s : Standing). IsServed start k log (Some (story s t.place t.produced t.emitted))) m.0 served))
+      (subst (λ (s : Standing). IsServed start k log (Some (story s t.ring t.produced t.emitted))) m.0 served))
 
   module _ (log last : List Happening) (new : Option LinkState) where
     pub story_stays : (o : Option LinkState) → new ≡ o → last ≡ log → IsStory start k o log → IsStory start k new last
@@ -66,7 +66,7 @@ module _ (start : List Window) (k : ℕ) where
     -- what a link accepted, and what its session said that it didn't accept yet
     abbrev HasStory : List Happening → LinkState → List ℕ → Type 0
     HasStory happened l emitted =
-        IsServed start k happened (Some (story l.session l.place (emitted ++ l.pending) emitted))
+        IsServed start k happened (Some (story l.session l.ring (emitted ++ l.pending) emitted))
 
     goes_on : (l now : LinkState) (reported : Option Story) → new ≡ Some now
         → ((emitted : List ℕ) → HasStory log l emitted → (all : List ℕ) × HasStory last now all)
@@ -74,7 +74,7 @@ module _ (start : List Window) (k : ℕ) where
     goes_on l now None is on served m = absurd m
     goes_on l now (Some t) is on served m =
         let further : (all : List ℕ) × HasStory last now all = on t.emitted (by_link log l t served m) in
-        let reported : Option Story = Some (story now.session now.place (further.0 ++ now.pending) further.0) in
+        let reported : Option Story = Some (story now.session now.ring (further.0 ++ now.pending) further.0) in
         record {
           reported = reported;
           served = further.1;
@@ -92,24 +92,24 @@ module _ (start : List Window) (k : ℕ) where
     received_story feed l fed h = link_story l h.1 h.2 (λ emitted served. (
       emitted,
       subst (λ (n : ℕ). IsServed start k last (Some (story h.1.session n (emitted ++ h.1.pending) emitted))) (sym h.6)
-          (hears log last feed l.session h.1.session l.place h.0 (emitted ++ l.pending) (emitted ++ h.1.pending) emitted
+          (hears log last feed l.session h.1.session l.ring h.0 (emitted ++ l.pending) (emitted ++ h.1.pending) emitted
           served fed (serves_behind feed l.session h.1.session h.0 l.pending h.1.pending emitted h.4) h.3),
     ))
 
     pub taken_story : (l : LinkState) → HasTaken k (Some l) new log last → IsStory start k (Some l) log
         → IsStory start k new last
-    taken_story l h = link_story l (link_state l.session l.place (drop h.0 l.pending)) h.1 (λ emitted served.
+    taken_story l h = link_story l (link_state l.session l.ring (drop h.0 l.pending)) h.1 (λ emitted served.
         let all : List ℕ = emitted ++ take h.0 l.pending in
         let whole : emitted ++ l.pending ≡ all ++ drop h.0 l.pending =
         sym (append_assoc emitted (take h.0 l.pending) (drop h.0 l.pending)
         ∙ ap (λ x. emitted ++ x) (take-append-drop h.0 l.pending)) in (
           all,
-          subst (λ (b : List ℕ). IsServed start k last (Some (story l.session l.place b all))) whole
-              (takes log last l.session l.place (take h.0 l.pending) (emitted ++ l.pending) emitted served
+          subst (λ (b : List ℕ). IsServed start k last (Some (story l.session l.ring b all))) whole
+              (takes log last l.session l.ring (take h.0 l.pending) (emitted ++ l.pending) emitted served
               (drop h.0 l.pending, whole) h.2),
         ))
 
-    opens_at : (l : LinkState) (reported : Option Story) → IsNew l.session → l.pending ≡ [] → l.place ≡ 0
+    opens_at : (l : LinkState) (reported : Option Story) → IsNew l.session → l.pending ≡ [] → l.ring ≡ 0
         → new ≡ Some l → last ≡ log ++ Opened k ∷ [] → IsServed start k log reported → Matches None reported
         → IsStory start k new last
     opens_at l None fresh none begins is now served m = record {
@@ -120,7 +120,7 @@ module _ (start : List Window) (k : ℕ) where
     }
     opens_at l (Some t) fresh none begins is now served m = absurd m
 
-    pub opened_story : (l : LinkState) → IsNew l.session → l.pending ≡ [] → l.place ≡ 0 → new ≡ Some l
+    pub opened_story : (l : LinkState) → IsNew l.session → l.pending ≡ [] → l.ring ≡ 0 → new ≡ Some l
         → last ≡ log ++ Opened k ∷ [] → IsStory start k None log → IsStory start k new last
     opened_story l fresh none begins is now s = opens_at l s.reported fresh none begins is now s.served s.matches
 
@@ -137,6 +137,6 @@ module _ (start : List Window) (k : ℕ) where
       → IsStory start k new log
   filled_story log new feed l fed h = link_story log log new l h.0 h.1 (λ emitted served. (
     emitted,
-    asks log feed l.session h.0.session l.place h.0.place (emitted ++ l.pending) (emitted ++ h.0.pending) emitted served
-        fed (asks_behind feed l.session l.place l.pending emitted h.0.session h.0.place h.0.pending h.2),
+    asks log feed l.session h.0.session l.ring h.0.ring (emitted ++ l.pending) (emitted ++ h.0.pending) emitted served
+        fed (asks_behind feed l.session l.ring l.pending emitted h.0.session h.0.ring h.0.pending h.2),
   ))

@@ -22,7 +22,7 @@ use Rattle.slink_live.proofs.Steps.{ended, sound_in}
 
 -- the server, once the input brought bytes
 abbrev pub with_intake : ServerState → IntakeState → ServerState
-with_intake s intake = record { intake = intake; links = s.links; is_ended = s.is_ended; reads = s.reads + 1 }
+with_intake s intake = record { intake = intake; links = s.links; has_ended = s.has_ended; reads = s.reads + 1 }
 
 input_more : (log last : List Happening) (bytes : List ℕ) → last ≡ log ++ Input bytes ∷ []
     → input_of last ≡ input_of log ++ bytes
@@ -41,15 +41,15 @@ module _ {s0 s : ServerState} (same : s0 ≡ s) where
   serving_in start log v = subst (λ (x : ServerState). IsServing start x log) (sym same) v
 
   -- Bytes came, and were cut as far as they go.
-  module _ (on : s0.is_ended ≡ false) (sound : IsSound s) {bytes rest : List ℕ} {new : IntakeState}
+  module _ (on : s0.has_ended ≡ false) (sound : IsSound s) {bytes rest : List ℕ} {new : IntakeState}
       (cuts : Cuts s0.intake bytes new rest) where
     short_in : length s0.intake.kept < 512
     short_in = (sound_in same sound).short on
 
-    pub taken_sound : (is_ended : Bool) → length bytes ≤ 8192 → s0.reads ≢ 2 ^ 40
-        → (is_ended ≡ false → length new.kept < 512)
-        → IsSound (record (with_intake s0 new) { is_ended = is_ended })
-    taken_sound is_ended most few short =
+    pub taken_sound : (has_ended : Bool) → length bytes ≤ 8192 → s0.reads ≢ 2 ^ 40
+        → (has_ended ≡ false → length new.kept < 512)
+        → IsSound (record (with_intake s0 new) { has_ended = has_ended })
+    taken_sound has_ended most few short =
         let sound0 : IsSound s0 = sound_in same sound in
         let added : length cuts.records ≤ length bytes = cut_few s0.intake new bytes rest short_in cuts in
         record {
@@ -81,9 +81,9 @@ module _ {s0 s : ServerState} (same : s0 ≡ s) where
       input_now = subst (λ b. IsInput (places_of start) b fed_now.0.records rest) (sym (input_more log last bytes now))
           fed_now.0.input
 
-      taken_serving : (is_ended : Bool) → (is_ended ≡ false → rest ≡ new.kept)
-          → IsServing start (record (with_intake s0 new) { is_ended = is_ended }) last
-      taken_serving is_ended goes_on = record {
+      taken_serving : (has_ended : Bool) → (has_ended ≡ false → rest ≡ new.kept)
+          → IsServing start (record (with_intake s0 new) { has_ended = has_ended }) last
+      taken_serving has_ended goes_on = record {
         rest = rest;
         fed = record { records = fed_now.0.records; input = input_now; feed_is = fed_now.0.feed_is };
         counted = fed_now.1;
@@ -107,16 +107,16 @@ module _ {s0 s : ServerState} (same : s0 ≡ s) where
 
   -- All went into the rings, or it is wrong with them that they go no further.
   module _ {bytes : List ℕ} {new : IntakeState} {t : ServerState} {log mid last : List Happening}
-      (on : s0.is_ended ≡ false) (sound : IsSound s) (now : mid ≡ log ++ Input bytes ∷ []) where
+      (on : s0.has_ended ≡ false) (sound : IsSound s) (now : mid ≡ log ++ Input bytes ∷ []) where
     pub taken_ok : Cuts s0.intake bytes new new.kept → length new.kept < 512
         → KeepsServing (with_intake s0 new) t mid last → AnswersFault s t log last (Ok tt)
     taken_ok cuts short x = record {
       sound = x.sound;
       serving = λ start v. x.serving start (taken_serving on sound cuts
-          (short_none (places_of s0.intake.feed) new.kept short) now start v s0.is_ended (λ e. refl));
+          (short_none (places_of s0.intake.feed) new.kept short) now start v s0.has_ended (λ e. refl));
       fault = tt;
       ended = tt;
-      kept = λ e. x.stays.is_ended ∙ (ap (λ (y : ServerState). y.is_ended) same ∙ e);
+      kept = λ e. x.stays.has_ended ∙ (ap (λ (y : ServerState). y.has_ended) same ∙ e);
     }
 
     pub taken_err : {fault : InputFault} → CutsOff s0.intake bytes new fault
@@ -129,8 +129,8 @@ module _ {s0 s : ServerState} (same : s0 ≡ s) where
       fault = λ start v. subst (λ (b : List ℕ). IsInputFault (places_of start) b fault)
           (sym (closes_input mid last closes))
           (taken_fault on sound off.cuts off.no_further now start v fault off.is_fault);
-      ended = x.stays.is_ended;
-      kept = λ e. x.stays.is_ended;
+      ended = x.stays.has_ended;
+      kept = λ e. x.stays.has_ended;
     }
 
     pub taken_tends : (places : Places) → Cuts s0.intake bytes new new.kept → length new.kept < 512
@@ -140,7 +140,7 @@ module _ {s0 s : ServerState} (same : s0 ≡ s) where
         (input_tends s0 t new (s0.reads + 1) bytes places log mid last now
         (ap length cuts.feed_is ∙ fed_length s0.intake.feed cuts.records) stays (λ start v. taken_serving on sound cuts
         (short_none (places_of s0.intake.feed) new.kept short) now start
-        (subst (λ (x : ServerState). IsServing start x log) same v) s0.is_ended (λ e. refl)) but)
+        (subst (λ (x : ServerState). IsServing start x log) same v) s0.has_ended (λ e. refl)) but)
 
     pub taken_ends : {fault : InputFault} → CutsOff s0.intake bytes new fault
         → TendsAnew (ended (with_intake s0 new)) t mid last → Tends s t log last
@@ -175,7 +175,7 @@ module _ {s0 s : ServerState} (same : s0 ≡ s) where
         → IsInputFault (places_of start) (input_of last) fault
     turns_fault fault is = subst (IsInputFault (places_of start) (input_of last)) (sym is) (fault_in _ offset_in)
 
-    pub cut_off_fault : IsSound s → s0.is_ended ≡ false → (fault : InputFault)
+    pub cut_off_fault : IsSound s → s0.has_ended ≡ false → (fault : InputFault)
         → (0 < length s0.intake.kept)
         × (fault ≡ Stream (faults.Truncated (512 * s0.intake.records) (length s0.intake.kept)))
         → IsInputFault (places_of start) (input_of last) fault

@@ -6,11 +6,11 @@ use Rattle.std.specs.Option.{is_some}
 use Rattle.std.proofs.lemmas.Bool.Decides.{eqb_tells}
 use Rattle.std.proofs.lemmas.List.{set-get_or}
 use Rattle.slink_feed.specs.Window.{Window}
-use Rattle.slink_live.specs.declared.link.Settled.TheVariants as settled
-use Rattle.slink_live.specs.declared.ready.Wishes.{Wishes}
+use Rattle.slink_live.specs.declared.link.Update.TheVariants as settled
+use Rattle.slink_live.specs.declared.ready.Interest.{Interest}
 use Rattle.slink_live.specs.Awake.{Goes, IsAwake, IsAwakeIn, IsClosable, IsClosedRightly, IsSettled, IsTold}
 use Rattle.slink_live.specs.Awake.{IsFirstFree, has_free, nothing, further}
-use Rattle.slink_live.specs.Happening.{Happening, Gone, Wants, WantsLinks, first_wishes, is_left, left_by, left_from}
+use Rattle.slink_live.specs.Happening.{Happening, Gone, Wants, WantsLinks, first_interest, is_left, left_by, left_from}
 use Rattle.slink_live.specs.Happening.{links_by, links_from, told, told_by, told_from, wants_links}
 use Rattle.slink_live.specs.Served.{IsServing, LinkState, ServerState}
 use Rattle.slink_live.specs.private.Calling.{HasFilled, IsOutcome}
@@ -19,7 +19,7 @@ use Rattle.slink_live.proofs.Own.{at_self}
 use Rattle.slink_live.proofs.Slots.{not_self}
 
 -- one thing more happened
-told_append : (k : ℕ) (w : Wishes) (xs ys : List Happening)
+told_append : (k : ℕ) (w : Interest) (xs ys : List Happening)
     → told_from k w (xs ++ ys) ≡ told_from k (told_from k w xs) ys
 told_append k w [] ys = refl
 told_append k w (x ∷ xs) ys = told_append k (told_by k w x) xs ys
@@ -34,7 +34,7 @@ left_append b (x ∷ xs) ys = left_append (left_by b x) xs ys
 
 module _ (log last : List Happening) (h : Happening) (e : last ≡ log ++ h ∷ []) where
   pub told_last : (k : ℕ) → told k last ≡ told_by k (told k log) h
-  told_last k = ap (told k) e ∙ told_append k first_wishes log (h ∷ [])
+  told_last k = ap (told k) e ∙ told_append k first_interest log (h ∷ [])
 
   pub links_last : wants_links last ≡ links_by (wants_links log) h
   links_last = ap wants_links e ∙ links_append true log (h ∷ [])
@@ -56,7 +56,7 @@ untold_none j log last e = record {
 }
 
 pub untold_one : (j : ℕ) (log last : List Happening) (h : Happening)
-    → ((k : ℕ) → k ≢ j → (w : Wishes) → told_by k w h ≡ w) → ((b : Bool) → links_by b h ≡ b)
+    → ((k : ℕ) → k ≢ j → (w : Interest) → told_by k w h ≡ w) → ((b : Bool) → links_by b h ≡ b)
     → ((b : Bool) → left_by b h ≡ b) → last ≡ log ++ h ∷ [] → IsUntold j log last
 untold_one j log last h of_links links left e = record {
   of_links = λ k ne. told_last log last h e k ∙ of_links k ne (told k log);
@@ -64,10 +64,10 @@ untold_one j log last h of_links links left e = record {
   left = left_last log last h e ∙ left (is_left log);
 }
 
-wants_other : (j k : ℕ) (w v : Wishes) → k ≢ j → told_by k v (Wants j w) ≡ v
+wants_other : (j k : ℕ) (w v : Interest) → k ≢ j → told_by k v (Wants j w) ≡ v
 wants_other j k w v ne = ap (λ (t : Bool). if t then w else v) (not_self j k ne)
 
-wants_self : (j : ℕ) (w v : Wishes) → told_by j v (Wants j w) ≡ w
+wants_self : (j : ℕ) (w v : Interest) → told_by j v (Wants j w) ≡ w
 wants_self j w v = ap (λ (t : Bool). if t then w else v) (at_self j)
 
 -- further things happened
@@ -115,13 +115,13 @@ all_taken (Some m ∷ links) zero le each = absurd (omega (arith, le))
 all_taken (Some m ∷ links) (suc n) le each =
     all_taken links n (omega (arith, le)) (λ j lt e. each (suc j) (omega (arith, lt)) e)
 
-pub none_free : (is_ended : Bool) (links : List (Option LinkState)) → has_free links ≡ false
-    → (not is_ended && has_free links) ≡ false
+pub none_free : (has_ended : Bool) (links : List (Option LinkState)) → has_free links ≡ false
+    → (not has_ended && has_free links) ≡ false
 none_free true links e = refl
 none_free false links e = e
 
-pub one_free : (is_ended : Bool) (links : List (Option LinkState)) → is_ended ≡ false → has_free links ≡ true
-    → (not is_ended && has_free links) ≡ true
+pub one_free : (has_ended : Bool) (links : List (Option LinkState)) → has_ended ≡ false → has_free links ≡ true
+    → (not has_ended && has_free links) ≡ true
 one_free true links on e = absurd (let bad : true ≡ false = on in cc bad)
 one_free false links on e = e
 
@@ -130,22 +130,22 @@ and_true true = refl
 and_true false = refl
 
 -- an outcome of a link
-empty_none : (feed : List Window) (is_ended : Bool) (o : Option LinkState) → IsOutcome feed is_ended o settled.Empty
+empty_none : (feed : List Window) (has_ended : Bool) (o : Option LinkState) → IsOutcome feed has_ended o settled.Empty
     → o ≡ None
-empty_none feed is_ended None out = refl
-empty_none feed is_ended (Some l) out = absurd out
+empty_none feed has_ended None out = refl
+empty_none feed has_ended (Some l) out = absurd out
 
-wants_some : (feed : List Window) (is_ended : Bool) (o : Option LinkState) (w : Wishes) (l : LinkState)
-    → IsOutcome feed is_ended o (settled.Wants w) → o ≡ Some l → IsSettled feed is_ended l w
-wants_some feed is_ended None w l out e = absurd out
-wants_some feed is_ended (Some m) w l out e =
+wants_some : (feed : List Window) (has_ended : Bool) (o : Option LinkState) (w : Interest) (l : LinkState)
+    → IsOutcome feed has_ended o (settled.Wants w) → o ≡ Some l → IsSettled feed has_ended l w
+wants_some feed has_ended None w l out e = absurd out
+wants_some feed has_ended (Some m) w l out e =
     let same : m ≡ l = let both : Some m ≡ Some l = e in cc both in
-    subst (λ (x : LinkState). IsSettled feed is_ended x w) same out
+    subst (λ (x : LinkState). IsSettled feed has_ended x w) same out
 
-closes_some : (feed : List Window) (is_ended : Bool) (o : Option LinkState) → IsOutcome feed is_ended o settled.Closes
-    → (l : LinkState) × (o ≡ Some l) × IsClosable feed is_ended l
-closes_some feed is_ended None out = absurd out
-closes_some feed is_ended (Some l) out = (l, refl, out)
+closes_some : (feed : List Window) (has_ended : Bool) (o : Option LinkState) → IsOutcome feed has_ended o settled.Closes
+    → (l : LinkState) × (o ≡ Some l) × IsClosable feed has_ended l
+closes_some feed has_ended None out = absurd out
+closes_some feed has_ended (Some l) out = (l, refl, out)
 
 filled_some : (feed : List Window) (o new : Option LinkState) → HasFilled feed o new → is_some new ≡ is_some o
 filled_some feed None new h = ap is_some h
@@ -158,24 +158,24 @@ module _ (s : ServerState) (j : ℕ) (new : Option LinkState) (log last : List H
 
   pub beside : (k : ℕ) → k ≢ j → IsUntold j log last → IsAwakeIn s log k → IsAwakeIn after last k
   beside k ne untold awake l e =
-      subst (IsSettled s.intake.feed s.is_ended l) (sym (untold.of_links k ne))
+      subst (IsSettled s.intake.feed s.has_ended l) (sym (untold.of_links k ne))
       (awake l (sym (get_or-set_other s.links j k new None ne) ∙ e))
 
   pub told_beside : is_some new ≡ is_some (get_or s.links j None) → IsUntold j log last → IsTold s log
       → IsTold after last
   told_beside same untold t = record {
-    links = untold.links ∙ (t.links ∙ ap (λ b. not s.is_ended && b) (sym (free_set s.links j new same)));
+    links = untold.links ∙ (t.links ∙ ap (λ b. not s.has_ended && b) (sym (free_set s.links j new same)));
     left = untold.left ∙ t.left;
   }
 
-  here : j < length s.links → ((l : LinkState) → new ≡ Some l → IsSettled s.intake.feed s.is_ended l (told j last))
+  here : j < length s.links → ((l : LinkState) → new ≡ Some l → IsSettled s.intake.feed s.has_ended l (told j last))
       → IsAwakeIn after last j
   here lt own l e = own l (sym (get_or-set_same s.links j new None lt) ∙ e)
 
   -- so it was settled
   module _ (lt : j < length s.links) (untold : IsUntold j log last)
       (same : is_some new ≡ is_some (get_or s.links j None))
-      (own : (l : LinkState) → new ≡ Some l → IsSettled s.intake.feed s.is_ended l (told j last)) where
+      (own : (l : LinkState) → new ≡ Some l → IsSettled s.intake.feed s.has_ended l (told j last)) where
     settles_by : ((start : List Window) → IsServing start s log → IsTold s log
         → Goes (IsClosedRightly start) log last) → Settles j s after log last
     settles_by closed = record {
@@ -191,31 +191,31 @@ module _ (s : ServerState) (j : ℕ) (new : Option LinkState) (log last : List H
 -- no link stands there
 pub settles_empty : (s : ServerState) (j : ℕ) (o new : Option LinkState) (log last : List Happening)
     → j < length s.links → o ≡ get_or s.links j None → HasFilled s.intake.feed o new
-    → IsOutcome s.intake.feed s.is_ended new settled.Empty → last ≡ log
+    → IsOutcome s.intake.feed s.has_ended new settled.Empty → last ≡ log
     → Settles j s (record s { links = set s.links j new }) log last
 settles_empty s j o new log last lt is filled out e =
     settles_by s j new log last lt (untold_none j log last e)
     (filled_some s.intake.feed o new filled ∙ ap is_some is)
-    (λ l some. absurd (let bad : None ≡ Some l = sym (empty_none s.intake.feed s.is_ended new out) ∙ some in cc bad))
+    (λ l some. absurd (let bad : None ≡ Some l = sym (empty_none s.intake.feed s.has_ended new out) ∙ some in cc bad))
     (λ start v t. goes_same e)
 
 -- it stands
-pub settles_wants : (s : ServerState) (j : ℕ) (o new : Option LinkState) (log last : List Happening) (w : Wishes)
+pub settles_wants : (s : ServerState) (j : ℕ) (o new : Option LinkState) (log last : List Happening) (w : Interest)
     → j < length s.links → o ≡ get_or s.links j None → HasFilled s.intake.feed o new
-    → IsOutcome s.intake.feed s.is_ended new (settled.Wants w) → last ≡ log ++ Wants j w ∷ []
+    → IsOutcome s.intake.feed s.has_ended new (settled.Wants w) → last ≡ log ++ Wants j w ∷ []
     → Settles j s (record s { links = set s.links j new }) log last
 settles_wants s j o new log last w lt is filled out e =
     settles_by s j new log last lt
     (untold_one j log last (Wants j w) (λ k ne v. wants_other j k w v ne) (λ b. refl) (λ b. refl) e)
     (filled_some s.intake.feed o new filled ∙ ap is_some is)
-    (λ l some. subst (IsSettled s.intake.feed s.is_ended l)
+    (λ l some. subst (IsSettled s.intake.feed s.has_ended l)
     (sym (told_last log last (Wants j w) e j ∙ wants_self j w (told j log)))
-    (wants_some s.intake.feed s.is_ended new w l out some))
+    (wants_some s.intake.feed s.has_ended new w l out some))
     (λ start v t. goes_one (Wants j w) tt e)
 
 -- the device, once a link was closed
 module _ (s : ServerState) (j : ℕ) (log last : List Happening) (lt : j < length s.links)
-    (e : last ≡ (log ++ Gone j ∷ []) ++ WantsLinks (not s.is_ended) ∷ []) where
+    (e : last ≡ (log ++ Gone j ∷ []) ++ WantsLinks (not s.has_ended) ∷ []) where
   abbrev without : ServerState
   without = record s { links = set s.links j None }
 
@@ -223,7 +223,7 @@ module _ (s : ServerState) (j : ℕ) (log last : List Happening) (lt : j < lengt
   gone = log ++ Gone j ∷ []
 
   told_gone : (k : ℕ) → told k last ≡ told k log
-  told_gone k = told_last gone last (WantsLinks (not s.is_ended)) e k ∙ told_last log gone (Gone j) refl k
+  told_gone k = told_last gone last (WantsLinks (not s.has_ended)) e k ∙ told_last log gone (Gone j) refl k
 
   pub gone_awake : (k : ℕ) → (k ≢ j → IsAwakeIn s log k) → IsAwakeIn without last k
   gone_awake k awake l is = elim (eqb_tells j k) [
@@ -233,30 +233,30 @@ module _ (s : ServerState) (j : ℕ) (log last : List Happening) (lt : j < lengt
         ∙ subst (λ (i : ℕ). get_or (set s.links j None) i None ≡ Some l) (sym same.1) is in
         cc bad)
     | inr other ↦ let ne : k ≢ j = λ x. other.1 (sym x) in
-        subst (IsSettled s.intake.feed s.is_ended l) (sym (told_gone k))
+        subst (IsSettled s.intake.feed s.has_ended l) (sym (told_gone k))
         (awake ne l (sym (get_or-set_other s.links j k None None ne) ∙ is))
   ]
 
-  pub gone_told : is_left log ≡ s.is_ended → IsTold without last
+  pub gone_told : is_left log ≡ s.has_ended → IsTold without last
   gone_told left = record {
-    links = links_last gone last (WantsLinks (not s.is_ended)) e
-        ∙ (and_true (not s.is_ended) ∙ ap (λ b. not s.is_ended && b) (sym (free_none s.links j lt)));
-    left = left_last gone last (WantsLinks (not s.is_ended)) e ∙ (left_last log gone (Gone j) refl ∙ left);
+    links = links_last gone last (WantsLinks (not s.has_ended)) e
+        ∙ (and_true (not s.has_ended) ∙ ap (λ b. not s.has_ended && b) (sym (free_none s.links j lt)));
+    left = left_last gone last (WantsLinks (not s.has_ended)) e ∙ (left_last log gone (Gone j) refl ∙ left);
   }
 
   pub gone_goes : (start : List Window) → IsClosedRightly start log (Gone j) → Goes (IsClosedRightly start) log last
-  gone_goes start right = further gone last (WantsLinks (not s.is_ended)) (goes_one (Gone j) right refl) tt e
+  gone_goes start right = further gone last (WantsLinks (not s.has_ended)) (goes_one (Gone j) right refl) tt e
 
 -- it is to be closed, and so it was
 pub settles_closes : (s : ServerState) (j : ℕ) (new : Option LinkState) (log last : List Happening)
     → j < length s.links → j < length (set s.links j new)
-    → IsOutcome s.intake.feed s.is_ended new settled.Closes
-    → last ≡ (log ++ Gone j ∷ []) ++ WantsLinks (not s.is_ended) ∷ []
+    → IsOutcome s.intake.feed s.has_ended new settled.Closes
+    → last ≡ (log ++ Gone j ∷ []) ++ WantsLinks (not s.has_ended) ∷ []
     → ((start : List Window) → IsServing start s log → IsServing start (record s { links = set s.links j new }) log)
     → Settles j s (record s { links = set (set s.links j new) j None }) log last
 settles_closes s j new log last lt within out e serves =
     let mid : ServerState = record s { links = set s.links j new } in
-    let l = closes_some s.intake.feed s.is_ended new out in
+    let l = closes_some s.intake.feed s.has_ended new out in
     record {
       links = λ k awake. gone_awake mid j log last within e k
           (λ ne. beside s j new log log k ne (untold_none j log log refl) (awake ne));
@@ -305,32 +305,32 @@ same_links s j log last h =
     (set-get_or s.links j None) h
 
 pub rest_empty : (s : ServerState) (j : ℕ) (log last : List Happening) → j < length s.links
-    → IsOutcome s.intake.feed s.is_ended (get_or s.links j None) settled.Empty → last ≡ log → Settles j s s log last
+    → IsOutcome s.intake.feed s.has_ended (get_or s.links j None) settled.Empty → last ≡ log → Settles j s s log last
 rest_empty s j log last lt out e =
     same_links s j log last (settles_by s j (get_or s.links j None) log last lt (untold_none j log last e) refl
     (λ l some. absurd (
     let bad : None ≡ Some l =
-    sym (empty_none s.intake.feed s.is_ended (get_or s.links j None) out) ∙ some in
+    sym (empty_none s.intake.feed s.has_ended (get_or s.links j None) out) ∙ some in
     cc bad))
     (λ start v t. goes_same e))
 
-pub rest_wants : (s : ServerState) (j : ℕ) (log last : List Happening) (w : Wishes) → j < length s.links
-    → IsOutcome s.intake.feed s.is_ended (get_or s.links j None) (settled.Wants w) → last ≡ log ++ Wants j w ∷ []
+pub rest_wants : (s : ServerState) (j : ℕ) (log last : List Happening) (w : Interest) → j < length s.links
+    → IsOutcome s.intake.feed s.has_ended (get_or s.links j None) (settled.Wants w) → last ≡ log ++ Wants j w ∷ []
     → Settles j s s log last
 rest_wants s j log last w lt out e =
     same_links s j log last (settles_by s j (get_or s.links j None) log last lt
     (untold_one j log last (Wants j w) (λ k ne v. wants_other j k w v ne) (λ b. refl) (λ b. refl) e) refl
-    (λ l some. subst (IsSettled s.intake.feed s.is_ended l)
+    (λ l some. subst (IsSettled s.intake.feed s.has_ended l)
     (sym (told_last log last (Wants j w) e j ∙ wants_self j w (told j log)))
-    (wants_some s.intake.feed s.is_ended (get_or s.links j None) w l out some))
+    (wants_some s.intake.feed s.has_ended (get_or s.links j None) w l out some))
     (λ start v t. goes_one (Wants j w) tt e))
 
 pub rest_closes : (s : ServerState) (j : ℕ) (log last : List Happening) → j < length s.links
-    → IsOutcome s.intake.feed s.is_ended (get_or s.links j None) settled.Closes
-    → last ≡ (log ++ Gone j ∷ []) ++ WantsLinks (not s.is_ended) ∷ []
+    → IsOutcome s.intake.feed s.has_ended (get_or s.links j None) settled.Closes
+    → last ≡ (log ++ Gone j ∷ []) ++ WantsLinks (not s.has_ended) ∷ []
     → Settles j s (record s { links = set s.links j None }) log last
 rest_closes s j log last lt out e =
-    let l = closes_some s.intake.feed s.is_ended (get_or s.links j None) out in
+    let l = closes_some s.intake.feed s.has_ended (get_or s.links j None) out in
     record {
       links = λ k awake. gone_awake s j log last lt e k awake;
       is_told = λ t. gone_told s j log last lt e t.left;
@@ -346,9 +346,9 @@ rest_closes s j log last lt out e =
     }
 
 -- whether further links are wanted
-pub wants_if : (is_ended : Bool) (links : List (Option LinkState)) (o : Option ℕ) → IfSome o (IsFirstFree links)
-    → IfSome o (λ _. is_ended ≡ false) → IfNone o ((not is_ended && has_free links) ≡ false)
-    → is_some o ≡ (not is_ended && has_free links)
-wants_if is_ended links None some on none = sym none
-wants_if is_ended links (Some k) some on none =
-    sym (one_free is_ended links on (free_at links k some.within some.free))
+pub wants_if : (has_ended : Bool) (links : List (Option LinkState)) (o : Option ℕ) → IfSome o (IsFirstFree links)
+    → IfSome o (λ _. has_ended ≡ false) → IfNone o ((not has_ended && has_free links) ≡ false)
+    → is_some o ≡ (not has_ended && has_free links)
+wants_if has_ended links None some on none = sym none
+wants_if has_ended links (Some k) some on none =
+    sym (one_free has_ended links on (free_at links k some.within some.free))

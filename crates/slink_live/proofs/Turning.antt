@@ -22,9 +22,9 @@ waits_more feed s from k before here j least lt = elim (eqb_tells j k) [
 ]
 
 -- from the place whose turn it is on
-pub turn_behind : (feed : List Window) (s : State) (place k : ℕ) → place ≤ k → k < length feed
-    → ((j : ℕ) → place ≤ j → j < k → Waits feed s j) → ¬ (Waits feed s k) → IsTurn feed s place k
-turn_behind feed s place k behind lt waits sends = record {
+pub turn_behind : (feed : List Window) (s : State) (ring k : ℕ) → ring ≤ k → k < length feed
+    → ((j : ℕ) → ring ≤ j → j < k → Waits feed s j) → ¬ (Waits feed s k) → IsTurn feed s ring k
+turn_behind feed s ring k behind lt waits sends = record {
   within = lt;
   sends = sends;
   first = λ j within earlier. elim earlier [
@@ -35,10 +35,10 @@ turn_behind feed s place k behind lt waits sends = record {
 }
 
 -- before it, once all from it on wait
-pub turn_before : (feed : List Window) (s : State) (place k : ℕ) → k < place → k < length feed
-    → ((j : ℕ) → place ≤ j → j < length feed → Waits feed s j) → ((j : ℕ) → j < k → Waits feed s j)
-    → ¬ (Waits feed s k) → IsTurn feed s place k
-turn_before feed s place k before lt behind waits sends = record {
+pub turn_before : (feed : List Window) (s : State) (ring k : ℕ) → k < ring → k < length feed
+    → ((j : ℕ) → ring ≤ j → j < length feed → Waits feed s j) → ((j : ℕ) → j < k → Waits feed s j)
+    → ¬ (Waits feed s k) → IsTurn feed s ring k
+turn_before feed s ring k before lt behind waits sends = record {
   within = lt;
   sends = sends;
   first = λ j within earlier. elim earlier [
@@ -50,27 +50,27 @@ turn_before feed s place k before lt behind waits sends = record {
 
 -- what the place whose turn it is gives
 pub gives_asks : (feed : List Window) (old new : LinkState) (k : ℕ) → Gives feed k old new
-    → IsTurn feed old.session.state old.place k
-    → Asks feed old.session old.place old.pending new.session new.place new.pending
+    → IsTurn feed old.session.state old.ring k
+    → Asks feed old.session old.ring old.pending new.session new.ring new.pending
 gives_asks feed old new k g turn =
-    subst (λ (n : ℕ). Asks feed old.session old.place old.pending new.session n new.pending) (sym g.place)
-    (one_called old.session new.session old.place k g.answer old.pending new.pending none_called turn g.given g.held
+    subst (λ (n : ℕ). Asks feed old.session old.ring old.pending new.session n new.pending) (sym g.ring)
+    (one_called old.session new.session old.ring k g.answer old.pending new.pending none_called turn g.given g.held
     g.pending)
 
-module _ (feed : List Window) (first now new : LinkState) (n k : ℕ) (begins : n ≡ first.place) (same : now ≡ first)
+module _ (feed : List Window) (first now new : LinkState) (n k : ℕ) (begins : n ≡ first.ring) (same : now ≡ first)
     (g : Gives feed k now new) (lt : k < length feed) where
   given : Gives feed k first new
   given = subst (λ (x : LinkState). Gives feed k x new) same g
 
   pub asked_behind : n ≤ k → ((j : ℕ) → n ≤ j → j < k → Waits feed first.session.state j)
-      → Asks feed first.session first.place first.pending new.session new.place new.pending
+      → Asks feed first.session first.ring first.pending new.session new.ring new.pending
   asked_behind behind waits = gives_asks feed first new k given
       (subst (λ (p : ℕ). IsTurn feed first.session.state p k) begins
       (turn_behind feed first.session.state n k behind lt waits given.sends))
 
   pub asked_before : k < n → ((j : ℕ) → n ≤ j → j < length feed → Waits feed first.session.state j)
       → ((j : ℕ) → j < k → Waits feed first.session.state j)
-      → Asks feed first.session first.place first.pending new.session new.place new.pending
+      → Asks feed first.session first.ring first.pending new.session new.ring new.pending
   asked_before before behind waits = gives_asks feed first new k given
       (subst (λ (p : ℕ). IsTurn feed first.session.state p k) begins
       (turn_before feed first.session.state n k before lt behind waits given.sends))

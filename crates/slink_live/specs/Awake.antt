@@ -5,7 +5,7 @@ use Rattle.slink_feed.specs.declared.grant.Grant.{Grant}
 use Rattle.slink_feed.specs.declared.session.Phase.TheVariants.{Streaming, Closed}
 use Rattle.slink_feed.specs.Session.{Grants, IsWaiting, State, grant_at}
 use Rattle.slink_feed.specs.Window.{Window, oldest_of}
-use Rattle.slink_live.specs.declared.ready.Wishes.{Wishes}
+use Rattle.slink_live.specs.declared.ready.Interest.{Interest}
 use Rattle.slink_live.specs.declared.ready.Event.TheVariants as events
 use Rattle.slink_live.specs.Happening.{Happening, Gone, Next, is_left, told, wants_links}
 use Rattle.slink_live.specs.Served.{IsServing, LinkState, ServerState}
@@ -40,10 +40,10 @@ pub record HasAll (feed : List Window) (l : LinkState) : Type 0 where
   pub none : l.pending ≡ []
 
 -- Why a link is closed, but for that the device says that it is gone. One that still shakes hands is not.
-pub data IsClosable (feed : List Window) (is_ended : Bool) (l : LinkState) : Type 0 where
-  is_over : IsOver l → IsClosable feed is_ended l
-  is_lost : IsLost feed l.session.state → IsClosable feed is_ended l
-  has_all : is_ended ≡ true → HasAll feed l → IsClosable feed is_ended l
+pub data IsClosable (feed : List Window) (has_ended : Bool) (l : LinkState) : Type 0 where
+  is_over : IsOver l → IsClosable feed has_ended l
+  is_lost : IsLost feed l.session.state → IsClosable feed has_ended l
+  has_all : has_ended ≡ true → HasAll feed l → IsClosable feed has_ended l
 
 -- There is room for the replies to a byte of a link.
 abbrev pub HasRoom : LinkState → Type 0
@@ -55,22 +55,22 @@ IsFilled feed l = length l.pending + 520 ≤ 6240
     → IsWaiting feed l.session.state ⊎ (l.session.state.phase ≡ Closed)
 
 -- It has bytes pending, and the device was told that it wants to write; or nothing more is due to it.
-pub data Sleeps (feed : List Window) (l : LinkState) (wishes : Wishes) : Type 0 where
-  writes : l.pending ≢ [] → wishes.writes ≡ true → Sleeps feed l wishes
-  waits : l.pending ≡ [] → wishes.writes ≡ false → IsWaiting feed l.session.state → Sleeps feed l wishes
+pub data Sleeps (feed : List Window) (l : LinkState) (interest : Interest) : Type 0 where
+  writes : l.pending ≢ [] → interest.writes ≡ true → Sleeps feed l interest
+  waits : l.pending ≡ [] → interest.writes ≡ false → IsWaiting feed l.session.state → Sleeps feed l interest
 
 -- A link stands by right, and the device was told what is wanted of it.
-pub record IsSettled (feed : List Window) (is_ended : Bool) (l : LinkState) (wishes : Wishes) : Type 0 where
-  pub stands : ¬ (IsClosable feed is_ended l)
-  pub sleeps : Sleeps feed l wishes
+pub record IsSettled (feed : List Window) (has_ended : Bool) (l : LinkState) (interest : Interest) : Type 0 where
+  pub stands : ¬ (IsClosable feed has_ended l)
+  pub sleeps : Sleeps feed l interest
   pub filled : IsFilled feed l
-  pub reads : (wishes.reads ≡ true) ↔ HasRoom l
-  pub streams : (wishes.is_streaming ≡ true) ↔ (l.session.state.phase ≡ Streaming)
+  pub reads : (interest.reads ≡ true) ↔ HasRoom l
+  pub streams : (interest.is_streaming ≡ true) ↔ (l.session.state.phase ≡ Streaming)
 
 -- So it is with the link in a slot, where one stands.
 abbrev pub IsAwakeIn : ServerState → List Happening → ℕ → Type 0
 IsAwakeIn s log k = (l : LinkState) → get_or s.links k None ≡ Some l
-    → IsSettled s.intake.feed s.is_ended l (told k log)
+    → IsSettled s.intake.feed s.has_ended l (told k log)
 
 -- whether a slot is free
 abbrev pub has_free : List (Option LinkState) → Bool
@@ -81,8 +81,8 @@ has_free (Some l ∷ links) = has_free links
 -- The device was told that links are wanted exactly where the input is read and a slot is free, and that the input is
 -- read no more exactly where that is so.
 pub record IsTold (s : ServerState) (log : List Happening) : Type 0 where
-  pub links : wants_links log ≡ (not s.is_ended && has_free s.links)
-  pub left : is_left log ≡ s.is_ended
+  pub links : wants_links log ≡ (not s.has_ended && has_free s.links)
+  pub left : is_left log ≡ s.has_ended
 
 -- No link sleeps.
 pub record IsAwake (s : ServerState) (log : List Happening) : Type 0 where
@@ -107,8 +107,8 @@ pub record WasClosable (start : List Window) (before : List Happening) (k : ℕ)
   pub link : LinkState
   pub serving : IsServing start server before
   pub stood : get_or server.links k None ≡ Some link
-  pub left : is_left before ≡ server.is_ended
-  pub closable : IsClosable server.intake.feed server.is_ended link
+  pub left : is_left before ≡ server.has_ended
+  pub closable : IsClosable server.intake.feed server.has_ended link
 
 -- A link is closed where the device said that it is gone, or it was closable.
 abbrev pub IsClosedRightly : List Window → List Happening → Happening → Type 0

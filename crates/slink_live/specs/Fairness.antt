@@ -9,10 +9,10 @@ use Rattle.slink_live.specs.Story.{IsTurn}
 
 -- The places for which a session is called one after another, each when its turn comes.
 pub data TakesTurns (feed : List Window) : State → ℕ → List ℕ → State → ℕ → Type 0 where
-  no_more : (s : State) (place : ℕ) → TakesTurns feed s place [] s place
-  next_called : (s now last : State) (place turn k : ℕ) (answer : Sent) (more : List ℕ) → IsTurn feed s place k
+  no_more : (s : State) (ring : ℕ) → TakesTurns feed s ring [] s ring
+  next_called : (s now last : State) (ring turn k : ℕ) (answer : Sent) (more : List ℕ) → IsTurn feed s ring k
       → sent feed s k ≡ (now, answer) → TakesTurns feed now (k + 1) more last turn
-      → TakesTurns feed s place (k ∷ more) last turn
+      → TakesTurns feed s ring (k ∷ more) last turn
 
 -- A place has a record that is due.
 pub record HasDue (feed : List Window) (s : State) (j : ℕ) : Type 0 where

@@ -4,7 +4,7 @@ use Rattle.std.specs.Prelude.{if◌then◌else◌}
 use Rattle.std.specs.Coded.{Coded, code_by, coded×, coded_ℕ, coded_list}
 use Rattle.slink_live.specs.declared.ready.Event.{Event}
 use Rattle.slink_live.specs.declared.ready.Event.TheVariants as events
-use Rattle.slink_live.specs.declared.ready.Wishes.{Wishes}
+use Rattle.slink_live.specs.declared.ready.Interest.{Interest}
 
 -- bytes came from the input; a link stands in a slot from now on; bytes came from it; it accepted bytes; it is gone;
 -- the device said what can be done next; nobody dialled any more who could stand in a slot; the device was told what is
@@ -17,7 +17,7 @@ pub data Happening : Type 0 where
   Gone : (slot : ℕ) → Happening
   Next : (event : Event) → Happening
   Missed : (slot : ℕ) → Happening
-  Wants : (slot : ℕ) (wishes : Wishes) → Happening
+  Wants : (slot : ℕ) (interest : Interest) → Happening
   WantsLinks : (wanted : Bool) → Happening
   Left : Happening
 
@@ -30,11 +30,11 @@ abbrev pub is_flag : ℕ → Bool
 is_flag n = n == 1
 
 -- wishes as numbers
-abbrev pub flags_of : Wishes → List ℕ
+abbrev pub flags_of : Interest → List ℕ
 flags_of w = flag_of w.reads ∷ flag_of w.writes ∷ flag_of w.is_streaming ∷ []
 
-abbrev pub wishes_by : List ℕ → Wishes
-wishes_by flags = record {
+abbrev pub interest_by : List ℕ → Interest
+interest_by flags = record {
   reads = is_flag (get_or flags 0 0);
   writes = is_flag (get_or flags 1 0);
   is_streaming = is_flag (get_or flags 2 0);
@@ -59,7 +59,7 @@ happening (suc (suc zero)) slot bytes = Received slot bytes
 happening (suc (suc (suc zero))) slot bytes = Emitted slot bytes
 happening (suc (suc (suc (suc zero)))) slot bytes = Gone slot
 happening (suc (suc (suc (suc (suc zero))))) slot bytes = Missed slot
-happening (suc (suc (suc (suc (suc (suc zero)))))) slot bytes = Wants slot (wishes_by bytes)
+happening (suc (suc (suc (suc (suc (suc zero)))))) slot bytes = Wants slot (interest_by bytes)
 happening (suc (suc (suc (suc (suc (suc (suc zero))))))) slot bytes = WantsLinks (is_flag slot)
 happening (suc (suc (suc (suc (suc (suc (suc (suc zero)))))))) slot bytes = Left
 happening (suc (suc (suc (suc (suc (suc (suc (suc (suc n))))))))) slot bytes = Next (event_by n slot)
@@ -84,7 +84,7 @@ to_parts (Received slot bytes) = (2, (slot, bytes))
 to_parts (Emitted slot bytes) = (3, (slot, bytes))
 to_parts (Gone slot) = (4, (slot, []))
 to_parts (Missed slot) = (5, (slot, []))
-to_parts (Wants slot wishes) = (6, (slot, flags_of wishes))
+to_parts (Wants slot interest) = (6, (slot, flags_of interest))
 to_parts (WantsLinks wanted) = (7, (flag_of wanted, []))
 to_parts Left = (8, (0, []))
 to_parts (Next event) = event_parts event
@@ -92,12 +92,12 @@ to_parts (Next event) = event_parts event
 abbrev of_parts : Parts → Happening
 of_parts p = happening p.0 p.1.0 p.1.1
 
-abbrev wishes_of : Bool → Bool → Bool → Wishes
-wishes_of reads writes is_streaming = record { reads = reads; writes = writes; is_streaming = is_streaming }
+abbrev interest_of : Bool → Bool → Bool → Interest
+interest_of reads writes is_streaming = record { reads = reads; writes = writes; is_streaming = is_streaming }
 
 pub same_wants : (slot : ℕ) (reads writes is_streaming : Bool)
-    → happening 6 slot (flags_of (wishes_of reads writes is_streaming)) ≡ Wants slot
-    (wishes_of reads writes is_streaming)
+    → happening 6 slot (flags_of (interest_of reads writes is_streaming)) ≡ Wants slot
+    (interest_of reads writes is_streaming)
 same_wants slot true true true = refl
 same_wants slot true true false = refl
 same_wants slot true false true = refl
@@ -128,7 +128,7 @@ same_parts (Received slot bytes) = refl
 same_parts (Emitted slot bytes) = refl
 same_parts (Gone slot) = refl
 same_parts (Missed slot) = refl
-same_parts (Wants slot wishes) = same_wants slot wishes.reads wishes.writes wishes.is_streaming
+same_parts (Wants slot interest) = same_wants slot interest.reads interest.writes interest.is_streaming
 same_parts (WantsLinks wanted) = same_links wanted
 same_parts Left = refl
 same_parts (Next event) = same_event event
@@ -166,21 +166,21 @@ those_of k [] = []
 those_of k (h ∷ hs) = if is_input h || is_at k h then h ∷ those_of k hs else those_of k hs
 
 -- what the device was told of the link in a slot; at first it counts as told that the link is read
-abbrev pub first_wishes : Wishes
-first_wishes = record { reads = true; writes = false; is_streaming = false }
+abbrev pub first_interest : Interest
+first_interest = record { reads = true; writes = false; is_streaming = false }
 
-abbrev pub told_by : ℕ → Wishes → Happening → Wishes
-told_by k wishes (Opened slot) = if slot == k then first_wishes else wishes
-told_by k wishes (Wants slot new) = if slot == k then new else wishes
-told_by k wishes _ = wishes
+abbrev pub told_by : ℕ → Interest → Happening → Interest
+told_by k interest (Opened slot) = if slot == k then first_interest else interest
+told_by k interest (Wants slot new) = if slot == k then new else interest
+told_by k interest _ = interest
 
-abbrev pub told_from : ℕ → Wishes → List Happening → Wishes
-told_from k wishes [] = wishes
-told_from k wishes (h ∷ hs) = told_from k (told_by k wishes h) hs
+abbrev pub told_from : ℕ → Interest → List Happening → Interest
+told_from k interest [] = interest
+told_from k interest (h ∷ hs) = told_from k (told_by k interest h) hs
 
 -- what it was last told of the link in a slot
-abbrev pub told : ℕ → List Happening → Wishes
-told k log = told_from k first_wishes log
+abbrev pub told : ℕ → List Happening → Interest
+told k log = told_from k first_interest log
 
 abbrev pub links_by : Bool → Happening → Bool
 links_by wanted (WantsLinks new) = new

@@ -13,11 +13,11 @@ use Rattle.slink_live.specs.Story.{IsServed, Story}
 -- yet
 pub record LinkState : Type 0 where
   pub session : Standing
-  pub place : ℕ
+  pub ring : ℕ
   pub pending : List ℕ
 
 abbrev pub link_state : Standing → ℕ → List ℕ → LinkState
-link_state session place pending = record { session = session; place = place; pending = pending }
+link_state session ring pending = record { session = session; ring = ring; pending = pending }
 
 -- what it keeps of the input: the rings, the bytes behind the last record, and how many records there were
 pub record IntakeState : Type 0 where
@@ -29,7 +29,7 @@ pub record IntakeState : Type 0 where
 pub record ServerState : Type 0 where
   pub intake : IntakeState
   pub links : List (Option LinkState)
-  pub is_ended : Bool
+  pub has_ended : Bool
   pub reads : ℕ
 
 -- Records can be numbered on: each ring's next number is at most this.
@@ -42,7 +42,7 @@ AllFit feed links = (k : ℕ) (l : LinkState) → get_or links k None ≡ Some l
 
 -- what a server keeps to
 pub record IsSound (s : ServerState) : Type 0 where
-  pub short : s.is_ended ≡ false → length s.intake.kept < 512
+  pub short : s.has_ended ≡ false → length s.intake.kept < 512
   pub fit : AllFit s.intake.feed s.links
   pub below : IsBelow (2 ^ 62 + 8192 * s.reads) s.intake.feed
   pub few : s.intake.records ≤ 8192 * s.reads
@@ -54,7 +54,7 @@ abbrev pub Matches : Option LinkState → Option Story → Type 0
 Matches None None = Unit {0}
 Matches None (Some t) = ⊥
 Matches (Some l) None = ⊥
-Matches (Some l) (Some t) = (t.session ≡ l.session) × (t.place ≡ l.place) × (t.produced ≡ t.emitted ++ l.pending)
+Matches (Some l) (Some t) = (t.session ≡ l.session) × (t.ring ≡ l.ring) × (t.produced ≡ t.emitted ++ l.pending)
 
 -- what happened in a slot comes to a story that its link matches
 pub record IsStory (start : List Window) (k : ℕ) (o : Option LinkState) (log : List Happening) : Type 0 where
@@ -67,7 +67,7 @@ pub record IsServing (start : List Window) (s : ServerState) (log : List Happeni
   pub rest : List ℕ
   pub fed : IsFedTo start (input_of log) s.intake.feed rest
   pub counted : s.intake.records ≡ length fed.records
-  pub goes_on : s.is_ended ≡ false → rest ≡ s.intake.kept
+  pub goes_on : s.has_ended ≡ false → rest ≡ s.intake.kept
   pub slots : (k : ℕ) → IsStory start k (get_or s.links k None) log
 
 -- No link stands in any slot.
@@ -76,7 +76,7 @@ AreEmpty links = (k : ℕ) → get_or links k None ≡ None
 
 -- Nothing is left to do: the input is read no more, and no link stands.
 pub record IsFinished (s : ServerState) : Type 0 where
-  pub ended : s.is_ended ≡ true
+  pub ended : s.has_ended ≡ true
   pub empty : AreEmpty s.links
 
 -- What happened goes on from what had happened.
@@ -85,4 +85,4 @@ GoesOn old new = (more : List Happening) × (new ≡ old ++ more)
 
 -- An input that is read no more stays so: nothing further comes of it.
 abbrev pub StaysUnread : ServerState → ServerState → List Happening → List Happening → Type 0
-StaysUnread s t old new = s.is_ended ≡ true → (t.is_ended ≡ true) × (input_of new ≡ input_of old)
+StaysUnread s t old new = s.has_ended ≡ true → (t.has_ended ≡ true) × (input_of new ≡ input_of old)

@@ -15,13 +15,13 @@ use Rattle.slink_live.specs.Input.{IsFed}
 -- a session, the place whose turn it is, what was sent so far, and what its link accepted of that
 pub record Story : Type 0 where
   pub session : Standing
-  pub place : ℕ
+  pub ring : ℕ
   pub produced : List ℕ
   pub emitted : List ℕ
 
 abbrev pub story : Standing → ℕ → List ℕ → List ℕ → Story
-story session place produced emitted =
-    record { session = session; place = place; produced = produced; emitted = emitted }
+story session ring produced emitted =
+    record { session = session; ring = ring; produced = produced; emitted = emitted }
 
 -- It is the session of a new link.
 pub record IsNew (s : Standing) : Type 0 where
@@ -30,21 +30,21 @@ pub record IsNew (s : Standing) : Type 0 where
 
 -- In a round of the places from one on, the place comes before another.
 abbrev pub IsEarlier : ℕ → ℕ → ℕ → Type 0
-IsEarlier place j k = ((place ≤ j) × (j < k)) ⊎ ((k < place) × (place ≤ j)) ⊎ ((k < place) × (j < k))
+IsEarlier ring j k = ((ring ≤ j) × (j < k)) ⊎ ((k < ring) × (ring ≤ j)) ⊎ ((k < ring) × (j < k))
 
 -- It is the first of which something is sent, in a round of the places from one on.
-pub record IsTurn (feed : List Window) (s : State) (place k : ℕ) : Type 0 where
+pub record IsTurn (feed : List Window) (s : State) (ring k : ℕ) : Type 0 where
   pub within : k < length feed
   pub sends : ¬ (sent feed s k ≡ (s, Sents.Wait))
-  pub first : (j : ℕ) → j < length feed → IsEarlier place j k → sent feed s j ≡ (s, Sents.Wait)
+  pub first : (j : ℕ) → j < length feed → IsEarlier ring j k → sent feed s j ≡ (s, Sents.Wait)
 
 -- A session is called for packets, in turns: each time for the first place of which something is sent, in a round from
 -- the one behind the place that was called last. What it gives goes on its way.
-pub data Asks (feed : List Window) (s : Standing) (place : ℕ) (way : List ℕ) : Standing → ℕ → List ℕ → Type 0 where
-  none_called : Asks feed s place way s place way
-  one_called : (now last : Standing) (turn k : ℕ) (answer : Sent) (on all : List ℕ) → Asks feed s place way now turn on
+pub data Asks (feed : List Window) (s : Standing) (ring : ℕ) (way : List ℕ) : Standing → ℕ → List ℕ → Type 0 where
+  none_called : Asks feed s ring way s ring way
+  one_called : (now last : Standing) (turn k : ℕ) (answer : Sent) (on all : List ℕ) → Asks feed s ring way now turn on
       → IsTurn feed now.state turn k → sent feed now.state k ≡ (last.state, answer) → last.held ≡ now.held
-      → all ≡ on ++ sent_bytes answer → Asks feed s place way last (k + 1) all
+      → all ≡ on ++ sent_bytes answer → Asks feed s ring way last (k + 1) all
 
 -- What happened comes to this in a slot: no link stands there, or this is the story of the one that does. A link comes
 -- where none stands. What it says is answered by its session, as slink_feed has it, from the rings as the input made
@@ -55,16 +55,16 @@ pub data IsServed (start : List Window) (k : ℕ) : List Happening → Option St
       → is_at k h ≡ false → now ≡ before ++ h ∷ [] → IsServed start k now o
   opens : (before now : List Happening) (s : Standing) → IsServed start k before None → IsNew s
       → now ≡ before ++ Opened k ∷ [] → IsServed start k now (Some (story s 0 [] []))
-  hears : (before now : List Happening) (feed : List Window) (s new : Standing) (place : ℕ)
-      (bytes produced all emitted : List ℕ) → IsServed start k before (Some (story s place produced emitted))
+  hears : (before now : List Happening) (feed : List Window) (s new : Standing) (ring : ℕ)
+      (bytes produced all emitted : List ℕ) → IsServed start k before (Some (story s ring produced emitted))
       → IsFed start (input_of before) feed → Serves feed s bytes produced new all
-      → now ≡ before ++ Received k bytes ∷ [] → IsServed start k now (Some (story new place all emitted))
-  asks : (log : List Happening) (feed : List Window) (s new : Standing) (place turn : ℕ)
-      (produced all emitted : List ℕ) → IsServed start k log (Some (story s place produced emitted))
-      → IsFed start (input_of log) feed → Asks feed s place produced new turn all
+      → now ≡ before ++ Received k bytes ∷ [] → IsServed start k now (Some (story new ring all emitted))
+  asks : (log : List Happening) (feed : List Window) (s new : Standing) (ring turn : ℕ)
+      (produced all emitted : List ℕ) → IsServed start k log (Some (story s ring produced emitted))
+      → IsFed start (input_of log) feed → Asks feed s ring produced new turn all
       → IsServed start k log (Some (story new turn all emitted))
-  takes : (before now : List Happening) (s : Standing) (place : ℕ) (bytes produced emitted : List ℕ)
-      → IsServed start k before (Some (story s place produced emitted)) → IsPrefixOf (emitted ++ bytes) produced
-      → now ≡ before ++ Emitted k bytes ∷ [] → IsServed start k now (Some (story s place produced (emitted ++ bytes)))
+  takes : (before now : List Happening) (s : Standing) (ring : ℕ) (bytes produced emitted : List ℕ)
+      → IsServed start k before (Some (story s ring produced emitted)) → IsPrefixOf (emitted ++ bytes) produced
+      → now ≡ before ++ Emitted k bytes ∷ [] → IsServed start k now (Some (story s ring produced (emitted ++ bytes)))
   goes : (before now : List Happening) (o : Option Story) → IsServed start k before o
       → now ≡ before ++ Gone k ∷ [] → IsServed start k now None

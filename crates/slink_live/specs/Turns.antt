@@ -20,7 +20,7 @@ IsTelling (Emitted k bytes) = ⊥
 IsTelling (Gone k) = Unit {0}
 IsTelling (Next event) = ⊥
 IsTelling (Missed k) = ⊥
-IsTelling (Wants k wishes) = Unit {0}
+IsTelling (Wants k interest) = Unit {0}
 IsTelling (WantsLinks wanted) = Unit {0}
 IsTelling Left = Unit {0}
 
@@ -46,15 +46,15 @@ WritesTo (Some l) k log last = (n : ℕ) × Calls log (Emitted k (take n l.pendi
 
 -- Of bytes of the input: they are read, unless it is read no more, or was read too often.
 pub data ReadsInput (s : ServerState) (log last : List Happening) : Type 0 where
-  reads : (bytes : List ℕ) → s.is_ended ≡ false → Calls log (Input bytes) last → ReadsInput s log last
-  too_often : s.is_ended ≡ false → 2 ^ 40 ≤ s.reads → Closes log last → ReadsInput s log last
-  stays : s.is_ended ≡ true → last ≡ log → ReadsInput s log last
+  reads : (bytes : List ℕ) → s.has_ended ≡ false → Calls log (Input bytes) last → ReadsInput s log last
+  too_often : s.has_ended ≡ false → 2 ^ 40 ≤ s.reads → Closes log last → ReadsInput s log last
+  stays : s.has_ended ≡ true → last ≡ log → ReadsInput s log last
 
 -- Of a link that dials: it is taken into the first slot that is free, if the input is read, unless it is gone already.
 pub data Opens (s : ServerState) (log last : List Happening) : Type 0 where
-  takes : (k : ℕ) → s.is_ended ≡ false → IsFirstFree s.links k → Calls log (Opened k) last → Opens s log last
-  misses : (k : ℕ) → s.is_ended ≡ false → IsFirstFree s.links k → Calls log (Missed k) last → Opens s log last
-  is_full : (not s.is_ended && has_free s.links) ≡ false → Closes log last → Opens s log last
+  takes : (k : ℕ) → s.has_ended ≡ false → IsFirstFree s.links k → Calls log (Opened k) last → Opens s log last
+  misses : (k : ℕ) → s.has_ended ≡ false → IsFirstFree s.links k → Calls log (Missed k) last → Opens s log last
+  is_full : (not s.has_ended && has_free s.links) ≡ false → Closes log last → Opens s log last
 
 -- which call of the device an event comes to
 abbrev pub IsCalled : Event → ServerState → List Happening → List Happening → Type 0

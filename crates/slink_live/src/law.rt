@@ -55,10 +55,10 @@ pub fn a_link_is_sent_stretches()
 /// A link's session is called in turns. Between two calls for a place, while nothing comes, each other place that has a
 /// record due when the second is made was called: a busy station starves no other.
 pub fn in_turns()
-    ensures turns { (feed : List Window) (s last : Standing) (place turn : ℕ) (way all : List ℕ)
-        → Asks feed s place way last turn all → (ks : List ℕ) × TakesTurns feed s.state place ks last.state turn }
-    ensures between { (feed : List Window) (s t : State) (place turn k j : ℕ) (mid : List ℕ)
-        → TakesTurns feed s place (k ∷ mid) t turn → IsTurn feed t turn k → j ≢ k → HasDue feed t j
+    ensures turns { (feed : List Window) (s last : Standing) (ring turn : ℕ) (way all : List ℕ)
+        → Asks feed s ring way last turn all → (ks : List ℕ) × TakesTurns feed s.state ring ks last.state turn }
+    ensures between { (feed : List Window) (s t : State) (ring turn k j : ℕ) (mid : List ℕ)
+        → TakesTurns feed s ring (k ∷ mid) t turn → IsTurn feed t turn k → j ≢ k → HasDue feed t j
         → IsAmong j mid }
 {}
 

@@ -18,5 +18,5 @@ pub use law::{
     no_other_link_matters, other_places_change_nothing,
 };
 pub use log::Log;
-pub use ready::{Event, Ready, Wishes};
+pub use ready::{Event, Interest, Ready};
 pub use server::Server;

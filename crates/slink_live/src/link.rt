@@ -14,7 +14,7 @@ ghost use Rattle.slink_live.specs.private.Granting.{AreDue, Covers, Has};
 
 use crate::pending::{PACKET, Pending, ROOM};
 use crate::places::Places;
-use crate::ready::Wishes;
+use crate::ready::Interest;
 use slink_feed::{Feed, Session, Unsent};
 use std::marker::Model;
 
@@ -27,13 +27,13 @@ pub(crate) const PIECE: usize = 64;
 /// So often a session is called at most at a time: for the packets that there is room for, and for its end.
 const ASKS: u32 = 13;
 
-/// What comes of a link that was filled.
+/// What is to be done with a link whose packets were queued.
 #[derive(Clone, Copy, Debug, PartialEq, Eq)]
-pub(crate) enum Settled {
+pub(crate) enum Update {
     /// There is none.
     Empty,
     /// It stands, and this is wanted of it.
-    Wants(Wishes),
+    Wants(Interest),
     /// It is to be closed.
     Closes,
 }
@@ -42,8 +42,8 @@ pub(crate) enum Settled {
 #[derive(Drop)]
 pub(crate) struct Link {
     session: Session,
-    // The place whose turn it is.
-    place: usize,
+    // The number of the ring that is asked first.
+    ring: usize,
     pending: Pending,
 }
 
@@ -52,20 +52,20 @@ impl Model for Link {
 
     ghost Value = { LinkState };
 
-    ghost view = { λ l. link_state l.session l.place l.pending.bytes };
+    ghost view = { λ l. link_state l.session l.ring l.pending.bytes };
 }
 
 impl Link {
     /// A new link.
     pub(crate) fn new() -> Link
         ensures session { IsNew result.session }
-        ensures place { result.place ≡ 0 }
+        ensures ring { result.ring ≡ 0 }
         ensures pending { result.pending ≡ [] }
         ensures fits { (feed : List Window) → Fits feed result.session.state }
     {
         Link {
             session: Session::new(),
-            place: 0,
+            ring: 0,
             pending: Pending::new(),
         }
     }
@@ -95,14 +95,14 @@ impl Link {
     }
 
     /// Whether its session is over, and nothing is pending.
-    fn is_done(&self) -> bool
+    fn must_close(&self) -> bool
         ensures yes { OnTrue result (IsOver self.now) }
         ensures no { OnFalse result (¬ (IsOver self.now)) }
     {
         self.session.is_closed() && self.pending.is_empty()
     }
 
-    /// Whether the client has sent all that it has to say.
+    /// Whether the client has sent all its commands.
     fn is_streaming(&self) -> bool
         ensures yes { OnTrue result (self.now.session.state.phase ≡ Phase.Streaming) }
         ensures no { OnFalse result (self.now.session.state.phase ≢ Phase.Streaming) }
@@ -149,22 +149,22 @@ impl Link {
 
     /// Whether it is to be closed, once it is filled. A link that lost its place is found here, when records come: one
     /// that takes nothing is never writable.
-    pub(crate) fn is_closable(&self, feed: &Feed, is_ended: bool) -> bool
+    pub(crate) fn is_closable(&self, feed: &Feed, has_ended: bool) -> bool
         requires { IsFilled feed.now self.now }
-        ensures yes { OnTrue result (IsClosable feed.now is_ended self.now) }
-        ensures no { OnFalse result (¬ (IsClosable feed.now is_ended self.now)) }
+        ensures yes { OnTrue result (IsClosable feed.now has_ended self.now) }
+        ensures no { OnFalse result (¬ (IsClosable feed.now has_ended self.now)) }
     {
-        self.is_done() || self.is_stuck(feed) || is_ended && self.has_all()
+        self.must_close() || self.is_stuck(feed) || has_ended && self.has_all()
     }
 
     /// The same, where nothing more is due to it, and no record that is to be sent next has left its ring.
-    pub(crate) fn is_closable_at_rest(&self, is_ended: bool) -> bool
+    pub(crate) fn is_closable_at_rest(&self, has_ended: bool) -> bool
         ensures yes { OnTrue result ((feed : List Window) → IsRested feed self.now
-            → IsClosable feed is_ended self.now) }
+            → IsClosable feed has_ended self.now) }
         ensures no { OnFalse result ((feed : List Window) → IsRested feed self.now
-            → ¬ (IsClosable feed is_ended self.now)) }
+            → ¬ (IsClosable feed has_ended self.now)) }
     {
-        self.is_done() || is_ended && self.has_all()
+        self.must_close() || has_ended && self.has_all()
     }
 
     /// Whether a record that is to be sent next has left its ring, once it is filled: with room for a packet none has.
@@ -184,13 +184,13 @@ impl Link {
         self.pending.len() <= ROOM - PACKET
     }
 
-    /// What is wanted of it.
-    pub(crate) fn wishes(&self) -> Wishes
+    /// What is wanted of the link: reading where there is room for replies, writing where bytes are pending.
+    pub(crate) fn interest(&self) -> Interest
         ensures reads { (result.reads ≡ true) ↔ HasRoom self.now }
         ensures writes { (result.writes ≡ true) ↔ (self.now.pending ≢ []) }
         ensures streams { (result.is_streaming ≡ true) ↔ (self.now.session.state.phase ≡ Phase.Streaming) }
     {
-        Wishes {
+        Interest {
             reads: self.readable() > 0,
             writes: !self.pending.is_empty(),
             is_streaming: self.is_streaming(),
@@ -215,34 +215,34 @@ impl Link {
     }
 
     /// Takes what the link brought: the session answers each line.
-    pub(crate) fn hear(&mut self, feed: &Feed, bytes: &[u8])
+    pub(crate) fn receive(&mut self, feed: &Feed, bytes: &[u8])
         requires fits { Fits feed.now self.old.session.state }
         requires room { length self.old.pending + 35 * length bytes.now ≤ 6240 }
         ensures serves { Serves feed.now self.old.session bytes.now self.old.pending self.new.session
             self.new.pending }
-        ensures place { self.new.place ≡ self.old.place }
+        ensures ring { self.new.ring ≡ self.old.ring }
         ensures fits { Fits feed.now self.new.session.state }
     {
         let mut start = 0;
         while start < bytes.len() {
             let (used, reply) = self.session.take(feed, &bytes[start..]);
-            self.say(reply.bytes());
+            self.queue(reply.bytes());
             start += used;
         }
     }
 
-    /// Has these bytes wait.
-    fn say(&mut self, bytes: &[u8])
+    /// Queues bytes, to be sent behind those that are pending.
+    fn queue(&mut self, bytes: &[u8])
         requires { length self.old.pending + length bytes.now ≤ 6240 }
         ensures { self.new ≡ record self.old { pending = self.old.pending ++ bytes.now } }
     {
-        self.pending.say(bytes);
+        self.pending.queue(bytes);
     }
 
     /// Asks the session for packets, round and round of the places, as many as there is room for.
     pub(crate) fn fill(&mut self, feed: &Feed)
         requires fits { Fits feed.now self.old.session.state }
-        ensures asks { Asks feed.now self.old.session self.old.place self.old.pending self.new.session self.new.place
+        ensures asks { Asks feed.now self.old.session self.old.ring self.old.pending self.new.session self.new.ring
             self.new.pending }
         ensures fits { Fits feed.now self.new.session.state }
         ensures filled { IsFilled feed.now self.new }
@@ -295,10 +295,10 @@ impl Link {
     /// Of some places the one whose turn it is.
     fn turn(&self, due: Places) -> Option<usize>
         ensures some { IfSome result (Has due) }
-        ensures first { IfSome result (λ k. (j : ℕ) → IsEarlier self.now.place j k → ¬ (Has due j)) }
+        ensures first { IfSome result (λ k. (j : ℕ) → IsEarlier self.now.ring j k → ¬ (Has due j)) }
         ensures none { IfNone result ((j : ℕ) → ¬ (Has due j)) }
     {
-        due.first_from(self.place)
+        due.first_from(self.ring)
     }
 
     /// Asks for the packet of a place of which a record is due. The answer is of which places one is due then.
@@ -332,7 +332,7 @@ impl Link {
         requires fits { Fits feed.now self.old.session.state }
         requires streams { self.old.session.state.phase ≡ Phase.Streaming }
         requires none { (k : ℕ) → k < length feed.now → IsAtNext feed.now self.old.session.state.grants k }
-        ensures asks { Asks feed.now self.old.session self.old.place self.old.pending self.new.session self.new.place
+        ensures asks { Asks feed.now self.old.session self.old.ring self.old.pending self.new.session self.new.ring
             self.new.pending }
         ensures fits { Fits feed.now self.new.session.state }
         ensures filled { IsFilled feed.now self.new }
@@ -346,8 +346,8 @@ impl Link {
     fn ask(&mut self, feed: &Feed) -> bool
         requires room { length self.old.pending + 520 ≤ 6240 }
         requires fits { Fits feed.now self.old.session.state }
-        ensures yes { OnTrue result (Asks feed.now self.old.session self.old.place self.old.pending self.new.session
-            self.new.place self.new.pending) }
+        ensures yes { OnTrue result (Asks feed.now self.old.session self.old.ring self.old.pending self.new.session
+            self.new.ring self.new.pending) }
         ensures grows { OnTrue result ((self.new.session.state.phase ≡ Phase.Closed)
             ⊎ (length self.new.pending ≡ length self.old.pending + 520)) }
         ensures ends { self.old.session.state.phase ≡ Phase.Streaming
@@ -357,13 +357,13 @@ impl Link {
         ensures stays { OnFalse result (self.new ≡ self.old) }
         ensures fits { Fits feed.now self.new.session.state }
     {
-        let place = self.place;
-        for k in place..feed.len() {
+        let ring = self.ring;
+        for k in ring..feed.len() {
             if self.ask_at(feed, k) {
                 return true;
             }
         }
-        for k in 0..feed.len().min(place) {
+        for k in 0..feed.len().min(ring) {
             if self.ask_at(feed, k) {
                 return true;
             }
@@ -385,14 +385,14 @@ impl Link {
     {
         match self.session.next_record(feed, k) {
             Ok((number, record)) => {
-                self.pending.say_packet(number, record);
-                self.place = k + 1;
+                self.pending.queue_packet(number, record);
+                self.ring = k + 1;
                 true
             }
             Err(Unsent::Wait) => false,
             Err(unsent) => {
-                self.say(unsent.bytes());
-                self.place = k + 1;
+                self.queue(unsent.bytes());
+                self.ring = k + 1;
                 true
             }
         }

@@ -9,7 +9,7 @@ ghost use Rattle.slink_live.specs.Story.{IsNew};
 ghost use Rattle.slink_live.specs.private.Calling.{HasFilled, HasReceived, HasTaken, IfRested, IsOutcome};
 ghost use Rattle.slink_live.specs.private.Granting.{Changes, CoversIn, LeavesOut};
 
-use crate::link::{Link, PIECE, Settled};
+use crate::link::{Link, PIECE, Update};
 use crate::places::Places;
 use crate::ready::Ready;
 use slink_feed::Feed;
@@ -61,7 +61,7 @@ fn no_grants(alloc: Global, count: usize) -> Result<Vec<Places>, AllocError>
 
 /// Reads once from the link in a slot, where one stands, as much as there is room for replies, and has its session
 /// answer. The answer is which places it is sent records of then.
-fn hear<R: Ready>(link: &mut Option<Link>, feed: &Feed, slot: usize, ready: &mut R) -> Places
+fn receive<R: Ready>(link: &mut Option<Link>, feed: &Feed, slot: usize, ready: &mut R) -> Places
     requires { IfSome link.old (λ l. Fits feed.now l.session.state) }
     ensures received { HasReceived feed.now slot link.old link.new (R.log ready.old) (R.log ready.new) }
     ensures covers { CoversIn result link.new }
@@ -71,7 +71,7 @@ fn hear<R: Ready>(link: &mut Option<Link>, feed: &Feed, slot: usize, ready: &mut
             let mut buf = [0; PIECE];
             let most = link.readable();
             let count = ready.read(slot, &mut buf[..most]);
-            link.hear(feed, &buf[..count]);
+            link.receive(feed, &buf[..count]);
             link.granted(feed)
         }
         None => Places::none(),
@@ -80,7 +80,7 @@ fn hear<R: Ready>(link: &mut Option<Link>, feed: &Feed, slot: usize, ready: &mut
 
 /// Writes once to the link in a slot, where one stands, what its session sent. The answer is whether there was room for
 /// a packet before: then nothing more is due.
-fn tell<R: Ready>(link: &mut Option<Link>, slot: usize, ready: &mut R) -> bool
+fn send<R: Ready>(link: &mut Option<Link>, slot: usize, ready: &mut R) -> bool
     ensures taken { HasTaken slot link.old link.new (R.log ready.old) (R.log ready.new) }
     ensures rests { OnTrue result (IfSome link.old (λ l. length l.pending + 520 ≤ 6240)) }
 {
@@ -95,38 +95,38 @@ fn tell<R: Ready>(link: &mut Option<Link>, slot: usize, ready: &mut R) -> bool
     }
 }
 
-/// What comes of the link in a slot to which nothing more is due.
-fn look(link: &Option<Link>, is_ended: bool) -> Settled
-    ensures { (feed : List Window) → IfRested feed link.now → IsOutcome feed is_ended link.now result }
+/// What is to be done with the link in a slot to which nothing more is due.
+fn look(link: &Option<Link>, has_ended: bool) -> Update
+    ensures { (feed : List Window) → IfRested feed link.now → IsOutcome feed has_ended link.now result }
 {
     match link {
         Some(link) => {
-            if link.is_closable_at_rest(is_ended) {
-                Settled::Closes
+            if link.is_closable_at_rest(has_ended) {
+                Update::Closes
             } else {
-                Settled::Wants(link.wishes())
+                Update::Wants(link.interest())
             }
         }
-        None => Settled::Empty,
+        None => Update::Empty,
     }
 }
 
-/// Has the session of the link in a slot say what is due, and answers what comes of the link.
-fn fill(link: &mut Option<Link>, feed: &Feed, is_ended: bool) -> Settled
+/// Queues what is due of the session of the link in a slot, and answers what is to be done with the link.
+fn fill(link: &mut Option<Link>, feed: &Feed, has_ended: bool) -> Update
     requires { IfSome link.old (λ l. Fits feed.now l.session.state) }
     ensures filled { HasFilled feed.now link.old link.new }
-    ensures outcome { IsOutcome feed.now is_ended link.new result }
+    ensures outcome { IsOutcome feed.now has_ended link.new result }
 {
     match link {
         Some(link) => {
             link.fill(feed);
-            if link.is_closable(feed, is_ended) {
-                Settled::Closes
+            if link.is_closable(feed, has_ended) {
+                Update::Closes
             } else {
-                Settled::Wants(link.wishes())
+                Update::Wants(link.interest())
             }
         }
-        None => Settled::Empty,
+        None => Update::Empty,
     }
 }
 
@@ -188,41 +188,41 @@ impl Links {
     }
 
     /// Reads once from the link in a slot, where one stands, and has its session answer.
-    pub(crate) fn hear<R: Ready>(&mut self, slot: usize, feed: &Feed, ready: &mut R)
+    pub(crate) fn receive<R: Ready>(&mut self, slot: usize, feed: &Feed, ready: &mut R)
         requires within { slot < length self.old }
         requires fits { AllFit feed.now self.old }
         ensures { Changes slot (λ o l. HasReceived feed.now slot o l (R.log ready.old) (R.log ready.new)) self.old
             self.new }
     {
-        self.granted[slot] = hear(&mut self.slots[slot], feed, slot, ready);
+        self.granted[slot] = receive(&mut self.slots[slot], feed, slot, ready);
     }
 
     /// Writes once to the link in a slot, where one stands, what its session sent. The answer is whether there was room
     /// for a packet before: then nothing more is due.
-    pub(crate) fn tell<R: Ready>(&mut self, slot: usize, ready: &mut R) -> bool
+    pub(crate) fn send<R: Ready>(&mut self, slot: usize, ready: &mut R) -> bool
         requires { slot < length self.old }
         ensures taken { Changes slot (λ o l. HasTaken slot o l (R.log ready.old) (R.log ready.new)) self.old self.new }
         ensures rests { OnTrue result (IfSome (get_or self.old slot None) (λ l. length l.pending + 520 ≤ 6240)) }
     {
-        tell(&mut self.slots[slot], slot, ready)
+        send(&mut self.slots[slot], slot, ready)
     }
 
-    /// What comes of the link in a slot to which nothing more is due.
-    pub(crate) fn look(&self, slot: usize, is_ended: bool) -> Settled
+    /// What is to be done with the link in a slot to which nothing more is due.
+    pub(crate) fn look(&self, slot: usize, has_ended: bool) -> Update
         requires { slot < length self.now }
         ensures { (feed : List Window) → IfRested feed (get_or self.now slot None)
-            → IsOutcome feed is_ended (get_or self.now slot None) result }
+            → IsOutcome feed has_ended (get_or self.now slot None) result }
     {
-        look(&self.slots[slot], is_ended)
+        look(&self.slots[slot], has_ended)
     }
 
-    /// Has the session of the link in a slot say what is due, and answers what comes of the link.
-    pub(crate) fn fill(&mut self, slot: usize, feed: &Feed, is_ended: bool) -> Settled
+    /// Queues what is due of the session of the link in a slot, and answers what is to be done with the link.
+    pub(crate) fn fill(&mut self, slot: usize, feed: &Feed, has_ended: bool) -> Update
         requires within { slot < length self.old }
         requires fits { AllFit feed.now self.old }
-        ensures { Changes slot (λ o l. HasFilled feed.now o l × IsOutcome feed.now is_ended l result) self.old
+        ensures { Changes slot (λ o l. HasFilled feed.now o l × IsOutcome feed.now has_ended l result) self.old
             self.new }
     {
-        fill(&mut self.slots[slot], feed, is_ended)
+        fill(&mut self.slots[slot], feed, has_ended)
     }
 }

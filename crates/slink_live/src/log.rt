@@ -5,7 +5,7 @@ ghost use Rattle.slink_live.specs.Happening.{Happening, Input, Opened, Received,
 ghost use Rattle.slink_live.specs.Happening.{WantsLinks, Left, flag_of, happening, happenings_code};
 ghost use base.Fml.{ftrue};
 
-use crate::ready::{Event, Wishes};
+use crate::ready::{Event, Interest};
 use std::marker::{Model, PhantomData};
 
 /// What happened at a device, and what it was told, in order.
@@ -96,13 +96,13 @@ impl Log {
     }
 
     /// The device was told what is wanted of the link in a slot.
-    pub fn wants(&mut self, slot: usize, wishes: Wishes)
-        ensures { self.new.all ≡ self.old.all ++ Wants slot wishes ∷ [] }
+    pub fn wants(&mut self, slot: usize, interest: Interest)
+        ensures { self.new.all ≡ self.old.all ++ Wants slot interest ∷ [] }
     {
         let flags = [
-            flag(wishes.reads),
-            flag(wishes.writes),
-            flag(wishes.is_streaming),
+            flag(interest.reads),
+            flag(interest.writes),
+            flag(interest.is_streaming),
         ];
         self.note(6, slot, &flags);
     }

@@ -35,11 +35,11 @@ impl Model for Pending {
 }
 
 /// Puts bytes at a place.
-fn put_bytes(room: &mut [u8; ROOM], place: usize, bytes: &[u8])
-    requires { place + length bytes.now ≤ 6240 }
-    ensures { take (place + length bytes.now) room.new ≡ take place room.old ++ bytes.now }
+fn put_bytes(room: &mut [u8; ROOM], at: usize, bytes: &[u8])
+    requires { at + length bytes.now ≤ 6240 }
+    ensures { take (at + length bytes.now) room.new ≡ take at room.old ++ bytes.now }
 {
-    room[place..place + bytes.len()].copy_from_slice(bytes);
+    room[at..at + bytes.len()].copy_from_slice(bytes);
 }
 
 /// Puts the packet of a record into room of its size.
@@ -56,13 +56,13 @@ fn fill_packet(room: &mut [u8], number: u32, bytes: &[u8; 512])
 }
 
 /// Puts the packet of a record at a place.
-fn put_packet(room: &mut [u8; ROOM], place: usize, number: u32, bytes: &[u8; 512])
-    requires room { place + 520 ≤ 6240 }
+fn put_packet(room: &mut [u8; ROOM], at: usize, number: u32, bytes: &[u8; 512])
+    requires room { at + 520 ≤ 6240 }
     requires number { number < 2 ^ 24 }
-    ensures value { take (place + 520) room.new ≡ take place room.old ++ packet_bytes number bytes.now }
+    ensures value { take (at + 520) room.new ≡ take at room.old ++ packet_bytes number bytes.now }
     ensures size { length (packet_bytes number bytes.now) ≡ 520 }
 {
-    fill_packet(&mut room[place..place + PACKET], number, bytes);
+    fill_packet(&mut room[at..at + PACKET], number, bytes);
 }
 
 impl Pending {
@@ -102,7 +102,7 @@ impl Pending {
     }
 
     /// Appends bytes.
-    pub(crate) fn say(&mut self, bytes: &[u8])
+    pub(crate) fn queue(&mut self, bytes: &[u8])
         requires { length self.old.bytes + length bytes.now ≤ 6240 }
         ensures { self.new.bytes ≡ self.old.bytes ++ bytes.now }
     {
@@ -112,7 +112,7 @@ impl Pending {
     }
 
     /// Appends the packet of a record.
-    pub(crate) fn say_packet(&mut self, number: u32, bytes: &[u8; 512])
+    pub(crate) fn queue_packet(&mut self, number: u32, bytes: &[u8; 512])
         requires room { length self.old.bytes + 520 ≤ 6240 }
         requires number { number < 2 ^ 24 }
         ensures value { self.new.bytes ≡ self.old.bytes ++ packet_bytes number bytes.now }

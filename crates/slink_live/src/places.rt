@@ -26,11 +26,11 @@ fn lowest(bits: u32) -> Option<usize>
 }
 
 /// The bits from a place on, moved to the front.
-fn behind(bits: u32, place: usize) -> u32
-    ensures value { result ≡ bits / 2 ^ place }
-    ensures none { 32 ≤ place → result ≡ 0 }
+fn behind(bits: u32, from: usize) -> u32
+    ensures value { result ≡ bits / 2 ^ from }
+    ensures none { 32 ≤ from → result ≡ 0 }
 {
-    if place < 32 { bits >> place } else { 0 }
+    if from < 32 { bits >> from } else { 0 }
 }
 
 impl Places {
@@ -64,15 +64,15 @@ impl Places {
     }
 
     /// The first of them in a round from a place on.
-    pub(crate) fn first_from(self, place: usize) -> Option<usize>
+    pub(crate) fn first_from(self, from: usize) -> Option<usize>
         ensures some { IfSome result (Has self) }
-        ensures first { IfSome result (λ k. (j : ℕ) → IsEarlier place j k → ¬ (Has self j)) }
+        ensures first { IfSome result (λ k. (j : ℕ) → IsEarlier from j k → ¬ (Has self j)) }
         ensures none { IfNone result ((j : ℕ) → ¬ (Has self j)) }
     {
         let bits = u32::from(self.bits);
-        let rest = behind(bits, place);
+        let rest = behind(bits, from);
         match lowest(rest) {
-            Some(k) => Some(place + k),
+            Some(k) => Some(from + k),
             None => lowest(bits),
         }
     }

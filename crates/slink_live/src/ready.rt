@@ -26,12 +26,12 @@ pub enum Event {
 
 /// What a server wants of a link.
 #[derive(Clone, Copy, Debug, PartialEq, Eq)]
-pub struct Wishes {
+pub struct Interest {
     /// It would read.
     pub reads: bool,
     /// It has something to write.
     pub writes: bool,
-    /// The handshake is over: the client has sent all that it has to say.
+    /// The handshake is over: the client has sent all its commands.
     pub is_streaming: bool,
 }
 
@@ -79,8 +79,8 @@ pub trait Ready {
         ensures log { log self.new ≡ log self.old ++ Gone slot ∷ [] };
 
     /// What the server wants of the link in a slot.
-    fn wants(&mut self, slot: usize, wishes: Wishes)
-        ensures log { log self.new ≡ log self.old ++ Wants slot wishes ∷ [] };
+    fn wants(&mut self, slot: usize, interest: Interest)
+        ensures log { log self.new ≡ log self.old ++ Wants slot interest ∷ [] };
 
     /// Whether the server would take another link.
     fn wants_links(&mut self, wanted: bool)

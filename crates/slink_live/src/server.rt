@@ -18,7 +18,7 @@ ghost use Rattle.slink_live.specs.private.Keeping.{TendsAnew, TendsBut};
 
 use crate::fault::InputFault;
 use crate::intake::Intake;
-use crate::link::{Link, Settled};
+use crate::link::{Link, Update};
 use crate::links::Links;
 use crate::places::Places;
 use crate::ready::{Event, Ready};
@@ -38,7 +38,7 @@ const TURNS: u64 = 1 << 40;
 pub struct Server {
     intake: Intake,
     links: Links,
-    is_ended: bool,
+    has_ended: bool,
     reads: u64,
 }
 
@@ -50,7 +50,7 @@ impl Model for Server {
     ghost view = { λ s. record {
       intake = s.intake;
       links = s.links;
-      is_ended = s.is_ended;
+      has_ended = s.has_ended;
       reads = s.reads;
     } };
 }
@@ -71,7 +71,7 @@ impl Server {
         Ok(Server {
             intake: Intake::new(feed),
             links: Links::new(alloc, clients)?,
-            is_ended: false,
+            has_ended: false,
             reads: 0,
         })
     }
@@ -80,7 +80,7 @@ impl Server {
     fn is_finished(&self) -> bool
         ensures { OnTrue result (IsFinished self.now) }
     {
-        self.is_ended && self.is_empty()
+        self.has_ended && self.is_empty()
     }
 
     /// Whether no link stands.
@@ -109,7 +109,7 @@ impl Server {
         ensures over { OnOk result (IsFinished self.new ⊎ (R.is_over ready.new ≡ true)) }
         ensures fault { IfErr result (λ e. (start : List Window) → IsServing start self.old (R.log ready.old)
             → IsInputFault (places_of start) (input_of (R.log ready.new)) e) }
-        ensures ended { IfErr result (λ _. self.new.is_ended ≡ true) }
+        ensures ended { IfErr result (λ _. self.new.has_ended ≡ true) }
 
         // What happened stays, and an input that is read no more is so for good.
         ensures grows { GoesOn (R.log ready.old) (R.log ready.new) }
@@ -164,7 +164,7 @@ impl Server {
         ensures called { ReadsInput self.old (R.log ready.old) (R.log ready.new) }
         ensures tends { Tends self.old self.new (R.log ready.old) (R.log ready.new) }
     {
-        if self.is_ended {
+        if self.has_ended {
             return Ok(());
         }
         if self.reads == TURNS {
@@ -175,7 +175,7 @@ impl Server {
         self.reads += 1;
         match self.intake.take(&buf[..count]) {
             Ok(places) => {
-                self.settle_those(places, ready);
+                self.update_those(places, ready);
                 Ok(())
             }
             Err(fault) => {
@@ -193,7 +193,7 @@ impl Server {
         ensures closes { Closes (R.log ready.old) (R.log ready.new) }
         ensures tends { Tends self.old self.new (R.log ready.old) (R.log ready.new) }
     {
-        if self.is_ended {
+        if self.has_ended {
             return Ok(());
         }
         let ending = self.intake.end();
@@ -209,7 +209,7 @@ impl Server {
         ensures closes { Closes (R.log ready.old) (R.log ready.new) }
         ensures tends { Tends self.old self.new (R.log ready.old) (R.log ready.new) }
     {
-        if self.is_ended {
+        if self.has_ended {
             return Ok(());
         }
         let fault = self.intake.failure();
@@ -232,17 +232,17 @@ impl Server {
 
     /// Reads the input no more, takes no more links, and closes those that have all.
     fn end<R: Ready>(&mut self, ready: &mut R)
-        requires { IsSound (record self.old { is_ended = true }) }
-        ensures keeps { KeepsServing (record self.old { is_ended = true }) self.new (R.log ready.old)
+        requires { IsSound (record self.old { has_ended = true }) }
+        ensures keeps { KeepsServing (record self.old { has_ended = true }) self.new (R.log ready.old)
             (R.log ready.new) }
         ensures closes { Closes (R.log ready.old) (R.log ready.new) }
-        ensures tends { TendsAnew (record self.old { is_ended = true }) self.new (R.log ready.old)
+        ensures tends { TendsAnew (record self.old { has_ended = true }) self.new (R.log ready.old)
             (R.log ready.new) }
     {
-        self.is_ended = true;
+        self.has_ended = true;
         ready.leave_input();
         ready.wants_links(false);
-        self.settle_all(ready);
+        self.update_all(ready);
     }
 
     /// Takes a new link into the first free slot, while the input is read.
@@ -261,7 +261,7 @@ impl Server {
     /// Takes a new link into a slot, and says whether further ones are wanted.
     fn take<R: Ready>(&mut self, slot: usize, ready: &mut R)
         requires sound { IsSound self.old }
-        requires reads { self.old.is_ended ≡ false }
+        requires reads { self.old.has_ended ≡ false }
         requires free { IsFirstFree self.old.links slot }
         ensures keeps { KeepsServing self.old self.new (R.log ready.old) (R.log ready.new) }
         ensures called { Opens self.old (R.log ready.old) (R.log ready.new) }
@@ -270,13 +270,13 @@ impl Server {
         if ready.accept(slot) {
             self.links.put(slot, Link::new());
             ready.wants_links(self.wants_links());
-            self.settle(slot, ready);
+            self.update(slot, ready);
         }
     }
 
     /// Whether further links are wanted: the input is read, and a slot is free.
     fn wants_links(&self) -> bool
-        ensures { result ≡ (not self.now.is_ended && has_free self.now.links) }
+        ensures { result ≡ (not self.now.has_ended && has_free self.now.links) }
     {
         self.free_slot().is_some()
     }
@@ -284,10 +284,10 @@ impl Server {
     /// The first slot without a link, while the input is read.
     fn free_slot(&self) -> Option<usize>
         ensures some { IfSome result (IsFirstFree self.now.links) }
-        ensures reads { IfSome result (λ _. self.now.is_ended ≡ false) }
-        ensures none { IfNone result ((not self.now.is_ended && has_free self.now.links) ≡ false) }
+        ensures reads { IfSome result (λ _. self.now.has_ended ≡ false) }
+        ensures none { IfNone result ((not self.now.has_ended && has_free self.now.links) ≡ false) }
     {
-        if self.is_ended {
+        if self.has_ended {
             return None;
         }
         for slot in 0..self.links.len() {
@@ -306,8 +306,8 @@ impl Server {
         ensures tends { Tends self.old self.new (R.log ready.old) (R.log ready.new) }
     {
         if slot < self.links.len() {
-            self.links.hear(slot, self.intake.feed(), ready);
-            self.settle(slot, ready);
+            self.links.receive(slot, self.intake.feed(), ready);
+            self.update(slot, ready);
         }
     }
 
@@ -319,10 +319,10 @@ impl Server {
         ensures tends { Tends self.old self.new (R.log ready.old) (R.log ready.new) }
     {
         if slot < self.links.len() {
-            if self.links.tell(slot, ready) {
-                self.settle_at_rest(slot, ready);
+            if self.links.send(slot, ready) {
+                self.update_at_rest(slot, ready);
             } else {
-                self.settle(slot, ready);
+                self.update(slot, ready);
             }
         }
     }
@@ -345,27 +345,27 @@ impl Server {
         requires { slot < length self.old.links }
         ensures links { self.new ≡ record self.old { links = set self.old.links slot None } }
         ensures log { R.log ready.new
-            ≡ (R.log ready.old ++ Gone slot ∷ []) ++ WantsLinks (not self.old.is_ended) ∷ [] }
+            ≡ (R.log ready.old ++ Gone slot ∷ []) ++ WantsLinks (not self.old.has_ended) ∷ [] }
     {
         self.links.clear(slot);
         ready.close(slot);
-        ready.wants_links(!self.is_ended);
+        ready.wants_links(!self.has_ended);
     }
 
     /// Settles each link.
-    fn settle_all<R: Ready>(&mut self, ready: &mut R)
+    fn update_all<R: Ready>(&mut self, ready: &mut R)
         requires { IsSound self.old }
         ensures keeps { KeepsServing self.old self.new (R.log ready.old) (R.log ready.new) }
         ensures closes { Closes (R.log ready.old) (R.log ready.new) }
         ensures tends { TendsAll self.old self.new (R.log ready.old) (R.log ready.new) }
     {
         for slot in 0..self.links.len() {
-            self.settle(slot, ready);
+            self.update(slot, ready);
         }
     }
 
     /// Settles each link that may be sent records of some of these places. The others are as they were.
-    fn settle_those<R: Ready>(&mut self, places: Places, ready: &mut R)
+    fn update_those<R: Ready>(&mut self, places: Places, ready: &mut R)
         requires { IsSound self.old }
         ensures keeps { KeepsServing self.old self.new (R.log ready.old) (R.log ready.new) }
         ensures closes { Closes (R.log ready.old) (R.log ready.new) }
@@ -373,28 +373,29 @@ impl Server {
     {
         for slot in 0..self.links.len() {
             if self.links.waits_for(slot, places) {
-                self.settle(slot, ready);
+                self.update(slot, ready);
             }
         }
     }
 
-    /// Has the session of the link in a slot say what is due, and says what is wanted of the link, or closes it.
-    fn settle<R: Ready>(&mut self, slot: usize, ready: &mut R)
+    /// Queues what is due of the session of the link in a slot, and tells the device what is wanted of the link, or
+    /// closes it.
+    fn update<R: Ready>(&mut self, slot: usize, ready: &mut R)
         requires sound { IsSound self.old }
         requires within { slot < length self.old.links }
         ensures keeps { KeepsServing self.old self.new (R.log ready.old) (R.log ready.new) }
         ensures closes { Closes (R.log ready.old) (R.log ready.new) }
         ensures settles { Settles slot self.old self.new (R.log ready.old) (R.log ready.new) }
     {
-        match self.links.fill(slot, self.intake.feed(), self.is_ended) {
-            Settled::Empty => {}
-            Settled::Wants(wishes) => ready.wants(slot, wishes),
-            Settled::Closes => self.close(slot, ready),
+        match self.links.fill(slot, self.intake.feed(), self.has_ended) {
+            Update::Empty => {}
+            Update::Wants(interest) => ready.wants(slot, interest),
+            Update::Closes => self.close(slot, ready),
         }
     }
 
     /// Says what is wanted of the link in a slot, or closes it, where nothing more is due to it.
-    fn settle_at_rest<R: Ready>(&mut self, slot: usize, ready: &mut R)
+    fn update_at_rest<R: Ready>(&mut self, slot: usize, ready: &mut R)
         requires sound { IsSound self.old }
         requires within { slot < length self.old.links }
         ensures keeps { KeepsServing self.old self.new (R.log ready.old) (R.log ready.new) }
@@ -402,10 +403,10 @@ impl Server {
         ensures settles { IfRested self.old.intake.feed (get_or self.old.links slot None)
             → Settles slot self.old self.new (R.log ready.old) (R.log ready.new) }
     {
-        match self.links.look(slot, self.is_ended) {
-            Settled::Empty => {}
-            Settled::Wants(wishes) => ready.wants(slot, wishes),
-            Settled::Closes => self.close(slot, ready),
+        match self.links.look(slot, self.has_ended) {
+            Update::Empty => {}
+            Update::Wants(interest) => ready.wants(slot, interest),
+            Update::Closes => self.close(slot, ready),
         }
     }
 }

@@ -2,12 +2,12 @@
 ghost use Rattle.std.specs.Prelude.{◌≤◌, length};
 
 use mio::net::TcpStream;
-use slink_live::Wishes;
+use slink_live::Interest;
 use std::io::{ErrorKind, Read, Write};
 use std::time::{Duration, Instant};
 
 /// What a server wants of a new link.
-const FIRST_WISHES: Wishes = Wishes {
+const FIRST_INTEREST: Interest = Interest {
     reads: true,
     writes: false,
     is_streaming: false,
@@ -20,7 +20,7 @@ const LONG: usize = 5_720;
 #[derive(Drop)]
 struct Line {
     stream: TcpStream,
-    wishes: Wishes,
+    interest: Interest,
     may_read: bool,
     may_write: bool,
     // The client says nothing more. What it requested is written all the same.
@@ -55,21 +55,21 @@ impl Line {
     /// Whether it has only so much time: in the handshake, and while it takes nothing though there is something to
     /// write.
     fn is_timed(&self) -> bool {
-        !self.wishes.is_streaming || self.wishes.writes && !self.may_write
+        !self.interest.is_streaming || self.interest.writes && !self.may_write
     }
 
     /// What the server wants, and whether that is something else than before.
-    fn wants(&mut self, wishes: Wishes) -> bool {
-        if wishes == self.wishes {
+    fn wants(&mut self, interest: Interest) -> bool {
+        if interest == self.interest {
             return false;
         }
-        if wishes.is_streaming && !self.wishes.is_streaming {
+        if interest.is_streaming && !self.interest.is_streaming {
             self.waits_since = None;
         }
-        if !wishes.writes {
+        if !interest.writes {
             self.be_prompt(true);
         }
-        self.wishes = wishes;
+        self.interest = interest;
         true
     }
 
@@ -101,11 +101,11 @@ impl Line {
 
     /// What can be done. A write comes before a read.
     fn news(&self) -> News {
-        if self.is_gone || self.is_at_end && !self.wishes.writes {
+        if self.is_gone || self.is_at_end && !self.interest.writes {
             News::Gone
-        } else if self.wishes.writes && self.may_write {
+        } else if self.interest.writes && self.may_write {
             News::Writable
-        } else if self.wishes.reads && self.may_read && !self.is_at_end {
+        } else if self.interest.reads && self.may_read && !self.is_at_end {
             News::Readable
         } else {
             News::None
@@ -144,7 +144,7 @@ impl Line {
                 0
             }
             Ok(count) => {
-                if self.wishes.is_streaming {
+                if self.interest.is_streaming {
                     self.waits_since = None;
                 }
                 count
@@ -171,7 +171,7 @@ impl Slot {
     pub(crate) fn open(&mut self, stream: TcpStream) {
         self.line = Some(Line {
             stream,
-            wishes: FIRST_WISHES,
+            interest: FIRST_INTEREST,
             may_read: true,
             may_write: true,
             is_at_end: false,
@@ -190,9 +190,9 @@ impl Slot {
     }
 
     /// What the server wants, and whether that is something else than before.
-    pub(crate) fn wants(&mut self, wishes: Wishes) -> bool {
+    pub(crate) fn wants(&mut self, interest: Interest) -> bool {
         match &mut self.line {
-            Some(line) => line.wants(wishes),
+            Some(line) => line.wants(interest),
             None => false,
         }
     }

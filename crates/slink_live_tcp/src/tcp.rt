@@ -9,8 +9,8 @@ use crate::leaving::Departures;
 use crate::round::Round;
 use crate::slot::{News, Slot};
 use mio::net::TcpListener;
-use mio::{Events, Interest, Poll, Token};
-use slink_live::{Event, Log, Ready, Wishes};
+use mio::{Events, Poll, Token};
+use slink_live::{Event, Interest, Log, Ready};
 use std::alloc::Global;
 use std::io;
 use std::io::Read;
@@ -76,7 +76,7 @@ fn slots(alloc: Global, count: usize) -> io::Result<Vec<Slot>> {
 fn door_at<N: Net>(host: &N, address: SocketAddr, poll: &Poll) -> io::Result<Door> {
     let mut listener = TcpListener::bind(host, address)?;
     poll.registry()
-        .register(&mut listener, Token(LISTENER), Interest::READABLE)?;
+        .register(&mut listener, Token(LISTENER), mio::Interest::READABLE)?;
     Ok(Door::new(listener))
 }
 
@@ -334,7 +334,7 @@ impl<C: Clock, I: Read + AsRawFd + Drop> Tcp<'_, C, I> {
             return false;
         };
         let place = slot.saturating_add(FIRST);
-        let both = Interest::READABLE | Interest::WRITABLE;
+        let both = mio::Interest::READABLE | mio::Interest::WRITABLE;
         if self
             .poll
             .registry()
@@ -420,11 +420,11 @@ impl<C: Clock, I: Read + AsRawFd + Drop> Ready for Tcp<'_, C, I> {
         self.log.gone(slot);
     }
 
-    fn wants(&mut self, slot: usize, wishes: Wishes) {
-        if slot < self.slots.len() && self.slots[slot].wants(wishes) {
+    fn wants(&mut self, slot: usize, interest: Interest) {
+        if slot < self.slots.len() && self.slots[slot].wants(interest) {
             self.round.add(slot.saturating_add(FIRST));
         }
-        self.log.wants(slot, wishes);
+        self.log.wants(slot, interest);
     }
 
     fn wants_links(&mut self, wanted: bool) {

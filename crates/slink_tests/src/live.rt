@@ -6,7 +6,7 @@ mod orders;
 
 use mseed_stream::StreamFault;
 use slink_feed::{Feed, Ring};
-use slink_live::{Event, InputFault, Log, Ready, Server, Wishes};
+use slink_live::{Event, InputFault, Interest, Log, Ready, Server};
 use slink_wire::Place;
 use std::alloc::Global;
 use std::process::Abort;
@@ -200,8 +200,8 @@ impl Ready for Script {
         self.log.gone(slot);
     }
 
-    fn wants(&mut self, slot: usize, wishes: Wishes) {
-        self.log.wants(slot, wishes);
+    fn wants(&mut self, slot: usize, interest: Interest) {
+        self.log.wants(slot, interest);
     }
 
     fn wants_links(&mut self, wanted: bool) {

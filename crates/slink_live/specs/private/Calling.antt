@@ -6,8 +6,8 @@ use Rattle.slink_feed.specs.declared.session.Sent.TheVariants.{Wait}
 use Rattle.slink_feed.specs.Serving.{Serves}
 use Rattle.slink_feed.specs.Session.{Fits, IsWaiting, sent, sent_bytes}
 use Rattle.slink_feed.specs.Window.{Window}
-use Rattle.slink_live.specs.declared.link.Settled.{Settled}
-use Rattle.slink_live.specs.declared.link.Settled.TheVariants.{Empty, Wants, Closes}
+use Rattle.slink_live.specs.declared.link.Update.{Update}
+use Rattle.slink_live.specs.declared.link.Update.TheVariants.{Empty, Wants, Closes}
 use Rattle.slink_live.specs.Awake.{IsClosable, IsLost, IsSettled}
 use Rattle.slink_live.specs.Happening.{Happening, Received, Emitted}
 use Rattle.slink_live.specs.Served.{LinkState, link_state}
@@ -19,12 +19,12 @@ abbrev pub HasReceived : List Window → ℕ → Option LinkState → Option Lin
 HasReceived feed k None new log last = (new ≡ None) × (last ≡ log)
 HasReceived feed k (Some l) new log last = (bytes : List ℕ) × (now : LinkState) × (new ≡ Some now)
     × (last ≡ log ++ Received k bytes ∷ []) × Serves feed l.session bytes l.pending now.session now.pending
-    × Fits feed now.session.state × (now.place ≡ l.place)
+    × Fits feed now.session.state × (now.ring ≡ l.ring)
 
 -- The link in a slot accepted so many bytes.
 abbrev pub HasTaken : ℕ → Option LinkState → Option LinkState → List Happening → List Happening → Type 0
 HasTaken k None new log last = (new ≡ None) × (last ≡ log)
-HasTaken k (Some l) new log last = (n : ℕ) × (new ≡ Some (link_state l.session l.place (drop n l.pending)))
+HasTaken k (Some l) new log last = (n : ℕ) × (new ≡ Some (link_state l.session l.ring (drop n l.pending)))
     × (last ≡ log ++ Emitted k (take n l.pending) ∷ [])
 
 -- A session was called for a place, and what it gave goes on its way: a packet, or what closes it.
@@ -33,7 +33,7 @@ pub record Gives (feed : List Window) (k : ℕ) (old new : LinkState) : Type 0 w
   pub sends : ¬ (sent feed old.session.state k ≡ (old.session.state, Wait))
   pub given : sent feed old.session.state k ≡ (new.session.state, answer)
   pub held : new.session.held ≡ old.session.held
-  pub place : new.place ≡ k + 1
+  pub ring : new.ring ≡ k + 1
   pub pending : new.pending ≡ old.pending ++ sent_bytes answer
   pub grows : (new.session.state.phase ≡ Closed) ⊎ (length (sent_bytes answer) ≡ 520)
 
@@ -50,13 +50,13 @@ IfRested feed (Some l) = IsRested feed l
 abbrev pub HasFilled : List Window → Option LinkState → Option LinkState → Type 0
 HasFilled feed None new = new ≡ None
 HasFilled feed (Some l) new = (now : LinkState) × (new ≡ Some now)
-    × Asks feed l.session l.place l.pending now.session now.place now.pending × Fits feed now.session.state
+    × Asks feed l.session l.ring l.pending now.session now.ring now.pending × Fits feed now.session.state
 
 -- What comes of it: no link stands there; it stands, and this is wanted of it; or it is to be closed.
-abbrev pub IsOutcome : List Window → Bool → Option LinkState → Settled → Type 0
-IsOutcome feed is_ended None Empty = Unit {0}
-IsOutcome feed is_ended None (Wants wishes) = ⊥
-IsOutcome feed is_ended None Closes = ⊥
-IsOutcome feed is_ended (Some l) Empty = ⊥
-IsOutcome feed is_ended (Some l) (Wants wishes) = IsSettled feed is_ended l wishes
-IsOutcome feed is_ended (Some l) Closes = IsClosable feed is_ended l
+abbrev pub IsOutcome : List Window → Bool → Option LinkState → Update → Type 0
+IsOutcome feed has_ended None Empty = Unit {0}
+IsOutcome feed has_ended None (Wants interest) = ⊥
+IsOutcome feed has_ended None Closes = ⊥
+IsOutcome feed has_ended (Some l) Empty = ⊥
+IsOutcome feed has_ended (Some l) (Wants interest) = IsSettled feed has_ended l interest
+IsOutcome feed has_ended (Some l) Closes = IsClosable feed has_ended l

@@ -12,7 +12,7 @@ use Rattle.slink_live.specs.private.Granting.{LeavesOut}
 -- Links alone changed, or left.
 pub record Stays (old new : ServerState) : Type 0 where
   pub intake : new.intake ≡ old.intake
-  pub is_ended : new.is_ended ≡ old.is_ended
+  pub has_ended : new.has_ended ≡ old.has_ended
   pub reads : new.reads ≡ old.reads
   pub slots : length new.links ≡ length old.links
 
@@ -36,9 +36,9 @@ pub record AnswersFault (old new : ServerState) (before after : List Happening) 
   pub fault : IfErr result (λ e. (start : List Window) → IsServing start old before
       → IsInputFault (places_of start) (input_of after) e)
   -- Then it is read no more.
-  pub ended : OnErr result (new.is_ended ≡ true)
+  pub ended : OnErr result (new.has_ended ≡ true)
   -- An input that is read no more stays so.
-  pub kept : old.is_ended ≡ true → new.is_ended ≡ true
+  pub kept : old.has_ended ≡ true → new.has_ended ≡ true
 
 -- A step that settles the link in a slot.
 pub record Settles (j : ℕ) (old new : ServerState) (before after : List Happening) : Type 0 where

@@ -6,7 +6,7 @@ ghost use Rattle.std.specs.List.{AllByRecursion};
 ghost use Rattle.slink_live.specs.Served.{IsSound};
 
 use slink_feed::{Feed, Ring};
-use slink_live::{Event, Log, Ready, Server, Wishes};
+use slink_live::{Event, Interest, Log, Ready, Server};
 use slink_wire::Place;
 use std::alloc::Global;
 use std::process::Abort;
@@ -250,8 +250,8 @@ impl Ready for Order {
         self.log.gone(slot);
     }
 
-    fn wants(&mut self, slot: usize, wishes: Wishes) {
-        self.log.wants(slot, wishes);
+    fn wants(&mut self, slot: usize, interest: Interest) {
+        self.log.wants(slot, interest);
     }
 
     fn wants_links(&mut self, wanted: bool) {

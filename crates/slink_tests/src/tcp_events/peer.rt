@@ -1,12 +1,12 @@
 //! A client, and what a device may tell of its link.
 
 use super::pattern::Pattern;
-use slink_live::Wishes;
+use slink_live::Interest;
 use std::io::{ErrorKind, Read, Write};
 use std::net::{OpenStream, Shutdown};
 
 /// What a device is told of a link before anything else.
-const FIRST_WISHES: Wishes = Wishes {
+const FIRST_INTEREST: Interest = Interest {
     reads: true,
     writes: false,
     is_streaming: false,
@@ -62,7 +62,7 @@ pub(crate) struct Peer<S: Read + Write + OpenStream + Drop> {
     pub(crate) is_sure: bool,
     pub(crate) closed: u64,
     // What the device was told last.
-    pub(crate) wishes: Wishes,
+    pub(crate) interest: Interest,
     // Whether it may have bytes, or be at its end: a read brought some the last time, or the client did something
     // since.
     may_read: bool,
@@ -97,7 +97,7 @@ impl<S: Read + Write + OpenStream + Drop> Peer<S> {
             has_shut: false,
             is_sure: true,
             closed: 0,
-            wishes: FIRST_WISHES,
+            interest: FIRST_INTEREST,
             may_read: true,
             vain: 0,
             is_blocked: false,
@@ -243,7 +243,7 @@ impl<S: Read + Write + OpenStream + Drop> Peer<S> {
         }
         self.vain = 0;
         self.accepted = self.accepted.saturating_add(count);
-        if self.wishes.is_streaming {
+        if self.interest.is_streaming {
             self.noticed = None;
             self.moved = now;
         }
@@ -251,22 +251,22 @@ impl<S: Read + Write + OpenStream + Drop> Peer<S> {
     }
 
     /// What the device is told.
-    pub(crate) fn wish(&mut self, wishes: Wishes, now: u64) {
-        if wishes.is_streaming && !self.wishes.is_streaming {
+    pub(crate) fn wish(&mut self, interest: Interest, now: u64) {
+        if interest.is_streaming && !self.interest.is_streaming {
             self.noticed = None;
             self.moved = now;
         }
-        self.wishes = wishes;
+        self.interest = interest;
     }
 
     /// Whether its time is bounded.
     fn is_bounded(&self) -> bool {
-        !self.wishes.is_streaming || self.wishes.writes && self.vain > 0
+        !self.interest.is_streaming || self.interest.writes && self.vain > 0
     }
 
     /// Whether it may be given up by now: in its handshake, or since it accepted nothing that was to be written.
     pub(crate) fn bound(&mut self, now: u64, limit: u64) {
-        let may_be_bounded = !self.wishes.is_streaming || self.wishes.writes && self.is_blocked;
+        let may_be_bounded = !self.interest.is_streaming || self.interest.writes && self.is_blocked;
         if may_be_bounded && now.saturating_sub(self.moved) >= limit {
             self.may_be_given_up = true;
         }
@@ -284,26 +284,28 @@ impl<S: Read + Write + OpenStream + Drop> Peer<S> {
 
     /// Whether the device may tell that it can be read.
     pub(crate) fn may_be_readable(&self) -> bool {
-        self.wishes.reads && self.may_read
+        self.interest.reads && self.may_read
     }
 
     /// Whether the device may tell that it can be written.
     pub(crate) fn may_be_writable(&self) -> bool {
-        self.wishes.writes && self.vain < VAIN
+        self.interest.writes && self.vain < VAIN
     }
 
     /// Whether the device may tell that it is gone.
     pub(crate) fn may_be_gone(&self) -> bool {
-        self.is_at_end && !self.wishes.writes || self.may_have_failed || self.may_be_given_up
+        self.is_at_end && !self.interest.writes || self.may_have_failed || self.may_be_given_up
     }
 
     /// Whether the device has to tell something of it.
     pub(crate) fn is_due(&self) -> bool {
-        let is_read = self.wishes.reads && !self.is_at_end && (self.has_more() || self.has_ended());
+        let is_read = self.interest.reads
+            && !self.is_at_end
+            && (self.has_more() || self.has_ended());
         // A link that was full has room for sure once its client received all.
         let is_full = self.is_blocked && self.lacks_some();
-        let is_written = self.wishes.writes && self.vain == 0 && !is_full;
-        let is_gone = self.is_at_end && !self.wishes.writes || self.is_given_up;
+        let is_written = self.interest.writes && self.vain == 0 && !is_full;
+        let is_gone = self.is_at_end && !self.interest.writes || self.is_given_up;
         self.stage == Stage::Standing && (is_read || is_written || is_gone)
     }
 }

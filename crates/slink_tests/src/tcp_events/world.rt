@@ -6,7 +6,7 @@ use super::feed::Feed;
 use super::host::{Input, Still};
 use super::pattern::Pattern;
 use super::peer::{Peer, Stage};
-use slink_live::{Event, Ready, Wishes};
+use slink_live::{Event, Interest, Ready};
 use slink_live_tcp::{Plan, Tcp};
 use std::alloc::{AllocError, Global};
 use std::io;
@@ -427,28 +427,28 @@ impl<'a, N: Net> World<'a, N> {
         let sent = peer.sent(self.pattern, most);
         let count = self.tcp.write(slot, sent);
         let (is_right, is_open) = (peer.accept(count, now), peer.is_open());
-        let wishes = Wishes {
+        let interest = Interest {
             writes: false,
-            ..peer.wishes
+            ..peer.interest
         };
         self.see_accepted(count, sent.len(), is_open);
         if !is_right {
             self.complain("a link accepts nothing, though its client received all");
         }
         if is_eager && count > 0 || self.random(4) == 0 {
-            self.wish(slot, wishes);
+            self.wish(slot, interest);
         }
     }
 
     /// Tells the device what is wanted of the link in a slot.
-    fn wish(&mut self, slot: usize, wishes: Wishes) {
+    fn wish(&mut self, slot: usize, interest: Interest) {
         let now = self.host.now();
         let Some(index) = self.in_slot(slot) else {
             return;
         };
         if let Some(peer) = self.peers.get_mut(index) {
-            self.tcp.wants(slot, wishes);
-            peer.wish(wishes, now);
+            self.tcp.wants(slot, interest);
+            peer.wish(interest, now);
         }
     }
 

@@ -2,7 +2,7 @@
 
 use super::{KEPT, PATIENCE, World};
 use crate::tcp_events::peer::{Received, Stage};
-use slink_live::{Event, Ready, Wishes};
+use slink_live::{Event, Interest, Ready};
 use std::net::Net;
 
 /// A client says fewer bytes than these at a time.
@@ -101,12 +101,12 @@ impl<N: Net> World<'_, N> {
         let slot = self.random(count);
         let wanted = self.random(16);
         if let Some(peer) = self.peer(slot) {
-            let wishes = Wishes {
+            let interest = Interest {
                 reads: wanted % 4 > 0,
                 writes: wanted / 4 % 2 > 0,
-                is_streaming: wanted / 8 > 0 || peer.wishes.is_streaming,
+                is_streaming: wanted / 8 > 0 || peer.interest.is_streaming,
             };
-            self.wish(slot, wishes);
+            self.wish(slot, interest);
         }
     }
 
@@ -186,13 +186,13 @@ impl<N: Net> World<'_, N> {
         self.tcp.wants_links(true);
         for slot in 0..self.slots.len() {
             if let Some(peer) = self.peer(slot) {
-                let wishes = Wishes {
+                let interest = Interest {
                     reads: true,
                     writes,
-                    is_streaming: streams || peer.wishes.is_streaming,
+                    is_streaming: streams || peer.interest.is_streaming,
                 };
-                if wishes != peer.wishes {
-                    self.wish(slot, wishes);
+                if interest != peer.interest {
+                    self.wish(slot, interest);
                 }
             }
         }

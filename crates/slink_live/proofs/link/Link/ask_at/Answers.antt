@@ -10,13 +10,13 @@ pub returns-in-Ok-clause-yes : goal.returns-in-Ok-clause-yes
 returns-in-Ok-clause-yes c =
     let packet = packet_bytes c.in-Ok.number c.in-Ok.record.now in
     subst (λ (x : LinkState). Gives c.args.feed.now c.args.k x
-    (link_state c.next_record.new.self (c.args.k + 1) c.say_packet.new.self.bytes)) c.self.view_is (record {
+    (link_state c.next_record.new.self (c.args.k + 1) c.queue_packet.new.self.bytes)) c.self.view_is (record {
       answer = Packet packet;
       sends = sends_not c.args.feed.now c.self.inside.session.state c.next_record.new.self.state c.args.k
           (Packet packet) c.in-Ok.ensures.sent (λ e. cc e);
       given = c.in-Ok.ensures.sent;
       held = c.in-Ok.ensures.held;
-      place = refl;
-      pending = c.say_packet.ensures.value;
-      grows = inr c.say_packet.ensures.size;
+      ring = refl;
+      pending = c.queue_packet.ensures.value;
+      grows = inr c.queue_packet.ensures.size;
     })

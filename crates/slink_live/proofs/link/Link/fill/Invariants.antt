@@ -7,7 +7,7 @@ use Rattle.slink_live.proofs.link.Link.fill.Given as goal
 
 abbrev pub invariant-loop-ask : goal.invariant-loop-ask
 invariant-loop-ask l = record {
-  asks : Asks l.feed l.fn.self.session l.fn.self.place l.fn.self.pending l.self.session l.self.place l.self.pending;
+  asks : Asks l.feed l.fn.self.session l.fn.self.ring l.fn.self.pending l.self.session l.self.ring l.self.pending;
   fits : Fits l.feed l.self.session.state;
   grown : (l.self.session.state.phase ≡ Closed) ⊎ (520 * l.ask ≤ length l.self.pending);
   due : AreDue l.feed l.self.session.state l.due;

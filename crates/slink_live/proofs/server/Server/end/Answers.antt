@@ -3,17 +3,17 @@ use Rattle.slink_live.proofs.Settling.{anew_by, end_closes, end_keeps}
 use Rattle.slink_live.proofs.Steps.{ended, sound_in}
 use Rattle.slink_live.proofs.server.Server.end.Goals as goal
 
-pub settle_all-requires : goal.settle_all-requires
-settle_all-requires g c = sound_in (ap ended c.self.view_is) c.requires
+pub update_all-requires : goal.update_all-requires
+update_all-requires g c = sound_in (ap ended c.self.view_is) c.requires
 
 pub returns-clause-keeps : goal.returns-clause-keeps
 returns-clause-keeps g c =
-    end_keeps c.leave_input.ensures.log c.wants_links.ensures.log c.self.view_is c.requires c.settle_all.ensures.keeps
+    end_keeps c.leave_input.ensures.log c.wants_links.ensures.log c.self.view_is c.requires c.update_all.ensures.keeps
 
 pub returns-clause-closes : goal.returns-clause-closes
 returns-clause-closes g c =
-    end_closes c.leave_input.ensures.log c.wants_links.ensures.log c.settle_all.ensures.closes
+    end_closes c.leave_input.ensures.log c.wants_links.ensures.log c.update_all.ensures.closes
 
 pub returns-clause-tends : goal.returns-clause-tends
 returns-clause-tends g c =
-    anew_by c.leave_input.ensures.log c.wants_links.ensures.log c.self.view_is c.settle_all.ensures.tends
+    anew_by c.leave_input.ensures.log c.wants_links.ensures.log c.self.view_is c.update_all.ensures.tends

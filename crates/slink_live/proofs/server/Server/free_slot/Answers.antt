@@ -27,7 +27,7 @@ loop-slot-preserved c = record {
 
 pub returns-clause-none : goal.returns-clause-none
 returns-clause-none c =
-    none_free c.args.self.now.is_ended c.args.self.now.links
+    none_free c.args.self.now.has_ended c.args.self.now.links
     (all_taken c.args.self.now.links c.loop-slot.slot
     (omega (
       arith,

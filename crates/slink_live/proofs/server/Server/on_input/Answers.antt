@@ -16,10 +16,10 @@ take-requires g c =
       few = few_records c.self.view_is c.requires;
     }
 
-pub settle_those-requires : goal.settle_those-requires
-settle_those-requires g c =
+pub update_those-requires : goal.update_those-requires
+update_those-requires g c =
     let most : length (take c.read_input-count.result c.read_input-count.new.buf) ≤ 8192 = search (rules, arith) in
-    taken_sound c.self.view_is c.if-self.false c.requires c.in-Ok.ensures.ok c.self.inside.is_ended most
+    taken_sound c.self.view_is c.if-self.false c.requires c.in-Ok.ensures.ok c.self.inside.has_ended most
     c.if-self-eq-TURNS.false (λ e. c.in-Ok.ensures.short)
 
 pub end-requires : goal.end-requires
@@ -31,7 +31,7 @@ end-requires g c =
 pub returns-in-Ok-clause-answers : goal.returns-in-Ok-clause-answers
 returns-in-Ok-clause-answers g c =
     taken_ok c.self.view_is c.if-self.false c.requires c.read_input-count.ensures.log c.in-Ok.ensures.ok
-    c.in-Ok.ensures.short c.settle_those.ensures.keeps
+    c.in-Ok.ensures.short c.update_those.ensures.keeps
 
 pub returns-in-Err-clause-answers : goal.returns-in-Err-clause-answers
 returns-in-Err-clause-answers g c =
@@ -41,8 +41,8 @@ returns-in-Err-clause-answers g c =
 pub returns-in-Ok-clause-called : goal.returns-in-Ok-clause-called
 returns-in-Ok-clause-called g c =
     reads (take c.read_input-count.result c.read_input-count.new.buf) (search rules)
-    (subst (λ (x : List Happening). Closes x (g.R.Ready.log c.settle_those.new.ready)) c.read_input-count.ensures.log
-    c.settle_those.ensures.closes)
+    (subst (λ (x : List Happening). Closes x (g.R.Ready.log c.update_those.new.ready)) c.read_input-count.ensures.log
+    c.update_those.ensures.closes)
 
 pub returns-in-Err-clause-called : goal.returns-in-Err-clause-called
 returns-in-Err-clause-called g c =
@@ -53,7 +53,7 @@ returns-in-Err-clause-called g c =
 pub returns-in-Ok-clause-tends : goal.returns-in-Ok-clause-tends
 returns-in-Ok-clause-tends g c =
     taken_tends c.self.view_is c.if-self.false c.requires c.read_input-count.ensures.log c.in-Ok.places
-    c.in-Ok.ensures.ok c.in-Ok.ensures.short c.in-Ok.ensures.others c.settle_those.ensures.tends
+    c.in-Ok.ensures.ok c.in-Ok.ensures.short c.in-Ok.ensures.others c.update_those.ensures.tends
 
 pub returns-in-Err-clause-tends : goal.returns-in-Err-clause-tends
 returns-in-Err-clause-tends g c =

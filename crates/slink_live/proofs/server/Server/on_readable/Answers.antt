@@ -4,35 +4,35 @@ use Rattle.slink_live.proofs.Settling.{tends_same}
 use Rattle.slink_live.proofs.Steps.{keeps_both}
 use Rattle.slink_live.proofs.server.Server.on_readable.Goals as goal
 
-pub hear-requires : goal.hear-requires
-hear-requires g c = record {
+pub receive-requires : goal.receive-requires
+receive-requires g c = record {
   within = omega (arith, c.if-slot-len.true, c.len.ensures);
   fits = all_fit c.self.view_is c.args.slot (omega (arith, c.if-slot-len.true, c.len.ensures)) c.requires
       c.feed.ensures;
 }
 
-pub settle-requires : goal.settle-requires
-settle-requires g c = record {
+pub update-requires : goal.update-requires
+update-requires g c = record {
   sound = (received_on c.self.view_is c.args.slot (omega (arith, c.if-slot-len.true, c.len.ensures)) c.requires
-      c.feed.ensures c.hear.ensures).sound;
+      c.feed.ensures c.receive.ensures).sound;
   within = still_within c.self.view_is c.args.slot (omega (arith, c.if-slot-len.true, c.len.ensures)) c.requires
-      c.hear.ensures;
+      c.receive.ensures;
 }
 
 pub returns-then-slot-len-clause-keeps : goal.returns-then-slot-len-clause-keeps
 returns-then-slot-len-clause-keeps g c =
     keeps_both (received_on c.self.view_is c.args.slot (omega (arith, c.if-slot-len.true, c.len.ensures))
-    c.requires c.feed.ensures c.hear.ensures) c.settle.ensures.keeps
+    c.requires c.feed.ensures c.receive.ensures) c.update.ensures.keeps
 
 pub returns-then-slot-len-clause-called : goal.returns-then-slot-len-clause-called
 returns-then-slot-len-clause-called g c =
     reads_on c.self.view_is c.args.slot (omega (arith, c.if-slot-len.true, c.len.ensures)) c.requires c.feed.ensures
-    c.hear.ensures c.settle.ensures.closes
+    c.receive.ensures c.update.ensures.closes
 
 pub returns-then-slot-len-clause-tends : goal.returns-then-slot-len-clause-tends
 returns-then-slot-len-clause-tends g c =
     hears_on c.self.view_is c.args.slot (omega (arith, c.if-slot-len.true, c.len.ensures)) c.requires c.feed.ensures
-    c.hear.ensures c.settle.ensures.settles
+    c.receive.ensures c.update.ensures.settles
 
 pub returns-else-slot-len-clause-tends : goal.returns-else-slot-len-clause-tends
 returns-else-slot-len-clause-tends g c =

@@ -4,51 +4,51 @@ use Rattle.slink_live.proofs.Settling.{tends_same}
 use Rattle.slink_live.proofs.Steps.{keeps_both}
 use Rattle.slink_live.proofs.server.Server.on_writable.Goals as goal
 
-pub settle-requires : goal.settle-requires
-settle-requires g c = record {
+pub update-requires : goal.update-requires
+update-requires g c = record {
   sound = (taken_on c.self.view_is c.args.slot (omega (arith, c.if-slot-len.true, c.len.ensures)) c.requires
-      c.tell.ensures.taken).sound;
+      c.send.ensures.taken).sound;
   within = still_within c.self.view_is c.args.slot (omega (arith, c.if-slot-len.true, c.len.ensures)) c.requires
-      c.tell.ensures.taken;
+      c.send.ensures.taken;
 }
 
-pub settle_at_rest-requires : goal.settle_at_rest-requires
-settle_at_rest-requires g c = record {
+pub update_at_rest-requires : goal.update_at_rest-requires
+update_at_rest-requires g c = record {
   sound = (taken_on c.self.view_is c.args.slot (omega (arith, c.if-slot-len.true, c.len.ensures)) c.requires
-      c.tell.ensures.taken).sound;
+      c.send.ensures.taken).sound;
   within = still_within c.self.view_is c.args.slot (omega (arith, c.if-slot-len.true, c.len.ensures)) c.requires
-      c.tell.ensures.taken;
+      c.send.ensures.taken;
 }
 
-pub returns-then-tell-clause-keeps : goal.returns-then-tell-clause-keeps
-returns-then-tell-clause-keeps g c =
+pub returns-then-send-clause-keeps : goal.returns-then-send-clause-keeps
+returns-then-send-clause-keeps g c =
     keeps_both (taken_on c.self.view_is c.args.slot (omega (arith, c.if-slot-len.true, c.len.ensures)) c.requires
-    c.tell.ensures.taken) c.settle_at_rest.ensures.keeps
+    c.send.ensures.taken) c.update_at_rest.ensures.keeps
 
-pub returns-then-tell-clause-called : goal.returns-then-tell-clause-called
-returns-then-tell-clause-called g c =
+pub returns-then-send-clause-called : goal.returns-then-send-clause-called
+returns-then-send-clause-called g c =
     writes_on c.self.view_is c.args.slot (omega (arith, c.if-slot-len.true, c.len.ensures)) c.requires
-    c.tell.ensures.taken c.settle_at_rest.ensures.closes
+    c.send.ensures.taken c.update_at_rest.ensures.closes
 
-pub returns-then-tell-clause-tends : goal.returns-then-tell-clause-tends
-returns-then-tell-clause-tends g c =
+pub returns-then-send-clause-tends : goal.returns-then-send-clause-tends
+returns-then-send-clause-tends g c =
     rests_on c.self.view_is c.args.slot (omega (arith, c.if-slot-len.true, c.len.ensures)) c.requires
-    c.tell.ensures.taken c.if-tell.ensures.rests c.settle_at_rest.ensures.settles
+    c.send.ensures.taken c.if-send.ensures.rests c.update_at_rest.ensures.settles
 
-pub returns-else-tell-clause-keeps : goal.returns-else-tell-clause-keeps
-returns-else-tell-clause-keeps g c =
+pub returns-else-send-clause-keeps : goal.returns-else-send-clause-keeps
+returns-else-send-clause-keeps g c =
     keeps_both (taken_on c.self.view_is c.args.slot (omega (arith, c.if-slot-len.true, c.len.ensures)) c.requires
-    c.tell.ensures.taken) c.settle.ensures.keeps
+    c.send.ensures.taken) c.update.ensures.keeps
 
-pub returns-else-tell-clause-called : goal.returns-else-tell-clause-called
-returns-else-tell-clause-called g c =
+pub returns-else-send-clause-called : goal.returns-else-send-clause-called
+returns-else-send-clause-called g c =
     writes_on c.self.view_is c.args.slot (omega (arith, c.if-slot-len.true, c.len.ensures)) c.requires
-    c.tell.ensures.taken c.settle.ensures.closes
+    c.send.ensures.taken c.update.ensures.closes
 
-pub returns-else-tell-clause-tends : goal.returns-else-tell-clause-tends
-returns-else-tell-clause-tends g c =
+pub returns-else-send-clause-tends : goal.returns-else-send-clause-tends
+returns-else-send-clause-tends g c =
     takes_on c.self.view_is c.args.slot (omega (arith, c.if-slot-len.true, c.len.ensures)) c.requires
-    c.tell.ensures.taken c.settle.ensures.settles
+    c.send.ensures.taken c.update.ensures.settles
 
 pub returns-else-slot-len-clause-tends : goal.returns-else-slot-len-clause-tends
 returns-else-slot-len-clause-tends g c =

@@ -8,12 +8,12 @@ use Rattle.slink_live.proofs.Slots.{closes_both, closes_none, closes_told}
 use Rattle.slink_live.proofs.Steps.{keeps_both, keeps_quiet, keeps_same}
 use Rattle.slink_live.proofs.server.Server.take.Goals as goal
 
-pub settle-requires : goal.settle-requires
-settle-requires g c = record {
+pub update-requires : goal.update-requires
+update-requires g c = record {
   sound = (opened_on c.self.view_is c.args.slot
       (subst (λ (x : ServerState). c.args.slot < length x.links) (sym c.self.view_is) c.requires.free.within)
       c.requires.sound {log = g.R.Ready.log c.args.ready.now} c.new.result c.put.ensures c.requires.free.free
-      c.new.ensures.session c.new.ensures.pending c.new.ensures.place
+      c.new.ensures.session c.new.ensures.pending c.new.ensures.ring
       (c.new.ensures.fits c.args.self.now.intake.feed) refl).sound;
   within = within_on c.self.view_is c.args.slot
       (subst (λ (x : ServerState). c.args.slot < length x.links) (sym c.self.view_is) c.requires.free.within)
@@ -26,26 +26,26 @@ returns-then-accept-clause-keeps g c =
     (opened_on c.self.view_is c.args.slot
     (subst (λ (x : ServerState). c.args.slot < length x.links) (sym c.self.view_is) c.requires.free.within)
     c.requires.sound c.new.result c.put.ensures c.requires.free.free c.new.ensures.session c.new.ensures.pending
-    c.new.ensures.place (c.new.ensures.fits c.args.self.now.intake.feed) c.if-accept.ensures.log))
-    c.settle.ensures.keeps
+    c.new.ensures.ring (c.new.ensures.fits c.args.self.now.intake.feed) c.if-accept.ensures.log))
+    c.update.ensures.keeps
 
 pub returns-then-accept-clause-called : goal.returns-then-accept-clause-called
 returns-then-accept-clause-called g c =
     let opened : List Happening = (g.R.Ready.log c.args.ready.now) ++ Opened c.args.slot ∷ [] in
     takes c.args.slot c.requires.reads c.requires.free
-    (closes_both opened (g.R.Ready.log c.wants_links-then-accept.new.self) (g.R.Ready.log c.settle.new.ready)
+    (closes_both opened (g.R.Ready.log c.wants_links-then-accept.new.self) (g.R.Ready.log c.update.new.ready)
     (closes_told opened (g.R.Ready.log c.wants_links-then-accept.new.self) (WantsLinks c.wants_links.result) tt
     (c.wants_links-then-accept.ensures.log
     ∙ ap (λ (x : List Happening). x ++ WantsLinks c.wants_links.result ∷ []) c.if-accept.ensures.log))
-    c.settle.ensures.closes)
+    c.update.ensures.closes)
 
 pub returns-then-accept-clause-tends : goal.returns-then-accept-clause-tends
 returns-then-accept-clause-tends g c =
     opens_on c.self.view_is c.args.slot
     (subst (λ (x : ServerState). c.args.slot < length x.links) (sym c.self.view_is) c.requires.free.within)
     c.requires.sound c.new.result c.put.ensures c.requires.free.free c.new.ensures.session c.new.ensures.pending
-    c.new.ensures.place (c.new.ensures.fits c.args.self.now.intake.feed) c.if-accept.ensures.log
-    c.wants_links-then-accept.ensures.log c.wants_links.ensures c.settle.ensures.settles
+    c.new.ensures.ring (c.new.ensures.fits c.args.self.now.intake.feed) c.if-accept.ensures.log
+    c.wants_links-then-accept.ensures.log c.wants_links.ensures c.update.ensures.settles
 
 pub returns-else-accept-clause-keeps : goal.returns-else-accept-clause-keeps
 returns-else-accept-clause-keeps g c =

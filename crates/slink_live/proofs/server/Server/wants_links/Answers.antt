@@ -4,5 +4,5 @@ use Rattle.slink_live.proofs.server.Server.wants_links.Goals as goal
 
 pub returns : goal.returns
 returns c = c.is_some.ensures
-    ∙ wants_if c.args.self.now.is_ended c.args.self.now.links c.free_slot.result c.free_slot.ensures.some
+    ∙ wants_if c.args.self.now.has_ended c.args.self.now.links c.free_slot.result c.free_slot.ensures.some
     c.free_slot.ensures.reads c.free_slot.ensures.none

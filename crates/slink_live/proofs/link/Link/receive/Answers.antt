@@ -5,13 +5,13 @@ use Rattle.slink_feed.specs.Serving.{Takes}
 use Rattle.slink_feed.specs.Session.{Fits}
 use Rattle.slink_live.specs.Served.{LinkState}
 use Rattle.slink_live.proofs.Hearing.{Leads, from_length, from_on, leads_first, leads_last, leads_on, reply_short}
-use Rattle.slink_live.proofs.link.Link.hear.Goals as goal
+use Rattle.slink_live.proofs.link.Link.receive.Goals as goal
 
 pub loop-start-init : goal.loop-start-init
 loop-start-init c = record {
   within = omega arith;
   leads = leads_first c.args.feed.now c.args.self.now.session c.args.bytes.now c.args.self.now.pending;
-  place = refl;
+  ring = refl;
   fits = c.requires.fits;
   room = omega (arith, c.requires.room);
 }
@@ -22,8 +22,8 @@ take-used-requires c = (
   subst (λ (x : LinkState). Fits c.args.feed.now x.session.state) (sym c.self.view_is) c.loop-start.invariant.fits,
 )
 
-pub say-requires : goal.say-requires
-say-requires c =
+pub queue-requires : goal.queue-requires
+queue-requires c =
     let short : length c.bytes.result.now ≤ 35 =
     subst (λ (x : List ℕ). length x ≤ 35) (sym c.bytes.ensures) (reply_short c.take-used.result.1) in
     omega (
@@ -64,19 +64,19 @@ loop-start-preserved c =
     (c.self.inside.pending.bytes ++ reply_bytes reply) =
     leads_on feed s c.self.inside.session c.take-used.new.self bytes way c.self.inside.pending.bytes start used reply
     before takes in
-    let produced : length c.say.new.self.pending ≡ length c.self.inside.pending.bytes + length c.bytes.result.now =
-    ap (λ (x : LinkState). length x.pending) c.say.ensures
+    let produced : length c.queue.new.self.pending ≡ length c.self.inside.pending.bytes + length c.bytes.result.now =
+    ap (λ (x : LinkState). length x.pending) c.queue.ensures
     ∙ length-append c.self.inside.pending.bytes c.bytes.result.now in
     let short : length c.bytes.result.now ≤ 35 =
     subst (λ (x : List ℕ). length x ≤ 35) (sym c.bytes.ensures) (reply_short reply) in
     record {
       within = omega (arith, long, c.take-used.ensures.bound, c.loop-start-test.true);
-      leads = subst (λ (x : LinkState). Leads feed s bytes way (start + used) x.session x.pending) (sym c.say.ensures)
+      leads = subst (λ (x : LinkState). Leads feed s bytes way (start + used) x.session x.pending) (sym c.queue.ensures)
           (subst (λ (b : List ℕ). Leads feed s bytes way (start + used) c.take-used.new.self
           (c.self.inside.pending.bytes ++ b)) (sym c.bytes.ensures) after);
-      place = ap (λ (x : LinkState). x.place) c.say.ensures
-          ∙ (ap (λ (x : LinkState). x.place) c.self.view_is ∙ c.loop-start.invariant.place);
-      fits = subst (λ (x : LinkState). Fits feed x.session.state) (sym c.say.ensures) c.take-used.ensures.fits;
+      ring = ap (λ (x : LinkState). x.ring) c.queue.ensures
+          ∙ (ap (λ (x : LinkState). x.ring) c.self.view_is ∙ c.loop-start.invariant.ring);
+      fits = subst (λ (x : LinkState). Fits feed x.session.state) (sym c.queue.ensures) c.take-used.ensures.fits;
       room = omega (
         arith,
         produced,

@@ -4,7 +4,7 @@ use Rattle.slink_live.specs.Happening.{Wants}
 use Rattle.slink_live.proofs.Slots.{closes_told}
 use Rattle.slink_live.proofs.Steps.{closed_keeps, closes_gone, keeps_quiet, keeps_same, same_default}
 use Rattle.slink_live.proofs.Settling.{look_closes, look_empty, look_wants}
-use Rattle.slink_live.proofs.server.Server.settle_at_rest.Goals as goal
+use Rattle.slink_live.proofs.server.Server.update_at_rest.Goals as goal
 
 pub returns-in-Empty-clause-settles : goal.returns-in-Empty-clause-settles
 returns-in-Empty-clause-settles g c =
@@ -16,13 +16,13 @@ returns-in-Empty-clause-settles g c =
 
 pub returns-in-Wants-clause-keeps : goal.returns-in-Wants-clause-keeps
 returns-in-Wants-clause-keeps g c =
-    keeps_quiet (Wants c.args.slot c.in-Wants.wishes) refl (λ k. refl) c.wants.ensures.log
+    keeps_quiet (Wants c.args.slot c.in-Wants.interest) refl (λ k. refl) c.wants.ensures.log
     (keeps_same c.args.self.now (g.R.Ready.log c.args.ready.now) (g.R.Ready.log c.args.ready.now) refl c.requires.sound)
 
 pub returns-in-Wants-clause-closes : goal.returns-in-Wants-clause-closes
 returns-in-Wants-clause-closes g c =
     closes_told (g.R.Ready.log c.args.ready.now) (g.R.Ready.log c.wants.new.self)
-    (Wants c.args.slot c.in-Wants.wishes) tt c.wants.ensures.log
+    (Wants c.args.slot c.in-Wants.interest) tt c.wants.ensures.log
 
 pub returns-in-Wants-clause-settles : goal.returns-in-Wants-clause-settles
 returns-in-Wants-clause-settles g c =
@@ -30,7 +30,7 @@ returns-in-Wants-clause-settles g c =
     (subst (λ (x : ServerState). c.args.slot < length x.links) (sym c.self.view_is) c.requires.within)
     (same_default c.self.inside.links c.args.slot None (get_or c.self.inside.links c.args.slot None)
     (subst (λ (x : ServerState). c.args.slot < length x.links) (sym c.self.view_is) c.requires.within))
-    c.look.result c.look.ensures c.in-Wants.wishes c.in-Wants.is
+    c.look.result c.look.ensures c.in-Wants.interest c.in-Wants.is
     c.wants.ensures.log
 
 pub returns-in-Closes-clause-keeps : goal.returns-in-Closes-clause-keeps

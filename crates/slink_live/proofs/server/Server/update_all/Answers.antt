@@ -3,7 +3,7 @@ use Rattle.slink_live.specs.Served.{ServerState}
 use Rattle.slink_live.proofs.Settling.{settled_all, settled_more, settled_none}
 use Rattle.slink_live.proofs.Slots.{closes_both, closes_none}
 use Rattle.slink_live.proofs.Steps.{keeps_both, keeps_same}
-use Rattle.slink_live.proofs.server.Server.settle_all.Goals as goal
+use Rattle.slink_live.proofs.server.Server.update_all.Goals as goal
 
 pub loop-slot-init : goal.loop-slot-init
 loop-slot-init g c = record {
@@ -12,8 +12,8 @@ loop-slot-init g c = record {
   settled = settled_none (λ k. ⊥) c.args.self.now (g.R.Ready.log c.args.ready.now);
 }
 
-pub settle-requires : goal.settle-requires
-settle-requires g c = record {
+pub update-requires : goal.update-requires
+update-requires g c = record {
   sound = c.loop-slot.invariant.keeps.sound;
   within = omega (
     arith,
@@ -26,12 +26,12 @@ settle-requires g c = record {
 
 pub loop-slot-preserved : goal.loop-slot-preserved
 loop-slot-preserved g c = record {
-  keeps = keeps_both c.loop-slot.invariant.keeps c.settle.ensures.keeps;
+  keeps = keeps_both c.loop-slot.invariant.keeps c.update.ensures.keeps;
   closes = closes_both (g.R.Ready.log c.args.ready.now) (g.R.Ready.log c.loop-slot.ready)
-      (g.R.Ready.log c.settle.new.ready) c.loop-slot.invariant.closes c.settle.ensures.closes;
-  settled = settled_more c.args.self.now c.loop-slot.self c.settle.new.self c.loop-slot.slot
-      (g.R.Ready.log c.args.ready.now) (g.R.Ready.log c.loop-slot.ready) (g.R.Ready.log c.settle.new.ready)
-      c.loop-slot.invariant.keeps c.loop-slot.invariant.settled c.settle.ensures.settles;
+      (g.R.Ready.log c.update.new.ready) c.loop-slot.invariant.closes c.update.ensures.closes;
+  settled = settled_more c.args.self.now c.loop-slot.self c.update.new.self c.loop-slot.slot
+      (g.R.Ready.log c.args.ready.now) (g.R.Ready.log c.loop-slot.ready) (g.R.Ready.log c.update.new.ready)
+      c.loop-slot.invariant.keeps c.loop-slot.invariant.settled c.update.ensures.settles;
 }
 
 pub returns-clause-tends : goal.returns-clause-tends

@@ -1,13 +1,13 @@
 use Rattle.std.proofs.Common.{◌≡◌, ◌+◌, ◌-◌, ◌*◌, ◌≤◌, length}
 use Rattle.slink_feed.specs.Session.{Fits}
 use Rattle.slink_live.proofs.Hearing.{Leads}
-use Rattle.slink_live.proofs.link.Link.hear.Given as goal
+use Rattle.slink_live.proofs.link.Link.receive.Given as goal
 
 abbrev pub invariant-loop-start : goal.invariant-loop-start
 invariant-loop-start l = record {
   within : l.start ≤ length l.bytes;
   leads : Leads l.feed l.fn.self.session l.bytes l.fn.self.pending l.start l.self.session l.self.pending;
-  place : l.self.place ≡ l.fn.self.place;
+  ring : l.self.ring ≡ l.fn.self.ring;
   fits : Fits l.feed l.self.session.state;
   room : length l.self.pending + 35 * length l.bytes ≤ 6240 + 35 * l.start;
 }

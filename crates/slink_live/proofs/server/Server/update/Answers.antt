@@ -4,7 +4,7 @@ use Rattle.slink_live.specs.Happening.{Wants}
 use Rattle.slink_live.proofs.Moving.{all_fit, closed_on, closes_on, empty_on, filled_on, wants_on}
 use Rattle.slink_live.proofs.Slots.{closes_none, closes_told}
 use Rattle.slink_live.proofs.Steps.{closes_gone, keeps_both, keeps_quiet}
-use Rattle.slink_live.proofs.server.Server.settle.Goals as goal
+use Rattle.slink_live.proofs.server.Server.update.Goals as goal
 
 pub fill-requires : goal.fill-requires
 fill-requires g c = record {
@@ -32,7 +32,7 @@ returns-in-Empty-clause-settles g c =
 
 pub returns-in-Wants-clause-keeps : goal.returns-in-Wants-clause-keeps
 returns-in-Wants-clause-keeps g c =
-    keeps_quiet (Wants c.args.slot c.in-Wants.wishes) refl (λ k. refl) c.wants.ensures.log
+    keeps_quiet (Wants c.args.slot c.in-Wants.interest) refl (λ k. refl) c.wants.ensures.log
     (filled_on c.self.view_is c.args.slot
     (subst (λ (x : ServerState). c.args.slot < length x.links) (sym c.self.view_is) c.requires.within)
     c.requires.sound _ c.feed.ensures c.in-Wants.ensures)
@@ -40,13 +40,13 @@ returns-in-Wants-clause-keeps g c =
 pub returns-in-Wants-clause-closes : goal.returns-in-Wants-clause-closes
 returns-in-Wants-clause-closes g c =
     closes_told (g.R.Ready.log c.args.ready.now) (g.R.Ready.log c.wants.new.self)
-    (Wants c.args.slot c.in-Wants.wishes) tt c.wants.ensures.log
+    (Wants c.args.slot c.in-Wants.interest) tt c.wants.ensures.log
 
 pub returns-in-Wants-clause-settles : goal.returns-in-Wants-clause-settles
 returns-in-Wants-clause-settles g c =
     wants_on c.self.view_is c.args.slot
     (subst (λ (x : ServerState). c.args.slot < length x.links) (sym c.self.view_is) c.requires.within)
-    c.requires.sound c.in-Wants.wishes c.feed.ensures c.in-Wants.ensures c.wants.ensures.log
+    c.requires.sound c.in-Wants.interest c.feed.ensures c.in-Wants.ensures c.wants.ensures.log
 
 pub returns-in-Closes-clause-keeps : goal.returns-in-Closes-clause-keeps
 returns-in-Closes-clause-keeps g c =

@@ -1,7 +1,7 @@
 use Rattle.slink_live.specs.Turns.{Closes}
 use Rattle.slink_live.specs.private.Keeping.{KeepsServing}
 use Rattle.slink_live.proofs.Settling.{HasSettled}
-use Rattle.slink_live.proofs.server.Server.settle_all.Given as goal
+use Rattle.slink_live.proofs.server.Server.update_all.Given as goal
 
 abbrev pub invariant-loop-slot : goal.invariant-loop-slot
 invariant-loop-slot g l = record {

@@ -4,8 +4,8 @@ use Rattle.slink_live.specs.private.Granting.{LeavesOut}
 use Rattle.slink_live.proofs.Settling.{settled_but, settled_more, settled_none, settled_past}
 use Rattle.slink_live.proofs.Slots.{closes_both, closes_none}
 use Rattle.slink_live.proofs.Steps.{keeps_both, keeps_same}
-use Rattle.slink_live.proofs.server.Server.settle_those.Goals.{then-waits_for, else-waits_for}
-use Rattle.slink_live.proofs.server.Server.settle_those.Goals as goal
+use Rattle.slink_live.proofs.server.Server.update_those.Goals.{then-waits_for, else-waits_for}
+use Rattle.slink_live.proofs.server.Server.update_those.Goals as goal
 
 pub loop-slot-init : goal.loop-slot-init
 loop-slot-init g c = record {
@@ -15,8 +15,8 @@ loop-slot-init g c = record {
       (g.R.Ready.log c.args.ready.now);
 }
 
-pub settle-requires : goal.settle-requires
-settle-requires g c = record {
+pub update-requires : goal.update-requires
+update-requires g c = record {
   sound = c.loop-slot.invariant.keeps.sound;
   within = omega (
     arith,
@@ -42,12 +42,12 @@ returns-clause-tends g c =
 pub loop-slot-preserved : goal.loop-slot-preserved
 loop-slot-preserved g c = elim c.if-waits_for.branch [
   | then-waits_for w ↦ rw (w.self-is, w.ready-is) (record {
-    keeps = keeps_both c.loop-slot.invariant.keeps w.settle.ensures.keeps;
+    keeps = keeps_both c.loop-slot.invariant.keeps w.update.ensures.keeps;
     closes = closes_both (g.R.Ready.log c.args.ready.now) (g.R.Ready.log c.loop-slot.ready)
-        (g.R.Ready.log w.settle.new.ready) c.loop-slot.invariant.closes w.settle.ensures.closes;
-    settled = settled_more c.args.self.now c.loop-slot.self w.settle.new.self c.loop-slot.slot
-        (g.R.Ready.log c.args.ready.now) (g.R.Ready.log c.loop-slot.ready) (g.R.Ready.log w.settle.new.ready)
-        c.loop-slot.invariant.keeps c.loop-slot.invariant.settled w.settle.ensures.settles;
+        (g.R.Ready.log w.update.new.ready) c.loop-slot.invariant.closes w.update.ensures.closes;
+    settled = settled_more c.args.self.now c.loop-slot.self w.update.new.self c.loop-slot.slot
+        (g.R.Ready.log c.args.ready.now) (g.R.Ready.log c.loop-slot.ready) (g.R.Ready.log w.update.new.ready)
+        c.loop-slot.invariant.keeps c.loop-slot.invariant.settled w.update.ensures.settles;
   })
   | else-waits_for w ↦ rw (w.self-is, w.ready-is) (record {
     keeps = c.loop-slot.invariant.keeps;
