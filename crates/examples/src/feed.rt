@@ -5,8 +5,8 @@ ghost use Rattle.slink_feed.specs.Window.{Shows};
 
 use mseed_stream::{Duplex, Sink};
 use slink_feed::{
-    Bytes, Client, Event, Feed, FeedFault, LinkFault, Mode, Ring, RingFault, Room, Sent, Session,
-    Teller, Turn, Unsent, fetch_turn, fetch_turn_in, fetch_turn_telling, serve_turn,
+    Bytes, Client, Event, Feed, FeedFault, LinkFault, Mode, Reporter, Ring, RingFault, Room, Sent,
+    Session, Turn, Unsent, fetch_turn, fetch_turn_in, fetch_turn_reporting, serve_turn,
 };
 use slink_wire::{Packet, Place, Reply};
 use std::alloc::Global;
@@ -180,10 +180,10 @@ pub fn fetch_some<S: Duplex, W: Sink, E: Sink>(
     output: &mut W,
     errors: &mut E,
 ) -> Result<bool, LinkFault> {
-    let mut teller = Teller::new(client, true);
-    teller.begin();
-    fetch_turn_telling(client, link, output, errors, &mut teller)?;
-    Ok(teller.has_received())
+    let mut reporter = Reporter::new(client, true);
+    reporter.begin();
+    fetch_turn_reporting(client, link, output, errors, &mut reporter)?;
+    Ok(reporter.has_received())
 }
 
 /// Fetches over a link for so many turns, in one room; whether a further turn is to be taken.
@@ -194,10 +194,10 @@ pub fn fetch_turns<S: Duplex, W: Sink, E: Sink>(
     errors: &mut E,
     turns: u64,
 ) -> Result<bool, LinkFault> {
-    let mut teller = Teller::new(client, false);
+    let mut reporter = Reporter::new(client, false);
     let mut room: Room = [0; 520];
     for turn in 0..turns {
-        match fetch_turn_in(client, link, output, errors, &mut teller, &mut room)? {
+        match fetch_turn_in(client, link, output, errors, &mut reporter, &mut room)? {
             Turn::Goes => {}
             Turn::Closed | Turn::Ended | Turn::Stopped(_) => return Ok(false),
         }
@@ -206,8 +206,8 @@ pub fn fetch_turns<S: Duplex, W: Sink, E: Sink>(
 }
 
 /// Tells how to go on behind a record that wasn't written whole.
-pub fn tell_where_to_go_on<E: Sink>(teller: &Teller, client: &Client, errors: &mut E) {
-    teller.tell_next(client, true, errors);
+pub fn tell_where_to_go_on<E: Sink>(reporter: &Reporter, client: &Client, errors: &mut E) {
+    reporter.report_next(client, true, errors);
 }
 
 /// Whether a session answers and sends nothing more.

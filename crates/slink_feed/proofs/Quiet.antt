@@ -9,8 +9,8 @@ use Rattle.slink_feed.specs.declared.dialogue.Wanted.{Wanted}
 use Rattle.slink_feed.specs.Delivered.{Numbered}
 use Rattle.slink_feed.specs.Dialogue.{Wants, next_at, want_at, with_next}
 use Rattle.slink_feed.specs.Holding.{GoBy}
-use Rattle.slink_feed.specs.Teller.{Telling, first_lines, hole_line, hole_lines, if_other, lines_of, telling_of}
-use Rattle.slink_feed.specs.Teller.{telling_past}
+use Rattle.slink_feed.specs.Reporter.{Telling, first_lines, hole_line, hole_lines, if_other, lines_of, telling_of}
+use Rattle.slink_feed.specs.Reporter.{telling_past}
 use Rattle.slink_feed.specs.Reported.{AreOf, HasReported, numbers_at}
 use Rattle.slink_feed.proofs.Numbers.{bearer_some, next_here, next_other}
 use Rattle.slink_feed.proofs.Telling.{of_same, places_next}

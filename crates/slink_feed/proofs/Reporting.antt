@@ -14,9 +14,9 @@ use Rattle.slink_feed.specs.Dialogue.{Talk, read}
 use Rattle.slink_feed.specs.Fetching.{Fetching, line_written, record_reported}
 use Rattle.slink_feed.specs.Listening.{Brings, Listening, begun, telling, whole}
 use Rattle.slink_feed.specs.private.Delivery.{FailsToHear, Hears, IsDelivered, IsUndelivered}
-use Rattle.slink_feed.specs.Reports.{AreHandedOver, Kept, Reports, TakesRecords, TellsRecords, all, but_last, kept}
-use Rattle.slink_feed.specs.Teller.{Account, AreReported, Telling, lines_at, lines_of, none, one, telling_behind}
-use Rattle.slink_feed.specs.Teller.{telling_past}
+use Rattle.slink_feed.specs.Reports.{AreHandedOver, Kept, Reports, TakesRecords, ReportsRecords, all, but_last, kept}
+use Rattle.slink_feed.specs.Reporter.{Account, AreReported, Telling, lines_at, lines_of, none, one, telling_behind}
+use Rattle.slink_feed.specs.Reporter.{telling_past}
 use Rattle.slink_feed.specs.Reported.{HasReported, bytes_in, record_in, records_reported}
 use Rattle.slink_feed.specs.Turns.{Emitted, EmittedPrefix}
 use Rattle.slink_feed.proofs.Noting.{nothing_noted, notes_both}
@@ -167,15 +167,15 @@ reports_both old now new a b c p fine q = record {
 }
 
 -- What one who tells of records has reported, one call after another.
-pub told_none : (t : Talk) (teller : Account) (output errors : BytesWritten)
-    → TellsRecords t t teller teller output output errors errors
-told_none t teller output errors = record {
-  received = nothing_noted teller.received output;
-  reports = reports_none t (kept output errors teller.telling);
+pub told_none : (t : Talk) (reporter : Account) (output errors : BytesWritten)
+    → ReportsRecords t t reporter reporter output output errors errors
+told_none t reporter output errors = record {
+  received = nothing_noted reporter.received output;
+  reports = reports_none t (kept output errors reporter.telling);
 }
 
-pub told_both : (old now new : Talk) (r s t : Account) (a b c d e f : BytesWritten) → TellsRecords old now r s a b d e
-    → b.failures ≡ a.failures → TellsRecords now new s t b c e f → TellsRecords old new r t a c d f
+pub told_both : (old now new : Talk) (r s t : Account) (a b c d e f : BytesWritten) → ReportsRecords old now r s a b d e
+    → b.failures ≡ a.failures → ReportsRecords now new s t b c e f → ReportsRecords old new r t a c d f
 told_both old now new r s t a b c d e f p fine q = record {
   received = notes_both r.received s.received t.received a b c fine p.received q.received;
   reports = reports_both old now new (kept a d r.telling) (kept b e s.telling) (kept c f t.telling) p.reports fine

@@ -12,9 +12,9 @@ use Rattle.slink_feed.specs.declared.dialogue.Event.{Event}
 use Rattle.slink_feed.specs.declared.dialogue.Event.TheVariants as events
 use Rattle.slink_feed.specs.declared.dialogue.Wanted.{Wanted}
 use Rattle.slink_feed.specs.Dialogue.{Wants, want_at}
-use Rattle.slink_feed.specs.Teller.{AreReported, Telling, first_line, first_lines, hole_line, hole_lines, if_other}
-use Rattle.slink_feed.specs.Teller.{lines_at}
-use Rattle.slink_feed.specs.Teller.{lines_of, none, one, word_of, words_of}
+use Rattle.slink_feed.specs.Reporter.{AreReported, Telling, first_line, first_lines, hole_line, hole_lines, if_other}
+use Rattle.slink_feed.specs.Reporter.{lines_at}
+use Rattle.slink_feed.specs.Reporter.{lines_of, none, one, word_of, words_of}
 use Rattle.slink_feed.specs.Reported.{record_in}
 use Rattle.slink_feed.proofs.Reporting.{lines_both}
 

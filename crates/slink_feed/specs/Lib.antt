@@ -10,7 +10,7 @@ pub mod Listening
 pub mod Delivered
 pub mod Holding
 pub mod Reported
-pub mod Teller
+pub mod Reporter
 pub mod Reports
 pub mod Sending
 pub mod Running

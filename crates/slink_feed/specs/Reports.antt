@@ -4,7 +4,7 @@ use Rattle.mseed_stream.specs.Device.{BytesWritten}
 use Rattle.slink_feed.specs.Delivered.{Numbered}
 use Rattle.slink_feed.specs.Dialogue.{Talk}
 use Rattle.slink_feed.specs.Fetching.{Notes}
-use Rattle.slink_feed.specs.Teller.{Account, AreReported, Telling, lines_of, telling_behind}
+use Rattle.slink_feed.specs.Reporter.{Account, AreReported, Telling, lines_of, telling_behind}
 use Rattle.slink_feed.specs.Reported.{HasReported, bytes_in}
 use Rattle.slink_feed.specs.Turns.{Emitted, EmittedPrefix}
 
@@ -40,8 +40,8 @@ pub record Reports (old new : Talk) (before after : Kept) : Type 0 where
 
 -- A client reported records, each of which a teller reported before the output took it; and the teller noted whether
 -- the output accepted some.
-pub record TellsRecords (old new : Talk) (teller_old teller_new : Account)
+pub record ReportsRecords (old new : Talk) (reporter_old reporter_new : Account)
     (output_old output_new errors_old errors_new : BytesWritten) : Type 0 where
-  pub received : Notes teller_old.received teller_new.received output_old output_new
-  pub reports : Reports old new (kept output_old errors_old teller_old.telling)
-      (kept output_new errors_new teller_new.telling)
+  pub received : Notes reporter_old.received reporter_new.received output_old output_new
+  pub reports : Reports old new (kept output_old errors_old reporter_old.telling)
+      (kept output_new errors_new reporter_new.telling)

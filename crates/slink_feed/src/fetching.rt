@@ -5,14 +5,14 @@ ghost use Rattle.slink_feed.specs.declared.dialogue.Event.{Event};
 ghost use Rattle.slink_feed.specs.Fetching.{Delivers, FailsAt, Notes, TakesTurn, fetching};
 ghost use Rattle.slink_feed.specs.private.Delivery.{FailsToHear, Hears, IsDelivered, IsReportedOf, IsUndelivered};
 ghost use Rattle.slink_feed.specs.Listening.{IsLinked};
-ghost use Rattle.slink_feed.specs.Reports.{TellsRecords, kept};
-ghost use Rattle.slink_feed.specs.Teller.{AreReported, lines_of, telling_behind};
+ghost use Rattle.slink_feed.specs.Reports.{ReportsRecords, kept};
+ghost use Rattle.slink_feed.specs.Reporter.{AreReported, lines_of, telling_behind};
 ghost use Rattle.slink_feed.specs.Reported.{record_in};
 
 use crate::client::Client;
 use crate::cutting::PACKET;
 use crate::dialogue::Event;
-use crate::teller::Teller;
+use crate::reporter::Reporter;
 use crate::turn::{LinkFault, Turn};
 use mseed_stream::{Counted, Duplex, Failed, Sink, write_all_of};
 use std::io::sink;
@@ -46,9 +46,9 @@ pub fn fetch_turn<S: Duplex, W: Sink>(
     ensures turn { TakesTurn result (fetching client.old (S.written link.old) (W.written output.old))
         (fetching client.new (S.written link.new) (W.written output.new)) (S.read link.old) (S.read link.new) }
 {
-    let mut teller = Teller::new(client, false);
+    let mut reporter = Reporter::new(client, false);
     let mut nowhere = Counted::new(sink());
-    fetch_turn_telling(client, link, output, &mut nowhere, &mut teller)
+    fetch_turn_reporting(client, link, output, &mut nowhere, &mut reporter)
 }
 
 /// Takes a turn with a client's link as [`fetch_turn`]. Each record is reported on `errors` before it is written, and
@@ -57,19 +57,19 @@ pub fn fetch_turn<S: Duplex, W: Sink>(
 /// # Errors
 ///
 /// Those of [`fetch_turn`].
-pub fn fetch_turn_telling<S: Duplex, W: Sink, E: Sink>(
+pub fn fetch_turn_reporting<S: Duplex, W: Sink, E: Sink>(
     client: &mut Client,
     link: &mut S,
     output: &mut W,
     errors: &mut E,
-    teller: &mut Teller,
+    reporter: &mut Reporter,
 ) -> Result<Turn, LinkFault>
     ensures turn { TakesTurn result (fetching client.old (S.written link.old) (W.written output.old))
         (fetching client.new (S.written link.new) (W.written output.new)) (S.read link.old) (S.read link.new) }
-    ensures told { TellsRecords client.old.talk client.new.talk teller.old teller.new (W.written output.old)
+    ensures told { ReportsRecords client.old.talk client.new.talk reporter.old reporter.new (W.written output.old)
         (W.written output.new) (E.written errors.old) (E.written errors.new) }
 {
-    fetch_turn_in(client, link, output, errors, teller, &mut [0; PACKET])
+    fetch_turn_in(client, link, output, errors, reporter, &mut [0; PACKET])
 }
 
 /// Takes a turn with a client's link as [`fetch_turn_telling`]. What is read stands in room that is lent to one turn
@@ -83,12 +83,12 @@ pub fn fetch_turn_in<S: Duplex, W: Sink, E: Sink>(
     link: &mut S,
     output: &mut W,
     errors: &mut E,
-    teller: &mut Teller,
+    reporter: &mut Reporter,
     room: &mut Room,
 ) -> Result<Turn, LinkFault>
     ensures turn { TakesTurn result (fetching client.old (S.written link.old) (W.written output.old))
         (fetching client.new (S.written link.new) (W.written output.new)) (S.read link.old) (S.read link.new) }
-    ensures told { TellsRecords client.old.talk client.new.talk teller.old teller.new (W.written output.old)
+    ensures told { ReportsRecords client.old.talk client.new.talk reporter.old reporter.new (W.written output.old)
         (W.written output.new) (E.written errors.old) (E.written errors.new) }
 {
     client.has_reading();
@@ -100,7 +100,7 @@ pub fn fetch_turn_in<S: Duplex, W: Sink, E: Sink>(
     if count == 0 {
         return Ok(Turn::Closed);
     }
-    read(client, &room[..count], link, output, errors, teller)?;
+    read(client, &room[..count], link, output, errors, reporter)?;
     Ok(client.turn())
 }
 
@@ -111,7 +111,7 @@ fn read<L: Sink, W: Sink, E: Sink>(
     link: &mut L,
     output: &mut W,
     errors: &mut E,
-    teller: &mut Teller,
+    reporter: &mut Reporter,
 ) -> Result<(), LinkFault>
     requires { length bytes.now ≤ 1024 }
     ensures ok { OnOk result (Delivers (fetching client.old (L.written link.old) (W.written output.old))
@@ -119,7 +119,7 @@ fn read<L: Sink, W: Sink, E: Sink>(
     ensures fault { IfErr result
         (λ fault. FailsAt fault (fetching client.old (L.written link.old) (W.written output.old))
         (fetching client.new (L.written link.new) (W.written output.new)) bytes.now) }
-    ensures told { TellsRecords client.old.talk client.new.talk teller.old teller.new (W.written output.old)
+    ensures told { ReportsRecords client.old.talk client.new.talk reporter.old reporter.new (W.written output.old)
         (W.written output.new) (E.written errors.old) (E.written errors.new) }
     ensures beside { L.beside link.new ≡ L.beside link.old }
 {
@@ -138,7 +138,7 @@ fn read<L: Sink, W: Sink, E: Sink>(
             link,
             output,
             errors,
-            teller,
+            reporter,
             counts,
         )?;
         offset += incoming.used;
@@ -162,7 +162,7 @@ fn hear<L: Sink, W: Sink, E: Sink>(
     link: &mut L,
     output: &mut W,
     errors: &mut E,
-    teller: &mut Teller,
+    reporter: &mut Reporter,
     counts: Counts,
 ) -> Result<Received, LinkFault>
     requires linked { IsLinked client.old.talk.stage }
@@ -172,19 +172,19 @@ fn hear<L: Sink, W: Sink, E: Sink>(
     ensures ok { IfOk result (λ incoming. Hears bytes.now incoming.used counts incoming.counts
         (fetching client.old (L.written link.old) (W.written output.old))
         (fetching client.new (L.written link.new) (W.written output.new))
-        (kept (W.written output.old) (E.written errors.old) teller.old.telling)
-        (kept (W.written output.new) (E.written errors.new) teller.new.telling)) }
+        (kept (W.written output.old) (E.written errors.old) reporter.old.telling)
+        (kept (W.written output.new) (E.written errors.new) reporter.new.telling)) }
     ensures fault { IfErr result (λ fault. FailsToHear fault bytes.now counts
         (fetching client.old (L.written link.old) (W.written output.old))
         (fetching client.new (L.written link.new) (W.written output.new))
-        (kept (W.written output.old) (E.written errors.old) teller.old.telling)
-        (kept (W.written output.new) (E.written errors.new) teller.new.telling)) }
-    ensures received { Notes teller.old.received teller.new.received (W.written output.old) (W.written output.new) }
+        (kept (W.written output.old) (E.written errors.old) reporter.old.telling)
+        (kept (W.written output.new) (E.written errors.new) reporter.new.telling)) }
+    ensures received { Notes reporter.old.received reporter.new.received (W.written output.old) (W.written output.new) }
     ensures beside { L.beside link.new ≡ L.beside link.old }
 {
     match client.take_record(bytes) {
         Some((place, number, record)) => {
-            let counts = deliver_record(place, number, record, output, errors, teller, counts)?;
+            let counts = deliver_record(place, number, record, output, errors, reporter, counts)?;
             Ok(Received {
                 used: PACKET,
                 counts,
@@ -192,7 +192,7 @@ fn hear<L: Sink, W: Sink, E: Sink>(
         }
         None => {
             let (used, event) = client.take(bytes);
-            let after = deliver(&event, link, output, errors, teller, counts)?;
+            let after = deliver(&event, link, output, errors, reporter, counts)?;
             Ok(Received {
                 used,
                 counts: after,
@@ -207,7 +207,7 @@ fn deliver<L: Sink, W: Sink, E: Sink>(
     link: &mut L,
     output: &mut W,
     errors: &mut E,
-    teller: &mut Teller,
+    reporter: &mut Reporter,
     counts: Counts,
 ) -> Result<Counts, LinkFault>
     requires written { counts.written ≤ 2 ^ 32 }
@@ -217,10 +217,10 @@ fn deliver<L: Sink, W: Sink, E: Sink>(
     ensures fault { IfErr result (λ fault. IsUndelivered fault event.now counts (L.written link.old)
         (L.written link.new)
         (W.written output.old) (W.written output.new)) }
-    ensures received { Notes teller.old.received teller.new.received (W.written output.old) (W.written output.new) }
+    ensures received { Notes reporter.old.received reporter.new.received (W.written output.old) (W.written output.new) }
     // A record is reported before it is written, also where that fails.
-    ensures telling { teller.new.telling ≡ telling_behind teller.old.telling (record_in event.now) }
-    ensures lines { AreReported (lines_of teller.old.telling (record_in event.now)) (E.written errors.old)
+    ensures telling { reporter.new.telling ≡ telling_behind reporter.old.telling (record_in event.now) }
+    ensures lines { AreReported (lines_of reporter.old.telling (record_in event.now)) (E.written errors.old)
         (E.written errors.new) }
     ensures beside { L.beside link.new ≡ L.beside link.old }
 {
@@ -233,7 +233,7 @@ fn deliver<L: Sink, W: Sink, E: Sink>(
             Err(count) => Err(LinkFault::Write(counts.written + count)),
         },
         Event::Record(place, number, record) => {
-            deliver_record(*place, *number, record, output, errors, teller, counts)
+            deliver_record(*place, *number, record, output, errors, reporter, counts)
         }
         Event::None | Event::End | Event::Refused(_) | Event::Gap { .. } => Ok(counts),
         Event::Garbage | Event::Foreign => Ok(counts),
@@ -247,7 +247,7 @@ fn deliver_record<W: Sink, E: Sink>(
     bytes: &[u8; 512],
     output: &mut W,
     errors: &mut E,
-    teller: &mut Teller,
+    reporter: &mut Reporter,
     counts: Counts,
 ) -> Result<Counts, LinkFault>
     requires written { counts.written ≤ 2 ^ 32 }
@@ -257,15 +257,15 @@ fn deliver_record<W: Sink, E: Sink>(
         after link link (W.written output.old) (W.written output.new)) }
     ensures fault { (link : BytesWritten) → IfErr result (λ fault. IsUndelivered fault
         (Event.Record place number bytes.now) counts link link (W.written output.old) (W.written output.new)) }
-    ensures received { Notes teller.old.received teller.new.received (W.written output.old) (W.written output.new) }
+    ensures received { Notes reporter.old.received reporter.new.received (W.written output.old) (W.written output.new) }
     ensures reported { IsReportedOf (Event.Record place number bytes.now)
-        (kept (W.written output.old) (E.written errors.old) teller.old.telling)
-        (kept (W.written output.new) (E.written errors.new) teller.new.telling) }
+        (kept (W.written output.old) (E.written errors.old) reporter.old.telling)
+        (kept (W.written output.new) (E.written errors.new) reporter.new.telling) }
 {
-    teller.note(place, number, errors);
+    reporter.note(place, number, errors);
     match write_all_of(output, bytes) {
         Ok(()) => {
-            teller.receive();
+            reporter.receive();
             Ok(Counts {
                 written: counts.written,
                 output: counts.output + bytes.len(),

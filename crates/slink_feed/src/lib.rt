@@ -12,25 +12,25 @@ mod fetching;
 mod grant;
 mod law;
 mod reported;
+mod reporter;
 mod ring;
 mod serving;
 mod session;
-mod teller;
 mod turn;
 
 pub use client::Client;
 pub use connection::{one_turn, turns_send_stretches};
 pub use dialogue::{Answer, Bytes, Ending, Event, Stage, Wanted};
 pub use feed::{Feed, FeedFault};
-pub use fetching::{Room, fetch_turn, fetch_turn_in, fetch_turn_telling};
+pub use fetching::{Room, fetch_turn, fetch_turn_in, fetch_turn_reporting};
 pub use grant::{Grant, Mode};
 pub use law::{
     a_stretch_is_sent, a_stretch_is_wanted, each_record_once, granted_behind_the_last,
     no_record_twice, one_reading, whole_packets_are_reported,
 };
 pub use reported::wants_move_by_records;
+pub use reporter::Reporter;
 pub use ring::{Ring, RingFault};
 pub use serving::serve_turn;
 pub use session::{Phase, Sent, Session, Unsent};
-pub use teller::Teller;
 pub use turn::{LinkFault, Turn};

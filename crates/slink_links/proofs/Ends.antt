@@ -6,12 +6,13 @@ use Rattle.slink_feed.specs.Delivered.{Numbered}
 use Rattle.slink_feed.specs.Dialogue.{Wants}
 use Rattle.slink_feed.specs.Listening.{Listening}
 use Rattle.slink_feed.specs.Reports.{kept}
-use Rattle.slink_feed.specs.Teller.{AreReported, Telling, lines_of, next_line_of, none, one, telling_behind, telling_of}
-use Rattle.slink_feed.specs.Teller.{wants_left}
+use Rattle.slink_feed.specs.Reporter.{AreReported, Telling, lines_of, next_line_of, none, one, telling_behind}
+use Rattle.slink_feed.specs.Reporter.{telling_of}
+use Rattle.slink_feed.specs.Reporter.{wants_left}
 use Rattle.slink_feed.specs.Reported.{HasReported}
 use Rattle.slink_feed.proofs.Quiet.{nothing_reported}
 use Rattle.slink_links.specs.declared.fetching.FetchEnd.{FetchEnd}
-use Rattle.slink_links.specs.Fetched.{FetchesTelling, TellsOfAll, TellsOfFetch, is_unwritten, next_lines}
+use Rattle.slink_links.specs.Fetched.{FetchesReporting, ReportsOfAll, ReportsOfFetch, is_unwritten, next_lines}
 
 -- the words of a fetch that goes on, where they are requested
 pub next_reported : (called failed unwritten : Bool) (last : Option (ℕ × ℕ)) (wants : Wants) (a b : BytesWritten)
@@ -32,20 +33,20 @@ none_reported _ _ _ is (none now) = refl
 none_reported _ _ _ is (one line lines old now new tells rest) = absurd (let bad : line ∷ lines ≡ [] = is in cc bad)
 
 pub end_reported : (end : FetchEnd) (old new : Wants) (records : List Numbered) (a d : BytesWritten)
-    → HasReported false old new records → TellsOfAll false end records old new a d → TellsOfFetch end a d
+    → HasReported false old new records → ReportsOfAll false end records old new a d → ReportsOfFetch end a d
 end_reported end old new records a d reported all =
     let first : all.reported ≡ a =
     none_reported (lines_of (telling_of old false) records) a all.reported (nothing_reported old new records reported)
     all.lines in
     let last : d ≡ all.ended = none_reported [] all.ended d refl all.next in
-    subst (λ (x : BytesWritten). TellsOfFetch end a x) (sym last)
-    (subst (λ (x : BytesWritten). TellsOfFetch end x all.ended) first all.end_line)
+    subst (λ (x : BytesWritten). ReportsOfFetch end a x) (sym last)
+    (subst (λ (x : BytesWritten). ReportsOfFetch end x all.ended) first all.end_line)
 
 -- all that is reported
 pub all_reported : (firsts : Bool) (end : FetchEnd) (old new : Listening) (t u : Telling) (o p a b c d : BytesWritten)
-    (f : FetchesTelling end old new (kept o a t) (kept p b u)) → t ≡ telling_of old.talk.wants firsts
-    → TellsOfFetch end b c → AreReported (next_lines firsts (wants_left (is_unwritten end) u.last new.talk.wants)) c d
-    → TellsOfAll firsts end f.fetched.records old.talk.wants new.talk.wants a d
+    (f : FetchesReporting end old new (kept o a t) (kept p b u)) → t ≡ telling_of old.talk.wants firsts
+    → ReportsOfFetch end b c → AreReported (next_lines firsts (wants_left (is_unwritten end) u.last new.talk.wants)) c d
+    → ReportsOfAll firsts end f.fetched.records old.talk.wants new.talk.wants a d
 all_reported firsts end old new t u o p a b c d f begun ended next =
     let records : List Numbered = f.fetched.records in
     let first : Telling = telling_of old.talk.wants firsts in

@@ -37,7 +37,7 @@ use Rattle.slink_links.specs.declared.fetching.FetchEnd.TheVariants.{Done, Refus
 use Rattle.slink_links.specs.Fetched.{AreTaken, HasFetched, HasReadEach, HasReadLink, HasReadLinks, HasTurned}
 use Rattle.slink_links.specs.Fetched.{IsTurnBy, WasFetchedOver}
 use Rattle.slink_links.specs.Fetched.{HaveMoved, IsFetchedOver, IsReading, IsUnended, StandsAt, StandsBy}
-use Rattle.slink_links.specs.Fetched.{FetchesTelling, end_by, failures_by, over_none, over_one_more, over_the_last}
+use Rattle.slink_links.specs.Fetched.{FetchesReporting, end_by, failures_by, over_none, over_one_more, over_the_last}
 
 -- What a sink accepted, stated of an equal list.
 pub emitted_as : (a b : BytesWritten) (xs ys : List ℕ) → b.bytes ≡ a.bytes ++ xs → b.failures ≡ a.failures → xs ≡ ys
@@ -420,7 +420,7 @@ read_link end old now new event h i s t says reads p = record {
 -- its records are those that were reported
 pub fetched_telling : (end : FetchEnd) (old now new : Listening) (event : Event) (a b : Kept)
     → says_place 0 old.talk ≡ (now.talk, event) → HasFetched end old new a.output b.output
-    → Reports now.talk new.talk a b → FetchesTelling end old new a b
+    → Reports now.talk new.talk a b → FetchesReporting end old new a b
 fetched_telling end old now new event a b says f p =
     let reported : HasReported old.talk.holes old.talk.wants new.talk.wants p.records =
     connected_reported old.talk now.talk event new.talk.wants p.records says p.reported in record {
@@ -437,7 +437,7 @@ fetched_telling end old now new event a b says f p =
     }
 
 -- no link yet
-pub fetched_none : (now : Listening) (a : Kept) → FetchesTelling LinkFailed now now a a
+pub fetched_none : (now : Listening) (a : Kept) → FetchesReporting LinkFailed now now a a
 fetched_none now a = record {
   fetched = record {
     records = [];
@@ -462,8 +462,8 @@ stands_behind LinkFailed a b c before stands = elim stands [
 ]
 
 -- one link after another
-pub fetched_both : (end : FetchEnd) (a b c : Listening) (s t u : Kept) → FetchesTelling LinkFailed a b s t
-    → FetchesTelling end b c t u → FetchesTelling end a c s u
+pub fetched_both : (end : FetchEnd) (a b c : Listening) (s t u : Kept) → FetchesReporting LinkFailed a b s t
+    → FetchesReporting end b c t u → FetchesReporting end a c s u
 fetched_both end a b c s t u x y =
     let p : HasFetched LinkFailed a b s.output t.output = x.fetched in
     let q : HasFetched end b c t.output u.output = y.fetched in

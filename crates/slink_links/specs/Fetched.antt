@@ -19,7 +19,7 @@ use Rattle.slink_feed.specs.Dialogue.{Talk, Wants, next_at, says_place}
 use Rattle.slink_feed.specs.Fetching.{Fetching, ReadsOn, TakesTurn, fetching, line_written}
 use Rattle.slink_feed.specs.Listening.{IsLinked, Listening, Reads}
 use Rattle.slink_feed.specs.Reports.{AreHandedOver, Kept, TakesRecords}
-use Rattle.slink_feed.specs.Teller.{AreReported, lines_of, next_line_of, telling_behind, telling_of, wants_left}
+use Rattle.slink_feed.specs.Reporter.{AreReported, lines_of, next_line_of, telling_behind, telling_of, wants_left}
 use Rattle.slink_feed.specs.Reported.{HasReported, numbers_at, records_reported}
 use Rattle.slink_feed.specs.Turns.{Emitted, EmittedPrefix}
 use Rattle.slink_links.specs.declared.fetching.FetchEnd.{FetchEnd}
@@ -81,12 +81,12 @@ fetch_status WriteFailed = 2
 fetch_status LinkFailed = 2
 
 -- the line on standard error, or none
-abbrev pub TellsOfFetch : FetchEnd → BytesWritten → BytesWritten → Type 0
-TellsOfFetch Done old new = new ≡ old
-TellsOfFetch Refused old new = Tells (codes "mseed: refused\n") old new
-TellsOfFetch BadFeed old new = Tells (codes "mseed: bad feed\n") old new
-TellsOfFetch WriteFailed old new = Tells (codes "mseed: write failed\n") old new
-TellsOfFetch LinkFailed old new = Tells (codes "mseed: link failed\n") old new
+abbrev pub ReportsOfFetch : FetchEnd → BytesWritten → BytesWritten → Type 0
+ReportsOfFetch Done old new = new ≡ old
+ReportsOfFetch Refused old new = Tells (codes "mseed: refused\n") old new
+ReportsOfFetch BadFeed old new = Tells (codes "mseed: bad feed\n") old new
+ReportsOfFetch WriteFailed old new = Tells (codes "mseed: write failed\n") old new
+ReportsOfFetch LinkFailed old new = Tells (codes "mseed: link failed\n") old new
 
 -- Links were fetched over, up to an end: a client reported these records, and the output accepted them.
 pub record HasFetched (end : FetchEnd) (old new : Listening) (written_old written_new : BytesWritten) : Type 0 where
@@ -99,7 +99,7 @@ pub record HasFetched (end : FetchEnd) (old new : Listening) (written_old writte
   pub failures : written_new.failures ≡ written_old.failures + output_failures end
 
 -- Links were fetched over so, and standard error was informed of the records before the output accepted them.
-pub record FetchesTelling (end : FetchEnd) (old new : Listening) (before after : Kept) : Type 0 where
+pub record FetchesReporting (end : FetchEnd) (old new : Listening) (before after : Kept) : Type 0 where
   pub fetched : HasFetched end old new before.output after.output
   pub handed_over : AreHandedOver fetched.records before after
 
@@ -123,12 +123,12 @@ left_behind firsts end records old new =
 
 -- Standard error accepted the lines of these records, each before the output accepted a byte of it; then the line that
 -- says how the fetch ended; and at last, where the first records are reported, the words of a fetch that goes on.
-pub record TellsOfAll (firsts : Bool) (end : FetchEnd) (records : List Numbered) (old new : Wants)
+pub record ReportsOfAll (firsts : Bool) (end : FetchEnd) (records : List Numbered) (old new : Wants)
     (before after : BytesWritten) : Type 0 where
   pub reported : BytesWritten
   pub ended : BytesWritten
   pub lines : AreReported (lines_of (telling_of old firsts) records) before reported
-  pub end_line : TellsOfFetch end reported ended
+  pub end_line : ReportsOfFetch end reported ended
   pub next : AreReported (next_lines firsts (left_behind firsts end records old new)) ended after
 
 -- how a fetch ends by the event at which a client stopped

@@ -4,12 +4,12 @@ ghost use Rattle.slink_feed.specs.declared.dialogue.Ending.{Ending};
 ghost use Rattle.slink_feed.specs.declared.dialogue.Stage.{Stage};
 ghost use Rattle.slink_feed.specs.Fetching.{Notes, fetching};
 ghost use Rattle.slink_feed.specs.Listening.{IsLinked};
-ghost use Rattle.slink_feed.specs.Reports.{TellsRecords, kept};
-ghost use Rattle.slink_feed.specs.Teller.{AreReported, wants_left};
+ghost use Rattle.slink_feed.specs.Reports.{ReportsRecords, kept};
+ghost use Rattle.slink_feed.specs.Reporter.{AreReported, wants_left};
 ghost use Rattle.slink_links.specs.Fetched.{HasDialled, HasFetched, HasReadEach, HasReadLink, HasTakenAll, HasTurned};
 ghost use Rattle.slink_links.specs.Out.{AreOut};
-ghost use Rattle.slink_links.specs.Fetched.{HasPaused, IsFetchedOver, IsReading, IsTurnBy, TellsOfFetch, calls_of};
-ghost use Rattle.slink_links.specs.Fetched.{FetchesTelling, HasTried, TellsOfAll};
+ghost use Rattle.slink_links.specs.Fetched.{HasPaused, IsFetchedOver, IsReading, IsTurnBy, ReportsOfFetch, calls_of};
+ghost use Rattle.slink_links.specs.Fetched.{FetchesReporting, HasTried, ReportsOfAll};
 ghost use Rattle.slink_links.specs.Fetched.{end_by, fetch_status, is_unwritten, next_lines, stopped_by};
 
 use crate::dial::Dial;
@@ -18,7 +18,7 @@ use crate::serving::TURNS;
 use crate::settle::Settle;
 use crate::status::{DONE, FAULT};
 use mseed_stream::{Counted, Sink, tell, write_all_of};
-use slink_feed::{Client, Event, LinkFault, Room, Teller, Turn, fetch_turn_in};
+use slink_feed::{Client, Event, LinkFault, Reporter, Room, Turn, fetch_turn_in};
 use std::io::sink;
 
 /// How a fetch ended.
@@ -65,7 +65,7 @@ pub fn fetch_all<D: Dial, P: Pause, W: Sink, E: Sink>(
         × HasReadEach end client.old client.new (D.given_back dialler.old) (D.given_back dialler.new)
         (W.written output.old) (W.written output.new)
         × (result ≡ fetch_status end)
-        × TellsOfAll tell_next end fetched.records client.old.talk.wants client.new.talk.wants (E.written errors.old)
+        × ReportsOfAll tell_next end fetched.records client.old.talk.wants client.new.talk.wants (E.written errors.old)
         (E.written errors.new)
         × HasPaused end client.old client.new (W.written output.old) (W.written output.new)
         (calls_of (D.calls dialler.old) (D.given_back dialler.old) (P.called waits.old))
@@ -73,37 +73,37 @@ pub fn fetch_all<D: Dial, P: Pause, W: Sink, E: Sink>(
     // Where nothing more is requested, standard error takes the line of the end alone.
     ensures quiet { tell_next ≡ false → client.old.talk.holes ≡ false
         → (end : FetchEnd) × (result ≡ fetch_status end)
-        × TellsOfFetch end (E.written errors.old) (E.written errors.new) }
+        × ReportsOfFetch end (E.written errors.old) (E.written errors.new) }
     // Each link was given back before the next one was dialled.
     ensures out { AreOut 0 (D.calls dialler.new) (D.failures dialler.new) (D.given_back dialler.new) }
 {
-    let mut teller = Teller::new(client, tell_next);
-    let end = fetch_links(client, tries, dialler, waits, output, errors, &mut teller);
-    tell_end(end, errors);
-    tell_next_of(tell_next, &teller, client, end, errors);
+    let mut reporter = Reporter::new(client, tell_next);
+    let end = fetch_links(client, tries, dialler, waits, output, errors, &mut reporter);
+    report_end(end, errors);
+    report_next_of(tell_next, &reporter, client, end, errors);
     fetch_status(end)
 }
 
 /// Tells the words of a fetch that goes on, where they are requested.
-fn tell_next_of<E: Sink>(
+fn report_next_of<E: Sink>(
     is_called: bool,
-    teller: &Teller,
+    reporter: &Reporter,
     client: &Client,
     end: FetchEnd,
     errors: &mut E,
 )
     ensures { AreReported (next_lines is_called
-        (wants_left (is_unwritten end) teller.now.telling.last client.now.talk.wants)) (E.written errors.old)
+        (wants_left (is_unwritten end) reporter.now.telling.last client.now.talk.wants)) (E.written errors.old)
         (E.written errors.new) }
 {
     if is_called {
-        teller.tell_next(client, is_unwritten(end), errors);
+        reporter.report_next(client, is_unwritten(end), errors);
     }
 }
 
 /// Tells why not all came.
-fn tell_end<E: Sink>(end: FetchEnd, errors: &mut E)
-    ensures { TellsOfFetch end (E.written errors.old) (E.written errors.new) }
+fn report_end<E: Sink>(end: FetchEnd, errors: &mut E)
+    ensures { ReportsOfFetch end (E.written errors.old) (E.written errors.new) }
 {
     match end {
         FetchEnd::Done => {}
@@ -143,12 +143,12 @@ fn fetch_links<D: Dial, P: Pause, W: Sink, E: Sink>(
     waits: &mut P,
     output: &mut W,
     errors: &mut E,
-    teller: &mut Teller,
+    reporter: &mut Reporter,
 ) -> FetchEnd
     requires { AreOut 0 (D.calls dialler.old) (D.failures dialler.old) (D.given_back dialler.old) }
-    ensures fetched { FetchesTelling result client.old client.new
-        (kept (W.written output.old) (E.written errors.old) teller.old.telling)
-        (kept (W.written output.new) (E.written errors.new) teller.new.telling) }
+    ensures fetched { FetchesReporting result client.old client.new
+        (kept (W.written output.old) (E.written errors.old) reporter.old.telling)
+        (kept (W.written output.new) (E.written errors.new) reporter.new.telling) }
     ensures dialled { HasDialled result tries (D.calls dialler.old) (D.calls dialler.new) }
     ensures out { AreOut 0 (D.calls dialler.new) (D.failures dialler.new) (D.given_back dialler.new) }
     ensures read { HasReadEach result client.old client.new (D.given_back dialler.old) (D.given_back dialler.new)
@@ -163,7 +163,7 @@ fn fetch_links<D: Dial, P: Pause, W: Sink, E: Sink>(
     let mut left = tries;
     let mut count = 0;
     'links: loop {
-        let (end, received) = try_link(client, dialler, output, errors, teller);
+        let (end, received) = try_link(client, dialler, output, errors, reporter);
         left -= 1;
         if end != FetchEnd::LinkFailed || left == 0 {
             return end;
@@ -178,12 +178,12 @@ fn try_link<D: Dial, W: Sink, E: Sink>(
     dialler: &mut D,
     output: &mut W,
     errors: &mut E,
-    teller: &mut Teller,
+    reporter: &mut Reporter,
 ) -> (FetchEnd, bool)
     requires { AreOut 0 (D.calls dialler.old) (D.failures dialler.old) (D.given_back dialler.old) }
-    ensures fetched { FetchesTelling result.0 client.old client.new
-        (kept (W.written output.old) (E.written errors.old) teller.old.telling)
-        (kept (W.written output.new) (E.written errors.new) teller.new.telling) }
+    ensures fetched { FetchesReporting result.0 client.old client.new
+        (kept (W.written output.old) (E.written errors.old) reporter.old.telling)
+        (kept (W.written output.new) (E.written errors.new) reporter.new.telling) }
     ensures dialled { D.calls dialler.new ≡ D.calls dialler.old + 1 }
     ensures out { AreOut 0 (D.calls dialler.new) (D.failures dialler.new) (D.given_back dialler.new) }
     ensures read { HasReadEach result.0 client.old client.new (D.given_back dialler.old) (D.given_back dialler.new)
@@ -193,10 +193,10 @@ fn try_link<D: Dial, W: Sink, E: Sink>(
 {
     match dialler.dial() {
         Some(mut link) => {
-            teller.begin();
-            let end = fetch_link_telling(client, &mut link, output, errors, teller);
+            reporter.begin();
+            let end = fetch_link_reporting(client, &mut link, output, errors, reporter);
             dialler.hang_up(link);
-            (end, teller.has_received())
+            (end, reporter.has_received())
         }
         None => (FetchEnd::LinkFailed, false),
     }
@@ -212,33 +212,33 @@ pub fn fetch_link<S: Settle, W: Sink>(client: &mut Client, link: &mut S, output:
         result
         (fetching client.new (S.written link.new) (W.written output.new)) (S.read link.new) }
 {
-    let mut teller = Teller::new(client, false);
+    let mut reporter = Reporter::new(client, false);
     let mut nowhere = Counted::new(sink());
-    fetch_link_telling(client, link, output, &mut nowhere, &mut teller)
+    fetch_link_reporting(client, link, output, &mut nowhere, &mut reporter)
 }
 
 /// Fetches over one link as [`fetch_link`], tells of each record before it is written, and notes that the output
 /// accepted one.
-fn fetch_link_telling<S: Settle, W: Sink, E: Sink>(
+fn fetch_link_reporting<S: Settle, W: Sink, E: Sink>(
     client: &mut Client,
     link: &mut S,
     output: &mut W,
     errors: &mut E,
-    teller: &mut Teller,
+    reporter: &mut Reporter,
 ) -> FetchEnd
-    ensures fetched { FetchesTelling result client.old client.new
-        (kept (W.written output.old) (E.written errors.old) teller.old.telling)
-        (kept (W.written output.new) (E.written errors.new) teller.new.telling) }
+    ensures fetched { FetchesReporting result client.old client.new
+        (kept (W.written output.old) (E.written errors.old) reporter.old.telling)
+        (kept (W.written output.new) (E.written errors.new) reporter.new.telling) }
     ensures read { HasReadLink client.old client.new (S.read link.old) (S.read link.new) (W.written output.old)
         (W.written output.new) }
     ensures turns { IsFetchedOver (fetching client.old (S.written link.old) (W.written output.old)) (S.read link.old)
         result
         (fetching client.new (S.written link.new) (W.written output.new)) (S.read link.new) }
-    ensures received { Notes teller.old.received teller.new.received (W.written output.old) (W.written output.new) }
+    ensures received { Notes reporter.old.received reporter.new.received (W.written output.old) (W.written output.new) }
 {
     let line = client.connect();
     match write_all_of(link, line.as_slice()) {
-        Ok(()) => take_turns(client, link, output, errors, teller, &mut [0; 520]),
+        Ok(()) => take_turns(client, link, output, errors, reporter, &mut [0; 520]),
         Err(_) => FetchEnd::LinkFailed,
     }
 }
@@ -249,7 +249,7 @@ fn take_turns<S: Settle, W: Sink, E: Sink>(
     link: &mut S,
     output: &mut W,
     errors: &mut E,
-    teller: &mut Teller,
+    reporter: &mut Reporter,
     room: &mut Room,
 ) -> FetchEnd
     requires reading { IsReading client.old }
@@ -259,11 +259,11 @@ fn take_turns<S: Settle, W: Sink, E: Sink>(
     ensures taken { HasTakenAll (fetching client.old (S.written link.old) (W.written output.old)) (S.read link.old)
         result
         (fetching client.new (S.written link.new) (W.written output.new)) (S.read link.new) }
-    ensures told { TellsRecords client.old.talk client.new.talk teller.old teller.new (W.written output.old)
+    ensures told { ReportsRecords client.old.talk client.new.talk reporter.old reporter.new (W.written output.old)
         (W.written output.new) (E.written errors.old) (E.written errors.new) }
 {
     for turn in 0..TURNS {
-        if let Some(end) = take_turn(client, link, output, errors, teller, room) {
+        if let Some(end) = take_turn(client, link, output, errors, reporter, room) {
             return end;
         }
     }
@@ -276,7 +276,7 @@ fn take_turn<S: Settle, W: Sink, E: Sink>(
     link: &mut S,
     output: &mut W,
     errors: &mut E,
-    teller: &mut Teller,
+    reporter: &mut Reporter,
     room: &mut Room,
 ) -> Option<FetchEnd>
     requires reading { IsReading client.old }
@@ -285,10 +285,10 @@ fn take_turn<S: Settle, W: Sink, E: Sink>(
         (W.written output.new) }
     ensures by { IsTurnBy result (fetching client.old (S.written link.old) (W.written output.old))
         (fetching client.new (S.written link.new) (W.written output.new)) (S.read link.old) (S.read link.new) }
-    ensures told { TellsRecords client.old.talk client.new.talk teller.old teller.new (W.written output.old)
+    ensures told { ReportsRecords client.old.talk client.new.talk reporter.old reporter.new (W.written output.old)
         (W.written output.new) (E.written errors.old) (E.written errors.new) }
 {
-    let turn = fetch_turn_in(client, link, output, errors, teller, room);
+    let turn = fetch_turn_in(client, link, output, errors, reporter, room);
     settle(client, link);
     end_by(&turn)
 }

@@ -2,8 +2,8 @@
 ghost use Rattle.std.specs.Prelude.{◌≡◌, ◌+◌, ◌≤◌, ◌↔◌, false};
 ghost use Rattle.slink_feed.specs.declared.dialogue.Ending.{Ending};
 ghost use Rattle.slink_feed.specs.declared.dialogue.Stage.{Stage};
-ghost use Rattle.slink_links.specs.Fetched.{HasDialled, HasFetched, HasPaused, HasReadEach, TellsOfAll, calls_of};
-ghost use Rattle.slink_links.specs.Fetched.{TellsOfFetch, fetch_status};
+ghost use Rattle.slink_links.specs.Fetched.{HasDialled, HasFetched, HasPaused, HasReadEach, ReportsOfAll, calls_of};
+ghost use Rattle.slink_links.specs.Fetched.{ReportsOfFetch, fetch_status};
 ghost use Rattle.slink_links.specs.Out.{AreOut};
 ghost use Rattle.slink_links.specs.Served.{HasServed, HasServedEach};
 
@@ -50,7 +50,7 @@ pub fn fetch_planned<D: Dial, P: Pause, W: Sink, E: Sink>(
         × HasReadEach end plan.old.client plan.new.client (D.given_back dialler.old) (D.given_back dialler.new)
         (W.written output.old) (W.written output.new)
         × (result ≡ fetch_status end)
-        × TellsOfAll plan.old.tell_next end fetched.records plan.old.client.talk.wants plan.new.client.talk.wants
+        × ReportsOfAll plan.old.tell_next end fetched.records plan.old.client.talk.wants plan.new.client.talk.wants
         (E.written errors.old) (E.written errors.new)
         × HasPaused end plan.old.client plan.new.client (W.written output.old) (W.written output.new)
         (calls_of (D.calls dialler.old) (D.given_back dialler.old) (P.called waits.old))
@@ -58,7 +58,7 @@ pub fn fetch_planned<D: Dial, P: Pause, W: Sink, E: Sink>(
     // Where nothing more is requested, standard error takes the line of the end alone.
     ensures quiet { plan.old.tell_next ≡ false → plan.old.client.talk.holes ≡ false
         → (end : FetchEnd) × (result ≡ fetch_status end)
-        × TellsOfFetch end (E.written errors.old) (E.written errors.new) }
+        × ReportsOfFetch end (E.written errors.old) (E.written errors.new) }
     ensures out { AreOut 0 (D.calls dialler.new) (D.failures dialler.new) (D.given_back dialler.new) }
 {
     let tries = u64::from(plan.tries);

@@ -8,7 +8,7 @@ use Rattle.slink_feed.specs.declared.turn.LinkFault.TheVariants as faults
 use Rattle.slink_feed.specs.Fetching.{Fetching, line_written, record_reported}
 use Rattle.slink_feed.specs.Listening.{Brings, Listening}
 use Rattle.slink_feed.specs.Reports.{Kept}
-use Rattle.slink_feed.specs.Teller.{AreReported, lines_of, telling_behind}
+use Rattle.slink_feed.specs.Reporter.{AreReported, lines_of, telling_behind}
 use Rattle.slink_feed.specs.Reported.{record_in}
 use Rattle.slink_feed.specs.Turns.{Emitted, EmittedPrefix}
 

@@ -113,7 +113,7 @@ impl Feed {
     }
 
     /// Its end was told.
-    pub(crate) fn tell_end(&mut self) {
+    pub(crate) fn report_end(&mut self) {
         self.is_told = true;
     }
 

@@ -247,7 +247,7 @@ impl<'a, N: Net> World<'a, N> {
         }
         match event {
             Event::Input if self.feed.is_always_ready() => self.look(),
-            Event::InputEnded | Event::InputFailed => self.feed.tell_end(),
+            Event::InputEnded | Event::InputFailed => self.feed.report_end(),
             Event::Gone(slot) => self.see_gone(slot),
             _ => {}
         }

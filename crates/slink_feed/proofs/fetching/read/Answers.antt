@@ -9,7 +9,7 @@ use Rattle.slink_feed.proofs.fetching.read.Goals as goal
 pub loop-offset-init : goal.loop-offset-init
 loop-offset-init g c = record {
   so_far = nothing_so_far _ c.args.bytes.now;
-  told = told_none c.args.client.now.talk c.args.teller.now (g.W.Sink.written c.args.output.now)
+  told = told_none c.args.client.now.talk c.args.reporter.now (g.W.Sink.written c.args.output.now)
       (g.E.Sink.written c.args.errors.now);
   beside = refl;
 }

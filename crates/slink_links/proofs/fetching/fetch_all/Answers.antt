@@ -1,7 +1,7 @@
 use Rattle.std.proofs.Common.{Bool, ap, subst}
-use Rattle.slink_feed.specs.Teller.{Account}
+use Rattle.slink_feed.specs.Reporter.{Account}
 use Rattle.slink_feed.specs.Reported.{HasReported}
-use Rattle.slink_links.specs.Fetched.{TellsOfAll}
+use Rattle.slink_links.specs.Fetched.{ReportsOfAll}
 use Rattle.slink_links.proofs.Ends.{all_reported, end_reported}
 use Rattle.slink_links.proofs.fetching.fetch_all.Goals as goal
 
@@ -13,11 +13,11 @@ returns-clause-end g c = (
   c.fetch_links-end.ensures.read,
   c.fetch_status.ensures,
   all_reported c.args.tell_next c.fetch_links-end.result c.args.client.now c.fetch_links-end.new.client
-      c.new-teller.result.telling c.fetch_links-end.new.teller.telling (g.W.Sink.written c.args.output.now)
+      c.new-reporter.result.telling c.fetch_links-end.new.reporter.telling (g.W.Sink.written c.args.output.now)
       (g.W.Sink.written c.fetch_links-end.new.output) (g.E.Sink.written c.args.errors.now)
-      (g.E.Sink.written c.fetch_links-end.new.errors) (g.E.Sink.written c.tell_end.new.errors)
-      (g.E.Sink.written c.tell_next_of.new.errors) c.fetch_links-end.ensures.fetched
-      (ap (λ (a : Account). a.telling) c.new-teller.ensures) c.tell_end.ensures c.tell_next_of.ensures,
+      (g.E.Sink.written c.fetch_links-end.new.errors) (g.E.Sink.written c.report_end.new.errors)
+      (g.E.Sink.written c.report_next_of.new.errors) c.fetch_links-end.ensures.fetched
+      (ap (λ (a : Account). a.telling) c.new-reporter.ensures) c.report_end.ensures c.report_next_of.ensures,
   c.fetch_links-end.ensures.paused,
 )
 
@@ -27,18 +27,18 @@ returns-clause-quiet g c = λ uncalled plain.
     let old = c.args.client.now.talk.wants in
     let new = c.fetch_links-end.new.client.talk.wants in
     let before = g.E.Sink.written c.args.errors.now in
-    let after = g.E.Sink.written c.tell_next_of.new.errors in
+    let after = g.E.Sink.written c.report_next_of.new.errors in
     let all =
     all_reported c.args.tell_next c.fetch_links-end.result c.args.client.now c.fetch_links-end.new.client
-    c.new-teller.result.telling c.fetch_links-end.new.teller.telling (g.W.Sink.written c.args.output.now)
+    c.new-reporter.result.telling c.fetch_links-end.new.reporter.telling (g.W.Sink.written c.args.output.now)
     (g.W.Sink.written c.fetch_links-end.new.output) (g.E.Sink.written c.args.errors.now)
-    (g.E.Sink.written c.fetch_links-end.new.errors) (g.E.Sink.written c.tell_end.new.errors)
-    (g.E.Sink.written c.tell_next_of.new.errors) c.fetch_links-end.ensures.fetched
-    (ap (λ (a : Account). a.telling) c.new-teller.ensures) c.tell_end.ensures c.tell_next_of.ensures in (
+    (g.E.Sink.written c.fetch_links-end.new.errors) (g.E.Sink.written c.report_end.new.errors)
+    (g.E.Sink.written c.report_next_of.new.errors) c.fetch_links-end.ensures.fetched
+    (ap (λ (a : Account). a.telling) c.new-reporter.ensures) c.report_end.ensures c.report_next_of.ensures in (
       c.fetch_links-end.result,
       c.fetch_status.ensures,
       end_reported c.fetch_links-end.result old new fetched.records before after
           (subst (λ (h : Bool). HasReported h old new fetched.records) plain fetched.reported)
-          (subst (λ (t : Bool). TellsOfAll t c.fetch_links-end.result fetched.records old new before after) uncalled
+          (subst (λ (t : Bool). ReportsOfAll t c.fetch_links-end.result fetched.records old new before after) uncalled
           all),
     )

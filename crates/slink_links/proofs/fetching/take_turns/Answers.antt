@@ -10,7 +10,7 @@ loop-turn-init g c = record {
   turned = turned_none c.args.client.now (g.S.Source.read c.args.link.now) (g.W.Sink.written c.args.output.now)
       c.requires.linked;
   taken = none;
-  told = told_none c.args.client.now.talk c.args.teller.now (g.W.Sink.written c.args.output.now)
+  told = told_none c.args.client.now.talk c.args.reporter.now (g.W.Sink.written c.args.output.now)
       (g.E.Sink.written c.args.errors.now);
 }
 

@@ -1,12 +1,12 @@
 use Rattle.std.proofs.Common.{None}
 use Rattle.slink_feed.specs.Fetching.{fetching}
-use Rattle.slink_feed.specs.Reports.{TellsRecords}
+use Rattle.slink_feed.specs.Reports.{ReportsRecords}
 use Rattle.slink_links.specs.Fetched.{HasTakenTurns, HasTurned}
 use Rattle.slink_links.proofs.fetching.take_turns.Given as goal
 
 abbrev pub invariant-loop-turn : goal.invariant-loop-turn
 invariant-loop-turn g l = record {
-  told : TellsRecords l.fn.client.talk l.client.talk l.fn.teller l.teller (g.W.Sink.written l.fn.output)
+  told : ReportsRecords l.fn.client.talk l.client.talk l.fn.reporter l.reporter (g.W.Sink.written l.fn.output)
       (g.W.Sink.written l.output) (g.E.Sink.written l.fn.errors) (g.E.Sink.written l.errors);
   turned : HasTurned None l.fn.client l.client (g.S.Source.read l.fn.link) (g.S.Source.read l.link)
       (g.W.Sink.written l.fn.output) (g.W.Sink.written l.output);

@@ -3,62 +3,62 @@ use Rattle.mseed_stream.specs.Exchanges.{Exchange, exchange}
 use Rattle.slink_links.specs.declared.fetching.FetchEnd.TheVariants.{LinkFailed}
 use Rattle.slink_feed.specs.Fetching.{Notes}
 use Rattle.slink_feed.specs.Reports.{Kept, kept}
-use Rattle.slink_feed.specs.Teller.{Account, Telling}
-use Rattle.slink_links.specs.Fetched.{FetchesTelling, HasReadEach, HasTried}
+use Rattle.slink_feed.specs.Reporter.{Account, Telling}
+use Rattle.slink_links.specs.Fetched.{FetchesReporting, HasReadEach, HasTried}
 use Rattle.slink_links.proofs.Fetches.{fetched_none, reads_none, reads_one, was_over}
 use Rattle.slink_links.proofs.Tries.{tried_none, tried_over}
 use Rattle.slink_links.proofs.fetching.try_link.Goals as goal
 
 pub returns-in-Some-clause-read : goal.returns-in-Some-clause-read
 returns-in-Some-clause-read g c =
-    let link : Exchange = exchange (g.D.Link.Source.read c.fetch_link_telling-end.new.link)
-    (g.D.Link.Sink.written c.fetch_link_telling-end.new.link) in
-    reads_one c.args.client.now c.fetch_link_telling-end.new.client (g.D.Dial.given_back c.args.dialler.now)
+    let link : Exchange = exchange (g.D.Link.Source.read c.fetch_link_reporting-end.new.link)
+    (g.D.Link.Sink.written c.fetch_link_reporting-end.new.link) in
+    reads_one c.args.client.now c.fetch_link_reporting-end.new.client (g.D.Dial.given_back c.args.dialler.now)
     (g.D.Dial.given_back c.hang_up.new.self) (g.W.Sink.written c.args.output.now)
-    (g.W.Sink.written c.fetch_link_telling-end.new.output) c.fetch_link_telling-end.result link
-    (was_over c.args.client.now c.fetch_link_telling-end.new.client (g.D.Link.Source.read c.in-Some.link)
-    (g.D.Link.Source.read c.fetch_link_telling-end.new.link) (g.D.Link.Sink.written c.in-Some.link)
-    (g.D.Link.Sink.written c.fetch_link_telling-end.new.link) (g.W.Sink.written c.args.output.now)
-    (g.W.Sink.written c.fetch_link_telling-end.new.output) c.fetch_link_telling-end.result c.in-Some.ensures.unread
-    c.in-Some.ensures.unwritten c.fetch_link_telling-end.ensures.read c.fetch_link_telling-end.ensures.turns)
+    (g.W.Sink.written c.fetch_link_reporting-end.new.output) c.fetch_link_reporting-end.result link
+    (was_over c.args.client.now c.fetch_link_reporting-end.new.client (g.D.Link.Source.read c.in-Some.link)
+    (g.D.Link.Source.read c.fetch_link_reporting-end.new.link) (g.D.Link.Sink.written c.in-Some.link)
+    (g.D.Link.Sink.written c.fetch_link_reporting-end.new.link) (g.W.Sink.written c.args.output.now)
+    (g.W.Sink.written c.fetch_link_reporting-end.new.output) c.fetch_link_reporting-end.result c.in-Some.ensures.unread
+    c.in-Some.ensures.unwritten c.fetch_link_reporting-end.ensures.read c.fetch_link_reporting-end.ensures.turns)
     (c.hang_up.ensures.given_back ∙ ap (λ links. links ++ link ∷ []) c.in-Some.ensures.given_back)
 
 pub returns-in-Some-clause-tried : goal.returns-in-Some-clause-tried
 returns-in-Some-clause-tried g c =
-    let link : Exchange = exchange (g.D.Link.Source.read c.fetch_link_telling-end.new.link)
-    (g.D.Link.Sink.written c.fetch_link_telling-end.new.link) in
-    subst (λ (received : Bool). HasTried c.fetch_link_telling-end.result received c.args.client.now
-    c.fetch_link_telling-end.new.client (g.D.Dial.given_back c.args.dialler.now)
+    let link : Exchange = exchange (g.D.Link.Source.read c.fetch_link_reporting-end.new.link)
+    (g.D.Link.Sink.written c.fetch_link_reporting-end.new.link) in
+    subst (λ (received : Bool). HasTried c.fetch_link_reporting-end.result received c.args.client.now
+    c.fetch_link_reporting-end.new.client (g.D.Dial.given_back c.args.dialler.now)
     (g.D.Dial.given_back c.hang_up.new.self) (g.W.Sink.written c.args.output.now)
-    (g.W.Sink.written c.fetch_link_telling-end.new.output)) (sym c.has_received.ensures)
-    (tried_over c.fetch_link_telling-end.result c.fetch_link_telling-end.new.teller.received c.args.client.now
-    c.fetch_link_telling-end.new.client link (g.D.Dial.given_back c.args.dialler.now)
+    (g.W.Sink.written c.fetch_link_reporting-end.new.output)) (sym c.has_received.ensures)
+    (tried_over c.fetch_link_reporting-end.result c.fetch_link_reporting-end.new.reporter.received c.args.client.now
+    c.fetch_link_reporting-end.new.client link (g.D.Dial.given_back c.args.dialler.now)
     (g.D.Dial.given_back c.hang_up.new.self) (g.W.Sink.written c.args.output.now)
-    (g.W.Sink.written c.fetch_link_telling-end.new.output)
-    (was_over c.args.client.now c.fetch_link_telling-end.new.client (g.D.Link.Source.read c.in-Some.link)
-    (g.D.Link.Source.read c.fetch_link_telling-end.new.link) (g.D.Link.Sink.written c.in-Some.link)
-    (g.D.Link.Sink.written c.fetch_link_telling-end.new.link) (g.W.Sink.written c.args.output.now)
-    (g.W.Sink.written c.fetch_link_telling-end.new.output) c.fetch_link_telling-end.result c.in-Some.ensures.unread
-    c.in-Some.ensures.unwritten c.fetch_link_telling-end.ensures.read c.fetch_link_telling-end.ensures.turns)
-    c.fetch_link_telling-end.ensures.fetched.fetched
-    (subst (λ (was : Bool). Notes was c.fetch_link_telling-end.new.teller.received
-    (g.W.Sink.written c.args.output.now) (g.W.Sink.written c.fetch_link_telling-end.new.output))
-    (ap (λ (a : Account). a.received) c.begin.ensures) c.fetch_link_telling-end.ensures.received)
+    (g.W.Sink.written c.fetch_link_reporting-end.new.output)
+    (was_over c.args.client.now c.fetch_link_reporting-end.new.client (g.D.Link.Source.read c.in-Some.link)
+    (g.D.Link.Source.read c.fetch_link_reporting-end.new.link) (g.D.Link.Sink.written c.in-Some.link)
+    (g.D.Link.Sink.written c.fetch_link_reporting-end.new.link) (g.W.Sink.written c.args.output.now)
+    (g.W.Sink.written c.fetch_link_reporting-end.new.output) c.fetch_link_reporting-end.result c.in-Some.ensures.unread
+    c.in-Some.ensures.unwritten c.fetch_link_reporting-end.ensures.read c.fetch_link_reporting-end.ensures.turns)
+    c.fetch_link_reporting-end.ensures.fetched.fetched
+    (subst (λ (was : Bool). Notes was c.fetch_link_reporting-end.new.reporter.received
+    (g.W.Sink.written c.args.output.now) (g.W.Sink.written c.fetch_link_reporting-end.new.output))
+    (ap (λ (a : Account). a.received) c.begin.ensures) c.fetch_link_reporting-end.ensures.received)
     (c.hang_up.ensures.given_back ∙ ap (λ links. links ++ link ∷ []) c.in-Some.ensures.given_back))
 
 pub returns-in-Some-clause-fetched : goal.returns-in-Some-clause-fetched
 returns-in-Some-clause-fetched g c =
-    let after : Kept = kept (g.W.Sink.written c.fetch_link_telling-end.new.output)
-    (g.E.Sink.written c.fetch_link_telling-end.new.errors) c.fetch_link_telling-end.new.teller.telling in
-    subst (λ (t : Telling). FetchesTelling c.fetch_link_telling-end.result c.args.client.now
-    c.fetch_link_telling-end.new.client
+    let after : Kept = kept (g.W.Sink.written c.fetch_link_reporting-end.new.output)
+    (g.E.Sink.written c.fetch_link_reporting-end.new.errors) c.fetch_link_reporting-end.new.reporter.telling in
+    subst (λ (t : Telling). FetchesReporting c.fetch_link_reporting-end.result c.args.client.now
+    c.fetch_link_reporting-end.new.client
     (kept (g.W.Sink.written c.args.output.now) (g.E.Sink.written c.args.errors.now) t) after)
-    (ap (λ (a : Account). a.telling) c.begin.ensures) c.fetch_link_telling-end.ensures.fetched
+    (ap (λ (a : Account). a.telling) c.begin.ensures) c.fetch_link_reporting-end.ensures.fetched
 
 pub returns-in-None-clause-fetched : goal.returns-in-None-clause-fetched
 returns-in-None-clause-fetched g c =
     fetched_none c.args.client.now
-    (kept (g.W.Sink.written c.args.output.now) (g.E.Sink.written c.args.errors.now) c.args.teller.now.telling)
+    (kept (g.W.Sink.written c.args.output.now) (g.E.Sink.written c.args.errors.now) c.args.reporter.now.telling)
 
 pub returns-in-None-clause-read : goal.returns-in-None-clause-read
 returns-in-None-clause-read g c =

@@ -2,9 +2,9 @@ use Rattle.std.proofs.Common.{◌≡◌, ◌∙◌, ◌<◌, ℕ, List, Option, 
 use Rattle.mseed_stream.specs.Telling.{Tells}
 use Rattle.slink_feed.specs.declared.dialogue.Wanted.{Wanted}
 use Rattle.slink_feed.specs.Dialogue.{Wants, want_at}
-use Rattle.slink_feed.specs.Teller.{next_line, next_line_of}
+use Rattle.slink_feed.specs.Reporter.{next_line, next_line_of}
 use Rattle.slink_feed.proofs.Tellings.{behind_first, first_is}
-use Rattle.slink_feed.proofs.teller.Teller.tell_next.Goals as goal
+use Rattle.slink_feed.proofs.reporter.Reporter.report_next.Goals as goal
 
 pub returns : goal.returns
 returns g c =

@@ -1,6 +1,6 @@
 use Rattle.std.proofs.Common.{◌≡◌, ◌++◌, ◌+◌, ◌*◌, ◌≤◌, codes, length, take}
-use Rattle.slink_feed.specs.Teller.{options_of, words_of}
-use Rattle.slink_feed.proofs.teller.next_line.Given as goal
+use Rattle.slink_feed.specs.Reporter.{options_of, words_of}
+use Rattle.slink_feed.proofs.reporter.next_line.Given as goal
 
 abbrev pub invariant-loop-want : goal.invariant-loop-want
 invariant-loop-want l = record {

@@ -1,7 +1,7 @@
 use Rattle.std.proofs.Common.{◌∙◌}
-use Rattle.slink_feed.specs.Teller.{first_line}
+use Rattle.slink_feed.specs.Reporter.{first_line}
 use Rattle.slink_feed.proofs.Tellings.{first_none, first_reported, no_first, reported_line}
-use Rattle.slink_feed.proofs.teller.tell_first.Goals as goal
+use Rattle.slink_feed.proofs.reporter.report_first.Goals as goal
 
 pub returns-then-is_first : goal.returns-then-is_first
 returns-then-is_first g c =

@@ -2,10 +2,11 @@
 ghost use Rattle.std.specs.Prelude.{◌≡◌, ◌+◌, ◌++◌, ◌≤◌, true, false, length, slice_get, unwrap_or};
 ghost use Rattle.mseed_stream.specs.Telling.{Tells};
 ghost use Rattle.slink_feed.specs.Dialogue.{want_at, with_next};
-ghost use Rattle.slink_feed.specs.Teller.{AreReported, first_line, first_lines, hole_line, hole_lines, if_other};
-ghost use Rattle.slink_feed.specs.Teller.{lines_at};
-ghost use Rattle.slink_feed.specs.Teller.{next_line, next_line_of, number_behind, options_of, telling_of, telling_past};
-ghost use Rattle.slink_feed.specs.Teller.{wants_left, word_of};
+ghost use Rattle.slink_feed.specs.Reporter.{AreReported, first_line, first_lines, hole_line, hole_lines, if_other};
+ghost use Rattle.slink_feed.specs.Reporter.{lines_at};
+ghost use Rattle.slink_feed.specs.Reporter.{next_line, next_line_of, number_behind, options_of, telling_of};
+ghost use Rattle.slink_feed.specs.Reporter.{telling_past};
+ghost use Rattle.slink_feed.specs.Reporter.{wants_left, word_of};
 ghost use Rattle.slink_feed.specs.private.Lines.{PutsBehind};
 
 use crate::client::Client;
@@ -130,8 +131,8 @@ fn want_next(wants: &mut [Option<Wanted>; 16], k: usize, number: u32)
     }
 }
 
-/// Tells of a hole, where another number is wanted of a place than the one that came.
-fn tell_if_other<E: Sink>(place: &Place, want: Option<u32>, got: u32, errors: &mut E)
+/// Reports a hole, where another number is wanted of a place than the one that came.
+fn report_if_other<E: Sink>(place: &Place, want: Option<u32>, got: u32, errors: &mut E)
     ensures { AreReported (if_other place.now want got) (E.written errors.old) (E.written errors.new) }
 {
     match want {
@@ -144,18 +145,18 @@ fn tell_if_other<E: Sink>(place: &Place, want: Option<u32>, got: u32, errors: &m
     }
 }
 
-/// Tells of a hole, where there is one before a record.
-fn tell_hole<E: Sink>(want: &Option<Wanted>, number: u32, errors: &mut E)
+/// Reports a hole, where there is one before a record.
+fn report_hole<E: Sink>(want: &Option<Wanted>, number: u32, errors: &mut E)
     ensures { AreReported (hole_lines want.now number) (E.written errors.old) (E.written errors.new) }
 {
     match want {
-        Some(wanted) => tell_if_other(&wanted.place, wanted.next, number, errors),
+        Some(wanted) => report_if_other(&wanted.place, wanted.next, number, errors),
         None => {}
     }
 }
 
-/// Tells of a place's first record.
-fn tell_first<E: Sink>(is_first: bool, want: &Option<Wanted>, number: u32, errors: &mut E)
+/// Reports a place's first record.
+fn report_first<E: Sink>(is_first: bool, want: &Option<Wanted>, number: u32, errors: &mut E)
     ensures { AreReported (first_lines is_first want.now number) (E.written errors.old) (E.written errors.new) }
 {
     match want {
@@ -168,18 +169,18 @@ fn tell_first<E: Sink>(is_first: bool, want: &Option<Wanted>, number: u32, error
     }
 }
 
-/// Tells on standard error of each record that is about to be written: that it comes behind a hole, and that it is the
+/// Reports on standard error each record that is about to be written: that it comes behind a hole, and that it is the
 /// first one of its place.
 #[derive(Drop)]
-pub struct Teller {
+pub struct Reporter {
     wants: [Option<Wanted>; 16],
     firsts: [bool; 16],
     last: Option<(usize, u32)>,
     received: bool,
 }
 
-impl Model for Teller {
-    ghost use Rattle.slink_feed.specs.Teller.{Account};
+impl Model for Reporter {
+    ghost use Rattle.slink_feed.specs.Reporter.{Account};
 
     ghost Value = { Account };
 
@@ -189,13 +190,13 @@ impl Model for Teller {
     } };
 }
 
-impl Teller {
+impl Reporter {
     /// For the records that a client wants. The first one of each place is reported where `firsts` says so, and each
     /// hole in any case.
-    pub fn new(client: &Client, firsts: bool) -> Teller
+    pub fn new(client: &Client, firsts: bool) -> Reporter
         ensures { result ≡ record { telling = telling_of client.now.talk.wants firsts; received = false } }
     {
-        Teller {
+        Reporter {
             wants: copied(client.wants()),
             firsts: [firsts; 16],
             last: None,
@@ -235,14 +236,14 @@ impl Teller {
         self.last = Some((k, number));
     }
 
-    /// Tells of the record of the place at an index, with its number: it is about to be written.
+    /// Reports the record of the place at an index, with its number: it is about to be written.
     pub(crate) fn note<E: Sink>(&mut self, k: usize, number: u32, errors: &mut E)
         ensures telling { self.new ≡ record self.old { telling = telling_past self.old.telling k number } }
         ensures lines { AreReported (lines_at self.old.telling k number) (E.written errors.old) (E.written errors.new) }
     {
         let want = self.want(k);
-        tell_hole(&want, number, errors);
-        tell_first(self.is_first(k), &want, number, errors);
+        report_hole(&want, number, errors);
+        report_first(self.is_first(k), &want, number, errors);
         self.pass(k, number);
     }
 
@@ -283,9 +284,9 @@ impl Teller {
         }
     }
 
-    /// Tells the words of a fetch that goes on with what a client wants. Where the output `failed`, the last record
+    /// Reports the words of a fetch that goes on with what a client wants. Where the output `failed`, the last record
     /// that was reported is wanted again.
-    pub fn tell_next<E: Sink>(&self, client: &Client, failed: bool, errors: &mut E)
+    pub fn report_next<E: Sink>(&self, client: &Client, failed: bool, errors: &mut E)
         ensures { Tells (next_line_of (wants_left failed self.now.telling.last client.now.talk.wants))
             (E.written errors.old) (E.written errors.new) }
     {

@@ -1,10 +1,10 @@
 use Rattle.slink_feed.proofs.Tellings.{hole_none, hole_reported}
-use Rattle.slink_feed.proofs.teller.tell_hole.Goals as goal
+use Rattle.slink_feed.proofs.reporter.report_hole.Goals as goal
 
 pub returns-in-Some : goal.returns-in-Some
 returns-in-Some g c =
     hole_reported c.args.want.now c.in-Some.wanted c.args.number (g.E.Sink.written c.args.errors.now)
-    (g.E.Sink.written c.tell_if_other.new.errors) c.in-Some.is c.tell_if_other.ensures
+    (g.E.Sink.written c.report_if_other.new.errors) c.in-Some.is c.report_if_other.ensures
 
 pub returns-in-None : goal.returns-in-None
 returns-in-None g c =

@@ -1,9 +1,0 @@
-use Rattle.slink_feed.proofs.Tellings.{lines_reported}
-use Rattle.slink_feed.proofs.teller.Teller.note.Goals as goal
-
-pub returns-clause-lines : goal.returns-clause-lines
-returns-clause-lines g c =
-    lines_reported c.args.self.now.telling c.args.k c.args.number c.want-want.result c.is_first.result
-    (g.E.Sink.written c.args.errors.now) (g.E.Sink.written c.tell_hole.new.errors)
-    (g.E.Sink.written c.tell_first.new.errors) c.want-want.ensures c.is_first.ensures c.tell_hole.ensures
-    c.tell_first.ensures
