@@ -67,17 +67,26 @@ listed : (list : Listed) (xs : List ℤ) → list.samples.now ≡ xs → list.gi
     → IsListed list xs 0
 listed list xs same none fits = record { samples_are = same; given_is = none; inside = omega arith; fits = fits }
 
+-- a list supplies samples whose differences an encoding holds
+pub list_supplies : (list : Listed) (e : Encoding) (xs : List ℤ) → IsSteim e → list.samples.now ≡ xs → list.given ≡ 0
+    → All (IsDifferenceOf e) (differences xs) → IsListed list xs 0
+list_supplies list Int16 xs steim same none fits = absurd steim
+list_supplies list Int32 xs steim same none fits = absurd steim
+list_supplies list Steim1 xs steim same none fits = listed list xs same none fits
+list_supplies list Steim2 xs steim same none fits =
+    listed list xs same none (All-weaker (IsWithin 30) (IsWithin 32) wider (differences xs) fits)
+
 pub list_begun : (p : Payloads) (list : Listed) (e : Encoding) (xs : List ℤ) → list.samples.now ≡ xs → list.given ≡ 0
     → length xs < 2 ^ 64 → AreEmpty p.frames xs → All (IsSampleOf e) xs → All (IsDifferenceOf e) (differences xs)
     → StandsInList p list e xs 0
 list_begun p list Int16 xs same none few empty fit differences_fit = (same, fit)
 list_begun p list Int32 xs same none few empty fit differences_fit = (same, fit)
 list_begun p list Steim1 xs same none few empty fit differences_fit =
-    begun IsListed p.frames list 32 xs (listed list xs same none differences_fit) few empty fit differences_fit
+    begun IsListed p.frames list 32 xs (list_supplies list Steim1 xs tt same none differences_fit) few empty fit
+    differences_fit
 list_begun p list Steim2 xs same none few empty fit differences_fit =
-    begun IsListed p.frames list 30 xs
-    (listed list xs same none (All-weaker (IsWithin 30) (IsWithin 32) wider (differences xs) differences_fit)) few empty
-    fit differences_fit
+    begun IsListed p.frames list 30 xs (list_supplies list Steim2 xs tt same none differences_fit) few empty fit
+    differences_fit
 
 -- a series where it lies
 pub series_begins : (p : Payloads) (list : Listed) (job : Job) (view : SeriesView)

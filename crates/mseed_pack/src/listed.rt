@@ -1,6 +1,9 @@
 //! Samples of a list.
 ghost use Rattle.std.specs.Prelude.{◌≡◌, ◌<◌, ◌≤◌, ◌+◌, length, pos, slice_index_or, slice_range, All};
 ghost use Rattle.mseed_steim.specs.Spelling.{IsWithin};
+ghost use Rattle.mseed_pack.specs.declared.options.Encoding.{Encoding};
+ghost use Rattle.mseed_pack.specs.Fitting.{IsDifferenceOf};
+ghost use Rattle.mseed_pack.specs.Options.{IsSteim};
 ghost use Rattle.mseed_pack.specs.Stretches.{differences};
 
 use crate::supply::Supply;
@@ -13,11 +16,12 @@ pub struct Listed<'a> {
 }
 
 impl<'a> Listed<'a> {
-    /// The samples of a list, of which none was given. It supplies them where no difference has more than 32 bits.
+    /// The samples of a list, of which none was given. It supplies them where either Steim holds their differences.
     pub fn of(samples: &'a [i32]) -> Listed<'a>
         ensures samples { result.samples.now ≡ samples.now }
         ensures given { result.given ≡ 0 }
-        ensures supplies { All (IsWithin 32) (differences samples.now)
+        ensures supplies { (encoding : Encoding) → IsSteim encoding
+            → All (IsDifferenceOf encoding) (differences samples.now)
             → ⟦<Listed<'static> as Supply>⟧.supplies result samples.now 0 }
     {
         Listed { samples, given: 0 }

@@ -77,7 +77,8 @@ impl Window {
         requires { (samples : List ℤ) × (HoldsDifferences samples self.old
             × S.supplies supply.old samples self.old.end × (length samples < 2 ^ 64)) }
         ensures first { self.new.first ≡ self.old.first }
-        ensures held { (samples : List ℤ) → HoldsDifferences samples self.old → S.supplies supply.old samples self.old.end
+        ensures held { (samples : List ℤ) → HoldsDifferences samples self.old
+            → S.supplies supply.old samples self.old.end
             → HoldsDifferences samples self.new × S.supplies supply.new samples self.new.end
             × (self.old.end ≤ self.new.end) × (min (length samples) (self.old.first + 7056) ≤ self.new.end) }
         ensures beside { S.beside supply.new ≡ S.beside supply.old }

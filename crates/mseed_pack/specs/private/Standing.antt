@@ -44,16 +44,16 @@ pub record StandsAt (steps : List (ℕ × LeapStep)) (size : ℕ) (place : Place
   pub counted : place.number ≤ place.first
 
 -- the samples are a series that fits, and with this filler and supply it's packed from its first sample on
-pub record CanBegin {F S : Type 0} (stands : F → S → Encoding → List ℤ → ℕ → Type 0) (job : Job) (filler : F) (supply : S)
-    (samples : List ℤ) : Type 0 where
+pub record CanBegin {F S : Type 0} (stands : F → S → Encoding → List ℤ → ℕ → Type 0) (job : Job) (filler : F)
+    (supply : S) (samples : List ℤ) : Type 0 where
   pub count : length samples ≡ job.head.now.count
   pub fits : Fits (headed job.head.now samples) job.options.now
   pub stands_first : stands filler supply job.options.now.encoding samples 0
 
 -- the samples are a series that fits, and with this filler and supply it's packed on from a place that is none of its
 -- last
-pub record CanGoOn {F S : Type 0} (stands : F → S → Encoding → List ℤ → ℕ → Type 0) (job : Job) (filler : F) (supply : S)
-    (place : Place) (samples : List ℤ) : Type 0 where
+pub record CanGoOn {F S : Type 0} (stands : F → S → Encoding → List ℤ → ℕ → Type 0) (job : Job) (filler : F)
+    (supply : S) (place : Place) (samples : List ℤ) : Type 0 where
   pub count : length samples ≡ job.head.now.count
   pub fits : Fits (headed job.head.now samples) job.options.now
   pub standing : StandsAt job.head.now.steps.now job.head.now.count place
@@ -61,8 +61,8 @@ pub record CanGoOn {F S : Type 0} (stands : F → S → Encoding → List ℤ �
   pub stands_there : stands filler supply job.options.now.encoding samples place.first
 
 -- some were packed from a place to the next into these bytes
-pub record ComesTo {F S : Type 0} (stands : F → S → Encoding → List ℤ → ℕ → Type 0) (job : Job) (filler : F) (supply : S)
-    (place next : Place) (bytes : List ℕ) (samples : List ℤ) : Type 0 where
+pub record ComesTo {F S : Type 0} (stands : F → S → Encoding → List ℤ → ℕ → Type 0) (job : Job) (filler : F)
+    (supply : S) (place next : Place) (bytes : List ℕ) (samples : List ℤ) : Type 0 where
   pub on : PacksOn (headed job.head.now samples) job.options.now place next bytes
   pub stands_next : stands filler supply job.options.now.encoding samples next.first
 

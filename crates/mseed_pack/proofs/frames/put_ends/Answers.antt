@@ -1,4 +1,5 @@
-use Rattle.std.proofs.Common.{◌≡◌, ◌+◌, ◌-◌, ◌<◌, ℕ, ℤ, pos, ◌+ℤ◌, List, length, get_or, take, drop, refl, sym, subst, ap}
+use Rattle.std.proofs.Common.{◌≡◌, ◌+◌, ◌-◌, ◌<◌, ℕ, ℤ, pos, ◌+ℤ◌, List, length, get_or, take, drop, refl, sym, subst}
+use Rattle.std.proofs.Common.{ap}
 use Rattle.std.proofs.Common.{◌∙◌, rules, arith, FitsSigned, w32, to_z, of_z}
 use Rattle.std.proofs.lemmas.Int.{to_z-of_z}
 use Rattle.std.proofs.lemmas.List.{length-drop, take_rest}
@@ -54,8 +55,8 @@ returns c = λ xs place begins.
     let n = place + length ds - 1 in
     let two : FitsSigned w32 (get_or ds 0 (pos 0)) = search rules in
     let first = first_is xs place c.args.before ds begins some c.ranges.before two in
-    let size : length (take (length ds - 1) (drop 1 ds)) ≡ length ds - 1 = ap (λ (l : List ℤ). length l) (take_rest ds 1)
-    ∙ length-drop 1 ds in
+    let size : length (take (length ds - 1) (drop 1 ds)) ≡ length ds - 1 =
+    ap (λ (l : List ℤ). length l) (take_rest ds 1) ∙ length-drop 1 ds in
     let last : c.last_behind-last.result ≡ get_or xs n (pos 0) =
     c.last_behind-last.ensures xs place (run_of xs place c.args.before ds begins some c.ranges.before two)
     ∙ ap (λ (m : ℕ). get_or xs m (pos 0))

@@ -64,5 +64,6 @@ loop-index-init c =
 
 pub returns-clause-taken : goal.returns-clause-taken
 returns-clause-taken c =
-    taken c.args.width c.args.samples.now c.args.left (length c.args.payload.now) c.bytes_in-bytes.result c.min-count.result
+    taken c.args.width c.args.samples.now c.args.left (length c.args.payload.now) c.bytes_in-bytes.result
+    c.min-count.result
     c.bytes_in-bytes.ensures c.min-count.ensures c.requires.left c.requires.frames.long c.requires.frames.short

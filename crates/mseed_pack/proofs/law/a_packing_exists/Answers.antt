@@ -1,4 +1,5 @@
-use Rattle.std.proofs.Common.{w32, ◌+◌, ◌++◌, ◌∙◌, ℕ, ℤ, List, [], sym, ap, subst, length, drop, length-append, arith, rules}
+use Rattle.std.proofs.Common.{w32, ◌+◌, ◌++◌, ◌∙◌, ℕ, ℤ, List, [], sym, ap, subst, length, drop, length-append, arith}
+use Rattle.std.proofs.Common.{rules}
 use Rattle.std.proofs.lemmas.List.{drop_all}
 use Rattle.std.proofs.lemmas.Int.{to_z-of_z}
 use Rattle.mseed_audit.specs.Series.{Trace}

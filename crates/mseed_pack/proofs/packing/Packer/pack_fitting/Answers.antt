@@ -9,9 +9,9 @@ use Rattle.mseed_pack.proofs.packing.Packer.pack_fitting.Goals as goal
 pub write_records-requires-clause-begins : goal.write_records-requires-clause-begins
 write_records-requires-clause-begins g c = (
   c.args.series.now.samples.now,
-  series_begins _ _ _ c.args.series.now c.head-head.ensures.trace c.head-head.ensures.count c.head-head.ensures.first c.requires.fits
-      c.of-list.ensures.samples c.of-list.ensures.given (search rules) (c.begin.ensures.before ∙ to_z-of_z w32 _ (search rules)) c.begin.ensures.low
-      c.begin.ensures.high,
+  series_begins _ _ _ c.args.series.now c.head-head.ensures.trace c.head-head.ensures.count
+      c.head-head.ensures.first c.requires.fits c.of-list.ensures.samples c.of-list.ensures.given (search rules)
+      (c.begin.ensures.before ∙ to_z-of_z w32 _ (search rules)) c.begin.ensures.low c.begin.ensures.high,
 )
 
 pub returns-clause-ok : goal.returns-clause-ok
@@ -22,8 +22,9 @@ returns-clause-ok g c =
     IfOk-weaker _ _ (λ (count : ℕ). EmittedAll _ o count old new)
     (λ count all. subst (λ (s : Trace). EmittedAll s o count old new) c.head-head.ensures.trace
     (all c.args.series.now.samples.now (series_begins _ _ _ c.args.series.now c.head-head.ensures.trace
-    c.head-head.ensures.count c.head-head.ensures.first c.requires.fits c.of-list.ensures.samples c.of-list.ensures.given
-    (search rules) (c.begin.ensures.before ∙ to_z-of_z w32 _ (search rules)) c.begin.ensures.low c.begin.ensures.high)))
+    c.head-head.ensures.count c.head-head.ensures.first c.requires.fits c.of-list.ensures.samples
+    c.of-list.ensures.given (search rules) (c.begin.ensures.before ∙ to_z-of_z w32 _ (search rules))
+    c.begin.ensures.low c.begin.ensures.high)))
     c.write_records.ensures.ok
 
 pub returns-clause-err : goal.returns-clause-err
@@ -34,6 +35,7 @@ returns-clause-err g c =
     IfErr-weaker _ _ (λ (taken : ℕ). EmittedPrefix _ o taken old new)
     (λ taken all. subst (λ (s : Trace). EmittedPrefix s o taken old new) c.head-head.ensures.trace
     (all c.args.series.now.samples.now (series_begins _ _ _ c.args.series.now c.head-head.ensures.trace
-    c.head-head.ensures.count c.head-head.ensures.first c.requires.fits c.of-list.ensures.samples c.of-list.ensures.given
-    (search rules) (c.begin.ensures.before ∙ to_z-of_z w32 _ (search rules)) c.begin.ensures.low c.begin.ensures.high)))
+    c.head-head.ensures.count c.head-head.ensures.first c.requires.fits c.of-list.ensures.samples
+    c.of-list.ensures.given (search rules) (c.begin.ensures.before ∙ to_z-of_z w32 _ (search rules))
+    c.begin.ensures.low c.begin.ensures.high)))
     c.write_records.ensures.err

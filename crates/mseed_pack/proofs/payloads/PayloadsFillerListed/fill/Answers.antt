@@ -28,10 +28,12 @@ pub returns-in-Int16-clause-filled : goal.returns-in-Int16-clause-filled
 returns-in-Int16-clause-filled c = λ xs stands left.
     let l = c.args.left in
     let r = c.fill_integers.result in
-    let has = subst (λ (e : Encoding). StandsInList c.args.self.now c.args.list.now e xs l.first) c.in-Int16.is stands in
+    let has = subst (λ (e : Encoding). StandsInList c.args.self.now c.args.list.now e xs l.first) c.in-Int16.is
+    stands in
     subst (λ (e : Encoding). IsFilled e xs l r c.fill_integers.new.payload
     × StandsInList c.args.self.now c.args.list.now e xs (l.first + r.samples)) (sym c.in-Int16.is) (
-      integers 2 xs c.args.list.now.samples.now l r c.fill_integers.new.payload has.0 left c.fill_integers.ensures.holds,
+      integers 2 xs c.args.list.now.samples.now l r c.fill_integers.new.payload has.0 left
+          c.fill_integers.ensures.holds,
       has,
     )
 
@@ -39,7 +41,8 @@ pub returns-in-Int32-clause-filled : goal.returns-in-Int32-clause-filled
 returns-in-Int32-clause-filled c = λ xs stands left.
     let l = c.args.left in
     let r = c.fill_integers-in-Int32.result in
-    let has = subst (λ (e : Encoding). StandsInList c.args.self.now c.args.list.now e xs l.first) c.in-Int32.is stands in
+    let has = subst (λ (e : Encoding). StandsInList c.args.self.now c.args.list.now e xs l.first) c.in-Int32.is
+    stands in
     subst (λ (e : Encoding). IsFilled e xs l r c.fill_integers-in-Int32.new.payload
     × StandsInList c.args.self.now c.args.list.now e xs (l.first + r.samples)) (sym c.in-Int32.is) (
       integers 4 xs c.args.list.now.samples.now l r c.fill_integers-in-Int32.new.payload has.0 left
