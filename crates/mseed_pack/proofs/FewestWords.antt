@@ -17,7 +17,7 @@ use Rattle.mseed_pack.specs.declared.options.Encoding.TheVariants.{Steim2}
 use Rattle.mseed_pack.specs.declared.options.Options.{Options}
 use Rattle.mseed_pack.specs.FewestWords.{words_in_use, HasFewestWords}
 use Rattle.mseed_pack.specs.Packing.{Piece, HoldsFrames, HoldsSamples, IsPacked}
-use Rattle.mseed_pack.specs.Stretches.{differences, stretch_end, left_of}
+use Rattle.mseed_pack.specs.Stretches.{differences, span_end, left_of}
 use Rattle.mseed_pack.proofs.Viewed.{short}
 
 -- in Steim-2, packed words are the fewest
@@ -73,7 +73,7 @@ record_fewest fewest s o p two k =
     subst (λ (e : Encoding). HoldsSamples e (left_of s p.first) p.samples k.frames (drop 64 p.bytes)) two
     k.payload in
     let left : take n (left_of s p.first) ≡ take n (drop p.first (differences s.samples)) =
-    take-take n (stretch_end s p.first - p.first) (drop p.first (differences s.samples)) (short s p k.within) in
+    take-take n (span_end s p.first - p.first) (drop p.first (differences s.samples)) (short s p k.within) in
     let count : p.first + n - p.first ≡ n = omega arith in
     subst (λ (m : ℕ). IsFewest (take m (drop p.first (differences s.samples))) (words_in_use (drop 64 p.bytes)))
     (sym count)

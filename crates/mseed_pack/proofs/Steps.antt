@@ -12,10 +12,10 @@ use Rattle.mseed_time.specs.declared.outcome.LeapStep.{LeapStep}
 use Rattle.mseed_time.specs.declared.outcome.LeapStep.TheVariants.{Plus, Minus}
 use Rattle.mseed_time.specs.Join.{step_of}
 use Rattle.mseed_audit.specs.Series.{Trace, AreStepsFrom}
-use Rattle.mseed_pack.specs.declared.stretch.Stretch.{Stretch}
+use Rattle.mseed_pack.specs.declared.span.Span.{Span}
 use Rattle.mseed_pack.specs.Clock.{added_before}
-use Rattle.mseed_pack.specs.Stretches.{stretch_end, step_behind}
-use Rattle.mseed_pack.specs.private.Standing.{end_by, IsStretch}
+use Rattle.mseed_pack.specs.Stretches.{span_end, step_behind}
+use Rattle.mseed_pack.specs.private.Standing.{end_by, IsSpan}
 
 le_true : (a b : ℕ) → a ≤ b → leb a b ≡ true
 le_true a b h = grind (arith, nat_tests)
@@ -75,27 +75,27 @@ find_prefix : (xs : List (ℕ × LeapStep)) (size n : ℕ) → n < end_by xs siz
 find_prefix [] size n l = refl
 find_prefix (x ∷ xs) size n l = let here : ltb n x.0 ≡ true = lt_true n x.0 l in rw here refl
 
-pub end_at : (s : Trace) (stretch : Stretch) (n : ℕ) → IsStretch s.steps (length s.samples) stretch → stretch.begin ≤ n
-    → n < stretch.end → stretch_end s n ≡ stretch.end
-end_at s stretch n h low high =
+pub end_at : (s : Trace) (span : Span) (n : ℕ) → IsSpan s.steps (length s.samples) span → span.begin ≤ n
+    → n < span.end → span_end s n ≡ span.end
+end_at s span n h low high =
     let size = length s.samples in
     let inside : n < end_by h.left size = omega (arith, high, h.end_is) in
     ap (λ (xs : List (ℕ × LeapStep)). unwrap_or
     (option_map (λ (x : ℕ × LeapStep). x.0) (find (λ (x : ℕ × LeapStep). ltb n x.0) xs)) size) h.parts
     ∙ ap (λ (o : Option (ℕ × LeapStep)). unwrap_or (option_map (λ (x : ℕ × LeapStep). x.0) o) size)
-    (find_passed h.passed h.left stretch.begin n h.before low)
+    (find_passed h.passed h.left span.begin n h.before low)
     ∙ find_prefix h.left size n inside
     ∙ sym h.end_is
 
-pub added_at : (steps : List (ℕ × LeapStep)) (size : ℕ) (stretch : Stretch) (n : ℕ) → IsStretch steps size stretch
-    → stretch.begin ≤ n → n < stretch.end → added_before steps n ≡ stretch.added
-added_at steps size stretch n h low high =
+pub added_at : (steps : List (ℕ × LeapStep)) (size : ℕ) (span : Span) (n : ℕ) → IsSpan steps size span
+    → span.begin ≤ n → n < span.end → added_before steps n ≡ span.added
+added_at steps size span n h low high =
     let inside : n < end_by h.left size = omega (arith, high, h.end_is) in
     let cut : added_before steps n ≡ added_before h.passed n +ℤ added_before h.left n =
     ap (λ (xs : List (ℕ × LeapStep)). added_before xs n) h.parts ∙ added_append h.passed h.left n in
-    let prefix : added_before h.passed n ≡ added_before h.passed stretch.begin =
-    added_all h.passed stretch.begin n h.before low in
-    let back : added_before h.left n ≡ pos 0 = added_prefix h.left stretch.begin size n h.behind inside in
+    let prefix : added_before h.passed n ≡ added_before h.passed span.begin =
+    added_all h.passed span.begin n h.before low in
+    let back : added_before h.left n ≡ pos 0 = added_prefix h.left span.begin size n h.behind inside in
     omega (arith, ints, cut, prefix, back, h.added_is)
 
 -- the one at a record's end
@@ -133,25 +133,25 @@ at_end : (xs : List (ℕ × LeapStep)) (size n : ℕ) → n ≡ end_by xs size
 at_end [] size n e = refl
 at_end (x ∷ xs) size n e = let here : eqb x.0 n ≡ true = eq-eqb x.0 n (sym e) in rw here refl
 
-behind_parts : (s : Trace) (stretch : Stretch) (n : ℕ) → (h : IsStretch s.steps (length s.samples) stretch)
-    → stretch.begin < n
+behind_parts : (s : Trace) (span : Span) (n : ℕ) → (h : IsSpan s.steps (length s.samples) span)
+    → span.begin < n
     → step_behind s n ≡ option_map (λ (x : ℕ × LeapStep). x.1) (find (λ (x : ℕ × LeapStep). eqb x.0 n) h.left)
-behind_parts s stretch n h low =
+behind_parts s span n h low =
     ap (λ (xs : List (ℕ × LeapStep)). option_map (λ (x : ℕ × LeapStep). x.1)
     (find (λ (x : ℕ × LeapStep). eqb x.0 n) xs)) h.parts
     ∙ ap (λ (o : Option (ℕ × LeapStep)). option_map (λ (x : ℕ × LeapStep). x.1) o)
-    (at_passed h.passed h.left stretch.begin n h.before low)
+    (at_passed h.passed h.left span.begin n h.before low)
 
-pub none_behind : (s : Trace) (stretch : Stretch) (n : ℕ) → IsStretch s.steps (length s.samples) stretch
-    → stretch.begin < n → n < stretch.end → step_behind s n ≡ None
-none_behind s stretch n h low high =
-    behind_parts s stretch n h low ∙ at_prefix h.left (length s.samples) n (omega (arith, high, h.end_is))
-    stretch.begin h.behind
+pub none_behind : (s : Trace) (span : Span) (n : ℕ) → IsSpan s.steps (length s.samples) span
+    → span.begin < n → n < span.end → step_behind s n ≡ None
+none_behind s span n h low high =
+    behind_parts s span n h low ∙ at_prefix h.left (length s.samples) n (omega (arith, high, h.end_is))
+    span.begin h.behind
 
-pub one_behind : (s : Trace) (stretch : Stretch) (n : ℕ) → (h : IsStretch s.steps (length s.samples) stretch)
-    → stretch.begin < n → n ≡ stretch.end → step_behind s n ≡ kind_by h.left
-one_behind s stretch n h low e =
-    behind_parts s stretch n h low ∙ at_end h.left (length s.samples) n (e ∙ h.end_is)
+pub one_behind : (s : Trace) (span : Span) (n : ℕ) → (h : IsSpan s.steps (length s.samples) span)
+    → span.begin < n → n ≡ span.end → step_behind s n ≡ kind_by h.left
+one_behind s span n h low e =
+    behind_parts s span n h low ∙ at_end h.left (length s.samples) n (e ∙ h.end_is)
 
 -- all are before a later sample, too, and one more
 before_more : (xs : List (ℕ × LeapStep)) (x : ℕ × LeapStep) (a : ℕ) → AllByRecursion (λ (y : ℕ × LeapStep). y.0 ≤ a) xs
@@ -164,31 +164,31 @@ step_bound None = omega arith
 step_bound (Some Plus) = omega arith
 step_bound (Some Minus) = omega arith
 
--- the next stretch, by the leap second at this one's end
-next_from : (steps passed left : List (ℕ × LeapStep)) (size : ℕ) (stretch next : Stretch) (d : ℕ × LeapStep)
-    → steps ≡ passed ++ left → length passed ≡ stretch.passed
-    → AllByRecursion (λ (x : ℕ × LeapStep). x.0 ≤ stretch.begin) passed → AreStepsFrom stretch.begin size left
-    → stretch.end ≡ end_by left size → stretch.added ≡ added_before passed stretch.begin
-    → nat_abs stretch.added ≤ 10 ^ 6 * stretch.passed → stretch.end < size
-    → next.passed ≡ stretch.passed + 1 → next.begin ≡ stretch.end
-    → next.added ≡ stretch.added +ℤ step_of (Some (get_or steps stretch.passed d).1)
+-- the next span, by the leap second at this one's end
+next_from : (steps passed left : List (ℕ × LeapStep)) (size : ℕ) (span next : Span) (d : ℕ × LeapStep)
+    → steps ≡ passed ++ left → length passed ≡ span.passed
+    → AllByRecursion (λ (x : ℕ × LeapStep). x.0 ≤ span.begin) passed → AreStepsFrom span.begin size left
+    → span.end ≡ end_by left size → span.added ≡ added_before passed span.begin
+    → nat_abs span.added ≤ 10 ^ 6 * span.passed → span.end < size
+    → next.passed ≡ span.passed + 1 → next.begin ≡ span.end
+    → next.added ≡ span.added +ℤ step_of (Some (get_or steps span.passed d).1)
     → next.end ≡ end_by (drop next.passed steps) size
-    → IsStretch steps size next
-next_from steps passed [] size stretch next d parts count before behind end_is added_is bound more p b a e =
+    → IsSpan steps size next
+next_from steps passed [] size span next d parts count before behind end_is added_is bound more p b a e =
     absurd (omega (arith, end_is, more))
-next_from steps passed (x ∷ left) size stretch next d parts count before behind end_is added_is bound more p b a e =
-    let here : get_or steps stretch.passed d ≡ x =
-    ap (λ (xs : List (ℕ × LeapStep)). get_or xs stretch.passed d) parts
+next_from steps passed (x ∷ left) size span next d parts count before behind end_is added_is bound more p b a e =
+    let here : get_or steps span.passed d ≡ x =
+    ap (λ (xs : List (ℕ × LeapStep)). get_or xs span.passed d) parts
     ∙ ap (λ (n : ℕ). get_or (passed ++ x ∷ left) n d) (sym count) ∙ get_or-append_seam passed x left d in
     let begin_is : next.begin ≡ x.0 = b ∙ end_is in
     let later : drop next.passed steps ≡ left =
     ap (λ (n : ℕ). drop n steps) (p ∙ ap (λ (n : ℕ). n + 1) (sym count))
     ∙ ap (λ (xs : List (ℕ × LeapStep)). drop (length passed + 1) xs) parts ∙ drop-append-add passed (x ∷ left) 1 in
-    let moved : next.added ≡ stretch.added +ℤ step_of (Some x.1) =
-    a ∙ ap (λ (y : ℕ × LeapStep). stretch.added +ℤ step_of (Some y.1)) here in
-    let low : stretch.begin ≤ x.0 = omega (arith, behind.0) in
-    let all : added_before passed x.0 ≡ added_before passed stretch.begin =
-    added_all passed stretch.begin x.0 before low in
+    let moved : next.added ≡ span.added +ℤ step_of (Some x.1) =
+    a ∙ ap (λ (y : ℕ × LeapStep). span.added +ℤ step_of (Some y.1)) here in
+    let low : span.begin ≤ x.0 = omega (arith, behind.0) in
+    let all : added_before passed x.0 ≡ added_before passed span.begin =
+    added_all passed span.begin x.0 before low in
     let one : added_before (x ∷ []) x.0 ≡ step_of (Some x.1) = let yes : leb x.0 x.0 ≡ true =
     le_true x.0 x.0 (omega arith) in rw yes (omega (arith, ints)) in
     let sum : added_before (passed ++ x ∷ []) x.0 ≡ added_before passed x.0 +ℤ added_before (x ∷ []) x.0 =
@@ -198,40 +198,40 @@ next_from steps passed (x ∷ left) size stretch next d parts count before behin
       left = left;
       parts = parts ∙ sym (append_assoc passed (x ∷ []) left);
       count = length-append passed (x ∷ []) ∙ ap (λ (n : ℕ). n + 1) count ∙ sym p;
-      before = rw begin_is (before_more passed x stretch.begin before low);
+      before = rw begin_is (before_more passed x span.begin before low);
       behind = rw begin_is behind.2;
       end_is = e ∙ ap (λ (xs : List (ℕ × LeapStep)). end_by xs size) later;
       added_is = rw begin_is (omega (arith, ints, moved, all, one, sum, added_is));
       added_bound = let small = step_bound (Some x.1) in omega (arith, ints, moved, bound, p, small);
     }
 
-pub next_is : (steps : List (ℕ × LeapStep)) (size : ℕ) (stretch next : Stretch) (d : ℕ × LeapStep)
-    → IsStretch steps size stretch → stretch.end < size
-    → next.passed ≡ stretch.passed + 1 → next.begin ≡ stretch.end
-    → next.added ≡ stretch.added +ℤ step_of (Some (get_or steps stretch.passed d).1)
+pub next_is : (steps : List (ℕ × LeapStep)) (size : ℕ) (span next : Span) (d : ℕ × LeapStep)
+    → IsSpan steps size span → span.end < size
+    → next.passed ≡ span.passed + 1 → next.begin ≡ span.end
+    → next.added ≡ span.added +ℤ step_of (Some (get_or steps span.passed d).1)
     → next.end ≡ end_by (drop next.passed steps) size
-    → IsStretch steps size next
-next_is steps size stretch next d h more p b a e =
-    next_from steps h.passed h.left size stretch next d h.parts h.count h.before h.behind h.end_is h.added_is
+    → IsSpan steps size next
+next_is steps size span next d h more p b a e =
+    next_from steps h.passed h.left size span next d h.parts h.count h.before h.behind h.end_is h.added_is
     h.added_bound more p b a e
 
--- a leap second stands at the end of each stretch before the last
-passed_inside : (passed left : List (ℕ × LeapStep)) (size : ℕ) (stretch : Stretch) → length passed ≡ stretch.passed
-    → stretch.end ≡ end_by left size → stretch.end < size → stretch.passed < length (passed ++ left)
-passed_inside passed [] size stretch count e more = absurd (omega (arith, e, more))
-passed_inside passed (x ∷ left) size stretch count e more = omega (arith, count, length-append passed (x ∷ left))
+-- a leap second stands at the end of each span before the last
+passed_inside : (passed left : List (ℕ × LeapStep)) (size : ℕ) (span : Span) → length passed ≡ span.passed
+    → span.end ≡ end_by left size → span.end < size → span.passed < length (passed ++ left)
+passed_inside passed [] size span count e more = absurd (omega (arith, e, more))
+passed_inside passed (x ∷ left) size span count e more = omega (arith, count, length-append passed (x ∷ left))
 
-pub some_left : (steps : List (ℕ × LeapStep)) (size : ℕ) (stretch : Stretch) → IsStretch steps size stretch
-    → stretch.end < size → stretch.passed < length steps
-some_left steps size stretch h more =
-    let inside = passed_inside h.passed h.left size stretch h.count h.end_is more in
+pub some_left : (steps : List (ℕ × LeapStep)) (size : ℕ) (span : Span) → IsSpan steps size span
+    → span.end < size → span.passed < length steps
+some_left steps size span h more =
+    let inside = passed_inside h.passed h.left size span h.count h.end_is more in
     let long : length steps ≡ length (h.passed ++ h.left) = ap (λ (xs : List (ℕ × LeapStep)). length xs) h.parts in
     omega (arith, inside, long)
 
--- a stretch has some samples, and ends within all
-pub end_inside : (steps : List (ℕ × LeapStep)) (size : ℕ) (stretch : Stretch) → IsStretch steps size stretch
-    → stretch.begin < size → (stretch.begin < stretch.end) × (stretch.end ≤ size)
-end_inside steps size stretch h l = ended h.left size stretch.begin stretch.end h.behind h.end_is l
+-- a span has some samples, and ends within all
+pub end_inside : (steps : List (ℕ × LeapStep)) (size : ℕ) (span : Span) → IsSpan steps size span
+    → span.begin < size → (span.begin < span.end) × (span.end ≤ size)
+end_inside steps size span h l = ended h.left size span.begin span.end h.behind h.end_is l
   where
     ended : (left : List (ℕ × LeapStep)) (size begin end : ℕ) → AreStepsFrom begin size left → end ≡ end_by left size
         → begin < size → (begin < end) × (end ≤ size)
@@ -248,25 +248,25 @@ kind_of passed (x ∷ left) d = (
   λ h. absurd (omega (arith, h, length-append passed (x ∷ left))),
 )
 
-pub kind_some : (steps : List (ℕ × LeapStep)) (size : ℕ) (stretch : Stretch) (d : ℕ × LeapStep)
-    → (h : IsStretch steps size stretch) → stretch.passed < length steps
-    → kind_by h.left ≡ Some (get_or steps stretch.passed d).1
-kind_some steps size stretch d h l =
+pub kind_some : (steps : List (ℕ × LeapStep)) (size : ℕ) (span : Span) (d : ℕ × LeapStep)
+    → (h : IsSpan steps size span) → span.passed < length steps
+    → kind_by h.left ≡ Some (get_or steps span.passed d).1
+kind_some steps size span d h l =
     let same : length steps ≡ length (h.passed ++ h.left) = ap (λ (xs : List (ℕ × LeapStep)). length xs) h.parts in
     (kind_of h.passed h.left d).0 (omega (arith, l, same, h.count))
     ∙ ap (λ (n : ℕ). Some (get_or (h.passed ++ h.left) n d).1) h.count
-    ∙ ap (λ (xs : List (ℕ × LeapStep)). Some (get_or xs stretch.passed d).1) (sym h.parts)
+    ∙ ap (λ (xs : List (ℕ × LeapStep)). Some (get_or xs span.passed d).1) (sym h.parts)
 
-pub kind_none : (steps : List (ℕ × LeapStep)) (size : ℕ) (stretch : Stretch) → (h : IsStretch steps size stretch)
-    → length steps ≤ stretch.passed → kind_by h.left ≡ None
-kind_none steps size stretch h l =
+pub kind_none : (steps : List (ℕ × LeapStep)) (size : ℕ) (span : Span) → (h : IsSpan steps size span)
+    → length steps ≤ span.passed → kind_by h.left ≡ None
+kind_none steps size span h l =
     let same : length steps ≡ length (h.passed ++ h.left) = ap (λ (xs : List (ℕ × LeapStep)). length xs) h.parts in
     (kind_of h.passed h.left (0, Plus)).1 (omega (arith, l, same, h.count))
 
--- a stretch ends within all
-pub end_most : (steps : List (ℕ × LeapStep)) (size : ℕ) (stretch : Stretch) → IsStretch steps size stretch
-    → stretch.end ≤ size
-end_most steps size stretch h = most h.left size stretch.begin stretch.end h.behind h.end_is
+-- a span ends within all
+pub end_most : (steps : List (ℕ × LeapStep)) (size : ℕ) (span : Span) → IsSpan steps size span
+    → span.end ≤ size
+end_most steps size span h = most h.left size span.begin span.end h.behind h.end_is
   where
     most : (left : List (ℕ × LeapStep)) (size begin end : ℕ) → AreStepsFrom begin size left → end ≡ end_by left size
         → end ≤ size

@@ -41,7 +41,7 @@ use Rattle.mseed_pack.specs.Clock.{instant_at}
 use Rattle.mseed_pack.specs.Fitting.{IsSampleOf, Fits}
 use Rattle.mseed_pack.specs.Outcome.{IsTrace}
 use Rattle.mseed_pack.specs.Packing.{Piece, HoldsFrames, HoldsSamples, IsPacked}
-use Rattle.mseed_pack.specs.Stretches.{differences, stretch_end, left_of, flags_of, step_behind}
+use Rattle.mseed_pack.specs.Stretches.{differences, span_end, left_of, flags_of, step_behind}
 use Rattle.mseed_pack.proofs.Counted.{few_words, run_seven}
 use Rattle.mseed_pack.proofs.Spellings.{begins, length-all}
 use Rattle.mseed_pack.proofs.Leaps.{end_in}
@@ -201,8 +201,8 @@ first_take (suc n) (y ∷ ys) x e = e
 
 -- no sample stands behind the next leap second
 pub short : (s : Trace) (p : Piece) → length p.samples ≤ length (left_of s p.first)
-    → length p.samples ≤ stretch_end s p.first - p.first
-short s p h = omega (arith, h, length-take (stretch_end s p.first - p.first) (drop p.first (differences s.samples)))
+    → length p.samples ≤ span_end s p.first - p.first
+short s p h = omega (arith, h, length-take (span_end s p.first - p.first) (drop p.first (differences s.samples)))
 
 -- the record's own samples and differences
 slice_of : (s : Trace) (o : Options) (p : Piece) → Fits s o
@@ -211,7 +211,7 @@ slice_of : (s : Trace) (o : Options) (p : Piece) → Fits s o
 slice_of s o p fits here k =
     let n = length p.samples in
     let left : take n (left_of s p.first) ≡ take n (drop p.first (differences s.samples)) =
-    take-take n (stretch_end s p.first - p.first) (drop p.first (differences s.samples)) (short s p k.within) in
+    take-take n (span_end s p.first - p.first) (drop p.first (differences s.samples)) (short s p k.within) in
     record {
       some = k.some;
       within = k.within;

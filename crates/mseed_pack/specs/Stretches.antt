@@ -16,14 +16,14 @@ differences [] = []
 differences (x ∷ xs) = pos 0 ∷ differences_from x xs
 
 -- how many samples stand before the next leap second, where so many have been packed; all, where there's none left
-abbrev pub stretch_end : Trace → ℕ → ℕ
-stretch_end s first =
+abbrev pub span_end : Trace → ℕ → ℕ
+span_end s first =
     unwrap_or (option_map (λ (step : ℕ × LeapStep). step.0)
     (find (λ (step : ℕ × LeapStep). nat_lt first step.0) s.steps)) (length s.samples)
 
 -- the differences up to there
 abbrev pub left_of : Trace → ℕ → List ℤ
-left_of s first = slice_range (differences s.samples) first (stretch_end s first)
+left_of s first = slice_range (differences s.samples) first (span_end s first)
 
 -- the activity flags of a record by the leap second at its end: bit 4 for one that was inserted, bit 5 for one that
 -- was left out (SEED manual, chapter 8, field 12 of the fixed section)

@@ -1,18 +1,18 @@
 //! Records that are gathered, to be written at once.
 ghost use Rattle.std.specs.Prelude.{◌≡◌, ◌^◌, ◌<◌, ◌≤◌, ℤ, List, length, take, drop};
 ghost use Rattle.mseed_audit.specs.Series.{AreSteps};
-ghost use Rattle.mseed_pack.specs.private.Standing.{CanGoOn, ComesTo, StandsAt, IsStretch};
+ghost use Rattle.mseed_pack.specs.private.Standing.{CanGoOn, ComesTo, StandsAt, IsSpan};
 
 use crate::options::Options;
 use crate::payload::Filler;
 use crate::record::{length_of, write_record};
 use crate::series_head::SeriesHead;
-use crate::stretch::{Stretch, first_stretch, next_stretch};
+use crate::span::{Span, first_span, next_span};
 
-/// How far a packing has come: so many records hold so many samples. The next one stands in the stretch, or behind it.
+/// How far a packing has come: so many records hold so many samples. The next one stands in the span, or behind it.
 #[derive(Clone, Copy)]
 pub(crate) struct Place {
-    pub(crate) stretch: Stretch,
+    pub(crate) span: Span,
     pub(crate) number: u64,
     pub(crate) first: usize,
 }
@@ -39,7 +39,7 @@ pub(crate) fn first_place(head: &SeriesHead) -> Place
     ensures first { result.first ≡ 0 }
 {
     Place {
-        stretch: first_stretch(head.steps, head.count),
+        span: first_span(head.steps, head.count),
         number: 0,
         first: 0,
     }
@@ -92,30 +92,30 @@ fn put_record<S, F: Filler<S>>(
     ensures some { place.first < result.first }
     ensures beside { F.beside supply.new ≡ F.beside supply.old }
 {
-    let stretch = stretch_at(job.head, place.stretch, place.first);
-    let place = Place { stretch, ..place };
+    let span = span_at(job.head, place.span, place.first);
+    let place = Place { span, ..place };
     let count = write_record(job, place, filler, supply, out);
     Place {
-        stretch,
+        span,
         number: place.number + 1,
         first: place.first + count,
     }
 }
 
-/// The stretch in which a sample stands: this one, or where it stands at this one's end, the next.
-fn stretch_at(head: &SeriesHead, stretch: Stretch, first: usize) -> Stretch
-    requires standing { IsStretch head.now.steps.now head.now.count stretch }
-    requires begun { stretch.begin ≤ first }
-    requires inside { first ≤ stretch.end }
+/// The span in which a sample stands: this one, or where it stands at this one's end, the next.
+fn span_at(head: &SeriesHead, span: Span, first: usize) -> Span
+    requires standing { IsSpan head.now.steps.now head.now.count span }
+    requires begun { span.begin ≤ first }
+    requires inside { first ≤ span.end }
     requires more { first < head.now.count }
-    ensures standing { IsStretch head.now.steps.now head.now.count result }
+    ensures standing { IsSpan head.now.steps.now head.now.count result }
     ensures begun { result.begin ≤ first }
     ensures inside { first < result.end }
     ensures most { result.end ≤ head.now.count }
 {
-    if first == stretch.end {
-        next_stretch(head.steps, head.count, stretch)
+    if first == span.end {
+        next_span(head.steps, head.count, span)
     } else {
-        stretch
+        span
     }
 }

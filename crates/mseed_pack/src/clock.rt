@@ -5,35 +5,30 @@ ghost use Rattle.mseed_time.specs.Parts.{parts_of};
 ghost use Rattle.mseed_time.specs.Ratios.{ratio_of};
 ghost use Rattle.mseed_pack.specs.Clock.{periods};
 
-use crate::stretch::Stretch;
+use crate::span::Span;
 use mseed_time::{Btime, Micros, Rate};
 
 /// Microseconds in a second.
 const SECOND: u128 = 1_000_000;
 
-/// The time that is written for the sample at an index of a stretch: a BTIME, and the microseconds of blockette 1001.
-pub(crate) fn time_at(
-    start: Micros,
-    rate: Rate,
-    stretch: Stretch,
-    index: usize,
-) -> Option<(Btime, i8)>
-    requires { nat_abs stretch.added ≤ 10 ^ 6 * 2 ^ 64 }
-    ensures none { (result ≡ None) ↔ IsOutside (start +ℤ pos (periods (ratio_of rate) index) -ℤ stretch.added) }
-    ensures names { IfSome result (λ time. Names (start +ℤ pos (periods (ratio_of rate) index) -ℤ stretch.added)
+/// The time that is written for the sample at an index of a span: a BTIME, and the microseconds of blockette 1001.
+pub(crate) fn time_at(start: Micros, rate: Rate, span: Span, index: usize) -> Option<(Btime, i8)>
+    requires { nat_abs span.added ≤ 10 ^ 6 * 2 ^ 64 }
+    ensures none { (result ≡ None) ↔ IsOutside (start +ℤ pos (periods (ratio_of rate) index) -ℤ span.added) }
+    ensures names { IfSome result (λ time. Names (start +ℤ pos (periods (ratio_of rate) index) -ℤ span.added)
         (parts_of time.0) time.1) }
 {
-    let instant = instant_at(start, rate, stretch, index);
+    let instant = instant_at(start, rate, span, index);
     time_of(instant)
 }
 
 /// The instant of that sample.
-fn instant_at(start: Micros, rate: Rate, stretch: Stretch, index: usize) -> i128
-    requires { nat_abs stretch.added ≤ 10 ^ 6 * 2 ^ 64 }
-    ensures { result ≡ start +ℤ pos (periods (ratio_of rate) index) -ℤ stretch.added }
+fn instant_at(start: Micros, rate: Rate, span: Span, index: usize) -> i128
+    requires { nat_abs span.added ≤ 10 ^ 6 * 2 ^ 64 }
+    ensures { result ≡ start +ℤ pos (periods (ratio_of rate) index) -ℤ span.added }
 {
     let elapsed = elapsed_at(rate, index);
-    i128::from(start.get()) + elapsed as i128 - stretch.added
+    i128::from(start.get()) + elapsed as i128 - span.added
 }
 
 /// The whole microseconds in so many sample periods.

@@ -20,7 +20,7 @@ use crate::fault::PackFault;
 use crate::options::{Encoding, Options};
 use crate::series_head::SeriesHead;
 use crate::series_view::SeriesView;
-use crate::stretch::{Stretch, first_stretch, next_stretch};
+use crate::span::{Span, first_span, next_span};
 use mseed_audit::Series;
 use mseed_time::{LeapStep, Micros, Rate};
 use std::alloc::Allocator;
@@ -173,31 +173,31 @@ fn has_time_outside(start: Micros, rate: Rate, steps: &[(u64, LeapStep)], size: 
     ensures { IsTrue result
         ↔ ((i : ℕ) × ((i < size) × IsOutside (reading_at start (ratio_of rate) steps.now i))) }
 {
-    let mut stretch = first_stretch(steps, size);
-    while stretch.begin < size {
-        let early = is_outside_at(start, rate, stretch, stretch.begin);
+    let mut span = first_span(steps, size);
+    while span.begin < size {
+        let early = is_outside_at(start, rate, span, span.begin);
         if early {
             return true;
         }
-        let late = is_outside_at(start, rate, stretch, stretch.end - 1);
+        let late = is_outside_at(start, rate, span, span.end - 1);
         if late {
             return true;
         }
-        if stretch.end == size {
+        if span.end == size {
             return false;
         }
-        stretch = next_stretch(steps, size, stretch);
+        span = next_span(steps, size, span);
     }
     false
 }
 
-/// Whether the instant of the sample at an index of a stretch can't be written.
-fn is_outside_at(start: Micros, rate: Rate, stretch: Stretch, index: usize) -> bool
-    requires { nat_abs stretch.added ≤ 10 ^ 6 * 2 ^ 64 }
+/// Whether the instant of the sample at an index of a span can't be written.
+fn is_outside_at(start: Micros, rate: Rate, span: Span, index: usize) -> bool
+    requires { nat_abs span.added ≤ 10 ^ 6 * 2 ^ 64 }
     ensures { IsTrue result
-        ↔ IsOutside (start +ℤ pos (periods (ratio_of rate) index) -ℤ stretch.added) }
+        ↔ IsOutside (start +ℤ pos (periods (ratio_of rate) index) -ℤ span.added) }
 {
-    match time_at(start, rate, stretch, index) {
+    match time_at(start, rate, span, index) {
         Some(_) => false,
         None => true,
     }

@@ -19,7 +19,7 @@ mod payloads;
 mod record;
 mod series_head;
 mod series_view;
-mod stretch;
+mod span;
 mod supply;
 mod window;
 

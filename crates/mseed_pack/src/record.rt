@@ -4,7 +4,7 @@ ghost use Rattle.mseed_record.specs.Fields.{header_of};
 ghost use Rattle.mseed_pack.specs.Fitting.{HasTimeOutside};
 ghost use Rattle.mseed_pack.specs.Packing.{IsHeaderOf};
 ghost use Rattle.mseed_pack.specs.Traces.{headed};
-ghost use Rattle.mseed_pack.specs.private.Standing.{CanGoOn, IsRecorded, IsStretch};
+ghost use Rattle.mseed_pack.specs.private.Standing.{CanGoOn, IsRecorded, IsSpan};
 ghost use Rattle.mseed_pack.specs.Stretches.{flags_of, step_behind};
 
 use crate::batch::{Job, Place};
@@ -12,7 +12,7 @@ use crate::clock::time_at;
 use crate::options::Options;
 use crate::payload::{Filled, Filler, Left};
 use crate::series_head::SeriesHead;
-use crate::stretch::Stretch;
+use crate::span::Span;
 use mseed_record::{Fields, write_header};
 use mseed_time::LeapStep;
 
@@ -32,21 +32,21 @@ pub(crate) fn length_of(options: &Options) -> usize
     1 << options.exponent
 }
 
-/// The activity flags of a record of a stretch, which ends behind so many samples: the leap second at its end.
-fn flags_at(head: &SeriesHead, stretch: Stretch, end: usize) -> u8
-    requires standing { IsStretch head.now.steps.now head.now.count stretch }
-    requires begin { stretch.begin < end }
-    requires within { end ≤ stretch.end }
+/// The activity flags of a record of a span, which ends behind so many samples: the leap second at its end.
+fn flags_at(head: &SeriesHead, span: Span, end: usize) -> u8
+    requires standing { IsSpan head.now.steps.now head.now.count span }
+    requires begin { span.begin < end }
+    requires within { end ≤ span.end }
     ensures { (samples : List ℤ) → length samples ≡ head.now.count
         → result ≡ flags_of (step_behind (headed head.now samples) end) }
 {
-    if end < stretch.end {
+    if end < span.end {
         return 0;
     }
-    if stretch.passed >= head.steps.len() {
+    if span.passed >= head.steps.len() {
         return 0;
     }
-    match head.steps[stretch.passed].1 {
+    match head.steps[span.passed].1 {
         LeapStep::Plus => 16,
         LeapStep::Minus => 32,
     }
@@ -56,10 +56,10 @@ fn flags_at(head: &SeriesHead, stretch: Stretch, end: usize) -> u8
 fn fields_at(job: &Job, place: Place, filled: Filled) -> Option<Fields>
     requires timed { (samples : List ℤ) × ((length samples ≡ job.now.head.now.count)
         × ¬ (HasTimeOutside (headed job.now.head.now samples))) }
-    requires standing { IsStretch job.now.head.now.steps.now job.now.head.now.count place.stretch }
-    requires begin { place.stretch.begin ≤ place.first }
+    requires standing { IsSpan job.now.head.now.steps.now job.now.head.now.count place.span }
+    requires begin { place.span.begin ≤ place.first }
     requires some { 0 < filled.samples }
-    requires within { place.first + filled.samples ≤ place.stretch.end }
+    requires within { place.first + filled.samples ≤ place.span.end }
     requires few { filled.samples < 2 ^ 16 }
     ensures some { IsSome result }
     ensures fields { IfSome result (λ fields. (all samples : List ℤ) (bytes : List ℕ)
@@ -70,12 +70,12 @@ fn fields_at(job: &Job, place: Place, filled: Filled) -> Option<Fields>
 {
     let head = job.head;
     let options = job.options;
-    let Some((start, usec)) = time_at(head.start, head.rate, place.stretch, place.first) else {
+    let Some((start, usec)) = time_at(head.start, head.rate, place.span, place.first) else {
         return None;
     };
     // Sequence numbers have six digits.
     let sequence = (u64::from(options.first_sequence) + place.number % NUMBERS) % NUMBERS;
-    let activity = flags_at(head, place.stretch, place.first + filled.samples);
+    let activity = flags_at(head, place.span, place.first + filled.samples);
     Some(Fields {
         sequence: sequence as u32,
         codes: head.codes,
@@ -99,7 +99,7 @@ pub(crate) fn write_record<S, F: Filler<S>>(
     out: &mut [u8],
 ) -> usize
     requires on { (samples : List ℤ) × CanGoOn F.stands job.now filler.old supply.old place samples }
-    requires end { place.first < place.stretch.end }
+    requires end { place.first < place.span.end }
     requires size { length out.old ≡ 2 ^ job.now.options.now.exponent }
     requires long { 128 ≤ length out.old }
     requires short { length out.old ≤ 4096 }
@@ -107,12 +107,12 @@ pub(crate) fn write_record<S, F: Filler<S>>(
     ensures recorded { (samples : List ℤ) → CanGoOn F.stands job.now filler.old supply.old place samples
         → IsRecorded F.stands job.now filler.new supply.new place result out.new samples }
     ensures some { 0 < result }
-    ensures within { place.first + result ≤ place.stretch.end }
+    ensures within { place.first + result ≤ place.span.end }
     ensures beside { F.beside supply.new ≡ F.beside supply.old }
 {
     let left = Left {
         first: place.first,
-        end: place.stretch.end,
+        end: place.span.end,
     };
     let filled = filler.fill(job.options.encoding, left, supply, &mut out[HEADER..]);
     let fields = match fields_at(job, place, filled) {

@@ -10,7 +10,7 @@ use Rattle.mseed_pack.specs.declared.batch.Place.{Place}
 use Rattle.mseed_pack.specs.declared.options.Encoding.{Encoding}
 use Rattle.mseed_pack.specs.declared.listed.Listed.{Listed}
 use Rattle.mseed_pack.specs.declared.payloads.Payloads.{Payloads}
-use Rattle.mseed_pack.specs.declared.stretch.Stretch.{Stretch}
+use Rattle.mseed_pack.specs.declared.span.Span.{Span}
 use Rattle.mseed_pack.specs.Clock.{added_before}
 use Rattle.mseed_pack.specs.Fitting.{Fits}
 use Rattle.mseed_pack.specs.Outcome.{PacksOn}
@@ -23,23 +23,23 @@ abbrev pub end_by : List (ℕ × LeapStep) → ℕ → ℕ
 end_by [] size = size
 end_by (step ∷ steps) size = step.0
 
--- the stretch lies between the leap seconds that were passed and those that are left
-pub record IsStretch (steps : List (ℕ × LeapStep)) (size : ℕ) (stretch : Stretch) : Type 0 where
+-- the span lies between the leap seconds that were passed and those that are left
+pub record IsSpan (steps : List (ℕ × LeapStep)) (size : ℕ) (span : Span) : Type 0 where
   pub passed : List (ℕ × LeapStep)
   pub left : List (ℕ × LeapStep)
   pub parts : steps ≡ passed ++ left
-  pub count : length passed ≡ stretch.passed
-  pub before : AllByRecursion (λ (step : ℕ × LeapStep). step.0 ≤ stretch.begin) passed
-  pub behind : AreStepsFrom stretch.begin size left
-  pub end_is : stretch.end ≡ end_by left size
-  pub added_is : stretch.added ≡ added_before passed stretch.begin
-  pub added_bound : nat_abs stretch.added ≤ 10 ^ 6 * stretch.passed
+  pub count : length passed ≡ span.passed
+  pub before : AllByRecursion (λ (step : ℕ × LeapStep). step.0 ≤ span.begin) passed
+  pub behind : AreStepsFrom span.begin size left
+  pub end_is : span.end ≡ end_by left size
+  pub added_is : span.added ≡ added_before passed span.begin
+  pub added_bound : nat_abs span.added ≤ 10 ^ 6 * span.passed
 
--- the stretch of a place is the one in which its sample stands, or the one before it where that begins there
+-- the span of a place is the one in which its sample stands, or the one before it where that begins there
 pub record StandsAt (steps : List (ℕ × LeapStep)) (size : ℕ) (place : Place) : Type 0 where
-  pub stretch : IsStretch steps size place.stretch
-  pub begun : place.stretch.begin ≤ place.first
-  pub ends : place.first ≤ place.stretch.end
+  pub span : IsSpan steps size place.span
+  pub begun : place.span.begin ≤ place.first
+  pub ends : place.first ≤ place.span.end
   pub inside : place.first ≤ size
   pub counted : place.number ≤ place.first
 

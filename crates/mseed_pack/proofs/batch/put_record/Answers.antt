@@ -26,14 +26,14 @@ pub returns-clause-to : goal.returns-clause-to
 returns-clause-to g c = λ xs on.
     let n = c.write_record-count.result in
     let all = on.count in
-    let at = c.stretch_at-stretch in
+    let at = c.span_at-span in
     let inside = at.ensures.inside in
     let standing = on.standing in
     let one = c.write_record-count.ensures.recorded xs (record {
       count = on.count;
       fits = on.fits;
       standing = record {
-        stretch = at.ensures.standing;
+        span = at.ensures.standing;
         begun = at.ensures.begun;
         ends = omega (arith, inside);
         inside = standing.inside;
@@ -44,7 +44,7 @@ returns-clause-to g c = λ xs on.
     }) in
     record {
       on = on_one (headed c.args.job.now.head.now xs) c.args.job.now.options.now c.args.place (record {
-        stretch = at.result;
+        span = at.result;
         number = c.args.place.number + 1;
         first = c.args.place.first + n;
       }) n c.write_record-count.new.out refl refl

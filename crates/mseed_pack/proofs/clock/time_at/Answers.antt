@@ -10,7 +10,7 @@ use Rattle.mseed_pack.proofs.clock.time_at.Goals as goal
 
 same : (c : goal.After-time_of)
     → to_z w128 (of_z w128 c.instant_at-instant.result) ≡ c.args.start +ℤ pos
-    (periods (ratio_of c.args.rate) c.args.index) -ℤ c.args.stretch.added
+    (periods (ratio_of c.args.rate) c.args.index) -ℤ c.args.span.added
 same c = to_z-of_z w128 c.instant_at-instant.result (search rules) ∙ c.instant_at-instant.ensures
 
 pub returns-clause-none : goal.returns-clause-none

@@ -15,9 +15,9 @@ returns-in_default-clause-some c =
     let h = c.args.job.now.head.now in
     let place = c.args.place in
     let timed = c.requires.timed in
-    let most = end_most h.steps.now h.count place.stretch c.requires.standing in
-    let before : place.first < place.stretch.end = omega (arith, c.requires.some, c.requires.within) in
-    let out = subst (λ (t : ℤ). IsOutside t) (reading_in h.start (ratio_of h.rate) h.steps.now h.count place.stretch
+    let most = end_most h.steps.now h.count place.span c.requires.standing in
+    let before : place.first < place.span.end = omega (arith, c.requires.some, c.requires.within) in
+    let out = subst (λ (t : ℤ). IsOutside t) (reading_in h.start (ratio_of h.rate) h.steps.now h.count place.span
     place.first c.requires.standing c.requires.begin before) (c.time_at.ensures.none.0 c.in_default.is) in
     absurd (timed.1.1 (place.first, (omega (arith, before, most, timed.1.0), out)))
 
@@ -29,8 +29,8 @@ pub returns-clause-fields : goal.returns-clause-fields
 returns-clause-fields c = λ xs samples bytes count e.
     let h = c.args.job.now.head.now in
     let place = c.args.place in
-    let before : place.first < place.stretch.end = omega (arith, c.requires.some, c.requires.within) in
-    let at = reading_in h.start (ratio_of h.rate) h.steps.now h.count place.stretch place.first c.requires.standing
+    let before : place.first < place.span.end = omega (arith, c.requires.some, c.requires.within) in
+    let at = reading_in h.start (ratio_of h.rate) h.steps.now h.count place.span place.first c.requires.standing
     c.requires.begin before in
     let usec : to_z w8 (of_z w8 c.in-Some.usec) ≡ c.in-Some.usec = to_z-of_z w8 _ (search rules) in
     record {

@@ -7,7 +7,7 @@ use Rattle.mseed_pack.specs.Traces.{headed}
 use Rattle.mseed_pack.specs.Stretches.{differences, left_of}
 use Rattle.mseed_pack.proofs.Differences.{length-differences}
 use Rattle.mseed_pack.proofs.Filled.{length_part}
-use Rattle.mseed_pack.proofs.Headed.{stretch_of}
+use Rattle.mseed_pack.proofs.Headed.{span_of}
 use Rattle.mseed_pack.proofs.Recorded.{header_first}
 use Rattle.mseed_pack.proofs.Steps.{end_at, end_most}
 use Rattle.mseed_pack.proofs.record.write_record.Goals as goal
@@ -17,7 +17,7 @@ fill-filled-requires-clause-left g c =
     let on = c.requires.on.1 in
     let h = c.args.job.now.head.now in
     let count = on.count in
-    let most = end_most h.steps.now h.count c.args.place.stretch on.standing.stretch in (
+    let most = end_most h.steps.now h.count c.args.place.span on.standing.span in (
       c.requires.on.0,
       (on.stands_there, record { some = c.requires.end; inside = omega (arith, most, count) }),
     )
@@ -27,11 +27,11 @@ returns-in-Ok-clause-recorded g c = λ xs on.
     let h = c.args.job.now.head.now in
     let o = c.args.job.now.options.now in
     let s = headed h xs in
-    let stretch = c.args.place.stretch in
+    let span = c.args.place.span in
     let first = c.args.place.first in
     let filled = c.fill-filled.result in
     let all = on.count in
-    let most = end_most h.steps.now h.count stretch on.standing.stretch in
+    let most = end_most h.steps.now h.count span on.standing.span in
     let within = c.fill-filled.ensures.taken.within in
     let done = c.fill-filled.ensures.filled xs on.stands_there
     (record { some = c.requires.end; inside = omega (arith, most, all) }) in
@@ -39,14 +39,14 @@ returns-in-Ok-clause-recorded g c = λ xs on.
     let few : first + filled.samples - first ≡ filled.samples = omega arith in
     let count : length mine ≡ filled.samples =
     length_part xs first (first + filled.samples) (omega arith) (omega (arith, within, most, all)) ∙ few in
-    let end = end_at s stretch first (stretch_of h xs stretch all on.standing.stretch) on.standing.begun
+    let end = end_at s span first (span_of h xs span all on.standing.span) on.standing.begun
     c.requires.end in
-    let left_is : left_of s first ≡ slice_range (differences xs) first stretch.end =
+    let left_is : left_of s first ≡ slice_range (differences xs) first span.end =
     ap (λ (n : ℕ). slice_range (differences xs) first n) end in
-    let left_long : length (slice_range (differences xs) first stretch.end) ≡ stretch.end - first =
-    length_part (differences xs) first stretch.end (omega (arith, c.requires.end))
+    let left_long : length (slice_range (differences xs) first span.end) ≡ span.end - first =
+    length_part (differences xs) first span.end (omega (arith, c.requires.end))
     (omega (arith, most, all, length-differences xs)) in
-    let left_size : length (left_of s first) ≡ stretch.end - first =
+    let left_size : length (left_of s first) ≡ span.end - first =
     ap (λ (l : List ℤ). length l) left_is ∙ left_long in
     let size : length c.write_header.new.out ≡ length c.args.out.now = search rules in
     let rest : length c.fill-filled.new.payload ≡ length c.args.out.now - 64 = search rules in

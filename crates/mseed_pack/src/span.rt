@@ -1,7 +1,7 @@
 //! The samples between leap seconds.
 ghost use Rattle.std.specs.Prelude.{◌≡◌, ◌<◌};
 ghost use Rattle.mseed_audit.specs.Series.{AreSteps};
-ghost use Rattle.mseed_pack.specs.private.Standing.{IsStretch};
+ghost use Rattle.mseed_pack.specs.private.Standing.{IsSpan};
 
 use mseed_time::LeapStep;
 
@@ -10,7 +10,7 @@ const SECOND: i128 = 1_000_000;
 
 /// Samples with no leap second among them.
 #[derive(Clone, Copy)]
-pub(crate) struct Stretch {
+pub(crate) struct Span {
     /// How many leap seconds are before it.
     pub(crate) passed: usize,
     /// The microseconds that they added.
@@ -22,12 +22,12 @@ pub(crate) struct Stretch {
 }
 
 /// The samples before the first leap second.
-pub(crate) fn first_stretch(steps: &[(u64, LeapStep)], size: usize) -> Stretch
+pub(crate) fn first_span(steps: &[(u64, LeapStep)], size: usize) -> Span
     requires { AreSteps size steps.now }
-    ensures stretch { IsStretch steps.now size result }
+    ensures span { IsSpan steps.now size result }
     ensures begin { result.begin ≡ 0 }
 {
-    Stretch {
+    Span {
         passed: 0,
         added: 0,
         begin: 0,
@@ -35,22 +35,22 @@ pub(crate) fn first_stretch(steps: &[(u64, LeapStep)], size: usize) -> Stretch
     }
 }
 
-/// The samples behind the leap second at the end of a stretch.
-pub(crate) fn next_stretch(steps: &[(u64, LeapStep)], size: usize, stretch: Stretch) -> Stretch
-    requires stretch { IsStretch steps.now size stretch }
-    requires more { stretch.end < size }
-    ensures stretch { IsStretch steps.now size result }
-    ensures begin { result.begin ≡ stretch.end }
+/// The samples behind the leap second at the end of a span.
+pub(crate) fn next_span(steps: &[(u64, LeapStep)], size: usize, span: Span) -> Span
+    requires span { IsSpan steps.now size span }
+    requires more { span.end < size }
+    ensures span { IsSpan steps.now size result }
+    ensures begin { result.begin ≡ span.end }
 {
-    let added = match steps[stretch.passed].1 {
-        LeapStep::Plus => stretch.added + SECOND,
-        LeapStep::Minus => stretch.added - SECOND,
+    let added = match steps[span.passed].1 {
+        LeapStep::Plus => span.added + SECOND,
+        LeapStep::Minus => span.added - SECOND,
     };
-    let passed = stretch.passed + 1;
-    Stretch {
+    let passed = span.passed + 1;
+    Span {
         passed,
         added,
-        begin: stretch.end,
+        begin: span.end,
         end: end_of(steps, passed, size),
     }
 }
@@ -58,7 +58,7 @@ pub(crate) fn next_stretch(steps: &[(u64, LeapStep)], size: usize, stretch: Stre
 ghost use Rattle.std.specs.Prelude.{drop};
 ghost use Rattle.mseed_pack.specs.private.Standing.{end_by};
 
-/// The end of the stretch before a leap second, or of the last one.
+/// The end of the span before a leap second, or of the last one.
 fn end_of(steps: &[(u64, LeapStep)], passed: usize, size: usize) -> usize
     ensures { result ≡ end_by (drop passed steps.now) size }
 {
