@@ -228,7 +228,7 @@ impl<A: Allocator + Copy> Audit<A> {
         ensures channels { self.new.channels ≡ self.old.channels }
         ensures number { self.new.added ≡ self.old.added + 1 }
     {
-        self.added += 1;
+        self.added += 1; // Its number is taken.
     }
 
     /// What the audit says of the records that were added: of each channel with samples its verdict, which says
