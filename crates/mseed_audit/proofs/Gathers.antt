@@ -13,9 +13,9 @@ use Rattle.mseed_audit.specs.declared.summary.SelectedSummary.{SelectedSummary}
 use Rattle.mseed_audit.specs.declared.each.EachFault.{EachFault}
 use Rattle.mseed_audit.specs.declared.each.EachFault.TheVariants.{Write, Memory}
 use Rattle.mseed_audit.specs.Audit.{Held}
-use Rattle.mseed_text.specs.Gathered.{AreGathered, EmittedFirst, EmittedPart}
-use Rattle.mseed_text.proofs.Gathered.{all_behind, first_behind, first_of, gathered_all, gathered_first, gathered_more}
-use Rattle.mseed_text.proofs.Gathered.{gathered_written, part_behind, part_of}
+use Rattle.mseed_stream.specs.Gathered.{AreGathered, EmittedFirst, EmittedPart}
+use Rattle.mseed_stream.proofs.Gathered.{all_behind, first_behind, first_of, gathered_all, gathered_first, gathered_more}
+use Rattle.mseed_stream.proofs.Gathered.{gathered_written, part_behind, part_of}
 use Rattle.mseed_audit.specs.Each.{AuditedEachIn, EndsInLinesIn, EndsShortIn, IsLinesFaultIn, each_text_in}
 use Rattle.mseed_audit.specs.private.Gathered.{AreTold, AreToldMore, HasEnded, HasTold, IsFinished, IsOneMore}
 use Rattle.mseed_audit.specs.private.Gathered.{IsPrefixWritten}

@@ -6,9 +6,9 @@ use Rattle.std.specs.Prelude.{Result}
 use Rattle.std.specs.Result.{IsErrAnd}
 use Rattle.mseed_stream.specs.Device.{BytesRead, BytesWritten, nothing_read}
 use Rattle.mseed_stream.specs.Fault.{IsStreamFault}
-use Rattle.mseed_text.specs.Gathered.{AreGathered, EmittedFirst, EmittedPart}
-use Rattle.mseed_text.proofs.Gathered.{all_behind, first_behind, gathered_first, gathered_more, gathered_written}
-use Rattle.mseed_text.proofs.Gathered.{part_behind, part_of}
+use Rattle.mseed_stream.specs.Gathered.{AreGathered, EmittedFirst, EmittedPart}
+use Rattle.mseed_stream.proofs.Gathered.{all_behind, first_behind, gathered_first, gathered_more, gathered_written}
+use Rattle.mseed_stream.proofs.Gathered.{part_behind, part_of}
 use Rattle.mseed_join.specs.declared.joining.Joined.{Joined as Answer}
 use Rattle.mseed_join.specs.declared.joining.JoinsFault.{JoinsFault}
 use Rattle.mseed_join.specs.declared.joining.JoinsFault.TheVariants.{Line, Count, Stream, Write, Memory}

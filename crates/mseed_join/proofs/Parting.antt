@@ -11,12 +11,12 @@ use Rattle.mseed_audit.specs.declared.channel.Channel.{Channel}
 use Rattle.mseed_audit.specs.declared.each.EachFault.TheVariants.{Write}
 use Rattle.mseed_audit.specs.Audit.{AreChannels, Held}
 use Rattle.mseed_audit.specs.Channels.{added_from}
-use Rattle.mseed_text.specs.Gathered.{AreGathered}
+use Rattle.mseed_stream.specs.Gathered.{AreGathered}
 use Rattle.mseed_audit.specs.Summary.{IsGathered, broken_count}
 use Rattle.mseed_audit.specs.Text.{reported_lines}
 use Rattle.mseed_audit.specs.Reported.{Reported, AreReportedOf}
 use Rattle.mseed_audit.specs.Verdict.{AreVerdicts}
-use Rattle.mseed_text.proofs.Gathered.{all_behind, part_behind}
+use Rattle.mseed_stream.proofs.Gathered.{all_behind, part_behind}
 use Rattle.mseed_audit.proofs.Outcomes.{added_length}
 use Rattle.mseed_audit.proofs.OneAudit.{HasOneInput}
 use Rattle.mseed_parts.specs.Parts.{Held as Part, IsPartOf, bytes_in}

@@ -7,7 +7,7 @@ use Rattle.mseed_audit.specs.declared.summary.AuditFault.TheVariants.{Write, Mem
 use Rattle.mseed_audit.specs.declared.each.EachFault.{EachFault}
 use Rattle.mseed_audit.specs.declared.each.EachFault.TheVariants.{Write as NotWritten, Memory as NoMemory}
 use Rattle.mseed_audit.specs.Channels.{added_from}
-use Rattle.mseed_text.specs.Gathered.{EmittedFirst, EmittedPart}
+use Rattle.mseed_stream.specs.Gathered.{EmittedFirst, EmittedPart}
 use Rattle.mseed_audit.specs.Each.{EndsInLines}
 use Rattle.mseed_audit.specs.Summary.{Audited, IsSummary}
 use Rattle.mseed_audit.specs.Text.{reported_lines}

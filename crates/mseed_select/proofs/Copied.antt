@@ -5,11 +5,12 @@ use Rattle.std.proofs.lemmas.List.{length-append}
 use Rattle.std.proofs.lemmas.List.Elements.{filter-append}
 use Rattle.std.proofs.lemmas.List.Folds.{concat-append}
 use Rattle.std.proofs.lemmas.List.Sums.{sum_by-append}
-use Rattle.std.proofs.Math.Seq.{take-append-add, take-append_seam, take-length}
+use Rattle.std.proofs.Math.Seq.{take-length}
 use Rattle.std.specs.List.{concat, count_by, filter}
 use Rattle.std.specs.Result.{IsErrAnd}
 use Rattle.mseed_record.specs.View.{View}
 use Rattle.mseed_stream.specs.Device.{BytesRead, BytesWritten}
+use Rattle.mseed_stream.proofs.Gathered.{all_written, first_of, part_of}
 use Rattle.mseed_stream.specs.Standing.{Standing}
 use Rattle.mseed_stream.specs.Walk.{AreViews, bytes_in}
 use Rattle.mseed_select.specs.Select.{EmittedFirst, EmittedPart, EndsShort, IsSelected, selected_bytes}
@@ -24,67 +25,6 @@ use Rattle.mseed_select.specs.declared.selected.Selected.{Selected}
 use Rattle.mseed_select.specs.private.Copying.{AreGathered, HasCopied, IsCopying, IsGatheredAlso, IsNext}
 use Rattle.mseed_select.specs.private.Copying.{IsPrefixWritten, bytes_by}
 use Rattle.mseed_select.specs.Counting.{counts_of, one_if}
-
--- nothing was taken
-pub gathered_all : (s : BytesWritten) (text : List ℕ) → AreGathered s s text text
-gathered_all s text = record { taken = []; bytes = sym (append-nil s.bytes); joined = refl }
-
--- what was taken is a prefix
-pub gathered_first : (first old : BytesWritten) (text lines : List ℕ) → AreGathered first old text lines
-    → EmittedFirst first old lines
-gathered_first first old text lines g =
-    let prefix : g.taken ≡ take (length g.taken) lines = sym (take-append_seam g.taken text)
-    ∙ ap (λ (xs : List ℕ). take (length g.taken) xs) g.joined in
-    (length g.taken, g.bytes ∙ ap (λ (xs : List ℕ). first.bytes ++ xs) prefix)
-
--- some more was added to what is gathered, and perhaps written
-pub gathered_more : (first old new : BytesWritten) (text next lines line whole : List ℕ)
-    → AreGathered first old text lines → AreGathered old new next (text ++ line) → whole ≡ lines ++ line
-    → AreGathered first new next whole
-gathered_more first old new text next lines line whole before after e = record {
-  taken = before.taken ++ after.taken;
-  bytes = after.bytes ∙ ap (λ (xs : List ℕ). xs ++ after.taken) before.bytes
-      ∙ append_assoc first.bytes before.taken after.taken;
-  joined = append_assoc before.taken after.taken next ∙ ap (λ (xs : List ℕ). before.taken ++ xs) after.joined
-      ∙ sym (append_assoc before.taken text line)
-      ∙ ap (λ (xs : List ℕ). xs ++ line) before.joined ∙ sym e;
-}
-
--- some of what is gathered was written
-pub gathered_on : (first old new : BytesWritten) (text rest lines : List ℕ) → AreGathered first old text lines
-    → AreGathered old new rest text → AreGathered first new rest lines
-gathered_on first old new text rest lines before written =
-    let some : AreGathered old new rest (text ++ []) = subst (λ (xs : List ℕ). AreGathered old new rest xs)
-    (sym (append-nil text)) written in
-    gathered_more first old new text rest lines [] lines before some (sym (append-nil lines))
-
--- none is left
-pub none_left : (text : List ℕ) → length text ≤ 0 → text ≡ []
-none_left [] few = refl
-none_left (c ∷ cs) few = absurd (omega (arith, few))
-
-prefix_behind : (first old new : BytesWritten) (text lines : List ℕ) (n : ℕ)
-    (before : AreGathered first old text lines)
-    → new.bytes ≡ old.bytes ++ take n text → new.bytes ≡ first.bytes ++ take (length before.taken + n) lines
-prefix_behind first old new text lines n before taken =
-    taken ∙ ap (λ (xs : List ℕ). xs ++ take n text) before.bytes
-    ∙ append_assoc first.bytes before.taken (take n text)
-    ∙ ap (λ (xs : List ℕ). first.bytes ++ xs) (sym (take-append-add before.taken text n))
-    ∙ ap (λ (xs : List ℕ). first.bytes ++ take (length before.taken + n) xs) before.joined
-
-first_behind : (first old new : BytesWritten) (text lines : List ℕ) → AreGathered first old text lines
-    → EmittedFirst old new text → EmittedFirst first new lines
-first_behind first old new text lines before emitted =
-    (length before.taken + emitted.0, prefix_behind first old new text lines emitted.0 before emitted.1)
-
-part_behind : (first old new : BytesWritten) (text lines : List ℕ) → AreGathered first old text lines
-    → EmittedPart old new text → EmittedPart first new lines
-part_behind first old new text lines before emitted =
-    let size : length before.taken + length text ≡ length lines =
-    sym (length-append before.taken text) ∙ ap (λ (xs : List ℕ). length xs) before.joined in (
-      length before.taken + emitted.0,
-      (omega (arith, emitted.1.0, size), prefix_behind first old new text lines emitted.0 before emitted.1.1),
-    )
 
 -- ---- one more record
 map_bytes : (xs ys : List View) → bytes_in (xs ++ ys) ≡ bytes_in xs ++ bytes_in ys
@@ -143,13 +83,6 @@ counts_more s views v old new answer before answered e =
     (count_more (asks_for s) views v) (count_more (lacks_time s) views v))
 
 -- ---- what comes next
-all_written : (old new : BytesWritten) (text rest : List ℕ) → AreGathered old new rest text → rest ≡ []
-    → new.bytes ≡ old.bytes ++ text
-all_written old new text rest written none =
-    let all : written.taken ≡ text = sym (append-nil written.taken) ∙ ap (λ (xs : List ℕ). written.taken ++ xs)
-    (sym none) ∙ written.joined in
-    written.bytes ∙ ap (λ (xs : List ℕ). old.bytes ++ xs) all
-
 -- all that was gathered was written, and then some gathered
 also_written : (old new : BytesWritten) (text added more : List ℕ) → new.bytes ≡ old.bytes ++ text
     → new.failures ≡ old.failures → added ≡ more → IsGatheredAlso old new text added more
@@ -209,12 +142,12 @@ pub cut_short : (s : Selection) (fault : SelectFault) (h : BytesRead) (first old
 cut_short s Write h first old new text offset views shown same before written = (
   omega (arith, same, written.0),
   short (EmittedPart first new) s h offset views shown
-      (part_behind first old new text (selected_bytes s views) before written.1),
+      (part_of first old new text (selected_bytes s views) before written.1),
 )
 cut_short s Memory h first old new text offset views shown same before written = (
   written.0 ∙ same,
   short (EmittedFirst first new) s h offset views shown
-      (first_behind first old new text (selected_bytes s views) before written.1),
+      (first_of first old new text (selected_bytes s views) before written.1),
 )
 
 pub copied_err : (s : Selection) (r : Result Selected SelectFault) (Q : SelectFault → Type 0) (fault : SelectFault)

@@ -1,8 +1,9 @@
 -- What is written when records are selected.
-use Rattle.std.specs.Prelude.{◌≡◌, ℕ, ◌+◌, ◌<◌, List, ◌++◌, length, take, Result, Ok, Err}
+use Rattle.std.specs.Prelude.{◌≡◌, ℕ, ◌+◌, List, ◌++◌, length, Result, Ok, Err}
 use Rattle.std.specs.List.{concat, filter, count_by}
 use Rattle.mseed_record.specs.View.{View}
 use Rattle.mseed_stream.specs.Device.{BytesRead, BytesWritten}
+pub use Rattle.mseed_stream.specs.Gathered.{EmittedFirst, EmittedPart}
 use Rattle.mseed_stream.specs.Walk.{AreViews, AreAllViews, bytes_in}
 use Rattle.mseed_select.specs.declared.fault.SelectFault.{SelectFault}
 use Rattle.mseed_select.specs.declared.fault.SelectFault.TheVariants.{Write, Memory}
@@ -12,14 +13,6 @@ use Rattle.mseed_select.specs.Selection.{Selection, asks_for, lacks_time}
 -- the bytes of the records that are asked for, in their order
 abbrev pub selected_bytes : Selection → List View → List ℕ
 selected_bytes s views = concat (bytes_in (filter (asks_for s) views))
-
--- the output accepted the first bytes of a text
-abbrev pub EmittedFirst : BytesWritten → BytesWritten → List ℕ → Type 0
-EmittedFirst old new text = (count : ℕ) × (new.bytes ≡ old.bytes ++ take count text)
-
--- and not all of it
-abbrev pub EmittedPart : BytesWritten → BytesWritten → List ℕ → Type 0
-EmittedPart old new text = (count : ℕ) × ((count < length text) × (new.bytes ≡ old.bytes ++ take count text))
 
 -- what a selection counts of some records
 pub record AreCounted (s : Selection) (views : List View) (found : Selected) : Type 0 where

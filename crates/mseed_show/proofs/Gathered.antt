@@ -16,8 +16,8 @@ use Rattle.mseed_select.specs.declared.counts.Counts.{Counts}
 use Rattle.mseed_show.specs.Listing.{record_line, lines_of, count_line}
 use Rattle.mseed_stream.specs.Walk.{AreViews}
 use Rattle.mseed_text.specs.Fault.{end_line}
-use Rattle.mseed_text.proofs.Gathered.{all_behind, first_behind, first_of, gathered_first, gathered_more, part_behind}
-use Rattle.mseed_text.proofs.Gathered.{part_of}
+use Rattle.mseed_stream.proofs.Gathered.{all_behind, all_written, first_behind, first_of, gathered_first, part_behind}
+use Rattle.mseed_stream.proofs.Gathered.{part_of}
 use Rattle.mseed_show.specs.Show.{EndsShort, IsListed, IsSelectedShown, IsShowFault, EmittedFirst, EmittedPart}
 use Rattle.mseed_show.specs.Show.{all_of, asked_in, show_text}
 use Rattle.mseed_show.specs.declared.listing.Shown.{Shown}
@@ -89,13 +89,6 @@ asked_length : (s : Selection) (offset : ℕ) (views : List View)
     → length (asked_of s (placed_from offset views)) ≡ count_by (asks_for s) views
 asked_length s offset views = placed_length s offset views ∙ length-filter (asks_for s) views
 
-all_written : (old new : BytesWritten) (text rest : List ℕ) → AreGathered old new rest text → rest ≡ []
-    → new.bytes ≡ old.bytes ++ text
-all_written old new text rest written none =
-    let all : written.taken ≡ text = sym (append-nil written.taken) ∙ ap (λ (xs : List ℕ). written.taken ++ xs)
-    (sym none) ∙ written.joined in
-    written.bytes ∙ ap (λ (xs : List ℕ). old.bytes ++ xs) all
-
 -- all that was gathered was written, and then a line gathered
 also_written : (old new : BytesWritten) (text added line : List ℕ) → new.bytes ≡ old.bytes ++ text
     → new.failures ≡ old.failures → added ≡ line → IsGatheredAlso old new text added line
@@ -142,26 +135,6 @@ next_err s (Ok step) Q views offset before h c w text added shown is q = absurd 
 next_err s (Err e) Q views offset before h c w text added shown is q =
     let none : IsPrefixWritten Memory w w text = (refl, (0, sym (append-nil w.bytes))) in
     (subst (λ (f : ShowFault). IsPrefixWritten f w w text) (sym (q e is)) none, shown)
-
--- some more was added to what is gathered, and perhaps written
-pub gathered_also : (first old new : BytesWritten) (text next lines line whole : List ℕ)
-    → AreGathered first old text lines → AreGathered old new next (text ++ line) → whole ≡ lines ++ line
-    → AreGathered first new next whole
-gathered_also first old new text next lines line whole before after e =
-    subst (λ (xs : List ℕ). AreGathered first new next xs) (sym e)
-    (gathered_more first old new text next lines line before after)
-
--- some of what is gathered was written
-pub gathered_on : (first old new : BytesWritten) (text rest lines : List ℕ) → AreGathered first old text lines
-    → AreGathered old new rest text → AreGathered first new rest lines
-gathered_on first old new text rest lines before written =
-    gathered_also first old new text rest lines [] lines before
-    (subst (λ (xs : List ℕ). AreGathered old new rest xs) (sym (append-nil text)) written) (sym (append-nil lines))
-
--- none is left
-pub none_left : (text : List ℕ) → length text ≤ 0 → text ≡ []
-none_left [] few = refl
-none_left (c ∷ cs) few = absurd (omega (arith, few))
 
 -- the lines of these records, so far as they were written
 lines_short : (s : Selection) (Emitted : List ℕ → Type 0) (h : BytesRead) (offset : ℕ) (views : List View)

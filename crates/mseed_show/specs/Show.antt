@@ -5,7 +5,7 @@ use Rattle.mseed_record.specs.View.{View}
 use Rattle.mseed_stream.specs.Device.{BytesRead, BytesWritten}
 use Rattle.mseed_stream.specs.declared.fault.StreamFault.{StreamFault}
 use Rattle.mseed_stream.specs.Walk.{AreViews, AreAllViews}
-pub use Rattle.mseed_text.specs.Gathered.{EmittedFirst, EmittedPart}
+pub use Rattle.mseed_stream.specs.Gathered.{EmittedFirst, EmittedPart}
 use Rattle.mseed_text.specs.Fault.{end_line}
 use Rattle.mseed_select.specs.Halves.{Placed, asked_of, placed_from}
 use Rattle.mseed_select.specs.Selection.{Selection, lacks_time}

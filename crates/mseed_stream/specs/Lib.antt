@@ -6,6 +6,7 @@ pub mod Cutting
 pub mod Device
 pub mod Exchanges
 pub mod Fault
+pub mod Gathered
 pub mod Split
 pub mod Standing
 pub mod Telling

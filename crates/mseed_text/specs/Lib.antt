@@ -1,4 +1,3 @@
 pub mod Fault
-pub mod Gathered
 pub mod Name
 pub mod Time

@@ -20,7 +20,7 @@ use Rattle.mseed_audit.specs.declared.each.EachFault.{EachFault}
 use Rattle.mseed_audit.specs.declared.each.EachFault.TheVariants.{Write, Memory}
 use Rattle.mseed_audit.specs.Audit.{Held, IsAuditAmong}
 use Rattle.mseed_audit.specs.Channels.{Placed, added_from}
-use Rattle.mseed_text.specs.Gathered.{AreGathered, EmittedFirst, EmittedPart}
+use Rattle.mseed_stream.specs.Gathered.{AreGathered, EmittedFirst, EmittedPart}
 use Rattle.mseed_audit.specs.Each.{HasLinesIn, IsLinesFaultIn}
 use Rattle.mseed_audit.specs.Scope.{asked, asked_of}
 use Rattle.mseed_audit.specs.Summary.{AuditedIn, IsGatheredIn, IsSummaryIn, text_in}

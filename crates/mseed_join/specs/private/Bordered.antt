@@ -1,7 +1,7 @@
 -- The lines of borders, gathered as parts are read: no public contract is stated by these words.
 use Rattle.std.specs.Prelude.{◌≡◌, ℕ, ◌+◌, List, ◌++◌, Bool, Option, Result, Ok, Err}
 use Rattle.mseed_stream.specs.Device.{BytesRead, BytesWritten}
-use Rattle.mseed_text.specs.Gathered.{AreGathered, EmittedFirst, EmittedPart}
+use Rattle.mseed_stream.specs.Gathered.{AreGathered, EmittedFirst, EmittedPart}
 use Rattle.mseed_join.specs.declared.joining.JoinsFault.{JoinsFault}
 use Rattle.mseed_join.specs.declared.joining.JoinsFault.TheVariants.{Line, Count, Stream, Write, Memory}
 use Rattle.mseed_join.specs.declared.joint.JointPart.{JointPart}

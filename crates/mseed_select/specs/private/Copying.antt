@@ -2,6 +2,7 @@
 use Rattle.std.specs.Prelude.{◌≡◌, ℕ, ◌+◌, ◌<◌, if◌then◌else◌, List, [], ◌∷◌, ◌++◌, Result, Ok, Err}
 use Rattle.mseed_record.specs.View.{View}
 use Rattle.mseed_stream.specs.Device.{BytesRead, BytesWritten}
+pub use Rattle.mseed_stream.specs.Gathered.{AreGathered}
 use Rattle.mseed_stream.specs.Standing.{Standing}
 use Rattle.mseed_stream.specs.Walk.{AreAllViews, AreViews, HasHandedOut}
 use Rattle.mseed_select.specs.declared.answer.Answer.{Answer}
@@ -16,12 +17,6 @@ use Rattle.mseed_select.specs.Selection.{Selection, answer_of, asks_for}
 -- the bytes of a record where it is asked for
 abbrev pub bytes_by : Selection → View → List ℕ
 bytes_by s v = if asks_for s v then v.bytes else []
-
--- the output accepted some bytes, and with those that are gathered they are a text
-pub record AreGathered (old new : BytesWritten) (gathered text : List ℕ) : Type 0 where
-  pub taken : List ℕ
-  pub bytes : new.bytes ≡ old.bytes ++ taken
-  pub joined : taken ++ gathered ≡ text
 
 -- a prefix of some bytes was written before the fault, which is the output's where the output failed
 abbrev pub IsPrefixWritten : SelectFault → BytesWritten → BytesWritten → List ℕ → Type 0

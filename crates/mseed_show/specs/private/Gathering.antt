@@ -3,7 +3,7 @@ use Rattle.std.specs.Prelude.{◌≡◌, ℕ, ◌+◌, ◌<◌, if◌then◌else
 use Rattle.mseed_record.specs.View.{View}
 use Rattle.mseed_stream.specs.Device.{BytesRead, BytesWritten}
 use Rattle.mseed_stream.specs.declared.fault.StreamFault.{StreamFault}
-pub use Rattle.mseed_text.specs.Gathered.{AreGathered}
+pub use Rattle.mseed_stream.specs.Gathered.{AreGathered}
 use Rattle.mseed_select.specs.Counting.{counts_of}
 use Rattle.mseed_select.specs.Selection.{Selection, answer_of, asks_for}
 use Rattle.mseed_select.specs.declared.answer.Answer.{Answer}

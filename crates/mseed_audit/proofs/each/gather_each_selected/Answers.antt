@@ -3,9 +3,9 @@ use Rattle.mseed_audit.specs.declared.passed.Passed.{Passed}
 use Rattle.std.proofs.KnownBytes.{Consumes-nil}
 use Rattle.mseed_stream.specs.Device.{BytesRead, BytesWritten}
 use Rattle.mseed_stream.proofs.Calls.{reads_on, writes_none, writes_on}
-use Rattle.mseed_text.specs.Gathered.{AreGathered}
+use Rattle.mseed_stream.specs.Gathered.{AreGathered}
 use Rattle.mseed_audit.specs.Reported.{none}
-use Rattle.mseed_text.proofs.Gathered.{gathered_all}
+use Rattle.mseed_stream.proofs.Gathered.{gathered_all}
 use Rattle.mseed_audit.proofs.Views.{added_length}
 use Rattle.mseed_audit.proofs.each.gather_each_selected.Goals as goal
 

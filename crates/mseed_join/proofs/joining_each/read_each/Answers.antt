@@ -1,9 +1,9 @@
 use Rattle.std.proofs.Common.{◌++◌, ◌∙◌, ℕ, List, [], ap, sym, subst, refl, append-nil}
 use Rattle.mseed_stream.specs.Device.{BytesRead, BytesWritten}
 use Rattle.std.proofs.KnownBytes.{Consumes-nil}
-use Rattle.mseed_text.specs.Gathered.{AreGathered}
+use Rattle.mseed_stream.specs.Gathered.{AreGathered}
 use Rattle.mseed_stream.proofs.Calls.{reads_on, writes_none, writes_on}
-use Rattle.mseed_text.proofs.Gathered.{gathered_all}
+use Rattle.mseed_stream.proofs.Gathered.{gathered_all}
 use Rattle.mseed_join.specs.Borders.{AreBorders, Border}
 use Rattle.mseed_join.specs.Reached.{start}
 use Rattle.mseed_join.specs.private.Bordered.{IsFlushed}

@@ -1,7 +1,7 @@
 use Rattle.std.proofs.Common.{◌≡◌, ◌+◌, ◌-◌, ◌^◌, false, List}
 use Rattle.mseed_stream.specs.Calls.{WritesOn}
 use Rattle.mseed_stream.specs.Cutting.{TellsMore}
-use Rattle.mseed_text.specs.Gathered.{AreGathered}
+use Rattle.mseed_stream.specs.Gathered.{AreGathered}
 use Rattle.mseed_join.specs.Borders.{AreBordersOf, Border, border_lines}
 use Rattle.mseed_join.specs.Reached.{AreReported, Stage, parts_at, passed_lines}
 use Rattle.mseed_join.specs.private.Along.{IsAlong}

@@ -10,7 +10,8 @@ use Rattle.mseed_select.specs.declared.counts.Counts.{Counts}
 use Rattle.mseed_select.specs.declared.fault.SelectFault.{SelectFault}
 use Rattle.mseed_select.specs.declared.selected.Selected.{Selected}
 use Rattle.mseed_select.specs.private.Copying.{AreGathered, IsCopying, bytes_by}
-use Rattle.mseed_select.proofs.Copied.{bytes_more, copied_err, counts_more, cut_short, gathered_more, gathered_on}
+use Rattle.mseed_stream.proofs.Gathered.{gathered_also, gathered_on}
+use Rattle.mseed_select.proofs.Copied.{bytes_more, copied_err, counts_more, cut_short}
 use Rattle.mseed_select.proofs.copying.copy.Goals as goal
 
 pub returns-in_err-answer : goal.returns-in_err-answer
@@ -45,7 +46,7 @@ returns-in-Ended g c =
       views,
       record {
         all = next.0;
-        bytes = gathered_more first old new c.records.bytes.items c.push_next.new.bytes.items all [] all before.1
+        bytes = gathered_also first old new c.records.bytes.items c.push_next.new.bytes.items all [] all before.1
             next.1.bytes (sym (append-nil all));
         fine = next.1.fine ∙ c.records.invariant.2;
         counted = record {
@@ -67,7 +68,7 @@ records-preserved g c =
     let added : BytesWritten = g.W.Sink.written c.push_next.new.output in
     let new : BytesWritten = g.W.Sink.written c.write_beyond.new.output in
     let all : List View = views ++ more.view ∷ [] in
-    let bytes = gathered_more first old added c.records.bytes.items c.push_next.new.bytes.items
+    let bytes = gathered_also first old added c.records.bytes.items c.push_next.new.bytes.items
     (selected_bytes s views) (bytes_by s more.view) (selected_bytes s all) before.1 more.bytes.bytes
     (bytes_more s views more.view) in
     let written = gathered_on first added new c.push_next.new.bytes.items c.write_beyond.new.bytes.items
@@ -103,7 +104,7 @@ returns-in_err-write_beyond g c =
     let fault : SelectFault = c.in_err-write_beyond.field-0.0 in
     let all : List View = views ++ more.view ∷ [] in
     let bytes : AreGathered first added c.push_next.new.bytes.items (selected_bytes s all) =
-    gathered_more first old added c.records.bytes.items c.push_next.new.bytes.items (selected_bytes s views)
+    gathered_also first old added c.records.bytes.items c.push_next.new.bytes.items (selected_bytes s views)
     (bytes_by s more.view) (selected_bytes s all) before.1 more.bytes.bytes (bytes_more s views more.view) in
     let ends : IsSelected s (Err fault) read first new = cut_short s fault read first added new
     c.push_next.new.bytes.items c.push_next.new.cutter.offset all more.handed.records

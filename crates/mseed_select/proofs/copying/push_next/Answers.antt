@@ -5,7 +5,8 @@ use Rattle.mseed_stream.specs.Device.{BytesRead, BytesWritten}
 use Rattle.mseed_select.specs.Selecting.{selection_of}
 use Rattle.mseed_select.specs.Selection.{Selection}
 use Rattle.mseed_select.specs.private.Copying.{AreGathered}
-use Rattle.mseed_select.proofs.Copied.{gathered_all, next_err, next_written, none_left}
+use Rattle.mseed_stream.proofs.Gathered.{gathered_all, none_left}
+use Rattle.mseed_select.proofs.Copied.{next_err, next_written}
 use Rattle.mseed_select.proofs.copying.push_next.Goals as goal
 
 pub returns-in-Some : goal.returns-in-Some

@@ -11,7 +11,8 @@ use Rattle.mseed_show.specs.Listing.{lines_of}
 use Rattle.mseed_show.specs.Show.{IsShowFault, asked_in}
 use Rattle.mseed_show.specs.private.Gathering.{line_by}
 use Rattle.mseed_show.specs.declared.fault.ShowFault.{ShowFault}
-use Rattle.mseed_show.proofs.Gathered.{cut_short, gathered_also, gathered_err, gathered_on, lines_more}
+use Rattle.mseed_stream.proofs.Gathered.{gathered_also, gathered_on}
+use Rattle.mseed_show.proofs.Gathered.{cut_short, gathered_err, lines_more}
 use Rattle.mseed_show.proofs.listing.list.Goals as goal
 
 pub returns-in_err-answer : goal.returns-in_err-answer

@@ -4,8 +4,8 @@ use Rattle.mseed_record.specs.Viewing.{view_of}
 use Rattle.mseed_stream.specs.Device.{BytesRead, BytesWritten}
 use Rattle.mseed_show.specs.private.Gathering.{AreGathered}
 use Rattle.mseed_show.specs.private.Gathering.{line_by}
-use Rattle.mseed_text.proofs.Gathered.{gathered_all}
-use Rattle.mseed_show.proofs.Gathered.{next_err, next_written, none_left}
+use Rattle.mseed_stream.proofs.Gathered.{gathered_all, none_left}
+use Rattle.mseed_show.proofs.Gathered.{next_err, next_written}
 use Rattle.mseed_show.proofs.listing.push_next.Goals as goal
 
 pub returns-in-Some : goal.returns-in-Some

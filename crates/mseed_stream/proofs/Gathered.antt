@@ -1,10 +1,10 @@
 -- A text that is gathered, and written some at a time.
 use Rattle.std.proofs.Common.{◌≡◌, ℕ, ◌+◌, ◌++◌, List, [], length, take, refl, sym, ap, ◌∙◌, subst, append_assoc}
-use Rattle.std.proofs.Common.{append-nil, arith}
+use Rattle.std.proofs.Common.{◌∷◌, ◌≤◌, append-nil, arith}
 use Rattle.std.proofs.lemmas.List.{length-append}
 use Rattle.std.proofs.Math.Seq.{take-append-add, take-append_seam}
 use Rattle.mseed_stream.specs.Device.{BytesWritten}
-use Rattle.mseed_text.specs.Gathered.{AreGathered, EmittedFirst, EmittedPart}
+use Rattle.mseed_stream.specs.Gathered.{AreGathered, EmittedFirst, EmittedPart}
 
 -- nothing was taken
 pub gathered_all : (s : BytesWritten) (text : List ℕ) → AreGathered s s text text
@@ -96,3 +96,31 @@ pub part_of : (first old new : BytesWritten) (text lines : List ℕ) → AreGath
 part_of first old new text lines before =
     none_behind (EmittedPart old new) (EmittedPart first new) text lines
     (part_behind first old new text lines [] before)
+
+-- all that was gathered was written
+pub all_written : (old new : BytesWritten) (text rest : List ℕ) → AreGathered old new rest text → rest ≡ []
+    → new.bytes ≡ old.bytes ++ text
+all_written old new text rest written none =
+    let all : written.taken ≡ text = sym (append-nil written.taken) ∙ ap (λ (xs : List ℕ). written.taken ++ xs)
+    (sym none) ∙ written.joined in
+    written.bytes ∙ ap (λ (xs : List ℕ). old.bytes ++ xs) all
+
+-- some more was added to what is gathered, and perhaps written
+pub gathered_also : (first old new : BytesWritten) (text next lines line whole : List ℕ)
+    → AreGathered first old text lines → AreGathered old new next (text ++ line) → whole ≡ lines ++ line
+    → AreGathered first new next whole
+gathered_also first old new text next lines line whole before after e =
+    subst (λ (xs : List ℕ). AreGathered first new next xs) (sym e)
+    (gathered_more first old new text next lines line before after)
+
+-- some of what is gathered was written
+pub gathered_on : (first old new : BytesWritten) (text rest lines : List ℕ) → AreGathered first old text lines
+    → AreGathered old new rest text → AreGathered first new rest lines
+gathered_on first old new text rest lines before written =
+    gathered_also first old new text rest lines [] lines before
+    (subst (λ (xs : List ℕ). AreGathered old new rest xs) (sym (append-nil text)) written) (sym (append-nil lines))
+
+-- none is left
+pub none_left : (text : List ℕ) → length text ≤ 0 → text ≡ []
+none_left [] few = refl
+none_left (c ∷ cs) few = absurd (omega (arith, few))
