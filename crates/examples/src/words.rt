@@ -2,7 +2,7 @@
 ghost use Rattle.std.specs.Prelude.{IfOk};
 ghost use Rattle.mseed_words.specs.Words.{CanBeCalled};
 
-use mseed_words::{Refusal, Request, read};
+use mseed_words::{Command, Refusal, Request, read};
 use std::alloc::Global;
 
 /// What the words of a command line request, those after the program's name.
@@ -13,6 +13,11 @@ pub fn requested(alloc: Global, words: &[&str]) -> Result<Request, Refusal>
         Ok(command) => Ok(command.request),
         Err(refusal) => Err(refusal),
     }
+}
+
+/// Whether the words of a command line ask for some of the records alone.
+pub fn is_selective(command: &Command) -> bool {
+    command.selector.is_some()
 }
 
 /// Of how many places records are requested: of none, unless they are served or fetched.

@@ -3,3 +3,4 @@ pub mod Encodings
 pub mod Fills
 pub mod OneFilling
 pub mod Numbered
+mod Lines

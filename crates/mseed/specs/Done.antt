@@ -1,9 +1,12 @@
 -- How a listing ends, or words for which nothing was done.
-use Rattle.std.specs.Prelude.{◌≡◌, ℕ, List, Option, Some, None, Result, codes, string_bytes}
+use Rattle.std.specs.Prelude.{◌≡◌, ℕ, List, Option, Some, None, Result, Ok, Err, codes, string_bytes}
 use Rattle.mseed_stream.specs.Device.{BytesRead, BytesWritten}
 use Rattle.mseed_stream.specs.declared.fault.StreamFault.{StreamFault}
 use Rattle.mseed_stream.specs.Telling.{Tells}
-use Rattle.mseed.specs.Outcome.{Ends, no_memory, write_failed}
+use Rattle.mseed.specs.Blame.{blame_by}
+use Rattle.mseed.specs.Outcome.{EndsBy, Report, no_memory, with_line, without_line, write_failed}
+use Rattle.mseed.specs.declared.outcome.Blame.TheVariants.{Nothing}
+use Rattle.mseed.specs.declared.outcome.Ended.{Ended}
 use Rattle.mseed_show.specs.declared.fault.ShowFault.{ShowFault}
 use Rattle.mseed_show.specs.declared.fault.ShowFault.TheVariants.{Write, Memory}
 use Rattle.mseed_words.specs.declared.refusal.Refusal.{Refusal}
@@ -14,13 +17,14 @@ abbrev pub end_status : Option StreamFault → ℕ
 end_status None = 0
 end_status (Some fault) = 2
 
-abbrev pub show_fault_text : ShowFault → List ℕ
-show_fault_text Write = write_failed
-show_fault_text Memory = no_memory
-
 -- a listing: the input's fault is in it, and has no line
-abbrev pub EndsShow : Result (Option StreamFault) ShowFault → ℕ → BytesWritten → BytesWritten → Type 0
-EndsShow outcome status old new = Ends end_status (λ fault. 2) show_fault_text outcome status old new
+abbrev pub show_report : Result (Option StreamFault) ShowFault → Report
+show_report (Ok end) = without_line (end_status end) (blame_by end)
+show_report (Err Write) = with_line 2 write_failed Nothing
+show_report (Err Memory) = with_line 2 no_memory Nothing
+
+abbrev pub EndsShow : Result (Option StreamFault) ShowFault → Ended → BytesWritten → BytesWritten → Type 0
+EndsShow outcome ended old new = EndsBy (show_report outcome) ended old new
 
 -- the line for words that ask for nothing that there is
 abbrev pub bad_value : List ℕ

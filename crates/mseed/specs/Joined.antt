@@ -1,11 +1,13 @@
 -- What joining parts comes to.
-use Rattle.std.specs.Prelude.{ℕ, List, ◌++◌, nat_lt, if◌then◌else◌, Result, codes, decimal}
+use Rattle.std.specs.Prelude.{ℕ, List, ◌++◌, nat_lt, if◌then◌else◌, Result, Ok, Err, codes, decimal}
 use Rattle.mseed_stream.specs.Device.{BytesWritten}
 use Rattle.mseed_text.specs.Fault.{fault_line}
 use Rattle.mseed_join.specs.declared.joining.Joined.{Joined}
 use Rattle.mseed_join.specs.declared.joining.JoinsFault.{JoinsFault}
 use Rattle.mseed_join.specs.declared.joining.JoinsFault.TheVariants.{Line, Count, Stream, Write, Memory}
-use Rattle.mseed.specs.Outcome.{Ends, no_memory, write_failed}
+use Rattle.mseed.specs.Outcome.{EndsBy, Report, no_memory, with_line, without_line, write_failed}
+use Rattle.mseed.specs.declared.outcome.Blame.TheVariants.{Nothing}
+use Rattle.mseed.specs.declared.outcome.Ended.{Ended}
 
 -- the exit status: that of the audit, where its text or its part was written
 abbrev pub joined_status : Joined → ℕ
@@ -21,5 +23,9 @@ join_fault_text Write = write_failed
 join_fault_text Memory = no_memory
 
 -- behind the lines of the faults that were passed
-abbrev pub EndsJoin : Result Joined JoinsFault → ℕ → BytesWritten → BytesWritten → Type 0
-EndsJoin outcome status old new = Ends joined_status (λ fault. 2) join_fault_text outcome status old new
+abbrev pub join_report : Result Joined JoinsFault → Report
+join_report (Ok joined) = without_line (joined_status joined) Nothing
+join_report (Err fault) = with_line 2 (join_fault_text fault) Nothing
+
+abbrev pub EndsJoin : Result Joined JoinsFault → Ended → BytesWritten → BytesWritten → Type 0
+EndsJoin outcome ended old new = EndsBy (join_report outcome) ended old new

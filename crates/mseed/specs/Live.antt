@@ -23,7 +23,7 @@ CanNumber feed = AllByRecursion (λ w. w.next ≤ 2 ^ 62) feed
 
 -- What is left to be served while records come can be served so.
 abbrev pub CanBeServed : {A : Type 0} → Run A → Type 0
-CanBeServed (runs.Status status) = ⊤
+CanBeServed (runs.Status ended) = ⊤
 CanBeServed (runs.Serve plan) = ⊤
 CanBeServed (runs.Live living) = CanLive living
 CanBeServed (runs.Fetch plan) = ⊤

@@ -35,11 +35,11 @@ pub record IsServePlan {A : Type 0} (serving : Serving) (feed : List Window) (pl
 -- by what filling the feed came to: a plan, and no line; or status 2, and a line
 abbrev pub IsPlannedBy : {A : Type 0} → Serving → Result (List Window) FillFault → Run A → BytesWritten → BytesWritten
     → Type 0
-IsPlannedBy serving (Ok feed) (Status status) old new = ⊥
+IsPlannedBy serving (Ok feed) (Status ended) old new = ⊥
 IsPlannedBy serving (Ok feed) (Serve plan) old new = IsServePlan serving feed plan × (new ≡ old)
 IsPlannedBy serving (Ok feed) (Live living) old new = ⊥
 IsPlannedBy serving (Ok feed) (Fetch plan) old new = ⊥
-IsPlannedBy serving (Err fault) (Status status) old new = (status ≡ 2) × Tells (fill_text fault) old new
+IsPlannedBy serving (Err fault) (Status ended) old new = (ended.status ≡ 2) × Tells (fill_text fault) old new
 IsPlannedBy serving (Err fault) (Serve plan) old new = ⊥
 IsPlannedBy serving (Err fault) (Live living) old new = ⊥
 IsPlannedBy serving (Err fault) (Fetch plan) old new = ⊥
@@ -54,7 +54,7 @@ pub record IsServeRun {A : Type 0} (serving : Serving) (run : Run A) (read : Byt
 
 -- what `serve --live` comes to before it opens a socket: what was requested
 abbrev pub IsLiveRun : {A : Type 0} → Living → Run A → Type 0
-IsLiveRun living (Status status) = ⊥
+IsLiveRun living (Status ended) = ⊥
 IsLiveRun living (Serve plan) = ⊥
 IsLiveRun living (Live called) = called ≡ living
 IsLiveRun living (Fetch plan) = ⊥
@@ -80,7 +80,7 @@ pub record IsFetchPlan (fetching : Fetching) (plan : FetchPlan) : Type 0 where
 
 -- what `fetch` comes to before it opens a socket
 abbrev pub IsFetchRun : {A : Type 0} → Fetching → Run A → Type 0
-IsFetchRun fetching (Status status) = ⊥
+IsFetchRun fetching (Status ended) = ⊥
 IsFetchRun fetching (Serve plan) = ⊥
 IsFetchRun fetching (Live living) = ⊥
 IsFetchRun fetching (Fetch plan) = IsFetchPlan fetching plan

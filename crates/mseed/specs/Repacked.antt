@@ -1,5 +1,5 @@
 -- What packing anew says, and its exit status.
-use Rattle.std.specs.Prelude.{◌≡◌, ℕ, List, ◌++◌, Result, codes, decimal}
+use Rattle.std.specs.Prelude.{◌≡◌, ℕ, List, ◌++◌, Result, Ok, Err, codes, decimal}
 use Rattle.mseed_stream.specs.Device.{BytesWritten}
 use Rattle.mseed_text.specs.Name.{name_text}
 use Rattle.mseed_text.specs.Fault.{fault_line}
@@ -9,7 +9,10 @@ use Rattle.mseed_repack.specs.ByStretches.{broken_line, misfit_number}
 use Rattle.mseed_words.specs.declared.request.Packing.{Packing}
 use Rattle.mseed_repack.specs.declared.fault.RepackFault.{RepackFault}
 use Rattle.mseed_repack.specs.declared.fault.RepackFault.TheVariants.{Stream, Broken, Misfit, Write, Memory}
-use Rattle.mseed.specs.Outcome.{Ends, no_memory, write_failed}
+use Rattle.mseed.specs.Blame.{packing_blame}
+use Rattle.mseed.specs.Outcome.{EndsBy, Report, no_memory, with_line, without_line, write_failed}
+use Rattle.mseed.specs.declared.outcome.Blame.TheVariants.{Nothing}
+use Rattle.mseed.specs.declared.outcome.Ended.{Ended}
 
 -- the line about a channel that can't be packed
 abbrev pub reason_text : PackFault → List ℕ
@@ -35,8 +38,12 @@ refusal_status Write = 2
 refusal_status Memory = 2
 
 -- with no line where all was packed
-abbrev pub EndsRepack : {U : Type 0} → Result U RepackFault → ℕ → BytesWritten → BytesWritten → Type 0
-EndsRepack outcome status old new = Ends (λ unit. 0) refusal_status refusal_text outcome status old new
+abbrev pub repack_report : {U : Type 0} → Result U RepackFault → Report
+repack_report (Ok unit) = without_line 0 Nothing
+repack_report (Err fault) = with_line (refusal_status fault) (refusal_text fault) (packing_blame fault)
+
+abbrev pub EndsRepack : {U : Type 0} → Result U RepackFault → Ended → BytesWritten → BytesWritten → Type 0
+EndsRepack outcome ended old new = EndsBy (repack_report outcome) ended old new
 
 -- the options of packing anew, with sequence numbers from 000001 on
 pub record AreOptionsOf (packing : Packing) (options : Options) : Type 0 where

@@ -1,5 +1,5 @@
 -- What packing anew by stretches says, and its exit status.
-use Rattle.std.specs.Prelude.{ℕ, List, ◌++◌, Result, codes}
+use Rattle.std.specs.Prelude.{ℕ, List, ◌++◌, Result, Ok, Err, codes}
 use Rattle.mseed_stream.specs.Device.{BytesWritten}
 use Rattle.mseed_text.specs.Fault.{fault_line}
 use Rattle.mseed_repack.specs.ByStretches.{broken_line, misfit_line}
@@ -8,7 +8,10 @@ use Rattle.mseed_repack.specs.declared.refusing.Left.TheVariants.{Nothing, Broke
 use Rattle.mseed_repack.specs.declared.stretches_fault.StretchesFault.{StretchesFault}
 use Rattle.mseed_repack.specs.declared.stretches_fault.StretchesFault.TheVariants.{Stream, Broken, Misfit, Write}
 use Rattle.mseed_repack.specs.declared.stretches_fault.StretchesFault.TheVariants.{Memory}
-use Rattle.mseed.specs.Outcome.{Ends, no_memory, write_failed}
+use Rattle.mseed.specs.Blame.{stretches_blame}
+use Rattle.mseed.specs.Outcome.{EndsBy, Report, no_memory, with_line, without_line, write_failed}
+use Rattle.mseed.specs.declared.outcome.Blame.TheVariants as blames
+use Rattle.mseed.specs.declared.outcome.Ended.{Ended}
 
 -- the line of a fault
 abbrev pub stretches_text : StretchesFault → List ℕ
@@ -33,5 +36,9 @@ left_status LeftBroken = 1
 left_status LeftMisfit = 2
 
 -- behind the lines that were reported
-abbrev pub EndsStretches : Result Left StretchesFault → ℕ → BytesWritten → BytesWritten → Type 0
-EndsStretches outcome status old new = Ends left_status stretches_status stretches_text outcome status old new
+abbrev pub stretches_report : Result Left StretchesFault → Report
+stretches_report (Ok left) = without_line (left_status left) blames.Nothing
+stretches_report (Err fault) = with_line (stretches_status fault) (stretches_text fault) (stretches_blame fault)
+
+abbrev pub EndsStretches : Result Left StretchesFault → Ended → BytesWritten → BytesWritten → Type 0
+EndsStretches outcome ended old new = EndsBy (stretches_report outcome) ended old new

@@ -1,5 +1,7 @@
 //! The command line.
-ghost use Rattle.std.specs.Prelude.{◌≡◌, ℕ, List, [], ◌∷◌, map, nat_lt, if◌then◌else◌};
+ghost use Rattle.std.specs.Prelude.{◌≡◌, ℕ, List, [], ◌∷◌, map, nat_lt, if◌then◌else◌, Option, option_map};
+ghost use Rattle.mseed_select.specs.Selecting.{selection_of};
+ghost use Rattle.mseed_select.specs.Selection.{Selection};
 ghost use Rattle.mseed_stream.specs.Device.{nothing_read};
 ghost use Rattle.mseed_stream.specs.Telling.{Tells};
 ghost use Rattle.mseed_words.specs.Words.{AreRefused, AsksFor, AsksForNothing, CanBeCalled};
@@ -13,13 +15,16 @@ ghost use Rattle.mseed.specs.Repacked.{AreOptionsOf, EndsRepack};
 ghost use Rattle.mseed.specs.Restretched.{EndsStretches};
 ghost use Rattle.mseed.specs.Run.{HasCarriedOut, HasRefusedRequest, HasRefusedWords, UnlessMemoryLacks, streams};
 
-use crate::outcome::{Asked, BAD_COMMAND, BROKEN, DONE, FAULT, Run};
+use crate::blame::{blame_by, packing_blame, stretches_blame};
+use crate::outcome::{Asked, BAD_COMMAND, BROKEN, DONE, Ended, FAULT, Run};
 use crate::planning::{plan_fetch, plan_serve};
 use crate::refusal::{refuse_to_join, refuse_to_repack, refuse_to_stretch};
+use crate::selecting::{select_asked, selected};
 use mseed_audit::{AuditFault, EachFault, Summary, audit, audit_each};
 use mseed_join::{Form, Joined, JoinsFault, audit_part, audit_part_each, join, join_each};
 use mseed_pack::Options;
 use mseed_repack::{Left, RepackFault, StretchesFault, repack, repack_stretches};
+use mseed_select::Selector;
 use mseed_show::{ShowFault, show};
 use mseed_stream::{Sink, Source, StreamFault, tell};
 use mseed_words::{Command, Packing, Refusal, Request};
@@ -34,7 +39,9 @@ use std::alloc::{Allocator, Global};
 /// behind another, or with `--part` their joint part; with `--each` a line for each border with a finding comes before
 /// the audit, and where there aren't as many parts as `--expect` says, a line on `errors` says so in place of it:
 /// status 2. `show` lists the records: status 0, or 2 where the input ended with a fault, which the listing names, or
-/// where it couldn't be written whole. `repack` packs the archive anew: status 0, 1 where a channel is broken, and 2
+/// where it couldn't be written whole. `select` writes the records that are asked for, as they are: status 0, or 2 where
+/// the input ended with a fault, which `errors` takes behind the number of the records that lack a time, or where they
+/// couldn't be written. `repack` packs the archive anew: status 0, 1 where a channel is broken, and 2
 /// where the input is no whole archive, where a channel can't be packed, or where the output failed; `errors` takes a
 /// line that says so. `serve` fills a feed with the records of `input` and answers how it is to be served, or status 2
 /// with a line where they aren't all the feed's or don't end where a record ends. `fetch` answers what is to be
@@ -49,13 +56,14 @@ pub fn run<'a, R: Source, W: Sink, E: Sink>(
     errors: &mut E,
 ) -> Asked<'a>
     requires { R.read input.old ≡ nothing_read }
-    ensures called { (request : Request) → AsksFor (map (λ word. word.now) words.entry.now) request []
-        → HasRun result (UnlessMemoryLacks (HasCarriedOut request))
+    ensures called { (request : Request) (asked : Option Selection)
+        → AsksFor (map (λ word. word.now) words.entry.now) request asked []
+        → HasRun result (UnlessMemoryLacks (HasCarriedOut request asked))
         (streams (R.read input.old) (W.written output.old) (E.written errors.old))
         (streams (R.read input.new) (W.written output.new) (E.written errors.new)) }
-    ensures files { (request : Request) (file : List ℕ) (files : List (List ℕ))
-        → AsksFor (map (λ word. word.now) words.entry.now) request (file ∷ files)
-        → IsLeft request (file ∷ files) result
+    ensures files { (request : Request) (asked : Option Selection) (file : List ℕ) (files : List (List ℕ))
+        → AsksFor (map (λ word. word.now) words.entry.now) request asked (file ∷ files)
+        → IsLeft request asked (file ∷ files) result
         (streams (R.read input.old) (W.written output.old) (E.written errors.old))
         (streams (R.read input.new) (W.written output.new) (E.written errors.new)) }
     ensures bad { AsksForNothing (map (λ word. word.now) words.entry.now)
@@ -70,7 +78,7 @@ pub fn run<'a, R: Source, W: Sink, E: Sink>(
 {
     match mseed_words::read(alloc, words) {
         Ok(command) => carry_out_unless_files(alloc, command, input, output, errors),
-        Err(refusal) => Asked::Done(Run::Status(refuse(errors, &refusal))),
+        Err(refusal) => Asked::Done(Run::Status(Ended::with(refuse(errors, &refusal)))),
     }
 }
 
@@ -85,34 +93,42 @@ fn carry_out_unless_files<'a, R: Source, W: Sink, E: Sink>(
     requires unread { R.read input.old ≡ nothing_read }
     requires called { CanBeCalled command.request }
     ensures done { map (λ file. file.now) command.entry.files.items ≡ []
-        → HasRun result (HasCarriedOut command.entry.request)
+        → HasRun result (HasCarriedOut command.entry.request (option_map selection_of command.entry.selector))
         (streams (R.read input.old) (W.written output.old) (E.written errors.old))
         (streams (R.read input.new) (W.written output.new) (E.written errors.new)) }
     ensures files { (file : List ℕ) (files : List (List ℕ))
         → map (λ file. file.now) command.entry.files.items ≡ file ∷ files
-        → IsLeft command.entry.request (file ∷ files) result
+        → IsLeft command.entry.request (option_map selection_of command.entry.selector) (file ∷ files) result
         (streams (R.read input.old) (W.written output.old) (E.written errors.old))
         (streams (R.read input.new) (W.written output.new) (E.written errors.new)) }
     ensures served { CanBeDone result }
 {
     if command.files.is_empty() {
-        Asked::Done(carry_out(alloc, command.request, input, output, errors))
+        Asked::Done(carry_out(
+            alloc,
+            command.request,
+            &command.selector,
+            input,
+            output,
+            errors,
+        ))
     } else {
         Asked::Files(command)
     }
 }
 
-/// Does what is requested, with any allocator, as one that refuses.
+/// Does what is requested, with the records that are asked for, and with any allocator, as one that refuses.
 pub fn carry_out<A: Allocator + Copy, R: Source, W: Sink, E: Sink>(
     alloc: A,
     request: Request,
+    selector: &Option<Selector<'_>>,
     input: &mut R,
     output: &mut W,
     errors: &mut E,
 ) -> Run<A>
     requires unread { R.read input.old ≡ nothing_read }
     requires called { CanBeCalled request }
-    ensures done { HasCarriedOut request result
+    ensures done { HasCarriedOut request (option_map selection_of selector.now) result
         (streams (R.read input.old) (W.written output.old) (E.written errors.old))
         (streams (R.read input.new) (W.written output.new) (E.written errors.new)) }
     ensures served { CanBeServed result }
@@ -153,6 +169,10 @@ pub fn carry_out<A: Allocator + Copy, R: Source, W: Sink, E: Sink>(
             Run::Status(joined(outcome, errors))
         }
         Request::Show => Run::Status(shown(show(alloc, input, output), errors)),
+        Request::Select => {
+            let outcome = select_asked(alloc, selector, input, output);
+            Run::Status(selected(outcome, errors))
+        }
         Request::Repack(packing) => {
             let outcome = repack(alloc, &options_of(packing), input, output);
             Run::Status(repacked(outcome, errors))
@@ -168,35 +188,35 @@ pub fn carry_out<A: Allocator + Copy, R: Source, W: Sink, E: Sink>(
     }
 }
 
-/// Says why not all of an audit was written, and answers the exit status. A fault of the input is in the text.
-fn audited<E: Sink>(outcome: Result<Summary, AuditFault>, errors: &mut E) -> u8
+/// Says why not all of an audit was written, and answers how it ended. A fault of the input is in the text.
+fn audited<E: Sink>(outcome: Result<Summary, AuditFault>, errors: &mut E) -> Ended
     ensures { EndsAudit outcome result (E.written errors.old) (E.written errors.new) }
 {
     match outcome {
-        Ok(summary) => verdict_status(summary.fault, summary.broken),
-        Err(AuditFault::Write(_)) => write_failed(errors),
-        Err(AuditFault::Memory) => refuse_memory(errors),
+        Ok(summary) => Ended::with(verdict_status(summary.fault, summary.broken)),
+        Err(AuditFault::Write(_)) => Ended::with(write_failed(errors)),
+        Err(AuditFault::Memory) => Ended::with(refuse_memory(errors)),
     }
 }
 
 /// The same of an audit that tells each finding.
-fn audited_each<E: Sink>(outcome: Result<Summary, EachFault>, errors: &mut E) -> u8
+fn audited_each<E: Sink>(outcome: Result<Summary, EachFault>, errors: &mut E) -> Ended
     ensures { EndsEach outcome result (E.written errors.old) (E.written errors.new) }
 {
     match outcome {
-        Ok(summary) => verdict_status(summary.fault, summary.broken),
-        Err(EachFault::Write) => write_failed(errors),
-        Err(EachFault::Memory) => refuse_memory(errors),
+        Ok(summary) => Ended::with(verdict_status(summary.fault, summary.broken)),
+        Err(EachFault::Write) => Ended::with(write_failed(errors)),
+        Err(EachFault::Memory) => Ended::with(refuse_memory(errors)),
     }
 }
 
-/// Says why parts weren't joined, and answers the exit status.
-fn joined<E: Sink>(outcome: Result<Joined, JoinsFault>, errors: &mut E) -> u8
+/// Says why parts weren't joined, and answers how joining ended.
+fn joined<E: Sink>(outcome: Result<Joined, JoinsFault>, errors: &mut E) -> Ended
     ensures { EndsJoin outcome result (E.written errors.old) (E.written errors.new) }
 {
     match outcome {
-        Ok(joined) => verdict_status(joined.fault, joined.broken),
-        Err(fault) => refuse_to_join(errors, &fault),
+        Ok(joined) => Ended::with(verdict_status(joined.fault, joined.broken)),
+        Err(fault) => Ended::with(refuse_to_join(errors, &fault)),
     }
 }
 
@@ -213,15 +233,17 @@ fn verdict_status(fault: bool, broken: u64) -> u8
     }
 }
 
-/// Says why not all of a listing was written, and answers the exit status. A fault of the input is in the listing.
-fn shown<E: Sink>(outcome: Result<Option<StreamFault>, ShowFault>, errors: &mut E) -> u8
+/// Says why not all of a listing was written, and answers how it ended. A fault of the input is in the listing.
+fn shown<E: Sink>(outcome: Result<Option<StreamFault>, ShowFault>, errors: &mut E) -> Ended
     ensures { EndsShow outcome result (E.written errors.old) (E.written errors.new) }
 {
     match outcome {
-        Ok(None) => DONE,
-        Ok(Some(_)) => FAULT,
-        Err(ShowFault::Write) => write_failed(errors),
-        Err(ShowFault::Memory) => refuse_memory(errors),
+        Ok(end) => Ended {
+            status: if end.is_some() { FAULT } else { DONE },
+            blame: blame_by(&end),
+        },
+        Err(ShowFault::Write) => Ended::with(write_failed(errors)),
+        Err(ShowFault::Memory) => Ended::with(refuse_memory(errors)),
     }
 }
 
@@ -236,25 +258,31 @@ fn options_of(packing: Packing) -> Options
     }
 }
 
-/// Says why an archive wasn't packed anew, and answers the exit status.
-fn repacked<E: Sink>(outcome: Result<(), RepackFault>, errors: &mut E) -> u8
+/// Says why an archive wasn't packed anew, and answers how packing ended.
+fn repacked<E: Sink>(outcome: Result<(), RepackFault>, errors: &mut E) -> Ended
     ensures { EndsRepack outcome result (E.written errors.old) (E.written errors.new) }
 {
     match outcome {
-        Ok(()) => DONE,
-        Err(fault) => refuse_to_repack(errors, &fault),
+        Ok(()) => Ended::with(DONE),
+        Err(fault) => Ended {
+            status: refuse_to_repack(errors, &fault),
+            blame: packing_blame(&fault),
+        },
     }
 }
 
-/// Says why an archive wasn't packed anew by stretches, and answers the exit status: what was left out counts.
-fn restretched<E: Sink>(outcome: Result<Left, StretchesFault>, errors: &mut E) -> u8
+/// Says why an archive wasn't packed anew by stretches, and answers how packing ended: what was left out counts.
+fn restretched<E: Sink>(outcome: Result<Left, StretchesFault>, errors: &mut E) -> Ended
     ensures { EndsStretches outcome result (E.written errors.old) (E.written errors.new) }
 {
     match outcome {
-        Ok(Left::Nothing) => DONE,
-        Ok(Left::Broken) => BROKEN,
-        Ok(Left::Misfit) => FAULT,
-        Err(fault) => refuse_to_stretch(errors, &fault),
+        Ok(Left::Nothing) => Ended::with(DONE),
+        Ok(Left::Broken) => Ended::with(BROKEN),
+        Ok(Left::Misfit) => Ended::with(FAULT),
+        Err(fault) => Ended {
+            status: refuse_to_stretch(errors, &fault),
+            blame: stretches_blame(&fault),
+        },
     }
 }
 

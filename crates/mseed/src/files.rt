@@ -7,7 +7,7 @@ ghost use Rattle.mseed.specs.Outcome.{no_memory};
 ghost use Rattle.mseed_words.specs.Words.{CanBeCalled};
 
 use crate::command::{carry_out, refuse_memory};
-use crate::outcome::{FAULT, Run};
+use crate::outcome::{Ended, FAULT, Run};
 use mseed_files::{Chain, Named, find_unreadable};
 use mseed_stream::{Buffered, Counted, Sink, tell};
 use mseed_words::Command;
@@ -78,7 +78,8 @@ pub fn run_over_files<E: Sink>(
         names.push(word_of(file, words))?;
     }
     if let Some(index) = find_unreadable(rt, &names) {
-        return Ok(Run::Status(refuse_file(rt.alloc(), errors, &names, index)));
+        let status = refuse_file(rt.alloc(), errors, &names, index);
+        return Ok(Run::Status(Ended::with(status)));
     }
     let mut chain = Chain::new(rt.alloc(), Named { words: &names })?;
     let reader = BufReader::with_capacity(rt.alloc(), ROOM, &mut chain)?;
@@ -86,6 +87,7 @@ pub fn run_over_files<E: Sink>(
     let run = carry_out(
         rt.alloc(),
         command.request,
+        &command.selector,
         &mut Buffered::new(reader),
         &mut output,
         errors,

@@ -1,10 +1,11 @@
-//! `mseed`, the command: audits, lists and packs archives of seismic waveforms in miniSEED, and serves and fetches
-//! their records.
+//! `mseed`, the command: audits, lists, selects from and packs archives of seismic waveforms in miniSEED, and serves
+//! and fetches their records.
 #![tactic(auto)]
 
 ghost use Rattle.std.specs.Prelude.{IfOk};
 ghost use Rattle.mseed.specs.Live.{CanBeServed};
 
+mod blame;
 mod command;
 mod files;
 mod fill_fault;
@@ -13,6 +14,7 @@ mod live;
 mod outcome;
 mod planning;
 mod refusal;
+mod selecting;
 
 use files::{run_over_files, texts_of};
 use mseed_files::words_of;
@@ -29,7 +31,7 @@ const ROOM: usize = 1 << 17;
 fn main(rt: HostRuntime) -> ExitCode {
     let mut errors = Counted::new(rt.stderr());
     let status = match run_with_words(&rt, &mut errors) {
-        Ok(Run::Status(status)) => status,
+        Ok(Run::Status(ended)) => ended.status,
         Ok(Run::Serve(plan)) => slink_links::serve(&rt, &plan, &mut errors),
         Ok(Run::Live(living)) => { live::serve(&rt, rt.alloc(), &living, rt.stdin(), &mut errors) }
         Ok(Run::Fetch(mut plan)) => {

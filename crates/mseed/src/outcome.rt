@@ -1,4 +1,7 @@
 //! What a command leaves to do, and the exit statuses.
+ghost use Rattle.std.specs.Prelude.{◌≡◌};
+ghost use Rattle.mseed.specs.declared.outcome.Blame.{Blame};
+
 use mseed_words::{Command, Living};
 use slink_links::{FetchPlan, ServePlan};
 use std::alloc::{Allocator, Global};
@@ -24,11 +27,46 @@ pub enum Asked<'a, A: Allocator = Global> {
     Files(Command<'a>),
 }
 
+/// How a command ended.
+#[derive(Clone, Copy)]
+pub struct Ended {
+    /// The exit status.
+    pub status: u8,
+    /// What is wrong with the input, where more is to be said of it.
+    pub blame: Blame,
+}
+
+impl Ended {
+    /// A command that ended with this exit status, and of whose input nothing more is to be said.
+    pub fn with(status: u8) -> Ended
+        ensures status { result.status ≡ status }
+        ensures blame { result.blame ≡ Blame.Nothing }
+    {
+        Ended {
+            status,
+            blame: Blame::Nothing,
+        }
+    }
+}
+
+/// What is wrong with an input, where its files are named.
+#[derive(Clone, Copy)]
+pub enum Blame {
+    /// Nothing of which more is to be said.
+    Nothing,
+    /// A read failed.
+    Read,
+    /// There is a fault behind so many bytes.
+    Fault(u64),
+    /// The record that begins behind so many bytes is cut off.
+    Cut(u64),
+}
+
 /// What a command that was carried out answers.
 #[derive(Drop)]
 pub enum Run<A: Allocator = Global> {
-    /// The command is done, with this exit status.
-    Status(u8),
+    /// The command is done, and ended so.
+    Status(Ended),
     /// A feed is to be served.
     Serve(ServePlan<A>),
     /// A feed is to be served while its records come.

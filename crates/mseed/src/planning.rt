@@ -6,7 +6,7 @@ ghost use Rattle.mseed.specs.Live.{CanBeServed};
 ghost use Rattle.mseed.specs.Plans.{IsFetchPlan, IsServeRun, talk_of};
 
 use crate::filling::{fill, one_filling};
-use crate::outcome::Run;
+use crate::outcome::{Ended, Run};
 use crate::refusal::refuse_to_serve;
 use mseed_stream::{Sink, Source};
 use mseed_words::{Fetching, Serving};
@@ -35,7 +35,7 @@ pub fn plan_serve<A: Allocator + Copy, R: Source, E: Sink>(
             timeout: serving.listener.timeout,
             feed,
         }),
-        Err(fault) => Run::Status(refuse_to_serve(errors, &fault)),
+        Err(fault) => Run::Status(Ended::with(refuse_to_serve(errors, &fault))),
     }
 }
 

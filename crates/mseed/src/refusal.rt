@@ -106,7 +106,7 @@ fn tell_miscount<E: Sink>(errors: &mut E, parts: u64, expected: u64) -> u8
 }
 
 /// Says with what fault the input ended.
-fn tell_fault<E: Sink>(errors: &mut E, fault: &StreamFault) -> u8
+pub fn tell_fault<E: Sink>(errors: &mut E, fault: &StreamFault) -> u8
     ensures status { result ≡ 2 }
     ensures reported { Tells (codes "mseed: " ++ fault_line fault.now) (E.written errors.old) (E.written errors.new) }
 {
@@ -155,7 +155,12 @@ fn reason(fault: &PackFault) -> &'static [u8]
 }
 
 /// Says something of what has this number, in the words before the number and behind it.
-fn tell_number<'a, E: Sink>(errors: &mut E, before: &'a [u8], number: u64, behind: &'a [u8]) -> u8
+pub fn tell_number<'a, E: Sink>(
+    errors: &mut E,
+    before: &'a [u8],
+    number: u64,
+    behind: &'a [u8],
+) -> u8
     requires before { length before.now ≤ 32 }
     requires behind { length behind.now ≤ 32 }
     ensures status { result ≡ 2 }

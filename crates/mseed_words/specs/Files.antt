@@ -5,8 +5,8 @@ use Rattle.clap.specs.Walk.{Row, Text}
 use Rattle.mseed_words.specs.Found.{further_in, is_among}
 use Rattle.mseed_words.specs.declared.request.Request.{Request}
 use Rattle.mseed_words.specs.declared.request.Request.TheVariants.{Audit, AuditEach, AuditPart, AuditPartEach}
-use Rattle.mseed_words.specs.declared.request.Request.TheVariants.{Join, JoinEach, JoinPart, Show, Repack}
-use Rattle.mseed_words.specs.declared.request.Request.TheVariants.{RepackStretches, Serve, Live, Fetch}
+use Rattle.mseed_words.specs.declared.request.Request.TheVariants.{Join, JoinEach, JoinPart, Show, Select}
+use Rattle.mseed_words.specs.declared.request.Request.TheVariants.{Repack, RepackStretches, Serve, Live, Fetch}
 
 -- further words are files, but of serving and fetching, where they are places
 abbrev pub takes_files : Request → Bool
@@ -18,6 +18,7 @@ takes_files (Join joining) = true
 takes_files (JoinEach joining) = true
 takes_files (JoinPart joining) = true
 takes_files Show = true
+takes_files Select = true
 takes_files (Repack packing) = true
 takes_files (RepackStretches packing leave) = true
 takes_files (Serve serving) = false

@@ -5,5 +5,6 @@ pub mod Numbers
 pub mod Places
 pub mod Addresses
 pub mod FeedWords
+pub mod Selecting
 pub mod Words
 pub mod private

@@ -26,6 +26,10 @@ word_rule = new_rule (codes "command")
 abbrev pub places_rule : Rule
 places_rule = record (new_rule (codes "place")) { action = Some Append }
 
+-- which records are asked for; `--from` is that of a feed too
+abbrev pub selection_rules : List Rule
+selection_rules = option_rule (codes "channels") ∷ option_rule (codes "from") ∷ option_rule (codes "until") ∷ []
+
 -- the options of packing
 abbrev pub packing_rules : List Rule
 packing_rules = option_rule (codes "length") ∷ option_rule (codes "encoding") ∷ []
@@ -37,7 +41,7 @@ link_rules = option_rule (codes "address") ∷ option_rule (codes "timeout") ∷
 -- the options of a feed
 abbrev pub feed_rules : List Rule
 feed_rules = option_rule (codes "station") ∷ option_rule (codes "network") ∷ option_rule (codes "capacity")
-    ∷ option_rule (codes "first") ∷ option_rule (codes "from") ∷ link_rules
+    ∷ option_rule (codes "first") ∷ link_rules
 
 abbrev pub number_rules : List Rule
 number_rules = number_rule (codes "port") (Signed (pos 1) (pos 65535)) ∷ number_rule (codes "connections")
@@ -69,6 +73,6 @@ bare_command = on_top (λ s. record s { has_version = true; no_binary_name = tru
 -- with all places and options side by side
 abbrev pub the_command : App
 the_command =
-    with_rules (with_rules (with_rules (with_rules (with_rules (with_rules (with_rules
-    (with_rule (with_rule bare_command word_rule) places_rule) packing_rules) feed_rules) number_rules) audit_rules)
-    fetch_flag_rules) packing_flag_rules) live_rules
+    with_rules (with_rules (with_rules (with_rules (with_rules (with_rules (with_rules (with_rules
+    (with_rule (with_rule bare_command word_rule) places_rule) selection_rules) packing_rules) feed_rules) number_rules)
+    audit_rules) fetch_flag_rules) packing_flag_rules) live_rules

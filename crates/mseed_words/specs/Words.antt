@@ -9,14 +9,16 @@ use Rattle.clap.specs.Faults.{fault_of}
 use Rattle.mseed_pack.specs.declared.options.Encoding.{Encoding}
 use Rattle.mseed_pack.specs.declared.options.Encoding.TheVariants.{Int16, Int32, Steim1, Steim2}
 use Rattle.mseed_words.specs.Options.{the_command}
+use Rattle.mseed_select.specs.Selection.{Selection}
 use Rattle.mseed_words.specs.Files.{files_of}
 use Rattle.mseed_words.specs.Found.{asks, has_only}
 use Rattle.mseed_words.specs.Numbers.{number_in, number_within}
 use Rattle.mseed_words.specs.FeedWords.{CanFetch, CanLive, CanServe, fetching_of, living_of, serving_of}
+use Rattle.mseed_words.specs.Selecting.{asked_of}
 use Rattle.mseed_words.specs.declared.request.Request.{Request}
 use Rattle.mseed_words.specs.declared.request.Request.TheVariants.{Audit, AuditEach, AuditPart, AuditPartEach}
-use Rattle.mseed_words.specs.declared.request.Request.TheVariants.{Join, JoinEach, JoinPart, Show, Repack}
-use Rattle.mseed_words.specs.declared.request.Request.TheVariants.{RepackStretches, Serve, Live, Fetch}
+use Rattle.mseed_words.specs.declared.request.Request.TheVariants.{Join, JoinEach, JoinPart, Show, Select}
+use Rattle.mseed_words.specs.declared.request.Request.TheVariants.{Repack, RepackStretches, Serve, Live, Fetch}
 use Rattle.mseed_words.specs.declared.request.Joining.{Joining}
 use Rattle.mseed_words.specs.declared.request.Packing.{Packing}
 use Rattle.mseed_words.specs.declared.refusal.Refusal.{Refusal}
@@ -81,6 +83,14 @@ packing_of rows =
 abbrev pub showing_of : List Row → Option Request
 showing_of rows = if has_only (codes "command" ∷ codes "place" ∷ []) rows then Some Show else None
 
+-- what selecting takes: its word, files, and which records
+abbrev pub selecting_names : List Text
+selecting_names =
+    codes "command" ∷ codes "place" ∷ codes "channels" ∷ codes "from" ∷ codes "until" ∷ []
+
+abbrev pub selecting_of : List Row → Option Request
+selecting_of rows = if has_only selecting_names rows then Some Select else None
+
 -- what an audit writes: with a line for each finding or without, the text of the audit or its part
 abbrev pub auditing_by : Bool → Bool → Request
 auditing_by false false = Audit
@@ -143,6 +153,7 @@ request_named word rows =
     if bytes_eq word (codes "audit") then auditing_of rows
     else if bytes_eq word (codes "join") then joining_of rows
     else if bytes_eq word (codes "show") then showing_of rows
+    else if bytes_eq word (codes "select") then selecting_of rows
     else if bytes_eq word (codes "repack") then packing_of rows
     else if bytes_eq word (codes "serve") then serving_by (asks (codes "live") rows) rows
     else if bytes_eq word (codes "fetch") then option_map Fetch (fetching_of rows) else None
@@ -164,24 +175,38 @@ CanBeCalled (Join joining) = ⊤
 CanBeCalled (JoinEach joining) = ⊤
 CanBeCalled (JoinPart joining) = ⊤
 CanBeCalled Show = ⊤
+CanBeCalled Select = ⊤
 CanBeCalled (Repack packing) = (7 ≤ packing.exponent) × (packing.exponent ≤ 12)
 CanBeCalled (RepackStretches packing leave) = (7 ≤ packing.exponent) × (packing.exponent ≤ 12)
 CanBeCalled (Serve serving) = CanServe serving
 CanBeCalled (Live living) = CanLive living
 CanBeCalled (Fetch fetching) = CanFetch fetching
 
--- what is requested, and of which files: of none where standard input is read
-abbrev pub command_with : Option Request → List Row → Option (Request × List Text)
-command_with None rows = None
-command_with (Some request) rows = option_map (λ files. (request, files)) (files_of request rows)
+-- what is requested, of which records, where the words say, and of which files: of none where standard input is read
+pub record Requested : Type 0 where
+  pub request : Request
+  pub asked : Option Selection
+  pub files : List Text
 
-abbrev pub command_of : List Row → Option (Request × List Text)
+abbrev pub requested : Request → Option Selection → List Text → Requested
+requested request asked files = record { request = request; asked = asked; files = files }
+
+abbrev pub command_by : Request → Option (Option Selection) → Option (List Text) → Option Requested
+command_by request None files = None
+command_by request (Some asked) None = None
+command_by request (Some asked) (Some files) = Some (requested request asked files)
+
+abbrev pub command_with : Option Request → List Row → Option Requested
+command_with None rows = None
+command_with (Some request) rows = command_by request (asked_of request rows) (files_of request rows)
+
+abbrev pub command_of : List Row → Option Requested
 command_of rows = command_with (request_of rows) rows
 
--- the words ask for this, of these files
-pub record AsksFor (words : List Text) (request : Request) (files : List Text) : Type 0 where
+-- the words ask for this, of these records, and of these files
+pub record AsksFor (words : List Text) (request : Request) (asked : Option Selection) (files : List Text) : Type 0 where
   pub taken : faults_in words ≡ []
-  pub command_is : command_of (entries_in words) ≡ Some (request, files)
+  pub command_is : command_of (entries_in words) ≡ Some (requested request asked files)
 
 -- `clap` takes them, but they ask for nothing that there is
 pub record AsksForNothing (words : List Text) : Type 0 where

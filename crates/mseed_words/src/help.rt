@@ -5,7 +5,7 @@ pub const VERSION: &str = "0.1.0";
 
 /// What the program does, and how files are named.
 pub const ABOUT: &str =
-    "Audits, joins audits, lists, repacks, serves and fetches seismic waveforms in miniSEED.
+    "Audits, joins audits, lists, selects, repacks, serves and fetches seismic waveforms in miniSEED.
 Files are named after the command: mseed audit my.mseed";
 
 /// Each command by what it reads and writes, its options, its statuses and an example.
@@ -26,6 +26,13 @@ pub const COMMANDS: &str = "Commands:
   show    lists the records
           reads an archive, writes a line for each record
             mseed show my.mseed
+  select  copies the records of some channels and of a window of time, byte for byte
+          reads an archive, writes those of its records that are asked for; status 0, also for none
+          options: --channels, patterns parted by commas, each NET_STA_LOC_CHA: * takes any
+          characters, ? one, -- is the empty location; --from and --until, times as 2024-05-14,
+          2024-135 or 2024-05-14T03:20:00.5: records that reach into the window, which --until
+          isn't part of; a record whose start isn't known isn't in it, and such are counted
+            mseed select --channels 'IU_ANMO_00_BH?' --from 2024-05-14 my.mseed > some.mseed
   repack  packs each channel anew, in records of one length and one encoding
           reads an archive, writes an archive, which is bytes, to a terminal too: name a file
           after >; status 1: a channel isn't continuous
@@ -51,7 +58,7 @@ pub const COMMANDS: &str = "Commands:
             mseed fetch --port 18000 --station ANMO --network IU > fetched.mseed
 
 Files:
-  audit, join, show and repack read the files that are named, one after another, as one input;
+  audit, join, show, select and repack read the files that are named, one after another, as one input;
   - is standard input, and after -- each word is a file. Where no file is named, and by serve,
   what is read is standard input. What is written is standard output; messages go to standard
   error.

@@ -11,6 +11,7 @@ mod options;
 mod places;
 mod refusal;
 mod request;
+mod selecting;
 mod words;
 
 pub use places::Places;

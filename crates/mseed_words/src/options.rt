@@ -14,13 +14,15 @@ use std::alloc::{AllocError, Global};
 /// What has a name on the command line, behind `--`.
 #[derive(Clone, Copy)]
 enum Named {
+    Channels,
+    From,
+    Until,
     Length,
     Encoding,
     Station,
     Network,
     Capacity,
     First,
-    From,
     Address,
     Timeout,
     Port,
@@ -39,14 +41,16 @@ enum Named {
 }
 
 /// All of them, in the order of the help.
-const ALL: [Named; 22] = [
+const ALL: [Named; 24] = [
+    Named::Channels,
+    Named::From,
+    Named::Until,
     Named::Length,
     Named::Encoding,
     Named::Station,
     Named::Network,
     Named::Capacity,
     Named::First,
-    Named::From,
     Named::Address,
     Named::Timeout,
     Named::Port,
@@ -81,13 +85,15 @@ impl Named {
         ensures { result.now ≡ name_of self }
     {
         match self {
+            Named::Channels => "channels",
+            Named::From => "from",
+            Named::Until => "until",
             Named::Length => "length",
             Named::Encoding => "encoding",
             Named::Station => "station",
             Named::Network => "network",
             Named::Capacity => "capacity",
             Named::First => "first",
-            Named::From => "from",
             Named::Address => "address",
             Named::Timeout => "timeout",
             Named::Port => "port",
@@ -122,13 +128,15 @@ impl Named {
             | Named::Stretches
             | Named::Leave
             | Named::Live => Kind::Flag,
-            Named::Length
+            Named::Channels
+            | Named::From
+            | Named::Until
+            | Named::Length
             | Named::Encoding
             | Named::Station
             | Named::Network
             | Named::Capacity
             | Named::First
-            | Named::From
             | Named::Address
             | Named::Timeout
             | Named::Expect => Kind::Text,
@@ -138,13 +146,19 @@ impl Named {
     /// What the help says of it: the commands that take it, and what it is for.
     fn help(self) -> &'static str {
         match self {
+            Named::Channels => {
+                "select: the channels, as NET_STA_LOC_CHA with * and ?, parted by commas; by default all"
+            }
+            Named::From => {
+                "select: the window's begin, such as 2024-05-14T03:20; fetch: the first number, in hexadecimal"
+            }
+            Named::Until => "select: the window's end, which isn't part of it",
             Named::Length => "repack: bytes of a record, 128, 256, .. 4096; by default 512",
             Named::Encoding => "repack: int16, int32, steim1 or steim2; by default steim2",
             Named::Station => "serve, fetch: the first station",
             Named::Network => "serve, fetch: its network",
             Named::Capacity => "serve: how many records of each station to keep; by default 1000",
             Named::First => "serve: each first record's number, in hexadecimal; by default 0",
-            Named::From => "fetch: the first number, in hexadecimal; by default the oldest",
             Named::Address => {
                 "serve, fetch: the IPv4 address, of fetch also a name; by default 127.0.0.1"
             }
@@ -201,9 +215,9 @@ fn bare_command<'a>(alloc: Global) -> Command<'a>
 fn with_places<'a>(alloc: Global, command: Command<'a>) -> Result<Command<'a>, AllocError>
     ensures { IfOk result (λ c. app_of c ≡ with_rule (with_rule (app_of command.entry) word_rule) places_rule) }
 {
-    let word = Arg::new(alloc, "command").help("audit, join, show, repack, serve or fetch");
+    let word = Arg::new(alloc, "command").help("audit, join, show, select, repack, serve or fetch");
     let places = Arg::new(alloc, "place").action(ArgAction::Append).help(
-        "audit, join, show, repack: files; serve, fetch: further stations, NET_STA; of fetch also NET_STA:HEX",
+        "audit, join, show, select, repack: files; serve, fetch: further stations, NET_STA; of fetch also NET_STA:HEX",
     );
     command.arg(word)?.arg(places)
 }

@@ -1,13 +1,16 @@
 //! What a command line requests.
 use crate::places::Places;
 use mseed_pack::Encoding;
+use mseed_select::Selector;
 use slink_links::{Address, Host, Timeout};
 
-/// What the words of a command line request, and of which files.
+/// What the words of a command line request, of which records, and of which files.
 #[derive(Drop)]
 pub struct Command<'a> {
     /// What is done.
     pub request: Request,
+    /// Which records of the input it is done with, where the words say: else with all of them.
+    pub selector: Option<Selector<'a>>,
     /// The words that name the files whose bytes, one behind another, are the input; `-` is standard input. Without
     /// one standard input is read.
     pub files: Vec<&'a str>,
@@ -32,6 +35,8 @@ pub enum Request {
     JoinPart(Joining),
     /// List the records.
     Show,
+    /// Write the records as they are.
+    Select,
     /// Pack the archive anew.
     Repack(Packing),
     /// Pack it anew, each channel as a list of stretches.

@@ -8,7 +8,9 @@ ghost use Rattle.mseed_words.specs.Words.{AsksFor, CanBeCalled, IsRefusal, IsUna
 ghost use Rattle.mseed_words.specs.Words.{command_of, encoding_in};
 ghost use Rattle.mseed_words.specs.Words.{encoding_named, entries_in, expected_by, expected_in, exponent_by};
 ghost use Rattle.mseed_words.specs.Words.{exponent_in, faults_in, joining_by, joining_of, joining_with, packing_by};
-ghost use Rattle.mseed_words.specs.Words.{packing_of, packing_with, request_named, request_of, serving_by, showing_of};
+ghost use Rattle.mseed_words.specs.Words.{packing_of, packing_with, request_named, request_of, requested};
+ghost use Rattle.mseed_words.specs.Words.{selecting_of, serving_by, showing_of};
+ghost use Rattle.mseed_select.specs.Selecting.{selection_of};
 
 use crate::feed_words::{fetching_of, living_of, serving_of};
 use crate::files::{can_be_files, takes_files};
@@ -17,12 +19,14 @@ use crate::numbers::{number_in, number_within};
 use crate::options::command;
 use crate::refusal::Refusal;
 use crate::request::{Command, Joining, Packing, Request};
+use crate::selecting::asked_of;
 use clap::error::ErrorKind;
 use clap::{ArgMatches, Error};
 use mseed_pack::Encoding;
 use std::alloc::Global;
 
-/// Reads the words of a command line, those after the program's name: what they request, and of which files. A word
+/// Reads the words of a command line, those after the program's name: what they request, of which records, and of which
+/// files. A word
 /// that isn't text stands for itself by another that can be no word.
 ///
 /// # Errors
@@ -31,7 +35,7 @@ use std::alloc::Global;
 /// where they are, but request nothing that there is; `Refusal::Memory` where an allocation was refused.
 pub fn read<'a>(alloc: Global, words: &'a [&'a str]) -> Result<Command<'a>, Refusal>
     ensures request { IfOk result (λ command. AsksFor (map (λ word. word.now) words.entry.now) command.request
-        (map (λ file. file.now) command.files.items)) }
+        (option_map selection_of command.selector) (map (λ file. file.now) command.files.items)) }
     ensures range { IfOk result (λ command. CanBeCalled command.request) }
     ensures refused { IfErr result (IsRefusal (map (λ word. word.now) words.entry.now)) }
 {
@@ -41,14 +45,15 @@ pub fn read<'a>(alloc: Global, words: &'a [&'a str]) -> Result<Command<'a>, Refu
     }
 }
 
-/// What was read asks for, and of which files.
+/// What was read asks for, of which records, and of which files.
 ///
 /// # Errors
 ///
 /// `NoRequest` where it asks for nothing that there is, and `Memory` where there is no room for the files.
 fn command_of<'a>(alloc: Global, matches: &ArgMatches<'a>) -> Result<Command<'a>, Refusal>
     ensures command { IfOk result (λ command. command_of (rows_of (found_of matches.now))
-        ≡ Some (command.request, map (λ file. file.now) command.files.items)) }
+        ≡ Some (requested command.request (option_map selection_of command.selector)
+        (map (λ file. file.now) command.files.items))) }
     ensures range { IfOk result (λ command. CanBeCalled command.request) }
     ensures refused { IfErr result (λ refusal. IsUnasked refusal (command_of (rows_of (found_of matches.now)))) }
 {
@@ -56,8 +61,15 @@ fn command_of<'a>(alloc: Global, matches: &ArgMatches<'a>) -> Result<Command<'a>
         Some(request) => request,
         None => return Err(Refusal::NoRequest),
     };
+    let Some(selector) = asked_of(&request, matches) else {
+        return Err(Refusal::NoRequest);
+    };
     match files_of(alloc, &request, matches) {
-        Ok(files) => Ok(Command { request, files }),
+        Ok(files) => Ok(Command {
+            request,
+            selector,
+            files,
+        }),
         Err(refusal) => Err(refusal),
     }
 }
@@ -138,6 +150,7 @@ fn request_named(word: &str, matches: &ArgMatches<'_>) -> Option<Request>
         "audit" => auditing_of(matches),
         "join" => joining_of(matches),
         "show" => showing_of(matches),
+        "select" => selecting_of(matches),
         "repack" => packing_of(matches),
         "serve" => serving_by(asks(matches, "live"), matches),
         "fetch" => Some(Request::Fetch(fetching_of(matches)?)),
@@ -253,6 +266,18 @@ fn showing_of(matches: &ArgMatches<'_>) -> Option<Request>
 {
     if has_only(matches, &["command", "place"]) {
         Some(Request::Show)
+    } else {
+        None
+    }
+}
+
+/// The command that selects takes its word, files, and which records.
+fn selecting_of(matches: &ArgMatches<'_>) -> Option<Request>
+    ensures value { result ≡ selecting_of (rows_of (found_of matches.now)) }
+    ensures range { IfSome result CanBeCalled }
+{
+    if has_only(matches, &["command", "place", "channels", "from", "until"]) {
+        Some(Request::Select)
     } else {
         None
     }

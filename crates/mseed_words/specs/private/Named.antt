@@ -9,13 +9,15 @@ use Rattle.mseed_words.specs.declared.options.Named.{Named}
 use Rattle.mseed_words.specs.declared.options.Named.TheVariants as named
 
 abbrev pub name_of : Named → Text
+name_of named.Channels = codes "channels"
+name_of named.From = codes "from"
+name_of named.Until = codes "until"
 name_of named.Length = codes "length"
 name_of named.Encoding = codes "encoding"
 name_of named.Station = codes "station"
 name_of named.Network = codes "network"
 name_of named.Capacity = codes "capacity"
 name_of named.First = codes "first"
-name_of named.From = codes "from"
 name_of named.Address = codes "address"
 name_of named.Timeout = codes "timeout"
 name_of named.Port = codes "port"
@@ -45,13 +47,15 @@ kind_of named.Holes = kind.Flag
 kind_of named.Stretches = kind.Flag
 kind_of named.Leave = kind.Flag
 kind_of named.Live = kind.Flag
+kind_of named.Channels = kind.Text
+kind_of named.From = kind.Text
+kind_of named.Until = kind.Text
 kind_of named.Length = kind.Text
 kind_of named.Encoding = kind.Text
 kind_of named.Station = kind.Text
 kind_of named.Network = kind.Text
 kind_of named.Capacity = kind.Text
 kind_of named.First = kind.Text
-kind_of named.From = kind.Text
 kind_of named.Address = kind.Text
 kind_of named.Timeout = kind.Text
 kind_of named.Expect = kind.Text

@@ -36,6 +36,10 @@ returns-in-JoinPart-clause-done g c =
 pub returns-in-Show-clause-done : goal.returns-in-Show-clause-done
 returns-in-Show-clause-done g c = rw c.in-Show.is (c.show.result, (c.show.ensures.shown, c.shown.ensures))
 
+pub returns-in-Select-clause-done : goal.returns-in-Select-clause-done
+returns-in-Select-clause-done g c =
+    rw c.in-Select.is (c.select_asked-outcome.result, (c.select_asked-outcome.ensures, c.selected.ensures))
+
 pub returns-in-Repack-clause-done : goal.returns-in-Repack-clause-done
 returns-in-Repack-clause-done g c =
     let packed = c.repack-outcome in

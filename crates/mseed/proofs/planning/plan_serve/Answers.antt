@@ -1,4 +1,4 @@
-use Rattle.std.proofs.Common.{Ok, Err, refl}
+use Rattle.std.proofs.Common.{◌∙◌, Ok, Err, refl}
 use Rattle.mseed.proofs.planning.plan_serve.Goals as goal
 
 pub returns-in-Ok-clause-run : goal.returns-in-Ok-clause-run
@@ -24,5 +24,5 @@ returns-in-Err-clause-run g c = record {
   filling = c.in-Err.ensures;
   only = c.one_filling.ensures c.args.serving.now (g.R.Source.read c.fill.new.input) (Err c.in-Err.fault)
       c.in-Err.ensures;
-  planned = (c.refuse_to_serve.ensures.status, c.refuse_to_serve.ensures.reported);
+  planned = ((c.with.ensures.status ∙ c.refuse_to_serve.ensures.status), c.refuse_to_serve.ensures.reported);
 }

@@ -1,0 +1,38 @@
+-- What is wrong with an input, by what a command came to.
+use Rattle.std.specs.Prelude.{Option, Some, None}
+use Rattle.mseed_repack.specs.declared.fault.RepackFault.{RepackFault}
+use Rattle.mseed_repack.specs.declared.fault.RepackFault.TheVariants as packing
+use Rattle.mseed_repack.specs.declared.stretches_fault.StretchesFault.{StretchesFault}
+use Rattle.mseed_repack.specs.declared.stretches_fault.StretchesFault.TheVariants as stretches
+use Rattle.mseed_stream.specs.declared.fault.StreamFault.{StreamFault}
+use Rattle.mseed_stream.specs.declared.fault.StreamFault.TheVariants.{Frame, Truncated, Read, Turns, Memory}
+use Rattle.mseed.specs.declared.outcome.Blame.{Blame}
+use Rattle.mseed.specs.declared.outcome.Blame.TheVariants as blames
+
+-- a fault lies where it is told; a record that is cut off where it begins; a read that failed has no place
+abbrev pub blame_of : StreamFault → Blame
+blame_of (Frame n f) = blames.Fault n
+blame_of (Truncated n have) = blames.Cut n
+blame_of (Read n) = blames.Read
+blame_of (Turns n) = blames.Fault n
+blame_of Memory = blames.Nothing
+
+-- of an input that ended so
+abbrev pub blame_by : Option StreamFault → Blame
+blame_by None = blames.Nothing
+blame_by (Some fault) = blame_of fault
+
+-- of an archive that wasn't packed anew
+abbrev pub packing_blame : RepackFault → Blame
+packing_blame (packing.Stream fault) = blame_of fault
+packing_blame (packing.Broken key) = blames.Nothing
+packing_blame (packing.Misfit key fault) = blames.Nothing
+packing_blame packing.Write = blames.Nothing
+packing_blame packing.Memory = blames.Nothing
+
+abbrev pub stretches_blame : StretchesFault → Blame
+stretches_blame (stretches.Stream fault) = blame_of fault
+stretches_blame (stretches.Broken key) = blames.Nothing
+stretches_blame (stretches.Misfit key number fault) = blames.Nothing
+stretches_blame stretches.Write = blames.Nothing
+stretches_blame stretches.Memory = blames.Nothing

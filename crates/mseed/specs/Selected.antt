@@ -1,0 +1,49 @@
+-- What selecting says, and its exit status.
+use Rattle.std.specs.Prelude.{ℕ, zero, suc, List, [], ◌∷◌, ◌++◌, Option, Some, None, Result, Ok, Err, codes, decimal}
+use Rattle.mseed_select.specs.Selection.{Selection}
+use Rattle.mseed_select.specs.declared.fault.SelectFault.{SelectFault}
+use Rattle.mseed_select.specs.declared.fault.SelectFault.TheVariants.{Write, Memory}
+use Rattle.mseed_select.specs.declared.selected.Selected.{Selected}
+use Rattle.mseed_stream.specs.Device.{BytesWritten}
+use Rattle.mseed_stream.specs.declared.fault.StreamFault.{StreamFault}
+use Rattle.mseed_text.specs.Fault.{fault_line}
+use Rattle.mseed.specs.Blame.{blame_by}
+use Rattle.mseed.specs.Done.{end_status}
+use Rattle.mseed.specs.Outcome.{EndsBy, Report, no_memory, with_line, write_failed}
+use Rattle.mseed.specs.declared.outcome.Blame.TheVariants.{Nothing}
+use Rattle.mseed.specs.declared.outcome.Ended.{Ended}
+
+-- all records
+abbrev pub everything : Selection
+everything = record { channels = None; from = None; until = None }
+
+-- what is asked for: all records where no option says
+abbrev pub asked_or_all : Option Selection → Selection
+asked_or_all None = everything
+asked_or_all (Some s) = s
+
+-- the line that tells how many records lack a time, where some do
+abbrev pub untimed_line : ℕ → List ℕ
+untimed_line count = codes "mseed: " ++ decimal count ++ codes " records without a time\n"
+
+abbrev pub untimed_lines : ℕ → List (List ℕ)
+untimed_lines zero = []
+untimed_lines (suc n) = untimed_line (suc n) ∷ []
+
+-- the line of an input that ended with a fault
+abbrev pub end_lines : Option StreamFault → List (List ℕ)
+end_lines None = []
+end_lines (Some fault) = (codes "mseed: " ++ fault_line fault) ∷ []
+
+-- a selection: how many records lack a time, and then the input's fault
+abbrev pub select_report : Result Selected SelectFault → Report
+select_report (Ok found) = record {
+  status = end_status found.end;
+  lines = untimed_lines found.without_time ++ end_lines found.end;
+  blame = blame_by found.end;
+}
+select_report (Err Write) = with_line 2 write_failed Nothing
+select_report (Err Memory) = with_line 2 no_memory Nothing
+
+abbrev pub EndsSelect : Result Selected SelectFault → Ended → BytesWritten → BytesWritten → Type 0
+EndsSelect outcome ended old new = EndsBy (select_report outcome) ended old new

@@ -1,0 +1,55 @@
+//! What is wrong with an input, by the fault with which it ended.
+ghost use Rattle.std.specs.Prelude.{◌≡◌};
+ghost use Rattle.mseed.specs.Blame.{blame_by, blame_of, packing_blame, stretches_blame};
+
+use crate::outcome::Blame;
+use mseed_repack::{RepackFault, StretchesFault};
+use mseed_stream::StreamFault;
+
+/// What is wrong with an input that ended with this fault, if with one.
+pub fn blame_by(end: &Option<StreamFault>) -> Blame
+    ensures { result ≡ blame_by end.now }
+{
+    match end {
+        Some(fault) => blame_of(fault),
+        None => Blame::Nothing,
+    }
+}
+
+/// What is wrong with an input that ended with this fault.
+pub fn blame_of(fault: &StreamFault) -> Blame
+    ensures { result ≡ blame_of fault.now }
+{
+    match fault {
+        StreamFault::Frame(offset, _) | StreamFault::Turns(offset) => Blame::Fault(*offset),
+        StreamFault::Truncated(offset, _) => Blame::Cut(*offset),
+        StreamFault::Read(_) => Blame::Read,
+        StreamFault::Memory => Blame::Nothing,
+    }
+}
+
+/// What is wrong with an input that wasn't packed anew.
+pub fn packing_blame(fault: &RepackFault) -> Blame
+    ensures { result ≡ packing_blame fault.now }
+{
+    match fault {
+        RepackFault::Stream(fault) => blame_of(fault),
+        RepackFault::Broken(_)
+        | RepackFault::Misfit(..)
+        | RepackFault::Write
+        | RepackFault::Memory => Blame::Nothing,
+    }
+}
+
+/// What is wrong with an input that wasn't packed anew by stretches.
+pub fn stretches_blame(fault: &StretchesFault) -> Blame
+    ensures { result ≡ stretches_blame fault.now }
+{
+    match fault {
+        StretchesFault::Stream(fault) => blame_of(fault),
+        StretchesFault::Broken(_)
+        | StretchesFault::Misfit(..)
+        | StretchesFault::Write
+        | StretchesFault::Memory => Blame::Nothing,
+    }
+}
