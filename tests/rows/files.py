@@ -4,15 +4,16 @@ from __future__ import annotations
 
 import os
 import random
+import re
 import subprocess
 import tempfile
 from pathlib import Path
-from typing import Iterator, Sequence
+from typing import Iterator, Optional, Sequence
 
 from driver.program import LIMIT, PROGRAM, SAMPLES
 from driver.records import next_record, record
 from driver.rows import Cases, Fact, Row, Word, holds
-from driver.texts import BAD_VALUE
+from driver.texts import BAD_VALUE, WRITE_FAILED
 
 TWO = SAMPLES / "two_records.mseed"
 ARCHIVE = TWO.read_bytes()
@@ -143,9 +144,150 @@ def cut_anywhere(folder: Path) -> Cases:
         yield Row(f"{command} cut at {cuts} of {len(archive)}, {index}", b"", [*command, *names], *ended[:3])
 
 
+def fault_in(word: str, offset: int) -> bytes:
+    """The line of a fault in a file."""
+    return f"mseed: fault in {word} at {offset}\n".encode()
+
+
+JUNK = b"x" * 60
+LONG = record(exponent=9)
+# Files that end with a fault, and of which file and place it is told.
+FAULTS: list[tuple[str, list[bytes], int, int]] = [
+    ("junk at the end of the first", [record() + JUNK, next_record(), record()], 0, 128),
+    ("junk at the end of the middle one", [record(), next_record() + JUNK, record()], 1, 128),
+    ("junk at the end of the last", [record(), next_record(), record() + JUNK], 2, 128),
+    ("junk at the begin of the first", [JUNK + record(), record()], 0, 0),
+    ("junk between records", [record(), record() + JUNK + record() * 3], 1, 128),
+    # A file that ends within a record takes the next one's bytes: it is told of that record.
+    ("the first ends within a record", [record() + record()[:100], record()], 0, 128),
+    ("the first ends within its one record", [record()[:100], record()], 0, 0),
+    ("the middle one ends within a record", [record(), record()[:127], record()], 1, 0),
+    ("it reaches over two", [record() + LONG[:300], record()[:100], b"", record() * 4], 0, 128),
+    ("the first ends within a header", [record() + record()[:46], record()], 0, 128),
+    # Behind a record that ends with its file, the fault is told of that record.
+    ("a file of junk behind a sound one", [record() * 3, JUNK], 0, 256),
+    ("a file of junk between sound ones", [record(), record() * 2, JUNK, record()], 1, 128),
+    ("a file of junk behind an empty one", [record(), b"", JUNK], 0, 0),
+    # A record that is cut off at the end is told itself.
+    ("the last ends within a record", [record() * 2, record() + record()[:100]], 1, 128),
+    ("the last ends within its one record", [record() * 2, record()[:100]], 1, 0),
+    ("the last ends within a header", [record(), record()[:20]], 1, 0),
+    ("one file that ends within a record", [record() + record()[:100]], 0, 128),
+    ("empty ones behind", [record(), record()[:100], b"", b""], 1, 0),
+    ("one record in three files", [record(), LONG[:50], LONG[50:60], LONG[60:500]], 1, 0),
+    # But for one that reaches over from another file, since that one is at fault.
+    ("a long record takes a piece", [LONG[:500], b"y" * 12 + b"0000"], 0, 0),
+]
+
+
+def faults(folder: Path) -> Cases:
+    """A fault of the input is told last, of the file in which it lies."""
+    for name, contents, file, offset in FAULTS:
+        names = written(folder, contents)
+        told = fault_in(names[file], offset)
+        for command in (*COMMANDS, ["select"]):
+            ended = Row("", b"".join(contents), command, 2).run()
+            yield Row(f"{command}, {name}", b"", [*command, *names], 2, ended.out, ended.err + told)
+            if command == ["show"]:
+                yield Row(f"{command}, {name}, a full device", b"", [*command, *names], 2, b"", WRITE_FAILED,
+                          out_to="/dev/full")
+        ended = Row("", b"".join(contents), ["audit"], 2).run()
+        yield Row(f"standard input, {name}", contents[0], ["audit", "-", *names[1:]], 2, ended.out,
+                  fault_in("-", offset) if file == 0 else told)
+        script = '"$0" show ' + " ".join(f'<(cat "${index + 1}")' for index in range(len(names)))
+        ran = subprocess.run(["bash", "-c", script, PROGRAM, *names], capture_output=True, timeout=LIMIT, check=False,
+                             stdin=subprocess.DEVNULL)
+        yield holds(f"pipes, {name}", re.fullmatch(rb"mseed: fault in /dev/fd/\d+ at %d\n" % offset, ran.stderr),
+                    ran.stderr)
+    path = os.path.join(os.fsencode(folder), b"a\n\xff")
+    with open(path, "wb") as file:
+        file.write(JUNK)
+    yield Row("a fault in a file whose name is no text", b"", ["audit", path], 2, b"records 0 channels 0\n"
+              b"fault at 0 notdata\n", b"mseed: fault in " + os.fsencode(folder) + b"/a?? at 0\n")
+
+
+def pieces_with_faults(folder: Path) -> Cases:
+    """Archives with junk or a cut, in files: the place is that of a plain reading of the rule."""
+    rng = random.Random(57)
+    for index in range(300):
+        contents = []
+        for _ in range(rng.randrange(1, 6)):
+            size = rng.randrange(4)
+            contents.append(b"".join(record(exponent=rng.randrange(7, 10)) for _ in range(size)))
+        hit = rng.randrange(len(contents))
+        cut = rng.randrange(len(contents[hit]) + 1)
+        contents[hit] = contents[hit][:cut] + (JUNK if rng.randrange(2) else b"")
+        ended = Row("", b"".join(contents), ["show"], 2).run()
+        lines = ended.out.splitlines()
+        if ended.status == 0:
+            continue
+        fault = lines[-1].split()
+        begins = [int(line.split()[0]) for line in lines[:-2]]
+        file, offset = told_place([len(piece) for piece in contents], int(fault[2]), fault[3] == b"truncated",
+                                  begins[-1] if begins else None)
+        names = written(folder, contents)
+        yield Row(f"{[len(piece) for piece in contents]}, {index}", b"", ["show", *names], 2, ended.out,
+                  fault_in(names[file], offset))
+
+
+def told_place(sizes: Sequence[int], fault: int, is_cut: bool, last: Optional[int]) -> tuple[int, int]:
+    """The file of which a fault is told, and the place in it, by the sizes of the files."""
+    def place(offset: int) -> tuple[int, int]:
+        bounds = [sum(sizes[:index]) for index in range(len(sizes))]
+        file = max(index for index, bound in enumerate(bounds) if bound <= offset and (bound < sum(sizes) or not bound))
+        return file, offset - bounds[file]
+
+    if last is not None and place(last)[0] != place(fault - 1 if is_cut else fault)[0]:
+        return place(last)
+    return place(fault)
+
+
+def bad_parts(folder: Path) -> Cases:
+    """A bad part is told of the file in which its line begins; where the text ends within a part, of the last."""
+    part = Row("", ARCHIVE, ["audit", "--part"], 0).run().out
+    lines = part.splitlines(keepends=True)
+    for name, contents, line, file, offset in [
+        ("a word in the first", [b"x\n", part], 1, 0, 0),
+        ("a word behind the first", [part, b"x\n" + part], len(lines) + 1, 1, 0),
+        ("a word within the second", [part, lines[0] + b"x\n", part], len(lines) + 2, 1, len(lines[0])),
+        ("a word within a piece", [part, lines[0][:5], lines[0][5:] + b"x\n", part], len(lines) + 2, 2,
+         len(lines[0]) - 5),
+        ("a line that begins in a file and goes on in the next", [part + lines[0][:5], b"x\n"], len(lines) + 1, 0,
+         len(part)),
+        ("a part without its end", [part, part[: -len(lines[-1])]], 2 * len(lines), 1, len(part) - len(lines[-1])),
+        ("a line without its end", [part, part[:-1]], 2 * len(lines), 1, len(part) - len(lines[-1])),
+        ("an empty file behind a part without its end", [part, lines[0], b""], len(lines) + 2, 2, 0),
+    ]:
+        names = written(folder, contents)
+        told = b"mseed: bad part at line %d\n" % line + fault_in(names[file], offset)
+        for command in (["join"], ["join", "--part"], ["join", "--each"], ["join", "--expect", "9"]):
+            ended = Row("", b"".join(contents), command, 2).run()
+            yield Row(f"{command}, {name}", b"", [*command, *names], 2, ended.out, told)
+    faulty = Row("", ARCHIVE + JUNK, ["audit", "--part"], 2).run().out
+    names = written(folder, [part, faulty])
+    ended = Row("", part + faulty, ["join"], 2).run()
+    yield Row("an archive's fault isn't the input's", b"", ["join", *names], 2, ended.out, b"")
+    yield Row("fewer parts than expected", b"", ["join", "--expect", "3", *names], 2, b"", b"mseed: 2 parts, not 3\n")
+
+
+def failed_reads(folder: Path) -> Cases:
+    """A file that fails in its turn is told last; behind a failed write or want of memory nothing is."""
+    good = written(folder, [ARCHIVE])[0]
+    failing = "/proc/self/mem"
+    told = cannot_read(failing.encode())
+    fault = b"mseed: fault at %d read\n" % len(ARCHIVE)
+    yield Row("audit", b"", ["audit", good, failing], 2, Row("", ARCHIVE, ["audit"], 0).run().out + fault[7:], told)
+    yield Row("show", b"", ["show", good, failing], 2, Row("", ARCHIVE, ["show"], 0).run().out + fault[7:], told)
+    yield Row("select", b"", ["select", good, failing], 2, ARCHIVE, fault + told)
+    yield Row("repack", b"", ["repack", good, failing], 2, b"", fault + told)
+    for command in (["audit"], ["show"], ["select"]):
+        yield Row(f"{command}, a full device", b"", [*command, good, failing], 2, b"", WRITE_FAILED, out_to="/dev/full")
+
+
 def rows() -> Cases:
     """All of them."""
-    for make in (named, refused, output, unreadable, piped, many, cut_anywhere):
+    for make in (named, refused, output, unreadable, piped, many, cut_anywhere, faults, pieces_with_faults, bad_parts,
+                 failed_reads):
         with tempfile.TemporaryDirectory() as folder:
             os.chmod(folder, 0o755)
             yield from make(Path(folder))

@@ -60,7 +60,8 @@ NO_PATTERNS = ["", ",", "IU", "IU_ANMO_00", "IU_ANMO_00_BHZ_", "IU_ANMO_00_BHZ_x
 def by_channels() -> Cases:
     """By patterns of channels."""
     for text, kept in PATTERNS:
-        yield from selected(f"channels {text}", ALL, ["--channels", text], kept)
+        yield from selected(f"channels {text}", ALL, [f"--channels={text}"], kept)
+    yield from selected("channels as a word of its own", ALL, ["--channels", "IU_*_*_*"], IU)
     for text in NO_PATTERNS:
         yield Row(f"channels {text!r}", ARCHIVE, ["select", "--channels", text], 3, b"", BAD_VALUE, left=len(ARCHIVE))
     yield Row("channels twice", ARCHIVE, ["select", "--channels", "*_*_*_*", "--channels", "*_*_*_*"], 3, b"",
@@ -84,8 +85,8 @@ TIMES: list[tuple[str, int]] = [
     ("2100-12-31T23:59:60.999999", 2430000000999999 - 0)]
 
 NO_TIMES = ["", "2024", "2024-1-1", "2024-01", "2024-13-01", "2024-00-01", "2024-01-00", "2024-01-32", "2024-02-30",
-            "2023-02-29", "2100-02-29", "2023-366", "2024-000", "2024-367", "2024-1", "2024-12", "1899-12-31", "2101-001",
-            "24-01-01", "02024-01-01", "2024-01-01T", "2024-01-01T24", "2024-01-01T0", "2024-01-01T00:60",
+            "2023-02-29", "2100-02-29", "2023-366", "2024-000", "2024-367", "2024-1", "2024-12", "1899-12-31",
+            "2101-001", "24-01-01", "02024-01-01", "2024-01-01T", "2024-01-01T24", "2024-01-01T0", "2024-01-01T00:60",
             "2024-01-01T00:0", "2024-01-01T00:00:61", "2024-01-01T00:00:00.", "2024-01-01T00:00:00.0000000",
             "2024-01-01T00.5", "2024-01-01T00:00.5", "2024-01-01t00", "2024-01-01 00:00", "2024-01-01z",
             "2024-01-01ZZ", "2024-01-01T00:00:00+00:00", "2024-01-01T00:00:00,5", "2024/01/01", "20240101",
@@ -171,9 +172,10 @@ def faults() -> Cases:
     yield Row("a folder", SAMPLES, ["select"], 2, b"", b"mseed: fault at 0 read\n")
 
 
-OTHERS = [["--each"], ["--part"], ["--past-faults"], ["--expect", "1"], ["--length", "512"], ["--encoding", "steim2"],
-          ["--stretches"], ["--leave"], ["--station", "STA"], ["--network", "XX"], ["--capacity", "1"], ["--first", "0"],
-          ["--address", "127.0.0.1"], ["--timeout", "1"], ["--port", "1"], ["--connections", "1"], ["--tries", "1"],
+OTHERS = [["--each"], ["--part"], ["--past-faults"], ["--expect", "1"], ["--length", "512"],
+          ["--encoding", "steim2"], ["--stretches"], ["--leave"], ["--station", "STA"], ["--network", "XX"],
+          ["--capacity", "1"], ["--first", "0"], ["--address", "127.0.0.1"], ["--timeout", "1"], ["--port", "1"],
+          ["--connections", "1"], ["--tries", "1"],
           ["--tell-next"], ["--holes"], ["--live"], ["--clients", "1"]]
 SELECTIONS = [["--channels", "*_*_*_*"], ["--from", FIRST], ["--until", "2025-001"]]
 FEED = ["--port", "1", "--station", "STA", "--network", "XX"]
@@ -194,7 +196,8 @@ def refused() -> Cases:
 
 NOT_TAKING: list[list[str]] = [
     ["audit", "--part"], ["audit", "--part", "--each"], ["join"], ["join", "--each"], ["join", "--part"],
-    ["join", "--past-faults"], ["join", "--expect", "1"], ["serve", *FEED], ["serve", "--live", *FEED], ["repack", "--leave"]]
+    ["join", "--past-faults"], ["join", "--expect", "1"], ["serve", *FEED], ["serve", "--live", *FEED],
+    ["repack", "--leave"]]
 
 
 def of_files(folder: Path) -> Cases:

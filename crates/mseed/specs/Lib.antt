@@ -10,5 +10,6 @@ pub mod Selected
 pub mod Files
 pub mod Filling
 pub mod Plans
+pub mod Watched
 pub mod Live
 pub mod private

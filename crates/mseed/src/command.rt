@@ -39,14 +39,14 @@ use std::alloc::{Allocator, Global};
 /// behind another, or with `--part` their joint part; with `--each` a line for each border with a finding comes before
 /// the audit, and where there aren't as many parts as `--expect` says, a line on `errors` says so in place of it:
 /// status 2. `show` lists the records: status 0, or 2 where the input ended with a fault, which the listing names, or
-/// where it couldn't be written whole. `select` writes the records that are asked for, as they are: status 0, or 2 where
-/// the input ended with a fault, which `errors` takes behind the number of the records that lack a time, or where they
-/// couldn't be written. `repack` packs the archive anew: status 0, 1 where a channel is broken, and 2
-/// where the input is no whole archive, where a channel can't be packed, or where the output failed; `errors` takes a
-/// line that says so. `serve` fills a feed with the records of `input` and answers how it is to be served, or status 2
-/// with a line where they aren't all the feed's or don't end where a record ends. `fetch` answers what is to be
-/// fetched. Where files are named nothing is done yet: they are left to be read. Other words are a bad command line:
-/// status 3. Where there was no memory for the words, status 2. The input is one of which nothing was read yet.
+/// where it couldn't be written whole. `select` writes the records that are asked for, as they are: status 0, or 2
+/// where the input ended with a fault, which `errors` takes behind the number of the records that lack a time, or where
+/// they couldn't be written. `repack` packs the archive anew: status 0, 1 where a channel is broken, and 2 where the
+/// input is no whole archive, where a channel can't be packed, or where the output failed; `errors` takes a line that
+/// says so. `serve` fills a feed with the records of `input` and answers how it is to be served, or status 2 with a
+/// line where they aren't all the feed's or don't end where a record ends. `fetch` answers what is to be fetched. Where
+/// files are named nothing is done yet: they are left to be read. Other words are a bad command line: status 3. Where
+/// there was no memory for the words, status 2. The input is one of which nothing was read yet.
 #[tactic(auto, using(crate::proofs::Asking::called_is, crate::proofs::Asking::left_is))]
 pub fn run<'a, R: Source, W: Sink, E: Sink>(
     alloc: Global,

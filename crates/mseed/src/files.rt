@@ -1,16 +1,16 @@
 //! A command over the files that words name.
-ghost use Rattle.std.specs.Prelude.{◌≡◌, ◌⊎◌, IfOk};
-ghost use Rattle.mseed_stream.specs.Telling.{Tells};
-ghost use Rattle.mseed.specs.Files.{cannot_read, told_byte};
+ghost use Rattle.std.specs.Prelude.{IfOk};
 ghost use Rattle.mseed.specs.Live.{CanBeServed};
-ghost use Rattle.mseed.specs.Outcome.{no_memory};
 ghost use Rattle.mseed_words.specs.Words.{CanBeCalled};
 
-use crate::command::{carry_out, refuse_memory};
+use crate::command::carry_out;
+use crate::naming::{tell_blame, tell_unreadable};
 use crate::outcome::{Ended, FAULT, Run};
+use crate::trail::Trail;
+use crate::watched::Watched;
 use mseed_files::{Chain, Named, find_unreadable};
-use mseed_stream::{Buffered, Counted, Sink, tell};
-use mseed_words::Command;
+use mseed_stream::{Buffered, Counted, Sink};
+use mseed_words::{Command, Request};
 use std::alloc::{AllocError, Global};
 use std::io;
 use std::io::BufReader;
@@ -59,7 +59,7 @@ fn word_of<'a>(text: &'a str, words: &'a [Vec<u8>]) -> &'a [u8] {
 }
 
 /// Carries out a command over the files that it names, of these words. The files are looked at first; one that can't be
-/// read is told, and nothing is done then.
+/// read is told, and nothing is done then. What is wrong with the input is told last, of the file in which it lies.
 ///
 /// # Errors
 ///
@@ -77,76 +77,39 @@ pub fn run_over_files<E: Sink>(
     for file in &command.files {
         names.push(word_of(file, words))?;
     }
-    if let Some(index) = find_unreadable(rt, &names) {
-        let status = refuse_file(rt.alloc(), errors, &names, index);
-        return Ok(Run::Status(Ended::with(status)));
+    if let Some(index) = find_unreadable(rt, &names)
+        && let Some(name) = names.get(index)
+    {
+        tell_unreadable(rt.alloc(), errors, name);
+        return Ok(Run::Status(Ended::with(FAULT)));
     }
     let mut chain = Chain::new(rt.alloc(), Named { words: &names })?;
+    let trail = trail_of(rt.alloc(), &command.request);
     let reader = BufReader::with_capacity(rt.alloc(), ROOM, &mut chain)?;
+    let mut input = Watched::new(Buffered::new(reader), trail);
     let mut output = Counted::new(io::writer(rt));
     let run = carry_out(
         rt.alloc(),
         command.request,
         &command.selector,
-        &mut Buffered::new(reader),
+        &mut input,
         &mut output,
         errors,
     );
-    if let Some(index) = chain.failed() {
-        refuse_file(rt.alloc(), errors, &names, index);
+    let last = input.trail().last();
+    drop(input);
+    if let Run::Status(ended) = &run {
+        tell_blame(rt.alloc(), errors, &names, &chain, ended.blame, last);
     }
     Ok(run)
 }
 
-/// Says that a file can't be read, by its number, and answers the exit status.
-fn refuse_file<E: Sink>(alloc: Global, errors: &mut E, names: &[&[u8]], index: usize) -> u8
-    ensures { result ≡ 2 }
-{
-    match names.get(index) {
-        Some(name) => tell_unreadable(alloc, errors, name),
-        None => FAULT,
-    }
-}
-
-/// Says that the file that a word names can't be read, and answers the exit status.
-fn tell_unreadable<E: Sink>(alloc: Global, errors: &mut E, word: &[u8]) -> u8
-    ensures status { result ≡ 2 }
-    ensures reported { Tells (cannot_read word.now) (E.written errors.old) (E.written errors.new)
-        ⊎ Tells no_memory (E.written errors.old) (E.written errors.new) }
-{
-    match unreadable_line(alloc, word) {
-        Ok(line) => {
-            tell(errors, &line);
-            FAULT
+/// What follows the records of an input: parts have none.
+fn trail_of(alloc: Global, request: &Request) -> Trail {
+    match request {
+        Request::Join(_) | Request::JoinEach(_) | Request::JoinPart(_) => {
+            Trail::of_no_records(alloc)
         }
-        Err(AllocError) => refuse_memory(errors),
-    }
-}
-
-/// The line of a file that can't be read.
-///
-/// # Errors
-///
-/// Where there is no memory for it.
-fn unreadable_line(alloc: Global, word: &[u8]) -> Result<Vec<u8>, AllocError>
-    ensures { IfOk result (λ line. line.items ≡ cannot_read word.now) }
-{
-    let mut line = Vec::new(alloc);
-    line.extend_from_slice(b"mseed: cannot read ")?;
-    for byte in word {
-        line.push(told(*byte))?;
-    }
-    line.push(b'\n')?;
-    Ok(line)
-}
-
-/// A byte as it's told.
-fn told(byte: u8) -> u8
-    ensures { result ≡ told_byte byte }
-{
-    if 32 <= byte && byte <= 126 {
-        byte
-    } else {
-        b'?'
+        _ => Trail::new(alloc),
     }
 }

@@ -11,10 +11,13 @@ mod files;
 mod fill_fault;
 mod filling;
 mod live;
+mod naming;
 mod outcome;
 mod planning;
 mod refusal;
 mod selecting;
+mod trail;
+mod watched;
 
 use files::{run_over_files, texts_of};
 use mseed_files::words_of;
