@@ -10,7 +10,7 @@ from pathlib import Path
 from typing import Iterator, Sequence
 
 from driver.program import LIMIT, PROGRAM, SAMPLES
-from driver.records import changed, integers, record
+from driver.records import changed, integers, next_record, record
 from driver.rows import Cases, Fact, Row, Word, both
 from driver.texts import BAD_VALUE, About
 
@@ -257,9 +257,67 @@ def lengths() -> Cases:
     yield from selected("a little-endian header", little, ["--from", FIRST, "--until", "2024-002"], little)
 
 
+# Two channels by turns, one with a gap; the second record of each follows its first.
+TURNS = [record(), coded(b"XX", b"STB", b"", b"BHZ"), next_record(),
+         coded(b"XX", b"STB", b"", b"BHZ", fraction=8000), coded(b"XX", b"STB", b"", b"BHZ", second=5)]
+STA = b"XX_STA__BHZ continuous 2024-01-01T00:00:00.000000 rate 20/1 records 2 samples 32\n"
+STB = b"XX_STB__BHZ broken findings 1 first record 5 offset 512 gap 3400000\n"
+GAP = b"512 XX_STB__BHZ record 5 start 2024-01-01T00:00:05.000000 gap 3400000\n"
+
+
+def by_other_commands() -> Cases:
+    """An audit and a listing of the records that are asked for, as if no others were there; numbers and offsets are
+    those of the whole input."""
+    whole = b"".join(TURNS)
+    sta, stb = ["--channels", "*_STA_*_*"], ["--channels", "*_STB_*_*"]
+    yield from both(Row("audit of one", whole, ["audit", *sta], 0, STA + b"records 2 channels 1\n"))
+    yield from both(Row("audit of the other", whole, ["audit", *stb], 1, STB + b"records 3 channels 1\n"))
+    yield from both(Row("each of one", whole, ["audit", "--each", *sta], 0, STA + b"records 2 channels 1\n"))
+    yield from both(Row("each of the other", whole, ["audit", *stb, "--each"], 1, GAP + STB
+                        + b"records 3 channels 1\n"))
+    yield from both(Row("audit of both", whole, ["audit", "--channels", "*_*_*_*"], 1, STA + STB
+                        + b"records 5 channels 2\n"))
+    yield from both(Row("audit of none", whole, ["audit", "--channels", "YY_*_*_*"], 0, b"records 0 channels 0\n"))
+    # The gap is at the window's border, of which nothing is said.
+    later = b"XX_STB__BHZ continuous 2024-01-01T00:00:05.000000 rate 20/1 records 1 samples 16\nrecords 1 channels 1\n"
+    yield from both(Row("audit of a window", whole, ["audit", "--from", "2024-01-01T00:00:05"], 0, later))
+    lines = Row("", whole, ["show"], 0).run().out.splitlines(keepends=True)
+    for words, kept in [(sta, [0, 2]), (stb, [1, 3, 4]), (["--from", "2024-01-01T00:00:01"], [2, 3, 4]),
+                        ([*stb, "--until", "2024-01-01T00:00:05"], [1, 3]), (["--from", "2025-001"], [])]:
+        listing = b"".join(lines[index] for index in kept) + b"records %d\n" % len(kept)
+        yield from both(Row(f"show {words}", whole, ["show", *words], 0, listing))
+    fault = b"fault at 640 truncated 7\n"
+    yield from both(Row("audit up to a fault", whole + b"0000010", ["audit", *sta], 2, STA + b"records 2 channels 1\n"
+                        + fault))
+    yield from both(Row("show up to a fault", whole + b"0000010", ["show", "--from", "2025-001"], 2, b"records 0\n"
+                        + fault))
+    bad = changed(record(), [(24, bytes([24]))])
+    for command, out in [("audit", STA + b"records 2 channels 1\n"), ("show", None)]:
+        timed = Row("", whole, [command, *sta], 0).run().out if out is None else out
+        yield from both(Row(f"{command}, records without a time", whole + bad * 2, [command, *sta, "--from", FIRST], 0,
+                            timed, untimed(2)))
+
+
+def repacked() -> Cases:
+    """Packing anew those that are asked for is packing what is selected."""
+    bad = changed(record(), [(24, bytes([24]))])
+    broken = b"".join([*TURNS, bad])
+    for words in (["--channels", "*_STA_*_*", "--until", "2025-001"], ["--channels", "*_STB_*_*"],
+                  ["--from", "2024-01-01T00:00:01"], ["--from", "2024-01-01T00:00:05"], ["--channels", "YY_*_*_*"]):
+        chosen = Row("", broken, ["select", *words], 0).run()
+        for options in ([], ["--length", "128", "--encoding", "int32"], ["--stretches"], ["--stretches", "--leave"]):
+            alone = Row("", chosen.out, ["repack", *options], 0).run()
+            yield Row(f"repack {options} {words}", broken, ["repack", *options, *words], alone.status, alone.out,
+                      chosen.err + alone.err)
+        yield Row(f"a fault anywhere {words}", broken + b"x" * 48, ["repack", *words], 2, b"",
+                  b"mseed: fault at %d notdata\n" % len(broken))
+    yield Row("repack of one that is not asked for", broken, ["repack"], 1, b"", b"mseed: XX_STA__BHZ is broken\n")
+
+
 def rows() -> Cases:
     """All of them."""
-    for make in (by_channels, by_time, bounds, without_time, faults, refused, as_it_comes, lengths):
+    for make in (by_channels, by_time, bounds, without_time, faults, refused, as_it_comes, lengths, by_other_commands,
+                 repacked):
         yield from make()
     with tempfile.TemporaryDirectory() as folder:
         yield from of_files(Path(folder))

@@ -4,7 +4,8 @@ use Rattle.mseed_select.specs.Selection.{Selection}
 use Rattle.mseed_words.specs.Words.{AsksFor, AsksForNothing, Requested, requested}
 use Rattle.mseed_words.specs.declared.request.Request.{Request}
 use Rattle.mseed.specs.Asked.{HasRun, IsLeft}
-use Rattle.mseed.specs.Run.{HasCarriedOut, Streams, UnlessMemoryLacks}
+use Rattle.mseed.specs.Run.{HasCarriedOut, UnlessMemoryLacks}
+use Rattle.mseed.specs.Streams.{Streams}
 use Rattle.mseed.specs.declared.outcome.Asked.{Asked}
 use Rattle.mseed.specs.declared.outcome.Asked.TheVariants.{Done, Files}
 

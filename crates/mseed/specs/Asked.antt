@@ -5,7 +5,8 @@ use Rattle.mseed_select.specs.Selection.{Selection}
 use Rattle.mseed_words.specs.Words.{CanBeCalled}
 use Rattle.mseed_words.specs.declared.request.Request.{Request}
 use Rattle.mseed.specs.Live.{CanBeServed}
-use Rattle.mseed.specs.Run.{IsIdle, LacksMemory, Streams}
+use Rattle.mseed.specs.Run.{LacksMemory}
+use Rattle.mseed.specs.Streams.{IsIdle, Streams}
 use Rattle.mseed.specs.declared.outcome.Asked.{Asked}
 use Rattle.mseed.specs.declared.outcome.Asked.TheVariants.{Done, Files}
 use Rattle.mseed.specs.declared.outcome.Run.{Run}

@@ -1,5 +1,7 @@
 -- What is wrong with an input, by what a command came to.
 use Rattle.std.specs.Prelude.{Option, Some, None}
+use Rattle.mseed_join.specs.declared.joining.JoinsFault.{JoinsFault}
+use Rattle.mseed_join.specs.declared.joining.JoinsFault.TheVariants as joins
 use Rattle.mseed_repack.specs.declared.fault.RepackFault.{RepackFault}
 use Rattle.mseed_repack.specs.declared.fault.RepackFault.TheVariants as packing
 use Rattle.mseed_repack.specs.declared.stretches_fault.StretchesFault.{StretchesFault}
@@ -21,6 +23,14 @@ blame_of Memory = blames.Nothing
 abbrev pub blame_by : Option StreamFault → Blame
 blame_by None = blames.Nothing
 blame_by (Some fault) = blame_of fault
+
+-- of parts that weren't joined: a bad line lies where it begins; a wrong number of parts lies nowhere
+abbrev pub join_blame : JoinsFault → Blame
+join_blame (joins.Line number offset) = blames.Fault offset
+join_blame (joins.Count parts due) = blames.Nothing
+join_blame (joins.Stream fault) = blame_of fault
+join_blame joins.Write = blames.Nothing
+join_blame joins.Memory = blames.Nothing
 
 -- of an archive that wasn't packed anew
 abbrev pub packing_blame : RepackFault → Blame

@@ -69,17 +69,21 @@ abbrev pub TellsPlace : Option Place → Names → BytesWritten → BytesWritten
 TellsPlace None names old new = new ≡ old
 TellsPlace (Some place) names old new = TellsWord (word_at names place.file) (fault_in place.offset) old new
 
--- by where the record before begins, if that is known: else there was no memory to know it
-abbrev pub TellsFault : {E : Type 0} → Result (Option ℕ) E → ℕ → ℕ → Names → Standing → BytesWritten
+-- where a record begins that ends at an offset, by its length: nowhere where that is 0
+abbrev pub last_of : ℕ → ℕ → Option ℕ
+last_of offset size = if size == 0 then None else Some (offset - size)
+
+-- by the length of the record before, if that is known: else there was no memory to know it
+abbrev pub TellsFault : {E : Type 0} → Result ℕ E → ℕ → ℕ → Names → Standing → BytesWritten
     → BytesWritten → Type 0
 TellsFault (Err lacks) offset reached names s old new = Tells no_memory old new
-TellsFault (Ok last) offset reached names s old new =
-    (place : Option Place) × IsTold s offset last reached place × TellsPlace place names old new
+TellsFault (Ok size) offset reached names s old new =
+    (place : Option Place) × IsTold s offset (last_of offset size) reached place × TellsPlace place names old new
 
 -- What is wrong with an input is told of its files: of the one that failed, or of the one in which the fault lies. But
 -- where the record before the fault begins in another file, it is told of that file and record; and where a record is
 -- cut off, where the one before reaches over the end of the file in which it begins.
-abbrev pub TellsBlame : {E : Type 0} → Blame → Result (Option ℕ) E → Names → Standing → BytesWritten
+abbrev pub TellsBlame : {E : Type 0} → Blame → Result ℕ E → Names → Standing → BytesWritten
     → BytesWritten → Type 0
 TellsBlame Nothing last names s old new = new ≡ old
 TellsBlame Read last names s old new = TellsFile s.failed names cannot_read old new

@@ -5,6 +5,7 @@ use Rattle.mseed_text.specs.Fault.{fault_line}
 use Rattle.mseed_join.specs.declared.joining.Joined.{Joined}
 use Rattle.mseed_join.specs.declared.joining.JoinsFault.{JoinsFault}
 use Rattle.mseed_join.specs.declared.joining.JoinsFault.TheVariants.{Line, Count, Stream, Write, Memory}
+use Rattle.mseed.specs.Blame.{join_blame}
 use Rattle.mseed.specs.Outcome.{EndsBy, Report, no_memory, with_line, without_line, write_failed}
 use Rattle.mseed.specs.declared.outcome.Blame.TheVariants.{Nothing}
 use Rattle.mseed.specs.declared.outcome.Ended.{Ended}
@@ -25,7 +26,7 @@ join_fault_text Memory = no_memory
 -- behind the lines of the faults that were passed
 abbrev pub join_report : Result Joined JoinsFault → Report
 join_report (Ok joined) = without_line (joined_status joined) Nothing
-join_report (Err fault) = with_line 2 (join_fault_text fault) Nothing
+join_report (Err fault) = with_line 2 (join_fault_text fault) (join_blame fault)
 
 abbrev pub EndsJoin : Result Joined JoinsFault → Ended → BytesWritten → BytesWritten → Type 0
 EndsJoin outcome ended old new = EndsBy (join_report outcome) ended old new

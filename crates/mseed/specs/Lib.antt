@@ -1,12 +1,14 @@
 pub mod Asked
 pub mod Blame
 pub mod Outcome
-pub mod Run
 pub mod Done
 pub mod Joined
 pub mod Repacked
 pub mod Restretched
 pub mod Selected
+pub mod Streams
+pub mod OfRecords
+pub mod Run
 pub mod Files
 pub mod Filling
 pub mod Plans

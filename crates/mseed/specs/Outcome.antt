@@ -1,5 +1,5 @@
 -- How a command ends: by a status and, where it failed, by lines on standard error.
-use Rattle.std.specs.Prelude.{◌≡◌, ℕ, List, [], ◌∷◌, nat_lt, if◌then◌else◌, Result, Ok, Err, codes}
+use Rattle.std.specs.Prelude.{◌≡◌, ℕ, List, [], ◌∷◌, nat_lt, if◌then◌else◌, Result, Ok, Err, codes, is_some}
 use Rattle.mseed_stream.specs.Device.{BytesWritten}
 use Rattle.mseed_stream.specs.Telling.{Tells}
 use Rattle.mseed_audit.specs.declared.summary.Summary.{Summary}
@@ -7,6 +7,7 @@ use Rattle.mseed_audit.specs.declared.summary.AuditFault.{AuditFault}
 use Rattle.mseed_audit.specs.declared.summary.AuditFault.TheVariants.{Write, Memory}
 use Rattle.mseed_audit.specs.declared.each.EachFault.{EachFault}
 use Rattle.mseed_audit.specs.declared.each.EachFault.TheVariants as each
+use Rattle.mseed.specs.Blame.{blame_by}
 use Rattle.mseed.specs.declared.outcome.Blame.{Blame}
 use Rattle.mseed.specs.declared.outcome.Blame.TheVariants.{Nothing}
 use Rattle.mseed.specs.declared.outcome.Ended.{Ended}
@@ -44,11 +45,11 @@ EndsBy report ended old new =
 
 -- the exit status of an audit that was written: 2 for a fault of the input, else 1 for a broken channel, else 0
 abbrev pub summary_status : Summary → ℕ
-summary_status s = if s.fault then 2 else if nat_lt 0 s.broken then 1 else 0
+summary_status s = if is_some s.end then 2 else if nat_lt 0 s.broken then 1 else 0
 
 -- an audit: the input's fault is in the text, and has no line
 abbrev pub audit_report : Result Summary AuditFault → Report
-audit_report (Ok summary) = without_line (summary_status summary) Nothing
+audit_report (Ok summary) = without_line (summary_status summary) (blame_by summary.end)
 audit_report (Err (Write taken)) = with_line 2 write_failed Nothing
 audit_report (Err Memory) = with_line 2 no_memory Nothing
 
@@ -57,7 +58,7 @@ EndsAudit outcome ended old new = EndsBy (audit_report outcome) ended old new
 
 -- and one that tells each finding
 abbrev pub each_report : Result Summary EachFault → Report
-each_report (Ok summary) = without_line (summary_status summary) Nothing
+each_report (Ok summary) = without_line (summary_status summary) (blame_by summary.end)
 each_report (Err each.Write) = with_line 2 write_failed Nothing
 each_report (Err each.Memory) = with_line 2 no_memory Nothing
 

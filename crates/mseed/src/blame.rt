@@ -1,8 +1,9 @@
 //! What is wrong with an input, by the fault with which it ended.
 ghost use Rattle.std.specs.Prelude.{◌≡◌};
-ghost use Rattle.mseed.specs.Blame.{blame_by, blame_of, packing_blame, stretches_blame};
+ghost use Rattle.mseed.specs.Blame.{blame_by, blame_of, join_blame, packing_blame, stretches_blame};
 
 use crate::outcome::Blame;
+use mseed_join::JoinsFault;
 use mseed_repack::{RepackFault, StretchesFault};
 use mseed_stream::StreamFault;
 
@@ -25,6 +26,17 @@ pub fn blame_of(fault: &StreamFault) -> Blame
         StreamFault::Truncated(offset, _) => Blame::Cut(*offset),
         StreamFault::Read(_) => Blame::Read,
         StreamFault::Memory => Blame::Nothing,
+    }
+}
+
+/// What is wrong with parts that weren't joined: a bad line lies where it begins.
+pub fn join_blame(fault: &JoinsFault) -> Blame
+    ensures { result ≡ join_blame fault.now }
+{
+    match fault {
+        JoinsFault::Line { offset, .. } => Blame::Fault(*offset),
+        JoinsFault::Stream(fault) => blame_of(fault),
+        JoinsFault::Count(..) | JoinsFault::Write | JoinsFault::Memory => Blame::Nothing,
     }
 }
 

@@ -1,5 +1,5 @@
 //! The command line.
-ghost use Rattle.std.specs.Prelude.{◌≡◌, ℕ, List, [], ◌∷◌, map, nat_lt, if◌then◌else◌, Option, option_map};
+ghost use Rattle.std.specs.Prelude.{◌≡◌, ℕ, List, [], ◌∷◌, map, Option, option_map};
 ghost use Rattle.mseed_select.specs.Selecting.{selection_of};
 ghost use Rattle.mseed_select.specs.Selection.{Selection};
 ghost use Rattle.mseed_stream.specs.Device.{nothing_read};
@@ -7,26 +7,23 @@ ghost use Rattle.mseed_stream.specs.Telling.{Tells};
 ghost use Rattle.mseed_words.specs.Words.{AreRefused, AsksFor, AsksForNothing, CanBeCalled};
 ghost use Rattle.mseed_words.specs.declared.request.Request.{Request};
 ghost use Rattle.mseed.specs.Asked.{CanBeDone, HasRun, IsLeft};
-ghost use Rattle.mseed.specs.Done.{EndsRefused, EndsShow, bad_value};
-ghost use Rattle.mseed.specs.Joined.{EndsJoin};
+ghost use Rattle.mseed.specs.Done.{EndsRefused, bad_value};
 ghost use Rattle.mseed.specs.Live.{CanBeServed};
-ghost use Rattle.mseed.specs.Outcome.{EndsAudit, EndsEach, no_memory, write_failed};
-ghost use Rattle.mseed.specs.Repacked.{AreOptionsOf, EndsRepack};
-ghost use Rattle.mseed.specs.Restretched.{EndsStretches};
-ghost use Rattle.mseed.specs.Run.{HasCarriedOut, HasRefusedRequest, HasRefusedWords, UnlessMemoryLacks, streams};
+ghost use Rattle.mseed.specs.Outcome.{no_memory, write_failed};
+ghost use Rattle.mseed.specs.Repacked.{AreOptionsOf};
+ghost use Rattle.mseed.specs.Run.{HasCarriedOut, HasRefusedRequest, HasRefusedWords, UnlessMemoryLacks};
+ghost use Rattle.mseed.specs.Streams.{streams};
 
-use crate::blame::{blame_by, packing_blame, stretches_blame};
-use crate::outcome::{Asked, BAD_COMMAND, BROKEN, DONE, Ended, FAULT, Run};
+use crate::asked::{
+    audit_asked, audit_each_asked, repack_asked, restretch_asked, select_asked, show_asked,
+};
+use crate::ending::{audited, audited_each, joined};
+use crate::outcome::{Asked, BAD_COMMAND, Ended, FAULT, Run};
 use crate::planning::{plan_fetch, plan_serve};
-use crate::refusal::{refuse_to_join, refuse_to_repack, refuse_to_stretch};
-use crate::selecting::{select_asked, selected};
-use mseed_audit::{AuditFault, EachFault, Summary, audit, audit_each};
-use mseed_join::{Form, Joined, JoinsFault, audit_part, audit_part_each, join, join_each};
+use mseed_join::{Form, audit_part, audit_part_each, join, join_each};
 use mseed_pack::Options;
-use mseed_repack::{Left, RepackFault, StretchesFault, repack, repack_stretches};
 use mseed_select::Selector;
-use mseed_show::{ShowFault, show};
-use mseed_stream::{Sink, Source, StreamFault, tell};
+use mseed_stream::{Sink, Source, tell};
 use mseed_words::{Command, Packing, Refusal, Request};
 use std::alloc::{Allocator, Global};
 
@@ -134,8 +131,10 @@ pub fn carry_out<A: Allocator + Copy, R: Source, W: Sink, E: Sink>(
     ensures served { CanBeServed result }
 {
     match request {
-        Request::Audit => Run::Status(audited(audit(alloc, input, output), errors)),
-        Request::AuditEach => Run::Status(audited_each(audit_each(alloc, input, output), errors)),
+        Request::Audit => Run::Status(audit_asked(alloc, selector, input, output, errors)),
+        Request::AuditEach => {
+            Run::Status(audit_each_asked(alloc, selector, input, output, errors))
+        }
         Request::AuditPart => Run::Status(audited(audit_part(alloc, input, output), errors)),
         Request::AuditPartEach => {
             Run::Status(audited_each(audit_part_each(alloc, input, output), errors))
@@ -168,82 +167,20 @@ pub fn carry_out<A: Allocator + Copy, R: Source, W: Sink, E: Sink>(
             );
             Run::Status(joined(outcome, errors))
         }
-        Request::Show => Run::Status(shown(show(alloc, input, output), errors)),
-        Request::Select => {
-            let outcome = select_asked(alloc, selector, input, output);
-            Run::Status(selected(outcome, errors))
-        }
+        Request::Show => Run::Status(show_asked(alloc, selector, input, output, errors)),
+        Request::Select => Run::Status(select_asked(alloc, selector, input, output, errors)),
         Request::Repack(packing) => {
-            let outcome = repack(alloc, &options_of(packing), input, output);
-            Run::Status(repacked(outcome, errors))
+            let options = options_of(packing);
+            Run::Status(repack_asked(alloc, &options, selector, input, output, errors))
         }
         Request::RepackStretches { packing, leave } => {
             let options = options_of(packing);
-            let outcome = repack_stretches(alloc, &options, leave, input, output, errors);
-            Run::Status(restretched(outcome, errors))
+            let ended = restretch_asked(alloc, &options, leave, selector, input, output, errors);
+            Run::Status(ended)
         }
         Request::Serve(serving) => plan_serve(alloc, &serving, input, errors),
         Request::Live(living) => Run::Live(living),
         Request::Fetch(fetching) => Run::Fetch(plan_fetch(&fetching)),
-    }
-}
-
-/// Says why not all of an audit was written, and answers how it ended. A fault of the input is in the text.
-fn audited<E: Sink>(outcome: Result<Summary, AuditFault>, errors: &mut E) -> Ended
-    ensures { EndsAudit outcome result (E.written errors.old) (E.written errors.new) }
-{
-    match outcome {
-        Ok(summary) => Ended::with(verdict_status(summary.fault, summary.broken)),
-        Err(AuditFault::Write(_)) => Ended::with(write_failed(errors)),
-        Err(AuditFault::Memory) => Ended::with(refuse_memory(errors)),
-    }
-}
-
-/// The same of an audit that tells each finding.
-fn audited_each<E: Sink>(outcome: Result<Summary, EachFault>, errors: &mut E) -> Ended
-    ensures { EndsEach outcome result (E.written errors.old) (E.written errors.new) }
-{
-    match outcome {
-        Ok(summary) => Ended::with(verdict_status(summary.fault, summary.broken)),
-        Err(EachFault::Write) => Ended::with(write_failed(errors)),
-        Err(EachFault::Memory) => Ended::with(refuse_memory(errors)),
-    }
-}
-
-/// Says why parts weren't joined, and answers how joining ended.
-fn joined<E: Sink>(outcome: Result<Joined, JoinsFault>, errors: &mut E) -> Ended
-    ensures { EndsJoin outcome result (E.written errors.old) (E.written errors.new) }
-{
-    match outcome {
-        Ok(joined) => Ended::with(verdict_status(joined.fault, joined.broken)),
-        Err(fault) => Ended::with(refuse_to_join(errors, &fault)),
-    }
-}
-
-/// The exit status of an audit that was written: a fault of the input comes before a broken channel.
-fn verdict_status(fault: bool, broken: u64) -> u8
-    ensures { result ≡ (if fault then 2 else if nat_lt 0 broken then 1 else 0) }
-{
-    if fault {
-        FAULT
-    } else if broken > 0 {
-        BROKEN
-    } else {
-        DONE
-    }
-}
-
-/// Says why not all of a listing was written, and answers how it ended. A fault of the input is in the listing.
-fn shown<E: Sink>(outcome: Result<Option<StreamFault>, ShowFault>, errors: &mut E) -> Ended
-    ensures { EndsShow outcome result (E.written errors.old) (E.written errors.new) }
-{
-    match outcome {
-        Ok(end) => Ended {
-            status: if end.is_some() { FAULT } else { DONE },
-            blame: blame_by(&end),
-        },
-        Err(ShowFault::Write) => Ended::with(write_failed(errors)),
-        Err(ShowFault::Memory) => Ended::with(refuse_memory(errors)),
     }
 }
 
@@ -255,34 +192,6 @@ fn options_of(packing: Packing) -> Options
     match Options::new(packing.exponent, packing.encoding.code(), 1) {
         Ok(options) => options,
         Err(_) => unreachable!(),
-    }
-}
-
-/// Says why an archive wasn't packed anew, and answers how packing ended.
-fn repacked<E: Sink>(outcome: Result<(), RepackFault>, errors: &mut E) -> Ended
-    ensures { EndsRepack outcome result (E.written errors.old) (E.written errors.new) }
-{
-    match outcome {
-        Ok(()) => Ended::with(DONE),
-        Err(fault) => Ended {
-            status: refuse_to_repack(errors, &fault),
-            blame: packing_blame(&fault),
-        },
-    }
-}
-
-/// Says why an archive wasn't packed anew by stretches, and answers how packing ended: what was left out counts.
-fn restretched<E: Sink>(outcome: Result<Left, StretchesFault>, errors: &mut E) -> Ended
-    ensures { EndsStretches outcome result (E.written errors.old) (E.written errors.new) }
-{
-    match outcome {
-        Ok(Left::Nothing) => Ended::with(DONE),
-        Ok(Left::Broken) => Ended::with(BROKEN),
-        Ok(Left::Misfit) => Ended::with(FAULT),
-        Err(fault) => Ended {
-            status: refuse_to_stretch(errors, &fault),
-            blame: stretches_blame(&fault),
-        },
     }
 }
 

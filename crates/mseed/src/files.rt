@@ -96,7 +96,7 @@ pub fn run_over_files<E: Sink>(
         &mut output,
         errors,
     );
-    let last = input.trail().last();
+    let last = input.trail().last_size();
     drop(input);
     if let Run::Status(ended) = &run {
         tell_blame(rt.alloc(), errors, &names, &chain, ended.blame, last);

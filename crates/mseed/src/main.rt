@@ -5,8 +5,10 @@
 ghost use Rattle.std.specs.Prelude.{IfOk};
 ghost use Rattle.mseed.specs.Live.{CanBeServed};
 
+mod asked;
 mod blame;
 mod command;
+mod ending;
 mod files;
 mod fill_fault;
 mod filling;
@@ -15,7 +17,6 @@ mod naming;
 mod outcome;
 mod planning;
 mod refusal;
-mod selecting;
 mod trail;
 mod watched;
 

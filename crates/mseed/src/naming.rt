@@ -1,7 +1,7 @@
 //! What is told of the files that words name.
 ghost use Rattle.std.specs.Prelude.{◌≡◌, ◌++◌, IfOk, map, option_map};
 ghost use Rattle.mseed.specs.Files.{IsTold, TellsBlame, TellsFault, TellsFile, TellsName, TellsPlace, TellsWord};
-ghost use Rattle.mseed.specs.Files.{cannot_read, fault_in, told_byte, word_at};
+ghost use Rattle.mseed.specs.Files.{cannot_read, fault_in, last_of, told_byte, word_at};
 
 use crate::command::refuse_memory;
 use crate::outcome::Blame;
@@ -11,14 +11,14 @@ use mseed_text::Line;
 use std::alloc::{AllocError, Global};
 
 /// Says what is wrong with the input that these files are, if something is: which of them can't be read, or in which
-/// one the fault lies. `last` is where the last whole record of the input begins.
+/// one the fault lies. `last` is the length of the last whole record of the input, and 0 where there was none.
 pub fn tell_blame<E: Sink, O: Open>(
     alloc: Global,
     errors: &mut E,
     names: &[&[u8]],
     chain: &Chain<O>,
     blame: Blame,
-    last: Result<Option<u64>, AllocError>,
+    last: Result<u64, AllocError>,
 )
     ensures { TellsBlame blame last names.now chain.now (E.written errors.old)
         (E.written errors.new) }
@@ -61,29 +61,38 @@ fn tell_unreadable_word<E: Sink>(alloc: Global, errors: &mut E, word: Option<&[u
     }
 }
 
-/// Says where a fault is told that lies at an offset, behind a record that begins at `last`.
+/// Says where a fault is told that lies at an offset, behind a record of `last` bytes.
 fn tell_fault<E: Sink, O: Open>(
     alloc: Global,
     errors: &mut E,
     names: &[&[u8]],
     chain: &Chain<O>,
     offset: u64,
-    last: Result<Option<u64>, AllocError>,
+    last: Result<u64, AllocError>,
     reached: u64,
 )
     ensures { TellsFault last offset reached names.now chain.now (E.written errors.old)
         (E.written errors.new) }
 {
     match last {
-        Ok(last) => tell_place(
-            alloc,
-            errors,
-            names,
-            told_place(chain, offset, last, reached),
-        ),
+        Ok(size) => {
+            let place = told_place(chain, offset, last_of(offset, size), reached);
+            tell_place(alloc, errors, names, place);
+        }
         Err(AllocError) => {
             refuse_memory(errors);
         }
+    }
+}
+
+/// Where the last record begins that ends at an offset, by its length: nowhere where that is 0.
+fn last_of(offset: u64, size: u64) -> Option<u64>
+    ensures { result ≡ last_of offset size }
+{
+    if size == 0 {
+        None
+    } else {
+        Some(offset.saturating_sub(size))
     }
 }
 

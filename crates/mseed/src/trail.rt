@@ -1,20 +1,16 @@
-//! Where the records of an input begin.
-ghost use Rattle.std.specs.Prelude.{◌≡◌, ◌≤◌, length};
+//! The last whole record of an input.
 
 use mseed_record::{Scan, scan};
 use std::alloc::{AllocError, Allocator, Global};
 
-/// Where the last whole record of an input begins, as its bytes come, in pieces of any size.
+/// How long the last whole record of an input is, as its bytes come, in pieces of any size.
 #[derive(Drop)]
 pub struct Trail<A: Allocator = Global> {
     // The bytes of a record that isn't whole yet.
     held: Vec<u8, A>,
-    // Where it begins, or where the next one will.
-    next: u64,
-    // Where the last whole record begins.
-    last: Option<u64>,
-    // How many bytes of a record were passed, without the others.
-    passed: u64,
+    // The bytes of the last whole record: those of its header, where it was passed, and the others.
+    header: usize,
+    others: usize,
     // How it ended, if it did.
     end: Option<End>,
 }
@@ -33,9 +29,8 @@ impl<A: Allocator> Trail<A> {
     pub fn new(alloc: A) -> Trail<A> {
         Trail {
             held: Vec::new(alloc),
-            next: 0,
-            last: None,
-            passed: 0,
+            header: 0,
+            others: 0,
             end: None,
         }
     }
@@ -47,27 +42,23 @@ impl<A: Allocator> Trail<A> {
         trail
     }
 
-    /// Where the last whole record begins, if there was one.
+    /// The length of the last whole record, in bytes: 0 where there was none.
     ///
     /// # Errors
     ///
     /// Where a piece of a record had no room.
-    pub fn last(&self) -> Result<Option<u64>, AllocError> {
+    pub fn last_size(&self) -> Result<u64, AllocError> {
         match self.end {
             Some(End::NoMemory) => Err(AllocError),
-            _ => Ok(self.last),
+            _ => Ok((self.header as u64).saturating_add(self.others as u64)),
         }
     }
 
     /// Goes on by so many bytes of a record that is known to lie ahead: first those of its header, and then the others.
     #[inline(always)]
     pub fn pass(&mut self, amount: usize) {
-        if self.passed == 0 {
-            self.passed = amount as u64;
-        } else {
-            self.find(self.passed.wrapping_add(amount as u64));
-            self.passed = 0;
-        }
+        self.header = self.others;
+        self.others = amount;
     }
 
     /// Goes on by these bytes.
@@ -89,7 +80,7 @@ impl<A: Allocator> Trail<A> {
     fn begin<'b>(&mut self, bytes: &'b [u8]) -> &'b [u8] {
         match scan(bytes) {
             Scan::Record(size) => {
-                self.find(size as u64);
+                self.find(size);
                 &bytes[size..]
             }
             Scan::Need(_) => {
@@ -113,7 +104,7 @@ impl<A: Allocator> Trail<A> {
         self.hold(&bytes[..count]);
         match scan(&self.held) {
             Scan::Record(size) => {
-                self.find(size as u64);
+                self.find(size);
                 self.held.clear();
             }
             Scan::Need(_) => {}
@@ -130,9 +121,8 @@ impl<A: Allocator> Trail<A> {
     }
 
     /// Goes behind a record of so many bytes.
-    #[inline(always)]
-    fn find(&mut self, size: u64) {
-        self.last = Some(self.next);
-        self.next = self.next.wrapping_add(size);
+    fn find(&mut self, size: usize) {
+        self.header = 0;
+        self.others = size;
     }
 }

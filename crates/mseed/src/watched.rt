@@ -1,9 +1,9 @@
-//! A source that knows where its last whole record begins.
+//! A source that knows how long its last whole record is.
 use crate::trail::Trail;
 use mseed_stream::{Failed, Source};
 use std::alloc::{Allocator, Global};
 
-/// A source that knows where the last whole record begins of what was read of it.
+/// A source that knows how long the last whole record of what was read of it is.
 #[derive(Drop)]
 pub struct Watched<R, A: Allocator = Global> {
     source: R,
@@ -21,7 +21,7 @@ impl<R: Source, A: Allocator> Watched<R, A> {
         Watched { source, trail }
     }
 
-    /// Where its records begin.
+    /// What follows its records.
     pub fn trail(&self) -> &Trail<A> {
         &self.trail
     }

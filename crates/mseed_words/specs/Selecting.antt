@@ -51,17 +51,17 @@ is_selective rows =
 
 -- what can be done with some of the records alone
 abbrev pub takes_selection : Request → Bool
-takes_selection Audit = false
-takes_selection AuditEach = false
+takes_selection Audit = true
+takes_selection AuditEach = true
 takes_selection AuditPart = false
 takes_selection AuditPartEach = false
 takes_selection (Join joining) = false
 takes_selection (JoinEach joining) = false
 takes_selection (JoinPart joining) = false
-takes_selection Show = false
+takes_selection Show = true
 takes_selection Select = true
-takes_selection (Repack packing) = false
-takes_selection (RepackStretches packing leave) = false
+takes_selection (Repack packing) = true
+takes_selection (RepackStretches packing leave) = true
 takes_selection (Serve serving) = false
 takes_selection (Live living) = false
 takes_selection (Fetch fetching) = false

@@ -55,10 +55,15 @@ abbrev pub encoding_in : Option Text → Option Encoding
 encoding_in None = Some Steim2
 encoding_in (Some word) = encoding_named word
 
--- what packing anew takes: its word, files, a length and an encoding, and two flags
+-- what a command takes that can be met with some of the records alone: its word, files, which records, and these
+abbrev pub names_of_records : List Text → List Text
+names_of_records further =
+    codes "command" ∷ codes "place" ∷ codes "channels" ∷ codes "from" ∷ codes "until" ∷ further
+
+-- what packing anew takes besides: a length and an encoding, and two flags
 abbrev pub packing_names : List Text
-packing_names =
-    codes "command" ∷ codes "place" ∷ codes "length" ∷ codes "encoding" ∷ codes "stretches" ∷ codes "leave" ∷ []
+packing_names = names_of_records
+    (codes "length" ∷ codes "encoding" ∷ codes "stretches" ∷ codes "leave" ∷ [])
 
 abbrev pub packing_with : Option ℕ → Option Encoding → Option Packing
 packing_with None encoding = None
@@ -79,17 +84,12 @@ packing_of rows =
     (encoding_in (first_of (codes "encoding") rows))) (asks (codes "stretches") rows) (asks (codes "leave") rows)
     else None
 
--- a command that takes its word and files alone
+-- two commands take nothing besides
 abbrev pub showing_of : List Row → Option Request
-showing_of rows = if has_only (codes "command" ∷ codes "place" ∷ []) rows then Some Show else None
-
--- what selecting takes: its word, files, and which records
-abbrev pub selecting_names : List Text
-selecting_names =
-    codes "command" ∷ codes "place" ∷ codes "channels" ∷ codes "from" ∷ codes "until" ∷ []
+showing_of rows = if has_only (names_of_records []) rows then Some Show else None
 
 abbrev pub selecting_of : List Row → Option Request
-selecting_of rows = if has_only selecting_names rows then Some Select else None
+selecting_of rows = if has_only (names_of_records []) rows then Some Select else None
 
 -- what an audit writes: with a line for each finding or without, the text of the audit or its part
 abbrev pub auditing_by : Bool → Bool → Request
@@ -98,13 +98,14 @@ auditing_by true false = AuditEach
 auditing_by false true = AuditPart
 auditing_by true true = AuditPartEach
 
--- what auditing takes: its word, files and two flags
-abbrev pub auditing_names : List Text
-auditing_names = codes "command" ∷ codes "place" ∷ codes "each" ∷ codes "part" ∷ []
+-- what auditing takes besides: two flags; a part is that of all records
+abbrev pub auditing_names : Bool → List Text
+auditing_names false = names_of_records (codes "each" ∷ codes "part" ∷ [])
+auditing_names true = codes "command" ∷ codes "place" ∷ codes "each" ∷ codes "part" ∷ []
 
 abbrev pub auditing_of : List Row → Option Request
 auditing_of rows =
-    if has_only auditing_names rows
+    if has_only (auditing_names (asks (codes "part") rows)) rows
     then Some (auditing_by (asks (codes "each") rows) (asks (codes "part") rows))
     else None
 

@@ -13,7 +13,9 @@ pub const COMMANDS: &str = "Commands:
   audit   says which channels are continuous, and where the others break
           reads an archive, writes a line for each channel; status 1: a channel is broken
           options: --each, first a line for each record with a finding;
-          --part, in place of the lines what audits of further archives can be joined with
+          --part, in place of the lines what audits of further archives can be joined with;
+          without --part those of select: of the records asked for, as if no others were there;
+          a window's audit says nothing of its borders, nor of records without a time
             mseed audit my.mseed
   join    the audit of archives one after another, from a part of each
           reads the parts that audit --part wrote, one after another in the archives' order,
@@ -25,6 +27,7 @@ pub const COMMANDS: &str = "Commands:
             mseed join --expect 31 january/*.part
   show    lists the records
           reads an archive, writes a line for each record
+          options: those of select
             mseed show my.mseed
   select  copies the records of some channels and of a window of time, byte for byte
           reads an archive, writes those of its records that are asked for; status 0, also for none
@@ -38,7 +41,7 @@ pub const COMMANDS: &str = "Commands:
           after >; status 1: a channel isn't continuous
           options: --length, --encoding; --stretches, take each channel as a list of stretches, so
           that a channel may have gaps and its clock may drift; with it --leave, leave out and tell
-          the channels that can't be packed: status 1 or 2
+          the channels that can't be packed: status 1 or 2; those of select, of whole records
             mseed repack --length 4096 --encoding steim1 my.mseed > packed.mseed
   serve   sends the records of stations to clients, over SeedLink 3
           reads an archive of records of 512 bytes from standard input, writes nothing

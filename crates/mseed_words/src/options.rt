@@ -147,12 +147,16 @@ impl Named {
     fn help(self) -> &'static str {
         match self {
             Named::Channels => {
-                "select: the channels, as NET_STA_LOC_CHA with * and ?, parted by commas; by default all"
+                "select, audit, show, repack: the channels, NET_STA_LOC_CHA with * and ?, parted by commas; \
+                 by default all"
             }
             Named::From => {
-                "select: the window's begin, such as 2024-05-14T03:20; fetch: the first number, in hexadecimal"
+                "select, audit, show, repack: the window's begin, such as 2024-05-14T03:20; \
+                 fetch: the first number, in hexadecimal"
             }
-            Named::Until => "select: the window's end, which isn't part of it",
+            Named::Until => {
+                "select, audit, show, repack: the window's end, which isn't part of it"
+            }
             Named::Length => "repack: bytes of a record, 128, 256, .. 4096; by default 512",
             Named::Encoding => "repack: int16, int32, steim1 or steim2; by default steim2",
             Named::Station => "serve, fetch: the first station",

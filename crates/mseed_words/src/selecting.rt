@@ -33,7 +33,15 @@ pub(crate) fn asked_of<'a>(
 fn takes_selection(request: &Request) -> bool
     ensures { result ≡ takes_selection request.now }
 {
-    matches!(request, Request::Select)
+    matches!(
+        request,
+        Request::Audit
+            | Request::AuditEach
+            | Request::Show
+            | Request::Select
+            | Request::Repack(_)
+            | Request::RepackStretches { .. }
+    )
 }
 
 /// Whether one of the options is given that say which records are asked for.

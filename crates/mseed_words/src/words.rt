@@ -4,7 +4,9 @@ ghost use Rattle.clap.specs.Matches.{found_of};
 ghost use Rattle.clap.specs.Walk.{Text, rows_of};
 ghost use Rattle.clap.specs.Kinds.{HasKind};
 ghost use Rattle.mseed_words.specs.Files.{files_of};
-ghost use Rattle.mseed_words.specs.Words.{AsksFor, CanBeCalled, IsRefusal, IsUnasked, auditing_by, auditing_of};
+ghost use Rattle.mseed_words.specs.Words.{AsksFor, CanBeCalled, IsRefusal, IsUnasked, auditing_by, auditing_names};
+ghost use Rattle.mseed_words.specs.Words.{auditing_of};
+ghost use Rattle.mseed_words.specs.Found.{has_only};
 ghost use Rattle.mseed_words.specs.Words.{command_of, encoding_in};
 ghost use Rattle.mseed_words.specs.Words.{encoding_named, entries_in, expected_by, expected_in, exponent_by};
 ghost use Rattle.mseed_words.specs.Words.{exponent_in, faults_in, joining_by, joining_of, joining_with, packing_by};
@@ -175,10 +177,27 @@ fn auditing_of(matches: &ArgMatches<'_>) -> Option<Request>
     ensures value { result ≡ auditing_of (rows_of (found_of matches.now)) }
     ensures range { IfSome result CanBeCalled }
 {
-    if !has_only(matches, &["command", "place", "each", "part"]) {
+    let part = asks(matches, "part");
+    if !has_audit_names(matches, part) {
         return None;
     }
-    Some(auditing_by(asks(matches, "each"), asks(matches, "part")))
+    Some(auditing_by(asks(matches, "each"), part))
+}
+
+/// Whether nothing was given but what auditing takes: a part is that of all records.
+fn has_audit_names(matches: &ArgMatches<'_>, part: bool) -> bool
+    ensures { result ≡ has_only (auditing_names part) (rows_of (found_of matches.now)) }
+{
+    if part {
+        has_only(matches, &["command", "place", "each", "part"])
+    } else {
+        has_only(
+            matches,
+            &[
+                "command", "place", "channels", "from", "until", "each", "part",
+            ],
+        )
+    }
 }
 
 /// What an audit writes: with a line for each finding or without, the text of the audit or its part.
@@ -259,12 +278,12 @@ fn expected_by(number: u32) -> Option<Option<u64>>
     }
 }
 
-/// The command that lists takes its word and files alone.
+/// The command that lists takes its word, files, and which records.
 fn showing_of(matches: &ArgMatches<'_>) -> Option<Request>
     ensures value { result ≡ showing_of (rows_of (found_of matches.now)) }
     ensures range { IfSome result CanBeCalled }
 {
-    if has_only(matches, &["command", "place"]) {
+    if has_only(matches, &["command", "place", "channels", "from", "until"]) {
         Some(Request::Show)
     } else {
         None
@@ -293,6 +312,9 @@ fn packing_of(matches: &ArgMatches<'_>) -> Option<Request>
         &[
             "command",
             "place",
+            "channels",
+            "from",
+            "until",
             "length",
             "encoding",
             "stretches",

@@ -1,20 +1,13 @@
 use Rattle.mseed.proofs.command.carry_out.Goals as goal
 
-pub returns-in-Audit-clause-done : goal.returns-in-Audit-clause-done
-returns-in-Audit-clause-done g c = rw c.in-Audit.is (c.audit.result, (c.audit.ensures.outcome, c.audited.ensures))
-
-pub returns-in-AuditEach-clause-done : goal.returns-in-AuditEach-clause-done
-returns-in-AuditEach-clause-done g c =
-    rw c.in-AuditEach.is (c.audit_each.result, (c.audit_each.ensures.outcome, c.audited_each.ensures))
-
 pub returns-in-AuditPart-clause-done : goal.returns-in-AuditPart-clause-done
 returns-in-AuditPart-clause-done g c =
-    rw c.in-AuditPart.is (c.audit_part.result, (c.audit_part.ensures.outcome, c.audited-in-AuditPart.ensures))
+    rw c.in-AuditPart.is (c.audit_part.result, (c.audit_part.ensures.outcome, c.audited.ensures))
 
 pub returns-in-AuditPartEach-clause-done : goal.returns-in-AuditPartEach-clause-done
 returns-in-AuditPartEach-clause-done g c =
     let part = c.audit_part_each in
-    rw c.in-AuditPartEach.is (part.result, (part.ensures.outcome, c.audited_each-in-AuditPartEach.ensures))
+    rw c.in-AuditPartEach.is (part.result, (part.ensures.outcome, c.audited_each.ensures))
 
 pub returns-in-Join-clause-done : goal.returns-in-Join-clause-done
 returns-in-Join-clause-done g c =
@@ -33,23 +26,24 @@ returns-in-JoinPart-clause-done g c =
     rw c.in-JoinPart.is
     (join.result, (g.E.Sink.written join.new.errors, (join.ensures.outcome, c.joined-in-JoinPart.ensures)))
 
+pub returns-in-Audit-clause-done : goal.returns-in-Audit-clause-done
+returns-in-Audit-clause-done g c = rw c.in-Audit.is c.audit_asked.ensures
+
+pub returns-in-AuditEach-clause-done : goal.returns-in-AuditEach-clause-done
+returns-in-AuditEach-clause-done g c = rw c.in-AuditEach.is c.audit_each_asked.ensures
+
 pub returns-in-Show-clause-done : goal.returns-in-Show-clause-done
-returns-in-Show-clause-done g c = rw c.in-Show.is (c.show.result, (c.show.ensures.shown, c.shown.ensures))
+returns-in-Show-clause-done g c = rw c.in-Show.is c.show_asked.ensures
 
 pub returns-in-Select-clause-done : goal.returns-in-Select-clause-done
-returns-in-Select-clause-done g c =
-    rw c.in-Select.is (c.select_asked-outcome.result, (c.select_asked-outcome.ensures, c.selected.ensures))
+returns-in-Select-clause-done g c = rw c.in-Select.is c.select_asked.ensures
 
 pub returns-in-Repack-clause-done : goal.returns-in-Repack-clause-done
 returns-in-Repack-clause-done g c =
-    let packed = c.repack-outcome in
-    rw c.in-Repack.is
-    (c.options_of.result, (c.options_of.ensures, (packed.result, (packed.ensures, c.repacked.ensures))))
+    let options = c.options_of-options in
+    rw c.in-Repack.is (options.result, (options.ensures, c.repack_asked.ensures))
 
 pub returns-in-RepackStretches-clause-done : goal.returns-in-RepackStretches-clause-done
 returns-in-RepackStretches-clause-done g c =
-    let options = c.options_of-options in
-    let packed = c.repack_stretches-outcome in
-    let reported = g.E.Sink.written packed.new.errors in
-    rw c.in-RepackStretches.is
-    (options.result, (options.ensures, (packed.result, (reported, (packed.ensures, c.restretched.ensures)))))
+    let options = c.options_of-options-in-RepackStretches in
+    rw c.in-RepackStretches.is (options.result, (options.ensures, c.restretch_asked-ended.ensures))

@@ -2,7 +2,7 @@ use Rattle.std.proofs.Common.{◌≡◌, ◌<◌, ℕ, zero, suc, List, [], ◌�
 use Rattle.mseed_stream.specs.Device.{BytesWritten}
 use Rattle.mseed.specs.Outcome.{TellsLines}
 use Rattle.mseed.specs.Selected.{untimed_line, untimed_lines}
-use Rattle.mseed.proofs.selecting.tell_untimed.Goals as goal
+use Rattle.mseed.proofs.ending.tell_untimed.Goals as goal
 
 some : (n : ℕ) → 0 < n → untimed_lines n ≡ untimed_line n ∷ []
 some zero h = absurd (omega arith)

@@ -1,0 +1,224 @@
+//! How commands end: what is said at their end, and the exit status.
+ghost use Rattle.std.specs.Prelude.{◌≡◌, nat_lt, if◌then◌else◌, Ok};
+ghost use Rattle.mseed.specs.Blame.{blame_by};
+ghost use Rattle.mseed.specs.Done.{EndsShow, end_status};
+ghost use Rattle.mseed.specs.Joined.{EndsJoin};
+ghost use Rattle.mseed.specs.Outcome.{EndsAudit, EndsEach, TellsLines, summary_status};
+ghost use Rattle.mseed.specs.Repacked.{EndsRepack};
+ghost use Rattle.mseed.specs.Restretched.{EndsStretches};
+ghost use Rattle.mseed.specs.Selected.{EndsSelect, EndsSelectedAudit, EndsSelectedEach, EndsSelectedShow, end_lines};
+ghost use Rattle.mseed.specs.Selected.{untimed_lines};
+
+use crate::blame::{blame_by, blame_of, join_blame, packing_blame, stretches_blame};
+use crate::command::{refuse_memory, write_failed};
+use crate::outcome::{BROKEN, DONE, Ended, FAULT};
+use crate::refusal::{
+    refuse_to_join, refuse_to_repack, refuse_to_stretch, tell_fault, tell_number,
+};
+use mseed_audit::{AuditFault, EachFault, SelectedSummary, Summary};
+use mseed_join::{Joined, JoinsFault};
+use mseed_repack::{Left, RepackFault, StretchesFault};
+use mseed_select::{SelectFault, Selected};
+use mseed_show::{ShowFault, Shown};
+use mseed_stream::{Sink, StreamFault};
+
+/// Says why not all of an audit was written, and answers how it ended. A fault of the input is in the text.
+pub fn audited<E: Sink>(outcome: Result<Summary, AuditFault>, errors: &mut E) -> Ended
+    ensures { EndsAudit outcome result (E.written errors.old) (E.written errors.new) }
+{
+    match outcome {
+        Ok(summary) => ended_by(&summary),
+        Err(AuditFault::Write(_)) => Ended::with(write_failed(errors)),
+        Err(AuditFault::Memory) => Ended::with(refuse_memory(errors)),
+    }
+}
+
+/// The same of an audit that tells each finding.
+pub fn audited_each<E: Sink>(outcome: Result<Summary, EachFault>, errors: &mut E) -> Ended
+    ensures { EndsEach outcome result (E.written errors.old) (E.written errors.new) }
+{
+    match outcome {
+        Ok(summary) => ended_by(&summary),
+        Err(EachFault::Write) => Ended::with(write_failed(errors)),
+        Err(EachFault::Memory) => Ended::with(refuse_memory(errors)),
+    }
+}
+
+/// Says why parts weren't joined, and answers how joining ended.
+pub fn joined<E: Sink>(outcome: Result<Joined, JoinsFault>, errors: &mut E) -> Ended
+    ensures { EndsJoin outcome result (E.written errors.old) (E.written errors.new) }
+{
+    match outcome {
+        Ok(joined) => Ended::with(verdict_status(joined.fault, joined.broken)),
+        Err(fault) => Ended {
+            status: refuse_to_join(errors, &fault),
+            blame: join_blame(&fault),
+        },
+    }
+}
+
+/// How an audit that was written ended.
+fn ended_by(summary: &Summary) -> Ended
+    ensures status { result.status ≡ summary_status summary.now }
+    ensures blame { result.blame ≡ blame_by summary.now.end }
+{
+    Ended {
+        status: verdict_status(summary.end.is_some(), summary.broken),
+        blame: blame_by(&summary.end),
+    }
+}
+
+/// The same of an audit of the records that are asked for: how many lack a time is said first.
+pub fn audited_some<E: Sink>(outcome: Result<SelectedSummary, AuditFault>, errors: &mut E) -> Ended
+    ensures { EndsSelectedAudit outcome result (E.written errors.old) (E.written errors.new) }
+{
+    match outcome {
+        Ok(found) => {
+            tell_untimed(found.without_time, errors);
+            ended_by(&found.summary)
+        }
+        Err(AuditFault::Write(_)) => Ended::with(write_failed(errors)),
+        Err(AuditFault::Memory) => Ended::with(refuse_memory(errors)),
+    }
+}
+
+/// The same of one that tells each finding.
+pub fn audited_each_some<E: Sink>(
+    outcome: Result<SelectedSummary, EachFault>,
+    errors: &mut E,
+) -> Ended
+    ensures { EndsSelectedEach outcome result (E.written errors.old) (E.written errors.new) }
+{
+    match outcome {
+        Ok(found) => {
+            tell_untimed(found.without_time, errors);
+            ended_by(&found.summary)
+        }
+        Err(EachFault::Write) => Ended::with(write_failed(errors)),
+        Err(EachFault::Memory) => Ended::with(refuse_memory(errors)),
+    }
+}
+
+/// The exit status of an audit that was written: a fault of the input comes before a broken channel.
+fn verdict_status(fault: bool, broken: u64) -> u8
+    ensures { result ≡ (if fault then 2 else if nat_lt 0 broken then 1 else 0) }
+{
+    if fault {
+        FAULT
+    } else if broken > 0 {
+        BROKEN
+    } else {
+        DONE
+    }
+}
+
+/// Says why not all of a listing was written, and answers how it ended. A fault of the input is in the listing.
+pub fn shown<E: Sink>(outcome: Result<Option<StreamFault>, ShowFault>, errors: &mut E) -> Ended
+    ensures { EndsShow outcome result (E.written errors.old) (E.written errors.new) }
+{
+    match outcome {
+        Ok(end) => ended_at(&end),
+        Err(ShowFault::Write) => Ended::with(write_failed(errors)),
+        Err(ShowFault::Memory) => Ended::with(refuse_memory(errors)),
+    }
+}
+
+/// The same of a listing of the records that are asked for: how many lack a time is said first.
+pub fn shown_some<E: Sink>(outcome: Result<Shown, ShowFault>, errors: &mut E) -> Ended
+    ensures { EndsSelectedShow outcome result (E.written errors.old) (E.written errors.new) }
+{
+    match outcome {
+        Ok(found) => {
+            tell_untimed(found.without_time, errors);
+            ended_at(&found.end)
+        }
+        Err(ShowFault::Write) => Ended::with(write_failed(errors)),
+        Err(ShowFault::Memory) => Ended::with(refuse_memory(errors)),
+    }
+}
+
+/// How a command ended that wrote all, by how the input did.
+fn ended_at(end: &Option<StreamFault>) -> Ended
+    ensures status { result.status ≡ end_status end.now }
+    ensures blame { result.blame ≡ blame_by end.now }
+{
+    match end {
+        None => Ended::with(DONE),
+        Some(fault) => Ended {
+            status: FAULT,
+            blame: blame_of(fault),
+        },
+    }
+}
+
+/// Says why an archive wasn't packed anew, and answers how packing ended.
+pub fn repacked<E: Sink>(outcome: Result<(), RepackFault>, errors: &mut E) -> Ended
+    ensures { EndsRepack outcome result (E.written errors.old) (E.written errors.new) }
+{
+    match outcome {
+        Ok(()) => Ended::with(DONE),
+        Err(fault) => Ended {
+            status: refuse_to_repack(errors, &fault),
+            blame: packing_blame(&fault),
+        },
+    }
+}
+
+/// Says why an archive wasn't packed anew by stretches, and answers how packing ended: what was left out counts.
+pub fn restretched<E: Sink>(outcome: Result<Left, StretchesFault>, errors: &mut E) -> Ended
+    ensures { EndsStretches outcome result (E.written errors.old) (E.written errors.new) }
+{
+    match outcome {
+        Ok(Left::Nothing) => Ended::with(DONE),
+        Ok(Left::Broken) => Ended::with(BROKEN),
+        Ok(Left::Misfit) => Ended::with(FAULT),
+        Err(fault) => Ended {
+            status: refuse_to_stretch(errors, &fault),
+            blame: stretches_blame(&fault),
+        },
+    }
+}
+
+/// Says what of a selection isn't in its records, and answers how it ended.
+pub fn selected<E: Sink>(outcome: Result<Selected, SelectFault>, errors: &mut E) -> Ended
+    ensures { EndsSelect outcome result (E.written errors.old) (E.written errors.new) }
+{
+    match outcome {
+        Ok(selected) => selected_to(selected, errors),
+        Err(SelectFault::Write) => Ended::with(write_failed(errors)),
+        Err(SelectFault::Memory) => Ended::with(refuse_memory(errors)),
+    }
+}
+
+/// Says how many of the records lack a time, and with what fault the input ended, if with one.
+#[tactic(auto, using(crate::proofs::Lines::both_told))]
+fn selected_to<E: Sink>(selected: Selected, errors: &mut E) -> Ended
+    ensures { EndsSelect (Ok selected) result (E.written errors.old) (E.written errors.new) }
+{
+    tell_untimed(selected.without_time, errors);
+    let status = tell_end(&selected.end, errors);
+    Ended {
+        status,
+        blame: blame_by(&selected.end),
+    }
+}
+
+/// Says how many records lack a time, where some do.
+fn tell_untimed<E: Sink>(count: u64, errors: &mut E)
+    ensures { TellsLines (untimed_lines count) (E.written errors.old) (E.written errors.new) }
+{
+    if count > 0 {
+        tell_number(errors, b"mseed: ", count, b" records without a time\n");
+    }
+}
+
+/// Says with what fault an input ended, if with one, and answers the exit status.
+fn tell_end<E: Sink>(end: &Option<StreamFault>, errors: &mut E) -> u8
+    ensures status { result ≡ end_status end.now }
+    ensures lines { TellsLines (end_lines end.now) (E.written errors.old) (E.written errors.new) }
+{
+    match end {
+        None => DONE,
+        Some(fault) => tell_fault(errors, fault),
+    }
+}
