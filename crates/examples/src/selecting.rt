@@ -4,7 +4,8 @@ ghost use Rattle.mseed_stream.specs.Device.{nothing_read};
 
 use mseed_record::RecordView;
 use mseed_select::{
-    Answer, BadTime, BadWindow, Patterns, SelectFault, Selected, Selector, read_time, select,
+    Answer, BadTime, BadWindow, Choice, Counts, Patterns, SelectFault, Selected, Selector,
+    read_time, select,
 };
 use mseed_stream::{Counted, Sink, Source};
 use mseed_time::Micros;
@@ -28,6 +29,13 @@ pub fn from_on(patterns: Patterns<'_>, from: Micros) -> Result<Selector<'_>, Bad
 /// Whether a record is asked for.
 pub fn is_wanted(selector: &Selector, view: &RecordView) -> bool {
     selector.asks_for(view) == Answer::AskedFor
+}
+
+/// What is counted of one record, by a choice.
+pub fn counts_of_one<C: Choice>(choice: &C, view: &RecordView) -> Counts {
+    let mut counts = Counts::none();
+    counts.add(choice.answer(view));
+    counts
 }
 
 /// The records of a slice that are asked for, one behind another.
