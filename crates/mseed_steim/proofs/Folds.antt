@@ -122,15 +122,3 @@ first_goes_on n s p w a t r cut step rest =
     goes_from n a t (items_of s (words_from p 3 13 ++ rest)) (items_of s (words_from p 4 12 ++ rest)) (items_of s rest)
     r
     (ap (λ (ws : List DataWord). fold n a (items_of s (ws ++ rest))) cut ∙ step (words_from p 4 12 ++ rest))
-
-pub first_keeps : (keep : ℤ → ℤ → ℤ) (n : ℕ) (s : Scheme) (p : List ℕ) (w : DataWord) (a t : Sum)
-    (before between after : List ℤ) (r : Result Sum ReadFault) → words_from p 3 13 ≡ w ∷ words_from p 4 12
-    → ((rest : List DataWord) → take t.met between ++ met_in keep n t (items_of s rest)
-    ≡ take a.met before ++ met_in keep n a (items_of s (w ∷ rest))) → (rest : List DataWord)
-    → Keeps keep n t between (items_of s (words_from p 4 12 ++ rest)) (items_of s rest) after r
-    → Keeps keep n a before (items_of s (words_from p 3 13 ++ rest)) (items_of s rest) after r
-first_keeps keep n s p w a t before between after r cut step rest =
-    keeps_from keep n a t before between after (items_of s (words_from p 3 13 ++ rest))
-    (items_of s (words_from p 4 12 ++ rest)) (items_of s rest) r
-    (step (words_from p 4 12 ++ rest)
-    ∙ ap (λ (ws : List DataWord). take a.met before ++ met_in keep n a (items_of s (ws ++ rest))) (sym cut))

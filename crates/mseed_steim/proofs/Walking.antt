@@ -2,7 +2,7 @@
 use Rattle.std.specs.Simd.{first_chunks}
 use Rattle.std.proofs.Common.{◌≡◌, ◌≢◌, ◌⊎◌, ⊎_elim, take, drop, get_or, ◌*◌, ◌∙◌, inl, inr, ℕ, zero, suc, ◌+◌, ◌%◌}
 use Rattle.std.proofs.Common.{◌-◌, ◌/◌, ◌<◌, ◌≤◌, List, [], ◌∷◌, ◌++◌, map, length, ℤ, arith, refl, ap}
-use Rattle.std.proofs.Common.{sym, Option, Some, None, Ok, Err}
+use Rattle.std.proofs.Common.{add-one, sym, Option, Some, None, Ok, Err}
 use Rattle.std.proofs.lemmas.Bool.{ne_eqb, cases_lt}
 use Rattle.std.proofs.lemmas.List.{drop-drop}
 use Rattle.mseed_steim.specs.declared.scheme.Scheme.{Scheme}
@@ -10,6 +10,7 @@ use Rattle.mseed_steim.specs.private.Digits.{differences_of}
 use Rattle.mseed_steim.specs.Frames.{DataWord, data_word, data_words, words_from, word_count}
 use Rattle.mseed_steim.specs.Runs.{place_of}
 use Rattle.mseed_steim.specs.private.Items.{with_items, items_of}
+use Rattle.mseed_steim.specs.private.Unpacked.{first_in}
 
 -- none
 pub words_none : (p : List ℕ) (k : ℕ) → words_from p k 0 ≡ []
@@ -117,3 +118,38 @@ behind_first p w ws e =
     let step = words_step p 3 12 some in
     let same : w ∷ ws ≡ data_word p 3 ∷ words_from p 4 12 = sym e ∙ step in
     cc
+
+-- behind the first data word stand the words of the first frame from word 4 on, and those of the later ones from word 1
+pub first_few : (i : ℕ) → first_in i ≤ 4
+first_few zero = omega arith
+first_few (suc i) = omega arith
+
+pub first_behind : (p : List ℕ) (w : DataWord) → 64 ≤ length p → words_from p 3 13 ≡ w ∷ words_from p 4 12
+    → data_words p ≡ w ∷ words_from p 4 (word_count p - 4)
+first_behind p w framed e =
+    let some : 3 % 16 ≢ 0 = λ z. omega arith in
+    let same : w ≡ data_word p 3 = cc (e, words_step p 3 12 some) in
+    let count : suc (word_count p - 4) ≡ word_count p - 3 = omega (arith, framed) in
+    rw (← count, same) (words_step p 3 (word_count p - 4) some)
+
+skip_codes : (p : List ℕ) (k n : ℕ) → k % 16 ≡ 0 → words_from p k n ≡ words_from p (k + 1) (n - 1)
+skip_codes p k zero e = words_none p k ∙ sym (words_none p (k + 1))
+skip_codes p k (suc n) e =
+    let less : suc n - 1 ≡ n = omega arith in
+    rw less (words_skip p k n e)
+
+pub frame_behind : (p : List ℕ) (i : ℕ) → i < length p / 64
+    → words_from p (16 * i + first_in i) (word_count p - (16 * i + first_in i))
+    ≡ words_from p (16 * i + first_in i) (16 - first_in i)
+    ++ words_from p (16 * (i + 1) + first_in (i + 1)) (word_count p - (16 * (i + 1) + first_in (i + 1)))
+frame_behind p i inside =
+    let few = first_few i in
+    let next : first_in (i + 1) ≡ 1 = ap first_in (add-one i) in
+    let count : 16 - first_in i + (word_count p - 16 * (i + 1)) ≡ word_count p - (16 * i + first_in i) =
+    omega (arith, inside, few) in
+    let place : 16 * i + first_in i + (16 - first_in i) ≡ 16 * (i + 1) = omega (arith, few) in
+    let less : word_count p - 16 * (i + 1) - 1 ≡ word_count p - (16 * (i + 1) + 1) = omega arith in
+    let cut = rw (count, place) at
+    (words_cut p (16 * i + first_in i) (16 - first_in i) (word_count p - 16 * (i + 1))) in
+    let skip = rw less at (skip_codes p (16 * (i + 1)) (word_count p - 16 * (i + 1)) (omega arith)) in
+    rw next (cut ∙ ap (λ (ws : List DataWord). words_from p (16 * i + first_in i) (16 - first_in i) ++ ws) skip)

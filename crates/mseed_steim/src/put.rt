@@ -8,6 +8,7 @@ ghost use Rattle.mseed_steim.specs.Frames.{DataWord, data_words, words_from, wor
 ghost use Rattle.mseed_steim.specs.private.Items.{items_of};
 ghost use Rattle.mseed_steim.specs.private.Lanes.{Begins};
 ghost use Rattle.mseed_steim.specs.private.Reads.{as_data};
+ghost use Rattle.mseed_steim.specs.private.Unpacked.{first_in};
 ghost use Rattle.mseed_steim.specs.private.Sums.{GoesOn, Keeps, fold, met_in};
 
 use crate::data_words::{FRAME, Word, Words, first_word};
@@ -227,52 +228,32 @@ fn put_at_once<K: Keeper>(
     put_frame::<K>(scheme, frame, begin, samples, sum, differences, out)
 }
 
-/// The differences of the first frame, as far as they are needed.
-fn put_first_frame<K: Keeper>(
-    scheme: Scheme,
-    payload: &[u8],
-    frame: &[u8; 64],
-    samples: usize,
-    first: i32,
-    differences: &mut Room,
-    out: &mut [i32],
-) -> Walked
-    requires inside { 64 ≤ length payload.now }
-    requires prefix { frame.now ≡ take 64 payload.now }
-    requires places { length out.old ≡ samples }
-    ensures goes_on { (rest : List DataWord)
-        → GoesOn samples (record { met = 0; last = first })
-        (items_of scheme (words_from payload.now 3 13 ++ rest)) (items_of scheme rest) result }
-    ensures kept { (rest : List DataWord)
-        → Keeps K.kept samples (record { met = 0; last = first }) out.old
-        (items_of scheme (words_from payload.now 3 13 ++ rest)) (items_of scheme rest) out.new result }
-    ensures met { IfOk result (λ next. next.met ≤ samples) }
-    ensures places { length out.new ≡ samples }
+/// The first word of a frame whose differences come behind that of the payload's first data word.
+fn first_in(frame: usize) -> usize
+    ensures { result ≡ first_in frame }
 {
-    let none = Sum {
-        met: 0,
-        last: first,
-    };
-    let sum = match put_word::<K>(scheme, first_word(payload), samples, none, out) {
-        Ok(sum) => sum,
-        Err(fault) => return Err(fault),
-    };
-    if let Some(sum) = put_at_once::<K>(scheme, frame, FROM_4, samples, sum, differences, out) {
-        return Ok(sum);
-    }
-    match put_wide::<K>(scheme, frame, FROM_4, samples, sum, differences, out) {
-        Some(walked) => walked,
-        None => put_all::<K>(scheme, Words::between(payload, 4, FRAME), samples, sum, out),
-    }
+    if frame == 0 { 4 } else { 1 }
 }
 
-/// The differences of a later frame that aren't added up at once, as far as they are needed.
+/// The bits of the codes from there on.
+static BEGINS: [Rows; 2] = [FROM_4, FROM_1];
+
+/// Those of a frame.
+#[inline(always)]
+fn begin_in(frame: usize) -> Rows
+    ensures { Begins result (first_in frame) }
+{
+    BEGINS[frame.min(1)]
+}
+
+/// The differences of a frame that aren't added up at once, as far as they are needed.
 #[cold]
 fn put_other<K: Keeper>(
     scheme: Scheme,
     payload: &[u8],
     frame: &[u8; 64],
     index: usize,
+    begin: Rows,
     samples: usize,
     sum: Sum,
     differences: &mut Room,
@@ -280,29 +261,31 @@ fn put_other<K: Keeper>(
 ) -> Walked
     requires inside { 64 * (index + 1) ≤ length payload.now }
     requires at { frame.now ≡ take 64 (drop (64 * index) payload.now) }
+    requires begins { Begins begin (first_in index) }
     requires places { length out.old ≡ samples }
     requires met { sum.met ≤ samples }
-    ensures goes_on { (rest : List DataWord)
-        → GoesOn samples sum
-        (items_of scheme (words_from payload.now (16 * index) 16 ++ rest)) (items_of scheme rest) result }
-    ensures kept { (rest : List DataWord)
-        → Keeps K.kept samples sum out.old
-        (items_of scheme (words_from payload.now (16 * index) 16 ++ rest)) (items_of scheme rest) out.new result }
+    ensures goes_on { (rest : List DataWord) → GoesOn samples sum
+        (items_of scheme (words_from payload.now (16 * index + first_in index) (16 - first_in index) ++ rest))
+        (items_of scheme rest) result }
+    ensures kept { (rest : List DataWord) → Keeps K.kept samples sum out.old
+        (items_of scheme (words_from payload.now (16 * index + first_in index) (16 - first_in index) ++ rest))
+        (items_of scheme rest) out.new result }
     ensures met { IfOk result (λ next. next.met ≤ samples) }
     ensures places { length out.new ≡ samples }
 {
-    match put_wide::<K>(scheme, frame, FROM_1, samples, sum, differences, out) {
+    match put_wide::<K>(scheme, frame, begin, samples, sum, differences, out) {
         Some(walked) => walked,
         None => {
-            let words = Words::between(payload, FRAME * index, FRAME * (index + 1));
+            let from = FRAME * index + first_in(index);
+            let words = Words::between(payload, from, FRAME * (index + 1));
             put_all::<K>(scheme, words, samples, sum, out)
         }
     }
 }
 
-/// The differences of the frames behind the first one. They are added up at once, where that can't go wrong; else
+/// The differences of the frames behind the first data word. They are added up at once, where that can't go wrong; else
 /// difference by difference, and where a word is bad or few are needed, word by word.
-fn put_later_frames<K: Keeper>(
+fn put_frames<K: Keeper>(
     scheme: Scheme,
     payload: &[u8],
     samples: usize,
@@ -314,26 +297,19 @@ fn put_later_frames<K: Keeper>(
     requires framed { 64 ≤ length payload.now }
     requires met { sum.met ≤ samples }
     ensures folded { result ≡ fold samples sum
-        (items_of scheme (words_from payload.now 16 (word_count payload.now - 16))) }
+        (items_of scheme (words_from payload.now 4 (word_count payload.now - 4))) }
     ensures kept { OnOk result (out.new ≡ take sum.met out.old ++ met_in K.kept samples sum
-        (items_of scheme (words_from payload.now 16 (word_count payload.now - 16)))) }
+        (items_of scheme (words_from payload.now 4 (word_count payload.now - 4)))) }
 {
     let (frames, _) = payload.as_chunks::<64>();
     let mut sum = sum;
-    for index in 1..frames.len() {
+    for index in 0..frames.len() {
         if sum.met == samples {
             return Ok(sum);
         }
         let frame = &frames[index];
-        if let Some(next) = put_at_once::<K>(
-            scheme,
-            frame,
-            FROM_1,
-            samples,
-            sum,
-            differences,
-            out,
-        ) {
+        let begin = begin_in(index);
+        if let Some(next) = put_at_once::<K>(scheme, frame, begin, samples, sum, differences, out) {
             sum = next;
             continue;
         }
@@ -342,6 +318,7 @@ fn put_later_frames<K: Keeper>(
             payload,
             frame,
             index,
+            begin,
             samples,
             sum,
             differences,
@@ -374,11 +351,13 @@ pub(crate) fn put_words<K: Keeper>(
     ensures kept { OnOk result (out.new
         ≡ met_in K.kept samples (record { met = 0; last = first }) (items_of scheme (data_words payload.now))) }
 {
-    let (frames, _) = payload.as_chunks::<64>();
-    let frame = &frames[0];
+    let none = Sum {
+        met: 0,
+        last: first,
+    };
     let mut room = [0; PLACES];
-    match put_first_frame::<K>(scheme, payload, frame, samples, first, &mut room, out) {
-        Ok(sum) => put_later_frames::<K>(scheme, payload, samples, sum, &mut room, out),
+    match put_word::<K>(scheme, first_word(payload), samples, none, out) {
+        Ok(sum) => put_frames::<K>(scheme, payload, samples, sum, &mut room, out),
         Err(fault) => Err(fault),
     }
 }

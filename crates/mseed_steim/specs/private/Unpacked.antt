@@ -59,3 +59,8 @@ pub record AreUnpacked (scheme : Scheme) (begin frame : List ℕ) (differences :
 pub record AreNarrow (scheme : Scheme) (begin frame : List ℕ) (differences : List ℤ) (count : ℕ) : Type 0 where
   pub unpacked : AreUnpacked scheme begin frame differences count
   pub near : span differences ≤ 2 ^ 20
+
+-- the first word of a frame whose differences come behind that of the payload's first data word
+abbrev pub first_in : ℕ → ℕ
+first_in zero = 4
+first_in (suc frame) = 1

@@ -36,7 +36,8 @@ returns g c =
           c.add_some.result c.args.out.now after rest c.add_some.ensures.met c.add_some.ensures.last c.requires.some
           room
           (omega (arith, first, c.requires.near)) (omega (arith, c.requires.places, c.requires.met))
-          (rw same (omega arith)) (filled ∙ sym (differences_kept g.K.Keeper.kept c.requires.differences c.args.sum.last (take k ds)))) met;
+          (rw same (omega arith)) (filled ∙ sym (differences_kept g.K.Keeper.kept c.requires.differences
+          c.args.sum.last (take k ds)))) met;
       met = omega (arith, met, c.min-needed.ensures);
       places = search rules;
     }

@@ -43,7 +43,8 @@ returns-clause-kept g c = λ p k from rest begins e.
     c.unpack_in_place.new.places (items_of c.args.scheme rest) c.in_ok-next.ensures.1.1 c.in_ok-next.ensures.1.2
     c.requires.some (omega (arith, long, narrow.unpacked.few)) far (omega arith)
     (omega (arith, long, all, narrow.unpacked.few))
-    (ap (λ (m : ℕ). take m c.unpack_in_place.new.places) long ∙ sym (differences_kept g.K.Keeper.kept c.requires.differences c.args.sum.last ds))
+    (ap (λ (m : ℕ). take m c.unpack_in_place.new.places) long
+    ∙ sym (differences_kept g.K.Keeper.kept c.requires.differences c.args.sum.last ds))
     ∙ ap (λ (items : List (Result ℤ BadWordAt)). take c.args.sum.met out
     ++ met_in g.K.Keeper.kept c.args.samples c.args.sum items)
     (sym (narrow.unpacked.items p k from rest begins e))

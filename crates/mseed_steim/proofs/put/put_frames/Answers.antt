@@ -1,12 +1,12 @@
 use Rattle.std.proofs.Common.{◌≡◌, ◌+◌, ◌-◌, ◌*◌, ◌/◌, ◌<◌, ◌++◌, ◌∙◌, ℕ, List, ℤ, take, length, ap, sym, arith, refl}
-use Rattle.std.proofs.Common.{inl}
 use Rattle.mseed_steim.specs.Frames.{DataWord, words_from, word_count}
 use Rattle.mseed_steim.specs.private.Items.{items_of}
 use Rattle.mseed_steim.specs.private.Sums.{fold, met_in}
-use Rattle.mseed_steim.proofs.Walking.{frame_cut, words_none, words_skip, no_items, frame_at}
+use Rattle.mseed_steim.specs.private.Unpacked.{first_in}
+use Rattle.mseed_steim.proofs.Walking.{frame_behind, words_none, no_items, frame_at}
 use Rattle.mseed_steim.proofs.Folds.{fold_enough, fold_short}
 use Rattle.mseed_steim.proofs.Folded.{all_kept}
-use Rattle.mseed_steim.proofs.put.put_later_frames.Goals as goal
+use Rattle.mseed_steim.proofs.put.put_frames.Goals as goal
 
 pub returns-then-sum-samples-clause-folded : goal.returns-then-sum-samples-clause-folded
 returns-then-sum-samples-clause-folded g c =
@@ -19,7 +19,7 @@ returns-then-sum-samples-clause-kept g c =
     ∙ c.loop-index.invariant.kept
 
 pub put_at_once-requires-clause-begins : goal.put_at_once-requires-clause-begins
-put_at_once-requires-clause-begins g c = (1, inl (refl, refl))
+put_at_once-requires-clause-begins g c = (first_in c.loop-index.index, c.begin_in-begin.ensures)
 
 pub put_other-requires-clause-at : goal.put_other-requires-clause-at
 put_other-requires-clause-at g c =
@@ -27,36 +27,30 @@ put_other-requires-clause-at g c =
     rw c.as_chunks.ensures.front (frame_at (length c.args.payload.now / 64) c.args.payload.now c.loop-index.index
     inside)
 
--- the first word of a frame, its codes, is no data word
-skip : (p : List ℕ) (k : ℕ) → k < length p / 64
-    → words_from p (16 * k) (word_count p - 16 * k)
-    ≡ words_from p (16 * k + 1) 15 ++ words_from p (16 * (k + 1)) (word_count p - 16 * (k + 1))
-skip p k inside =
-    frame_cut p k (omega arith)
-    ∙ ap (λ (ws : List DataWord). ws ++ words_from p (16 * (k + 1)) (word_count p - 16 * (k + 1)))
-    (words_skip p (16 * k) 15 (omega arith))
-
 pub returns-in-Err-clause-folded : goal.returns-in-Err-clause-folded
 returns-in-Err-clause-folded g c =
     sym (c.loop-index.invariant.same
     ∙ ap (λ (ws : List DataWord). fold c.args.samples c.loop-index.sum (items_of c.args.scheme ws))
-    (frame_cut c.args.payload.now c.loop-index.index (omega arith))
+    (frame_behind c.args.payload.now c.loop-index.index (omega arith))
     ∙ c.in-Err.ensures.goes_on _)
 
 pub loop-index-preserved-in-Some : goal.loop-index-preserved-in-Some
 loop-index-preserved-in-Some g c =
     let inside : c.loop-index.index < length c.args.payload.now / 64 = omega arith in
-    let parts = skip c.args.payload.now c.loop-index.index inside in
+    let parts = frame_behind c.args.payload.now c.loop-index.index inside in
+    let begins = c.begin_in-begin.ensures in
     record {
       places = c.in-Some.ensures.places;
       met = c.in-Some.ensures.met;
       same = c.loop-index.invariant.same
           ∙ ap (λ (ws : List DataWord). fold c.args.samples c.loop-index.sum (items_of c.args.scheme ws)) parts
-          ∙ c.in-Some.ensures.goes_on c.args.payload.now c.loop-index.index 1 _ (inl (refl, refl))
+          ∙ c.in-Some.ensures.goes_on c.args.payload.now c.loop-index.index
+          (first_in c.loop-index.index) _ begins
           (rw c.as_chunks.ensures.front (frame_at (length c.args.payload.now / 64) c.args.payload.now
           c.loop-index.index
           inside));
-      kept = c.in-Some.ensures.kept c.args.payload.now c.loop-index.index 1 _ (inl (refl, refl))
+      kept = c.in-Some.ensures.kept c.args.payload.now c.loop-index.index
+          (first_in c.loop-index.index) _ begins
           (rw c.as_chunks.ensures.front (frame_at (length c.args.payload.now / 64) c.args.payload.now
           c.loop-index.index
           inside))
@@ -68,11 +62,13 @@ loop-index-preserved-in-Some g c =
 
 pub loop-index-preserved : goal.loop-index-preserved
 loop-index-preserved g c =
-    let parts = frame_cut c.args.payload.now c.loop-index.index (omega arith) in
-    let rest = words_from c.args.payload.now (16 * (c.loop-index.index + 1))
-    (word_count c.args.payload.now - 16 * (c.loop-index.index + 1)) in
+    let parts = frame_behind c.args.payload.now c.loop-index.index (omega arith) in
+    let next : ℕ = c.loop-index.index + 1 in
+    let rest = words_from c.args.payload.now (16 * next + first_in next)
+    (word_count c.args.payload.now - (16 * next + first_in next)) in
     let none = ap (λ (xs : List ℤ). xs ++ met_in g.K.Keeper.kept c.args.samples c.loop-index.sum
-    (items_of c.args.scheme (words_from c.args.payload.now (16 * c.loop-index.index) 16 ++ rest)))
+    (items_of c.args.scheme (words_from c.args.payload.now (16 * c.loop-index.index + first_in c.loop-index.index)
+    (16 - first_in c.loop-index.index) ++ rest)))
     c.in_default.ensures.none in
     record {
       places = c.in-Ok.ensures.places;
@@ -99,9 +95,9 @@ returns-then-sum-samples-2-clause-kept g c =
 
 pub returns-else-sum-samples-2-clause-folded : goal.returns-else-sum-samples-2-clause-folded
 returns-else-sum-samples-2-clause-folded g c =
-    let over : word_count c.args.payload.now - 16 * c.loop-index.index ≡ 0 = omega arith in
-    let none = no_items c.args.scheme (words_from c.args.payload.now (16 * c.loop-index.index)
-    (word_count c.args.payload.now - 16 * c.loop-index.index))
-    (rw over (words_none c.args.payload.now (16 * c.loop-index.index))) in
+    let place : ℕ = 16 * c.loop-index.index + first_in c.loop-index.index in
+    let over : word_count c.args.payload.now - place ≡ 0 = omega arith in
+    let none = no_items c.args.scheme (words_from c.args.payload.now place (word_count c.args.payload.now - place))
+    (rw over (words_none c.args.payload.now place)) in
     sym (c.loop-index.invariant.same
     ∙ (rw none (fold_short c.args.samples c.loop-index.sum (λ e. c.if-sum-samples-2.false e))))
