@@ -6,8 +6,8 @@ ghost use Rattle.mseed_steim.specs.Reading.{IsWhole};
 use mseed_record::RecordView;
 use mseed_steim::{
     BadWord, BadWordAt, Differences, ReadFault, Scheme, TooLarge, TooLargeAt, check_samples,
-    ends_of, fill_samples, is_surely_near, least_words, pack_word, pack_words, read_samples,
-    unpack_word, widen_bytes,
+    ends_of, fill_differences, fill_samples, is_steim, is_surely_near, least_words, pack_word,
+    pack_words, read_samples, unpack_word, widen_bytes,
 };
 use std::alloc::Allocator;
 
@@ -42,6 +42,20 @@ pub fn fill_hundred(record: &RecordView, samples: &mut [i32; 100]) -> Result<boo
     }
     fill_samples(record, samples)?;
     Ok(true)
+}
+
+/// How far a record of Steim frames goes up and down in all, where it has exactly 100 samples.
+pub fn way_of_hundred(record: &RecordView) -> Result<Option<u64>, ReadFault> {
+    if record.samples() != 100 || !is_steim(record) {
+        return Ok(None);
+    }
+    let mut steps = [0; 100];
+    fill_differences(record, &mut steps)?;
+    let mut way = 0u64;
+    for step in &steps[1..] {
+        way = way.saturating_add(u64::from(step.unsigned_abs()));
+    }
+    Ok(Some(way))
 }
 
 /// The first sample of a record that was checked.
