@@ -6,7 +6,9 @@ ghost use Rattle.mseed_steim.specs.Reading.{count_of};
 
 use crate::records::{FIRST, put};
 use mseed_record::RecordView;
-use mseed_steim::{Ends, ReadFault, check_samples, ends_of, fill_samples, read_samples};
+use mseed_steim::{
+    Ends, ReadFault, check_samples, ends_of, fill_differences, fill_samples, is_steim, read_samples,
+};
 use std::alloc::Global;
 
 /// The parts of a record that its samples hang on.
@@ -90,14 +92,51 @@ fn is_filled(view: &RecordView<'_>, places: &mut [i32], wanted: Result<&[i32], R
     }
 }
 
-/// Whether these samples are checked and filled in, in these places, of a record that has some, or this fault is
-/// answered.
+/// Whether each step is a sample less the one before it, and the first the first sample.
+fn are_steps(steps: &[i32], samples: &[i32]) -> bool {
+    let mut last = 0i32;
+    for i in 0..steps.len() {
+        if i >= samples.len() || samples[i].wrapping_sub(last) != steps[i] {
+            return false;
+        }
+        last = samples[i];
+    }
+    steps.len() == samples.len()
+}
+
+/// Whether the steps of these samples are filled in of a record of Steim frames, or this fault is answered.
+fn is_stepped(
+    view: &RecordView<'_>,
+    places: &mut [i32],
+    wanted: Result<&[i32], ReadFault>,
+) -> bool {
+    let count = usize::from(view.samples());
+    if count == 0 || places.len() < count {
+        return false;
+    }
+    if !is_steim(view) {
+        return true;
+    }
+    match fill_differences(view, &mut places[..count]) {
+        Ok(()) => match wanted {
+            Ok(samples) => are_steps(&places[..count], samples),
+            Err(_) => false,
+        },
+        Err(fault) => wanted == Err(fault),
+    }
+}
+
+/// Whether these samples are checked and filled in, in these places, of a record that has some, and their steps too, or
+/// this fault is answered.
 pub fn is_read_in(
     view: &RecordView<'_>,
     places: &mut [i32],
     wanted: Result<&[i32], ReadFault>,
 ) -> bool {
-    view.samples() != 0 && is_checked(view, wanted) && is_filled(view, places, wanted)
+    view.samples() != 0
+        && is_checked(view, wanted)
+        && is_filled(view, places, wanted)
+        && is_stepped(view, places, wanted)
 }
 
 /// The same of a record of 320 samples or fewer.
