@@ -180,9 +180,9 @@ const WITHOUT_TIME: &[u8] = b"mseed: 1 records without a time\n";
 #[test]
 fn tells_what_lacks_a_time(rt: HostRuntime) {
     let first = with(&[(0, b"000001")]);
-    // Day 0 of a year, and the same of a channel that isn't asked for.
-    let untimed = numbered(&[(22, &[0, 0])]);
-    let other = numbered(&[(15, b"BHN"), (22, &[0, 0])]);
+    // Hour 24, and the same of a channel that isn't asked for.
+    let untimed = numbered(&[(24, &[24])]);
+    let other = numbered(&[(15, b"BHN"), (24, &[24])]);
     let archive = three(&untimed, &other, &numbered(&[]));
     let packed = packed_before(&rt, rt.alloc(), b"*_*_*_BHZ", Some(apart(&rt)), &archive);
     assert!(rt; packed.answer == Ok(()) && packed.lines.as_slice() == WITHOUT_TIME);
