@@ -4,6 +4,7 @@ pub mod AskedFor
 pub mod Wholes
 pub mod OneRepacking
 pub mod Near
+pub mod Supplied
 pub mod Trails
 pub mod ReadChannels
 pub mod Outlines

@@ -57,7 +57,7 @@ behind_near : (before last : ℤ) (xs ys : List ℤ) → AllByRecursion (IsWithi
 behind_near before last [] ys a e b = subst (λ (z : ℤ). AllByRecursion (IsWithin 30) (differences_from z ys)) (sym e) b
 behind_near before last (x ∷ xs) ys a e b = (a.0, behind_near x last xs ys a.1 e b)
 
-last_append : (before : ℤ) (xs ys : List ℤ) → last_behind before (xs ++ ys) ≡ last_behind (last_behind before xs) ys
+pub last_append : (before : ℤ) (xs ys : List ℤ) → last_behind before (xs ++ ys) ≡ last_behind (last_behind before xs) ys
 last_append before [] ys = refl
 last_append before (x ∷ xs) ys = last_append x xs ys
 
@@ -65,7 +65,7 @@ last_at : (x : ℤ) (xs : List ℤ) (last : ℤ) → slice_get (x ∷ xs) (lengt
 last_at x [] last e = cc
 last_at x (y ∷ ys) last e = last_at y ys last e
 
-ends_on : (ends : Ends) (x : ℤ) (xs : List ℤ) → AreEnds ends (x ∷ xs) → last_behind x xs ≡ ends.last
+pub ends_on : (ends : Ends) (x : ℤ) (xs : List ℤ) → AreEnds ends (x ∷ xs) → last_behind x xs ≡ ends.last
 ends_on ends x xs h =
     let at : length (x ∷ xs) - 1 ≡ length xs = omega arith in
     last_at x xs ends.last (subst (λ (n : ℕ). slice_get (x ∷ xs) n ≡ Some ends.last) at h.1)

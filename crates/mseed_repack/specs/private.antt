@@ -4,4 +4,5 @@ pub mod Outline
 pub mod Planning
 pub mod Reading
 pub mod Restretching
+pub mod Supplying
 pub mod Trails

@@ -22,6 +22,7 @@ mod standing;
 mod stretches_fault;
 mod stretching;
 mod trail;
+mod unpacking;
 mod walk;
 
 pub use asked::tell_without_time;

@@ -1,23 +1,28 @@
 //! The series of some records: how it begins, whether it can be packed, and how it is written.
-ghost use Rattle.std.specs.Prelude.{◌≡◌, ℤ, List, length, IfErr, IfOk, OnOk};
+ghost use Rattle.std.specs.Prelude.{◌≡◌, ℕ, ℤ, List, length, IfErr, IfOk, IsTrue, OnOk};
+ghost use Rattle.std.specs.List.{AllByRecursion};
 ghost use Rattle.std.specs.Bool.{OnTrue};
 ghost use Rattle.mseed_record.specs.View.{View};
 ghost use Rattle.mseed_audit.specs.Series.{IsSeriesOf};
+ghost use Rattle.mseed_pack.specs.Options.{IsSteim};
 ghost use Rattle.mseed_pack.specs.Traces.{trace_of};
-ghost use Rattle.mseed_repack.specs.private.Outline.{with_samples};
+ghost use Rattle.mseed_repack.specs.private.Outline.{says_near, with_samples};
 ghost use Rattle.mseed_repack.specs.private.Reading.{AreOf, CanBeRead, IsSoundWalk};
+ghost use Rattle.mseed_repack.specs.private.Supplying.{AreSteimOf, IsUnpackable};
 ghost use Rattle.mseed_repack.specs.private.Planning.{AreOfAny, IsBegunBy, IsStretchText};
 ghost use Rattle.mseed_repack.specs.Repack.{IsPackedInPart, Wrote};
 ghost use Rattle.mseed_repack.specs.Repack.{StretchFits, StretchMisfits};
 
-use crate::outline::{is_held, outline_records};
+use crate::outline::{Nearness, is_held, outline_records};
 use crate::reading::read_records;
+use crate::unpacking::{ROOM, Unpacking, are_unpackable, first_sample};
 use crate::walk::Walk;
 use mseed_audit::one_series;
-use mseed_pack::{Encoding, Options, PackFault, Packer, SeriesView, fit_view};
+use mseed_pack::{Encoding, Options, PackFault, Packer, SeriesHead, SeriesView, fit_view};
 use mseed_stream::{Failed, Sink};
 use mseed_stretches::Stretch;
 use mseed_time::LeapStep;
+use std::marker::PhantomData;
 
 /// Whether the series of some records can be packed. Their samples are read only where no less tells.
 pub(crate) fn fit_series<'a, R: Walk<'a>>(
@@ -71,6 +76,87 @@ fn fits_unread<'a, R: Walk<'a>>(
 
 /// Writes the records of a series that can be packed, and answers how many there are.
 pub(crate) fn pack_series<'a, R: Walk<'a>, W: Sink>(
+    records: R,
+    options: &Options,
+    samples: &mut [i32],
+    steps: &mut [(u64, LeapStep)],
+    packer: &mut Packer,
+    output: &mut W,
+) -> Result<u64, Failed>
+    requires read { CanBeRead R.leads R.left records (length samples.old) (length steps.old) }
+    requires fits { StretchFits options.now (R.left records) }
+    ensures ok { IfOk result (λ count. Wrote (IsStretchText options.now (R.left records) count) 0
+        (W.written output.old) (W.written output.new)) }
+    ensures err { IfErr result (λ _. Wrote (IsPackedInPart options.now (R.left records)) 1
+        (W.written output.old) (W.written output.new)) }
+{
+    let outline = outline_records(records, steps);
+    if goes_unread(records, outline.nearness, options.encoding) {
+        let borne = &steps[..outline.steps];
+        return pack_unread(records, outline.samples, borne, options, packer, output);
+    }
+    pack_read(records, options, samples, steps, packer, output)
+}
+
+/// Whether records go from frames to frames: they are Steim, and so is what is written, each sample is near the one
+/// before it, and none has more differences than there is room for.
+fn goes_unread<'a, R: Walk<'a>>(records: R, nearness: Nearness, encoding: Encoding) -> bool
+    requires { R.leads records }
+    ensures encoding { OnTrue result (IsSteim encoding) }
+    ensures unpackable { OnTrue result (AllByRecursion IsUnpackable (R.left records)) }
+    ensures near { OnTrue result (IsTrue (says_near nearness)) }
+{
+    match (encoding, nearness) {
+        (Encoding::Steim1 | Encoding::Steim2, Nearness::Near(_)) => are_unpackable(records),
+        _ => false,
+    }
+}
+
+/// The same of records that go from frames to frames: no list is made of their samples.
+fn pack_unread<'a, R: Walk<'a>, W: Sink>(
+    records: R,
+    count: usize,
+    steps: &[(u64, LeapStep)],
+    options: &Options,
+    packer: &mut Packer,
+    output: &mut W,
+) -> Result<u64, Failed>
+    requires walks { IsSoundWalk R.leads R.left records }
+    requires steim { IsSteim options.now.encoding }
+    requires are { (key : List ℕ) → AreSteimOf key (R.left records) count steps.now }
+    requires fits { StretchFits options.now (R.left records) }
+    ensures ok { IfOk result (λ count. Wrote (IsStretchText options.now (R.left records) count) 0
+        (W.written output.old) (W.written output.new)) }
+    ensures err { IfErr result (λ _. Wrote (IsPackedInPart options.now (R.left records)) 1
+        (W.written output.old) (W.written output.new)) }
+{
+    one_series();
+    let stretch = beginning(records);
+    let first = first_sample(records);
+    let head = SeriesHead {
+        codes: stretch.codes,
+        start: stretch.start,
+        rate: stretch.rate,
+        count,
+        first,
+        steps,
+    };
+    let mut unpacking = Unpacking {
+        rest: records,
+        last: first,
+        room: [0; ROOM],
+        at: 0,
+        end: 0,
+        records: PhantomData,
+    };
+    match packer.pack_supplied(&head, options, &mut unpacking, output) {
+        Ok(count) => Ok(count),
+        Err(_) => Err(Failed),
+    }
+}
+
+/// The same by a list of the samples.
+fn pack_read<'a, R: Walk<'a>, W: Sink>(
     records: R,
     options: &Options,
     samples: &mut [i32],

@@ -1,0 +1,23 @@
+use Rattle.std.proofs.Common.{sym, ◌∙◌}
+use Rattle.std.proofs.lemmas.Bool.{false≢true}
+use Rattle.mseed_record.specs.Viewing.{view_of}
+use Rattle.mseed_repack.specs.private.Supplying.{IsUnpackable}
+use Rattle.mseed_repack.proofs.ChannelReadBack.{each_more}
+use Rattle.mseed_repack.proofs.Walks.{gone_more, next_gone, next_of}
+use Rattle.mseed_repack.proofs.unpacking.are_unpackable.Goals as goal
+
+pub returns-then-not-is_unpackable : goal.returns-then-not-is_unpackable
+returns-then-not-is_unpackable g c =
+    let h = next_gone c.loop-view.invariant.1 c.in-Some.ensures.next in (
+      λ no. absurd (false≢true no),
+      λ sound. absurd (false≢true (sym c.if-not-is_unpackable.true
+          ∙ c.is_unpackable.ensures.1 (next_of IsUnpackable h sound))),
+    )
+
+pub loop-view-preserved : goal.loop-view-preserved
+loop-view-preserved g c =
+    let h = next_gone c.loop-view.invariant.1 c.in-Some.ensures.next in (
+      c.in-Some.ensures.leads,
+      gone_more h (each_more IsUnpackable h.gone (view_of c.in-Some.view) h.holds
+          (c.is_unpackable.ensures.0 c.if-not-is_unpackable.false)),
+    )

@@ -1,0 +1,146 @@
+//! The differences of records of Steim frames, unpacked record by record.
+ghost use Rattle.std.specs.Prelude.{◌≡◌, ◌↔◌, ◌-◌, ◌≤◌, ℤ, List, ◌-ℤ◌, IsTrue, drop, length, min, pos};
+ghost use Rattle.std.specs.Prelude.{slice_index_or, take};
+ghost use Rattle.std.specs.List.{AllByRecursion};
+ghost use Rattle.mseed_record.specs.Viewing.{view_of};
+ghost use Rattle.mseed_steim.specs.Reading.{IsSteim, IsWhole, count_of};
+ghost use Rattle.mseed_steim.specs.Spelling.{IsWithin};
+ghost use Rattle.mseed_audit.specs.Follows.{IsSound};
+ghost use Rattle.mseed_audit.specs.Series.{AreJoined};
+ghost use Rattle.mseed_pack.specs.Stretches.{differences_from};
+ghost use Rattle.mseed_repack.specs.private.Outline.{last_behind};
+ghost use Rattle.mseed_repack.specs.private.Reading.{IsSoundWalk};
+ghost use Rattle.mseed_repack.specs.private.Supplying.{IsSupplied, IsUnpackable};
+
+use crate::walk::Walk;
+use mseed_pack::Supply;
+use mseed_record::RecordView;
+use mseed_steim::{ends_of, fill_differences, is_steim};
+use std::marker::PhantomData;
+
+/// The most differences of a record that is unpacked: as many as 1008 words hold, seven each.
+pub(crate) const ROOM: usize = 7 * 1008;
+
+/// The differences of the samples of some records, each of Steim frames, of which no list is made. Each record is
+/// unpacked where its differences are wanted, or, where there isn't place for all of them, in a room, from which they
+/// are handed on.
+#[derive(Drop)]
+pub(crate) struct Unpacking<'a, R> {
+    /// The records that weren't unpacked yet.
+    pub(crate) rest: R,
+    /// The last sample of those that were; or, where there is none, the first of those that come.
+    pub(crate) last: i32,
+    /// Room for the differences of any of the records.
+    pub(crate) room: [i32; ROOM],
+    /// Where the differences in the room begin that weren't handed on yet.
+    pub(crate) at: usize,
+    /// Where they end.
+    pub(crate) end: usize,
+    /// The records lie there.
+    pub(crate) records: PhantomData<RecordView<'a>>,
+}
+
+impl<'a, R: Walk<'a>> Supply for Unpacking<'a, R> {
+    ghost supplies = { λ s samples given. IsSupplied R.leads R.left s.rest s.last s.room s.at s.end samples given };
+
+    fn fill(&mut self, out: &mut [i32]) -> usize {
+        let (at, end, last) = (self.at, self.end, self.last);
+        if at < end {
+            let count = self.hand_on(out);
+            self.at = at + count;
+            return count;
+        }
+        let Some(view) = self.rest.next() else {
+            return 0;
+        };
+        let count = usize::from(view.samples());
+        if count <= out.len() {
+            self.last = unpack(&view, last, &mut out[..count]);
+            return count;
+        }
+        self.last = unpack(&view, last, &mut self.room[..count]);
+        self.at = 0;
+        self.end = count;
+        let begun = self.hand_on(out);
+        self.at = begun;
+        begun
+    }
+}
+
+impl<'a, R> Unpacking<'a, R> {
+    /// Hands on the differences in the room, as many as there are places for.
+    fn hand_on(&self, out: &mut [i32]) -> usize
+        requires order { self.now.at ≤ self.now.end }
+        requires inside { self.now.end ≤ length self.now.room }
+        ensures count { result ≡ min (length out.old) (self.now.end - self.now.at) }
+        ensures items { take result out.new ≡ take result (drop self.now.at self.now.room) }
+    {
+        let count = out.len().min(self.end - self.at);
+        out[..count].copy_from_slice(&self.room[self.at..self.at + count]);
+        count
+    }
+}
+
+/// Whether each of some records can be unpacked in the room.
+pub(crate) fn are_unpackable<'a, R: Walk<'a>>(records: R) -> bool
+    requires { R.leads records }
+    ensures { IsTrue result ↔ AllByRecursion IsUnpackable (R.left records) }
+{
+    let mut rest = records;
+    while let Some(view) = rest.next() {
+        if !is_unpackable(&view) {
+            return false;
+        }
+    }
+    true
+}
+
+/// Whether a record is of Steim frames, and has no more differences than there is room for.
+fn is_unpackable(view: &RecordView) -> bool
+    ensures { IsTrue result ↔ IsUnpackable (view_of view.now) }
+{
+    if usize::from(view.samples()) > ROOM {
+        return false;
+    }
+    is_steim(view)
+}
+
+/// The first sample of some records.
+pub(crate) fn first_sample<'a, R: Walk<'a>>(records: R) -> i32
+    requires { IsSoundWalk R.leads R.left records }
+    ensures { (xs : List ℤ) → AreJoined (R.left records) xs → slice_index_or xs 0 (pos 0) ≡ result }
+{
+    let mut rest = records;
+    match rest.next() {
+        Some(first) => ends_of(&first).first,
+        None => unreachable!(),
+    }
+}
+
+/// Unpacks the differences of a sound record's samples, the first one's from the sample before it, and answers the
+/// last sample.
+fn unpack(view: &RecordView<'_>, before: i32, out: &mut [i32]) -> i32
+    requires sound { IsSound (view_of view.now) }
+    requires steim { IsSteim (view_of view.now) }
+    requires places { length out.old ≡ count_of (view_of view.now) }
+    requires near { (s : List ℤ) → IsWhole (view_of view.now) s
+        → AllByRecursion (IsWithin 30) (differences_from before s) }
+    ensures differences { (s : List ℤ) → IsWhole (view_of view.now) s → out.new ≡ differences_from before s }
+    ensures last { (s : List ℤ) → IsWhole (view_of view.now) s → last_behind before s ≡ result }
+{
+    match fill_differences(view, out) {
+        Ok(()) => {}
+        // A sound record has a reading.
+        Err(_) => unreachable!(),
+    }
+    out[0] = difference_of(out[0], before);
+    ends_of(view).last
+}
+
+/// How much a sample differs from the one before it.
+fn difference_of(sample: i32, before: i32) -> i32
+    requires { IsWithin 30 (sample -ℤ before) }
+    ensures { result ≡ sample -ℤ before }
+{
+    sample - before
+}
