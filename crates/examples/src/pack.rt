@@ -1,14 +1,15 @@
 //! Calls of `mseed_pack`.
-ghost use Rattle.std.specs.Prelude.{ℕ, List, length, IsOk};
+ghost use Rattle.std.specs.Prelude.{◌<◌, ℕ, List, length, IsOk};
 ghost use Rattle.mseed_audit.specs.Series.{AreSteps};
 ghost use Rattle.mseed_pack.specs.Fitting.{Fits};
+ghost use Rattle.mseed_pack.specs.Options.{IsSteim};
 ghost use Rattle.mseed_pack.specs.Packing.{IsPacking};
 ghost use Rattle.mseed_pack.specs.Traces.{trace_of};
 
 use mseed_audit::Series;
 use mseed_pack::{
-    BadOption, Encoding, Options, PackFault, Packer, SeriesView, a_packing_exists, fit, fit_view,
-    pack, pack_into, pack_view,
+    BadOption, Encoding, Listed, Options, PackFault, Packer, SeriesHead, SeriesView, Supply,
+    a_packing_exists, fit, fit_head, fit_view, pack, pack_into, pack_view,
 };
 use mseed_record::Codes;
 use mseed_stream::{Counted, Sink};
@@ -83,6 +84,47 @@ pub fn pack_over(series: &Series, options: &Options, bytes: &mut [u8]) -> Result
     let view = SeriesView::of(series);
     fit_view(&view, options)?;
     Ok(pack_into(&view, options, bytes))
+}
+
+/// The samples of a list, at most so many at once.
+#[derive(Clone, Copy)]
+pub struct Pieces<'a> {
+    /// The list, and how many of its samples were given.
+    pub rest: Listed<'a>,
+    /// How many at once: at least 1.
+    pub most: usize,
+}
+
+impl<'a> Supply for Pieces<'a> {
+    ghost supplies = { λ s samples given.
+        (0 < s.most) × ⟦<Listed<'static> as Supply>⟧.supplies s.rest samples given };
+
+    fn fill(&mut self, out: &mut [i32]) -> usize {
+        let most = self.most.min(out.len());
+        self.rest.fill(&mut out[..most])
+    }
+}
+
+/// Packs a series that fits in a Steim encoding, of which 100 samples come at once.
+pub fn pack_in_pieces<W: Sink>(
+    series: &SeriesView,
+    options: &Options,
+    sink: &mut W,
+) -> Result<u64, u128>
+    requires fits { Fits (trace_of series.now) options.now }
+    requires steps { AreSteps (length series.now.samples.now) series.now.steps.now }
+    requires steim { IsSteim options.now.encoding }
+{
+    let rest = Listed::of(series.samples);
+    let mut pieces = Pieces { rest, most: 100 };
+    Packer::new().pack_supplied(&series.head(), options, &mut pieces, sink)
+}
+
+/// Whether a series can be packed whose samples aren't there yet, where the encoding holds them.
+pub fn could_be_packed(head: &SeriesHead) -> bool
+    requires { AreSteps head.now.count head.now.steps.now }
+{
+    fit_head(head).is_ok()
 }
 
 /// Packs a series that fits, for a proof that speaks of its packing.

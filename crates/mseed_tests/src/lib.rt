@@ -7,6 +7,8 @@ mod audit;
 #[cfg(test)]
 mod join;
 #[cfg(test)]
+mod pack;
+#[cfg(test)]
 mod parts;
 #[cfg(test)]
 mod records;
