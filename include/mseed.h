@@ -10,8 +10,8 @@
  *
  * - No pointer is NULL, also where its length is 0.
  * - A pointer is aligned for what it points to, and points to as many elements as its length says.
- * - What a call writes to (text, rows, samples, totals, progress, detail, packed, records) overlaps nothing else that
- *   the call is given, and no other thread uses it meanwhile. What it only reads stays as it is meanwhile.
+ * - What a call writes to (text, rows, samples, totals, progress, detail, packed, records, selected) overlaps nothing
+ *   else that the call is given, and no other thread uses it meanwhile. What it only reads stays as it is meanwhile.
  * - A struct that is passed in is set before, also where the call only writes it: by memset to 0, say.
  * - No call is made from a signal handler, or in a child that a process with threads forked.
  *
@@ -104,7 +104,14 @@ enum mseed_code
   /* its start isn't in the years 1800 to 2199; */
   MSEED_BAD_START = 68,
   /* its leap second is of no kind, or behind none of the samples. */
-  MSEED_BAD_LEAP = 69
+  MSEED_BAD_LEAP = 69,
+
+  /* What is asked for is refused: an end of the window isn't in the years 1800 to 2199; */
+  MSEED_BAD_TIME = 80,
+  /* the text is no patterns of channels; */
+  MSEED_BAD_PATTERNS = 81,
+  /* the window's end isn't behind its begin. */
+  MSEED_BAD_WINDOW = 82
 };
 
 /* The encodings that are read and written. */
@@ -188,6 +195,27 @@ typedef struct mseed_packed
   uint64_t index;   /* of MSEED_SAMPLE_TOO_LARGE and MSEED_DIFFERENCE_TOO_LARGE: the sample's index; else 0 */
 } mseed_packed;
 
+/* A window of time, from an instant up to another, which isn't part of it. */
+typedef struct mseed_window
+{
+  int64_t from;      /* the first instant in microseconds since 1970-01-01T00:00:00; not read where has_from is 0 */
+  int64_t until;     /* the instant behind the last; not read where has_until is 0 */
+  uint8_t has_from;  /* 0: the window has no begin */
+  uint8_t has_until; /* 0: the window has no end */
+} mseed_window;
+
+/* What a selection tells. */
+typedef struct mseed_selected
+{
+  uint64_t records;      /* the records that were gone through */
+  uint64_t asked_for;    /* those of them that are asked for */
+  uint64_t without_time; /* those of the channels that are asked for whose start isn't known, where the window has a
+                          * begin or an end: they aren't asked for */
+  uint64_t length;       /* the length of all that are asked for, in bytes */
+  uint64_t offset;       /* where the next record would begin: the archive's size, where all of it was gone through */
+  uint64_t needed;       /* of MSEED_TRUNCATED: the bytes, from there on; of MSEED_LENGTH: the exponent; else 0 */
+} mseed_selected;
+
 /* Audits an archive as the program does: which channels are continuous, and where each of the others breaks first.
  *
  * Answers MSEED_OK, MSEED_BROKEN, MSEED_FAULT or MSEED_NO_MEMORY. The text of `mseed audit` is written to text, as much
@@ -238,6 +266,21 @@ uint32_t mseed_samples (const uint8_t *record, size_t size, int32_t *samples, si
  */
 uint32_t mseed_pack (const mseed_heading *heading, const int32_t *samples, size_t nsamples, uint8_t *records,
                      size_t room, mseed_packed *packed);
+
+/* The records of an archive that are asked for, byte for byte and in their order, as `mseed select` writes them: as
+ * many bytes of them as there is room for; selected->length is the length of all. Room 0 asks for the length. What
+ * lies behind them stays as it was.
+ *
+ * channels are patterns of channels, parted by commas, of four fields each, parted by underscores: "XX_STA__BH?". None
+ * at all, a text of length 0, is every channel. A record is asked for where it is of such a channel and stands in the
+ * window: it doesn't end before the window's begin, and begins before the window's end.
+ *
+ * Answers MSEED_OK once all bytes are gone through, else why it stopped: MSEED_TRUNCATED or one of MSEED_NOT_DATA to
+ * MSEED_VERSION_3; or MSEED_BAD_TIME, MSEED_BAD_PATTERNS or MSEED_BAD_WINDOW, the first that applies: then nothing is
+ * written. What the records hold isn't judged.
+ */
+uint32_t mseed_select (const uint8_t *archive, size_t size, const uint8_t *channels, size_t nchannels,
+                       const mseed_window *window, uint8_t *records, size_t room, mseed_selected *selected);
 
 #ifdef __cplusplus
 }
@@ -290,6 +333,9 @@ mseed_why (uint32_t code)
   case MSEED_BAD_RATE: return "bad rate";
   case MSEED_BAD_START: return "bad start";
   case MSEED_BAD_LEAP: return "bad leap second";
+  case MSEED_BAD_TIME: return "bad time";
+  case MSEED_BAD_PATTERNS: return "bad patterns";
+  case MSEED_BAD_WINDOW: return "bad window";
   default: return "unknown";
   }
 }

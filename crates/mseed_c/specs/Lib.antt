@@ -1,3 +1,4 @@
+pub mod Asked
 pub mod Audited
 pub mod Codes
 pub mod Decoded

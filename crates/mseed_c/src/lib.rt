@@ -15,6 +15,7 @@ mod packing;
 mod reading;
 mod room;
 mod row;
+mod selecting;
 
 pub use auditing::{Totals, mseed_audit, mseed_audit_each, mseed_part};
 pub use codes::{Detail, Refusal, SampleFault, Stop};
@@ -26,3 +27,4 @@ pub use lent::Lent;
 pub use packing::{Packed, mseed_pack};
 pub use reading::mseed_read;
 pub use row::Row;
+pub use selecting::{Selected, Window, mseed_select};
