@@ -15,10 +15,11 @@ from mseed._packing import PackError, make, pack, write
 from mseed._pieces import Piece, Pieces, iterate
 from mseed._reading import Traces, read
 from mseed._records import RecordError
+from mseed._selecting import select
 from mseed._trace import Trace
 from mseed._version import __version__
 
 __all__ = [
     "Archive", "Audit", "Finding", "PackError", "Piece", "Pieces", "RecordError", "Samples", "Trace", "Traces",
-    "__version__", "audit", "findings", "iterate", "make", "pack", "part", "read", "write",
+    "__version__", "audit", "findings", "iterate", "make", "pack", "part", "read", "select", "write",
 ]

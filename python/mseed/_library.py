@@ -20,7 +20,7 @@ WORDS = {
     39: "lastdiffers",
     48: "does not fit 1", 49: "does not fit 2", 50: "does not fit 3", 51: "does not fit 4", 52: "does not fit 5",
     64: "bad length", 65: "bad encoding", 66: "bad sequence number", 67: "bad rate", 68: "bad start",
-    69: "bad leap second",
+    69: "bad leap second", 80: "bad time", 81: "bad patterns", 82: "bad window",
 }
 
 
@@ -61,6 +61,21 @@ class Packed(ctypes.Structure):
     _fields_ = [("records", c_uint64), ("index", c_uint64)]
 
 
+class TimeWindow(ctypes.Structure):
+    """A window of time."""
+
+    _fields_ = [("start", c_int64), ("end", c_int64), ("has_start", c_uint8), ("has_end", c_uint8)]
+
+
+class Selected(ctypes.Structure):
+    """What a selection tells."""
+
+    _fields_ = [
+        ("records", c_uint64), ("asked_for", c_uint64), ("without_time", c_uint64), ("length", c_uint64),
+        ("offset", c_uint64), ("needed", c_uint64),
+    ]
+
+
 def _places() -> Iterator[str]:
     """Where the library is looked for: MSEED_LIBRARY, the package, the folders lib above it, and the system's."""
     named = os.environ.get("MSEED_LIBRARY")
@@ -84,6 +99,8 @@ _CALLS = {
     "mseed_rows": [c_void_p, c_size_t, c_size_t, c_void_p, c_size_t, POINTER(Progress)],
     "mseed_read": [c_void_p, c_size_t, c_size_t, c_void_p, c_size_t, c_void_p, c_size_t, POINTER(Progress)],
     "mseed_pack": [POINTER(Heading), c_void_p, c_size_t, c_void_p, c_size_t, POINTER(Packed)],
+    "mseed_select": [c_void_p, c_size_t, c_void_p, c_size_t, POINTER(TimeWindow), c_void_p, c_size_t,
+                     POINTER(Selected)],
 }
 
 

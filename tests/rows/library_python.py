@@ -22,6 +22,41 @@ STAND_IN = str(SOURCES / "obspy_stand_in")
 # With NumPy, so many archives, in so many parts side by side; without it, fewer.
 ARCHIVES, PARTS, WITHOUT = 2000, 4, 100
 
+# What is asked for of two records of 16 samples at 20 a second, from the first instant of 2024 on: the first ends at
+# 0.75 s, and the second begins at 0.8 s.
+SELECTING = """
+import datetime, sys, mseed
+two = sys.argv[1] + "/two_records.mseed"
+data = open(two, "rb").read()
+first, second, day = data[:len(data) // 2], data[len(data) // 2:], "2024-01-01T00:00:00"
+print(mseed.select(two) == data, mseed.select(data, channels="XX_STA__BH?") == data)
+print(mseed.select(two, channels=["IU_*_*_*", "XX_STA_--_BHN"]), len(mseed.read(mseed.select(two, end=day + ".8"))[0]))
+print(mseed.select(two, end=day + ".8") == first, mseed.select(two, end=day + ".800001") == data)
+print(mseed.select(two, start=day + ".75") == data, mseed.select(two, start="2024-001T00:00:00.750001Z") == second)
+at = datetime.datetime(2024, 1, 1, 0, 0, 0, 800000)
+print(mseed.select(two, start=at) == second, mseed.select(two, end=1704067200 * 10**9 + 800000000) == first)
+for asked in ({"channels": "XX_STA_BHZ"}, {"channels": ""}, {"start": "2024-02-30"}, {"start": at, "end": at}):
+    try:
+        mseed.select(two, **asked)
+    except ValueError as error:
+        print(error)
+try:
+    mseed.select(data[:-1])
+except mseed.RecordError as error:
+    print(error.number, error.offset == len(first), error.reason.split()[0])
+"""
+SELECTED = """True True
+b'' 16
+True True
+True True
+True True
+no patterns of channels: XX_STA_BHZ
+no patterns of channels: there is none
+no time: 2024-02-30
+the end isn't behind the start
+2 True truncated
+"""
+
 # What is done by hand, and what is printed: by rows of samples that tests/models and README's samples say.
 BY_HAND = """
 import datetime, os, sys, mseed
@@ -188,6 +223,9 @@ def rows() -> Cases:
             yield Skipped("the package with NumPy", NUMPY)
             return
         yield Fact("by hand, with NumPy", EXPECTED, run(built, BY_HAND, folder))
+        yield Fact("what is asked for", SELECTED, run(built, SELECTING, folder))
+        ended = python(built, [str(SOURCES / "library_selections.py"), "7", "200"])
+        yield Fact("selections at random", "1600 selections\n", (ended.stdout + ended.stderr).decode())
         yield Fact("views and threads", "{'int32'} 1 9\n[0, 1, 2, 3, 4] True\n[]\n", run(built, WITH_NUMPY, folder))
         yield Fact("an ObsPy trace", "obspy XX STA '' BHZ 1704067200000000000 20.0 True\n", run(built, OBSPY, STAND_IN))
         yield from at_random(built, True)
