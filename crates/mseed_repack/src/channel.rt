@@ -13,7 +13,8 @@ use crate::numbering::pack_stretches;
 use crate::reading::count_steps;
 use crate::room::room_for;
 use crate::stretching::cut_stretches;
-use crate::walk::{Row, Walk};
+use crate::unpacking::Unpacking;
+use crate::walk::{Part, Row, Walk};
 use mseed_pack::{Options, Packer};
 use mseed_record::RecordView;
 use mseed_stream::Sink;
@@ -99,12 +100,17 @@ fn repack_within<'a, R: Walk<'a>, W: Sink>(
         Err(misfit) => return Err(ChannelFault::Misfit(misfit.number, misfit.fault)),
     }
     let mut packer = Packer::new();
+    let mut unpacking = Unpacking::none(Part {
+        rest: records,
+        count: 0,
+    });
     match pack_stretches(
         records,
         lengths,
         options,
         samples,
         steps,
+        &mut unpacking,
         &mut packer,
         output,
     ) {

@@ -6,6 +6,7 @@ ghost use Rattle.mseed_repack.specs.Restretch.{IsNumberedOn};
 ghost use Rattle.mseed_repack.specs.private.Planning.{IsPartOn, IsReadable, IsTextOn, stretches_by};
 
 use crate::series::pack_series;
+use crate::unpacking::Unpacking;
 use crate::walk::{Part, Walk, behind};
 use mseed_pack::{Options, Packer};
 use mseed_stream::{Failed, Sink};
@@ -22,6 +23,7 @@ pub(crate) fn pack_stretches<'a, R: Walk<'a>, W: Sink>(
     options: &Options,
     samples: &mut [i32],
     steps: &mut [(u64, LeapStep)],
+    unpacking: &mut Unpacking<'a, Part<R>>,
     packer: &mut Packer,
     output: &mut W,
 ) -> Result<(), Failed>
@@ -41,7 +43,7 @@ pub(crate) fn pack_stretches<'a, R: Walk<'a>, W: Sink>(
             rest,
             count: *count,
         };
-        match pack_series(stretch, &next, samples, steps, packer, output) {
+        match pack_series(stretch, &next, samples, steps, unpacking, packer, output) {
             Ok(written) => next = numbered_on(&next, written),
             Err(failed) => return Err(failed),
         }

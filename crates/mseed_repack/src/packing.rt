@@ -8,6 +8,8 @@ ghost use Rattle.mseed_repack.specs.Repack.{AreTexts, IsTextUpTo, Wrote};
 
 use crate::archive::Archive;
 use crate::numbering::pack_stretches;
+use crate::unpacking::Unpacking;
+use crate::walk::Part;
 use mseed_pack::{Options, Packer};
 use mseed_stream::{Failed, Sink};
 use mseed_time::LeapStep;
@@ -36,7 +38,15 @@ pub(crate) fn pack_channels<A: Allocator, W: Sink>(
         (planned (map view_of archive.now.views.now) archive.now.channels.now (map (λ own. own.items) lengths.now))) 1
         (W.written output.old) (W.written output.new)) }
 {
+    if archive.channels.is_empty() {
+        return Ok(());
+    }
     let mut packer = Packer::new();
+    let first = archive.trail(0);
+    let mut unpacking = Unpacking::none(Part {
+        rest: first,
+        count: 0,
+    });
     for number in 0..archive.channels.len() {
         match pack_stretches(
             archive.trail(number),
@@ -44,6 +54,7 @@ pub(crate) fn pack_channels<A: Allocator, W: Sink>(
             options,
             samples,
             steps,
+            &mut unpacking,
             &mut packer,
             output,
         ) {

@@ -15,14 +15,13 @@ ghost use Rattle.mseed_repack.specs.Repack.{StretchFits, StretchMisfits};
 
 use crate::outline::{Nearness, is_held, outline_records};
 use crate::reading::read_records;
-use crate::unpacking::{ROOM, Unpacking, are_unpackable, first_sample};
+use crate::unpacking::{Unpacking, are_unpackable, first_sample, know_room};
 use crate::walk::Walk;
 use mseed_audit::one_series;
 use mseed_pack::{Encoding, Options, PackFault, Packer, SeriesHead, SeriesView, fit_view};
 use mseed_stream::{Failed, Sink};
 use mseed_stretches::Stretch;
 use mseed_time::LeapStep;
-use std::marker::PhantomData;
 
 /// Whether the series of some records can be packed. Their samples are read only where no less tells.
 pub(crate) fn fit_series<'a, R: Walk<'a>>(
@@ -80,6 +79,7 @@ pub(crate) fn pack_series<'a, R: Walk<'a>, W: Sink>(
     options: &Options,
     samples: &mut [i32],
     steps: &mut [(u64, LeapStep)],
+    unpacking: &mut Unpacking<'a, R>,
     packer: &mut Packer,
     output: &mut W,
 ) -> Result<u64, Failed>
@@ -93,7 +93,15 @@ pub(crate) fn pack_series<'a, R: Walk<'a>, W: Sink>(
     let outline = outline_records(records, steps);
     if goes_unread(records, outline.nearness, options.encoding) {
         let borne = &steps[..outline.steps];
-        return pack_unread(records, outline.samples, borne, options, packer, output);
+        return pack_unread(
+            records,
+            outline.samples,
+            borne,
+            options,
+            unpacking,
+            packer,
+            output,
+        );
     }
     pack_read(records, options, samples, steps, packer, output)
 }
@@ -118,6 +126,7 @@ fn pack_unread<'a, R: Walk<'a>, W: Sink>(
     count: usize,
     steps: &[(u64, LeapStep)],
     options: &Options,
+    unpacking: &mut Unpacking<'a, R>,
     packer: &mut Packer,
     output: &mut W,
 ) -> Result<u64, Failed>
@@ -141,15 +150,12 @@ fn pack_unread<'a, R: Walk<'a>, W: Sink>(
         first,
         steps,
     };
-    let mut unpacking = Unpacking {
-        rest: records,
-        last: first,
-        room: [0; ROOM],
-        at: 0,
-        end: 0,
-        records: PhantomData,
-    };
-    match packer.pack_supplied(&head, options, &mut unpacking, output) {
+    know_room(&unpacking.room);
+    unpacking.rest = records;
+    unpacking.last = first;
+    unpacking.at = 0;
+    unpacking.end = 0;
+    match packer.pack_supplied(&head, options, unpacking, output) {
         Ok(count) => Ok(count),
         Err(_) => Err(Failed),
     }

@@ -19,7 +19,7 @@ use mseed_steim::{ends_of, fill_differences, is_steim};
 use std::marker::PhantomData;
 
 /// The most differences of a record that is unpacked: as many as 1008 words hold, seven each.
-pub(crate) const ROOM: usize = 7 * 1008;
+const ROOM: usize = 7 * 1008;
 
 /// The differences of the samples of some records, each of Steim frames, of which no list is made. Each record is
 /// unpacked where its differences are wanted, or, where there isn't place for all of them, in a room, from which they
@@ -68,6 +68,18 @@ impl<'a, R: Walk<'a>> Supply for Unpacking<'a, R> {
 }
 
 impl<'a, R> Unpacking<'a, R> {
+    /// Nothing yet, with any records in place of those that come.
+    pub(crate) fn none(rest: R) -> Unpacking<'a, R> {
+        Unpacking {
+            rest,
+            last: 0,
+            room: [0; ROOM],
+            at: 0,
+            end: 0,
+            records: PhantomData,
+        }
+    }
+
     /// Hands on the differences in the room, as many as there are places for.
     fn hand_on(&self, out: &mut [i32]) -> usize
         requires order { self.now.at ≤ self.now.end }
@@ -80,6 +92,11 @@ impl<'a, R> Unpacking<'a, R> {
         count
     }
 }
+
+/// How long a room is.
+pub(crate) fn know_room(room: &[i32; ROOM])
+    ensures { length room.now ≡ 7056 }
+{}
 
 /// Whether each of some records can be unpacked in the room.
 pub(crate) fn are_unpackable<'a, R: Walk<'a>>(records: R) -> bool

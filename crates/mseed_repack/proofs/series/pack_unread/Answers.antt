@@ -1,12 +1,8 @@
-use Rattle.std.proofs.Common.{◌≡◌, ◌≤◌, arith, length, pos, replicate, rules, sym, to_z, of_z, w32, ◌∙◌}
+use Rattle.std.proofs.Common.{◌≡◌, arith, rules, sym, to_z, of_z, w32, ◌∙◌}
 use Rattle.std.proofs.lemmas.Int.{to_z-of_z}
-use Rattle.std.proofs.lemmas.List.{length-replicate}
 use Rattle.mseed_repack.proofs.Planning.{emitted_part, emitted_stretch}
 use Rattle.mseed_repack.proofs.Supplied.{begun_trace, has_supply}
 use Rattle.mseed_repack.proofs.series.pack_unread.Goals as goal
-
-room_long : 7056 ≤ length (replicate 7056 (pos 0))
-room_long = omega (arith, length-replicate 7056 (pos 0))
 
 pub pack_supplied-requires : goal.pack_supplied-requires
 pack_supplied-requires g c =
@@ -14,8 +10,8 @@ pack_supplied-requires g c =
     let h = c.requires.are st.codes in
     let first : to_z w32 (of_z w32 c.first_sample-first.result) ≡ c.first_sample-first.result =
     to_z-of_z w32 _ (search rules) in
-    let p = has_supply st c.args.options.now (to_z w32 (of_z w32 c.first_sample-first.result)) (replicate 7056 (pos 0)) h
-    c.requires.walks c.beginning-stretch.ensures room_long
+    let p = has_supply st c.args.options.now (to_z w32 (of_z w32 c.first_sample-first.result)) c.args.unpacking.now.room h
+    c.requires.walks c.beginning-stretch.ensures (omega (arith, c.know_room.ensures))
     (λ xs joined. c.first_sample-first.ensures xs joined ∙ sym first) c.requires.fits c.one_series.ensures.series in
     record {
       steim = c.requires.steim;
@@ -37,8 +33,8 @@ returns-in-Ok-clause-ok g c =
     let h = c.requires.are st.codes in
     let first : to_z w32 (of_z w32 c.first_sample-first.result) ≡ c.first_sample-first.result =
     to_z-of_z w32 _ (search rules) in
-    let p = has_supply st c.args.options.now (to_z w32 (of_z w32 c.first_sample-first.result)) (replicate 7056 (pos 0)) h
-    c.requires.walks c.beginning-stretch.ensures room_long
+    let p = has_supply st c.args.options.now (to_z w32 (of_z w32 c.first_sample-first.result)) c.args.unpacking.now.room h
+    c.requires.walks c.beginning-stretch.ensures (omega (arith, c.know_room.ensures))
     (λ xs joined. c.first_sample-first.ensures xs joined ∙ sym first) c.requires.fits c.one_series.ensures.series in
     emitted_stretch c.args.options.now (g.R.Walk.left c.args.records) (begun_trace st h.samples c.args.steps.now)
     c.in-Ok.count (g.W.Sink.written c.args.output.now) (g.W.Sink.written c.pack_supplied.new.sink) p.series
@@ -55,8 +51,8 @@ returns-in-Err-clause-err g c =
     let h = c.requires.are st.codes in
     let first : to_z w32 (of_z w32 c.first_sample-first.result) ≡ c.first_sample-first.result =
     to_z-of_z w32 _ (search rules) in
-    let p = has_supply st c.args.options.now (to_z w32 (of_z w32 c.first_sample-first.result)) (replicate 7056 (pos 0)) h
-    c.requires.walks c.beginning-stretch.ensures room_long
+    let p = has_supply st c.args.options.now (to_z w32 (of_z w32 c.first_sample-first.result)) c.args.unpacking.now.room h
+    c.requires.walks c.beginning-stretch.ensures (omega (arith, c.know_room.ensures))
     (λ xs joined. c.first_sample-first.ensures xs joined ∙ sym first) c.requires.fits c.one_series.ensures.series in
     emitted_part c.args.options.now (g.R.Walk.left c.args.records) (begun_trace st h.samples c.args.steps.now)
     c.in-Err.field-0 (g.W.Sink.written c.args.output.now) (g.W.Sink.written c.pack_supplied.new.sink) p.series
