@@ -1,10 +1,11 @@
 """The traces of an archive."""
 
 from bisect import bisect_right
-from typing import Dict, Iterator, List, Optional, Sequence, Tuple
+from typing import Dict, Iterable, Iterator, List, Optional, Sequence, Tuple, Union
 
 from mseed._memory import Archive, Samples, bytes_of, room_for, scatter, settle
 from mseed._records import Cutter, RecordError, Runs, Window, codes_of
+from mseed._selecting import Time, select
 from mseed._trace import Trace
 
 
@@ -30,7 +31,8 @@ class _Plan:
         self.key, self.first, self.size, self.place = key, first, 0, 0
 
 
-def read(archive: Archive, *, skip: bool = False) -> Traces:
+def read(archive: Archive, *, skip: bool = False, channels: Union[str, Iterable[str], None] = None,
+         start: Optional[Time] = None, end: Optional[Time] = None) -> Traces:
     """Reads the traces of an archive. A trace ends where the audit finds a gap, an overlap, a leap second that nobody
     can place, or another rate.
 
@@ -39,8 +41,14 @@ def read(archive: Archive, *, skip: bool = False) -> Traces:
     first of them is raised as a RecordError. Behind a record that is left out a new trace begins. Behind bytes that
     begin none, reading goes on at the next multiple of 64 bytes at which a record is framed, and so does a trace whose
     next record meets its last one.
+    channels, start, end: the records that `mseed.select` writes alone, as if no others were there: whole records, of
+    which no sample is cut off, and whose numbers and offsets are counted among them. An archive that doesn't end where
+    a record ends is a RecordError then, also with `skip`.
     """
-    data = bytes_of(archive)
+    if channels is None and start is None and end is None:
+        data = bytes_of(archive)
+    else:
+        data = select(archive, channels=channels, start=start, end=end)
     cutter = Cutter()
     window = Window(data, cutter.cut(data, True))
     window.find()

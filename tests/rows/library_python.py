@@ -44,6 +44,13 @@ try:
     mseed.select(data[:-1])
 except mseed.RecordError as error:
     print(error.number, error.offset == len(first), error.reason.split()[0])
+traces = mseed.read(two, channels="XX_*_*_*", start=day + ".8")
+print([(t.id, t.start.isoformat(), len(t), t.first_record) for t in traces], len(mseed.read(two, channels="IU_*_*_*")))
+for skip in (False, True):
+    try:
+        mseed.read(data + b"junk" * 16, channels="XX_*_*_*", skip=skip)
+    except mseed.RecordError as error:
+        print(error.number, error.offset == len(data))
 """
 SELECTED = """True True
 b'' 16
@@ -55,6 +62,9 @@ no patterns of channels: there is none
 no time: 2024-02-30
 the end isn't behind the start
 2 True truncated
+[('XX.STA..BHZ', '2024-01-01T00:00:00.800000+00:00', 16, 1)] 0
+3 True
+3 True
 """
 
 # What is done by hand, and what is printed: by rows of samples that tests/models and README's samples say.
