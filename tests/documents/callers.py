@@ -36,11 +36,15 @@ def page_of(crate: str) -> str:
     return f"crates/{crate}/CALLING.md"
 
 
+def codes_of(name: str, text: str) -> list[str]:
+    """The code of each file of examples to which a page links."""
+    return [text_of(os.path.normpath(os.path.join(os.path.dirname(name), path))) for path in EXAMPLES.findall(text)]
+
+
 def examples_of(name: str, text: str) -> dict[str, str]:
     """The functions of the files to which a page links, by their names, each with the lines above that belong to it."""
     found = {}
-    for path in EXAMPLES.findall(text):
-        code = text_of(os.path.normpath(os.path.join(os.path.dirname(name), path)))
+    for code in codes_of(name, text):
         for example in re.finditer(r"^(?:(?:///|#\[).*\n)*pub fn (\w+)(?:.*\n)*?(?:\}|\{\})\n", code, re.MULTILINE):
             found[example.group(1)] = example.group()
     return found
@@ -62,7 +66,8 @@ def judged_page(sources: Sources, name: str, text: str) -> Iterator[Judged]:
     examples, blocks = examples_of(name, text), BLOCK.findall(text)
     prose = BLOCK.sub("", text)
     for block in blocks:
-        yield Judged(f"{name}: {block.strip().splitlines()[0]}", block in examples.values(),
+        stands = block in examples.values() or any(f"\n{block}" in code for code in codes_of(name, text))
+        yield Judged(f"{name}: {block.strip().splitlines()[0]}", stands,
                      "no example of crates/examples")
     for example, code in examples.items():
         yield Judged(f"{name}: the example `{example}`", code in blocks, "isn't on the page")
