@@ -53,7 +53,9 @@ def codes() -> Cases:
     named = {name: int(number) for name, number in re.findall(r"^  (MSEED_\w+) = (\d+),?$", text, re.MULTILINE)}
     codes = {number for name, number in named.items() if f"case {name}: return" in text}
     spec = (CRATES / "mseed_c" / "specs" / "Codes.antt").read_text(encoding="utf-8")
-    spelled = {int(number) for number in re.findall(r"^code_of\w* .*= (\d+)$", spec, re.MULTILINE)}
+    asked = (CRATES / "mseed_c" / "specs" / "Asked.antt").read_text(encoding="utf-8")
+    spelled = {int(number) for number in [*re.findall(r"^code_of\w* .*= (\d+)$", spec, re.MULTILINE),
+                                          *re.findall(r"IsSelectOutcome .* (\d+)$", asked, re.MULTILINE)]}
     yield Fact("the codes of the header are those of the contracts", sorted(spelled | {0, 1, 2}), sorted(codes))
     words = dict(re.findall(r'case (MSEED_\w+): return "([^"]*)";', text))
     documents = (ROOT / "docs" / "texts.md").read_text(encoding="utf-8")
