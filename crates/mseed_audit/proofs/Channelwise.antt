@@ -1,5 +1,6 @@
 -- Without a window, what the audit of the records that are asked for says of a channel is what the audit of all says.
-use Rattle.std.proofs.Common.{◌≡◌, ℕ, ℤ, ◌++◌, List, [], ◌∷◌, Bool, true, false, Option, Some, None, if◌then◌else◌, refl}
+use Rattle.std.proofs.Common.{◌≡◌, ℕ, ℤ, ◌++◌, List, [], ◌∷◌}
+use Rattle.std.proofs.Common.{Bool, true, false, Option, Some, None, if◌then◌else◌, refl}
 use Rattle.std.proofs.Common.{sym, ap, ◌∙◌, subst, append-nil, cond}
 use Rattle.std.proofs.lemmas.Bool.{false≢true}
 use Rattle.std.proofs.lemmas.List.Elements.{filter-append}
@@ -180,7 +181,8 @@ module _ (s : Selection) (free : HasNoWindow s) where
       views = (input h a.views b.views a.end b.end a.all b.all).0
 
       each : (key : List ℕ) → IsVerdictAt (lookup (same_key key) a.verdicts) (channel_in key (wanted all))
-      each key = subst (λ (vs : List View). IsVerdictAt (lookup (same_key key) a.verdicts) (channel_in key (asked_of s vs)))
+      each key = subst (λ (vs : List View). IsVerdictAt (lookup (same_key key) a.verdicts) (channel_in key
+          (asked_of s vs)))
           views (a.are_verdicts.each key)
 
       by_key : (key : List ℕ) (m : Bool) → matching s key ≡ m
@@ -188,11 +190,13 @@ module _ (s : Selection) (free : HasNoWindow s) where
       by_key key true m =
           verdict_at only excludes (lookup (same_key key) a.verdicts) (lookup (same_key key) b.verdicts)
           (channel_in key all)
-          (subst (λ (ps : List Placed). IsVerdictAt (lookup (same_key key) a.verdicts) ps) (all_in key m all) (each key))
+          (subst (λ (ps : List Placed). IsVerdictAt (lookup (same_key key) a.verdicts) ps) (all_in key m all)
+          (each key))
           (b.are_verdicts.each key) ∙ sym (those_found key m b.verdicts)
       by_key key false m =
           verdict_at only excludes (lookup (same_key key) a.verdicts) None []
-          (subst (λ (ps : List Placed). IsVerdictAt (lookup (same_key key) a.verdicts) ps) (none_in key m all) (each key))
+          (subst (λ (ps : List Placed). IsVerdictAt (lookup (same_key key) a.verdicts) ps) (none_in key m all)
+          (each key))
           refl ∙ sym (those_missed key m b.verdicts)
 
       at : (key : List ℕ) → lookup (same_key key) a.verdicts ≡ lookup (same_key key) (those b.verdicts)

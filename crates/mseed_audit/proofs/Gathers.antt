@@ -14,7 +14,8 @@ use Rattle.mseed_audit.specs.declared.each.EachFault.{EachFault}
 use Rattle.mseed_audit.specs.declared.each.EachFault.TheVariants.{Write, Memory}
 use Rattle.mseed_audit.specs.Audit.{Held}
 use Rattle.mseed_stream.specs.Gathered.{AreGathered, EmittedFirst, EmittedPart}
-use Rattle.mseed_stream.proofs.Gathered.{all_behind, first_behind, first_of, gathered_all, gathered_first, gathered_more}
+use Rattle.mseed_stream.proofs.Gathered.{all_behind, first_behind, first_of}
+use Rattle.mseed_stream.proofs.Gathered.{gathered_all, gathered_first, gathered_more}
 use Rattle.mseed_stream.proofs.Gathered.{gathered_written, part_behind, part_of}
 use Rattle.mseed_audit.specs.Each.{AuditedEachIn, EndsInLinesIn, EndsShortIn, IsLinesFaultIn, each_text_in}
 use Rattle.mseed_audit.specs.private.Gathered.{AreTold, AreToldMore, HasEnded, HasTold, IsFinished, IsOneMore}
@@ -233,5 +234,6 @@ each_short s {h} fault found views reported first old new text whole f are befor
     )
     go Memory w = (
       w.0 ∙ same,
-      short_text s (EmittedFirst first new) a (first_behind first old new text (reported_lines reported) tail before w.1),
+      short_text s (EmittedFirst first new) a (first_behind first old new text
+          (reported_lines reported) tail before w.1),
     )

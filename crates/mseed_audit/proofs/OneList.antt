@@ -21,7 +21,8 @@ no_verdict : (v : Verdict) (ps : List Placed) → ps ≡ [] → IsVerdict v ps �
 no_verdict (Continuous start rate records samples) ps e is = let some : ps ≡ is.0 ∷ is.1.0 = is.1.1.0 in cc
 no_verdict (Broken first count) ps e is = no_findings ps first is.0 e is.1.0
 
-pub verdict_at : HasOneFault → Excludes → (a b : Option Verdict) (ps : List Placed) → IsVerdictAt a ps → IsVerdictAt b ps
+pub verdict_at : HasOneFault → Excludes → (a b : Option Verdict) (ps : List Placed) → IsVerdictAt a ps
+    → IsVerdictAt b ps
     → a ≡ b
 verdict_at only excludes None None ps h k = refl
 verdict_at only excludes None (Some w) ps h k = absurd (no_verdict w ps h k)

@@ -1,5 +1,6 @@
 -- What is reported of records, with one more record.
-use Rattle.std.proofs.Common.{◌≡◌, ◌≢◌, ℕ, ◌+◌, ◌++◌, List, [], ◌∷◌, length, Option, refl, sym, ap, ◌∙◌, subst, append_assoc}
+use Rattle.std.proofs.Common.{◌≡◌, ◌≢◌, ℕ, ◌+◌, ◌++◌, List, [], ◌∷◌}
+use Rattle.std.proofs.Common.{length, Option, refl, sym, ap, ◌∙◌, subst, append_assoc}
 use Rattle.std.proofs.Common.{append-nil, arith, Result, Ok, Err, OnOk, None, Bool, true, false, if◌then◌else◌}
 use Rattle.std.proofs.lemmas.Bool.{false≢true}
 use Rattle.mseed_record.specs.View.{View}
@@ -42,7 +43,8 @@ lines_behind (t ∷ ts) us = ap (λ (xs : List ℕ). reported_line t ++ xs) (lin
 -- ---- one more record
 -- an audit that takes it in
 abbrev Adds : Held → Held → Placed → Type 0
-Adds old new p = (ps : List Placed) (count : ℕ) → IsAuditAmong old ps count → IsAuditAmong new (ps ++ p ∷ []) (count + 1)
+Adds old new p = (ps : List Placed) (count : ℕ) → IsAuditAmong old ps count → IsAuditAmong new (ps
+    ++ p ∷ []) (count + 1)
 
 -- what is found of it
 abbrev Finds : Held → Placed → Option Why → Type 0
@@ -74,7 +76,8 @@ pub added_lined : {E : Type 0} (r : Result (Unit {0}) E) (lines : Lines) (old ne
     → OnOk r (IsAddedAlso lines old new (placed_next old v offset ∷ []) text next)
 added_lined (Ok u) lines old new v offset number why text next is e more adds found line =
     added_with lines old new (placed_next old v offset) why text next more adds found
-    (line ∙ ap (λ (n : ℕ). text ++ reported_lines (reported_at (record { view = v; offset = offset; number = n }) why)) e
+    (line ∙ ap (λ (n : ℕ). text ++ reported_lines (reported_at
+    (record { view = v; offset = offset; number = n }) why)) e
     ∙ ap (λ (l : Lines). text ++ lines_by l (reported_at (placed_next old v offset) why)) (sym is))
 added_lined (Err e) lines old new v offset number why text next is n more adds found line = tt
 
@@ -121,7 +124,11 @@ asked_also (Ok u) s lines old new before p answer text next is asked added =
     let lacks : lacks_time s p.view ≡ false = ap is_without_time here in
     let size : length (asked_at s p) ≡ 1 = ap (λ (ps : List Placed). length ps) one in record {
       added = subst (λ (more : List Placed). IsAddedAlso lines old new more text next) (sym one) added;
-      passed = record { all = omega (arith, size); without_time = sym (with_none before.without_time (lacks_time s p.view) lacks) };
+      passed = record {
+        all = omega (arith, size);
+        without_time = sym (with_none before.without_time
+            (lacks_time s p.view) lacks);
+      };
     }
 asked_also (Err e) s lines old new before p answer text next is asked added = tt
 
@@ -130,7 +137,8 @@ counts_by true left time = omega arith
 counts_by false left time = omega arith
 
 -- it was passed
-pub passed_also : (s : Selection) (lines : Lines) (old new : Held) (before after : Passed) (p : Placed) (answer : Answer)
+pub passed_also : (s : Selection) (lines : Lines) (old new : Held) (before after : Passed) (p : Placed)
+    (answer : Answer)
     (text : List ℕ) → answer ≡ answer_of s p.view → is_asked answer ≡ false
     → ((ps : List Placed) (count : ℕ) → IsAuditAmong old ps count → IsAuditAmong new ps (count + 1))
     → new.added ≡ old.added + 1

@@ -26,8 +26,8 @@ pub struct Memory;
 /// The audit of records as they come, of any number of channels. It keeps one value of a fixed size for each
 /// channel with samples, and no record.
 ///
-/// Contracts see an audit as what is `Held`, and say by `IsAuditOf` of which records it is the audit, or, where it passed
-/// some, by `IsAuditAmong`.
+/// Contracts see an audit as what is `Held`, and say by `IsAuditOf` of which records it is the audit, or, where it
+/// passed some, by `IsAuditAmong`.
 #[derive(Drop)]
 pub struct Audit<A: Allocator = Global> {
     roster: Roster<A>,

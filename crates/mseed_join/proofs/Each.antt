@@ -178,7 +178,8 @@ pub cut_each : (past : Bool) (expected : Option ℕ) (h now : BytesRead) (s : St
     → AreGathered first old text (border_lines found) → old.failures ≡ first.failures
     → IsCutShort fault old new (text ++ border_lines more)
     → IsJoinEachOutcome past expected (Err fault) now first new reported at
-cut_each past expected h now s (Line k offset) first old new reported at text found more begin stop borders are before same
+cut_each past expected h now s
+    (Line k offset) first old new reported at text found more begin stop borders are before same
     cut = absurd cut
 cut_each past expected h now s (Count n d) first old new reported at text found more begin stop borders are before same
     cut = absurd cut
@@ -251,7 +252,8 @@ finished_each past expected h now s r (Miscount parts due) result first old new 
         lines_written first old new text found before bytes same fine,
       ),
     )
-finished_each past expected h now s r (BadLine k offset) result first old new reported at text found begin e f borders are
+finished_each past expected h now s r
+    (BadLine k offset) result first old new reported at text found begin e f borders are
     before same (IsFlushed.all bytes fine) = absurd f
 finished_each past expected h now s r (Unread fault) result first old new reported at text found begin e f borders are
     before same (IsFlushed.all bytes fine) = absurd f

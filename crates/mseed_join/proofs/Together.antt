@@ -83,7 +83,8 @@ CanJoin = (archive : List ℕ) (ws : List Written) (h : BytesRead) (a : Audited 
     → length archive < 2 ^ 63 → IsReadOf archive h → EndsByBytes a.end → (joint : Written) × IsJointOf false ws joint
 
 pub never_bad : ReadsBack → NoneBad → CanJoin → (archive : List ℕ) (ws : List Written) (input h : BytesRead)
-    (a : Audited h) (line offset : ℕ) → AreParted archive ws → IsWithinLimits archive → IsReadOf archive h → EndsByBytes a.end
+    (a : Audited h) (line offset : ℕ) → AreParted archive ws → IsWithinLimits archive → IsReadOf archive h
+    → EndsByBytes a.end
     → IsReadOf (texts ws) input → IsBadLine false input.bytes input.is_at_end line offset → ⊥
 never_bad back bad can archive ws input h a line offset parted fits read by reported is =
     let joint = can archive ws h a parted fits.size read by in

@@ -21,7 +21,7 @@ pub enum PartsFault {
     Line {
         /// Its number, from 1 over all parts.
         number: u64,
-        /// The offset, in bytes of the input, at which it begins: where the input ends and lacks it, the input's length.
+        /// The offset at which it begins, in bytes of the input: where the input ends and lacks it, its length.
         offset: u64,
     },
     /// So many parts were read, and so many were expected.

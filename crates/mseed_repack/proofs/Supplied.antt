@@ -279,7 +279,13 @@ given_part {room = room} {at = at} {end = end} {given = given} {samples = sample
     let few : n ≤ end - at = omega (arith, e) in
     let ds : List ℤ = differences samples in
     record {
-      inside = omega (arith, ap (λ (zs : List ℤ). length zs) h.parts, length-append h.unpacked h.behind, h.given_is, few);
+      inside = omega (
+        arith,
+        ap (λ (zs : List ℤ). length zs) h.parts,
+        length-append h.unpacked h.behind,
+        h.given_is,
+        few,
+      );
       items = items ∙ sym (take-take n (end - at) (drop at room) few) ∙ ap (λ (zs : List ℤ). take n zs) h.held
           ∙ take-take n (end - at) (drop given ds) few ∙ sym (range_is ds given n);
       some = λ left room. omega (arith, e, some, room);
@@ -430,7 +436,8 @@ pub record_given : {S : Type 0} {leads : S → Type 0} {left : S → List View} 
     → ((s : List ℤ) → IsWhole v s → d ≡ differences_from last s)
     → ((s : List ℤ) → IsWhole v s → last_behind last s ≡ then)
     → Given leads left next then room at end samples given (d ++ more) n
-record_given {left = left} {next = next} {last = last} {room = room} {at = at} {end = end} {given = given} {samples = samples} {v = v} h empty e led
+record_given {left = left} {next = next} {last = last} {room = room} {at = at} {end = end} {given = given} {samples =
+    samples} {v = v} h empty e led
     then d more n count are ends =
     let found : HasNext left next last room samples given v = next_of_supply h empty e in
     let is : d ≡ differences_from last found.s = are found.s found.whole in

@@ -19,6 +19,7 @@ use crate::unpacking::{Unpacking, are_unpackable, first_sample, know_room};
 use crate::walk::Walk;
 use mseed_audit::one_series;
 use mseed_pack::{Encoding, Options, PackFault, Packer, SeriesHead, SeriesView, fit_view};
+use mseed_steim::is_steim;
 use mseed_stream::{Failed, Sink};
 use mseed_stretches::Stretch;
 use mseed_time::LeapStep;
@@ -75,6 +76,40 @@ fn fits_unread<'a, R: Walk<'a>>(
 
 /// Writes the records of a series that can be packed, and answers how many there are.
 pub(crate) fn pack_series<'a, R: Walk<'a>, W: Sink>(
+    records: R,
+    options: &Options,
+    samples: &mut [i32],
+    steps: &mut [(u64, LeapStep)],
+    unpacking: &mut Unpacking<'a, R>,
+    packer: &mut Packer,
+    output: &mut W,
+) -> Result<u64, Failed>
+    requires read { CanBeRead R.leads R.left records (length samples.old) (length steps.old) }
+    requires fits { StretchFits options.now (R.left records) }
+    ensures ok { IfOk result (λ count. Wrote (IsStretchText options.now (R.left records) count) 0
+        (W.written output.old) (W.written output.new)) }
+    ensures err { IfErr result (λ _. Wrote (IsPackedInPart options.now (R.left records)) 1
+        (W.written output.old) (W.written output.new)) }
+{
+    if begins_unread(records, options.encoding) {
+        return pack_by_outline(records, options, samples, steps, unpacking, packer, output);
+    }
+    pack_read(records, options, samples, steps, packer, output)
+}
+
+/// Whether the first of some records is Steim, and so is what is written: without that none is looked at further.
+fn begins_unread<'a, R: Walk<'a>>(records: R, encoding: Encoding) -> bool
+    requires { R.leads records }
+{
+    let mut rest = records;
+    match (encoding, rest.next()) {
+        (Encoding::Steim1 | Encoding::Steim2, Some(view)) => is_steim(&view),
+        _ => false,
+    }
+}
+
+/// The same of records that may go from frames to frames, by what is known of them before their samples are read.
+fn pack_by_outline<'a, R: Walk<'a>, W: Sink>(
     records: R,
     options: &Options,
     samples: &mut [i32],

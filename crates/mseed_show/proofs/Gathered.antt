@@ -98,21 +98,23 @@ also_written old new text added line bytes fine e = record {
 }
 
 -- what comes next, once all that was gathered was written
-pub next_written : (s : Selection) (r : Result Step ShowFault) (views : List View) (offset : ℕ) (before after : BytesRead)
+pub next_written : (s : Selection) (r : Result Step ShowFault) (views : List View) (offset : ℕ)
+    (before after : BytesRead)
     (c : Standing)
     (old new : BytesWritten) (text rest added : List ℕ) → AreGathered old new rest text → rest ≡ []
     → new.failures ≡ old.failures → IsNext s r views offset before after c (λ line. added ≡ line)
     (λ fault. fault ≡ Memory)
     → IsNext s r views offset before after c (λ line. IsGatheredAlso old new text added line)
     (λ fault. IsPrefixWritten fault old new text)
-next_written s (Ok (Judged answer)) views offset before after c old new text rest added written none fine next = record {
-  view = next.view;
-  handed = next.handed;
-  called = next.called;
-  answered = next.answered;
-  line = also_written old new text added (line_by s offset next.view) (all_written old new text rest written none)
-      fine next.line;
-}
+next_written s (Ok (Judged answer)) views offset before after c old new text rest added written none fine next =
+    record {
+      view = next.view;
+      handed = next.handed;
+      called = next.called;
+      answered = next.answered;
+      line = also_written old new text added (line_by s offset next.view) (all_written old new text rest written none)
+          fine next.line;
+    }
 next_written s (Ok (Ended end)) views offset before after c old new text rest added written none fine next =
     (next.0, also_written old new text added [] (all_written old new text rest written none) fine next.1)
 next_written s (Err fault) views offset before after c old new text rest added written none fine next =
@@ -142,7 +144,8 @@ lines_short : (s : Selection) (Emitted : List ℕ → Type 0) (h : BytesRead) (o
 lines_short s Emitted h offset views shown w = (offset, (views, record { shown = shown; prefix = inl w }))
 
 -- a fault before which a prefix of the lines was written
-pub cut_short : (s : Selection) (fault : ShowFault) (h : BytesRead) (first old new : BytesWritten) (text : List ℕ) (offset : ℕ)
+pub cut_short : (s : Selection) (fault : ShowFault) (h : BytesRead) (first old new : BytesWritten) (text : List ℕ)
+    (offset : ℕ)
     (views : List View)
     → AreViews h.bytes offset views → old.failures ≡ first.failures
     → AreGathered first old text (lines_of (asked_in s views)) → IsPrefixWritten fault old new text
@@ -158,7 +161,8 @@ cut_short s Memory h first old new text offset views shown same before written =
       (first_of first old new text (lines_of (asked_in s views)) before written.1),
 )
 
-pub gathered_err : (s : Selection) (r : Result (Counts × Option StreamFault) ShowFault) (Q : ShowFault → Type 0) (fault : ShowFault)
+pub gathered_err : (s : Selection) (r : Result (Counts × Option StreamFault) ShowFault) (Q : ShowFault
+    → Type 0) (fault : ShowFault)
     (h : BytesRead) (old new : BytesWritten) (text : List ℕ) → IsErrAnd r Q → ((e : ShowFault) → Q e → e ≡ fault)
     → IsShowFault (asked_in s) fault h old new → IsListing s r h old new text
 gathered_err s (Ok x) Q fault h old new text is q shown = absurd is
@@ -185,7 +189,8 @@ shown_is s views end =
 -- the whole text was written
 pub listed : (s : Selection) (counts : Counts) (end : Option StreamFault) (h : BytesRead) (first old new : BytesWritten)
     (text whole : List ℕ) (views : List View) → HasLines s counts end h first old text views
-    → whole ≡ text ++ count_line counts.asked_for ++ end_line end → new.bytes ≡ old.bytes ++ whole → new.failures ≡ old.failures
+    → whole ≡ text ++ count_line counts.asked_for ++ end_line end → new.bytes ≡ old.bytes ++ whole
+    → new.failures ≡ old.failures
     → IsListed (asked_in s) end h first new views
 listed s counts end h first old new text whole views gathered e bytes fine =
     let tail : List ℕ = count_line (length (asked_in s views)) ++ end_line end in record {
@@ -197,7 +202,8 @@ listed s counts end h first old new text whole views gathered e bytes fine =
     }
 
 -- no memory for the lines at the end
-pub memory_short : (s : Selection) (counts : Counts) (end : Option StreamFault) (h : BytesRead) (first new : BytesWritten) (text : List ℕ)
+pub memory_short : (s : Selection) (counts : Counts) (end : Option StreamFault) (h : BytesRead)
+    (first new : BytesWritten) (text : List ℕ)
     (views : List View) → HasLines s counts end h first new text views
     → IsShowFault (asked_in s) Memory h first new
 memory_short s counts end h first new text views gathered = (
@@ -219,7 +225,8 @@ end_short s fault counts end h first old new text whole views gathered e written
     tail : List ℕ
     tail = count_line (length (asked_in s views)) ++ end_line end
 
-    short : (Emitted : List ℕ → Type 0) → Emitted (lines_of (asked_in s views) ++ tail) → EndsShort (asked_in s) Emitted h
+    short : (Emitted : List ℕ → Type 0) → Emitted (lines_of (asked_in s views) ++ tail)
+        → EndsShort (asked_in s) Emitted h
     short Emitted w =
         let all : Emitted (show_text (asked_in s) views end) = subst Emitted (sym (shown_is s views end)) w in
         (gathered.all.offset, (views, record { shown = gathered.all.records; prefix = inr (end, (gathered.all, all)) }))
@@ -227,11 +234,13 @@ end_short s fault counts end h first old new text whole views gathered e written
     go : (f : ShowFault) → IsPrefixWritten f old new (text ++ tail) → IsShowFault (asked_in s) f h first new
     go Write w = (
       omega (arith, gathered.fine, w.0),
-      short (EmittedPart first new) (part_behind first old new text (lines_of (asked_in s views)) tail gathered.lines w.1),
+      short (EmittedPart first new) (part_behind first old new text (lines_of
+          (asked_in s views)) tail gathered.lines w.1),
     )
     go Memory w = (
       w.0 ∙ gathered.fine,
-      short (EmittedFirst first new) (first_behind first old new text (lines_of (asked_in s views)) tail gathered.lines w.1),
+      short (EmittedFirst first new) (first_behind first old new text (lines_of
+          (asked_in s views)) tail gathered.lines w.1),
     )
 
 pub shown_err : (s : Selection) (r : Result Shown ShowFault) (Q : ShowFault → Type 0) (fault : ShowFault)

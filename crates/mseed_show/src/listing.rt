@@ -127,7 +127,8 @@ fn push_next<A: Allocator, C: Choice, R: Source, W: Sink>(
 ) -> Result<Step, ShowFault>
     requires { IsAlong (R.read input.old) cutter.old }
     ensures { (views : List View) → HasHandedOut (R.read input.old) cutter.old views
-        → IsNext (C.selection choice.now) result views cutter.old.offset (R.read input.old) (R.read input.new) cutter.new
+        → IsNext (C.selection choice.now) result views cutter.old.offset (R.read input.old) (R.read input.new)
+        cutter.new
         (λ line. IsGatheredAlso (W.written output.old) (W.written output.new) text.old.items text.new.items line)
         (λ fault. IsPrefixWritten fault (W.written output.old) (W.written output.new) text.old.items) }
 {
@@ -153,7 +154,8 @@ fn ask_next<A: Allocator, C: Choice, R: Source>(
     requires along { IsAlong (R.read input.old) cutter.old }
     requires written { text.old.items ≡ [] }
     ensures { (views : List View) → HasHandedOut (R.read input.old) cutter.old views
-        → IsNext (C.selection choice.now) result views cutter.old.offset (R.read input.old) (R.read input.new) cutter.new
+        → IsNext (C.selection choice.now) result views cutter.old.offset (R.read input.old) (R.read input.new)
+        cutter.new
         (λ line. text.new.items ≡ line) (λ fault. fault ≡ ShowFault.Memory) }
 {
     let offset = cutter.offset();

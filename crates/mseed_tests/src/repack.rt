@@ -195,7 +195,8 @@ fn tells_what_lacks_a_time(rt: HostRuntime) {
 #[test]
 fn refuses_a_fault_behind_what_is_asked_for(rt: HostRuntime) {
     let archive = three(&numbered(&[]), &numbered(&[(15, b"BHN")]), &numbered(&[]));
-    let cut = packed_before(&rt, rt.alloc(), b"*_*_*_BHN", None, &archive[..300]);
+    let front = archive.get(..300).expect(&rt, "300 bytes");
+    let cut = packed_before(&rt, rt.alloc(), b"*_*_*_BHN", None, front);
     let fault = StreamFault::Truncated(256, 44);
     assert!(rt; cut.answer == Err(RepackFault::Stream(fault)) && cut.bytes.is_empty());
 }

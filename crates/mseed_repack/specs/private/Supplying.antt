@@ -16,7 +16,8 @@ IsLast last [] [] = ⊤
 IsLast last [] (y ∷ behind) = y ≡ last
 IsLast last (x ∷ unpacked) behind = last_behind x unpacked ≡ last
 
--- Of samples that are near one another so many differences were given. A walk leads to the records that weren't unpacked
+-- Of samples that are near one another so many differences were given. A walk leads to the records that weren't
+-- unpacked
 -- yet; of those that were, a room holds the differences that weren't given.
 pub record IsSupplied {S : Type 0} (leads : S → Type 0) (left : S → List View) (rest : S) (last : ℤ) (room : List ℤ)
     (at end : ℕ) (samples : List ℤ) (given : ℕ) : Type 0 where

@@ -48,7 +48,8 @@ IsNext s (Ok (Ended end)) views offset old new c Adds Fails = AreAllViews new vi
 IsNext s (Err fault) views offset old new c Adds Fails = Fails fault × AreViews new.bytes offset views
 
 -- the lines of the records up to the end were written or are gathered
-pub record HasLines (s : Selection) (counts : Counts) (end : Option StreamFault) (h : BytesRead) (old new : BytesWritten)
+pub record HasLines (s : Selection) (counts : Counts) (end : Option StreamFault) (h : BytesRead)
+    (old new : BytesWritten)
     (text : List ℕ) (views : List View) : Type 0 where
   pub all : AreAllViews h views end
   pub lines : AreGathered old new text (lines_of (asked_in s views))

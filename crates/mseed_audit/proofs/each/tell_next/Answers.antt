@@ -35,7 +35,8 @@ returns-in-Ok-clause-next g c = λ first t.
     (g.W.Sink.written c.args.sink.now) _ _ t
     (rw c.in-Ok-Taken.field-0-is at c.in-Ok-Taken.ensures.next t.views t.handed t.judged) in
     let write = c.in-Ok.ensures in
-    told_written (g.C.Choice.selection c.args.choice.now) _ _ _ _ _ first _ (g.W.Sink.written c.write_out.new.sink) _ _ more write.ok write.text write.fine
+    told_written (g.C.Choice.selection c.args.choice.now) _ _ _ _ _ first _
+    (g.W.Sink.written c.write_out.new.sink) _ _ more write.ok write.text write.fine
 
 pub returns-in-Err-write_out-clause-next : goal.returns-in-Err-write_out-clause-next
 returns-in-Err-write_out-clause-next g c = λ first t.
@@ -43,5 +44,6 @@ returns-in-Err-write_out-clause-next g c = λ first t.
     (g.R.Source.read c.add_next.new.source) _ _ _ _ _ _ first
     (g.W.Sink.written c.args.sink.now) _ _ t
     (rw c.in-Ok-Taken.field-0-is at c.in-Ok-Taken.ensures.next t.views t.handed t.judged) in
-    told_short (g.C.Choice.selection c.args.choice.now) c.in-Err-write_out.fault _ _ _ _ _ first _ (g.W.Sink.written c.write_out.new.sink) _ more
+    told_short (g.C.Choice.selection c.args.choice.now) c.in-Err-write_out.fault _ _ _ _ _ first _
+    (g.W.Sink.written c.write_out.new.sink) _ more
     c.in-Err-write_out.ensures.err

@@ -17,7 +17,8 @@ returns-in_ok-judge-in-Some-clause-next g c = λ views before is.
     shown.1 ∙ ap (λ (xs : List ℕ). take (length xs) lent) (sym c.bytes-size.ensures.value) in
     let calls = ap (λ (h : BytesRead). h.calls) c.pass.ensures.reported in
     one_more (g.C.Choice.selection c.args.choice.now) c.args.lines views view c.offset-offset.result _ _
-    c.args.cutter.now _ c.args.audit.now _ c.args.passed.now _ c.args.text.now.items _ before is c.requires.few c.offset-offset.ensures c.in_ok-judge-in-Some.ensures
+    c.args.cutter.now _ c.args.audit.now _ c.args.passed.now _ c.args.text.now.items _ before is c.requires.few
+    c.offset-offset.ensures c.in_ok-judge-in-Some.ensures
     (c.pass.ensures.handed views view before shown.0 same) (omega (arith, calls))
 
 pub returns-in_ok-judge-in-Some-clause-reads : goal.returns-in_ok-judge-in-Some-clause-reads
@@ -36,7 +37,8 @@ returns-in_ok-judge-in-Ok-Some-clause-next g c = λ views before is.
     let handed : HasHandedOut (g.R.Source.read c.next.new.source) c.next.follows.lender-at-none (views ++ view ∷ []) =
     search rules in
     one_more (g.C.Choice.selection c.args.choice.now) c.args.lines views view c.offset-offset.result _ _
-    c.args.cutter.now _ c.args.audit.now _ c.args.passed.now _ c.args.text.now.items _ before is c.requires.few c.offset-offset.ensures c.in_ok-judge-in-Ok-Some.ensures
+    c.args.cutter.now _ c.args.audit.now _ c.args.passed.now _ c.args.text.now.items _ before is c.requires.few
+    c.offset-offset.ensures c.in_ok-judge-in-Ok-Some.ensures
     handed called
 
 pub returns-in_err-judge-in-Ok-Some-clause-next : goal.returns-in_err-judge-in-Ok-Some-clause-next

@@ -9,9 +9,12 @@ returns-in-Ok-write_all_of-clause-outcome g c =
     let read : BytesRead = g.R.Source.read c.gather_selected.new.source in
     let found = c.in-Ok.ensures.gathered in
     let write = c.in-Ok-write_all_of.ensures in
-    written (g.C.Choice.selection c.args.choice.now) c.in-Ok-push_finished.found found.0 c.new-text.result.items c.push_finished.new.text.items
+    written (g.C.Choice.selection c.args.choice.now) c.in-Ok-push_finished.found found.0 c.new-text.result.items
+    c.push_finished.new.text.items
     c.deref.result.now (g.W.Sink.written c.args.sink.now) (g.W.Sink.written c.write_all_of.new.sink)
-    (c.in-Ok-push_finished.ensures (g.C.Choice.selection c.args.choice.now) read found.0 found.1) c.new-text.ensures.items c.deref.ensures.value write.ok
+    (c.in-Ok-push_finished.ensures
+    (g.C.Choice.selection c.args.choice.now) read found.0 found.1) c.new-text.ensures.items c.deref.ensures.value
+    write.ok
     write.fine
 
 pub returns-clause-outcome : goal.returns-clause-outcome
@@ -19,9 +22,11 @@ returns-clause-outcome g c =
     let read : BytesRead = g.R.Source.read c.gather_selected.new.source in
     let found = c.in-Ok.ensures.gathered in
     let write = c.in-Err-write_all_of.ensures in
-    cut_off (g.C.Choice.selection c.args.choice.now) c.in-Ok-push_finished.found c.in-Err-write_all_of.taken found.0 c.new-text.result.items
+    cut_off (g.C.Choice.selection c.args.choice.now) c.in-Ok-push_finished.found c.in-Err-write_all_of.taken found.0
+    c.new-text.result.items
     c.push_finished.new.text.items c.deref.result.now (g.W.Sink.written c.args.sink.now)
-    (g.W.Sink.written c.write_all_of.new.sink) (c.in-Ok-push_finished.ensures (g.C.Choice.selection c.args.choice.now) read found.0 found.1)
+    (g.W.Sink.written c.write_all_of.new.sink) (c.in-Ok-push_finished.ensures
+    (g.C.Choice.selection c.args.choice.now) read found.0 found.1)
     c.new-text.ensures.items c.deref.ensures.value write.err write.within write.failed
 
 pub returns-in-Err-clause-writes : goal.returns-in-Err-clause-writes

@@ -14,5 +14,6 @@ pub returns : goal.returns
 returns g c =
     passed_also (g.C.Choice.selection c.args.choice.now) c.args.lines c.args.audit.now c.pass.new.self
     c.args.passed.now c.add.new.self (placed_next c.args.audit.now (view_of c.args.view.now) c.args.offset)
-    c.answer-answer.result c.args.text.now.items c.answer-answer.ensures (not_asked c.answer-answer.result c.in_default.not-AskedFor) c.pass.ensures.passes
+    c.answer-answer.result c.args.text.now.items c.answer-answer.ensures
+    (not_asked c.answer-answer.result c.in_default.not-AskedFor) c.pass.ensures.passes
     c.pass.ensures.number c.add.ensures

@@ -8,4 +8,5 @@ use Rattle.mseed_repack.proofs.asked.count_without_time.Given as goal
 
 abbrev pub invariant-loop-view : goal.invariant-loop-view
 invariant-loop-view l =
-    l.count ≡ count_by (λ (r : RecordView). lacks_time (selection_of l.selector) (view_of r)) (take l.view-index l.views)
+    l.count ≡ count_by (λ (r : RecordView). lacks_time (selection_of l.selector) (view_of r))
+    (take l.view-index l.views)

@@ -1,6 +1,6 @@
 use Rattle.std.proofs.Common.{refl}
 use Rattle.mseed_repack.proofs.Supplied.{steim_of}
-use Rattle.mseed_repack.proofs.series.pack_series.Goals as goal
+use Rattle.mseed_repack.proofs.series.pack_by_outline.Goals as goal
 
 pub pack_unread-requires : goal.pack_unread-requires
 pack_unread-requires g c κs =

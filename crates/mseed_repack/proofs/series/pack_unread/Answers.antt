@@ -10,7 +10,8 @@ pack_supplied-requires g c =
     let h = c.requires.are st.codes in
     let first : to_z w32 (of_z w32 c.first_sample-first.result) ≡ c.first_sample-first.result =
     to_z-of_z w32 _ (search rules) in
-    let p = has_supply st c.args.options.now (to_z w32 (of_z w32 c.first_sample-first.result)) c.args.unpacking.now.room h
+    let p = has_supply st c.args.options.now (to_z w32
+    (of_z w32 c.first_sample-first.result)) c.args.unpacking.now.room h
     c.requires.walks c.beginning-stretch.ensures (omega (arith, c.know_room.ensures))
     (λ xs joined. c.first_sample-first.ensures xs joined ∙ sym first) c.requires.fits c.one_series.ensures.series in
     record {
@@ -33,7 +34,8 @@ returns-in-Ok-clause-ok g c =
     let h = c.requires.are st.codes in
     let first : to_z w32 (of_z w32 c.first_sample-first.result) ≡ c.first_sample-first.result =
     to_z-of_z w32 _ (search rules) in
-    let p = has_supply st c.args.options.now (to_z w32 (of_z w32 c.first_sample-first.result)) c.args.unpacking.now.room h
+    let p = has_supply st c.args.options.now (to_z w32
+    (of_z w32 c.first_sample-first.result)) c.args.unpacking.now.room h
     c.requires.walks c.beginning-stretch.ensures (omega (arith, c.know_room.ensures))
     (λ xs joined. c.first_sample-first.ensures xs joined ∙ sym first) c.requires.fits c.one_series.ensures.series in
     emitted_stretch c.args.options.now (g.R.Walk.left c.args.records) (begun_trace st h.samples c.args.steps.now)
@@ -51,7 +53,8 @@ returns-in-Err-clause-err g c =
     let h = c.requires.are st.codes in
     let first : to_z w32 (of_z w32 c.first_sample-first.result) ≡ c.first_sample-first.result =
     to_z-of_z w32 _ (search rules) in
-    let p = has_supply st c.args.options.now (to_z w32 (of_z w32 c.first_sample-first.result)) c.args.unpacking.now.room h
+    let p = has_supply st c.args.options.now (to_z w32
+    (of_z w32 c.first_sample-first.result)) c.args.unpacking.now.room h
     c.requires.walks c.beginning-stretch.ensures (omega (arith, c.know_room.ensures))
     (λ xs joined. c.first_sample-first.ensures xs joined ∙ sym first) c.requires.fits c.one_series.ensures.series in
     emitted_part c.args.options.now (g.R.Walk.left c.args.records) (begun_trace st h.samples c.args.steps.now)

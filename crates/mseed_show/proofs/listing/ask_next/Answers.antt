@@ -18,6 +18,7 @@ returns-in_ok-answer-in-Ok-Some g c = λ views before.
       called = called;
       answered = c.in_ok-answer-in-Ok-Some.ensures.answer;
       line = c.in_ok-answer-in-Ok-Some.ensures.ok
-          ∙ ap (λ (xs : List ℕ). xs ++ line_by (g.C.Choice.selection c.args.choice.now) c.offset-offset.result view) c.requires.written
+          ∙ ap (λ (xs : List ℕ). xs ++ line_by
+          (g.C.Choice.selection c.args.choice.now) c.offset-offset.result view) c.requires.written
           ∙ ap (λ (n : ℕ). line_by (g.C.Choice.selection c.args.choice.now) n view) c.offset-offset.ensures;
     }

@@ -26,7 +26,8 @@ returns-in_err-answer g c =
     let fault : ShowFault = c.in_err-answer.field-0.0 in
     let next = c.in_err-answer.ensures views before.0 in
     let read : BytesRead = g.R.Source.read c.push_next.new.input in
-    let short : IsShowFault (asked_in s) fault read first new = cut_short s fault read first old new c.records.text.items
+    let short : IsShowFault
+    (asked_in s) fault read first new = cut_short s fault read first old new c.records.text.items
     c.records.cutter.offset views next.1 c.records.invariant.2 before.1 next.0 in
     gathered_err s c.from_residual.result _ fault read first new c.push_next.new.text.items c.from_residual.ensures.1
     (λ e q. q) short
@@ -64,7 +65,8 @@ records-preserved g c =
     let offset : ℕ = c.records.cutter.offset in
     let whole : List ℕ = lines_of (asked_in s (views ++ more.view ∷ [])) in
     let one = lines_more s (g.R.Source.read c.records.input).bytes offset views more.view before.0.records in
-    let lines = gathered_also first old reported c.records.text.items c.push_next.new.text.items (lines_of (asked_in s views))
+    let lines = gathered_also first old reported c.records.text.items c.push_next.new.text.items (lines_of
+    (asked_in s views))
     (line_by s offset more.view) whole before.1 more.line.lines one in
     let written = gathered_on first reported new c.push_next.new.text.items c.write_beyond.new.text.items whole lines
     c.in_ok-write_beyond.ensures.ok in
@@ -102,7 +104,8 @@ returns-in_err-write_beyond g c =
     let lines : AreGathered first reported c.push_next.new.text.items (lines_of (asked_in s all)) =
     gathered_also first old reported c.records.text.items c.push_next.new.text.items (lines_of (asked_in s views))
     (line_by s offset more.view) (lines_of (asked_in s all)) before.1 more.line.lines one in
-    let ends : IsShowFault (asked_in s) fault read first new = cut_short s fault read first reported new c.push_next.new.text.items
+    let ends : IsShowFault
+    (asked_in s) fault read first new = cut_short s fault read first reported new c.push_next.new.text.items
     c.push_next.new.cutter.offset all more.handed.records (more.line.fine ∙ c.records.invariant.2) lines
     c.in_err-write_beyond.ensures.err in
     gathered_err s c.from_residual-in_err-write_beyond.result _ fault read first new c.write_beyond.new.text.items

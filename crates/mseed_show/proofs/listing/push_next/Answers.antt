@@ -17,8 +17,10 @@ returns-in-Some g c = λ views before.
     let is = c.in-Some.ensures.record in
     let same : view.bytes ≡ take (length c.bytes-size.result.now) lent =
     is.1 ∙ ap (λ (xs : List ℕ). take (length xs) lent) (sym c.bytes-size.ensures.value) in
-    let line : c.push_record.new.text.items ≡ text ++ line_by (g.C.Choice.selection c.args.choice.now) c.args.cutter.now.offset view =
-    c.in_ok-answer.ensures.ok ∙ ap (λ (n : ℕ). text ++ line_by (g.C.Choice.selection c.args.choice.now) n view) c.offset-offset.ensures in
+    let line : c.push_record.new.text.items ≡ text ++ line_by
+    (g.C.Choice.selection c.args.choice.now) c.args.cutter.now.offset view =
+    c.in_ok-answer.ensures.ok ∙ ap (λ (n : ℕ). text ++ line_by
+    (g.C.Choice.selection c.args.choice.now) n view) c.offset-offset.ensures in
     record {
       view = view;
       answered = c.in_ok-answer.ensures.answer;
@@ -33,7 +35,8 @@ returns-in-Some g c = λ views before.
 
 pub returns-in_err-answer : goal.returns-in_err-answer
 returns-in_err-answer g c = λ views before.
-    next_err (g.C.Choice.selection c.args.choice.now) c.from_residual.result _ views c.args.cutter.now.offset (g.R.Source.read c.args.input.now)
+    next_err (g.C.Choice.selection c.args.choice.now) c.from_residual.result _ views c.args.cutter.now.offset
+    (g.R.Source.read c.args.input.now)
     (g.R.Source.read c.args.input.now) c.args.cutter.now
     (g.W.Sink.written c.args.output.now) c.args.text.now.items c.push_record.new.text.items before.records
     c.from_residual.ensures.1 (λ e q. q)
@@ -44,7 +47,8 @@ ask_next-requires-clause-written g c = none_left c.write_beyond.new.text.items c
 pub returns : goal.returns
 returns g c = λ views before.
     let rest : List ℕ = c.write_beyond.new.text.items in
-    next_written (g.C.Choice.selection c.args.choice.now) c.ask_next.result views c.args.cutter.now.offset (g.R.Source.read c.args.input.now)
+    next_written (g.C.Choice.selection c.args.choice.now) c.ask_next.result views c.args.cutter.now.offset
+    (g.R.Source.read c.args.input.now)
     (g.R.Source.read c.ask_next.new.input) c.ask_next.new.cutter
     (g.W.Sink.written c.args.output.now) (g.W.Sink.written c.write_beyond.new.output) c.args.text.now.items rest
     c.ask_next.new.text.items

@@ -12,9 +12,12 @@ returns-in_err-write_out g c =
     let fault : ShowFault = c.in_err-write_out.field-0.0 in
     let first : BytesWritten = g.W.Sink.written c.args.output.now in
     let new : BytesWritten = g.W.Sink.written c.write_out.new.output in
-    let ends = end_short (g.C.Choice.selection c.args.choice.now) fault c.in_ok-counts.counts c.in_ok-counts.end _ first _ new _ _ gathered.0 gathered.1
+    let ends = end_short
+    (g.C.Choice.selection c.args.choice.now) fault c.in_ok-counts.counts c.in_ok-counts.end _ first _ new _ _
+    gathered.0 gathered.1
     c.in_ok-push_end.ensures.ok c.in_err-write_out.ensures.err in record {
-      shown = shown_err (g.C.Choice.selection c.args.choice.now) c.from_residual-in_err-write_out.result _ fault _ first new
+      shown = shown_err (g.C.Choice.selection c.args.choice.now) c.from_residual-in_err-write_out.result _ fault _
+          first new
           c.from_residual-in_err-write_out.ensures.1 (λ e q. q) ends;
     }
 
@@ -23,8 +26,11 @@ returns-in_err-push_end g c =
     let gathered = c.in_ok-counts.ensures in
     let first : BytesWritten = g.W.Sink.written c.args.output.now in
     let new : BytesWritten = g.W.Sink.written c.list.new.output in
-    let ends = memory_short (g.C.Choice.selection c.args.choice.now) c.in_ok-counts.counts c.in_ok-counts.end _ first new _ gathered.0 gathered.1 in record {
-      shown = shown_err (g.C.Choice.selection c.args.choice.now) c.from_residual-in_err-push_end.result _ Memory _ first new
+    let ends = memory_short
+    (g.C.Choice.selection c.args.choice.now) c.in_ok-counts.counts c.in_ok-counts.end _ first new _ gathered.0
+    gathered.1 in record {
+      shown = shown_err (g.C.Choice.selection c.args.choice.now) c.from_residual-in_err-push_end.result _ Memory _
+          first new
           c.from_residual-in_err-push_end.ensures.1 (λ e q. q ∙ c.in_err-push_end.ensures.err) ends;
     }
 

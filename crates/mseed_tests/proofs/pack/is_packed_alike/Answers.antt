@@ -7,7 +7,8 @@ pub pack_supplied-answer-requires-clause-supplied : goal.pack_supplied-answer-re
 pack_supplied-answer-requires-clause-supplied c = (
   c.args.view.now.samples.now,
   record {
-    supplied = c.of-rest.ensures.supplies c.args.options.now.encoding c.requires.steim c.in-Ok.ensures.fits.differences_fit;
+    supplied = c.of-rest.ensures.supplies c.args.options.now.encoding c.requires.steim
+        c.in-Ok.ensures.fits.differences_fit;
     count = sym c.head.ensures.count;
     first = sym c.head.ensures.first;
     fits = subst (λ (s : Trace). Fits s c.args.options.now) (sym c.head.ensures.trace) c.in-Ok.ensures.fits;
