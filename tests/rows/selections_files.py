@@ -94,7 +94,7 @@ def is_there(command: list[str]) -> bool:
 
 
 def cuts() -> Cases:
-    """Each archive is cut once, and goes to one of the commands that are there."""
+    """Each archive is cut once, and goes to one of the commands that are there: as files, and as one input."""
     blamed, commands = set(), [one for one in COMMANDS if is_there(one[0])]
     with Files() as files:
         for seed in range(SEED, SEED + COUNT):
@@ -109,6 +109,8 @@ def cuts() -> Cases:
             came = files.run_over(command, pieces, given)
             yield Fact(f"seed {seed}: {' '.join(command)}, files of {[len(piece) for piece in pieces]} bytes",
                        (out, err + last, status), (came.out, came.err, came.status))
+            one = files.run(command, archive)
+            yield Fact(f"seed {seed}: {' '.join(command)}, one input", (out, err, status), (one.out, one.err, one.status))
     are_all = len(blamed) == MOST_FILES + 2
     yield holds("faults lie in each of the files, in standard input, and in none", are_all, blamed)
 
