@@ -1,6 +1,7 @@
 # make audit            proves and builds the program, and audits a sample archive
 # make audit FILE=..    the same for an archive of yours; where the program's status isn't 0, make ends with an error
 # make show             lists the records of a sample archive, or of FILE=..
+# make select           copies records of one into selected.mseed or OUT=..: those of CHANNELS=.. from FROM=.. until UNTIL=..
 # make repack           packs the channels of one anew, into packed.mseed or OUT=..
 # make lib              the library for C, C++ and Python, in crates/mseed_c/out/lib
 # make install          the program, its manual pages and completion, the tools, and what make lib built, below /usr/local or PREFIX=..
@@ -30,9 +31,9 @@ PYTHON ?= python3
 PYTHON_DIR ?= $(shell $(PYTHON) python/package_folder.py "$(PREFIX)")
 
 .PHONY: audit bench build dist drawing edits feed-bench help install install-lib interop lib packages \
-    repack show test tools-bench tools-test uninstall
+    repack select show test tools-bench tools-test uninstall
 
-# Where the program's status isn't 0, these three print it and end with an error of make, whose own status is 2.
+# Where the program's status isn't 0, these four print it and end with an error of make, whose own status is 2.
 audit: readable build
 	@$(MSEED) audit < "$$FILE"; status=$$?; echo "status $$status"; exit $$status
 
@@ -42,7 +43,15 @@ help:
 show: readable build
 	@$(MSEED) show < "$$FILE"; status=$$?; echo "status $$status"; exit $$status
 
-# What is packed gets its name once it is whole.
+# What is selected, or packed, gets its name once it is whole.
+select: OUT = selected.mseed
+select: readable build
+	@$(MSEED) select $${CHANNELS:+"--channels=$$CHANNELS"} $${FROM:+"--from=$$FROM"} $${UNTIL:+"--until=$$UNTIL"} \
+	    < "$$FILE" > "$$OUT.part"; status=$$?; \
+	if [ $$status = 0 ]; then mv "$$OUT.part" "$$OUT" && echo "Selected into $$OUT." || status=2; \
+	else rm -f "$$OUT.part"; fi; \
+	echo "status $$status"; exit $$status
+
 repack: readable build
 	@$(MSEED) repack < "$$FILE" > "$$OUT.part"; status=$$?; \
 	if [ $$status = 0 ]; then mv "$$OUT.part" "$$OUT" && echo "Packed into $$OUT." || status=2; \
@@ -50,7 +59,7 @@ repack: readable build
 	echo "status $$status"; exit $$status
 
 # So that a recipe takes them as they stand, with blanks and quotes.
-export FILE OUT
+export FILE OUT CHANNELS FROM UNTIL
 
 # Before anything is proved.
 .PHONY: readable

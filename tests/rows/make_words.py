@@ -1,4 +1,4 @@
-"""`make audit`, `make show` and `make repack` in a copy of the repository, with a stand-in for the toolchain: how they
+"""`make audit`, `make show`, `make select` and `make repack` in a copy of the repository, with a stand-in for the toolchain: how they
 end, for files of any name and for those that aren't there, and when they say that proving takes long."""
 
 from __future__ import annotations
@@ -17,7 +17,7 @@ BUILT = "Proved and built."
 AUDITED = ["XX_STA__BHZ continuous 2024-01-01T00:00:00.000000 rate 20/1 records 2 samples 32", "records 2 channels 1"]
 BROKEN = ["XX_STA__BHZ broken findings 1 first record 2 offset 128 gap 25001", "records 2 channels 1"]
 # By each of the words, where its file isn't there.
-WORDS = ["audit", "show", "repack"]
+WORDS = ["audit", "show", "select", "repack"]
 ODD = """a b'c"d.mseed"""
 
 
@@ -45,6 +45,15 @@ def files(copy: Copy) -> Cases:
     status, lines, report = copy.make("repack", f"FILE={ODD}", f"OUT={ODD}.new")
     yield Fact("make repack", (0, [BUILT, f"Packed into {ODD}.new.", "status 0"], ""), (status, lines, report))
     yield Fact("what it packed", [512], [path.stat().st_size for path in copy.folder.glob("*.new")])
+    asked = [f"FILE={ODD}", "CHANNELS=XX_*_*_BH?", "UNTIL=2024-01-01T00:00:00.8"]
+    selected = copy.make("select", *asked, f"OUT={ODD}.some")
+    yield Fact("make select", (0, [BUILT, f"Selected into {ODD}.some.", "status 0"], ""), selected)
+    first = (SAMPLES / "two_records.mseed").read_bytes()[:128]
+    yield Fact("what it selected", [first], [path.read_bytes() for path in copy.folder.glob("*.some")])
+    yield Fact("make select of all", (0, [BUILT, "Selected into selected.mseed.", "status 0"], ""), copy.make("select"))
+    status, lines, report = copy.make("select", "FROM=2024-13", f"OUT={ODD}.none")
+    yield Fact("make select of no time", (2, [BUILT, "status 3"], []),
+               (status, lines, list(copy.folder.glob("*.none*"))))
     for word in WORDS:
         for name in ("/none", "samples", f"{ODD}.none"):
             status, lines, report = copy.make(word, f"FILE={name}")
@@ -62,7 +71,7 @@ def files(copy: Copy) -> Cases:
 def rows() -> Cases:
     """All of them."""
     if shutil.which("make") is None:
-        yield Skipped("make audit, show and repack", "make")
+        yield Skipped("make audit, show, select and repack", "make")
         return
     with tempfile.TemporaryDirectory() as folder:
         copy = Copy(Path(folder))
