@@ -1,5 +1,5 @@
-"""`make audit`, `make show`, `make select` and `make repack` in a copy of the repository, with a stand-in for the toolchain: how they
-end, for files of any name and for those that aren't there, and when they say that proving takes long."""
+"""`make audit`, `make show`, `make select` and `make repack` in a copy of the repository, with a stand-in for the
+toolchain: how they end, for files of any name and for those that aren't there, and when they say that proving takes long."""
 
 from __future__ import annotations
 
