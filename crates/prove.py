@@ -17,6 +17,7 @@ from __future__ import annotations
 
 import argparse
 import contextlib
+import enum
 import fcntl
 import functools
 import os
@@ -48,6 +49,8 @@ MOST, PROCESSES = 4, 8
 BYTES_A_MINUTE, MEMORY = 150_000, 2.5
 # What no second process makes shorter, of a crate's proof; and how much more memory several processes take than one.
 ALONE, SHARED = 0.2, 1.3
+# So many minutes make a crate large: it gets a further process also where it isn't on the longest way.
+LARGE = 3
 # Where the system says what this process and those beside it in its group may use.
 GROUP = Path("/sys/fs/cgroup")
 # The status of `rt` where the system killed a proof, most likely for memory.
@@ -69,6 +72,13 @@ class Work(NamedTuple):
     began: float
     process: subprocess.Popen
     is_first: bool
+
+
+class Standing(enum.Enum):
+    """How a crate stands among those that run beside it: none does; it is on the longest way; or elsewhere, by its
+    minutes."""
+
+    ALONE, LONGEST, LARGE, SMALL = range(4)
 
 
 @functools.lru_cache(maxsize=None)
@@ -115,10 +125,11 @@ def minutes_left(left: dict[str, float], on: dict[str, set[str]], cores: int) ->
     return sum(left.values()) / cores + ALONE * longest * (1 - 1 / cores)
 
 
-def processes(cores: int, is_longest: bool, is_alone: bool) -> int:
+def processes(cores: int, standing: Standing) -> int:
     """How many processes prove a crate: more on the longest way, and few elsewhere, since each takes processor time of
     its own besides what it shares."""
-    most = cores if is_alone else cores - 1 if is_longest else cores // 2 - 1
+    most = {Standing.ALONE: cores, Standing.LONGEST: cores - 1, Standing.LARGE: cores // 2,
+            Standing.SMALL: cores // 2 - 1}[standing]
     return min(max(most, 1), PROCESSES)
 
 
@@ -233,14 +244,26 @@ class Build:
         """How many times the minutes of minutes.txt a crate takes here, by those that are done."""
         return min(max(self.used / self.expected, 0.2), 5) if self.expected > 1 else 1
 
+    def left_of(self, crate: str) -> float:
+        """The minutes of processors that a crate that runs still takes: by the functions that it has checked, or else
+        by the time that has gone."""
+        whole = 60 * self.pace() * minutes_left({crate: self.costs[crate].minutes}, self.on, self.cores)
+        done, of = checked(crate)
+        share = done / of if of else (time.monotonic() - self.running[crate].began) / max(whole, 1)
+        return self.costs[crate].minutes * max(1 - share, 0.1)
+
+    def standing(self, crate: str, is_alone: bool) -> Standing:
+        """How a crate that is about to begin stands among those that run, of whose ways up only what is left counts."""
+        if is_alone:
+            return Standing.ALONE
+        ways = [self.ways[at] - self.costs[at].minutes + self.left_of(at) for at in self.running]
+        if self.ways[crate] >= max(ways, default=0):
+            return Standing.LONGEST
+        return Standing.LARGE if self.costs[crate].minutes >= LARGE else Standing.SMALL
+
     def minutes(self) -> int:
         """About so many minutes are left."""
-        left = {at: self.costs[at].minutes for at in self.left}
-        for at, work in self.running.items():
-            whole = 60 * self.pace() * minutes_left({at: self.costs[at].minutes}, self.on, self.cores)
-            done, of = checked(at)
-            share = done / of if of else (time.monotonic() - work.began) / max(whole, 1)
-            left[at] = self.costs[at].minutes * max(1 - share, 0.1)
+        left = {at: self.costs[at].minutes for at in self.left} | {at: self.left_of(at) for at in self.running}
         return round(self.pace() * minutes_left(left, self.on, self.cores)) if left else 0
 
     def text(self) -> str:
@@ -281,9 +304,8 @@ class Build:
     def start(self, crate: str, is_alone: bool) -> None:
         """Begins a crate: a library in a room of its own, and the last one in its own folder."""
         is_last = crate == self.crate
-        is_longest = all(self.ways[crate] >= self.ways[at] for at in self.running)
         verb, *arguments = self.command if is_last else ["lib"]
-        jobs = 1 if crate in self.killed else processes(self.cores, is_longest, is_alone)
+        jobs = 1 if crate in self.killed else processes(self.cores, self.standing(crate, is_alone))
         command = ["rt", verb, "--jobs", str(jobs), *arguments]
         folder = CRATES / crate if is_last else room_of(crate, self.on[crate])
         is_first = not (folder / "out" / KEPT).exists()

@@ -3,6 +3,7 @@ way first; it is said how far it is; what is interrupted leaves nothing behind a
 
 from __future__ import annotations
 
+import contextlib
 import os
 import pty
 import re
@@ -11,6 +12,7 @@ import subprocess
 import tempfile
 import time
 from pathlib import Path
+from typing import Iterator
 
 from driver.program import CRATES, LIMIT
 from driver.proving import prove
@@ -32,10 +34,11 @@ def reckoned() -> Cases:
     for cores, left, wanted in [(1, costs, 12.0), (2, costs, 6.7), (4, costs, 4.05), (1, {"c": 4.0}, 4.0),
                                 (4, {"c": 4.0}, 1.6), (4, {"a": 2.0, "b": 2.0, "c": 2.0}, 2.4), (8, {"d": 2.0}, 0.6)]:
         yield Fact(f"what is left of {left} on {cores} cores", wanted, round(prove.minutes_left(left, on, cores), 3))
-    for cores, wanted in [(1, (1, 1, 1)), (2, (2, 1, 1)), (4, (4, 3, 1)), (8, (8, 7, 3)), (64, (8, 8, 8))]:
-        yield Fact(f"the processes of a crate alone, on the longest way and elsewhere, on {cores} cores", wanted,
-                   (prove.processes(cores, True, True), prove.processes(cores, True, False),
-                    prove.processes(cores, False, False)))
+    for cores, wanted in [(1, [1, 1, 1, 1]), (2, [2, 1, 1, 1]), (4, [4, 3, 2, 1]), (8, [8, 7, 4, 3]),
+                          (64, [8, 8, 8, 8])]:
+        yield Fact(f"the processes of a crate alone, on the longest way, large and small, on {cores} cores", wanted,
+                   [prove.processes(cores, standing) for standing in prove.Standing])
+    yield from by_standing()
     yield from by_memory()
     yield from by_group()
 
@@ -56,6 +59,31 @@ def by_group() -> Cases:
                     prove.memory() > 0.2 and prove.processors() == len(os.sched_getaffinity(0)), prove.memory())
     prove.GROUP = there
     yield holds("of this one some", free > 0 and cores > 0, (free, cores))
+
+
+def by_standing() -> Cases:
+    """Of a crate that runs, only what is left of its way counts: the join's is the longer one until half is done."""
+    build = prove.Build("mseed", ["run"])
+    minutes = {"mseed_join": 6.0, "mseed_repack": 4.0, "mseed_text": 1.0, "mseed": 5.0}
+    build.costs = {crate: prove.Cost(minutes.get(crate, 2.0), 1) for crate in build.on}
+    build.ways = prove.ways(build.on, build.costs)
+    yield Fact("alone", prove.Standing.ALONE, build.standing("mseed_text", True))
+    for done, wanted in [(0, prove.Standing.LARGE), (30, prove.Standing.LARGE), (60, prove.Standing.LONGEST)]:
+        build.running = {"mseed_join": prove.Work(0, None, True)}
+        with looked_up("mseed_join", done):
+            yield Fact(f"repack beside a join of which {done} of 100 functions are checked", wanted,
+                       build.standing("mseed_repack", False))
+            yield Fact(f"a small one beside it, with {done} checked", prove.Standing.SMALL,
+                       build.standing("mseed_files", False))
+
+
+@contextlib.contextmanager
+def looked_up(crate: str, done: int) -> Iterator[None]:
+    """As if a crate on its way had said that so many of a hundred functions are checked."""
+    there = prove.checked
+    prove.checked = lambda at: (done, 100) if at == crate else there(at)
+    yield
+    prove.checked = there
 
 
 def by_memory() -> Cases:
