@@ -1,4 +1,4 @@
-"""Each command of the pages about the tools prints what stands there. Commands of programs that aren't installed are
+"""Each command of the pages about the tools and of the operator's page prints what stands there. Commands of programs that aren't installed are
 skipped, with those that want what they leave behind; and each tool is named in its page."""
 
 from __future__ import annotations
@@ -17,7 +17,7 @@ from driver.slurm import PACKAGES, NotUp, is_installed, slurm
 from driver.tools import TOOLS
 from rows.tools_cluster import DASK, with_dask
 
-DOCUMENTS = ["tools/README.md", "docs/cookbook.md"]
+DOCUMENTS = ["tools/README.md", "docs/cookbook.md", "docs/operating.md"]
 MOST_LINES = 400
 
 
