@@ -122,7 +122,7 @@ FIGURES = [
     Figure("docs/developing.md", "a tenth of the second folder, ", " or ", least_tenth),
     Figure("docs/developing.md", " or ", " edits of up to", most_of_tenth),
     Figure("docs/DECISIONS.md", "the most of each crate**, ", " of ", in_gate),
-    Figure("docs/DECISIONS.md", " of ", "; the others stand in `tests/must-fail`", edits),
+    Figure("docs/DECISIONS.md", " of ", "; the others are in `tests/must-fail`", edits),
     size("docs/format.md", "if it has samples, at most ", " a second", "mseed_pack/src/fitting.rt", "FASTEST"),
     size("docs/protocol.md", "A packet has ", " bytes: `SL`", "slink_feed/src/cutting.rt", "PACKET"),
     size("docs/protocol.md", "and has at most ", " bytes including it", "slink_feed/src/cutting.rt", "LONGEST_REPLY"),
