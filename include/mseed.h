@@ -1,8 +1,8 @@
 /* mseed.h: the auditor, the reader and the packer of mseed, for C and C++.
  *
- * The calls read an archive that lies in memory: miniSEED records (SEED Reference Manual 2.4) one behind another. Each
- * call answers a code, writes what belongs to it where its caller says, and keeps nothing behind it: so threads may
- * call at once, on the same archive too, as long as what they write to is apart. Any bytes may be read: a call
+ * The calls read an archive that lies in memory: miniSEED records (SEED Reference Manual 2.4) one after another. Each
+ * call returns a code, writes its results where its caller says, and keeps nothing between calls: so threads may
+ * call at once, on the same archive too, as long as each writes to memory of its own. Any bytes may be read: a call
  * returns, and never reads or writes outside of what it was given. What each call does is proved: see "The library" of
  * docs/promises.md in the sources.
  *
@@ -16,7 +16,7 @@
  * - No call is made from a signal handler, or in a child that a process with threads forked.
  *
  * Memory is requested of malloc by mseed_audit, mseed_audit_each and mseed_part, and given back before they return; the
- * others ask for none. Where malloc refuses, the call answers MSEED_NO_MEMORY and has written nothing.
+ * others ask for none. Where malloc refuses, the call returns MSEED_NO_MEMORY and has written nothing.
  *
  * The library is for machines with 64-bit pointers whose bytes are little-endian (x86-64). Link with -lmseed_c, or by
  * pkg-config --cflags --libs mseed.
@@ -31,7 +31,7 @@
 extern "C" {
 #endif
 
-/* What a call answers. The words of mseed_why are those of the program mseed, where it has some. */
+/* What a call returns. The texts of mseed_why are those of the program mseed, where it has some. */
 enum mseed_code
 {
   /* Done. Of an audit: each channel is continuous. */
@@ -50,7 +50,7 @@ enum mseed_code
   /* more bytes are needed before it can be known what stands there: at the end of an archive, it is cut off. */
   MSEED_TRUNCATED = 6,
 
-  /* No record begins there, whatever bytes may come behind: these aren't the first bytes of a data record; */
+  /* No record begins there, whatever bytes follow: these aren't the first bytes of a data record; */
   MSEED_NOT_DATA = 16,
   /* the year and the day of its start can be read in neither byte order; */
   MSEED_ORDER = 17,
@@ -71,11 +71,11 @@ enum mseed_code
   MSEED_ENCODING = 33,
   /* Steim frames in little-endian words; */
   MSEED_LITTLE_STEIM = 34,
-  /* the data begin within the header or behind the record's end; */
+  /* the data begin within the header or after the record's end; */
   MSEED_DATA_OFFSET = 35,
   /* only so many differences or integers, fewer than the samples; */
   MSEED_SHORT = 36,
-  /* a word that means nothing, by its frame from 0 and its word in it from 1; */
+  /* a word that means nothing, by its frame, from 0, and its place in the frame, 1 to 15; */
   MSEED_BAD_WORD = 37,
   /* the sample at this index, from 0, is the first that leaves 32 bits; */
   MSEED_OVERFLOW = 38,
@@ -103,14 +103,14 @@ enum mseed_code
   MSEED_BAD_RATE = 67,
   /* its start isn't in the years 1800 to 2199; */
   MSEED_BAD_START = 68,
-  /* its leap second is of no kind, or behind none of the samples. */
+  /* its leap second is of no kind, or after none of the samples. */
   MSEED_BAD_LEAP = 69,
 
-  /* What is asked for is refused: an end of the window isn't in the years 1800 to 2199; */
+  /* A request for records is refused: an end of the window isn't in the years 1800 to 2199; */
   MSEED_BAD_TIME = 80,
-  /* the text is no patterns of channels; */
+  /* the text isn't patterns of channels; */
   MSEED_BAD_PATTERNS = 81,
-  /* the window's end isn't behind its begin. */
+  /* the window's end isn't after its beginning. */
   MSEED_BAD_WINDOW = 82
 };
 
@@ -123,7 +123,7 @@ enum mseed_encoding
   MSEED_STEIM2 = 11
 };
 
-/* What an audit says in numbers. */
+/* The counts of an audit, and the length of its text. */
 typedef struct mseed_totals
 {
   uint64_t records;  /* the records, those without samples too */
@@ -188,7 +188,7 @@ typedef struct mseed_heading
   uint8_t key[12];     /* network (2 bytes), station (5), location (2) and channel (3), filled up with spaces */
 } mseed_heading;
 
-/* What packing tells. */
+/* What packing came to. */
 typedef struct mseed_packed
 {
   uint64_t records; /* the records, each of the heading's length */
@@ -199,28 +199,28 @@ typedef struct mseed_packed
 typedef struct mseed_window
 {
   int64_t from;      /* the first instant in microseconds since 1970-01-01T00:00:00; not read where has_from is 0 */
-  int64_t until;     /* the instant behind the last; not read where has_until is 0 */
-  uint8_t has_from;  /* 0: the window has no begin */
+  int64_t until;     /* the first instant after it; not read where has_until is 0 */
+  uint8_t has_from;  /* 0: the window has no beginning */
   uint8_t has_until; /* 0: the window has no end */
 } mseed_window;
 
-/* What a selection tells. */
+/* What a selection came to. */
 typedef struct mseed_selected
 {
-  uint64_t records;      /* the records that were gone through */
+  uint64_t records;      /* the records that were read */
   uint64_t asked_for;    /* those of them that are asked for */
-  uint64_t without_time; /* those of the channels that are asked for whose start isn't known, where the window has a
-                          * begin or an end: they aren't asked for */
+  uint64_t without_time; /* those of the channels that are asked for that have no valid start, and so stand in no
+                          * window; 0 without a window */
   uint64_t length;       /* the length of all that are asked for, in bytes */
-  uint64_t offset;       /* where the next record would begin: the archive's size, where all of it was gone through */
+  uint64_t offset;       /* where the next record would begin: the archive's size, where all of it was read */
   uint64_t needed;       /* of MSEED_TRUNCATED: the bytes, from there on; of MSEED_LENGTH: the exponent; else 0 */
 } mseed_selected;
 
 /* Audits an archive as the program does: which channels are continuous, and where each of the others breaks first.
  *
- * Answers MSEED_OK, MSEED_BROKEN, MSEED_FAULT or MSEED_NO_MEMORY. The text of `mseed audit` is written to text, as much
- * of it as there is room for; totals->length is the length of the whole of it. It isn't ended by a NUL. Room 0 asks for
- * the length. What lies behind the text stays as it was.
+ * Returns MSEED_OK, MSEED_BROKEN, MSEED_FAULT or MSEED_NO_MEMORY. The text of `mseed audit` is written to text, as much
+ * of it as there is room for; totals->length is the length of the whole of it, so that a call with room 0 asks for the
+ * length. It isn't ended by a NUL. What lies after the text stays as it was.
  */
 uint32_t mseed_audit (const uint8_t *archive, size_t size, uint8_t *text, size_t room, mseed_totals *totals);
 
@@ -232,35 +232,35 @@ uint32_t mseed_part (const uint8_t *archive, size_t size, uint8_t *text, size_t 
 
 /* The rows of the records from an offset on, without their samples: as many as there are places for.
  *
- * Answers MSEED_OK once all bytes are gone through, else why it stopped: MSEED_NO_ROW, MSEED_TRUNCATED or one of
+ * Returns MSEED_OK once all bytes are read, else why it stopped: MSEED_NO_ROW, MSEED_TRUNCATED or one of
  * MSEED_NOT_DATA to MSEED_VERSION_3. To go on, call again with progress->offset as the offset. Each row's code is
- * MSEED_OK, since no samples were read; its first counts the samples of the rows before it. Rows behind those that were
- * written stay as they were. To go on behind bytes that begin no record, as the tools do, ask with one row at each
- * multiple of 64 bytes behind, until one is written.
+ * MSEED_OK, since no samples were read; its first counts the samples of the rows before it. Rows after those that were
+ * written stay as they were. To go on after bytes that begin no record, as the tools do, call with one row at each
+ * further multiple of 64 bytes, until one is written.
  */
 uint32_t mseed_rows (const uint8_t *archive, size_t size, size_t offset, mseed_row *rows, size_t nrows,
                      mseed_progress *progress);
 
-/* The rows of the records from an offset on, and their samples, one behind another.
+/* The rows of the records from an offset on, and their samples, one record's after another's.
  *
- * Answers as mseed_rows, or MSEED_NO_ROOM. A record whose samples can't be read has its row, with the code of the
- * reason, and adds no samples: reading goes on behind it, though there have to be places for as many as its header
- * says. Places behind progress->filled may have been written to.
+ * Returns what mseed_rows does, or MSEED_NO_ROOM. A record whose samples can't be read has its row, with the code of
+ * the reason, and adds no samples: reading goes on after it, though there have to be places for as many as its header
+ * says. Places after progress->filled may have been written to.
  */
 uint32_t mseed_read (const uint8_t *archive, size_t size, size_t offset, mseed_row *rows, size_t nrows,
                      int32_t *samples, size_t room, mseed_progress *progress);
 
 /* The samples of the one record that begins the bytes.
  *
- * Answers MSEED_OK, or why there are none; detail has the numbers of each. Places behind the record's samples stay as
+ * Returns MSEED_OK, or why there are none; detail has the numbers of each. Places after the record's samples stay as
  * they were; where they can't be read, the places of as many samples as the record has may have been written to.
  */
 uint32_t mseed_samples (const uint8_t *record, size_t size, int32_t *samples, size_t room, mseed_detail *detail);
 
 /* Packs a series into records, as much of them as there is room for: packed->records times heading->length are all
- * bytes of them. Room 0 asks for the number. What lies behind them stays as it was.
+ * bytes of them. A call with room 0 asks for the number. What lies after them stays as it was.
  *
- * Answers MSEED_OK; MSEED_BAD_LENGTH to MSEED_BAD_LEAP, the first that applies; or MSEED_EMPTY to
+ * Returns MSEED_OK; MSEED_BAD_LENGTH to MSEED_BAD_LEAP, the first that applies; or MSEED_EMPTY to
  * MSEED_DIFFERENCE_TOO_LARGE, the first that applies. Without MSEED_OK no record is written. packed is written with
  * MSEED_OK, and with MSEED_EMPTY to MSEED_DIFFERENCE_TOO_LARGE.
  */
@@ -268,14 +268,14 @@ uint32_t mseed_pack (const mseed_heading *heading, const int32_t *samples, size_
                      size_t room, mseed_packed *packed);
 
 /* The records of an archive that are asked for, byte for byte and in their order, as `mseed select` writes them: as
- * many bytes of them as there is room for; selected->length is the length of all. Room 0 asks for the length. What
- * lies behind them stays as it was.
+ * many bytes of them as there is room for; selected->length is the length of all, so that a call with room 0 asks for
+ * it. What lies after them stays as it was.
  *
- * channels are patterns of channels, parted by commas, of four fields each, parted by underscores: "XX_STA__BH?". None
- * at all, a text of length 0, is every channel. A record is asked for where it is of such a channel and stands in the
- * window: it doesn't end before the window's begin, and begins before the window's end.
+ * channels are patterns of channels, with commas between them, each of four fields with underscores between them:
+ * "XX_STA__BH?". A text of length 0 asks for every channel. A record is asked for where it is of such a channel and
+ * stands in the window: it doesn't end before the window's beginning, and begins before the window's end.
  *
- * Answers MSEED_OK once all bytes are gone through, else why it stopped: MSEED_TRUNCATED or one of MSEED_NOT_DATA to
+ * Returns MSEED_OK once all bytes are read, else why it stopped: MSEED_TRUNCATED or one of MSEED_NOT_DATA to
  * MSEED_VERSION_3; or MSEED_BAD_TIME, MSEED_BAD_PATTERNS or MSEED_BAD_WINDOW, the first that applies: then nothing is
  * written. What the records hold isn't judged.
  */
@@ -294,7 +294,7 @@ uint32_t mseed_select (const uint8_t *archive, size_t size, const uint8_t *chann
 #define MSEED_INLINE static
 #endif
 
-/* The words for a code, which go without its numbers; "unknown" for a number that is none. */
+/* The text for a code, without its numbers; "unknown" for a number that is no code. */
 MSEED_INLINE const char *
 mseed_why (uint32_t code)
 {
