@@ -1,14 +1,15 @@
-//! A digest of what comes of a job.
+//! A digest of what comes of a job, by which two builds are compared.
 
 use mseed_audit::Summary;
 
-/// A number that no change of what comes of a job leaves as it is, but by chance: the order counts too.
+/// The digest of the numbers and bytes that were taken in so far. Other numbers, or the same in another order, have
+/// another digest, but by chance.
 #[derive(Drop)]
 pub(crate) struct Digest {
     lanes: [u64; 4],
 }
 
-/// The word behind another.
+/// The lane, with a word mixed into it.
 fn mixed(lane: u64, word: u64) -> u64 {
     (lane ^ word)
         .wrapping_mul(0x9e37_79b9_7f4a_7c15)
@@ -60,7 +61,7 @@ impl Digest {
         self.number(samples.len() as u64);
     }
 
-    /// Takes in what an audit comes to.
+    /// Takes in the counts of an audit, and whether it ended at a fault.
     pub(crate) fn summary(&mut self, summary: &Summary) {
         self.number(summary.records);
         self.number(summary.channels);
@@ -68,7 +69,7 @@ impl Digest {
         self.number(u64::from(summary.fault));
     }
 
-    /// The number.
+    /// The digest, as one number.
     pub(crate) fn value(&self) -> u64 {
         let mut value = 0;
         for lane in self.lanes {

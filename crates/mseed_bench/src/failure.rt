@@ -7,7 +7,7 @@ use thiserror::Error;
 /// Why a job wasn't run to its end.
 #[derive(Clone, Copy, Debug, PartialEq, Eq, Error)]
 pub(crate) enum Failure {
-    /// The words name no job, or no seed.
+    /// The arguments name no job, or no seed.
     #[error("wants the name of a job and a seed")]
     Words,
     /// An allocation was refused.

@@ -3,18 +3,16 @@ ghost use Rattle.std.specs.Prelude.{◌≡◌, IfOk};
 ghost use Rattle.slink_live.specs.Served.{IsSound};
 
 use crate::archive::{USUAL, packed};
-use crate::digest::Digest;
+use crate::bench::Bench;
 use crate::failure::Failure;
 use crate::links::Links;
-use crate::noise::Noise;
-use crate::scale::Scale;
 use crate::shape::date;
 use slink_feed::{Feed, Ring};
 use slink_live::Server;
 use slink_wire::Place;
 use std::alloc::Global;
 
-/// So many records a ring keeps.
+/// How many records a ring keeps.
 const CAPACITY: usize = 4_096;
 
 /// What a client says that wants each record of the input, and one that wants those of a station that sends none.
@@ -22,58 +20,53 @@ const ALL: &[u8] = b"STATION STA XX\r\nDATA\r\nEND\r\n";
 
 const NONE: &[u8] = b"STATION STB XX\r\nDATA\r\nEND\r\n";
 
-/// How many links there are: those that want each record, and all. How much each accepts at a time, and the turn of
-/// which its first input has the year.
+/// How many links there are: those that want each record, and all. How much each accepts at a time, and the number
+/// whose year the input of its first round has.
 #[derive(Clone, Copy)]
 struct Crowd {
     fast: usize,
     most: usize,
     bite: usize,
-    turn: usize,
+    first: usize,
 }
 
 /// Serves an input to links that accept all at once, to one beside a thousand that wait, and to slow ones.
-pub(crate) fn run(
-    alloc: Global,
-    scale: Scale,
-    noise: &mut Noise,
-    digest: &mut Digest,
-) -> Result<(), Failure> {
-    let mut input = packed(alloc, noise, USUAL, scale.of(1_600_000, 20_000), 9)?;
+pub(crate) fn run(bench: &mut Bench) -> Result<(), Failure> {
+    let samples = bench.scale.of(1_600_000, 20_000);
+    let mut input = packed(bench, USUAL, samples, 9)?;
     let eager = Crowd {
         fast: 64,
         most: 64,
         bite: 1 << 16,
-        turn: 0,
+        first: 0,
     };
-    serve_in_turns(alloc, &mut input, eager, scale.of(10, 1), digest)?;
+    serve_often(bench, &mut input, eager, (10, 1))?;
     let waiting = Crowd {
         fast: 1,
-        most: scale.of(1_001, 20),
+        most: bench.scale.of(1_001, 20),
         bite: 1 << 16,
-        turn: 30,
+        first: 30,
     };
-    serve_in_turns(alloc, &mut input, waiting, scale.of(6, 1), digest)?;
+    serve_often(bench, &mut input, waiting, (6, 1))?;
     let slow = Crowd {
         fast: 64,
         most: 64,
         bite: 300,
-        turn: 60,
+        first: 60,
     };
-    serve_in_turns(alloc, &mut input, slow, scale.of(4, 1), digest)
+    serve_often(bench, &mut input, slow, (4, 1))
 }
 
-/// Serves an input to a crowd so often, each time of another year.
-fn serve_in_turns(
-    alloc: Global,
+/// Serves an input to a crowd in so many rounds of the full scale and of the small one, each time of another year.
+fn serve_often(
+    bench: &mut Bench,
     input: &mut [u8],
     crowd: Crowd,
-    turns: usize,
-    digest: &mut Digest,
+    (full, small): (usize, usize),
 ) -> Result<(), Failure> {
-    for turn in 0..turns {
-        date(input, 512, crowd.turn.saturating_add(turn));
-        digest.number(serve(alloc, input, crowd)?);
+    for round in 0..bench.scale.of(full, small) {
+        date(input, 512, crowd.first.saturating_add(round));
+        bench.digest.number(serve(bench.alloc, input, crowd)?);
     }
     Ok(())
 }

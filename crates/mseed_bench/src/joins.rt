@@ -1,47 +1,40 @@
 //! A night's join of the parts of many archives.
 ghost use Rattle.std.specs.Prelude.{◌<ℤ◌, ◌≤ℤ◌, pos};
 
-use crate::audits::ROOM;
-use crate::digest::Digest;
+use crate::bench::{Bench, source_over};
 use crate::failure::Failure;
 use crate::noise::Noise;
-use crate::scale::Scale;
 use crate::shape::station_of;
 use mseed_audit::{Channel, Finding, Findings, Head, Tail, Why};
 use mseed_join::{Form, HEADER, join, push_channel_line, push_counts_line};
 use mseed_record::{Codes, Leap};
-use mseed_stream::{Buffered, Counted};
+use mseed_stream::Counted;
 use mseed_time::{Micros, Ratio};
 use std::alloc::Global;
-use std::io::BufReader;
 
 /// The first instant of 2024, and the microseconds of a day.
 const START: i64 = 1_704_067_200_000_000;
 
 const DAY: i64 = 86_400_000_000;
 
-/// Parts, one behind another, and where their channels' lines begin.
+/// Parts, one after another, and where their channels' lines begin.
 #[derive(Drop)]
 struct Parts {
     text: Vec<u8>,
     lines: Vec<usize>,
 }
 
-/// Joins the parts of some nights of many channels, and of many short archives of some channels.
-pub(crate) fn run(
-    alloc: Global,
-    scale: Scale,
-    noise: &mut Noise,
-    digest: &mut Digest,
-) -> Result<(), Failure> {
-    let turns = scale.of(10, 1);
-    let mut nights = parts_of(alloc, noise, scale.of(12, 3), scale.of(10_000, 50))?;
-    join_in_turns(alloc, &mut nights, Form::Audit, turns, digest)?;
-    let mut pieces = parts_of(alloc, noise, scale.of(1_000, 20), scale.of(100, 5))?;
-    join_in_turns(alloc, &mut pieces, Form::Part, turns, digest)
+/// Joins the parts of some days of many channels, and of many short archives of some channels.
+pub(crate) fn run(bench: &mut Bench) -> Result<(), Failure> {
+    let (nights, channels) = (bench.scale.of(12, 3), bench.scale.of(10_000, 50));
+    let mut nights = parts_of(bench.alloc, &mut bench.noise, nights, channels)?;
+    join_often(bench, &mut nights, Form::Audit)?;
+    let (pieces, channels) = (bench.scale.of(1_000, 20), bench.scale.of(100, 5));
+    let mut pieces = parts_of(bench.alloc, &mut bench.noise, pieces, channels)?;
+    join_often(bench, &mut pieces, Form::Part)
 }
 
-/// The parts of so many days of so many channels.
+/// The parts of so many days, at most 1,000, of so many channels each; `Memory` where there is no room for them.
 fn parts_of(
     alloc: Global,
     noise: &mut Noise,
@@ -62,7 +55,8 @@ fn parts_of(
     Ok(Parts { text, lines })
 }
 
-/// Adds the line of a channel.
+/// Adds the line of the channel of a number, on a day counted from 2024-01-01. What was there
+/// stays before it, also after an error.
 fn push_line(text: &mut Vec<u8>, noise: &mut Noise, number: usize, day: i64) -> Result<(), Failure>
     requires low { pos 0 ≤ℤ day }
     requires high { day <ℤ pos 1000 }
@@ -73,14 +67,14 @@ fn push_line(text: &mut Vec<u8>, noise: &mut Noise, number: usize, day: i64) -> 
     }
 }
 
-/// The key of the channel of a number.
+/// The key of the channel of a number: network, station, location and channel, 12 bytes.
 fn key_of(number: usize) -> [u8; 12] {
     let [a, b, c, d, e] = station_of(number);
     [b'X', b'X', a, b, c, d, e, b' ', b' ', b'B', b'H', b'Z']
 }
 
-/// What a part says of a channel of 100 Hz that fills a day. One in eight begins late, and one in sixteen has a
-/// finding.
+/// What a part says of a channel of 100 Hz that fills a day, counted from 2024-01-01. One in eight begins up to a
+/// second late, and one in sixteen has a finding. None where an instant of the day is out of range.
 fn channel_of(noise: &mut Noise, day: i64) -> Option<Channel>
     requires low { pos 0 ≤ℤ day }
     requires high { day <ℤ pos 1000 }
@@ -117,7 +111,7 @@ fn channel_of(noise: &mut Noise, day: i64) -> Option<Channel>
     })
 }
 
-/// Findings of one channel in sixteen, and else none.
+/// No finding of fifteen channels in sixteen, with these ends; of the others up to a hundred, the first of them a gap.
 fn findings_of(noise: &mut Noise, head: Head, tail: Tail) -> Findings {
     if noise.below(16) != 0 {
         return Findings::Nothing { head, tail };
@@ -135,43 +129,41 @@ fn findings_of(noise: &mut Noise, head: Head, tail: Tail) -> Findings {
     }
 }
 
-/// Joins parts so often, each time of another network.
-fn join_in_turns(
-    alloc: Global,
-    parts: &mut Parts,
-    form: Form,
-    turns: usize,
-    digest: &mut Digest,
-) -> Result<(), Failure> {
-    for turn in 0..turns {
+/// Joins parts in each of ten rounds, or in one of the small scale; each round has another network.
+fn join_often(bench: &mut Bench, parts: &mut Parts, form: Form) -> Result<(), Failure> {
+    for round in 0..bench.scale.of(10, 1) {
         for line in parts.lines.iter() {
             if let Some(digit) = parts.text.get_mut(*line) {
-                *digit = b'0' + (turn % 10) as u8;
+                *digit = b'0' + (round % 10) as u8;
             }
         }
-        let Ok(reader) = BufReader::with_capacity(alloc, ROOM, parts.text.as_slice()) else {
-            return Err(Failure::Memory);
-        };
-        let mut source = Buffered::new(reader);
-        let mut sink = Counted::new(Vec::new(alloc));
-        let mut reported = Counted::new(Vec::new(alloc));
-        match join(
-            alloc,
-            form,
-            false,
-            None,
-            &mut source,
-            &mut sink,
-            &mut reported,
-        ) {
-            Ok(joined) => {
-                digest.number(joined.broken);
-                digest.number(u64::from(joined.fault));
-            }
-            Err(_) => return Err(Failure::Refused),
-        }
-        digest.bytes(sink.get_ref());
-        digest.bytes(reported.get_ref());
+        join_once(bench, &parts.text, form)?;
     }
+    Ok(())
+}
+
+/// Joins parts; what is written, and what is reported, goes into the digest.
+fn join_once(bench: &mut Bench, parts: &[u8], form: Form) -> Result<(), Failure> {
+    let alloc = bench.alloc;
+    let mut source = source_over(alloc, parts)?;
+    let mut sink = Counted::new(Vec::new(alloc));
+    let mut reported = Counted::new(Vec::new(alloc));
+    match join(
+        alloc,
+        form,
+        false,
+        None,
+        &mut source,
+        &mut sink,
+        &mut reported,
+    ) {
+        Ok(joined) => {
+            bench.digest.number(joined.broken);
+            bench.digest.number(u64::from(joined.fault));
+        }
+        Err(_) => return Err(Failure::Refused),
+    }
+    bench.digest.bytes(sink.get_ref());
+    bench.digest.bytes(reported.get_ref());
     Ok(())
 }

@@ -1,4 +1,4 @@
-//! Links in memory, which a server serves.
+//! Links in memory, which a server serves without a socket.
 ghost use Rattle.std.specs.Prelude.{◌≡◌, ◌≢◌, ◌≤◌, [], length, true, IfSome};
 
 use crate::digest::Digest;
@@ -37,7 +37,8 @@ const IDLE: Interest = Interest {
 };
 
 impl<'a> Links<'a> {
-    /// So many links, the first of which say one thing, and the others another.
+    /// `most` links over an input: the first `fast` of them say the first request, the others the second, and each
+    /// accepts `bite` bytes at a time. `Memory` where there is no room for them.
     pub(crate) fn new(
         alloc: Global,
         input: &'a [u8],
@@ -66,12 +67,12 @@ impl<'a> Links<'a> {
         })
     }
 
-    /// The digest of all that the links accepted.
+    /// The digest of all that the links accepted so far, with the slot of each.
     pub(crate) fn value(&self) -> u64 {
         self.digest.value()
     }
 
-    /// What the link in a slot has still to say.
+    /// What the link in a slot hasn't said yet of its request.
     fn left(&self, slot: usize) -> &'a [u8] {
         let request = if slot < self.fast {
             self.requests[0]
@@ -82,7 +83,8 @@ impl<'a> Links<'a> {
         request.get(said..).unwrap_or(&[])
     }
 
-    /// What can be done next.
+    /// What can be done next: a link dials while some haven't, then links are read and written, then the input comes,
+    /// then it ends, and then nothing comes any more.
     fn any_event(&mut self) -> Event
         ensures log { self.new.log ≡ self.old.log }
         ensures over { result ≡ Event.Nothing → self.new.is_over ≡ true }

@@ -4,6 +4,7 @@
 
 mod archive;
 mod audits;
+mod bench;
 mod digest;
 mod failure;
 mod feeds;
@@ -16,7 +17,7 @@ mod scale;
 mod shape;
 mod survey;
 
-use digest::Digest;
+use bench::Bench;
 use failure::Failure;
 use noise::Noise;
 use scale::Scale;
@@ -44,8 +45,8 @@ fn main(rt: HostRuntime) -> io::Result<ExitCode> {
     }
 }
 
-/// Runs the job that the first word names with the seed that the second one is, or with `small` all of them over small
-/// archives; and answers the digest.
+/// Runs the job that the first word names, with the second one as its seed, or with `small` all of them over small
+/// archives. The digest of what came of them.
 fn run(alloc: Global, words: &[String]) -> Result<u64, Failure> {
     let [job, seed] = words else {
         return Err(Failure::Words);
@@ -53,33 +54,28 @@ fn run(alloc: Global, words: &[String]) -> Result<u64, Failure> {
     let Ok(seed) = seed.as_str().parse::<u64>() else {
         return Err(Failure::Words);
     };
-    let mut digest = Digest::new();
     if job.as_str() != "small" {
-        run_job(alloc, job.as_str(), Scale::Full, seed, &mut digest)?;
-        return Ok(digest.value());
+        let mut bench = Bench::new(alloc, Scale::Full);
+        run_job(&mut bench, job.as_str(), seed)?;
+        return Ok(bench.digest.value());
     }
+    let mut bench = Bench::new(alloc, Scale::Small);
     for job in JOBS {
-        run_job(alloc, job, Scale::Small, seed, &mut digest)?;
+        run_job(&mut bench, job, seed)?;
     }
-    Ok(digest.value())
+    Ok(bench.digest.value())
 }
 
 /// Runs a job over archives of this seed.
-fn run_job(
-    alloc: Global,
-    job: &str,
-    scale: Scale,
-    seed: u64,
-    digest: &mut Digest,
-) -> Result<(), Failure> {
-    let mut noise = Noise::new(seed);
+fn run_job(bench: &mut Bench, job: &str, seed: u64) -> Result<(), Failure> {
+    bench.noise = Noise::new(seed);
     match job {
-        "audit" => audits::run(alloc, scale, &mut noise, digest),
-        "survey" => survey::run(alloc, scale, &mut noise, digest),
-        "samples" => samples::run(alloc, scale, &mut noise, digest),
-        "repack" => repacks::run(alloc, scale, &mut noise, digest),
-        "join" => joins::run(alloc, scale, &mut noise, digest),
-        "feed" => feeds::run(alloc, scale, &mut noise, digest),
+        "audit" => audits::run(bench),
+        "survey" => survey::run(bench),
+        "samples" => samples::run(bench),
+        "repack" => repacks::run(bench),
+        "join" => joins::run(bench),
+        "feed" => feeds::run(bench),
         _ => Err(Failure::Words),
     }
 }

@@ -21,7 +21,7 @@ impl Noise {
         }
     }
 
-    /// The next number.
+    /// The next number, of 64 bits.
     fn next(&mut self) -> u64 {
         self.state = self.state.wrapping_add(0x9e37_79b9_7f4a_7c15);
         let mixed = (self.state ^ (self.state >> 30)).wrapping_mul(0xbf58_476d_1ce4_e5b9);
@@ -29,7 +29,7 @@ impl Noise {
         mixed ^ (mixed >> 31)
     }
 
-    /// A number below `most`.
+    /// The next number, modulo `most`.
     pub(crate) fn below(&mut self, most: usize) -> usize
         requires { 0 < most }
         ensures { result < most }
@@ -37,15 +37,15 @@ impl Noise {
         self.next() as usize % most
     }
 
-    /// A difference of at most so many bits.
+    /// A difference of at most so many bits, in two's complement.
     fn step(&mut self, bits: u32) -> i32 {
         let number = (self.next() >> 33) as u32;
         number.cast_signed().wrapping_sub(1 << 30) >> (31 - bits.min(31))
     }
 }
 
-/// The trace of a data logger: passages of noise of 3 bits a difference and of up to `most` bits more, which drifts
-/// back to 0.
+/// `count` samples as of a data logger, which drift back to 0: each passage of 4,096 samples has noise of 3 bits a
+/// difference, and of up to `most` bits more. `Memory` where there is no room for them.
 pub(crate) fn trace(
     alloc: Global,
     noise: &mut Noise,

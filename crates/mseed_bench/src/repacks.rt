@@ -1,16 +1,13 @@
 //! Archives packed anew.
 
-use crate::archive::{Form, USUAL, packed};
-use crate::audits::ROOM;
-use crate::digest::Digest;
+use crate::archive::{Form, INTEGERS, USUAL, packed};
+use crate::bench::{Bench, Rounds, Task, source_over};
 use crate::failure::Failure;
-use crate::noise::Noise;
 use crate::scale::Scale;
-use crate::shape::{dealt, redate, with_gaps};
+use crate::shape::{dealt, with_gaps};
+use mseed_pack::Options;
 use mseed_repack::{Left, repack, repack_stretches};
-use mseed_stream::{Buffered, Counted};
-use std::alloc::Global;
-use std::io::BufReader;
+use mseed_stream::Counted;
 
 /// Steim-2 in records of 4,096 bytes.
 const LONG: Form = Form {
@@ -18,89 +15,86 @@ const LONG: Form = Form {
     exponent: 12,
 };
 
-/// Integers of 32 bits in records of 512 bytes.
-const INTEGERS: Form = Form {
-    encoding: 3,
-    exponent: 9,
-};
+/// Packs an archive anew by these options; what is written goes into the digest.
+#[derive(Drop)]
+struct Repacking {
+    options: Options,
+}
+
+/// Packs an archive anew by its stretches.
+#[derive(Drop)]
+struct Restretching {
+    options: Options,
+}
+
+impl Task for Repacking {
+    fn run(&mut self, bench: &mut Bench, archive: &[u8]) -> Result<(), Failure> {
+        let mut source = source_over(bench.alloc, archive)?;
+        let mut sink = Counted::new(Vec::new(bench.alloc));
+        match repack(bench.alloc, &self.options, &mut source, &mut sink) {
+            Ok(()) => bench.digest.bytes(sink.get_ref()),
+            Err(_) => return Err(Failure::Refused),
+        }
+        Ok(())
+    }
+}
+
+impl Task for Restretching {
+    fn run(&mut self, bench: &mut Bench, archive: &[u8]) -> Result<(), Failure> {
+        let mut source = source_over(bench.alloc, archive)?;
+        let mut sink = Counted::new(Vec::new(bench.alloc));
+        let mut errors = Counted::new(Vec::new(bench.alloc));
+        let options = &self.options;
+        match repack_stretches(
+            bench.alloc,
+            options,
+            false,
+            &mut source,
+            &mut sink,
+            &mut errors,
+        ) {
+            Ok(left) => bench.digest.number(left_out(left)),
+            Err(_) => return Err(Failure::Refused),
+        }
+        bench.digest.bytes(sink.get_ref());
+        bench.digest.bytes(errors.get_ref());
+        Ok(())
+    }
+}
 
 /// Packs day files, what a data logger holds and integers anew, and an archive with gaps by its stretches.
-pub(crate) fn run(
-    alloc: Global,
-    scale: Scale,
-    noise: &mut Noise,
-    digest: &mut Digest,
-) -> Result<(), Failure> {
-    let samples = scale.of(1_600_000, 40_000);
-    let turns = scale.of(30, 1);
-    let mut one = packed(alloc, noise, USUAL, samples, 9)?;
-    repack_in_turns(alloc, &mut one, LONG, turns, digest)?;
-    let mut logger = dealt(alloc, &one, 512, 12)?;
-    repack_in_turns(alloc, &mut logger, USUAL, turns, digest)?;
-    repack_in_turns(alloc, &mut logger, INTEGERS, turns, digest)?;
-    let mut integers = packed(alloc, noise, INTEGERS, samples / 2, 9)?;
-    repack_in_turns(alloc, &mut integers, USUAL, turns, digest)?;
-    let mut gaps = with_gaps(alloc, &logger, 512, 50)?;
-    restretch_in_turns(alloc, &mut gaps, turns, digest)
-}
-
-/// Packs an archive of records of 512 bytes anew so often, each time with other networks and years.
-fn repack_in_turns(
-    alloc: Global,
-    archive: &mut [u8],
-    form: Form,
-    turns: usize,
-    digest: &mut Digest,
-) -> Result<(), Failure> {
-    let options = form.options()?;
-    for turn in 0..turns {
-        // Another encoding of the same archive has another network.
-        redate(
-            archive,
-            512,
-            usize::from(form.encoding)
-                .saturating_mul(100)
-                .saturating_add(turn),
-        );
-        let reader: &[u8] = archive;
-        let Ok(reader) = BufReader::with_capacity(alloc, ROOM, reader) else {
-            return Err(Failure::Memory);
-        };
-        let mut source = Buffered::new(reader);
-        let mut sink = Counted::new(Vec::new(alloc));
-        match repack(alloc, &options, &mut source, &mut sink) {
-            Ok(()) => digest.bytes(sink.get_ref()),
-            Err(_) => return Err(Failure::Refused),
-        }
-    }
-    Ok(())
-}
-
-/// The same by its stretches.
-fn restretch_in_turns(
-    alloc: Global,
-    archive: &mut [u8],
-    turns: usize,
-    digest: &mut Digest,
-) -> Result<(), Failure> {
+pub(crate) fn run(bench: &mut Bench) -> Result<(), Failure> {
+    let samples = bench.scale.of(1_600_000, 40_000);
+    let mut one = packed(bench, USUAL, samples, 9)?;
+    repack_often(bench, &mut one, LONG)?;
+    let mut logger = dealt(bench.alloc, &one, 512, 12)?;
+    repack_often(bench, &mut logger, USUAL)?;
+    repack_often(bench, &mut logger, INTEGERS)?;
+    let mut integers = packed(bench, INTEGERS, samples / 2, 9)?;
+    repack_often(bench, &mut integers, USUAL)?;
+    let mut gaps = with_gaps(bench.alloc, &logger, 512, 50)?;
     let options = USUAL.options()?;
-    for turn in 0..turns {
-        redate(archive, 512, turn);
-        let reader: &[u8] = archive;
-        let Ok(reader) = BufReader::with_capacity(alloc, ROOM, reader) else {
-            return Err(Failure::Memory);
-        };
-        let mut source = Buffered::new(reader);
-        let mut sink = Counted::new(Vec::new(alloc));
-        let mut errors = Counted::new(Vec::new(alloc));
-        match repack_stretches(alloc, &options, false, &mut source, &mut sink, &mut errors) {
-            Ok(left) => digest.number(left_out(left)),
-            Err(_) => return Err(Failure::Refused),
-        }
-        digest.bytes(sink.get_ref());
-        digest.bytes(errors.get_ref());
-    }
-    Ok(())
+    bench.repeat(
+        &mut gaps,
+        rounds_of(bench.scale),
+        &mut Restretching { options },
+    )
+}
+
+/// Packs an archive of records of 512 bytes anew in each round. Another encoding of the same archive has another
+/// network.
+fn repack_often(bench: &mut Bench, archive: &mut [u8], form: Form) -> Result<(), Failure> {
+    let options = form.options()?;
+    let rounds = Rounds {
+        first: usize::from(form.encoding).saturating_mul(100),
+        ..rounds_of(bench.scale)
+    };
+    bench.repeat(archive, rounds, &mut Repacking { options })
+}
+
+/// The rounds with each archive, of records of 512 bytes.
+fn rounds_of(scale: Scale) -> Rounds {
+    Rounds::new(512, scale.of(30, 1))
 }
 
 /// A number for what was left out.

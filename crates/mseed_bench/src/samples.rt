@@ -2,73 +2,71 @@
 ghost use Rattle.std.specs.Prelude.{◌≡◌};
 ghost use Rattle.mseed_stream.specs.Device.{nothing_read};
 
-use crate::archive::{Form, USUAL, packed};
-use crate::audits::ROOM;
+use crate::archive::{INTEGERS, LONG_STEIM_1, USUAL, packed};
+use crate::bench::{Bench, Rounds, Task, source_over};
 use crate::digest::Digest;
 use crate::failure::Failure;
-use crate::noise::Noise;
-use crate::scale::Scale;
-use crate::shape::{dealt, redate};
+use crate::shape::dealt;
 use mseed_audit::{Series, series};
 use mseed_record::RecordView;
 use mseed_steim::fill_samples;
-use mseed_stream::{Buffered, Cutter, Source, split};
+use mseed_stream::{Cutter, Source, split};
 use std::alloc::Global;
-use std::io::BufReader;
 
-/// Reads archives of either Steim, of long records, of wide differences and of integers.
-pub(crate) fn run(
-    alloc: Global,
-    scale: Scale,
-    noise: &mut Noise,
-    digest: &mut Digest,
-) -> Result<(), Failure> {
-    let samples = scale.of(3_200_000, 40_000);
-    let turns = scale.of(48, 1);
-    let mut one = packed(alloc, noise, USUAL, samples, 9)?;
-    read_series(alloc, &mut one, turns, digest)?;
-    let mut logger = dealt(alloc, &one, 512, 12)?;
-    read_in_turns(alloc, &mut logger, 512, turns, digest)?;
-    let mut wide = packed(alloc, noise, USUAL, samples / 4, 24)?;
-    read_in_turns(alloc, &mut wide, 512, turns, digest)?;
-    let first = Form {
-        encoding: 10,
-        exponent: 12,
-    };
-    let mut first = packed(alloc, noise, first, samples, 9)?;
-    read_in_turns(alloc, &mut first, 4_096, turns, digest)?;
-    let integers = Form {
-        encoding: 3,
-        exponent: 9,
-    };
-    let mut integers = packed(alloc, noise, integers, samples / 4, 9)?;
-    read_in_turns(alloc, &mut integers, 512, turns, digest)
+/// Reads an archive of one channel as a series, which goes into the digest.
+#[derive(Drop)]
+struct Assembling;
+
+/// Reads an archive record by record, each into the same room; the samples go into the digest.
+#[derive(Drop)]
+struct Reading {
+    room: Vec<i32>,
 }
 
-/// Reads the series of an archive of one channel so often, each time with another network and year.
-fn read_series(
-    alloc: Global,
-    archive: &mut [u8],
-    turns: usize,
-    digest: &mut Digest,
-) -> Result<(), Failure> {
-    for turn in 0..turns {
-        redate(archive, 512, turn);
-        let Ok(views) = split(alloc, archive) else {
+impl Task for Assembling {
+    fn run(&mut self, bench: &mut Bench, archive: &[u8]) -> Result<(), Failure> {
+        let Ok(views) = split(bench.alloc, archive) else {
             return Err(Failure::Refused);
         };
         let Some(first) = views.first() else {
             return Err(Failure::Refused);
         };
-        match series(alloc, &views, &first.codes()) {
-            Ok(series) => take_in(&series, digest),
+        match series(bench.alloc, &views, &first.codes()) {
+            Ok(series) => take_in(&series, &mut bench.digest),
             Err(_) => return Err(Failure::Refused),
         }
+        Ok(())
     }
-    Ok(())
 }
 
-/// Takes a series in.
+impl Task for Reading {
+    fn run(&mut self, bench: &mut Bench, archive: &[u8]) -> Result<(), Failure> {
+        let mut source = source_over(bench.alloc, archive)?;
+        read_records(bench.alloc, &mut source, &mut self.room, &mut bench.digest)
+    }
+}
+
+/// Reads archives of either Steim, of long records, of wide differences and of integers.
+pub(crate) fn run(bench: &mut Bench) -> Result<(), Failure> {
+    let samples = bench.scale.of(3_200_000, 40_000);
+    let rounds = Rounds::new(512, bench.scale.of(48, 1));
+    let mut room = Vec::new(bench.alloc);
+    room.resize(1 << 16, 0)?;
+    let mut reading = Reading { room };
+    let mut one = packed(bench, USUAL, samples, 9)?;
+    bench.repeat(&mut one, rounds, &mut Assembling)?;
+    let mut logger = dealt(bench.alloc, &one, 512, 12)?;
+    bench.repeat(&mut logger, rounds, &mut reading)?;
+    let mut wide = packed(bench, USUAL, samples / 4, 24)?;
+    bench.repeat(&mut wide, rounds, &mut reading)?;
+    let mut first = packed(bench, LONG_STEIM_1, samples, 9)?;
+    let rounds_of_long = Rounds::new(4_096, rounds.count);
+    bench.repeat(&mut first, rounds_of_long, &mut reading)?;
+    let mut integers = packed(bench, INTEGERS, samples / 4, 9)?;
+    bench.repeat(&mut integers, rounds, &mut reading)
+}
+
+/// Takes a series into the digest: its codes, start, rate, samples, and how many leap seconds it has.
 fn take_in(series: &Series, digest: &mut Digest) {
     digest.bytes(series.codes().key());
     digest.bytes(&series.start().get().to_le_bytes());
@@ -78,28 +76,8 @@ fn take_in(series: &Series, digest: &mut Digest) {
     digest.number(series.steps().len() as u64);
 }
 
-/// Reads an archive record by record so often, each time with other networks and years.
-fn read_in_turns(
-    alloc: Global,
-    archive: &mut [u8],
-    size: usize,
-    turns: usize,
-    digest: &mut Digest,
-) -> Result<(), Failure> {
-    let mut room = Vec::new(alloc);
-    room.resize(1 << 16, 0)?;
-    for turn in 0..turns {
-        redate(archive, size, turn);
-        let reader: &[u8] = archive;
-        let Ok(reader) = BufReader::with_capacity(alloc, ROOM, reader) else {
-            return Err(Failure::Memory);
-        };
-        read_records(alloc, &mut Buffered::new(reader), &mut room, digest)?;
-    }
-    Ok(())
-}
-
-/// Reads the samples of each record of a source into the room.
+/// Reads the samples of each record of a source into the room, and takes them into the digest. `Refused` where a record
+/// has none, or the source a fault.
 fn read_records<R: Source>(
     alloc: Global,
     source: &mut R,
@@ -118,7 +96,8 @@ fn read_records<R: Source>(
     Ok(())
 }
 
-/// Reads the samples of a record into the room.
+/// Reads the samples of a record into the room, and takes them into the digest; `Refused` where it has none, or more
+/// than there is room for.
 fn read_record(view: &RecordView, room: &mut [i32], digest: &mut Digest) -> Result<(), Failure> {
     let count = usize::from(view.samples());
     if count == 0 || count > room.len() {

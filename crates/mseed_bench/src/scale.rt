@@ -5,12 +5,12 @@
 pub(crate) enum Scale {
     /// As large as those that users have.
     Full,
-    /// So small that all jobs take no time.
+    /// So small that all jobs together take less than a second.
     Small,
 }
 
 impl Scale {
-    /// The number for archives as users have them, or the one for small archives.
+    /// `full` of archives as users have them, `small` of small ones.
     pub(crate) fn of(self, full: usize, small: usize) -> usize {
         match self {
             Scale::Full => full,

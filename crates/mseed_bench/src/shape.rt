@@ -4,7 +4,8 @@ use crate::failure::Failure;
 use crate::noise::Noise;
 use std::alloc::Global;
 
-/// Where a header has the station, the network, the start's year and its hour.
+/// Where a header has the station, the network, the start's year and its hour: offsets in bytes (SEED Reference Manual
+/// 2.4, chapter 8).
 const STATION: usize = 8;
 
 const NETWORK: usize = 18;
@@ -18,17 +19,17 @@ const WORD_ORDER: usize = 53;
 
 const PAYLOAD: usize = 64;
 
-/// The last byte of the last sample that the first frame of Steim tells.
+/// The last byte of the last sample (Xn) in the first Steim frame of a record, whose payload begins at `PAYLOAD`.
 const LAST: usize = 75;
 
-/// Puts bytes into others from an offset on.
+/// Puts bytes into others from an offset on; those that would lie past the end are left out.
 fn put(bytes: &mut [u8], offset: usize, other: &[u8]) {
     for (old, new) in bytes.iter_mut().skip(offset).zip(other) {
         *old = *new;
     }
 }
 
-/// The station of this number, in five letters.
+/// The station of this number, in five letters, as a number to base 26.
 pub(crate) fn station_of(number: usize) -> [u8; 5] {
     let mut left = number;
     let mut station = [b'A'; 5];
@@ -39,8 +40,8 @@ pub(crate) fn station_of(number: usize) -> [u8; 5] {
     station
 }
 
-/// The records of one channel dealt out to so many, which come in turns: each has as many as the others, one behind
-/// another.
+/// The records of one channel as those of `channels` stations, which alternate as records of a data logger do: each
+/// station has as many neighbouring records as the others. `Memory` where there is no room for them.
 pub(crate) fn dealt(
     alloc: Global,
     base: &[u8],
@@ -50,9 +51,9 @@ pub(crate) fn dealt(
     let mut archive = Vec::with_capacity(alloc, base.len())?;
     let records = base.len().checked_div(size).unwrap_or(0);
     let each = records.checked_div(channels).unwrap_or(0);
-    for turn in 0..each {
+    for place in 0..each {
         for channel in 0..channels {
-            let record = channel.saturating_mul(each).saturating_add(turn);
+            let record = channel.saturating_mul(each).saturating_add(place);
             push_record(&mut archive, base, size, record)?;
             let begin = archive.len().saturating_sub(size);
             put(
@@ -65,7 +66,7 @@ pub(crate) fn dealt(
     Ok(archive)
 }
 
-/// Puts the record of this index behind others.
+/// Appends the record of this index; `Refused` where the archive has none.
 fn push_record(
     archive: &mut Vec<u8>,
     base: &[u8],
@@ -79,7 +80,7 @@ fn push_record(
     }
 }
 
-/// The records of an archive in another order.
+/// The records of an archive in an order that looks random; `Memory` where there is no room for them.
 pub(crate) fn shuffled(
     alloc: Global,
     noise: &mut Noise,
@@ -101,7 +102,7 @@ pub(crate) fn shuffled(
     Ok(archive)
 }
 
-/// An archive without the records whose index is a multiple of `every`.
+/// An archive without the records whose index is a multiple of `every`; `Memory` where there is no room for it.
 pub(crate) fn with_gaps(
     alloc: Global,
     base: &[u8],
@@ -117,7 +118,8 @@ pub(crate) fn with_gaps(
     Ok(archive)
 }
 
-/// Changes the last sample that every third record tells, and the hour of every seventh.
+/// Spoils an archive of Steim frames: every third record gets another last sample (Xn), and every seventh the hour 24,
+/// which no day has.
 pub(crate) fn spoil(archive: &mut [u8], size: usize) {
     for index in 0..archive.len().checked_div(size).unwrap_or(0) {
         let begin = index.saturating_mul(size);
@@ -130,8 +132,9 @@ pub(crate) fn spoil(archive: &mut [u8], size: usize) {
     }
 }
 
-/// Turns an archive of integers of 32 bits into one of little-endian ones.
-pub(crate) fn turn_words(archive: &mut [u8], size: usize) {
+/// Reverses the bytes of each integer of an archive of 32-bit ones, and notes in blockette 1000 that they are
+/// little-endian.
+pub(crate) fn swap_words(archive: &mut [u8], size: usize) {
     for index in 0..archive.len().checked_div(size).unwrap_or(0) {
         let begin = index.saturating_mul(size);
         put(archive, begin.saturating_add(WORD_ORDER), &[0]);
@@ -145,9 +148,9 @@ pub(crate) fn turn_words(archive: &mut [u8], size: usize) {
     }
 }
 
-/// Gives an archive the network and the year of a turn: no two of 2,600 turns have the same.
-pub(crate) fn redate(archive: &mut [u8], size: usize, turn: usize) {
-    let network = [b'A' + (turn / 100 % 26) as u8, b'X'];
+/// Gives each record the network and the year of a number: no two of 2,600 numbers have the same.
+pub(crate) fn redate(archive: &mut [u8], size: usize, number: usize) {
+    let network = [b'A' + (number / 100 % 26) as u8, b'X'];
     for index in 0..archive.len().checked_div(size).unwrap_or(0) {
         put(
             archive,
@@ -155,12 +158,12 @@ pub(crate) fn redate(archive: &mut [u8], size: usize, turn: usize) {
             &network,
         );
     }
-    date(archive, size, turn);
+    date(archive, size, number);
 }
 
-/// Gives an archive the year of a turn: no two of a hundred turns have the same.
-pub(crate) fn date(archive: &mut [u8], size: usize, turn: usize) {
-    let year = (1_970 + turn % 100) as u16;
+/// Gives each record the year of a number: no two of a hundred numbers have the same.
+pub(crate) fn date(archive: &mut [u8], size: usize, number: usize) {
+    let year = (1_970 + number % 100) as u16;
     for index in 0..archive.len().checked_div(size).unwrap_or(0) {
         let begin = index.saturating_mul(size);
         put(archive, begin.saturating_add(YEAR), &year.to_be_bytes());
