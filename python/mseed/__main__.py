@@ -43,7 +43,7 @@ def _given(words: Optional[List[str]]) -> argparse.Namespace:
 
 
 def main(words: Optional[List[str]] = None) -> int:
-    """Carries out a command line, and answers the status."""
+    """Carries out a command line, and returns the status."""
     given = _given(words)
     if given.command == "audit":
         text, status, _ = audited(given.call, bytes_of(given.file))
@@ -83,7 +83,7 @@ def run() -> int:
 
 
 def _ended(main: Callable[[], int]) -> int:
-    """The status of a command, also of one that ends by itself, behind its help."""
+    """The status of a command, also of one that ends by itself, after its help."""
     try:
         return main()
     except SystemExit as end:

@@ -58,7 +58,7 @@ class Audit:
 
 
 def audited(call: str, data: bytes, size: Optional[int] = None) -> Tuple[str, int, Totals]:
-    """The text that a call tells of an archive, its status and its totals; of so many bytes of it, if that is given."""
+    """The text that a call writes about an archive, its status and its totals; of its first `size` bytes, if given."""
     totals = Totals()
     room = 1 << 16
     while True:

@@ -56,7 +56,7 @@ class Heading(ctypes.Structure):
 
 
 class Packed(ctypes.Structure):
-    """What packing tells."""
+    """What packing came to."""
 
     _fields_ = [("records", c_uint64), ("index", c_uint64)]
 
@@ -68,7 +68,7 @@ class TimeWindow(ctypes.Structure):
 
 
 class Selected(ctypes.Structure):
-    """What a selection tells."""
+    """What a selection came to."""
 
     _fields_ = [
         ("records", c_uint64), ("asked_for", c_uint64), ("without_time", c_uint64), ("length", c_uint64),

@@ -29,7 +29,7 @@ LIMIT = 1 << 31
 
 @contextmanager
 def opened(archive: Archive) -> Iterator[BinaryIO]:
-    """An archive as a file, which is closed behind it if it is opened here.
+    """An archive as a file, which is closed afterwards if it was opened here.
 
     TypeError where it is none.
     """
@@ -112,7 +112,7 @@ def address_in(samples: Samples, index: int) -> int:
 
 
 def joined(parts: Sequence[Samples]) -> Samples:
-    """Samples one behind another, at a place of their own."""
+    """Samples one after another, at a place of their own."""
     if numpy is not None:
         return numpy.concatenate(parts)
     return memoryview(array("i", b"".join(parts)))
@@ -128,7 +128,7 @@ def scatter(part: Samples, sizes: Iterable[int], out: Samples, places: Iterable[
 
 
 def samples_from(given: Any) -> Samples:
-    """Samples as 32-bit integers, one behind another. Those that are so already aren't copied.
+    """Samples as 32-bit integers, one after another. Those that are so already aren't copied.
 
     TypeError where some aren't integers, OverflowError where some have more than 32 bits.
     """

@@ -67,7 +67,7 @@ def make(samples: Any, *, network: str, station: str, location: str = "", channe
 
 def pack(trace: Trace, *, length: int = 512, encoding: str = "steim2", sequence: int = 1,
          leap: Optional[Tuple[int, int]] = None) -> bytes:
-    """The records that a trace is packed into, one behind another.
+    """The records that a trace is packed into, one after another.
 
     length: that of a record in bytes: 128, 256, 512, 1024, 2048 or 4096.
     encoding: "int16", "int32", "steim1" or "steim2".
@@ -116,11 +116,11 @@ def pack(trace: Trace, *, length: int = 512, encoding: str = "steim2", sequence:
 
 def write(path: Union[str, "os.PathLike[str]"], traces: Union[Trace, Iterable[Trace]], *, length: int = 512,
           encoding: str = "steim2", sequence: int = 1) -> int:
-    """Writes traces to a file, one behind another, as pack packs them, and answers how many records there are. Nothing
+    """Writes traces to a file, one after another, as pack packs them, and returns how many records there are. Nothing
     is written where one of them can't be packed.
 
-    path: a file that is there already has its old content or the new one, whenever it is looked at, and keeps its mode;
-    behind a link that is the link's target. What is no file, as a FIFO or a device, is written into.
+    path: a file that is there already has its old content or the new one, whenever it is read, and keeps its mode;
+    of a symbolic link it is the link's target. What is no file, as a FIFO or a device, is written into.
     """
     if not isinstance(path, (str, os.PathLike)):
         raise TypeError(f"a path is a str or an os.PathLike, not {named(path)}")

@@ -8,7 +8,7 @@ from mseed._memory import Archive, Samples, joined, opened, read_from, whole
 from mseed._records import Cutter, RecordError, Runs, Window, codes_of
 from mseed._trace import Trace
 
-# How much of an archive is in memory at once, besides what lacks to its last record: at most 1 MiB.
+# How much of an archive is in memory at once, besides the rest of its last record, which is at most 1 MiB.
 AT_ONCE = 1 << 21
 
 
@@ -92,13 +92,13 @@ class _Open:
 
 
 def iterate(archive: Archive, *, samples: int = 1 << 14, skip: bool = False) -> Pieces:
-    """The traces of an archive in pieces, each of which says whether its trace goes on behind it. Of the archive 2 MiB
-    are in memory at once, with their samples, and of each channel its last record and up to so many samples.
+    """The traces of an archive in pieces, each of which says whether its trace goes on after it. In memory are 2 MiB of
+    the archive at once, with their samples, and of each channel its last record and the samples of its next piece.
 
     archive: a path, bytes, or a binary file that is open.
     samples: how many each piece has; the last one of a trace has those that are left.
-    skip: as of read; what is left out is listed in `skipped` of the answer as it is met, and without it the first is
-    raised as it is met.
+    skip: as of read; what is left out is listed in `skipped` of what is returned, as it is met. Without it the first
+    of these is raised.
     """
     if whole("samples", samples) < 1:
         raise ValueError(f"a piece has 1 sample or more, not {samples}")

@@ -19,7 +19,7 @@ class Traces(List[Trace]):
         """The records that were left out, and the bytes that begin none, in their order."""
 
 
-# So many samples are decoded at once where those of several channels stand by turns.
+# How many samples are decoded at once where several channels alternate.
 AT_ONCE = 1 << 18
 
 

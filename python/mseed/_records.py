@@ -48,8 +48,8 @@ class RecordError(ValueError):
 
 
 class Cut(NamedTuple):
-    """The records in some bytes, which begin at an offset of the archive: from where to where they stand one behind
-    another, how many they are, and how many stand before."""
+    """The records in some bytes, which begin at an offset of the archive: from where to where they follow one another,
+    how many they are, and how many are before."""
 
     base: int
     spans: List[Tuple[int, int]]
@@ -58,7 +58,7 @@ class Cut(NamedTuple):
 
 
 class Runs(NamedTuple):
-    """Runs of rows, each of one channel and with no finding but at its first row: of each its first row, the one behind
+    """Runs of rows, each of one channel and with no finding but at its first row: of each its first row, the one after
     its last, the index of its first sample among all, how many samples it has, and the channel."""
 
     firsts: List[int]
@@ -84,7 +84,7 @@ class Cutter:
 
     def cut(self, data: bytes, is_last: bool) -> Cut:
         """The records in the bytes from `offset` on. Those from where `offset` then is are wanted again, with more
-        behind them, unless these are the last."""
+        after them, unless these are the last."""
         cut, at = Cut(self.offset, [], 0, self.count), 0
         while True:
             if self._open is not None:
@@ -114,7 +114,7 @@ class Cutter:
         return code, at
 
     def _framed_behind(self, data: bytes, at: int, is_last: bool, fault: int) -> Tuple[int, bool]:
-        """Where a record is framed next, from a place on but behind that of a fault, and whether one is; else up to
+        """Where a record is framed next, from a place on but after that of a fault, and whether one is; else up to
         where none is."""
         place, size, one = at + -(self.offset + at) % STEP, FEW, (Row * 1)()
         if place == fault:
@@ -133,7 +133,7 @@ class Cutter:
 
 
 class Window:
-    """Records of an archive, one behind another, with their rows and what is found of them."""
+    """Records of an archive, one after another, with their rows and what is found of them."""
 
     def __init__(self, data: bytes, cut: Cut) -> None:
         """The records of these bytes."""
@@ -229,7 +229,7 @@ class Window:
         return {key: self.data[row.offset : row.offset + row.length] for key, row in rows.items()}
 
     def read(self) -> Samples:
-        """The samples of all records, one behind another. The rows then count those that could be read alone."""
+        """The samples of all records, one after another. The rows then count those that could be read alone."""
         out = room_for(self.samples)
         self.samples = self._read_into(0, self.count, out, 0, self.samples)
         return out
@@ -258,7 +258,7 @@ def rows_into(rows: Any, data: bytes, size: int, at: int, progress: Progress) ->
 
 
 def code_of(field: bytes) -> str:
-    """A code of a header without the spaces and NULs behind it; "?" for a byte that isn't printed."""
+    """A code of a header without the spaces and NULs after it; "?" for a byte that isn't printed."""
     return "".join(chr(byte) if 33 <= byte <= 126 else "?" for byte in field.rstrip(b" \0"))
 
 

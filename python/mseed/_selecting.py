@@ -26,13 +26,13 @@ def select(archive: Archive, *, channels: Union[str, Iterable[str], None] = None
     is. What they hold isn't judged. `mseed.read` and `mseed.audit` take them as an archive.
 
     archive: a path, bytes, or a binary file that is open.
-    channels: patterns as "XX_STA__BH?", parted by commas, or some of them: network, station, location and channel,
-    where * takes any characters and ? takes one. Without it, every channel.
+    channels: patterns as "XX_STA__BH?" with commas between them, or a list of such: network, station, location and
+    channel, where * takes any characters and ? takes one. Without it, every channel.
     start, end: a window of time (UTC), of which `end` isn't part. A record is asked for where it doesn't end before
     `start`, and begins before `end`. Each is a datetime, a text as "2024-05-14T03:20", or nanoseconds since 1970.
 
-    RecordError where the archive doesn't end where a record ends, ValueError where nothing can be asked for so. Records
-    that aren't asked for since their start isn't known are told by a warning.
+    RecordError where the archive doesn't end where a record ends, ValueError where a pattern, a time or the window is
+    none. A warning says how many records aren't asked for since their start isn't known.
     """
     data = bytes_of(archive)
     text = _text_of(channels)

@@ -12,7 +12,7 @@ EPOCH = datetime(1970, 1, 1, tzinfo=timezone.utc)
 
 @dataclass(frozen=True, eq=False)
 class Trace:
-    """Samples of one channel, each a sample period behind the one before it."""
+    """Samples of one channel, each a sample period after the one before it."""
 
     network: str
     """The network's code."""
