@@ -2,8 +2,9 @@
 that are constants of the code.
 
 A figure stands between words by which it is known; where its page has these twice, it has the figure twice. The table
-of crates in docs/developing.md has a row for each crate but those of tests and benchmarks; its lines may be off by
-MOST_OFF in the hundred, so that not each line that is added changes the page. Its minutes are those of minutes.txt.
+of crates in docs/developing.md has a row for each crate but those of tests and benchmarks; its functions and lines may
+be off by MOST_OFF in the hundred, so that not each line that is added changes the page. Its minutes are those of
+minutes.txt.
 """
 
 from __future__ import annotations
@@ -20,8 +21,9 @@ TABLE = "docs/developing.md"
 WITHOUT_ROW = ["mseed_tests", "slink_tests", "mseed_bench"]
 MOST_OFF = 5
 MINUTES = re.compile(r"^(\| `(\w+)` \|(?: [\d,]* ?\|){5}) ([\d.]+) \|$", re.MULTILINE)
-ROW = re.compile(r"^(\| `(\w+)` \| \d+) \| ([\d,]*) ?\| ([\d,]*) ?\| ([\d,]*) ?\| (\d*) ?(?=\| [\d.]+ \|$)",
+ROW = re.compile(r"^(\| `(\w+)`) \| ([\d,]+) \| ([\d,]*) ?\| ([\d,]*) ?\| ([\d,]*) ?\| (\d*) ?(?=\| [\d.]+ \|$)",
                  re.MULTILINE)
+FUNCTION = re.compile(r"^ *(?:pub(?:\(crate\))? )?(?:const )?(?:extern \"C\" )?fn \w+", re.MULTILINE)
 
 
 class Figure(NamedTuple):
@@ -86,10 +88,20 @@ def built_first(_: Sources) -> int:
     return len({"mseed", *prove.below("mseed")})
 
 
-def minutes_at_first(_: Sources) -> int:
-    """How many minutes it says at first that it may take, on four cores."""
-    on = {crate: prove.below(crate) for crate in ["mseed", *prove.below("mseed")]}
-    return round(prove.minutes_left({crate: prove.cost_of(crate).minutes for crate in on}, on, 4))
+def minutes_of_first(cores: int) -> Callable[[Sources], int]:
+    """How many minutes it says at first that it may take, on so many cores."""
+
+    def counted(_: Sources) -> int:
+        on = {crate: prove.below(crate) for crate in ["mseed", *prove.below("mseed")]}
+        return round(prove.minutes_left({crate: prove.cost_of(crate).minutes for crate in on}, on, cores))
+
+    return counted
+
+
+def minutes_from(lowest: str) -> Callable[[Sources], int]:
+    """How many minutes of processors a crate and those above it take, by minutes.txt."""
+    return lambda _: round(sum(float(minutes) for crate, minutes in minutes_of().items()
+                               if lowest in {crate, *prove.below(crate)}))
 
 
 def constant_of(path: str, name: str) -> int:
@@ -115,12 +127,17 @@ def size(page: str, before: str, behind: str, path: str, name: str) -> Figure:
 FIGURES = [
     Figure("README.md", "7. ", " wrong bodies", edits),
     Figure("README.md", "the libraries have ", " public calls", calls),
-    Figure("README.md", "Proving and building: about ", " min for", minutes_at_first),
+    Figure("README.md", "Proving and building: about ", " min for", minutes_of_first(4)),
     Figure("README.md", " min for ", " crates.", built_first),
     Figure("docs/developing.md", "everything from nothing, the ", " edits in", in_gate),
     Figure("docs/developing.md", "tries the ", " edits that the gate leaves out", beside),
     Figure("docs/developing.md", "a tenth of the second folder, ", " or ", least_tenth),
     Figure("docs/developing.md", " or ", " edits of up to", most_of_tenth),
+    *(Figure("docs/developing.md", f"| {cores} | ", " |\n", minutes_of_first(cores)) for cores in (2, 4, 8)),
+    Figure("docs/developing.md", "`mseed_files` is proved once: some ", " minutes of processors, by the",
+           minutes_from("mseed_time")),
+    Figure("docs/developing.md", "it is `mseed_audit` and the crates above it, some ", ".",
+           minutes_from("mseed_audit")),
     Figure("docs/DECISIONS.md", "the most of each crate**, ", " of ", in_gate),
     Figure("docs/DECISIONS.md", " of ", "; the others are in `tests/must-fail`", edits),
     size("docs/format.md", "if it has samples, at most ", " a second", "mseed_pack/src/fitting.rt", "FASTEST"),
@@ -140,10 +157,16 @@ def lines_of(crate: str, folder: str, suffix: str) -> int:
                if path.endswith(suffix) and "/tests" not in path)
 
 
+def functions_of(crate: str) -> int:
+    """The functions of a crate's files, without tests."""
+    return sum(len(FUNCTION.findall(text_of(path))) for path in files_below("crates", crate, "src")
+               if path.endswith(".rt") and "/tests" not in path)
+
+
 def row_of(crate: str) -> list[int]:
-    """Lines of code, of definitions and of proofs, and edits."""
-    return [lines_of(crate, "src", ".rt"), lines_of(crate, "specs", ".antt"), lines_of(crate, "proofs", ".antt"),
-            len(edits_of(crate))]
+    """Functions, lines of code, of definitions and of proofs, and edits."""
+    return [functions_of(crate), lines_of(crate, "src", ".rt"), lines_of(crate, "specs", ".antt"),
+            lines_of(crate, "proofs", ".antt"), len(edits_of(crate))]
 
 
 def minutes_of() -> dict[str, str]:
@@ -172,7 +195,7 @@ def judged_rows(sources: Sources, text: str) -> Iterator[Judged]:
     yield Judged(f"{TABLE}: the table of crates", sorted(rows) == wanted, f"has {sorted(rows)}, and not {wanted}")
     for crate, found in rows.items():
         counted = row_of(crate)
-        is_right = found[3] == counted[3] and all(map(is_near, found[:3], counted[:3]))
+        is_right = found[-1] == counted[-1] and all(map(is_near, found[:-1], counted[:-1]))
         yield Judged(f"{TABLE}: the row of {crate}", is_right, f"has {found}, and {counted} are counted")
     measured = minutes_of()
     for _, crate, minutes in MINUTES.findall(text):

@@ -95,11 +95,12 @@ MISQUOTED = [
     ("  pub only : (others : List ℤ) → IsReading v others → others ≡ samples\n", ""),
     ("(../crates/mseed_time/specs/Join.antt)", "(../crates/mseed_time/specs/Rate.antt)"),
 ]
-# A row of a table of crates that is wrong, and one that is right but for some lines.
+# Rows of a table of crates that are wrong, and one that is right but for some lines.
 MISCOUNTED = [
-    ("| `mseed_time` | 63 | 782 | 311 | 754 | 6 |", False),
-    ("| `mseed_time` | 63 | 1,782 | 311 | 754 | 5 |", False),
-    ("| `mseed_time` | 63 | 783 | 310 | 754 | 5 |", True),
+    ("| `mseed_time` | 41 | 794 | 311 | 754 | 6 |", False),
+    ("| `mseed_time` | 63 | 794 | 311 | 754 | 5 |", False),
+    ("| `mseed_time` | 41 | 1,794 | 311 | 754 | 5 |", False),
+    ("| `mseed_time` | 41 | 795 | 310 | 754 | 5 |", True),
 ]
 
 
