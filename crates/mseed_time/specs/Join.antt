@@ -13,8 +13,8 @@ step_of None = pos 0
 step_of (Some Plus) = pos (10 ^ 6)
 step_of (Some Minus) = negsuc 999_999
 
--- By how much the next start misses the instant of the sample behind n others, of which the first began at `start`
--- and with leap seconds that added so many microseconds: in microseconds times num, positive where it is late.
+-- By how much the next start misses the instant of the sample after n others, of which the first is at `start`, and
+-- where leap seconds added so many microseconds: in microseconds times num, positive where it is late.
 abbrev pub drift_of : ℤ → ℕ → Ratio → ℤ → ℤ → ℤ
 drift_of start n rate added next = (next -ℤ start +ℤ added) *ℤ pos rate.num -ℤ pos (n * rate.den * 10 ^ 6)
 

@@ -1,4 +1,4 @@
-//! BTIME, the 10 bytes of a time in a header.
+//! BTIME, the 10 bytes of a time in a header (SEED Reference Manual 2.4, chapter 3).
 ghost use Rattle.std.specs.Prelude.{◌≡◌, ◌<◌, ◌≤◌, ◌*◌, pos, neg_ℤ, ◌+ℤ◌, ◌≤ℤ◌};
 ghost use Rattle.mseed_time.specs.Btime.{IsTime, day_of, days_in_year, shift_of};
 
@@ -22,7 +22,7 @@ const HALF_TICK: u64 = 50;
 /// The days from the calendar's first day to 1900-01-01.
 const FIRST_OF_1900: u32 = 4_346_020;
 
-/// A valid BTIME (SEED manual, chapter 3).
+/// A valid BTIME (SEED Reference Manual 2.4, chapter 3): each field is in its range.
 #[derive(Clone, Copy, Debug, PartialEq, Eq)]
 pub struct Btime {
     /// 1900 to 2100.
@@ -33,9 +33,9 @@ pub struct Btime {
     pub hour: u8,
     /// 0 to 59.
     pub minute: u8,
-    /// 0 to 60. Second 60 names the first second of the next minute.
+    /// 0 to 60. Second 60, a leap second, counts as the first second of the next minute.
     pub second: u8,
-    /// Ten-thousandths of a second.
+    /// Ten-thousandths of a second, 0 to 9999.
     pub fraction: u16,
     /// Each field is in its range.
     pub ghost valid: { IsTime (record {
@@ -55,11 +55,13 @@ impl Btime {
     ghost use Rattle.mseed_time.specs.Btime.{parts_at, first_fault, instant_of, microsecond_of};
     ghost use Rattle.mseed_time.specs.Parts.{parts_of};
 
-    /// Reads a BTIME. The byte at 7 is unused.
+    /// The time that the 10 bytes of a BTIME give, with its 16-bit numbers in this byte order: year, day of the year,
+    /// hour, minute, second, an unused byte, and ten-thousandths of a second (SEED Reference Manual 2.4, chapter 3).
     ///
     /// # Errors
     ///
-    /// The first field, in the order of [`TimeFault`], that is out of its range.
+    /// The first field, in the order of [`TimeFault`], that is out of its range: year 1900 to 2100, day 1 to the
+    /// year's last, hour 0 to 23, minute 0 to 59, second 0 to 60, ten-thousandths 0 to 9999.
     pub fn read(bytes: &[u8; 10], order: Order) -> Result<Btime, TimeFault>
         ensures fields { IfOk result (λ b. parts_of b ≡ parts_at order 0 bytes.now) }
         ensures fault { result_err result ≡ first_fault (parts_at order 0 bytes.now) }
@@ -98,8 +100,9 @@ impl Btime {
         })
     }
 
-    /// The instant of a record that begins at this time: with the time correction, in ten-thousandths of
-    /// a second, where it hasn't been applied yet, and the microseconds of blockette 1001.
+    /// The instant of a record's first sample, whose header has this time: `correction`, in ten-thousandths of a
+    /// second, is added unless it was applied already (activity bit 1), and so are the microseconds of blockette 1001
+    /// (SEED Reference Manual 2.4, chapter 8). Second 60 counts as the first second of the next minute.
     pub fn micros(&self, correction: i32, is_applied: bool, microseconds: i8) -> Micros
         ensures { result ≡ instant_of (parts_of self.now) correction is_applied microseconds }
     {
@@ -107,7 +110,8 @@ impl Btime {
         Micros::within(whole + i64::from(microseconds))
     }
 
-    /// Writes the time as a BTIME, with 0 in the unused byte.
+    /// The 10 bytes of the time as a BTIME, with its 16-bit numbers in this byte order and 0 in the unused byte.
+    /// [`Btime::read`] gives the same time of them.
     pub fn write(&self, order: Order) -> [u8; 10]
         ensures fields { parts_at order 0 result ≡ parts_of self.now }
         ensures unused { slice_index result 7 ≡ 0 }
@@ -120,8 +124,9 @@ impl Btime {
         bytes
     }
 
-    /// The time that is nearest to an instant, the later one of two, and the microseconds from it to the
-    /// instant, -50 to 49. The time's second is never 60.
+    /// The time that is nearest to an instant, the later one of two that are equally near, and the microseconds from
+    /// it to the instant, -50 to 49, as blockette 1001 has them. The time's second is never 60, and no other such pair
+    /// gives the instant.
     ///
     /// # Errors
     ///
@@ -163,7 +168,7 @@ impl Btime {
         }
     }
 
-    /// The microseconds from 1970-01-01T00:00:00 to the time.
+    /// The microseconds from 1970-01-01T00:00:00 to the time, negative before then.
     fn whole(&self) -> i64
         ensures value { result ≡ microsecond_of (parts_of self.now) }
         ensures low { neg_ℤ (pos 2_208_988_800_000_000) ≤ℤ result }
@@ -194,7 +199,7 @@ fn days_since_1900(year: u16) -> u64
     (1461 * (u64::from(year) - 1900)).saturating_sub(1) / 4
 }
 
-/// The year and the day of the year, by the days after 1900-01-01.
+/// The year and the day of the year, 1 January being 1, of the day that is so many after 1900-01-01.
 fn year_and_day(days: u32) -> (u16, u16)
     requires { days < 73_414 }
     ensures low { 1900 ≤ result.0 }
@@ -207,7 +212,7 @@ fn year_and_day(days: u32) -> (u16, u16)
     (date.year.unsigned_abs(), date.day_of_year())
 }
 
-/// The ten-thousandth of a second in which an instant lies, and the microseconds from its middle to the instant.
+/// Of so many microseconds the whole ten-thousandths of a second, and the microseconds that are left less 50: -50 to 49.
 fn ticks_of(microseconds: u64) -> (u64, i8)
     requires { microseconds < 6_342_969_600_000_000 }
     ensures ticks { result.0 < 63_429_696_000_000 }
@@ -218,7 +223,7 @@ fn ticks_of(microseconds: u64) -> (u64, i8)
     (microseconds / 100, (microseconds % 100) as i8 - 50)
 }
 
-/// The microseconds that a time correction adds.
+/// The microseconds that a time correction, in ten-thousandths of a second, adds: none where it was applied already.
 fn shift(correction: i32, is_applied: bool) -> i64
     ensures value { result ≡ shift_of correction is_applied }
     ensures low { neg_ℤ (pos 214_748_364_800) ≤ℤ result }

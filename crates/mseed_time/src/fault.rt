@@ -1,12 +1,13 @@
-//! Why a time is refused.
+//! Why a BTIME is refused, or an instant has none.
 ghost use Rattle.std.specs.Prelude.{◌≡◌};
 
-/// The first field of a BTIME that is out of its range, in the order of the fields.
+/// The first field of a BTIME that is out of its range, in the order of the fields (SEED Reference Manual 2.4,
+/// chapter 3).
 #[derive(Clone, Copy, Debug, PartialEq, Eq)]
 pub enum TimeFault {
     /// Not 1900 to 2100.
     Year,
-    /// Not a day of the year, from 1.
+    /// Not 1 to 365, or to 366 in a leap year.
     Day,
     /// Above 23.
     Hour,
@@ -21,7 +22,7 @@ pub enum TimeFault {
 impl TimeFault {
     ghost use Rattle.mseed_time.specs.Text.{fault_word};
 
-    /// The word for the field, in texts.
+    /// The field's name as it is printed: `year`, `day`, `hour`, `minute`, `second` or `fraction`.
     pub fn word(self) -> &'static str
         ensures { result.now ≡ fault_word self }
     {

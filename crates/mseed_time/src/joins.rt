@@ -9,11 +9,11 @@ use crate::ratio::Ratio;
 /// Microseconds in a second.
 const SECOND: i64 = 1_000_000;
 
-/// How a record that begins at `next` follows one that began at `start` and has `count` samples at this
-/// rate. It meets it where it begins within half a sample period of its end, the half included; else it
-/// is late or early by the whole microseconds between the two. A leap second during the record before
-/// counts at that record's end: the clock shows `next` a second too early after `Plus`, and a second too
-/// late after `Minus`.
+/// Whether a record that begins at `next` meets the end of one that begins at `start` and has `count` samples at this
+/// rate: a record ends one sample period after its last sample. `Meets` where it begins within half a sample period of
+/// that end, the half included; else `Late` or `Early`, by how many microseconds, rounded down. A leap second that
+/// happened during the record before counts at that record's end: the clock shows `next` a second too early after
+/// `Plus`, and a second too late after `Minus`.
 pub fn join(start: Micros, count: u32, rate: Ratio, step: Option<LeapStep>, next: Micros) -> Join
     ensures value { result ≡ join_of start count rate step next }
     ensures meets { (result ≡ Join.Meets) ↔ Joins start count rate step next }
@@ -29,8 +29,9 @@ pub fn join(start: Micros, count: u32, rate: Ratio, step: Option<LeapStep>, next
     }
 }
 
-/// By how much `next` misses the instant of the sample behind `count` others, of which the first began at `start`,
-/// where leap seconds added so many microseconds: in microseconds times the rate's `num`, positive where it is late.
+/// By how much `next` misses the instant of the sample after `count` others, of which the first is at `start`, where
+/// leap seconds added so many microseconds: in microseconds times the rate's `num`, so that it is a whole number;
+/// positive where `next` is late, negative where it is early.
 pub fn drift(start: Micros, count: u64, rate: Ratio, added: i64, next: Micros) -> i128
     requires few { count ≤ 2 ^ 60 }
     requires low { neg_ℤ (pos (2 ^ 61)) ≤ℤ added }
@@ -42,7 +43,7 @@ pub fn drift(start: Micros, count: u64, rate: Ratio, added: i64, next: Micros) -
     scaled(passed(start, added, next), rate.num()) - due(count, rate.den())
 }
 
-/// The microseconds between two starts, where leap seconds added so many.
+/// The microseconds from one start to the next, where leap seconds added so many; negative where the next is earlier.
 fn passed(start: Micros, added: i64, next: Micros) -> i64
     requires low { neg_ℤ (pos (2 ^ 61)) ≤ℤ added }
     requires high { added ≤ℤ pos (2 ^ 61) }
@@ -71,7 +72,8 @@ fn scaled(passed: i64, num: u32) -> i128
     i128::from(passed) * i128::from(num)
 }
 
-/// The microseconds that a leap second adds to the time between two readings of the clock.
+/// The microseconds that a leap second between two readings of the clock adds to the time between them: 10^6 for
+/// `Plus`, -10^6 for `Minus`, 0 for none.
 pub fn step_micros(step: Option<LeapStep>) -> i64
     ensures value { result ≡ step_of step }
     ensures low { neg_ℤ (pos 1_000_000) ≤ℤ result }

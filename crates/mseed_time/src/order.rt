@@ -3,7 +3,7 @@ ghost use Rattle.std.specs.Prelude.{◌≡◌, ◌+◌, ◌<◌, ◌≤◌, ℕ,
 
 use byteorder::{BigEndian, ByteOrder, LittleEndian};
 
-/// The order of the bytes of a number: the most significant first, or the least significant first.
+/// The byte order of the numbers in a header.
 #[derive(Clone, Copy, Debug, PartialEq, Eq)]
 pub enum Order {
     /// The most significant byte first.
@@ -15,7 +15,7 @@ pub enum Order {
 impl Order {
     ghost use Rattle.mseed_time.specs.Fields.{number_at};
 
-    /// The unsigned 16-bit number at an offset.
+    /// The unsigned 16-bit number in the two bytes at an offset, read in this byte order.
     pub fn u16_at(self, bytes: &[u8], offset: usize) -> u16
         requires { offset + 2 ≤ length bytes.now }
         ensures { result ≡ number_at self 2 offset bytes.now }
@@ -26,7 +26,7 @@ impl Order {
         }
     }
 
-    /// Writes an unsigned 16-bit number at an offset.
+    /// Writes an unsigned 16-bit number into the two bytes at an offset, in this byte order. All other bytes stay.
     pub fn put_u16(self, bytes: &mut [u8], offset: usize, number: u16)
         requires { offset + 2 ≤ length bytes.old }
         ensures number { number_at self 2 offset bytes.new ≡ number }

@@ -8,8 +8,9 @@ use crate::ratio::Ratio;
 #[derive(Clone, Copy, Debug, PartialEq, Eq)]
 pub struct NoRate;
 
-/// A sample rate, as its factor and its multiplier stand in the header. Two rates are equal by `==`
-/// where these are, and the same rate by [`Rate::same_as`].
+/// A sample rate, as its factor and its multiplier stand in the header (SEED Reference Manual 2.4, chapter 8, fields 10
+/// and 11), neither of them 0. Two rates are equal by `==` where these are; whether they are the same number of samples
+/// a second is what [`Rate::same_as`] says.
 #[derive(Clone, Copy, Debug, PartialEq, Eq)]
 pub struct Rate {
     /// Samples a second where it is positive, seconds a sample where it is negative.
@@ -25,8 +26,8 @@ pub struct Rate {
 impl Rate {
     ghost use Rattle.mseed_time.specs.Ratios.{ratio_of};
 
-    /// The rate of a factor and a multiplier (SEED manual, chapter 8): what is positive multiplies, and
-    /// what is negative divides.
+    /// The rate of a factor and a multiplier (SEED Reference Manual 2.4, chapter 8, fields 10 and 11), in samples a
+    /// second: their product, where a negative one of them divides by its absolute value in place of multiplying.
     ///
     /// # Errors
     ///
@@ -43,7 +44,7 @@ impl Rate {
         Ok(Rate { factor, multiplier })
     }
 
-    /// The factor and the multiplier, as they stood.
+    /// The factor and the multiplier, as they stand in the header.
     pub fn pair(self) -> (i16, i16)
         ensures factor { result.0 ≡ self.factor }
         ensures multiplier { result.1 ≡ self.multiplier }
@@ -51,14 +52,14 @@ impl Rate {
         (self.factor, self.multiplier)
     }
 
-    /// The rate as a ratio.
+    /// The rate as [`Rate::num`] samples in [`Rate::den`] seconds, not reduced.
     pub fn ratio(self) -> Ratio
         ensures { result ≡ ratio_of self }
     {
         Ratio::within(self.num(), self.den())
     }
 
-    /// How many samples there are in [`Rate::den`] seconds. The two aren't reduced.
+    /// How many samples there are in [`Rate::den`] seconds: 1 to 2^30. The two aren't reduced.
     pub fn num(self) -> u32
         ensures value { result ≡ (ratio_of self).num }
         ensures some { 0 < result }
@@ -67,7 +68,7 @@ impl Rate {
         positive_part(self.factor) * positive_part(self.multiplier)
     }
 
-    /// In how many seconds there are [`Rate::num`] samples.
+    /// In how many seconds there are [`Rate::num`] samples: 1 to 2^30.
     pub fn den(self) -> u32
         ensures value { result ≡ (ratio_of self).den }
         ensures some { 0 < result }
@@ -76,7 +77,7 @@ impl Rate {
         negative_part(self.factor) * negative_part(self.multiplier)
     }
 
-    /// Whether two rates are one, reduced or not.
+    /// Whether both are the same number of samples a second, reduced or not.
     pub fn same_as(self, other: Rate) -> bool
         ensures { IsTrue result ↔ SameRate (ratio_of self) (ratio_of other) }
     {
@@ -96,7 +97,7 @@ fn positive_part(number: i16) -> u32
     }
 }
 
-/// The size of the number where it is negative, else 1.
+/// The absolute value of the number where it is negative, else 1.
 fn negative_part(number: i16) -> u32
     ensures { result ≡ negative_part_of number }
 {

@@ -9,7 +9,7 @@ use jiff_core::civil::Date;
 /// Microseconds in a day.
 const DAY: u64 = 86_400_000_000;
 
-/// The two digits of each number below 100, one number behind another.
+/// The two digits of each number below 100, one number after another.
 static DIGITS: [u8; 200] = *b"\
     00010203040506070809101112131415161718192021222324\
     25262728293031323334353637383940414243444546474849\
@@ -19,7 +19,8 @@ static DIGITS: [u8; 200] = *b"\
 /// The days from the calendar's first day to 1800-01-01.
 const FIRST_OF_1800: u32 = 4_309_496;
 
-/// An instant as text, such as `2024-01-01T00:00:00.000000`.
+/// An instant as 26 bytes of text, such as `2024-01-01T00:00:00.000000`: the date, `T`, and the time of day with its
+/// microseconds.
 #[tactic(auto, unfolding(crate::specs::Text::time_text))]
 pub fn show_time(instant: Micros) -> [u8; 26]
     ensures { result ≡ time_text instant }
@@ -47,7 +48,7 @@ pub fn show_time(instant: Micros) -> [u8; 26]
     ]
 }
 
-/// The year, the month and the day of the month, by the days after 1800-01-01.
+/// The year, the month and the day of the month, both from 1, of the day that is so many after 1800-01-01.
 fn civil_date(day: u64) -> (u32, u32, u32)
     requires { day < 146_097 }
     ensures year { result.0 ≡ year_of day }
@@ -64,7 +65,7 @@ fn civil_date(day: u64) -> (u32, u32, u32)
     )
 }
 
-/// The two digits of a number.
+/// The two digits of a number below 100, in ASCII.
 fn pair(number: u32) -> [u8; 2]
     requires { number < 100 }
     ensures { result ≡ padded_decimal 2 number }
