@@ -1,4 +1,4 @@
--- The records of an archive that are asked for.
+-- The records of some channels, and of a window of time, of an archive that lies in memory.
 use Rattle.std.specs.Prelude.{◌≡◌, ◌≢◌, ◌==◌, ◌≤ℤ◌, ◌<◌, ◌⊎◌, if◌then◌else◌, ℕ, ℤ, List, [], ◌∷◌, length, drop, Option}
 use Rattle.std.specs.Prelude.{Some, None, IsTrue}
 use Rattle.std.specs.List.{count_by}
@@ -32,12 +32,12 @@ asked_by channels w = record {
   until = bound_of w.has_until w.until;
 }
 
--- an end that the window has is no instant
+-- the window has an end that is no instant
 abbrev pub HasNoInstant : Window → Type 0
 HasNoInstant w =
     ((w.has_from ≢ 0) × ¬ (IsInstant w.from)) ⊎ ((w.has_until ≢ 0) × ¬ (IsInstant w.until))
 
--- the window's end isn't behind its begin
+-- the window has both ends, and its end isn't after its beginning
 abbrev pub IsEmptyWindow : Window → Type 0
 IsEmptyWindow w = (w.has_from ≢ 0) × (w.has_until ≢ 0) × (w.until ≤ℤ w.from)
 
@@ -51,7 +51,7 @@ pub record AreSelected (s : Selection) (bytes old new : List ℕ) (r : Selected)
   pub asked_for : r.asked_for ≡ count_by (asks_for s) views
   pub without_time : r.without_time ≡ count_by (lacks_time s) views
 
--- by the code: all bytes were gone through, or there's a reason why no more were, with its number
+-- by the code: all bytes were read, or there's a reason why no more were, with its number
 pub data IsSelectEnd (bytes : List ℕ) (r : Selected) : ℕ → Type 0 where
   at_end : r.offset ≡ length bytes → r.needed ≡ 0 → IsSelectEnd bytes r 0
   stopped : (stop : Stop) → r.offset < length bytes → IsStopAt (drop r.offset bytes) stop → r.needed ≡ needed_by stop

@@ -1,4 +1,4 @@
--- What an audit of an archive that lies in memory answers.
+-- What an audit of an archive that lies in memory returns and writes.
 use Rattle.std.specs.Prelude.{◌≡◌, ℕ, true, nat_lt, if◌then◌else◌, List, [], ◌++◌, length}
 use Rattle.mseed_stream.specs.Device.{BytesRead}
 use Rattle.mseed_audit.specs.Summary.{Audited, IsSummary, text_of}
@@ -16,7 +16,7 @@ pub record IsReadOf (bytes : List ℕ) (h : BytesRead) : Type 0 where
   pub at_end : h.is_at_end ≡ true → rest ≡ []
   pub fine : h.failures ≡ 0
 
--- the status that the command answers: 2 for a fault, 1 where some channel is broken, else 0
+-- the status of the command: 2 for a fault, 1 where some channel is broken, else 0
 abbrev pub status_of : Summary → ℕ
 status_of s = if s.fault then 2 else (if nat_lt 0 s.broken then 1 else 0)
 
@@ -28,7 +28,7 @@ totals_of s size = record { records = s.records; channels = s.channels; broken =
 abbrev pub SaysAudit : BytesRead → Summary → List ℕ → Type 0
 SaysAudit h s text = (a : Audited h) × (IsSummary s a × (text ≡ text_of a))
 
--- the same, behind a line for each record with a finding
+-- the same, after a line for each record with a finding
 abbrev pub SaysEach : BytesRead → Summary → List ℕ → Type 0
 SaysEach h s text = (a : AuditedEach h) × (IsSummary s a.audited × (text ≡ each_text a))
 

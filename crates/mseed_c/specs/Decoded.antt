@@ -22,14 +22,14 @@ IsStopAt bytes (Short k) = Decides bytes (Need k) × Needs bytes k
 IsStopAt bytes (Not fault) = Decides bytes (Refused fault) × HasNoRecord bytes
 
 -- The samples stand at the beginning of the places, and they are the record's one reading, which ends on its constant.
--- What lies behind the places of as many samples as the record has stays.
+-- What lies after the places of as many samples as the record has stays.
 pub record IsFilled (v : View) (old new : List ℤ) (n : ℕ) : Type 0 where
   pub count : n ≡ count_of v
   pub fits : n ≤ length new
   pub whole : 0 < n → IsWhole v (take n new)
   pub behind : drop n new ≡ drop n old
 
--- Or why there are none: with a fault of the record, what its places hold is open, and what lies behind them stays;
+-- Or why there are none: with a fault of the record, what its places hold is open, and what lies after them stays;
 -- where there's no room for them, all stays.
 abbrev pub IsTaken : View → List ℤ → List ℤ → Result ℕ SampleFault → Type 0
 IsTaken v old new (Ok n) = IsFilled v old new n

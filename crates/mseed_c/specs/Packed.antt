@@ -1,4 +1,4 @@
--- What packing a series that lies in memory answers.
+-- What packing a series that lies in memory returns and writes.
 use Rattle.std.specs.Prelude.{◌≡◌, ℕ, ℤ, List, length}
 use Rattle.std.specs.List.{concat}
 use Rattle.mseed_audit.specs.Series.{Trace}

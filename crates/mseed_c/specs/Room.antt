@@ -1,4 +1,4 @@
--- What a room holds behind a call.
+-- What a room holds after a call.
 use Rattle.std.specs.Prelude.{ℕ, List, ◌++◌, length, take, drop}
 
 -- the bytes, as many of them as there is room for, over what lay in the room

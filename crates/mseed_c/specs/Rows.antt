@@ -80,7 +80,7 @@ pub record IsRow (bytes : List ℕ) (filled : ℕ) (out : List ℤ) (row : Row) 
 abbrev pub filled_by : Row → ℕ
 filled_by row = if row.code == 0 then row.samples else 0
 
--- The records of the rows stand one behind another from an offset on, and their samples from a place on; where the next
+-- The records of the rows stand one after another from an offset on, and their samples from a place on; where the next
 -- ones would begin.
 abbrev pub ArePlaced : ℕ → ℕ → List Row → ℕ → ℕ → Type 0
 ArePlaced offset place [] next filled = (offset ≡ next) × (place ≡ filled)
@@ -89,7 +89,7 @@ ArePlaced offset place (row ∷ rows) next filled =
     × ArePlaced (offset + row.length) (place + filled_by row) rows next filled
 
 -- So many rows were written of the records from an offset on, and of each row this is so, where so many samples are
--- counted. Rows behind them stay.
+-- counted. Rows after them stay.
 pub record IsWalk (Is : ℕ → Row → Type 0) (bytes : List ℕ) (offset : ℕ) (old rows : List Row) (p : Progress)
     : Type 0 where
   pub counted : p.rows ≤ length rows
@@ -129,7 +129,7 @@ EndsWalk (Room places) bytes rows room p = (p.rows < rows) × LacksPlaces bytes 
 EndsWalk (Short k) bytes rows room p = (p.rows < rows) × IsStopAt (drop p.offset bytes) (Short k)
 EndsWalk (Not fault) bytes rows room p = (p.rows < rows) × IsStopAt (drop p.offset bytes) (Not fault)
 
--- by the code: all bytes were gone through, or there's a reason why no more were, with its number
+-- by the code: all bytes were read, or there's a reason why no more were, with its number
 pub data IsEnd (bytes : List ℕ) (rows room : ℕ) (p : Progress) : ℕ → Type 0 where
   at_end : p.offset ≡ length bytes → p.needed ≡ 0 → IsEnd bytes rows room p 0
   stopped : (stop : Stop) → p.offset < length bytes → EndsWalk stop bytes rows room p → p.needed ≡ needed_by stop

@@ -14,33 +14,36 @@ use mseed_join::audit_part;
 use mseed_stream::{Counted, Sink, Source};
 use std::alloc::Global;
 
-/// What an audit tells in numbers.
+/// The counts of an audit, and the length of its text.
 #[repr(C)]
 #[derive(Clone, Copy)]
 pub struct Totals {
-    /// The records, silent ones too.
+    /// How many records were read, those without samples too.
     pub records: u64,
-    /// The channels with samples.
+    /// How many channels have samples.
     pub channels: u64,
-    /// Those of them that are broken.
+    /// How many of these channels are broken.
     pub broken: u64,
-    /// The length of the whole text, in bytes.
+    /// The length of the whole text in bytes, also where the room was shorter.
     pub length: usize,
 }
 
-/// A text about an archive.
+/// Which text about an archive is written.
 #[derive(Clone, Copy)]
 pub(crate) enum Text {
-    /// The audit.
+    /// That of `mseed audit`.
     Audit,
-    /// The same, behind a line for each record with a finding.
+    /// That of `mseed audit --each`: a line for each record with a finding, and then the audit.
     Each,
-    /// The archive's part.
+    /// That of `mseed audit --part`: the archive's part, which `mseed join` reads.
     Part,
 }
 
-/// The audit of an archive that lies in memory: the status of `mseed audit`, or 3 where memory was refused. The text is
-/// written into the room, as much of it as there is room for; how long the whole of it is, is reported.
+/// Audits an archive that lies in memory. The text of `mseed audit` is written into the room, as much of it as there is
+/// room for; what lies after it stays. `totals` gets the counts, and the length of the whole text.
+///
+/// Returns the status of `mseed audit`: 0 where each channel is continuous, 1 where some channel is broken, 2 where the
+/// archive doesn't end where a record ends. Returns 3 where memory was refused: then nothing is written.
 #[unsafe(no_mangle)]
 pub extern "C" fn mseed_audit(
     alloc: Global,
@@ -54,7 +57,11 @@ pub extern "C" fn mseed_audit(
     show_text(Text::Audit, alloc, bytes, room, totals)
 }
 
-/// The same with a line for each record with a finding before the text, as `mseed audit --each` writes it.
+/// Audits an archive that lies in memory, with the text of `mseed audit --each`: before the lines of [`mseed_audit`]
+/// stands a line for each record with a finding. The text is written into the room, as much of it as there is room for;
+/// what lies after it stays. `totals` gets the counts, and the length of the whole text.
+///
+/// Returns the status, as [`mseed_audit`] does, or 3 where memory was refused: then nothing is written.
 #[unsafe(no_mangle)]
 pub extern "C" fn mseed_audit_each(
     alloc: Global,
@@ -68,7 +75,11 @@ pub extern "C" fn mseed_audit_each(
     show_text(Text::Each, alloc, bytes, room, totals)
 }
 
-/// The same with the archive's part in place of the text, as `mseed audit --part` writes it.
+/// Makes the part of an archive that lies in memory, the text of `mseed audit --part`, from which `mseed join` makes
+/// the audit of several archives. The text is written into the room, as much of it as there is room for; what lies
+/// after it stays. `totals` gets the counts, and the length of the whole text.
+///
+/// Returns the status of the audit, as [`mseed_audit`] does, or 3 where memory was refused: then nothing is written.
 #[unsafe(no_mangle)]
 pub extern "C" fn mseed_part(
     alloc: Global,
@@ -82,7 +93,8 @@ pub extern "C" fn mseed_part(
     show_text(Text::Part, alloc, bytes, room, totals)
 }
 
-/// Writes a text about an archive that lies in memory into a room, tells its totals, and answers the status.
+/// Writes a text about an archive that lies in memory into a room, and its counts into `totals`. Returns the status, or
+/// 3 where memory was refused: then nothing is written.
 fn show_text(text: Text, alloc: Global, bytes: &[u8], room: &mut [u8], totals: &mut Totals) -> u32
     ensures shown { result ≢ 3 → IsShown (says_of text) bytes.now room.old room.new totals.new result }
     ensures refused { result ≡ 3 → Stays room.old room.new totals.old totals.new }
@@ -95,8 +107,8 @@ fn show_text(text: Text, alloc: Global, bytes: &[u8], room: &mut [u8], totals: &
     }
 }
 
-/// Writes a text about the archive that a source tells, and answers its numbers; or none, where memory was refused or
-/// the output failed.
+/// Writes a text about the archive that a source gives. Returns its summary, or none where memory was refused or the
+/// output failed.
 fn write_text<R: Source, W: Sink>(
     text: Text,
     alloc: Global,
@@ -118,7 +130,7 @@ fn write_text<R: Source, W: Sink>(
     }
 }
 
-/// Writes a text into a room, tells its totals, and answers the status.
+/// Writes a text into a room, and its counts into `totals`. Returns the status.
 fn show(text: &[u8], summary: &Summary, room: &mut [u8], totals: &mut Totals) -> u32
     ensures room { room.new ≡ overwritten text.now room.old }
     ensures totals { totals.new ≡ totals_of summary.now (length text.now) }
@@ -129,7 +141,7 @@ fn show(text: &[u8], summary: &Summary, room: &mut [u8], totals: &mut Totals) ->
     status_of(summary)
 }
 
-/// The numbers of a summary, and the length of the whole text.
+/// The counts of a summary, with the length of the whole text.
 fn totals_of(summary: &Summary, length: usize) -> Totals
     ensures { result ≡ totals_of summary.now length }
 {
@@ -141,7 +153,7 @@ fn totals_of(summary: &Summary, length: usize) -> Totals
     }
 }
 
-/// The status of an audit.
+/// The status of an audit: 2 at a fault, else 1 where some channel is broken, else 0.
 fn status_of(summary: &Summary) -> u32
     ensures { result ≡ status_of summary.now }
 {

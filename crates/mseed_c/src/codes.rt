@@ -1,4 +1,4 @@
-//! What a call answers, as a code, and the numbers that belong to it.
+//! What a call returns, as a code, and the numbers that belong to it.
 ghost use Rattle.std.specs.Prelude.{◌≡◌};
 ghost use Rattle.mseed_c.specs.Codes.{code_of, code_of_frame, code_of_read, code_of_refusal};
 ghost use Rattle.mseed_c.specs.Codes.{code_of_misfit, code_of_stop, detail_of, index_of, detail_of_read};
@@ -8,41 +8,41 @@ use mseed_pack::{BadOption, PackFault};
 use mseed_record::FrameFault;
 use mseed_steim::ReadFault;
 
-/// Memory was refused.
+/// The code of memory that was refused.
 pub(crate) const MEMORY: u32 = 3;
 
-/// Why no record more is read.
+/// Why no further record is read.
 #[derive(Clone, Copy)]
 pub enum Stop {
-    /// There's no place left for a row.
+    /// No row is left to be written to.
     Rows,
-    /// So many places are needed for the record's samples.
+    /// The next record has so many samples, and there are fewer places.
     Room(usize),
-    /// So many bytes are needed before it is known what begins them.
+    /// So many bytes are needed, from the next record's first one on, before it is known whether they begin a record.
     Short(usize),
-    /// No record begins the bytes.
+    /// The next bytes begin no record, whatever follows them.
     Not(FrameFault),
 }
 
 /// Why a record at the beginning of some bytes gives no samples.
 #[derive(Clone, Copy)]
 pub enum SampleFault {
-    /// It has no reading.
+    /// Its samples can't be read.
     Read(ReadFault),
-    /// There's no record, or no room for its samples.
+    /// The bytes begin no record, or there is no room for its samples.
     Stop(Stop),
 }
 
 /// Why a heading is refused: the first reason that applies, in this order.
 #[derive(Clone, Copy)]
 pub enum Refusal {
-    /// A length, an encoding or a sequence number that can't be.
+    /// No record is written with this length or encoding, or the sequence number is above 999,999.
     Option(BadOption),
-    /// The factor or the multiplier is 0.
+    /// The rate's factor or multiplier is 0.
     Rate,
     /// The start isn't in the years 1800 to 2199.
     Start,
-    /// A leap second of no kind, or behind none of the samples.
+    /// The leap second is of no kind, or stands after none of the samples.
     Leap,
 }
 
@@ -50,17 +50,17 @@ pub enum Refusal {
 #[repr(C)]
 #[derive(Clone, Copy)]
 pub struct Detail {
-    /// How many samples were filled in, how many bytes or places are needed, or the first number of a reason.
+    /// How many samples were written, how many bytes or places are needed, or the first number of the reason; else 0.
     pub first: u64,
-    /// The second number of a reason.
+    /// Of a bad word its place in the frame, 1 to 15; else 0.
     pub second: u64,
-    /// The last sample.
+    /// Of a last sample that isn't the record's constant, the sample; else 0.
     pub found: i32,
-    /// The payload's constant for it.
+    /// Of such a last sample, the constant Xn; else 0.
     pub constant: i32,
 }
 
-/// The code of an answer.
+/// The code of what decoding a record came to: 0 where its samples were written.
 pub(crate) fn code_of(answer: &Result<usize, SampleFault>) -> u32
     ensures { result ≡ code_of answer.now }
 {
@@ -71,7 +71,7 @@ pub(crate) fn code_of(answer: &Result<usize, SampleFault>) -> u32
     }
 }
 
-/// The numbers of an answer.
+/// The numbers that belong to that code.
 pub(crate) fn detail_of(answer: &Result<usize, SampleFault>) -> Detail
     ensures { result ≡ detail_of answer.now }
 {
@@ -82,7 +82,7 @@ pub(crate) fn detail_of(answer: &Result<usize, SampleFault>) -> Detail
     }
 }
 
-/// The code of a stop.
+/// The code of why no further record is read.
 pub(crate) fn code_of_stop(stop: Stop) -> u32
     ensures { result ≡ code_of_stop stop }
 {
@@ -94,7 +94,7 @@ pub(crate) fn code_of_stop(stop: Stop) -> u32
     }
 }
 
-/// How many places or bytes a stop asks for, or the number of its reason.
+/// How many places or bytes are needed to go on; of a length that no record has, its exponent; else 0.
 pub(crate) fn needed_by(stop: Stop) -> usize
     ensures { result ≡ needed_by stop }
 {
@@ -107,7 +107,7 @@ pub(crate) fn needed_by(stop: Stop) -> usize
     }
 }
 
-/// The code of bytes that begin no record.
+/// The code of bytes that begin no record, 16 to 22.
 fn code_of_frame(fault: FrameFault) -> u32
     ensures { result ≡ code_of_frame fault }
 {
@@ -122,7 +122,7 @@ fn code_of_frame(fault: FrameFault) -> u32
     }
 }
 
-/// The code of a record without a reading.
+/// The code of why a record's samples can't be read, 32 to 39, or 3.
 pub(crate) fn code_of_read(fault: ReadFault) -> u32
     ensures { result ≡ code_of_read fault }
 {
@@ -139,7 +139,7 @@ pub(crate) fn code_of_read(fault: ReadFault) -> u32
     }
 }
 
-/// The numbers of a record without a reading.
+/// The numbers of why a record's samples can't be read.
 fn detail_of_read(fault: ReadFault) -> Detail
     ensures { result ≡ detail_of_read fault }
 {
@@ -163,7 +163,7 @@ fn detail_of_read(fault: ReadFault) -> Detail
     }
 }
 
-/// One number.
+/// A detail of one number, with 0 for the others.
 fn number(first: usize) -> Detail
     ensures { result ≡ number first }
 {
@@ -175,7 +175,7 @@ fn number(first: usize) -> Detail
     }
 }
 
-/// The code of a heading that is refused.
+/// The code of why a heading is refused, 64 to 69.
 pub(crate) fn code_of_refusal(refusal: Refusal) -> u32
     ensures { result ≡ code_of_refusal refusal }
 {
@@ -189,7 +189,7 @@ pub(crate) fn code_of_refusal(refusal: Refusal) -> u32
     }
 }
 
-/// The code of a series that can't be packed. There is no sink that could fail.
+/// The code of why a series can't be packed, 48 to 52. There is no sink that could fail.
 pub(crate) fn code_of_misfit(fault: PackFault) -> u32
     ensures { result ≡ code_of_misfit fault }
 {
@@ -203,7 +203,7 @@ pub(crate) fn code_of_misfit(fault: PackFault) -> u32
     }
 }
 
-/// Which sample a misfit names; 0 where it names none.
+/// The index of the first sample that the encoding doesn't hold, where that is the reason; else 0.
 pub(crate) fn index_of(fault: PackFault) -> usize
     ensures { result ≡ index_of fault }
 {

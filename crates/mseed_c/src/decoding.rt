@@ -9,11 +9,11 @@ use crate::codes::{Detail, SampleFault, Stop, code_of, detail_of};
 use mseed_record::{RecordView, ViewFault};
 use mseed_steim::fill_samples;
 
-/// The record that begins the bytes.
+/// A view of the record with which the bytes begin.
 ///
 /// # Errors
 ///
-/// Why none does.
+/// Why they begin none, or how many bytes are needed before that is known.
 pub(crate) fn view_at(bytes: &[u8]) -> Result<RecordView<'_>, Stop>
     ensures first { IfOk result (λ view. IsFirst bytes.now (view_of view)) }
     ensures stop { IfErr result (λ stop. IsStopAt bytes.now stop) }
@@ -25,7 +25,12 @@ pub(crate) fn view_at(bytes: &[u8]) -> Result<RecordView<'_>, Stop>
     }
 }
 
-/// Fills in the samples of a record, and answers how many.
+/// Writes the samples of a record to the first places of `out`, and returns how many there are.
+///
+/// # Errors
+///
+/// `Stop` with [`Stop::Room`] where there are fewer places than samples: then nothing is written. `Read` where the
+/// samples can't be read: then as many places as it has samples may have been written to.
 pub(crate) fn fill(view: &RecordView<'_>, out: &mut [i32]) -> Result<usize, SampleFault>
     ensures { IsTaken (view_of view.now) out.old out.new result }
 {
@@ -42,7 +47,8 @@ pub(crate) fn fill(view: &RecordView<'_>, out: &mut [i32]) -> Result<usize, Samp
     }
 }
 
-/// Fills in the samples of the record at the beginning of the bytes, and answers how many.
+/// Writes the samples of the record with which the bytes begin to the first places of `out`, and returns how many there
+/// are, or why there are none.
 fn decode(bytes: &[u8], out: &mut [i32]) -> Result<usize, SampleFault>
     ensures { IsDecoded bytes.now out.old out.new result }
 {
@@ -52,8 +58,11 @@ fn decode(bytes: &[u8], out: &mut [i32]) -> Result<usize, SampleFault>
     }
 }
 
-/// The samples of the record at the beginning of the bytes: 0, or the code of why there are none. How many there are,
-/// or the numbers of the reason, are reported.
+/// Writes the samples of the record with which the bytes begin to the first places of `out`; places after as many as
+/// the record has samples stay. `reported` gets how many there are, or the numbers of the reason why there are none.
+///
+/// Returns 0, or the code of why there are none: 5 where there are fewer places than samples, 6 where more bytes are
+/// needed, 16 to 22 where the bytes begin no record, 32 to 39 where its samples can't be read.
 #[unsafe(no_mangle)]
 pub extern "C" fn mseed_samples(bytes: &[u8], out: &mut [i32], reported: &mut Detail) -> u32
     ensures { (answer : Result ℕ SampleFault) × (IsDecoded bytes.now out.old out.new answer

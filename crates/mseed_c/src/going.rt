@@ -16,17 +16,18 @@ use mseed_record::RecordView;
 #[repr(C)]
 #[derive(Clone, Copy)]
 pub struct Progress {
-    /// The rows that were written.
+    /// How many rows were written.
     pub rows: usize,
-    /// Where the next record begins.
+    /// Where the next record begins, in bytes from the beginning of the archive.
     pub offset: usize,
-    /// The samples that were read.
+    /// How many samples of these rows were written; by `mseed_rows`, how many their records say that they have.
     pub filled: usize,
-    /// How many bytes or places more is read with, or the number of the reason why no more is.
+    /// How many bytes, from there on, or places for samples are needed to go on; of a length that no record has, its
+    /// exponent; else 0.
     pub needed: usize,
 }
 
-/// What becomes of the samples of the records that are gone through.
+/// What is done with the samples of each record: they are written, or only counted.
 pub(crate) trait Places {
     // What is so of a row of some bytes, where so many samples are counted and the places hold these.
     ghost is_row: { List ℕ → ℕ → List ℤ → Row → Type 0 };
@@ -34,8 +35,12 @@ pub(crate) trait Places {
     // How many samples can be counted, where there are so many places.
     ghost room: { ℕ → ℕ };
 
-    /// Takes the samples of a record behind so many that are counted. Answers how many then are, and 0 or the code of
-    /// why it has none; or, where there is no room for them, how many it has.
+    /// Takes the samples of a record, after `filled` of the records before it. Returns how many there are then in all,
+    /// and 0, or the code of why the record has none.
+    ///
+    /// # Errors
+    ///
+    /// How many samples the record has, where there is no room for them: then nothing is changed.
     fn take(view: &RecordView<'_>, out: &mut [i32], filled: usize) -> Result<(usize, u32), usize>
         requires { filled ≤ room (length out.old) }
         ensures taken { IfOk result (λ r. TakesOn is_row (view_of view.now) filled r.0 r.1 out.old out.new) }
@@ -44,7 +49,11 @@ pub(crate) trait Places {
         ensures full { IfErr result (λ places. HasNoRoom (view_of view.now) (room (length out.new)) filled places) };
 }
 
-/// Writes the row of one record more, and takes its samples.
+/// Writes the row of the next record, takes its samples, and goes past it.
+///
+/// # Errors
+///
+/// Why there is no next record, or how many places its samples need: then `progress` stays.
 fn row_next<P: Places>(
     bytes: &[u8],
     rows: &mut [Row],
@@ -75,7 +84,8 @@ fn row_next<P: Places>(
     Ok(())
 }
 
-/// Writes rows as long as there are records and places for them, and answers why no more are written.
+/// Writes rows as long as there are records, and rows to write to. Returns why no more are written; none at the end of
+/// the archive.
 fn rows_on<P: Places>(
     bytes: &[u8],
     rows: &mut [Row],
@@ -106,8 +116,8 @@ fn rows_on<P: Places>(
     }
 }
 
-/// The rows of the records of an archive from an offset on. How far it was gone through is reported. The answer is 0 at
-/// the end of the bytes, and else the code of why it stopped.
+/// Writes a row for each record of an archive from an offset on, and takes their samples. `progress` says how far the
+/// archive was read. Returns 0 at the end of the archive, else the code of why it stopped.
 pub(crate) fn go_through<P: Places>(
     bytes: &[u8],
     offset: usize,

@@ -12,27 +12,27 @@ use mseed_time::{LeapStep, Micros, Rate};
 #[repr(C)]
 #[derive(Clone, Copy)]
 pub struct Heading {
-    /// The instant of the first sample, in microseconds since 1970.
+    /// The instant of the first sample, in microseconds from 1970-01-01T00:00:00.
     pub start: i64,
-    /// How many samples stand before the leap second, where there is one.
+    /// How many samples stand before the leap second, 1 to all; not read where `leap` is 0.
     pub leap_after: u64,
     /// The sequence number of the first record: 0 to 999,999.
     pub sequence: u32,
-    /// The length of a record: 128, 256, 512, 1024, 2048 or 4096 bytes.
+    /// The length of each record in bytes: 128, 256, 512, 1024, 2048 or 4096.
     pub length: u16,
-    /// The factor of the rate.
+    /// The factor of the sample rate, not 0 (SEED Reference Manual 2.4, chapter 8, field 10).
     pub factor: i16,
-    /// The multiplier of the rate.
+    /// The multiplier of the sample rate, not 0 (chapter 8, field 11).
     pub multiplier: i16,
-    /// How the samples are encoded: 1, 3, 10 or 11.
+    /// How the samples are encoded: 1 and 3 are integers of 16 and 32 bits, 10 is Steim-1, 11 Steim-2.
     pub encoding: u8,
     /// The leap second: 0 for none, 1 for one that was inserted, 2 for one that was left out.
     pub leap: u8,
-    /// The network, station, location and channel, 2, 5, 2 and 3 bytes.
+    /// The network, station, location and channel, 2, 5, 2 and 3 bytes, each filled with spaces.
     pub key: [u8; 12],
 }
 
-/// The power of two that a record's length is; 0 for a length that no record has.
+/// The exponent e of a length of 2^e bytes; 0 for a length that isn't written.
 fn exponent_of(length: u16) -> u8
     ensures { result ≡ exponent_of length }
 {
@@ -47,7 +47,7 @@ fn exponent_of(length: u16) -> u8
     }
 }
 
-/// What a heading says.
+/// The values that a heading gives, each within its range.
 #[derive(Clone, Copy)]
 pub(crate) struct Parts {
     pub(crate) options: Options,
@@ -56,7 +56,8 @@ pub(crate) struct Parts {
     pub(crate) step: Option<(u64, LeapStep)>,
 }
 
-/// The leap second of a heading with so many samples, if there's one; nothing where it can't be.
+/// The leap second of a heading, if it has one, with how many of so many samples stand before it; none where it is of
+/// no kind, or stands after none of the samples.
 fn leap_of(heading: &Heading, samples: usize) -> Option<Option<(u64, LeapStep)>>
     ensures some { IfSome result (λ step. HasLeap heading.now samples (steps_of step)) }
     ensures none { IfNone result ((steps : List (ℕ × LeapStep)) → HasLeap heading.now samples steps → ⊥) }
@@ -76,11 +77,11 @@ fn leap_of(heading: &Heading, samples: usize) -> Option<Option<(u64, LeapStep)>>
     Some(Some((place, step)))
 }
 
-/// What a heading says of so many samples.
+/// The values that a heading gives for so many samples.
 ///
 /// # Errors
 ///
-/// The first reason why it's refused.
+/// Why it is refused: the first reason that applies, in the order of [`Refusal`].
 pub(crate) fn parts_of(heading: &Heading, samples: usize) -> Result<Parts, Refusal>
     ensures parts { IfOk result (λ parts. AreParts heading.now samples parts) }
     ensures refused { IfErr result (λ refusal. IsRefusedFor heading.now samples refusal) }

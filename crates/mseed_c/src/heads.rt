@@ -6,7 +6,7 @@ use crate::going::{Places, Progress, go_through};
 use crate::row::Row;
 use mseed_record::RecordView;
 
-/// Samples that are counted alone.
+/// The samples are counted, and not read.
 struct Counted;
 
 impl Places for Counted {
@@ -23,8 +23,11 @@ impl Places for Counted {
     }
 }
 
-/// The rows of the records of an archive from an offset on, without their samples. How far it was gone through is
-/// reported. The answer is 0 at the end of the bytes, and else the code of why it stopped.
+/// Writes a row for each record of an archive from an offset on, without reading their samples; rows after those that
+/// are written stay. `progress` says how far the archive was read.
+///
+/// Returns 0 at the end of the archive, else the code of why it stopped: 4 where no row is left, 6 where more bytes are
+/// needed, 16 to 22 where the next bytes begin no record.
 #[unsafe(no_mangle)]
 pub extern "C" fn mseed_rows(
     bytes: &[u8],

@@ -4,7 +4,8 @@ ghost use Rattle.mseed_stream.specs.Device.{nothing_read};
 
 use mseed_stream::{Failed, Source, Tally};
 
-/// Bytes that lie in memory, as a [`Source`] that lends all of them. No read fails.
+/// Bytes that lie in memory, as a [`Source`] that lends all that are left of them, so that none is copied. No read
+/// fails.
 #[derive(Drop)]
 pub struct Lent<'a> {
     bytes: &'a [u8],
@@ -15,7 +16,7 @@ pub struct Lent<'a> {
 impl<'a> Lent<'a> {
     ghost use Rattle.mseed_c.specs.Lent.{read_by, left_of};
 
-    /// The bytes, of which nothing was called yet.
+    /// These bytes as a source, of which none was read yet.
     pub fn new(bytes: &'a [u8]) -> Lent<'a>
         ensures read { read_by result ≡ nothing_read }
         ensures left { left_of result ≡ Some bytes.now }

@@ -1,7 +1,8 @@
-//! `mseed` for C: the records of an archive that lies in memory, with their samples, its audit, its part, and packing.
+//! `mseed` for C: the records of a miniSEED archive that lies in memory, with their samples, its audit, its part, the
+//! records of some channels and a window of time, and packing (SEED Reference Manual 2.4).
 //!
-//! Each call answers a code, writes what belongs to it into places that its caller lends, and keeps no state. What the
-//! codes mean is stated in `specs/Codes`; `include/mseed.h` declares the calls for C.
+//! Each call returns a code, writes its results into memory that its caller lends, and keeps no state. The codes are
+//! defined in `specs/Codes`; `include/mseed.h` declares the calls for C.
 #![tactic(auto)]
 
 mod auditing;

@@ -12,18 +12,23 @@ use mseed_pack::{Options, SeriesView, fit_view, pack_into};
 use mseed_record::Codes;
 use mseed_time::LeapStep;
 
-/// What packing tells.
+/// What packing came to.
 #[repr(C)]
 #[derive(Clone, Copy)]
 pub struct Packed {
-    /// The number of records.
+    /// How many records the series is packed into; 0 where it doesn't fit.
     pub records: u64,
-    /// The index of the sample that isn't held, where that's the reason why there are none.
+    /// The index of the first sample that the encoding doesn't hold, or whose difference from the one before it
+    /// doesn't; 0 where there is none.
     pub index: usize,
 }
 
-/// Packs a series into records, of which as many bytes are written into the room as it has; how many records there are,
-/// is reported. The answer is 0, or the code of why there are none: then nothing is written.
+/// Packs a series into records of the heading's length, each with blockettes 1000 and 1001, big-endian (SEED Reference
+/// Manual 2.4, chapter 8). The room gets as many bytes of them as it has; what lies after them stays. `reported` gets
+/// how many records there are in all.
+///
+/// Returns 0, or the code of why there are none: 64 to 69 where the heading is refused, and then `reported` stays; 48
+/// to 52 where the series can't be packed. Nothing is written then, and no memory is ever requested.
 #[unsafe(no_mangle)]
 pub extern "C" fn mseed_pack(
     heading: &Heading,
@@ -39,7 +44,7 @@ pub extern "C" fn mseed_pack(
     }
 }
 
-/// Packs the series of a heading that was read.
+/// Packs the series of a heading whose values are known, and returns the code.
 fn pack_parts(
     heading: &Heading,
     parts: &Parts,
@@ -56,7 +61,7 @@ fn pack_parts(
     }
 }
 
-/// The same with these leap seconds.
+/// Packs the series of a heading whose values are known, with these leap seconds, and returns the code.
 fn pack_steps(
     heading: &Heading,
     parts: &Parts,
@@ -79,7 +84,7 @@ fn pack_steps(
     pack_series(&series, &parts.options, room, reported)
 }
 
-/// Packs a series.
+/// Packs a series by these options, and returns 0 or the code of why it can't be packed.
 fn pack_series(
     series: &SeriesView,
     options: &Options,

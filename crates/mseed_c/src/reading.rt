@@ -10,7 +10,7 @@ use crate::going::{Places, Progress, go_through};
 use crate::row::Row;
 use mseed_record::RecordView;
 
-/// Samples that are kept in the places.
+/// The samples are written to the caller's places, one record's after another's.
 struct Kept;
 
 impl Places for Kept {
@@ -26,8 +26,11 @@ impl Places for Kept {
     }
 }
 
-/// Fills in a record's samples from a place on, and answers how many, and 0 or the code of why there are none; or how
-/// many places are needed.
+/// Writes a record's samples from a place on. Returns how many, and 0, or the code of why there are none.
+///
+/// # Errors
+///
+/// How many samples the record has, where there are fewer places: then nothing is written.
 fn fill_row(view: &RecordView<'_>, out: &mut [i32], place: usize) -> Result<(usize, u32), usize>
     requires { place ≤ length out.old }
     ensures prefix { take place out.new ≡ take place out.old }
@@ -43,8 +46,13 @@ fn fill_row(view: &RecordView<'_>, out: &mut [i32], place: usize) -> Result<(usi
     }
 }
 
-/// The records of an archive from an offset on: a row each, and their samples one behind another. How far it was read
-/// is reported. The answer is 0 at the end of the bytes, and else the code of why it stopped.
+/// Reads the records of an archive from an offset on: each gets a row, and its samples are written to `out`, after
+/// those of the records before it. A record whose samples can't be read has its row with the code of the reason, and
+/// adds no samples. Rows after those that are written stay. `progress` says how far the archive was read.
+///
+/// Returns 0 at the end of the archive, else the code of why it stopped: 4 where no row is left, 5 where there are
+/// fewer places than the next record has samples, 6 where more bytes are needed, 16 to 22 where the next bytes begin no
+/// record.
 #[unsafe(no_mangle)]
 pub extern "C" fn mseed_read(
     bytes: &[u8],

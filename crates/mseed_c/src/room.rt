@@ -2,7 +2,7 @@
 ghost use Rattle.std.specs.Prelude.{◌≡◌};
 ghost use Rattle.mseed_c.specs.Room.{overwritten};
 
-/// Writes bytes over a room, as many of them as there is room for. What lies behind them stays.
+/// Writes bytes over the beginning of a room, as many of them as there is room for. What lies after them stays.
 pub(crate) fn overwrite(bytes: &[u8], room: &mut [u8])
     ensures { room.new ≡ overwritten bytes.now room.old }
 {

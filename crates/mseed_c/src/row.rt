@@ -13,27 +13,27 @@ use mseed_time::TimeFault;
 #[repr(C)]
 #[derive(Clone, Copy)]
 pub struct Row {
-    /// Where it begins, in bytes.
+    /// Where it begins, in bytes from the beginning of the archive.
     pub offset: usize,
     /// Its length in bytes.
     pub length: usize,
-    /// Where its samples begin among all that were read.
+    /// The index of its first sample among those of all rows.
     pub first: usize,
-    /// The number of its samples.
+    /// How many samples it has, as its header says.
     pub samples: usize,
-    /// The instant of its first sample, in microseconds since 1970; 0 where it has none.
+    /// The instant of its first sample, in microseconds from 1970-01-01T00:00:00; 0 where `time` isn't 0.
     pub start: i64,
-    /// Its rate is so many samples ..
+    /// Its sample rate is so many samples ..
     pub num: u32,
     /// .. in so many seconds, not reduced; both are 0 where it has none.
     pub den: u32,
-    /// 0, or the code of why its samples can't be read; then none were.
+    /// 0, or the code of why its samples can't be read, 32 to 39: then none were.
     pub code: u32,
-    /// The factor of its rate; 0 where it has none.
+    /// The factor of its rate; 0 where it has none (SEED Reference Manual 2.4, chapter 8, field 10).
     pub factor: i16,
-    /// The multiplier of its rate; 0 where it has none.
+    /// The multiplier of its rate; 0 where it has none (chapter 8, field 11).
     pub multiplier: i16,
-    /// How its payload is encoded.
+    /// How its samples are encoded, by blockette 1000.
     pub encoding: u8,
     /// Its quality indicator: `D`, `R`, `Q` or `M`.
     pub quality: u8,
@@ -41,7 +41,7 @@ pub struct Row {
     pub time: u8,
     /// Its leap seconds: 0 for none, 1 for a positive one, 2 for a negative one, 3 for both flags.
     pub leap: u8,
-    /// The network, station, location and channel, as they stand in the header.
+    /// The network, station, location and channel, 2, 5, 2 and 3 bytes, as they stand in the header.
     pub key: [u8; 12],
 }
 
@@ -54,7 +54,7 @@ pub(crate) struct RowRate {
     pub(crate) multiplier: i16,
 }
 
-/// A record's rate.
+/// A record's rate, as a row has it; all fields are 0 where it has none.
 fn rate(view: &RecordView<'_>) -> RowRate
     ensures { HasRate result (view_of view.now) }
 {
@@ -77,7 +77,8 @@ fn rate(view: &RecordView<'_>) -> RowRate
     }
 }
 
-/// A record's start, and the number of the field of it that is out of its range.
+/// A record's start in microseconds from 1970-01-01T00:00:00, and 0; or 0, and the number of the first field of it that
+/// is out of its range.
 fn start(view: &RecordView<'_>) -> (i64, u8)
     ensures time { result.1 ≡ time_number (first_fault (time_at (view_of view.now).order (view_of view.now).bytes)) }
     ensures start { result.1 ≡ 0 → result.0 ≡ start_of (view_of view.now) }
@@ -89,7 +90,7 @@ fn start(view: &RecordView<'_>) -> (i64, u8)
     }
 }
 
-/// The number of a field of a start.
+/// The number of a field of a BTIME, from 1, the year, to 6, the fraction.
 fn time_number(fault: TimeFault) -> u8
     ensures value { result ≡ time_number (Some fault) }
     ensures some { result ≢ 0 }
@@ -104,7 +105,7 @@ fn time_number(fault: TimeFault) -> u8
     }
 }
 
-/// The number of a record's leap seconds.
+/// The number of a record's leap seconds: 0 for none, 1 positive, 2 negative, 3 for both flags.
 fn leap_number(leap: Leap) -> u8
     ensures { result ≡ leap_number leap }
 {
@@ -116,7 +117,8 @@ fn leap_number(leap: Leap) -> u8
     }
 }
 
-/// What a row says of a record.
+/// The row of a record that begins at this offset, whose first sample has this index, and whose samples were read with
+/// this code.
 pub(crate) fn row_of(view: &RecordView<'_>, offset: usize, first: usize, code: u32) -> Row
     ensures describes { Describes result (view_of view.now) }
     ensures offset { result.offset ≡ offset }

@@ -1,4 +1,4 @@
-//! The records of an archive that lies in memory that are asked for.
+//! The records of some channels, and of a window of time, of an archive that lies in memory.
 ghost use Rattle.std.specs.Prelude.{◌≡◌, ◌≢◌, ◌+◌, ◌^◌, ◌<◌, ◌≤◌, ◌++◌, ℕ, List, length, drop};
 ghost use Rattle.std.specs.Prelude.{IfSome, IfNone, IfErr, OnOk, OnErr};
 ghost use Rattle.mseed_time.specs.Btime.{IsInstant};
@@ -14,51 +14,55 @@ use crate::room::overwrite;
 use mseed_select::{Answer, Patterns, Selector};
 use mseed_time::Micros;
 
-/// A time that isn't in the years 1800 to 2199.
+/// The code of a window with an end that isn't in the years 1800 to 2199.
 const BAD_TIME: u32 = 80;
 
-/// A text that is no patterns of channels.
+/// The code of a text that isn't patterns of channels.
 const BAD_PATTERNS: u32 = 81;
 
-/// A window whose end isn't behind its begin.
+/// The code of a window whose end isn't after its beginning.
 const BAD_WINDOW: u32 = 82;
 
-/// A window of time.
+/// A window of time, from an instant up to another, which isn't part of it.
 #[repr(C)]
 #[derive(Clone, Copy)]
 pub struct Window {
-    /// The first instant, in microseconds since 1970.
+    /// The first instant, in microseconds from 1970-01-01T00:00:00.
     pub from: i64,
-    /// The instant behind the last, in microseconds since 1970.
+    /// The first instant after it, in microseconds from 1970-01-01T00:00:00.
     pub until: i64,
-    /// 0 where the window has no begin: then `from` isn't read.
+    /// 0 where the window has no beginning: then `from` isn't read.
     pub has_from: u8,
     /// 0 where the window has no end: then `until` isn't read.
     pub has_until: u8,
 }
 
-/// What a selection tells.
+/// What a selection came to.
 #[repr(C)]
 #[derive(Clone, Copy)]
 pub struct Selected {
-    /// The records that were gone through.
+    /// How many records were read.
     pub records: usize,
-    /// Those of them that are asked for.
+    /// How many of them are asked for.
     pub asked_for: usize,
-    /// Those of the channels that are asked for whose start isn't known, where the window has a begin or an end.
+    /// How many of the channels that are asked for have no valid start, and so stand in no window; 0 without a window.
     pub without_time: usize,
-    /// The length of all that are asked for, in bytes.
+    /// The length in bytes of all records that are asked for, also where the room was shorter.
     pub length: usize,
-    /// Where the next record would begin.
+    /// Where the next record would begin, in bytes from the beginning of the archive.
     pub offset: usize,
-    /// How many bytes more is known with, or the number of the reason why no record begins there.
+    /// How many bytes, from there on, are needed to go on; of a length that no record has, its exponent; else 0.
     pub needed: usize,
 }
 
-/// The records of an archive that are asked for: of the channels that the patterns match, or of all where there are
-/// none; and of the window. They are written into the room, as many bytes of them as it has. The answer is 0 at the end
-/// of the archive, or the code of why no more records were gone through; or why nothing can be asked for so: then
-/// nothing is written.
+/// Copies the records of an archive that are asked for, byte for byte and in their order: those of the channels that
+/// the patterns match, or of all where `channels` is empty, that stand in the window, whole also where they straddle
+/// its ends. The room gets as many bytes of them as it has; what lies after them stays. `reported` gets the counts, and
+/// the length of all. What the records hold isn't judged.
+///
+/// Returns 0 at the end of the archive, else the code of why it stopped: 6 where more bytes are needed, 16 to 22 where
+/// the next bytes begin no record. Or it returns 80, 81 or 82, the first that applies, where an end of the window is no
+/// instant, the text isn't patterns, or the window doesn't end after it begins: then nothing is written.
 #[unsafe(no_mangle)]
 pub extern "C" fn mseed_select(
     bytes: &[u8],
@@ -88,7 +92,7 @@ pub extern "C" fn mseed_select(
     select_all(&selector, bytes, room, reported)
 }
 
-/// One end of a window, where it has it; nothing where it is no instant.
+/// One end of a window, if it has it; none where that is no instant.
 fn bound_of(has: u8, micros: i64) -> Option<Option<Micros>>
     ensures some { IfSome result (λ bound. (bound ≡ bound_of has micros) × (has ≢ 0 → IsInstant micros)) }
     ensures none { IfNone result ((has ≢ 0) × ¬ (IsInstant micros)) }
@@ -102,7 +106,7 @@ fn bound_of(has: u8, micros: i64) -> Option<Option<Micros>>
     }
 }
 
-/// Goes through the records of an archive, and answers 0 or why it stopped.
+/// Reads all records of an archive, and writes those that are asked for. Returns 0, or the code of why it stopped.
 fn select_all(selector: &Selector, bytes: &[u8], room: &mut [u8], reported: &mut Selected) -> u32
     ensures { IsSelectedTo (selection_of selector.now) bytes.now room.old room.new reported.new result }
 {
@@ -123,7 +127,11 @@ fn select_all(selector: &Selector, bytes: &[u8], room: &mut [u8], reported: &mut
     0
 }
 
-/// Goes past the next record, which is written where it is asked for.
+/// Writes the next record where it is asked for, and goes past it.
+///
+/// # Errors
+///
+/// Why the next bytes begin no record, or how many are needed: then nothing is changed.
 fn select_next(
     selector: &Selector,
     bytes: &[u8],
@@ -146,7 +154,7 @@ fn select_next(
     Ok(())
 }
 
-/// Counts a record, and writes its bytes behind the others where it is asked for.
+/// Counts a record, and writes its bytes after the others where it is asked for.
 fn put_record(answer: Answer, bytes: &[u8], room: &mut [u8], reported: &mut Selected)
     requires small { IsSmall reported.old }
     requires some { 0 < length bytes.now }
