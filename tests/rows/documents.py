@@ -13,7 +13,7 @@ import sys
 from typing import Optional, Sequence
 
 from documents.callers import judged_fields, judged_page, libraries, page_of
-from documents.figures import FIGURES, TABLE, judged_figures, judged_rows, recounted
+from documents.figures import FIGURES, LAYERS, TABLE, judged_figures, judged_layers, judged_rows, recounted
 from documents.page import Page
 from documents.quoted import judged_quotations, requoted
 from documents.sources import Sources, text_of
@@ -133,6 +133,10 @@ def self_tests(sources: Sources) -> Cases:
         again = recounted(sources, TABLE, row + " 1.6 |")
         yield Fact(f"the row {row}, counted anew", [True, True],
                    [one.is_there for one in judged_rows(sources, again) if "the table" not in one.name])
+    row = "| `mseed_parts` | parts | `mseed_audit` | a | b |"
+    for name, wanted in (("mseed_audit", True), ("mseed_steim", False)):
+        judged = [one.is_there for one in judged_layers(sources, row.replace("mseed_audit", name))][1:]
+        yield Fact(f"mseed_parts depends on {name}, and on no other crate", [wanted], judged)
     yield Fact("minutes that aren't those that were measured", [False],
                [one.is_there for one in judged_rows(sources, MISCOUNTED[-1][0] + " 99.9 |") if "minutes" in one.name])
 
@@ -161,7 +165,8 @@ def quotations() -> Cases:
 
 def figures(sources: Sources) -> Cases:
     """What the pages count."""
-    for judged in (judged_figures(sources), judged_rows(sources, text_of(TABLE))):
+    for judged in (judged_figures(sources), judged_rows(sources, text_of(TABLE)),
+                   judged_layers(sources, text_of(LAYERS))):
         for name, is_so, why in judged:
             yield Fact(name, "so many", "so many" if is_so else why)
 
