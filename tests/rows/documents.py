@@ -3,7 +3,7 @@ and words of the programs' output (documents/page.py). The pages for callers sho
 documentation (documents/callers.py); and no line of a crate is too long. Before that, lines and pages that are wrong
 have to be found wrong. The drawing of docs/architecture.md is the one that docs/architecture.py draws from crates.txt.
 What a page quotes of the code stands there, sign by sign (documents/quoted.py), and what it counts is counted
-(documents/figures.py).
+(documents/figures.py); the codes of the library for C are those of its header (documents/codes.py).
 """
 
 from __future__ import annotations
@@ -13,6 +13,7 @@ import sys
 from typing import Optional, Sequence
 
 from documents.callers import judged_fields, judged_page, libraries, page_of
+from documents.codes import CODES, judged_codes
 from documents.figures import FIGURES, LAYERS, TABLE, judged_figures, judged_layers, judged_rows, recounted
 from documents.page import Page
 from documents.quoted import judged_quotations, requoted
@@ -133,6 +134,9 @@ def self_tests(sources: Sources) -> Cases:
         again = recounted(sources, TABLE, row + " 1.6 |")
         yield Fact(f"the row {row}, counted anew", [True, True],
                    [one.is_there for one in judged_rows(sources, again) if "the table" not in one.name])
+    wrong = [one.name for one in judged_codes(text_of(CODES).replace("| `no memory`, ", "| ")) if not one.is_there]
+    yield Fact("a text that is missing among the library's codes is found", [f"{CODES}: the code {n}" for n in (3, 4, 5)],
+               wrong)
     row = "| `mseed_parts` | parts | `mseed_audit` | a | b |"
     for name, wanted in (("mseed_audit", True), ("mseed_steim", False)):
         judged = [one.is_there for one in judged_layers(sources, row.replace("mseed_audit", name))][1:]
@@ -166,7 +170,7 @@ def quotations() -> Cases:
 def figures(sources: Sources) -> Cases:
     """What the pages count."""
     for judged in (judged_figures(sources), judged_rows(sources, text_of(TABLE)),
-                   judged_layers(sources, text_of(LAYERS))):
+                   judged_layers(sources, text_of(LAYERS)), judged_codes(text_of(CODES))):
         for name, is_so, why in judged:
             yield Fact(name, "so many", "so many" if is_so else why)
 
