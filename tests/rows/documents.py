@@ -135,8 +135,8 @@ def self_tests(sources: Sources) -> Cases:
         yield Fact(f"the row {row}, counted anew", [True, True],
                    [one.is_there for one in judged_rows(sources, again) if "the table" not in one.name])
     wrong = [one.name for one in judged_codes(text_of(CODES).replace("| `no memory`, ", "| ")) if not one.is_there]
-    yield Fact("a text that is missing among the library's codes is found", [f"{CODES}: the code {n}" for n in (3, 4, 5)],
-               wrong)
+    yield Fact("a text that is missing among the library's codes is found",
+               [f"{CODES}: the code {code}" for code in (3, 4, 5)], wrong)
     row = "| `mseed_parts` | parts | `mseed_audit` | a | b |"
     for name, wanted in (("mseed_audit", True), ("mseed_steim", False)):
         judged = [one.is_there for one in judged_layers(sources, row.replace("mseed_audit", name))][1:]

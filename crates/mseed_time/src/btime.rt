@@ -212,7 +212,7 @@ fn year_and_day(days: u32) -> (u16, u16)
     (date.year.unsigned_abs(), date.day_of_year())
 }
 
-/// Of so many microseconds the whole ten-thousandths of a second, and the microseconds that are left less 50: -50 to 49.
+/// Of so many microseconds the whole ten-thousandths of a second, and what is left, less 50 microseconds: -50 to 49.
 fn ticks_of(microseconds: u64) -> (u64, i8)
     requires { microseconds < 6_342_969_600_000_000 }
     ensures ticks { result.0 < 63_429_696_000_000 }
