@@ -15,7 +15,7 @@ pub goes_none : (Is : List ℕ → ℕ → List ℤ → Row → Type 0) (room : 
 goes_none Is room bytes rows out p inside fits =
     record { walk = λ offset first w. w; inside = inside; fits = fits; needed = refl }
 
--- one behind the other
+-- one after the other
 pub goes_on : (Is : List ℕ → ℕ → List ℤ → Row → Type 0) (room : ℕ → ℕ) (bytes : List ℕ) (rows on more : List Row)
     (old new newer : List ℤ) (p q r : Progress) → GoesOn Is room bytes rows on old new p q
     → GoesOn Is room bytes on more new newer q r → GoesOn Is room bytes rows more old newer p r

@@ -34,7 +34,7 @@ behind_more rows old row n e =
     drop-set-lt (n + 1) rows n row (omega arith) ∙ sym (drop-drop 1 n rows)
     ∙ ap (λ (xs : List Row). drop 1 xs) e ∙ drop-drop 1 n old
 
--- how the next row stands to a walk, behind which so many samples are counted
+-- the next row of a walk, after which so many samples are counted
 pub record IsNextRow (bytes : List ℕ) (p : Progress) (row : Row) (size more : ℕ) : Type 0 where
   pub offset_is : row.offset ≡ p.offset
   pub first_is : row.first ≡ p.filled

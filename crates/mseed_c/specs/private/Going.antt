@@ -1,4 +1,4 @@
--- What going through records leaves behind.
+-- What is so of rows that were written and of samples that were taken.
 use Rattle.std.specs.Prelude.{◌≡◌, ◌≤◌, ◌<◌, ◌+◌, ℕ, ℤ, List, length, drop}
 use Rattle.mseed_record.specs.View.{View}
 use Rattle.mseed_steim.specs.Reading.{count_of}
@@ -7,7 +7,7 @@ use Rattle.mseed_c.specs.Rows.{Describes, IsWalk, filled_by}
 use Rattle.mseed_c.specs.declared.row.Row.{Row}
 use Rattle.mseed_c.specs.declared.going.Progress.{Progress}
 
--- A record's samples were taken behind so many that were counted: then more are, by the code. What was so of a row
+-- A record's samples were taken after so many that were counted: then more are, by the code. What was so of a row
 -- stays so, and it is so of the record's own row.
 pub record TakesOn (Is : List ℕ → ℕ → List ℤ → Row → Type 0) (v : View) (filled more code : ℕ) (old new : List ℤ)
     : Type 0 where
@@ -16,7 +16,7 @@ pub record TakesOn (Is : List ℕ → ℕ → List ℤ → Row → Type 0) (v : 
       → row.code ≡ code → Is bytes more new row
   pub counted : (row : Row) → row.samples ≡ count_of v → row.code ≡ code → more ≡ filled + filled_by row
 
--- there is room for fewer samples than the record has, behind so many
+-- there is room for fewer samples than the record has, after so many
 pub record HasNoRoom (v : View) (room filled places : ℕ) : Type 0 where
   pub count : places ≡ count_of v
   pub fewer : room < filled + places
