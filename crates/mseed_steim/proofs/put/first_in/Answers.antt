@@ -1,4 +1,4 @@
-use Rattle.std.proofs.Common.{◌≡◌, ℕ, ◌<◌, zero, suc, arith, refl}
+use Rattle.std.proofs.Common.{◌≡◌, ℕ, zero, suc, refl}
 use Rattle.mseed_steim.specs.private.Unpacked.{first_in}
 use Rattle.mseed_steim.proofs.put.first_in.Goals as goal
 

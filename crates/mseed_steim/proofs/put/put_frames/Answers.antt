@@ -1,4 +1,4 @@
-use Rattle.std.proofs.Common.{◌≡◌, ◌+◌, ◌-◌, ◌*◌, ◌/◌, ◌<◌, ◌++◌, ◌∙◌, ℕ, List, ℤ, take, length, ap, sym, arith, refl}
+use Rattle.std.proofs.Common.{◌≡◌, ◌+◌, ◌-◌, ◌*◌, ◌/◌, ◌<◌, ◌++◌, ◌∙◌, ℕ, List, ℤ, take, length, ap, sym, arith}
 use Rattle.mseed_steim.specs.Frames.{DataWord, words_from, word_count}
 use Rattle.mseed_steim.specs.private.Items.{items_of}
 use Rattle.mseed_steim.specs.private.Sums.{fold, met_in}

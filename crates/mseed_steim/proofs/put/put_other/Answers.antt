@@ -1,4 +1,4 @@
-use Rattle.std.proofs.Common.{◌≡◌, ◌≤◌, ◌+◌, ◌-◌, ◌*◌, arith}
+use Rattle.std.proofs.Common.{◌≡◌, ◌+◌, ◌-◌, ◌*◌, arith}
 use Rattle.mseed_steim.specs.private.Unpacked.{first_in}
 use Rattle.mseed_steim.proofs.Folds.{keeps_same}
 use Rattle.mseed_steim.proofs.Walking.{first_few}
