@@ -50,6 +50,7 @@ pub mod Lifts
 pub mod LaneDigits
 pub mod LaneWords
 pub mod FrameUnpacked
+pub mod Classes
 pub mod Below
 pub mod Summed
 pub mod Needed

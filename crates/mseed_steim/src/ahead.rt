@@ -7,6 +7,7 @@ ghost use Rattle.mseed_steim.specs.declared.scheme.Scheme.TheVariants.{One, Two}
 ghost use Rattle.mseed_steim.specs.private.Ahead.{near_size, size_of, raised, most_one, most_two, most_with};
 ghost use Rattle.mseed_steim.specs.private.Ahead.{IsAhead, IsMost, Tells};
 
+use crate::lanes::{Rows, look_up};
 use crate::scheme::Scheme;
 use std::simd::prelude::*;
 
@@ -119,31 +120,36 @@ fn raised(most: u16x16, sizes: u16x16, limit: u16) -> u16x16
     most + is_below.select(u16x16::splat(1), u16x16::splat(0))
 }
 
-/// The most differences of a word of Steim-2 that holds two or more, by the near size of one of them.
+/// By an eighth of a size: the most differences of a word that holds one of the size, where those are four or more.
+const BY_EIGHTHS: Rows = [7, 6, 5, 5, 4, 4, 4, 4, 4, 4, 4, 4, 4, 4, 4, 4];
+
+/// By a 128th of it: where they are fewer than four. At 0 they are more, which the other table tells.
+const BY_PARTS: Rows = [7, 3, 3, 3, 2, 2, 2, 2, 2, 2, 2, 2, 2, 2, 2, 2];
+
+/// The most differences of a word of Steim-2 that holds two or more, by the near size of one of them. Each table is
+/// read at its last place for all that is larger; a size of 2^14 or more is told of apart.
 #[inline(always)]
-fn most_two(sizes: u16x16) -> u16x16
+fn most_two(sizes: u16x16) -> u8x16
     requires { Each1 (λ x. x < 32768) sizes }
-    ensures value { result ≡ map most_two sizes }
-    ensures small { Each1 (λ x. x < 256) result }
+    ensures { result ≡ map most_two sizes }
 {
-    let most = raised(u16x16::splat(1), sizes, 1 << 14);
-    let most = raised(most, sizes, 1 << 9);
-    let most = raised(most, sizes, 1 << 7);
-    let most = raised(most, sizes, 1 << 5);
-    let most = raised(most, sizes, 1 << 4);
-    raised(most, sizes, 1 << 3)
+    let eighths = (sizes >> u16x16::splat(3)).simd_min(u16x16::splat(15));
+    let parts = (sizes >> u16x16::splat(7)).cast::<u8>();
+    let narrow = look_up(BY_EIGHTHS, eighths.cast::<u8>());
+    let wide = look_up(BY_PARTS, parts.simd_min(u8x16::splat(15)));
+    narrow.simd_min(wide) - (parts >> u8x16::splat(7))
 }
 
 /// The same of Steim-1.
 #[inline(always)]
-fn most_one(sizes: u16x16) -> u16x16
+fn most_one(sizes: u16x16) -> u8x16
     requires { Each1 (λ x. x < 32768) sizes }
-    ensures value { result ≡ map most_one sizes }
-    ensures small { Each1 (λ x. x < 256) result }
+    ensures { result ≡ map most_one sizes }
 {
     let most = raised(u16x16::splat(1), sizes, 1 << 14);
     let most = raised(most, sizes, 1 << 6);
-    raised(most, sizes, 1 << 6)
+    let most = raised(most, sizes, 1 << 6);
+    most.cast::<u8>()
 }
 
 /// The most differences of words that hold two or more, by the near sizes of single ones.
@@ -152,11 +158,10 @@ fn most_with(scheme: Scheme, sizes: u16x16) -> u8x16
     requires { Each1 (λ x. x < 32768) sizes }
     ensures { result ≡ map (most_with scheme) sizes }
 {
-    let most = match scheme {
+    match scheme {
         Scheme::One => most_one(sizes),
         Scheme::Two => most_two(sizes),
-    };
-    most.cast::<u8>()
+    }
 }
 
 /// The most differences of words that hold two or more, by one of them.

@@ -1,21 +1,37 @@
-use Rattle.std.proofs.Common.{◌≡◌, ◌<◌, ℕ, arith, map, subst, sym, List}
-use Rattle.std.proofs.lemmas.Simd.{splat_is_map}
+use Rattle.std.proofs.Common.{◌/◌, ◌^◌, ◌<◌, ◌∙◌, arith, ap, get_or, List, ℕ, map, subst, sym}
+use Rattle.std.proofs.lemmas.Simd.{Each1-weaker, map-map}
 use lib.Lanes.{Each1}
-use Rattle.mseed_steim.specs.private.Ahead.{most_two}
-use Rattle.mseed_steim.proofs.Sizes.{two_1, two_2, two_3, two_4, two_5, two_6, each_map}
+use Rattle.mseed_steim.proofs.Sizes.{each_map, same_lanes}
+use Rattle.mseed_steim.proofs.Classes.{eighths, parts, capped, capped_few, eighths_read, parts_read, parts_small}
+use Rattle.mseed_steim.proofs.Classes.{lanes_two}
 use Rattle.mseed_steim.proofs.ahead.most_two.Goals as goal
+
+pub overflow_cast-parts : goal.overflow_cast-parts
+overflow_cast-parts c = Each1-weaker (λ x. x < 256) _ (λ x h. record { fits = omega (arith, h) }) _
+    (parts_small 16 c.args.sizes c.fits-sizes.0 c.requires)
+
+pub overflow_cast-eighths : goal.overflow_cast-eighths
+overflow_cast-eighths c = Each1-weaker (λ x. x < 16) _ (λ x h. record { fits = omega (arith, h) }) _
+    (subst (λ (xs : List ℕ). Each1 (λ x. x < 16) xs) (sym (eighths_read 16 c.args.sizes c.fits-sizes.0))
+    (each_map (λ x. x < 16) (λ x. capped (x / 2 ^ 3)) (λ x. capped_few (x / 2 ^ 3)) c.args.sizes))
+
+pub look_up-narrow-requires : goal.look_up-narrow-requires
+look_up-narrow-requires c =
+    subst (λ (xs : List ℕ). Each1 (λ r. r < 16) xs) (sym (same_lanes _ _ (eighths_read 16 c.args.sizes c.fits-sizes.0)))
+    (each_map (λ r. r < 16) (λ x. capped (x / 2 ^ 3)) (λ x. capped_few (x / 2 ^ 3)) c.args.sizes)
+
+pub look_up-wide-requires : goal.look_up-wide-requires
+look_up-wide-requires c =
+    subst (λ (xs : List ℕ). Each1 (λ r. r < 16) xs) (sym (parts_read 16 c.args.sizes c.fits-sizes.0))
+    (each_map (λ r. r < 16) (λ x. capped (x / 2 ^ 7)) (λ x. capped_few (x / 2 ^ 7)) c.args.sizes)
 
 pub returns : goal.returns
 returns c =
-    let zero = splat_is_map c.args.sizes 16 1 c.fits-sizes.0 in
-    let one = c.raised-most.ensures (λ _. 1) zero (λ x. omega arith) in
-    let two = c.raised-most-2.ensures _ one (λ x. omega (arith, two_1 x)) in
-    let three = c.raised-most-3.ensures _ two (λ x. omega (arith, two_2 x)) in
-    let four = c.raised-most-4.ensures _ three (λ x. omega (arith, two_3 x)) in
-    let five = c.raised-most-5.ensures _ four (λ x. omega (arith, two_4 x)) in
-    let value : c.raised.result ≡ map most_two c.args.sizes = c.raised.ensures _ five (λ x. omega (arith, two_5 x)) in
-    record {
-      value = value;
-      small = subst (λ (xs : List ℕ). Each1 (λ x. x < 256) xs) (sym value)
-          (each_map (λ x. x < 256) most_two (λ x. omega (arith, two_6 x)) c.args.sizes);
-    }
+    let narrow = c.look_up-narrow.ensures.value
+    ∙ ap (λ (xs : List ℕ). map (λ r. get_or eighths r 0) xs)
+    (same_lanes _ _ (eighths_read 16 c.args.sizes c.fits-sizes.0))
+    ∙ map-map (λ r. get_or eighths r 0) (λ x. capped (x / 2 ^ 3)) c.args.sizes in
+    let wide = c.look_up-wide.ensures.value
+    ∙ ap (λ (xs : List ℕ). map (λ r. get_or parts r 0) xs) (parts_read 16 c.args.sizes c.fits-sizes.0)
+    ∙ map-map (λ r. get_or parts r 0) (λ x. capped (x / 2 ^ 7)) c.args.sizes in
+    rw (narrow, wide) (lanes_two 16 c.args.sizes c.fits-sizes.0 c.requires)
