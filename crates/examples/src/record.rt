@@ -4,7 +4,7 @@ ghost use Rattle.mseed_record.specs.Record.{IsRecord};
 
 use mseed_record::{
     BadCode, Codes, DataOffset, Fields, FrameFault, Framer, Leap, RecordView, Scan, TooShort,
-    ViewFault, is_blank, scan, write_header,
+    ViewFault, is_blank, scan, trimmed, write_header,
 };
 use mseed_time::{Btime, LeapStep, Micros, NoRate, Order, Rate, TimeFault};
 
@@ -97,6 +97,11 @@ pub fn leap_second(record: &RecordView) -> Option<LeapStep> {
 pub fn are_of_one_station(one: &RecordView, other: &RecordView) -> bool {
     let (one, other) = (one.codes(), other.codes());
     one.network() == other.network() && one.station() == other.station()
+}
+
+/// Whether a channel has no location code.
+pub fn has_no_location(codes: &Codes) -> bool {
+    trimmed(codes.location()).is_empty()
 }
 
 /// Whether a channel is the vertical one of a broadband sensor, at no other place than the station's own.

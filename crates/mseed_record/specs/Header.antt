@@ -1,5 +1,6 @@
 -- The fixed section of a data header, 48 bytes (SEED manual, chapter 8, "Fixed section of data header").
-use Rattle.std.specs.Prelude.{ℕ, ◌==◌, ◌&&◌, ◌||◌, nat_le, Bool, List, ◌++◌, slice_index, slice_range, take, ℤ}
+use Rattle.std.specs.Prelude.{ℕ, ◌==◌, ◌&&◌, ◌||◌, nat_le, Bool, if◌then◌else◌, List, [], ◌∷◌, ◌++◌}
+use Rattle.std.specs.Prelude.{slice_index, slice_range, take, ℤ}
 use Rattle.std.specs.List.{list_all}
 use Rattle.byteorder.specs.Endian.{twos_complement}
 use Rattle.mseed_time.specs.declared.order.Order.{Order}
@@ -20,6 +21,11 @@ quality_at b = slice_index b 6
 -- the reserved byte: a space or NUL
 abbrev pub is_blank : ℕ → Bool
 is_blank c = (c == 32) || (c == 0)
+
+-- a code without its trailing spaces and NULs
+abbrev pub trimmed : List ℕ → List ℕ
+trimmed [] = []
+trimmed (c ∷ cs) = if list_all is_blank (c ∷ cs) then [] else c ∷ trimmed cs
 
 -- the bytes that each header has before its station: the sequence number, the quality, the reserved byte
 abbrev pub has_fixed_bytes : List ℕ → Bool

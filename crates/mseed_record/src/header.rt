@@ -1,6 +1,6 @@
 //! Fields of a header, read where they stand.
 ghost use Rattle.std.specs.Prelude.{◌≡◌, ◌≤◌, ◌+◌, ◌<◌, IfOk, length, slice_index};
-ghost use Rattle.mseed_record.specs.Header.{time_at, has_fixed_bytes, is_sequence_byte, is_quality, is_blank};
+ghost use Rattle.mseed_record.specs.Header.{time_at, has_fixed_bytes, is_sequence_byte, is_quality, is_blank, trimmed};
 ghost use Rattle.mseed_record.specs.Order.{order_of, is_dated};
 ghost use Rattle.mseed_time.specs.Fields.{number_at};
 ghost use Rattle.mseed_time.specs.Btime.{first_fault};
@@ -110,6 +110,21 @@ pub fn is_blank(byte: u8) -> bool
     ensures { result ≡ is_blank byte }
 {
     byte == b' ' || byte == 0
+}
+
+/// A code without the blanks at its end, the spaces and NULs by which its field is filled (SEED manual, chapter 8,
+/// fields 4 to 7 of the fixed section): of a field that is blank nothing is left.
+pub fn trimmed(code: &[u8]) -> &[u8]
+    ensures { result.now ≡ trimmed code.now }
+{
+    let mut end = code.len();
+    while end > 0 {
+        if !is_blank(code[end - 1]) {
+            return &code[..end];
+        }
+        end -= 1;
+    }
+    &code[..0]
 }
 
 /// The byte order of a header.

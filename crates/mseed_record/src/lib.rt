@@ -20,7 +20,7 @@ pub use fault::{DataOffset, FrameFault, ViewFault};
 pub use fields::Fields;
 pub use framer::{Framer, Scan};
 pub use framing::scan;
-pub use header::is_blank;
+pub use header::{is_blank, trimmed};
 pub use law::header_reads_back;
 pub use leap::Leap;
 pub use naming::{BadCode, CodeField};

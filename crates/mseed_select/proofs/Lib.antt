@@ -1,5 +1,4 @@
 pub mod Copied
-pub mod Trims
 pub mod Fitting
 pub mod Pieces
 pub mod Cuts

@@ -2,7 +2,7 @@
 use Rattle.std.specs.Prelude.{◌≡◌, ◌⊎◌, ℕ, ◌==◌, ◌&&◌, ◌||◌, nat_le, Bool, true, false, if◌then◌else◌, List, [], ◌∷◌}
 use Rattle.std.specs.Prelude.{◌++◌, length, slice_range, codes, Option, Some, None, ⊤}
 use Rattle.std.specs.List.{Any, list_all, list_any, slice_split}
-use Rattle.mseed_record.specs.Header.{is_blank}
+use Rattle.mseed_record.specs.Header.{trimmed}
 
 -- a character that stands for itself: a letter, a digit or `-`
 abbrev pub is_literal : ℕ → Bool
@@ -41,23 +41,18 @@ Fits (c ∷ cs) code = (taken : List ℕ) × ((rest : List ℕ) × ((code ≡ ta
 abbrev pub FitsLocation : List ℕ → List ℕ → Type 0
 FitsLocation field code = ((field ≡ codes "--") × (code ≡ [])) ⊎ Fits field code
 
--- a code without its trailing spaces and NULs, as an audit prints it
-abbrev pub code_of : List ℕ → List ℕ
-code_of [] = []
-code_of (c ∷ cs) = if list_all is_blank (c ∷ cs) then [] else c ∷ code_of cs
-
--- the codes of a channel by its key
+-- the codes of a channel by its key, without their trailing spaces and NULs, as an audit prints them
 abbrev pub network_of : List ℕ → List ℕ
-network_of key = code_of (slice_range key 0 2)
+network_of key = trimmed (slice_range key 0 2)
 
 abbrev pub station_of : List ℕ → List ℕ
-station_of key = code_of (slice_range key 2 7)
+station_of key = trimmed (slice_range key 2 7)
 
 abbrev pub location_of : List ℕ → List ℕ
-location_of key = code_of (slice_range key 7 9)
+location_of key = trimmed (slice_range key 7 9)
 
 abbrev pub channel_of : List ℕ → List ℕ
-channel_of key = code_of (slice_range key 9 12)
+channel_of key = trimmed (slice_range key 9 12)
 
 -- a pattern matches a channel where each of its four fields fits the channel's code
 pub record Matches (pattern key : List ℕ) : Type 0 where

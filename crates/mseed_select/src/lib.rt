@@ -5,7 +5,6 @@ mod answer;
 mod choice;
 mod clock;
 mod clocks;
-mod code;
 mod copying;
 mod counts;
 mod date;

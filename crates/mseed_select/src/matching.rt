@@ -3,9 +3,8 @@ ghost use Rattle.std.specs.Prelude.{◌≡◌, ◌==◌, ◌||◌, ◌∷◌};
 ghost use Rattle.mseed_select.specs.Pattern.{fits, fits_location, matches};
 ghost use Rattle.mseed_select.specs.private.Pieces.{IsPiece};
 
-use crate::code::code_of;
 use crate::fields::fields_of;
-use mseed_record::Codes;
+use mseed_record::{Codes, trimmed};
 
 /// What is left of a field and of a code, where they go on at the field's first `*`.
 #[derive(Clone, Copy)]
@@ -24,10 +23,10 @@ pub(crate) fn matches(pattern: &[u8], codes: &Codes) -> bool
 {
     match fields_of(pattern) {
         Some(fields) => {
-            fits(fields.network, code_of(codes.network()))
-                && fits(fields.station, code_of(codes.station()))
-                && fits_location(fields.location, code_of(codes.location()))
-                && fits(fields.channel, code_of(codes.channel()))
+            fits(fields.network, trimmed(codes.network()))
+                && fits(fields.station, trimmed(codes.station()))
+                && fits_location(fields.location, trimmed(codes.location()))
+                && fits(fields.channel, trimmed(codes.channel()))
         }
         None => false,
     }

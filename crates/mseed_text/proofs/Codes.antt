@@ -4,8 +4,8 @@ use Rattle.std.proofs.Common.{map, take, drop, ap, arith, refl, sym, ◌∙◌}
 use Rattle.std.proofs.lemmas.List.{length-take, length-take-le, take-map, take-take}
 use Rattle.std.proofs.Math.Seq.{take-append-add}
 use Rattle.std.specs.List.{list_all, slice_range}
-use Rattle.mseed_record.specs.Header.{is_blank}
-use Rattle.mseed_text.specs.Name.{printed, trimmed}
+use Rattle.mseed_record.specs.Header.{is_blank, trimmed}
+use Rattle.mseed_text.specs.Name.{printed}
 
 -- a code of a key
 pub code_fits : (key code : List ℕ) (a b : ℕ) → code ≡ slice_range key a b → length code ≤ b - a

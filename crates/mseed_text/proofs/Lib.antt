@@ -1,4 +1,3 @@
 pub mod Codes
 pub mod Decimals
 pub mod Prefixes
-pub mod Trims

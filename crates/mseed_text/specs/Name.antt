@@ -1,12 +1,6 @@
 -- A channel's name as it is printed.
-use Rattle.std.specs.Prelude.{ℕ, ◌&&◌, nat_le, if◌then◌else◌, List, [], ◌∷◌, ◌++◌, map, slice_range, codes}
-use Rattle.std.specs.List.{list_all}
-use Rattle.mseed_record.specs.Header.{is_blank}
-
--- a code without its trailing spaces and NULs
-abbrev pub trimmed : List ℕ → List ℕ
-trimmed [] = []
-trimmed (c ∷ cs) = if list_all is_blank (c ∷ cs) then [] else c ∷ trimmed cs
+use Rattle.std.specs.Prelude.{ℕ, ◌&&◌, nat_le, if◌then◌else◌, List, ◌++◌, map, slice_range, codes}
+use Rattle.mseed_record.specs.Header.{trimmed}
 
 -- a byte of a name as it is printed: what is no printable character, or a space, is `?`
 abbrev pub printed : ℕ → ℕ

@@ -3,7 +3,8 @@ ghost use Rattle.std.specs.Prelude.{◌≡◌, ◌≤◌, ◌+◌, [], ◌++◌,
 ghost use Rattle.mseed_stream.specs.Device.{IsPrefixOf};
 ghost use Rattle.mseed_text.specs.Name.{code_text, printed};
 
-use crate::name::{printed, trimmed};
+use crate::name::printed;
+use mseed_record::trimmed;
 use std::alloc::{AllocError, Allocator};
 use std::marker::Model;
 

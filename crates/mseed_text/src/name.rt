@@ -1,9 +1,9 @@
 //! A channel's name as it is printed.
 ghost use Rattle.std.specs.Prelude.{◌≡◌, ◌≤◌, ◌+◌, ◌++◌, length};
-ghost use Rattle.mseed_text.specs.Name.{name_text, printed, trimmed};
+ghost use Rattle.mseed_text.specs.Name.{name_text, printed};
 
 use crate::line::Line;
-use mseed_record::{Codes, is_blank};
+use mseed_record::Codes;
 
 impl Line {
     /// Puts a channel's name behind it: network, station, location and channel, each without its trailing spaces and
@@ -22,20 +22,6 @@ impl Line {
         self.put(b"_");
         self.put_code(codes.channel());
     }
-}
-
-/// A code without its trailing spaces and NULs.
-pub(crate) fn trimmed(code: &[u8]) -> &[u8]
-    ensures { result.now ≡ trimmed code.now }
-{
-    let mut end = code.len();
-    while end > 0 {
-        if !is_blank(code[end - 1]) {
-            return &code[..end];
-        }
-        end -= 1;
-    }
-    &code[..0]
 }
 
 /// A byte of a name as it is printed.

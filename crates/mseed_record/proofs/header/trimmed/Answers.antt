@@ -1,8 +1,8 @@
 use Rattle.std.proofs.Common.{◌≡◌, ℕ, suc, ◌-◌, take, drop, get_or, true, false, sym, ap, ◌∙◌, arith}
 use Rattle.std.specs.List.{list_all}
 use Rattle.mseed_record.specs.Header.{is_blank}
-use Rattle.mseed_text.proofs.Trims.{trimmed_none, trimmed_is}
-use Rattle.mseed_text.proofs.name.trimmed.Goals as goal
+use Rattle.mseed_record.proofs.Trims.{trimmed_none, trimmed_is}
+use Rattle.mseed_record.proofs.header.trimmed.Goals as goal
 
 pub returns-then-not-is_blank : goal.returns-then-not-is_blank
 returns-then-not-is_blank c =

@@ -2,8 +2,7 @@
 use Rattle.std.proofs.Common.{◌≡◌, ℕ, zero, suc, ◌<◌, List, [], ◌∷◌, length, take, drop, get_or, Bool, true, false}
 use Rattle.std.proofs.Common.{◌&&◌, refl, arith}
 use Rattle.std.specs.List.{list_all}
-use Rattle.mseed_record.specs.Header.{is_blank}
-use Rattle.mseed_select.specs.Pattern.{code_of}
+use Rattle.mseed_record.specs.Header.{is_blank, trimmed}
 
 and_false : (b : Bool) → (b && false) ≡ false
 and_false true = refl
@@ -15,16 +14,16 @@ some_other [] n h e = absurd (omega (arith, h))
 some_other (c ∷ cs) zero h e = rw e refl
 some_other (c ∷ cs) (suc n) h e = rw (some_other cs n (omega (arith, h)) e) (and_false (is_blank c))
 
-pub code_of_none : (code : List ℕ) → list_all is_blank code ≡ true → code_of code ≡ []
-code_of_none [] h = refl
-code_of_none (c ∷ cs) h = rw h refl
+pub trimmed_none : (code : List ℕ) → list_all is_blank code ≡ true → trimmed code ≡ []
+trimmed_none [] h = refl
+trimmed_none (c ∷ cs) h = rw h refl
 
-pub code_of_is : (code : List ℕ) (n : ℕ) → n < length code → list_all is_blank (drop (suc n) code) ≡ true
-    → is_blank (get_or code n 0) ≡ false → code_of code ≡ take (suc n) code
-code_of_is [] n h all e = absurd (omega (arith, h))
-code_of_is (c ∷ cs) zero h all e = rw (some_other (c ∷ cs) zero h e, code_of_none cs all) refl
-code_of_is (c ∷ cs) (suc n) h all e =
-    rw (some_other (c ∷ cs) (suc n) h e, code_of_is cs n (omega (arith, h)) all e) refl
+pub trimmed_is : (code : List ℕ) (n : ℕ) → n < length code → list_all is_blank (drop (suc n) code) ≡ true
+    → is_blank (get_or code n 0) ≡ false → trimmed code ≡ take (suc n) code
+trimmed_is [] n h all e = absurd (omega (arith, h))
+trimmed_is (c ∷ cs) zero h all e = rw (some_other (c ∷ cs) zero h e, trimmed_none cs all) refl
+trimmed_is (c ∷ cs) (suc n) h all e =
+    rw (some_other (c ∷ cs) (suc n) h e, trimmed_is cs n (omega (arith, h)) all e) refl
 
 -- one more blank before blanks
 pub blanks_more : (code : List ℕ) (n : ℕ) → n < length code → is_blank (get_or code n 0) ≡ true
