@@ -5,7 +5,7 @@ ghost use Rattle.mseed_stream.specs.Device.{nothing_read};
 
 use mseed_stream::{
     Buffered, Counted, Cutter, Exchanges, Failed, Sink, Source, StreamFault, Tally, read_all,
-    read_all_in, split, split_in, tell, write_all_of,
+    read_all_in, split, split_in, tell, write_all_of, write_beyond,
 };
 use std::alloc::{Allocator, Global};
 use std::io::{self, BufReader};
@@ -46,6 +46,12 @@ pub fn tell_line(alloc: Global) -> usize {
     let mut sink = Counted::new(Vec::new(alloc));
     tell(&mut sink, b"a line\n");
     sink.get_ref().len()
+}
+
+/// Writes the lines that were gathered, once they have more than 1,024 bytes; where the sink fails, the number of bytes
+/// that were taken.
+pub fn write_lines<W: Sink>(sink: &mut W, lines: &mut Vec<u8>) -> Result<(), usize> {
+    write_beyond(sink, lines, 1_024)
 }
 
 /// The length of the first record of a stream.

@@ -1,5 +1,5 @@
 -- The records that are asked for, as they are gathered and written.
-use Rattle.std.proofs.Common.{◌≡◌, ℕ, ◌+◌, ◌++◌, List, [], ◌∷◌, length, ◌≤◌, take, refl, sym, ap, ◌∙◌, subst}
+use Rattle.std.proofs.Common.{◌≡◌, ℕ, ◌+◌, ◌++◌, List, [], ◌∷◌, length, refl, sym, ap, ◌∙◌, subst}
 use Rattle.std.proofs.Common.{append_assoc, append-nil, arith, Bool, true, false, cond, Result, Ok, Err}
 use Rattle.std.proofs.lemmas.List.{length-append}
 use Rattle.std.proofs.lemmas.List.Elements.{filter-append}
@@ -155,13 +155,6 @@ pub copied_err : (s : Selection) (r : Result Selected SelectFault) (Q : SelectFa
     → IsSelected s (Err fault) h old new → IsCopying s r h old new text
 copied_err s (Ok x) Q fault h old new text is q shown = absurd is
 copied_err s (Err e) Q fault h old new text is q shown =
-    subst (λ (x : SelectFault). IsSelected s (Err x) h old new) (sym (q e is)) shown
-
-pub selected_err : (s : Selection) (r : Result Selected SelectFault) (Q : SelectFault → Type 0) (fault : SelectFault)
-    (h : BytesRead) (old new : BytesWritten) → IsErrAnd r Q → ((e : SelectFault) → Q e → e ≡ fault)
-    → IsSelected s (Err fault) h old new → IsSelected s r h old new
-selected_err s (Ok x) Q fault h old new is q shown = absurd is
-selected_err s (Err e) Q fault h old new is q shown =
     subst (λ (x : SelectFault). IsSelected s (Err x) h old new) (sym (q e is)) shown
 
 -- all of it was written

@@ -17,7 +17,7 @@ use crate::fault::SelectFault;
 use crate::selected::Selected;
 use crate::selector::Selector;
 use mseed_record::RecordView;
-use mseed_stream::{Cutter, Sink, Source, StreamFault, write_all_of};
+use mseed_stream::{Cutter, Sink, Source, StreamFault, write_all_of, write_beyond};
 use std::alloc::{AllocError, Allocator};
 
 /// At most so many bytes are kept for the next record.
@@ -53,8 +53,10 @@ pub fn select<A: Allocator + Copy, R: Source, W: Sink>(
 {
     let mut bytes = Vec::new(alloc);
     let selected = copy(alloc, selector, input, output, &mut bytes)?;
-    write_out(output, &mut bytes)?;
-    Ok(selected)
+    match write_all_of(output, &bytes) {
+        Ok(()) => Ok(selected),
+        Err(_) => Err(SelectFault::Write),
+    }
 }
 
 /// Copies the records that are asked for, up to the end. The last of them are left in `bytes`.
@@ -77,7 +79,10 @@ fn copy<A: Allocator + Copy, R: Source, W: Sink>(
             Step::Judged(answer) => counts.add(answer),
             Step::Ended(end) => return Ok(counts.selected(end)),
         }
-        write_beyond(output, bytes, GATHERED)?;
+        match write_beyond(output, bytes, GATHERED) {
+            Ok(()) => {}
+            Err(_) => return Err(SelectFault::Write),
+        }
     }
 }
 
@@ -104,8 +109,10 @@ fn push_next<A: Allocator, R: Source, W: Sink>(
         cutter.pass(input, size);
         return Ok(Step::Judged(answer));
     }
-    write_beyond(output, bytes, 0)?;
-    ask_next(cutter, selector, input, bytes)
+    match write_beyond(output, bytes, 0) {
+        Ok(()) => ask_next(cutter, selector, input, bytes),
+        Err(_) => Err(SelectFault::Write),
+    }
 }
 
 /// Asks the input for the next record and adds it where it is asked for, or answers how the input ends. All that was
@@ -153,43 +160,4 @@ fn push_record<A: Allocator>(
         bytes.extend_from_slice(view.bytes())?;
     }
     Ok(answer)
-}
-
-/// Writes what was gathered, where it is more than so many bytes.
-fn write_beyond<A: Allocator, W: Sink>(
-    output: &mut W,
-    bytes: &mut Vec<u8, A>,
-    most: usize,
-) -> Result<(), SelectFault>
-    ensures ok { OnOk result (AreGathered (W.written output.old) (W.written output.new) bytes.new.items
-        bytes.old.items) }
-    ensures most { OnOk result (length bytes.new.items ≤ most) }
-    ensures fine { OnOk result ((W.written output.new).failures ≡ (W.written output.old).failures) }
-    ensures err { IfErr result (λ fault. IsPrefixWritten fault (W.written output.old) (W.written output.new)
-        bytes.old.items) }
-{
-    if bytes.len() <= most {
-        return Ok(());
-    }
-    write_out(output, bytes)
-}
-
-/// Writes what was gathered.
-fn write_out<A: Allocator, W: Sink>(
-    output: &mut W,
-    bytes: &mut Vec<u8, A>,
-) -> Result<(), SelectFault>
-    ensures ok { OnOk result ((W.written output.new).bytes ≡ (W.written output.old).bytes ++ bytes.old.items) }
-    ensures bytes { OnOk result (bytes.new.items ≡ []) }
-    ensures fine { OnOk result ((W.written output.new).failures ≡ (W.written output.old).failures) }
-    ensures err { IfErr result (λ fault. IsPrefixWritten fault (W.written output.old) (W.written output.new)
-        bytes.old.items) }
-{
-    match write_all_of(output, bytes) {
-        Ok(()) => {
-            bytes.clear();
-            Ok(())
-        }
-        Err(_) => Err(SelectFault::Write),
-    }
 }

@@ -1,5 +1,5 @@
 -- The lines of a listing, record after record.
-use Rattle.std.proofs.Common.{◌≡◌, ℕ, ◌+◌, ◌++◌, List, [], ◌∷◌, length, ◌≤◌, map, refl, sym, ap, ◌∙◌, subst}
+use Rattle.std.proofs.Common.{◌≡◌, ℕ, ◌+◌, ◌++◌, List, [], ◌∷◌, length, map, refl, sym, ap, ◌∙◌, subst}
 use Rattle.std.proofs.Common.{append_assoc, arith, inl, inr, Option, Result, Ok, Err, Bool, true, false, cond, suc}
 use Rattle.std.proofs.lemmas.List.{append-nil, length-append}
 use Rattle.std.proofs.lemmas.List.Elements.{filter-append}
@@ -9,7 +9,6 @@ use Rattle.std.specs.List.{concat, count_by, filter}
 use Rattle.mseed_record.specs.View.{View}
 use Rattle.mseed_stream.specs.Device.{BytesRead, BytesWritten}
 use Rattle.mseed_stream.specs.declared.fault.StreamFault.{StreamFault}
-use Rattle.mseed_select.specs.Counting.{counts_of}
 use Rattle.mseed_select.specs.Halves.{Placed, asked_of, placed_from}
 use Rattle.mseed_select.specs.Selection.{Selection, asks_for, everything}
 use Rattle.mseed_select.specs.declared.counts.Counts.{Counts}

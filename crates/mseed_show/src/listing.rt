@@ -16,7 +16,7 @@ use crate::fault::ShowFault;
 use crate::lines::{push_count_line, push_record_line};
 use mseed_record::RecordView;
 use mseed_select::{All, Answer, Choice, Counts};
-use mseed_stream::{Cutter, Sink, Source, StreamFault, write_all_of};
+use mseed_stream::{Cutter, Sink, Source, StreamFault, write_all_of, write_beyond};
 use mseed_text::push_fault_line;
 use std::alloc::{AllocError, Allocator};
 
@@ -84,11 +84,13 @@ pub fn show_selected<A: Allocator + Copy, C: Choice, R: Source, W: Sink>(
     let mut text = Vec::new(alloc);
     let (counts, end) = list(alloc, choice, input, output, &mut text)?;
     push_end(&mut text, counts.asked_for, &end)?;
-    write_out(output, &mut text)?;
-    Ok(Shown {
-        end,
-        without_time: counts.without_time,
-    })
+    match write_all_of(output, &text) {
+        Ok(()) => Ok(Shown {
+            end,
+            without_time: counts.without_time,
+        }),
+        Err(_) => Err(ShowFault::Write),
+    }
 }
 
 /// Lists the records that are asked for up to the end, which it answers with what is counted of them. The last lines
@@ -112,7 +114,10 @@ fn list<A: Allocator + Copy, C: Choice, R: Source, W: Sink>(
             Step::Judged(answer) => counts.add(answer),
             Step::Ended(end) => return Ok((counts, end)),
         }
-        write_beyond(output, text, GATHERED)?;
+        match write_beyond(output, text, GATHERED) {
+            Ok(()) => {}
+            Err(_) => return Err(ShowFault::Write),
+        }
     }
 }
 
@@ -139,8 +144,10 @@ fn push_next<A: Allocator, C: Choice, R: Source, W: Sink>(
         cutter.pass(input, size);
         return Ok(Step::Judged(answer));
     }
-    write_beyond(output, text, 0)?;
-    ask_next(cutter, choice, input, text)
+    match write_beyond(output, text, 0) {
+        Ok(()) => ask_next(cutter, choice, input, text),
+        Err(_) => Err(ShowFault::Write),
+    }
 }
 
 /// Asks the input for the next record and adds its line, where it is asked for, or answers how the input ends. The
@@ -207,39 +214,4 @@ fn push_end<A: Allocator>(
         push_fault_line(text, fault)?;
     }
     Ok(())
-}
-
-/// Writes what was gathered, where it is more than so many bytes.
-fn write_beyond<A: Allocator, W: Sink>(
-    output: &mut W,
-    text: &mut Vec<u8, A>,
-    most: usize,
-) -> Result<(), ShowFault>
-    ensures ok { OnOk result (AreGathered (W.written output.old) (W.written output.new) text.new.items text.old.items) }
-    ensures most { OnOk result (length text.new.items ≤ most) }
-    ensures fine { OnOk result ((W.written output.new).failures ≡ (W.written output.old).failures) }
-    ensures err { IfErr result (λ fault. IsPrefixWritten fault (W.written output.old) (W.written output.new)
-        text.old.items) }
-{
-    if text.len() <= most {
-        return Ok(());
-    }
-    write_out(output, text)
-}
-
-/// Writes what was gathered.
-fn write_out<A: Allocator, W: Sink>(output: &mut W, text: &mut Vec<u8, A>) -> Result<(), ShowFault>
-    ensures ok { OnOk result ((W.written output.new).bytes ≡ (W.written output.old).bytes ++ text.old.items) }
-    ensures text { OnOk result (text.new.items ≡ []) }
-    ensures fine { OnOk result ((W.written output.new).failures ≡ (W.written output.old).failures) }
-    ensures err { IfErr result (λ fault. IsPrefixWritten fault (W.written output.old) (W.written output.new)
-        text.old.items) }
-{
-    match write_all_of(output, text) {
-        Ok(()) => {
-            text.clear();
-            Ok(())
-        }
-        Err(_) => Err(ShowFault::Write),
-    }
 }

@@ -4,7 +4,7 @@ use Rattle.std.proofs.Common.{◌∷◌, ◌≤◌, append-nil, arith}
 use Rattle.std.proofs.lemmas.List.{length-append}
 use Rattle.std.proofs.Math.Seq.{take-append-add, take-append_seam}
 use Rattle.mseed_stream.specs.Device.{BytesWritten}
-use Rattle.mseed_stream.specs.Gathered.{AreGathered, EmittedFirst, EmittedPart}
+use Rattle.mseed_stream.specs.Gathered.{AreGathered, EmittedFirst, EmittedPart, IsCutOff}
 
 -- nothing was taken
 pub gathered_all : (s : BytesWritten) (text : List ℕ) → AreGathered s s text text
@@ -96,6 +96,13 @@ pub part_of : (first old new : BytesWritten) (text lines : List ℕ) → AreGath
 part_of first old new text lines before =
     none_behind (EmittedPart old new) (EmittedPart first new) text lines
     (part_behind first old new text lines [] before)
+
+-- the output failed as it took some of what is gathered: that is a part of the whole
+pub cut_part : (first old new : BytesWritten) (taken : ℕ) (text lines tail : List ℕ)
+    → AreGathered first old text lines
+    → IsCutOff taken (text ++ tail) old new → EmittedPart first new (lines ++ tail)
+cut_part first old new taken text lines tail before cut =
+    part_behind first old new text lines tail before (taken, (cut.part, cut.text))
 
 -- all that was gathered was written
 pub all_written : (old new : BytesWritten) (text rest : List ℕ) → AreGathered old new rest text → rest ≡ []

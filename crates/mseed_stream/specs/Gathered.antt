@@ -1,5 +1,5 @@
 -- A text that is gathered, and written some at a time.
-use Rattle.std.specs.Prelude.{◌≡◌, ◌<◌, ℕ, List, ◌++◌, length, take}
+use Rattle.std.specs.Prelude.{◌≡◌, ◌+◌, ◌<◌, ℕ, List, ◌++◌, length, take}
 use Rattle.mseed_stream.specs.Device.{BytesWritten}
 
 -- the output accepted the first bytes of a text
@@ -15,3 +15,9 @@ pub record AreGathered (old new : BytesWritten) (gathered text : List ℕ) : Typ
   pub taken : List ℕ
   pub bytes : new.bytes ≡ old.bytes ++ taken
   pub joined : taken ++ gathered ≡ text
+
+-- so many bytes of a text were accepted, and then the output failed: it isn't called again
+pub record IsCutOff (taken : ℕ) (whole : List ℕ) (old new : BytesWritten) : Type 0 where
+  pub text : new.bytes ≡ old.bytes ++ take taken whole
+  pub part : taken < length whole
+  pub failed : new.failures ≡ old.failures + 1

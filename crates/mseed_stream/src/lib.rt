@@ -7,8 +7,8 @@
 //! counts other calls for proofs keeps one too. [`Exchanges`] are those of one link after another.
 //!
 //! A [`Cutter`] hands out the records of what a source tells, one by one, and [`split`] those of a
-//! slice. [`read_all`] and [`write_all_of`] are the plain loops over devices, and [`tell`] writes a
-//! line as far as the device takes it.
+//! slice. [`read_all`] and [`write_all_of`] are the plain loops over devices, [`write_beyond`] writes
+//! a text that is gathered some at a time, and [`tell`] writes a line as far as the device takes it.
 #![tactic(auto)]
 
 mod buffered;
@@ -33,4 +33,4 @@ pub use law::one_input;
 pub use slices::{split, split_in};
 pub use tally::Tally;
 pub use telling::tell;
-pub use whole::{read_all, read_all_in, write_all_of};
+pub use whole::{read_all, read_all_in, write_all_of, write_beyond};

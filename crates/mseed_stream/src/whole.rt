@@ -1,7 +1,8 @@
-//! All that a source tells, and all of a slice to a sink.
-ghost use Rattle.std.specs.Prelude.{◌≡◌, ◌+◌, ◌++◌, ◌<◌, length, take, OnOk, IfErr, OnErr, MatchResult};
+//! All that a source tells, all of a slice to a sink, and a text that is gathered to a sink, some at a time.
+ghost use Rattle.std.specs.Prelude.{◌≡◌, ◌≤◌, ◌+◌, ◌++◌, ◌<◌, length, take, OnOk, IfErr, OnErr, MatchResult};
 ghost use Rattle.std.specs.Io.KnownBytes.{Appends};
 ghost use Rattle.mseed_stream.specs.Calls.{WritesOn};
+ghost use Rattle.mseed_stream.specs.Gathered.{AreGathered, IsCutOff};
 ghost use Rattle.mseed_stream.specs.Whole.{ReadsAll};
 
 use crate::device::{Failed, Sink, Source};
@@ -85,4 +86,36 @@ pub fn write_all_of<W: Sink>(sink: &mut W, bytes: &[u8]) -> Result<(), usize>
         }
     }
     Ok(())
+}
+
+/// Writes a text that was gathered, where it has more than `most` bytes, and empties it then: a text of `most` bytes or
+/// fewer is left as it is, and the sink isn't called.
+///
+/// # Errors
+///
+/// How many bytes of the text were taken before the sink failed: fewer than it has. The sink isn't called again.
+pub fn write_beyond<A: Allocator, W: Sink>(
+    sink: &mut W,
+    text: &mut Vec<u8, A>,
+    most: usize,
+) -> Result<(), usize>
+    ensures ok { OnOk result (AreGathered (W.written sink.old) (W.written sink.new) text.new.items text.old.items) }
+    ensures most { OnOk result (length text.new.items ≤ most) }
+    ensures fine { OnOk result ((W.written sink.new).failures ≡ (W.written sink.old).failures) }
+    ensures err { IfErr result (λ taken. IsCutOff taken text.old.items (W.written sink.old) (W.written sink.new)) }
+
+    // What the sink is known to hold grew by what it accepted.
+    ensures writes { WritesOn (W.written sink.old) (W.written sink.new) (W.contents sink.old) (W.contents sink.new)
+        (W.beside sink.old) (W.beside sink.new) }
+{
+    if text.len() <= most {
+        return Ok(());
+    }
+    match write_all_of(sink, text) {
+        Ok(()) => {
+            text.clear();
+            Ok(())
+        }
+        Err(taken) => Err(taken),
+    }
 }

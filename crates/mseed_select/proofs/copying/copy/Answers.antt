@@ -8,6 +8,7 @@ use Rattle.mseed_select.specs.Selecting.{selection_of}
 use Rattle.mseed_select.specs.Selection.{Selection, asks_for, lacks_time}
 use Rattle.mseed_select.specs.declared.counts.Counts.{Counts}
 use Rattle.mseed_select.specs.declared.fault.SelectFault.{SelectFault}
+use Rattle.mseed_select.specs.declared.fault.SelectFault.TheVariants.{Write}
 use Rattle.mseed_select.specs.declared.selected.Selected.{Selected}
 use Rattle.mseed_select.specs.private.Copying.{AreGathered, IsCopying, bytes_by}
 use Rattle.mseed_stream.proofs.Gathered.{gathered_also, gathered_on}
@@ -66,19 +67,19 @@ records-preserved g c =
     let first : BytesWritten = g.W.Sink.written c.args.output.now in
     let old : BytesWritten = g.W.Sink.written c.records.output in
     let added : BytesWritten = g.W.Sink.written c.push_next.new.output in
-    let new : BytesWritten = g.W.Sink.written c.write_beyond.new.output in
+    let new : BytesWritten = g.W.Sink.written c.write_beyond.new.sink in
     let all : List View = views ++ more.view ∷ [] in
     let bytes = gathered_also first old added c.records.bytes.items c.push_next.new.bytes.items
     (selected_bytes s views) (bytes_by s more.view) (selected_bytes s all) before.1 more.bytes.bytes
     (bytes_more s views more.view) in
-    let written = gathered_on first added new c.push_next.new.bytes.items c.write_beyond.new.bytes.items
-    (selected_bytes s all) bytes c.in_ok-write_beyond.ensures.ok in
+    let written = gathered_on first added new c.push_next.new.bytes.items c.write_beyond.new.text.items
+    (selected_bytes s all) bytes c.in-Ok.ensures.ok in
     let records = ap (λ (k : Counts). k.records) c.add.ensures in
     let called : c.add.new.self.records ≤ (g.R.Source.read c.push_next.new.input).calls =
     omega (arith, records, c.records.invariant.1, more.called) in (
       more.handed.along,
       called,
-      c.in_ok-write_beyond.ensures.fine ∙ more.bytes.fine ∙ c.records.invariant.2,
+      c.in-Ok.ensures.fine ∙ more.bytes.fine ∙ c.records.invariant.2,
       (
         all,
         (
@@ -90,8 +91,8 @@ records-preserved g c =
       ),
     )
 
-pub returns-in_err-write_beyond : goal.returns-in_err-write_beyond
-returns-in_err-write_beyond g c =
+pub returns-in-Err : goal.returns-in-Err
+returns-in-Err g c =
     let s : Selection = selection_of c.args.selector.now in
     let views : List View = c.records.invariant.3.0 in
     let before = c.records.invariant.3.1 in
@@ -100,17 +101,15 @@ returns-in_err-write_beyond g c =
     let first : BytesWritten = g.W.Sink.written c.args.output.now in
     let old : BytesWritten = g.W.Sink.written c.records.output in
     let added : BytesWritten = g.W.Sink.written c.push_next.new.output in
-    let new : BytesWritten = g.W.Sink.written c.write_beyond.new.output in
-    let fault : SelectFault = c.in_err-write_beyond.field-0.0 in
+    let new : BytesWritten = g.W.Sink.written c.write_beyond.new.sink in
     let all : List View = views ++ more.view ∷ [] in
     let bytes : AreGathered first added c.push_next.new.bytes.items (selected_bytes s all) =
     gathered_also first old added c.records.bytes.items c.push_next.new.bytes.items (selected_bytes s views)
     (bytes_by s more.view) (selected_bytes s all) before.1 more.bytes.bytes (bytes_more s views more.view) in
-    let ends : IsSelected s (Err fault) read first new = cut_short s fault read first added new
-    c.push_next.new.bytes.items c.push_next.new.cutter.offset all more.handed.records
-    (more.bytes.fine ∙ c.records.invariant.2) bytes c.in_err-write_beyond.ensures.err in
-    copied_err s c.from_residual-in_err-write_beyond.result _ fault read first new c.write_beyond.new.bytes.items
-    c.from_residual-in_err-write_beyond.ensures.1 (λ e q. q) ends
+    let cut = c.in-Err.ensures.err in
+    cut_short s Write read first added new c.push_next.new.bytes.items c.push_next.new.cutter.offset all
+    more.handed.records (more.bytes.fine ∙ c.records.invariant.2) bytes
+    (cut.failed, (c.in-Err.field-0, (cut.part, cut.text)))
 
 pub add-requires : goal.add-requires
 add-requires g c =

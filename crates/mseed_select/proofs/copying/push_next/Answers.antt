@@ -39,15 +39,19 @@ returns-in_err-answer g c = λ views before.
     c.from_residual.ensures.1 (λ e q. q)
 
 pub ask_next-requires-clause-written : goal.ask_next-requires-clause-written
-ask_next-requires-clause-written g c = none_left c.write_beyond.new.bytes.items c.in_ok-write_beyond.ensures.most
+ask_next-requires-clause-written g c = none_left c.write_beyond.new.text.items c.in-Ok.ensures.most
 
-pub returns : goal.returns
-returns g c = λ views before.
+pub returns-in-Ok : goal.returns-in-Ok
+returns-in-Ok g c = λ views before.
     let s : Selection = selection_of c.args.selector.now in
-    let rest : List ℕ = c.write_beyond.new.bytes.items in
+    let rest : List ℕ = c.write_beyond.new.text.items in
     next_written s c.ask_next.result views c.args.cutter.now.offset (g.R.Source.read c.args.input.now)
     (g.R.Source.read c.ask_next.new.input) c.ask_next.new.cutter
-    (g.W.Sink.written c.args.output.now) (g.W.Sink.written c.write_beyond.new.output) c.args.bytes.now.items rest
+    (g.W.Sink.written c.args.output.now) (g.W.Sink.written c.write_beyond.new.sink) c.args.bytes.now.items rest
     c.ask_next.new.bytes.items
-    c.in_ok-write_beyond.ensures.ok (none_left rest c.in_ok-write_beyond.ensures.most)
-    c.in_ok-write_beyond.ensures.fine (c.ask_next.ensures views before)
+    c.in-Ok.ensures.ok (none_left rest c.in-Ok.ensures.most)
+    c.in-Ok.ensures.fine (c.ask_next.ensures views before)
+
+pub returns-in-Err : goal.returns-in-Err
+returns-in-Err g c = λ views before.
+    let cut = c.in-Err.ensures.err in ((cut.failed, (c.in-Err.field-0, (cut.part, cut.text))), before.records)

@@ -1,5 +1,5 @@
-use Rattle.std.proofs.Common.{◌≡◌, ◌++◌, ◌∷◌, [], ◌∙◌, ℕ, ◌+◌, List, length, arith, sym, ap, Err, ◌≤◌}
-use Rattle.std.proofs.lemmas.List.{append-nil, length-append}
+use Rattle.std.proofs.Common.{◌++◌, ◌∷◌, [], ◌∙◌, ℕ, List, arith, sym, ap}
+use Rattle.std.proofs.lemmas.List.{append-nil}
 use Rattle.mseed_record.specs.View.{View}
 use Rattle.mseed_stream.specs.Device.{BytesRead, BytesWritten}
 use Rattle.mseed_show.specs.private.Gathering.{AreGathered}
@@ -11,6 +11,7 @@ use Rattle.mseed_show.specs.Listing.{lines_of}
 use Rattle.mseed_show.specs.Show.{IsShowFault, asked_in}
 use Rattle.mseed_show.specs.private.Gathering.{line_by}
 use Rattle.mseed_show.specs.declared.fault.ShowFault.{ShowFault}
+use Rattle.mseed_show.specs.declared.fault.ShowFault.TheVariants.{Write}
 use Rattle.mseed_stream.proofs.Gathered.{gathered_also, gathered_on}
 use Rattle.mseed_show.proofs.Gathered.{cut_short, gathered_err, lines_more}
 use Rattle.mseed_show.proofs.listing.list.Goals as goal
@@ -61,7 +62,7 @@ records-preserved g c =
     let first : BytesWritten = g.W.Sink.written c.args.output.now in
     let old : BytesWritten = g.W.Sink.written c.records.output in
     let reported : BytesWritten = g.W.Sink.written c.push_next.new.output in
-    let new : BytesWritten = g.W.Sink.written c.write_beyond.new.output in
+    let new : BytesWritten = g.W.Sink.written c.write_beyond.new.sink in
     let offset : ℕ = c.records.cutter.offset in
     let whole : List ℕ = lines_of (asked_in s (views ++ more.view ∷ [])) in
     let one = lines_more s (g.R.Source.read c.records.input).bytes offset views more.view before.0.records in
@@ -69,11 +70,11 @@ records-preserved g c =
     (asked_in s views))
     (line_by s offset more.view) whole before.1 more.line.lines one in
     let written = gathered_on first reported new c.push_next.new.text.items c.write_beyond.new.text.items whole lines
-    c.in_ok-write_beyond.ensures.ok in
+    c.in-Ok.ensures.ok in
     let records = ap (λ (k : Counts). k.records) c.add.ensures in (
       more.handed.along,
       omega (arith, records, c.records.invariant.1, more.called),
-      c.in_ok-write_beyond.ensures.fine
+      c.in-Ok.ensures.fine
           ∙ more.line.fine ∙ c.records.invariant.2,
       (
         views ++ more.view ∷ [],
@@ -86,8 +87,8 @@ records-preserved g c =
       ),
     )
 
-pub returns-in_err-write_beyond : goal.returns-in_err-write_beyond
-returns-in_err-write_beyond g c =
+pub returns-in-Err : goal.returns-in-Err
+returns-in-Err g c =
     let s : Selection = g.C.Choice.selection c.args.choice.now in
     let views : List View = c.records.invariant.3.0 in
     let before = c.records.invariant.3.1 in
@@ -97,19 +98,16 @@ returns-in_err-write_beyond g c =
     let first : BytesWritten = g.W.Sink.written c.args.output.now in
     let old : BytesWritten = g.W.Sink.written c.records.output in
     let reported : BytesWritten = g.W.Sink.written c.push_next.new.output in
-    let new : BytesWritten = g.W.Sink.written c.write_beyond.new.output in
-    let fault : ShowFault = c.in_err-write_beyond.field-0.0 in
+    let new : BytesWritten = g.W.Sink.written c.write_beyond.new.sink in
     let all : List View = views ++ more.view ∷ [] in
     let one = lines_more s (g.R.Source.read c.records.input).bytes offset views more.view before.0.records in
     let lines : AreGathered first reported c.push_next.new.text.items (lines_of (asked_in s all)) =
     gathered_also first old reported c.records.text.items c.push_next.new.text.items (lines_of (asked_in s views))
     (line_by s offset more.view) (lines_of (asked_in s all)) before.1 more.line.lines one in
-    let ends : IsShowFault
-    (asked_in s) fault read first new = cut_short s fault read first reported new c.push_next.new.text.items
-    c.push_next.new.cutter.offset all more.handed.records (more.line.fine ∙ c.records.invariant.2) lines
-    c.in_err-write_beyond.ensures.err in
-    gathered_err s c.from_residual-in_err-write_beyond.result _ fault read first new c.write_beyond.new.text.items
-    c.from_residual-in_err-write_beyond.ensures.1 (λ e q. q) ends
+    let cut = c.in-Err.ensures.err in
+    cut_short s Write read first reported new c.push_next.new.text.items c.push_next.new.cutter.offset all
+    more.handed.records (more.line.fine ∙ c.records.invariant.2) lines
+    (cut.failed, (c.in-Err.field-0, (cut.part, cut.text)))
 
 pub add-requires : goal.add-requires
 add-requires g c =
