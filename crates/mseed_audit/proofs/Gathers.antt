@@ -1,25 +1,21 @@
 -- The lines of records with a finding, as they are gathered, written, and followed by the audit's text.
-use Rattle.std.proofs.Common.{◌≡◌, ℕ, ◌++◌, ◌∷◌, List, [], sym, ap, ◌∙◌, subst}
-use Rattle.std.proofs.Common.{arith, inl, inr, Option, Ok, Err}
+use Rattle.std.proofs.Common.{◌≡◌, ℕ, ◌++◌, List, [], refl, sym, ap, ◌∙◌, subst}
+use Rattle.std.proofs.Common.{arith, inl, inr, Option, Result, Ok, Err, OnErr, OnOk}
+use Rattle.std.specs.Prelude.{MatchResult}
 use Rattle.mseed_record.specs.View.{View}
+use Rattle.mseed_stream.specs.Calls.{WritesOn}
 use Rattle.mseed_stream.specs.Device.{BytesRead, BytesWritten}
-use Rattle.mseed_stream.specs.Standing.{Standing}
+use Rattle.mseed_stream.specs.Gathered.{AreGathered, EmittedFirst, EmittedPart, IsCutOff}
 use Rattle.mseed_stream.specs.Walk.{AreViews}
-use Rattle.mseed_stream.specs.declared.fault.StreamFault.{StreamFault}
-use Rattle.mseed_select.specs.Selection.{Selection, lacks_time}
-use Rattle.mseed_audit.specs.declared.passed.Passed.{Passed}
-use Rattle.mseed_audit.specs.declared.summary.Lines.TheVariants.{OfRecords}
+use Rattle.mseed_stream.proofs.Calls.{writes_none, writes_on}
+use Rattle.mseed_stream.proofs.Gathered.{all_behind, cut_part, gathered_all, gathered_first, gathered_more}
+use Rattle.mseed_stream.proofs.Gathered.{gathered_on, part_of}
+use Rattle.mseed_select.specs.Selection.{Selection}
 use Rattle.mseed_audit.specs.declared.summary.SelectedSummary.{SelectedSummary}
 use Rattle.mseed_audit.specs.declared.each.EachFault.{EachFault}
 use Rattle.mseed_audit.specs.declared.each.EachFault.TheVariants.{Write, Memory}
-use Rattle.mseed_audit.specs.Audit.{Held}
-use Rattle.mseed_stream.specs.Gathered.{AreGathered, EmittedFirst, EmittedPart}
-use Rattle.mseed_stream.proofs.Gathered.{all_behind, first_behind, first_of}
-use Rattle.mseed_stream.proofs.Gathered.{gathered_all, gathered_first, gathered_more}
-use Rattle.mseed_stream.proofs.Gathered.{gathered_written, part_behind, part_of}
 use Rattle.mseed_audit.specs.Each.{AuditedEachIn, EndsInLinesIn, EndsShortIn, IsLinesFaultIn, each_text_in}
-use Rattle.mseed_audit.specs.private.Gathered.{AreTold, AreToldMore, HasEnded, HasTold, IsFinished, IsOneMore}
-use Rattle.mseed_audit.specs.private.Gathered.{IsPrefixWritten}
+use Rattle.mseed_audit.specs.private.Gathered.{AreLined, AreLinedInPart, IsFinished, IsGathering}
 use Rattle.mseed_audit.specs.Scope.{Scope, asked, asked_of}
 use Rattle.mseed_audit.specs.Selected.{IsEachSelectedOutcome}
 use Rattle.mseed_audit.specs.Summary.{text_in}
@@ -44,23 +40,6 @@ in_lines : (scope : Scope) (Emitted : List ℕ → Type 0) (h : BytesRead) (offs
 in_lines scope Emitted h offset views reported shown are prefix =
     (offset, (views, (reported, record { shown = shown; are_reported = are; prefix = prefix })))
 
--- a prefix of what is gathered was written: of the lines
-short_lines : (s : Selection) (fault : EachFault) (h : BytesRead) (first old new : BytesWritten) (text : List ℕ)
-    (offset : ℕ) (views : List View) (reported : List Reported) → AreViews h.bytes offset views
-    → old.failures ≡ first.failures → AreGathered first old text (reported_lines reported)
-    → AreReported [] (asked_of s views) reported
-    → IsPrefixWritten fault old new text → IsLinesFaultIn (asked s) fault h first new
-short_lines s Write h first old new text offset views reported shown same before are w = (
-  omega (arith, same, w.0),
-  in_lines (asked s) (EmittedPart first new) h offset views reported shown are
-      (part_of first old new text (reported_lines reported) before w.1),
-)
-short_lines s Memory h first old new text offset views reported shown same before are w = (
-  w.0 ∙ same,
-  in_lines (asked s) (EmittedFirst first new) h offset views reported shown are
-      (first_of first old new text (reported_lines reported) before w.1),
-)
-
 -- no memory for more than these lines
 pub memory_short : (scope : Scope) (h : BytesRead) (first new : BytesWritten) (text : List ℕ) (offset : ℕ)
     (views : List View) (reported : List Reported) → AreViews h.bytes offset views → new.failures ≡ first.failures
@@ -72,80 +51,69 @@ memory_short scope h first new text offset views reported shown same before are 
       (gathered_first first new text (reported_lines reported) before),
 )
 
--- ---- what comes next of an input
--- one more record was judged or passed, with its line
-pub told_more : (s : Selection) (old new : BytesRead) (before c : Standing) (held next : Held) (p q : Passed)
-    (first now : BytesWritten) (text later : List ℕ) → (t : AreTold s old before held p first now text)
-    → IsOneMore s OfRecords t.views old new c next q text later → AreToldMore s old new c next q first now later
-told_more s old new before c held next p q first now text later t one = record {
-  told = record {
-    views = t.views ++ one.view ∷ [];
-    handed = one.handed;
-    judged = one.judged;
-    reported = t.reported ++ one.reported.more;
-    are_reported = one.reported.reported t.reported t.are_reported;
-    lines = gathered_reported first now text later t.reported one.reported.more t.lines one.reported.text_is;
-    fine = t.fine;
-  };
-  called = one.called;
-  few = one.few;
+-- ---- a report of lines
+-- nothing is reported yet
+pub lined_first : (first : BytesWritten) (held : Option (List ℕ)) (apart : BytesRead) (text : List ℕ) → text ≡ []
+    → AreLined first first held held apart apart text []
+lined_first first held apart text none = record {
+  lines = subst (λ (xs : List ℕ). AreGathered first first xs []) (sym none) (gathered_all first []);
+  fine = refl;
+  writes = writes_none first held apart;
 }
 
--- what is gathered was written then
-pub told_written : (s : Selection) (old new : BytesRead) (c : Standing) (held : Held) (p : Passed)
-    (first now after : BytesWritten) (text rest : List ℕ) → AreToldMore s old new c held p first now text
-    → after.bytes ≡ now.bytes ++ text → rest ≡ []
-    → after.failures ≡ now.failures → AreToldMore s old new c held p first after rest
-told_written s old new c held p first now after text rest m written none fine =
-    let t = m.told in record {
-      told = record {
-        views = t.views;
-        handed = t.handed;
-        judged = t.judged;
-        reported = t.reported;
-        are_reported = t.are_reported;
-        lines = gathered_written first now after text rest (reported_lines t.reported) t.lines written none;
-        fine = fine ∙ t.fine;
-      };
-      called = m.called;
-      few = m.few;
-    }
+-- one more record is reported, unless there is no memory for its line
+pub lined_more : {E : Type 0} (r : Result (Unit {0}) E) (first now : BytesWritten) (held holds : Option (List ℕ))
+    (apart later : BytesRead) (text next : List ℕ) (reported more : List Reported)
+    → AreLined first now held holds apart later text reported → OnOk r (next ≡ text ++ reported_lines more)
+    → OnErr r (next ≡ text)
+    → MatchResult r (λ _. AreLined first now held holds apart later next (reported ++ more))
+    (λ _. AreLined first now held holds apart later next reported)
+lined_more (Ok u) first now held holds apart later text next reported more before e none = record {
+  lines = gathered_reported first now text next reported more before.lines e;
+  fine = before.fine;
+  writes = before.writes;
+}
+lined_more (Err e) first now held holds apart later text next reported more before one none =
+    subst (λ (xs : List ℕ). AreLined first now held holds apart later xs reported) (sym none) before
 
--- or a prefix of it
-pub told_short : (s : Selection) (fault : EachFault) (old new : BytesRead) (c : Standing) (held : Held) (p : Passed)
-    (first now after : BytesWritten) (text : List ℕ) → AreToldMore s old new c held p first now text
-    → IsPrefixWritten fault now after text → IsLinesFaultIn (asked s) fault new first after
-told_short s fault old new c held p first now after text m written =
-    let t = m.told in
-    short_lines s fault new first now after text c.offset t.views t.reported t.handed.records t.fine t.lines
-    t.are_reported written
+-- some of what is gathered was written
+pub lined_on : (first old new : BytesWritten) (held holds keeps : Option (List ℕ)) (apart later last : BytesRead)
+    (text rest : List ℕ) (reported : List Reported) → AreLined first old held holds apart later text reported
+    → AreGathered old new rest text → new.failures ≡ old.failures → WritesOn old new holds keeps later last
+    → AreLined first new held keeps apart last rest reported
+lined_on first old new held holds keeps apart later last text rest reported before written fine writes = record {
+  lines = gathered_on first old new text rest (reported_lines reported) before.lines written;
+  fine = fine ∙ before.fine;
+  writes = writes_on first old new held holds keeps apart later last before.writes writes;
+}
 
--- there was no memory for one more
-pub told_none : (s : Selection) (old new : BytesRead) (before : Standing) (held : Held) (p : Passed)
-    (first now : BytesWritten) (text later : List ℕ) → (t : AreTold s old before held p first now text)
-    → AreViews new.bytes before.offset t.views → IsLinesFaultIn (asked s) Memory new first now
-told_none s old new before held p first now text later t shown =
-    memory_short (asked s) new first now text before.offset t.views t.reported shown t.fine t.lines t.are_reported
+-- or the output failed
+pub lined_in_part : (first old new : BytesWritten) (held holds keeps : Option (List ℕ)) (apart later last : BytesRead)
+    (taken : ℕ) (text : List ℕ) (reported : List Reported) → AreLined first old held holds apart later text reported
+    → IsCutOff taken text old new → WritesOn old new holds keeps later last
+    → AreLinedInPart first new held keeps apart last reported
+lined_in_part first old new held holds keeps apart later last taken text reported before cut writes = record {
+  part = part_of first old new text (reported_lines reported) before.lines (taken, (cut.part, cut.text));
+  failed = omega (arith, before.fine, cut.failed);
+  writes = writes_on first old new held holds keeps apart later last before.writes writes;
+}
 
--- no record was left
-pub told_all : (s : Selection) (old new : BytesRead) (before : Standing) (held next : Held) (p q : Passed)
-    (end : Option StreamFault) (bytes : ℕ) (first now : BytesWritten) (text later : List ℕ)
-    → (t : AreTold s old before held p first now text) → HasEnded s next q end bytes new t.views → later ≡ text
-    → HasTold s next q end bytes new first now later
-told_all s old new before held next p q end bytes first now text later t ended same = (
-  t.views,
+-- what was written where the input wasn't read to its end
+pub lines_fault : (A : Type 0) (s : Selection) (fault : EachFault) (h : BytesRead) (first new : BytesWritten)
+    (held holds : Option (List ℕ)) (apart later : BytesRead) (text : List ℕ)
+    → IsGathering {A = A} s (Err fault) h (AreLined first new held holds apart later text)
+    (AreLinedInPart first new held holds apart later)
+    → IsLinesFaultIn (asked s) fault h first new × WritesOn first new held holds apart later
+lines_fault A s Write h first new held holds apart later text (offset, (views, (shown, r))) = (
   (
-    t.reported,
-    record {
-      lines = record {
-        all = ended.all;
-        are_reported = t.are_reported;
-        lines = subst (λ (xs : List ℕ). AreGathered first now xs (reported_lines t.reported)) (sym same) t.lines;
-        fine = t.fine;
-      };
-      passed = ended.passed;
-    },
+    r.stands.failed,
+    in_lines (asked s) (EmittedPart first new) h offset views r.reported shown r.are_reported r.stands.part,
   ),
+  r.stands.writes,
+)
+lines_fault A s Memory h first new held holds apart later text (offset, (views, (shown, r))) = (
+  memory_short (asked s) h first new text offset views r.reported shown r.stands.fine r.stands.lines r.are_reported,
+  r.stands.writes,
 )
 
 -- ---- before the audit's text
@@ -211,29 +179,17 @@ short_text s Emitted a part = (
   ),
 )
 
--- before a fault
-pub each_short : (s : Selection) {h : BytesRead} (fault : EachFault) (found : SelectedSummary) (views : List View)
+-- before the output failed
+pub each_short : (s : Selection) {h : BytesRead} (taken : ℕ) (found : SelectedSummary) (views : List View)
     (reported : List Reported) (first old new : BytesWritten) (text whole : List ℕ)
     → IsFinished s found h views text whole → AreReported [] (asked_of s views) reported
     → AreGathered first old text (reported_lines reported)
-    → old.failures ≡ first.failures → IsPrefixWritten fault old new whole
-    → IsEachSelectedOutcome s (Err fault) h first new
-each_short s {h} fault found views reported first old new text whole f are before same written =
-    go fault (subst (λ (xs : List ℕ). IsPrefixWritten fault old new xs) f.text_is written)
-  where
-    a : AuditedEachIn (asked s) h
-    a = reported_also s found views reported text whole f are
-
-    tail : List ℕ
-    tail = text_in (asked s) f.audited
-
-    go : (e : EachFault) → IsPrefixWritten e old new (text ++ tail) → IsEachSelectedOutcome s (Err e) h first new
-    go Write w = (
-      omega (arith, same, w.0),
-      short_text s (EmittedPart first new) a (part_behind first old new text (reported_lines reported) tail before w.1),
-    )
-    go Memory w = (
-      w.0 ∙ same,
-      short_text s (EmittedFirst first new) a (first_behind first old new text
-          (reported_lines reported) tail before w.1),
+    → old.failures ≡ first.failures → IsCutOff taken whole old new
+    → IsEachSelectedOutcome s (Err Write) h first new
+each_short s taken found views reported first old new text whole f are before same cut =
+    let a : AuditedEachIn (asked s) _ = reported_also s found views reported text whole f are in
+    let tail : List ℕ = text_in (asked s) f.audited in (
+      omega (arith, same, cut.failed),
+      short_text s (EmittedPart first new) a (cut_part first old new taken text (reported_lines reported) tail before
+          (subst (λ (xs : List ℕ). IsCutOff taken xs old new) f.text_is cut)),
     )

@@ -1,21 +1,21 @@
 -- What an audit of a whole input comes to, by what its calls ensure.
-use Rattle.std.proofs.Common.{◌≡◌, ℕ, suc, ◌+◌, ◌<◌, ◌++◌, List, [], ◌∷◌, length, take, Option, refl, ap, ◌∙◌, subst}
+use Rattle.std.proofs.Common.{◌≡◌, ℕ, suc, ◌+◌, ◌++◌, List, [], ◌∷◌, length, Option, refl, ap, ◌∙◌, subst}
 use Rattle.std.proofs.Common.{Ok, Err, sym, arith, is_some}
 use Rattle.std.specs.List.{count_by, filter}
 use Rattle.mseed_record.specs.View.{View}
 use Rattle.mseed_stream.specs.Device.{BytesRead, BytesWritten}
+use Rattle.mseed_stream.specs.Gathered.{IsCutOff}
 use Rattle.mseed_stream.specs.declared.fault.StreamFault.{StreamFault}
 use Rattle.mseed_select.specs.Selection.{Selection, asks_for, everything, lacks_time}
 use Rattle.mseed_audit.specs.declared.verdict.Verdict.{Verdict}
 use Rattle.mseed_audit.specs.declared.passed.Passed.{Passed}
-use Rattle.mseed_audit.specs.declared.summary.AuditFault.{AuditFault}
 use Rattle.mseed_audit.specs.declared.summary.AuditFault.TheVariants.{Write}
 use Rattle.mseed_audit.specs.declared.summary.SelectedSummary.{SelectedSummary}
 use Rattle.mseed_audit.specs.Channels.{Added, Placed, added_from, numbered}
 use Rattle.mseed_audit.specs.Verdict.{AreVerdictsAmong}
 use Rattle.mseed_audit.specs.Audit.{Held, IsAuditAmong}
 use Rattle.mseed_audit.specs.Text.{audit_text}
-use Rattle.mseed_audit.specs.Scope.{Scope, asked, asked_of, placed_of, whole}
+use Rattle.mseed_audit.specs.Scope.{asked, asked_of, placed_of, whole}
 use Rattle.mseed_audit.specs.Selected.{IsSelectedOutcome}
 use Rattle.mseed_audit.specs.Summary.{broken_count, text_in}
 use Rattle.mseed_audit.specs.private.Gathered.{HasEnded, IsFinished}
@@ -51,10 +51,10 @@ finished s found held p end bytes h views verdicts slice records text next ended
     }
 
 -- as the whole text
-all_text : (s : Selection) {h : BytesRead} (found : SelectedSummary) (views : List View) (start text bytes : List ℕ)
-    (f : IsFinished s found h views start text) → start ≡ [] → bytes ≡ text → bytes ≡ text_in (asked s) f.audited
-all_text s found views start text bytes f empty same =
-    same ∙ f.text_is ∙ ap (λ (xs : List ℕ). xs ++ text_in (asked s) f.audited) empty
+all_text : (s : Selection) {h : BytesRead} (found : SelectedSummary) (views : List View) (start text : List ℕ)
+    (f : IsFinished s found h views start text) → start ≡ [] → text ≡ text_in (asked s) f.audited
+all_text s found views start text f empty =
+    f.text_is ∙ ap (λ (xs : List ℕ). xs ++ text_in (asked s) f.audited) empty
 
 pub timed : (s : Selection) {h : BytesRead} (found : SelectedSummary) (views : List View) (start text : List ℕ)
     (f : IsFinished s found h views start text) → found.without_time ≡ count_by (lacks_time s) f.audited.views
@@ -62,16 +62,15 @@ timed s found views start text f =
     f.without_time ∙ ap (λ (vs : List View). count_by (lacks_time s) vs) (sym f.views_are)
 
 -- which was written
-pub written : (s : Selection) {h : BytesRead} (found : SelectedSummary) (views : List View)
-    (start text bytes : List ℕ) (old new : BytesWritten) → IsFinished s found h views start text → start ≡ []
-    → bytes ≡ text → new.bytes ≡ old.bytes ++ bytes
+pub written : (s : Selection) {h : BytesRead} (found : SelectedSummary) (views : List View) (start text : List ℕ)
+    (old new : BytesWritten) → IsFinished s found h views start text → start ≡ [] → new.bytes ≡ old.bytes ++ text
     → new.failures ≡ old.failures → IsSelectedOutcome s (Ok found) h old new
-written s found views start text bytes old new f empty same wrote fine = (
+written s found views start text old new f empty wrote fine = (
   f.audited,
   (
     record {
       summary = f.summary;
-      text = wrote ∙ ap (λ (xs : List ℕ). old.bytes ++ xs) (all_text s found views start text bytes f empty same);
+      text = wrote ∙ ap (λ (xs : List ℕ). old.bytes ++ xs) (all_text s found views start text f empty);
       fine = fine;
     },
     timed s found views start text f,
@@ -80,18 +79,12 @@ written s found views start text bytes old new f empty same wrote fine = (
 
 -- or a part of it
 pub cut_off : (s : Selection) {h : BytesRead} (found : SelectedSummary) (taken : ℕ) (views : List View)
-    (start text bytes : List ℕ) (old new : BytesWritten) → IsFinished s found h views start text → start ≡ []
-    → bytes ≡ text → new.bytes ≡ old.bytes ++ take taken bytes → taken < length bytes
-    → new.failures ≡ old.failures + 1 → IsSelectedOutcome s (Err (Write taken)) h old new
-cut_off s found taken views start text bytes old new f empty same wrote part failed =
-    let is : bytes ≡ text_in (asked s) f.audited = all_text s found views start text bytes f empty same in (
-      f.audited,
-      record {
-        text = wrote ∙ ap (λ (xs : List ℕ). old.bytes ++ take taken xs) is;
-        part = subst (λ (xs : List ℕ). taken < length xs) is part;
-        failed = failed;
-      },
-    )
+    (start text : List ℕ) (old new : BytesWritten) → IsFinished s found h views start text → start ≡ []
+    → IsCutOff taken text old new → IsSelectedOutcome s (Err (Write taken)) h old new
+cut_off s found taken views start text old new f empty cut = (
+  f.audited,
+  subst (λ (xs : List ℕ). IsCutOff taken xs old new) (all_text s found views start text f empty) cut,
+)
 
 -- ---- where all records are asked for
 asked_each : (ps : List Placed) → filter (λ p. asks_for everything p.view) ps ≡ ps

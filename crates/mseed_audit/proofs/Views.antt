@@ -1,5 +1,5 @@
 -- The records of an archive with one more, as they are added.
-use Rattle.std.proofs.Common.{◌≡◌, ℕ, ◌+◌, ◌<◌, ◌≤◌, ◌++◌, List, [], ◌∷◌, Option, false, length, map}
+use Rattle.std.proofs.Common.{◌≡◌, ℕ, ◌+◌, ◌++◌, List, [], ◌∷◌, Option, false, length, map}
 use Rattle.std.proofs.Common.{sym, ap, subst, ◌∙◌, arith, refl, suc, Bool, if◌then◌else◌}
 use Rattle.std.proofs.lemmas.Bool.{false≢true}
 use Rattle.std.proofs.lemmas.List.{length-append}
@@ -10,16 +10,15 @@ use Rattle.mseed_record.specs.View.{View}
 use Rattle.mseed_stream.specs.Calls.{ReadsOn}
 use Rattle.mseed_stream.specs.Cutting.{lent_whole}
 use Rattle.mseed_stream.specs.Device.{BytesRead, BytesWritten}
-use Rattle.mseed_stream.specs.Standing.{Standing}
-use Rattle.mseed_stream.specs.Walk.{AreViews, HasHandedOut}
-use Rattle.mseed_audit.specs.declared.summary.Lines.{Lines}
+use Rattle.mseed_stream.specs.Walk.{AreViews}
 use Rattle.mseed_select.proofs.Copied.{count_more}
 use Rattle.mseed_select.specs.Selection.{Selection, asks_for, lacks_time}
 use Rattle.mseed_audit.specs.declared.passed.Passed.{Passed}
 use Rattle.mseed_audit.specs.Audit.{Held, IsAuditAmong}
 use Rattle.mseed_audit.specs.Channels.{Added, Placed, added_from, numbered}
 use Rattle.mseed_audit.specs.Scope.{asked_of, placed_of}
-use Rattle.mseed_audit.specs.private.Gathered.{IsJudged, IsJudgedAlso, IsOneMore, IsReportedMore, asked_at, placed_next}
+use Rattle.mseed_audit.specs.Reported.{Reported}
+use Rattle.mseed_audit.specs.private.Gathered.{HasReport, IsJudged, IsPassedAlso, asked_at, placed_next}
 use Rattle.mseed_audit.proofs.More.{numbered_more}
 
 pub added_length : (offset : ℕ) (views : List View) → length (added_from offset views) ≡ length views
@@ -56,41 +55,34 @@ asked_more s bytes held c views v before number =
     ap (λ (ps : List Placed). filter test ps) all
     ∙ filter-append test (placed_of views) (placed_next held v c ∷ [])
 
--- a record more was handed out, and it was judged or passed
-pub one_more : (s : Selection) (lines : Lines) (views : List View) (view : View) (offset : ℕ) (old new : BytesRead)
-    (before c : Standing) (held next : Held) (p q : Passed) (text later : List ℕ) → HasHandedOut old before views
-    → IsJudged s held p views → held.added ≤ old.calls → offset ≡ before.offset
-    → IsJudgedAlso s lines held next p q (placed_next held view offset) text later
-    → HasHandedOut new c (views ++ view ∷ []) → old.calls < new.calls
-    → IsOneMore s lines views old new c next q text later
-one_more s lines views view offset old new before c held next p q text later handed is few at also further called =
-    let one : IsJudgedAlso s lines held next p q (placed_next held view before.offset) text later =
-    subst (λ (n : ℕ). IsJudgedAlso s lines held next p q (placed_next held view n) text later) at also in
-    let more : List Placed = asked_at s (placed_next held view before.offset) in
-    let all : asked_of s (views ++ view ∷ []) ≡ asked_of s views ++ more =
-    asked_more s old.bytes held before.offset views view handed.records is.audit.number in
-    let size : length (asked_of s (views ++ view ∷ [])) ≡ length (asked_of s views) + length more =
-    ap (λ (ps : List Placed). length ps) all ∙ length-append (asked_of s views) more in
-    let count : length (views ++ view ∷ []) ≡ length views + 1 = length-append views (view ∷ []) in
-    let number : length (added_from 0 (views ++ view ∷ [])) ≡ length (added_from 0 views) + 1 =
-    added_length 0 (views ++ view ∷ []) ∙ count ∙ ap (λ (n : ℕ). n + 1) (sym (added_length 0 views)) in record {
-      view = view;
-      handed = further;
-      judged = record {
-        audit = subst (λ (ps : List Placed). IsAuditAmong next ps (length (added_from 0 (views ++ view ∷ []))))
-            (sym all) (subst (λ (n : ℕ). IsAuditAmong next (asked_of s views ++ more) n) (sym number)
-            (one.added.audit (asked_of s views) (length (added_from 0 views)) is.audit));
-        passed = record {
-          all = omega (arith, is.passed.all, one.passed.all, size, count);
-          without_time = one.passed.without_time
-              ∙ ap (λ (n : ℕ). n + (if lacks_time s view then 1 else 0)) is.passed.without_time
-              ∙ sym (count_more (lacks_time s) views view);
-        };
+-- it was judged or passed
+pub judged_also : (s : Selection) (bytes : List ℕ) (offset : ℕ) (views : List View) (v : View) (held next : Held)
+    (p q : Passed) (Before After : List Reported → Type 0) → AreViews bytes offset views
+    → IsJudged s held p Before views
+    → ((ps : List Placed) (count : ℕ) → IsAuditAmong held ps count
+    → IsAuditAmong next (ps ++ asked_at s (placed_next held v offset)) (count + 1))
+    → IsPassedAlso s p q (placed_next held v offset)
+    → HasReport (asked_of s views ++ asked_at s (placed_next held v offset)) After
+    → IsJudged s next q After (views ++ v ∷ [])
+judged_also s bytes offset views v held next p q Before After shown is adds passes report =
+    let ps : List Placed = asked_of s views in
+    let more : List Placed = asked_at s (placed_next held v offset) in
+    let all : asked_of s (views ++ v ∷ []) ≡ ps ++ more = asked_more s bytes held offset views v shown is.audit.number in
+    let size : length (asked_of s (views ++ v ∷ [])) ≡ length ps + length more =
+    ap (λ (qs : List Placed). length qs) all ∙ length-append ps more in
+    let count : length (views ++ v ∷ []) ≡ length views + 1 = length-append views (v ∷ []) in
+    let number : length (added_from 0 (views ++ v ∷ [])) ≡ length (added_from 0 views) + 1 =
+    added_length 0 (views ++ v ∷ []) ∙ count ∙ ap (λ (n : ℕ). n + 1) (sym (added_length 0 views)) in record {
+      audit = subst (λ (qs : List Placed). IsAuditAmong next qs (length (added_from 0 (views ++ v ∷ [])))) (sym all)
+          (subst (λ (n : ℕ). IsAuditAmong next (ps ++ more) n) (sym number)
+          (adds ps (length (added_from 0 views)) is.audit));
+      passed = record {
+        all = omega (arith, is.passed.all, passes.all, size, count);
+        without_time = passes.without_time
+            ∙ ap (λ (n : ℕ). n + (if lacks_time s v then 1 else 0)) is.passed.without_time
+            ∙ sym (count_more (lacks_time s) views v);
       };
-      reported = subst (λ (ps : List Placed). IsReportedMore lines (asked_of s views) ps text later) (sym all)
-          (one.added.reported (asked_of s views) (length (added_from 0 views)) is.audit);
-      called = called;
-      few = omega (arith, called, few, one.added.number);
+      report = subst (λ (qs : List Placed). HasReport qs After) (sym all) report;
     }
 
 -- a record that a source held whole was read

@@ -1,8 +1,9 @@
 -- What an audit of a whole input writes and answers.
-use Rattle.std.specs.Prelude.{◌≡◌, ◌<◌, ◌+◌, ℕ, List, [], ◌∷◌, ◌++◌, length, take, Option, Result, Ok, Err, is_some}
+use Rattle.std.specs.Prelude.{◌≡◌, ◌+◌, ℕ, List, [], ◌∷◌, ◌++◌, length, Option, Result, Ok, Err, is_some}
 use Rattle.std.specs.List.{concat}
 use Rattle.mseed_record.specs.View.{View}
 use Rattle.mseed_stream.specs.Device.{BytesRead, BytesWritten}
+use Rattle.mseed_stream.specs.Gathered.{IsCutOff}
 use Rattle.mseed_stream.specs.declared.fault.StreamFault.{StreamFault}
 use Rattle.mseed_audit.specs.declared.verdict.Verdict.{Verdict}
 use Rattle.mseed_audit.specs.declared.verdict.Verdict.TheVariants.{Continuous, Broken}
@@ -58,17 +59,10 @@ pub record IsWrittenIn (scope : Scope) {h : BytesRead} (s : Summary) (a : Audite
   pub text : new.bytes ≡ old.bytes ++ text_in scope a
   pub fine : new.failures ≡ old.failures
 
--- a prefix of the text of so many bytes was written, and then the output failed
-pub record IsCutOffIn (scope : Scope) {h : BytesRead} (taken : ℕ) (a : AuditedIn scope h) (old new : BytesWritten)
-    : Type 0 where
-  pub text : new.bytes ≡ old.bytes ++ take taken (text_in scope a)
-  pub part : taken < length (text_in scope a)
-  pub failed : new.failures ≡ old.failures + 1
-
--- by the outcome
+-- By the outcome: where the output failed, so many bytes of the text were written before.
 abbrev pub IsOutcomeIn : Scope → Result Summary AuditFault → BytesRead → BytesWritten → BytesWritten → Type 0
 IsOutcomeIn scope (Ok summary) h old new = (a : AuditedIn scope h) × IsWrittenIn scope summary a old new
-IsOutcomeIn scope (Err (Write taken)) h old new = (a : AuditedIn scope h) × IsCutOffIn scope taken a old new
+IsOutcomeIn scope (Err (Write taken)) h old new = (a : AuditedIn scope h) × IsCutOff taken (text_in scope a) old new
 IsOutcomeIn scope (Err Memory) h old new = new ≡ old
 
 abbrev pub IsOutcome : Result Summary AuditFault → BytesRead → BytesWritten → BytesWritten → Type 0

@@ -10,6 +10,7 @@ mod each;
 mod finding;
 mod law;
 mod passed;
+mod report;
 mod roster;
 mod summary;
 mod tail;

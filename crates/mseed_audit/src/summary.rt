@@ -1,5 +1,5 @@
 //! The audit of an archive.
-ghost use Rattle.std.specs.Prelude.{◌≡◌, ◌<◌, ◌≤◌, ◌+◌, ◌^◌, ◌∷◌, [], List, IfOk, OnOk, None};
+ghost use Rattle.std.specs.Prelude.{◌≡◌, ◌<◌, ◌≤◌, ◌+◌, ◌++◌, ◌^◌, ◌∷◌, [], List, ℕ, IfOk, MatchResult, None};
 ghost use Rattle.mseed_record.specs.View.{View};
 ghost use Rattle.mseed_record.specs.Viewing.{view_of};
 ghost use Rattle.mseed_stream.specs.Calls.{ReadsOn, WritesOn};
@@ -8,12 +8,14 @@ ghost use Rattle.mseed_stream.specs.Device.{BytesRead, nothing_read};
 ghost use Rattle.mseed_select.specs.Selection.{Selection};
 
 use crate::audits::{Audit, Memory};
+use crate::each::EachFault;
 use crate::passed::Passed;
-use crate::text::{push_audit, push_reported};
+use crate::report::{Report, Unreported};
+use crate::text::push_audit;
 use crate::verdict::Verdict;
 use mseed_record::{Codes, RecordView};
 use mseed_select::{All, Answer, Choice};
-use mseed_stream::{Cutter, Sink, Source, StreamFault, write_all_of};
+use mseed_stream::{Cutter, Failed, Sink, Source, StreamFault, write_all_of};
 use std::alloc::Allocator;
 use thiserror::Error;
 
@@ -53,15 +55,6 @@ pub enum AuditFault {
     Memory,
 }
 
-/// Of what lines are written before the text of an audit.
-#[derive(Clone, Copy)]
-pub(crate) enum Lines {
-    /// None: the text has a line for each verdict, and that is all.
-    OfVerdicts,
-    /// Of each record with a finding.
-    OfRecords,
-}
-
 /// What comes next of an input.
 #[derive(Clone, Copy)]
 pub(crate) enum Step {
@@ -84,8 +77,10 @@ pub(crate) struct Gathered<A: Allocator> {
     pub(crate) bytes: u64,
 }
 
-ghost use Rattle.mseed_audit.specs.private.Gathered.{AddsNext, HasEnded, IsAddedAlso, IsFinished, IsGathering};
-ghost use Rattle.mseed_audit.specs.private.Gathered.{IsJudgedAlso, placed_next};
+ghost use Rattle.mseed_audit.specs.private.Gathered.{HasEnded, HasReport, IsFinished, IsGathering, IsJudged, IsNext};
+ghost use Rattle.mseed_audit.specs.Reported.{Reported};
+ghost use Rattle.mseed_audit.specs.Scope.{asked_of};
+ghost use Rattle.mseed_stream.specs.Walk.{AreViews, HasHandedOut};
 ghost use Rattle.mseed_audit.specs.Selected.{IsSelectedOutcome};
 ghost use Rattle.mseed_audit.specs.Summary.{IsOutcome, IsGathered, broken_count};
 
@@ -142,9 +137,9 @@ pub fn audit_selected<A: Allocator + Copy, C: Choice, R: Source, W: Sink>(
     ensures writes { WritesOn (W.written sink.old) (W.written sink.new) (W.contents sink.old) (W.contents sink.new)
         (W.beside sink.old) (W.beside sink.new) }
 {
-    let gathered = match gather_selected(alloc, choice, source) {
+    let gathered = match gather_with(alloc, choice, source, &mut Unreported, &mut ()) {
         Ok(gathered) => gathered,
-        Err(Memory) => return Err(AuditFault::Memory),
+        Err(_) => return Err(AuditFault::Memory),
     };
     let mut text = Vec::new(alloc);
     let found = match push_finished(&mut text, gathered) {
@@ -208,44 +203,39 @@ pub fn gather<A: Allocator + Copy, R: Source>(
     ensures reads { ReadsOn (R.read source.old) (R.read source.new) (R.remaining source.old) (R.remaining source.new)
         (R.beside source.old) (R.beside source.new) }
 {
-    match gather_selected(alloc, &All, source) {
+    match gather_with(alloc, &All, source, &mut Unreported, &mut ()) {
         Ok(found) => Ok((found.audit, found.end, found.bytes)),
-        Err(Memory) => Err(Memory),
+        Err(_) => Err(Memory),
     }
 }
 
-/// Audits those of the records that a source tells that are asked for, up to its end.
+/// Audits those of the records that a source tells that are asked for, up to its end, and reports those with a finding.
 ///
 /// # Errors
 ///
-/// `Memory` where an allocation was refused.
-pub(crate) fn gather_selected<A: Allocator + Copy, C: Choice, R: Source>(
+/// `Write` where the output of the report failed, `Memory` where an allocation was refused.
+pub(crate) fn gather_with<A: Allocator + Copy, C: Choice, R: Source, O, P: Report<O>>(
     alloc: A,
     choice: &C,
     source: &mut R,
-) -> Result<Gathered<A>, Memory>
-    requires { R.read source.old ≡ nothing_read }
-    ensures gathered { IsGathering (C.selection choice.now) result (R.read source.new) }
+    report: &mut P,
+    output: &mut O,
+) -> Result<Gathered<A>, EachFault>
+    requires read { R.read source.old ≡ nothing_read }
+    requires report { P.stands output.old report.old output.old [] }
+    ensures gathered { IsGathering (C.selection choice.now) result (R.read source.new)
+        (P.stands output.old report.new output.new) (P.fails output.old output.new) }
     ensures reads { ReadsOn (R.read source.old) (R.read source.new) (R.remaining source.old) (R.remaining source.new)
         (R.beside source.old) (R.beside source.new) }
 {
     let mut cutter = Cutter::new(alloc);
     let mut audit = Audit::new(alloc);
     let mut passed = Passed::none();
-    let mut text = Vec::new(alloc);
     'records: loop {
         let bytes = cutter.offset();
-        match add_next(
-            &mut audit,
-            &mut passed,
-            choice,
-            &mut cutter,
-            source,
-            Lines::OfVerdicts,
-            &mut text,
-        )? {
-            Step::Taken => {}
-            Step::Ended(end) => {
+        match take_next(&mut audit, &mut passed, choice, &mut cutter, source, report) {
+            Ok(Step::Taken) => {}
+            Ok(Step::Ended(end)) => {
                 return Ok(Gathered {
                     audit,
                     passed,
@@ -253,41 +243,47 @@ pub(crate) fn gather_selected<A: Allocator + Copy, C: Choice, R: Source>(
                     bytes,
                 });
             }
+            Err(Memory) => return Err(EachFault::Memory),
+        }
+        match report.write(output) {
+            Ok(()) => {}
+            Err(Failed) => return Err(EachFault::Write),
         }
     }
 }
 
-/// Judges the next record where it is asked for, and adds its line, if it has one, or passes it; or answers how the
-/// input ends. A record that the source holds whole isn't copied.
+/// Judges the next record where it is asked for, and reports it, if something is found of it, or passes it; or answers
+/// how the input ends. A record that the source holds whole isn't copied.
 #[inline(always)]
-pub(crate) fn add_next<A: Allocator + Copy, C: Choice, R: Source>(
+fn take_next<A: Allocator + Copy, C: Choice, R: Source, O, P: Report<O>>(
     audit: &mut Audit<A>,
     passed: &mut Passed,
     choice: &C,
     cutter: &mut Cutter<A>,
     source: &mut R,
-    lines: Lines,
-    text: &mut Vec<u8, A>,
+    report: &mut P,
 ) -> Result<Step, Memory>
     requires along { IsAlong (R.read source.old) cutter.old }
     requires few { audit.old.added ≤ (R.read source.old).calls }
     requires passed { passed.old.left + passed.old.without_time ≤ audit.old.added }
-    ensures next { AddsNext (C.selection choice.now) lines result (R.read source.old) (R.read source.new) cutter.old
-        cutter.new audit.old audit.new passed.old passed.new text.old.items text.new.items }
+    ensures next { (first now : O) (views : List View) → HasHandedOut (R.read source.old) cutter.old views
+        → IsJudged (C.selection choice.now) audit.old passed.old (P.stands first report.old now) views
+        → IsNext (C.selection choice.now) result views cutter.old.offset (R.read source.old) (R.read source.new)
+        cutter.new audit.new passed.new (P.stands first report.new now) }
     ensures reads { cutter.old.answer ≡ None → ReadsOn (R.read source.old) (R.read source.new) (R.remaining source.old)
         (R.remaining source.new) (R.beside source.old) (R.beside source.new) }
 {
     let offset = cutter.offset();
     match cutter.peek(source) {
         Some(view) => {
-            judge(audit, passed, choice, &view, offset, lines, text)?;
+            judge(audit, passed, choice, &view, offset, report)?;
             let size = view.bytes().len();
             cutter.pass(source, size);
             Ok(Step::Taken)
         }
         None => match cutter.next(source) {
             Ok(Some(view)) => {
-                judge(audit, passed, choice, &view, offset, lines, text)?;
+                judge(audit, passed, choice, &view, offset, report)?;
                 Ok(Step::Taken)
             }
             Ok(None) => Ok(Step::Ended(None)),
@@ -297,53 +293,37 @@ pub(crate) fn add_next<A: Allocator + Copy, C: Choice, R: Source>(
     }
 }
 
-/// Adds a record that is asked for, and its line, if it has one; passes another.
+/// Adds a record that is asked for, and reports it, if something is found of it; passes another.
 #[inline(always)]
-fn judge<A: Allocator + Copy, C: Choice>(
+fn judge<A: Allocator + Copy, C: Choice, O, P: Report<O>>(
     audit: &mut Audit<A>,
     passed: &mut Passed,
     choice: &C,
     view: &RecordView,
     offset: u64,
-    lines: Lines,
-    text: &mut Vec<u8, A>,
+    report: &mut P,
 ) -> Result<(), Memory>
     requires few { audit.old.added < 2 ^ 40 }
     requires passed { passed.old.left + passed.old.without_time ≤ audit.old.added }
-    ensures { OnOk result (IsJudgedAlso (C.selection choice.now) lines audit.old audit.new passed.old passed.new
-        (placed_next audit.old (view_of view.now) offset) text.old.items text.new.items) }
+    ensures { (first now : O) (bytes : List ℕ) (views : List View) → AreViews bytes offset views
+        → IsJudged (C.selection choice.now) audit.old passed.old (P.stands first report.old now) views
+        → MatchResult result
+        (λ _. IsJudged (C.selection choice.now) audit.new passed.new (P.stands first report.new now)
+        (views ++ view_of view.now ∷ []))
+        (λ _. HasReport (asked_of (C.selection choice.now) views) (P.stands first report.new now)) }
 {
     let answer = choice.answer(view);
     if let Answer::AskedFor = answer {
-        return add_reported(audit, view, offset, lines, text);
+        let lead = match audit.add_sound(view) {
+            Ok(()) => return Ok(()),
+            Err(lead) => lead,
+        };
+        let why = audit.add_learnt(view, offset, lead)?;
+        return report.add(view, audit.added(), offset, why);
     }
     audit.pass();
     passed.add(answer);
     Ok(())
-}
-
-/// Adds a record, and its line, if it has one.
-#[inline(always)]
-fn add_reported<A: Allocator + Copy>(
-    audit: &mut Audit<A>,
-    view: &RecordView,
-    offset: u64,
-    lines: Lines,
-    text: &mut Vec<u8, A>,
-) -> Result<(), Memory>
-    requires { audit.old.added < 2 ^ 40 }
-    ensures { OnOk result (IsAddedAlso lines audit.old audit.new
-        (placed_next audit.old (view_of view.now) offset ∷ []) text.old.items text.new.items) }
-{
-    let lead = match audit.add_sound(view) {
-        Ok(()) => return Ok(()),
-        Err(lead) => lead,
-    };
-    let why = audit.add_learnt(view, offset, lead)?;
-    match lines {
-        Lines::OfVerdicts => Ok(()),
-        Lines::OfRecords => push_reported(text, view, audit.added(), offset, why),
-    }
 }
 
 /// How many verdicts say that a channel is broken.

@@ -134,8 +134,9 @@ pub(crate) fn push_reported<A: Allocator>(
     offset: u64,
     why: Option<Why>,
 ) -> Result<(), Memory>
-    ensures { OnOk result (text.new.items ≡ text.old.items ++ reported_lines
+    ensures ok { OnOk result (text.new.items ≡ text.old.items ++ reported_lines
         (reported_at (record { view = view_of view.now; offset = offset; number = number }) why)) }
+    ensures unchanged { OnErr result (text.new.items ≡ text.old.items) }
 {
     let Some(why) = why else {
         return Ok(());
@@ -157,8 +158,9 @@ fn push_reported_line<A: Allocator>(
     view: &RecordView,
     finding: &Finding,
 ) -> Result<(), AllocError>
-    ensures { OnOk result (text.new.items
+    ensures ok { OnOk result (text.new.items
         ≡ text.old.items ++ reported_line (record { view = view_of view.now; finding = finding.now })) }
+    ensures unchanged { OnErr result (text.new.items ≡ text.old.items) }
 {
     let mut line = Line::new();
     put_reported_line(&mut line, view, finding);

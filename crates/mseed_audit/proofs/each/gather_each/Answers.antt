@@ -1,28 +1,50 @@
 use Rattle.std.proofs.Common.{subst}
 use Rattle.mseed_stream.specs.Device.{BytesRead, BytesWritten}
+use Rattle.mseed_select.specs.Selection.{everything}
 use Rattle.mseed_audit.specs.Scope.{Scope}
 use Rattle.mseed_audit.specs.Each.{HasLinesIn, IsLinesFaultIn}
+use Rattle.mseed_audit.proofs.Gathers.{lined_first, lines_fault}
 use Rattle.mseed_audit.proofs.Outcomes.{asked_all}
 use Rattle.mseed_audit.proofs.each.gather_each.Goals as goal
 
+pub gather_with-requires-clause-report : goal.gather_with-requires-clause-report
+gather_with-requires-clause-report g c = lined_first _ _ _ _ c.requires.text
+
 pub returns-in-Ok-clause-reported : goal.returns-in-Ok-clause-reported
 returns-in-Ok-clause-reported g c =
-    let read : BytesRead = g.R.Source.read c.gather_each_selected.new.source in
+    let read : BytesRead = g.R.Source.read c.gather_with.new.source in
     let old : BytesWritten = g.W.Sink.written c.args.sink.now in
-    let new : BytesWritten = g.W.Sink.written c.gather_each_selected.new.sink in
+    let new : BytesWritten = g.W.Sink.written c.gather_with.new.output in
     let found = c.in-Ok.found in
-    let o = c.in-Ok.ensures.reported in (
+    let o = c.in-Ok.ensures.gathered in
+    let r = o.1.1 in (
       o.0,
       (
-        o.1.0,
+        r.reported,
         subst (λ (scope : Scope). HasLinesIn scope found.audit found.end found.bytes read old new
-            c.gather_each_selected.new.text.items o.0 o.1.0) asked_all o.1.1.lines,
+            c.gather_with.new.report.items o.0 r.reported) asked_all (record {
+              all = o.1.0.all;
+              are_reported = r.are_reported;
+              lines = r.stands.lines;
+              fine = r.stands.fine;
+            }),
       ),
     )
 
+pub returns-in-Ok-clause-writes : goal.returns-in-Ok-clause-writes
+returns-in-Ok-clause-writes g c = c.in-Ok.ensures.gathered.1.1.stands.writes
+
 pub returns-in-Err-clause-reported : goal.returns-in-Err-clause-reported
 returns-in-Err-clause-reported g c =
-    let read : BytesRead = g.R.Source.read c.gather_each_selected.new.source in
+    let read : BytesRead = g.R.Source.read c.gather_with.new.source in
     let old : BytesWritten = g.W.Sink.written c.args.sink.now in
-    let new : BytesWritten = g.W.Sink.written c.gather_each_selected.new.sink in
-    subst (λ (scope : Scope). IsLinesFaultIn scope c.in-Err.fault read old new) asked_all c.in-Err.ensures.reported
+    let new : BytesWritten = g.W.Sink.written c.gather_with.new.output in
+    subst (λ (scope : Scope). IsLinesFaultIn scope c.in-Err.fault read old new) asked_all
+    (lines_fault g.row.A.Denot everything c.in-Err.fault read old new _ _ _ _ c.gather_with.new.report.items
+    c.in-Err.ensures.gathered).0
+
+pub returns-in-Err-clause-writes : goal.returns-in-Err-clause-writes
+returns-in-Err-clause-writes g c =
+    (lines_fault g.row.A.Denot everything c.in-Err.fault (g.R.Source.read c.gather_with.new.source)
+    (g.W.Sink.written c.args.sink.now) (g.W.Sink.written c.gather_with.new.output) _ _ _ _
+    c.gather_with.new.report.items c.in-Err.ensures.gathered).1

@@ -7,9 +7,9 @@ use Rattle.mseed_audit.proofs.summary.gather.Goals as goal
 
 pub returns-in-Ok-clause-gathered : goal.returns-in-Ok-clause-gathered
 returns-in-Ok-clause-gathered g c =
-    let read : BytesRead = g.R.Source.read c.gather_selected.new.source in
+    let read : BytesRead = g.R.Source.read c.gather_with.new.source in
     let found = c.in-Ok.found in
     let o = c.in-Ok.ensures.gathered in (
       o.0,
-      subst (λ (scope : Scope). IsGatheredIn scope found.audit found.end found.bytes read o.0) asked_all o.1.all,
+      subst (λ (scope : Scope). IsGatheredIn scope found.audit found.end found.bytes read o.0) asked_all o.1.0.all,
     )

@@ -5,21 +5,31 @@ use Rattle.mseed_stream.specs.Device.{BytesRead}
 use Rattle.mseed_stream.specs.Walk.{AreViews, HasHandedOut}
 use Rattle.mseed_stream.proofs.Calls.{reads_none}
 use Rattle.mseed_stream.proofs.Handed.{views_stay}
-use Rattle.mseed_audit.proofs.Views.{one_more, reads_whole}
-use Rattle.mseed_audit.proofs.summary.add_next.Goals as goal
+use Rattle.mseed_audit.proofs.Telling.{next_none}
+use Rattle.mseed_audit.proofs.Views.{reads_whole}
+use Rattle.mseed_audit.proofs.summary.take_next.Goals as goal
 
 pub returns-in_ok-judge-in-Some-clause-next : goal.returns-in_ok-judge-in-Some-clause-next
-returns-in_ok-judge-in-Some-clause-next g c = λ views before is.
+returns-in_ok-judge-in-Some-clause-next g c = λ first now views before judged.
     let view : View = view_of c.in-Some.view in
     let lent : List ℕ = g.R.Source.lent c.args.source.now in
     let shown = c.in-Some.ensures.record in
     let same : view.bytes ≡ take (length c.bytes-size.result.now) lent =
     shown.1 ∙ ap (λ (xs : List ℕ). take (length xs) lent) (sym c.bytes-size.ensures.value) in
     let calls = ap (λ (h : BytesRead). h.calls) c.pass.ensures.reported in
-    one_more (g.C.Choice.selection c.args.choice.now) c.args.lines views view c.offset-offset.result _ _
-    c.args.cutter.now _ c.args.audit.now _ c.args.passed.now _ c.args.text.now.items _ before is c.requires.few
-    c.offset-offset.ensures c.in_ok-judge-in-Some.ensures
-    (c.pass.ensures.handed views view before shown.0 same) (omega (arith, calls))
+    let at = rw (← c.offset-offset.ensures) at before.records in record {
+      view = view;
+      handed = c.pass.ensures.handed views view before shown.0 same;
+      judged = c.in_ok-judge-in-Some.ensures first now _ views at judged;
+      called = omega (arith, calls);
+    }
+
+pub returns-in_err-judge-in-Some-clause-next : goal.returns-in_err-judge-in-Some-clause-next
+returns-in_err-judge-in-Some-clause-next g c = λ first now views before judged.
+    let at = rw (← c.offset-offset.ensures) at before.records in
+    next_none (g.C.Choice.selection c.args.choice.now) c.from_residual.result _ views _ _ _ _ _ _
+    (g.P.Report.stands first c.judge.new.report now) c.from_residual.ensures.1 before.records
+    (c.in_err-judge-in-Some.ensures first now _ views at judged)
 
 pub returns-in_ok-judge-in-Some-clause-reads : goal.returns-in_ok-judge-in-Some-clause-reads
 returns-in_ok-judge-in-Some-clause-reads g c = λ goes_on.
@@ -31,18 +41,20 @@ returns-in_err-judge-in-Some-clause-reads g c = λ goes_on.
     reads_none (g.R.Source.read c.args.source.now) _ _ (c.requires.along.going_on goes_on)
 
 pub returns-in_ok-judge-in-Ok-Some-clause-next : goal.returns-in_ok-judge-in-Ok-Some-clause-next
-returns-in_ok-judge-in-Ok-Some-clause-next g c = λ views before is.
+returns-in_ok-judge-in-Ok-Some-clause-next g c = λ first now views before judged.
     let view : View = view_of c.in-Ok-Some.view in
     let called = rw c.in-Ok-Some.field-0-is at c.in-Ok-Some.ensures.called in
     let handed : HasHandedOut (g.R.Source.read c.next.new.source) c.next.follows.lender-at-none (views ++ view ∷ []) =
     search rules in
-    one_more (g.C.Choice.selection c.args.choice.now) c.args.lines views view c.offset-offset.result _ _
-    c.args.cutter.now _ c.args.audit.now _ c.args.passed.now _ c.args.text.now.items _ before is c.requires.few
-    c.offset-offset.ensures c.in_ok-judge-in-Ok-Some.ensures
-    handed called
+    let at = rw (← c.offset-offset.ensures) at before.records in record {
+      view = view;
+      handed = handed;
+      judged = c.in_ok-judge-in-Ok-Some.ensures first now _ views at judged;
+      called = called;
+    }
 
 pub returns-in_err-judge-in-Ok-Some-clause-next : goal.returns-in_err-judge-in-Ok-Some-clause-next
-returns-in_err-judge-in-Ok-Some-clause-next g c = λ views before is.
+returns-in_err-judge-in-Ok-Some-clause-next g c = λ first now views before judged.
     let old : BytesRead = g.R.Source.read c.args.source.now in
     let new : BytesRead = g.R.Source.read c.next.new.source in
     let offset : ℕ = c.args.cutter.now.offset in
@@ -50,4 +62,7 @@ returns-in_err-judge-in-Ok-Some-clause-next g c = λ views before is.
     let more = c.next.ensures.answer.more in
     let stay : AreViews new.bytes offset views =
     views_stay old.bytes new.bytes more.0 offset views within more.1 before.records in
-    search rules
+    let at = rw (← c.offset-offset.ensures) at before.records in
+    next_none (g.C.Choice.selection c.args.choice.now) c.from_residual-in_err-judge-in-Ok-Some.result _ views _ _ _ _ _ _
+    (g.P.Report.stands first c.judge-in-Ok-Some.new.report now) c.from_residual-in_err-judge-in-Ok-Some.ensures.1 stay
+    (c.in_err-judge-in-Ok-Some.ensures first now _ views at judged)

@@ -1,0 +1,102 @@
+//! What an audit does with the records that have a finding.
+ghost use Rattle.std.specs.Prelude.{◌≡◌, ◌+◌, ◌++◌, ⊤, List, MatchResult};
+ghost use Rattle.mseed_record.specs.Viewing.{view_of};
+ghost use Rattle.mseed_audit.specs.Reported.{Reported, reported_at};
+ghost use Rattle.mseed_audit.specs.private.Gathered.{AreLined, AreLinedInPart};
+
+use crate::audits::Memory;
+use crate::finding::Why;
+use crate::text::push_reported;
+use mseed_record::RecordView;
+use mseed_stream::{Failed, Sink, write_beyond};
+use std::alloc::Allocator;
+
+/// At most so many bytes of lines are kept for the next record.
+const GATHERED: usize = (1 << 16) - 1;
+
+/// What is done with the records that have a finding: nothing, or a line for each goes to an output. A loop over records
+/// takes any report, so that it costs nothing where none is made.
+pub(crate) trait Report<O> {
+    // So the report and its output stand once these were reported: by the output at first, the report and the output.
+    ghost stands: { O → Self → O → List Reported → Type 0 };
+
+    // So the output stands where it failed as these were reported: by the output at first, and the output.
+    ghost fails: { O → O → List Reported → Type 0 };
+
+    /// Adds a record, by its number and its offset among all (in bytes), with what is found of it: where that is nothing,
+    /// the record isn't reported.
+    fn add(
+        &mut self,
+        view: &RecordView,
+        number: u64,
+        offset: u64,
+        why: Option<Why>,
+    ) -> Result<(), Memory>
+        ensures { (first now : O) (reported : List Reported) → stands first self.old now reported → MatchResult result
+            (λ _. stands first self.new now (reported ++ reported_at (record {
+              view = view_of view.now;
+              offset = offset;
+              number = number;
+            }) why))
+            (λ _. stands first self.new now reported) };
+
+    /// Writes what was gathered, once it is much.
+    fn write(&mut self, output: &mut O) -> Result<(), Failed>
+        ensures { (first : O) (reported : List Reported) → stands first self.old output.old reported
+            → MatchResult result (λ _. stands first self.new output.new reported)
+            (λ _. fails first output.new reported) };
+}
+
+/// No record is reported.
+#[derive(Clone, Copy)]
+pub(crate) struct Unreported;
+
+impl Report<()> for Unreported {
+    ghost stands = { λ _ _ _ _. ⊤ };
+
+    ghost fails = { λ _ _ _. ⊥ };
+
+    #[inline(always)]
+    fn add(
+        &mut self,
+        _view: &RecordView,
+        _number: u64,
+        _offset: u64,
+        _why: Option<Why>,
+    ) -> Result<(), Memory> {
+        Ok(())
+    }
+
+    #[inline(always)]
+    fn write(&mut self, _output: &mut ()) -> Result<(), Failed> {
+        Ok(())
+    }
+}
+
+/// Their lines are gathered in a text, and written some at a time.
+impl<A: Allocator, W: Sink> Report<W> for Vec<u8, A> {
+    ghost stands = { λ first text now reported. AreLined (W.written first) (W.written now) (W.contents first)
+        (W.contents now) (W.beside first) (W.beside now) text.items reported };
+
+    ghost fails = { λ first now reported. AreLinedInPart (W.written first) (W.written now) (W.contents first)
+        (W.contents now) (W.beside first) (W.beside now) reported };
+
+    #[inline(always)]
+    fn add(
+        &mut self,
+        view: &RecordView,
+        number: u64,
+        offset: u64,
+        why: Option<Why>,
+    ) -> Result<(), Memory> {
+        push_reported(self, view, number, offset, why)
+    }
+
+    #[inline(always)]
+    fn write(&mut self, output: &mut W) -> Result<(), Failed> {
+        match write_beyond(output, self, GATHERED) {
+            Ok(()) => Ok(()),
+            Err(_) => Err(Failed),
+        }
+    }
+}
