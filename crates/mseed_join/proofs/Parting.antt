@@ -1,5 +1,5 @@
 -- The part of what was read, by what is kept of its channels, and what is written of it.
-use Rattle.std.proofs.Common.{◌≡◌, ℕ, ◌+◌, ◌<◌, ◌++◌, List, [], ◌∷◌, length, map, take, Option, refl, sym, ap, ◌∙◌}
+use Rattle.std.proofs.Common.{◌≡◌, ℕ, ◌+◌, ◌++◌, List, [], ◌∷◌, length, map, Option, refl, sym, ap, ◌∙◌}
 use Rattle.std.proofs.Common.{subst, arith, inr, is_some, Err}
 use Rattle.std.proofs.lemmas.List.{length-append, length-map}
 use Rattle.std.specs.List.{concat}
@@ -11,16 +11,16 @@ use Rattle.mseed_audit.specs.declared.channel.Channel.{Channel}
 use Rattle.mseed_audit.specs.declared.each.EachFault.TheVariants.{Write}
 use Rattle.mseed_audit.specs.Audit.{AreChannels, Held}
 use Rattle.mseed_audit.specs.Channels.{added_from}
-use Rattle.mseed_stream.specs.Gathered.{AreGathered}
+use Rattle.mseed_stream.specs.Gathered.{AreGathered, IsCutOff}
 use Rattle.mseed_audit.specs.Summary.{IsGathered, broken_count}
 use Rattle.mseed_audit.specs.Text.{reported_lines}
 use Rattle.mseed_audit.specs.Reported.{Reported, AreReportedOf}
 use Rattle.mseed_audit.specs.Verdict.{AreVerdicts}
-use Rattle.mseed_stream.proofs.Gathered.{all_behind, part_behind}
+use Rattle.mseed_stream.proofs.Gathered.{all_behind, cut_part}
 use Rattle.mseed_audit.proofs.Outcomes.{added_length}
 use Rattle.mseed_audit.proofs.OneAudit.{HasOneInput}
 use Rattle.mseed_parts.specs.Parts.{Held as Part, IsPartOf, bytes_in}
-use Rattle.mseed_join.specs.AuditPart.{AuditedPart, IsPartCutOff, IsPartEachOutcome, IsPartWritten, IsReportedWritten}
+use Rattle.mseed_join.specs.AuditPart.{AuditedPart, IsPartEachOutcome, IsPartWritten, IsReportedWritten}
 use Rattle.mseed_join.specs.AuditPart.{ReportedPart}
 use Rattle.mseed_join.specs.Joined.{verdict_at}
 use Rattle.mseed_join.specs.Written.{Written, part_text}
@@ -104,20 +104,13 @@ part_written s views start next text old new p empty same bytes fine = (
 )
 
 -- or a prefix of it
-pub part_cut_off : {h : BytesRead} (s : Summary) (taken : ℕ) (views : List View) (start next text : List ℕ)
-    (old new : BytesWritten) → IsPushed s h views start next → start ≡ [] → text ≡ next
-    → new.bytes ≡ old.bytes ++ take taken text → taken < length text → new.failures ≡ old.failures + 1
-    → (a : AuditedPart h) × IsPartCutOff taken a old new
-part_cut_off s taken views start next text old new p empty same bytes part failed =
-    let is : text ≡ part_text p.parted.written = same ∙ p.text_is
-    ∙ ap (λ (xs : List ℕ). xs ++ part_text p.parted.written) empty in (
-      p.parted,
-      record {
-        text = bytes ∙ ap (λ (xs : List ℕ). old.bytes ++ take taken xs) is;
-        part = subst (λ (xs : List ℕ). taken < length xs) is part;
-        failed = failed;
-      },
-    )
+pub part_cut_off : {h : BytesRead} (s : Summary) (taken : ℕ) (views : List View) (start next : List ℕ)
+    (old new : BytesWritten) → IsPushed s h views start next → start ≡ [] → IsCutOff taken next old new
+    → (a : AuditedPart h) × IsCutOff taken (part_text a.written) old new
+part_cut_off s taken views start next old new p empty cut =
+    let is : next ≡ part_text p.parted.written = p.text_is
+    ∙ ap (λ (xs : List ℕ). xs ++ part_text p.parted.written) empty in
+    (p.parted, subst (λ (xs : List ℕ). IsCutOff taken xs old new) is cut)
 
 -- ---- with lines before it
 abbrev pub reported_part : {h : BytesRead} (s : Summary) (views : List View) (text next : List ℕ)
@@ -147,25 +140,17 @@ reported_written s views text next taken reported first old new p are before sam
     )
 
 -- or a prefix of both
-pub reported_cut_off : {h : BytesRead} (s : Summary) (count : ℕ) (views : List View) (text next taken : List ℕ)
+pub reported_cut_off : {h : BytesRead} (s : Summary) (taken : ℕ) (views : List View) (text next : List ℕ)
     (reported : List Reported) (first old new : BytesWritten) → IsPushed s h views text next
-    → AreReportedOf (added_from 0 views) reported → AreGathered first old text (reported_lines reported) → taken ≡ next
-    → new.bytes ≡ old.bytes ++ take count taken → count < length taken → old.failures ≡ first.failures
-    → new.failures ≡ old.failures + 1 → IsPartEachOutcome (Err Write) h first new
-reported_cut_off s count views text next taken reported first old new p are before same bytes part same_failures
-    failed =
-    let tail : List ℕ = part_text p.parted.written in
-    let is : taken ≡ text ++ tail = same ∙ p.text_is in (
-      omega (arith, same_failures, failed),
+    → AreReportedOf (added_from 0 views) reported → AreGathered first old text (reported_lines reported)
+    → IsCutOff taken next old new → old.failures ≡ first.failures → IsPartEachOutcome (Err Write) h first new
+reported_cut_off s taken views text next reported first old new p are before cut same =
+    let tail : List ℕ = part_text p.parted.written in (
+      omega (arith, same, cut.failed),
       inr (
         reported_part s views text next reported p are,
-        part_behind first old new text (reported_lines reported) tail before (
-          count,
-          (
-            subst (λ (xs : List ℕ). count < length xs) is part,
-            bytes ∙ ap (λ (xs : List ℕ). old.bytes ++ take count xs) is,
-          ),
-        ),
+        cut_part first old new taken text (reported_lines reported) tail before
+            (subst (λ (xs : List ℕ). IsCutOff taken xs old new) p.text_is cut),
       ),
     )
 

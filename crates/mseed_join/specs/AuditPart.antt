@@ -1,5 +1,5 @@
 -- What an audit writes that writes the part of what was read, and what it answers.
-use Rattle.std.specs.Prelude.{◌≡◌, ◌⊎◌, ◌<◌, ◌+◌, ℕ, List, ◌++◌, length, take, Result, Ok, Err}
+use Rattle.std.specs.Prelude.{◌≡◌, ◌⊎◌, ◌+◌, ℕ, List, ◌++◌, Result, Ok, Err}
 use Rattle.mseed_stream.specs.Device.{BytesRead, BytesWritten}
 use Rattle.mseed_audit.specs.declared.summary.Summary.{Summary}
 use Rattle.mseed_audit.specs.declared.summary.AuditFault.{AuditFault}
@@ -7,7 +7,7 @@ use Rattle.mseed_audit.specs.declared.summary.AuditFault.TheVariants.{Write, Mem
 use Rattle.mseed_audit.specs.declared.each.EachFault.{EachFault}
 use Rattle.mseed_audit.specs.declared.each.EachFault.TheVariants.{Write as NotWritten, Memory as NoMemory}
 use Rattle.mseed_audit.specs.Channels.{added_from}
-use Rattle.mseed_stream.specs.Gathered.{EmittedFirst, EmittedPart}
+use Rattle.mseed_stream.specs.Gathered.{EmittedFirst, EmittedPart, IsCutOff}
 use Rattle.mseed_audit.specs.Each.{EndsInLines}
 use Rattle.mseed_audit.specs.Summary.{Audited, IsSummary}
 use Rattle.mseed_audit.specs.Text.{reported_lines}
@@ -29,16 +29,10 @@ pub record IsPartWritten {h : BytesRead} (s : Summary) (a : AuditedPart h) (old 
   pub text : new.bytes ≡ old.bytes ++ part_text a.written
   pub fine : new.failures ≡ old.failures
 
--- a prefix of it of so many bytes was written, and then the output failed
-pub record IsPartCutOff {h : BytesRead} (taken : ℕ) (a : AuditedPart h) (old new : BytesWritten) : Type 0 where
-  pub text : new.bytes ≡ old.bytes ++ take taken (part_text a.written)
-  pub part : taken < length (part_text a.written)
-  pub failed : new.failures ≡ old.failures + 1
-
--- by the outcome
+-- By the outcome: where the output failed, so many bytes of the part's text were written before.
 abbrev pub IsPartOutcome : Result Summary AuditFault → BytesRead → BytesWritten → BytesWritten → Type 0
 IsPartOutcome (Ok summary) h old new = (a : AuditedPart h) × IsPartWritten summary a old new
-IsPartOutcome (Err (Write taken)) h old new = (a : AuditedPart h) × IsPartCutOff taken a old new
+IsPartOutcome (Err (Write taken)) h old new = (a : AuditedPart h) × IsCutOff taken (part_text a.written) old new
 IsPartOutcome (Err Memory) h old new = new ≡ old
 
 -- ---- with a line for each record with a finding

@@ -1,8 +1,9 @@
 -- What is written of the joint part of parts, and what is answered of it.
-use Rattle.std.specs.Prelude.{◌≡◌, ◌||◌, ◌⊎◌, ℕ, ◌+◌, ◌<◌, nat_lt, List, ◌++◌, length, map, take, Bool, true, is_some}
+use Rattle.std.specs.Prelude.{◌≡◌, ◌||◌, ◌⊎◌, ℕ, nat_lt, List, ◌++◌, length, map, Bool, true, is_some}
 use Rattle.std.specs.Prelude.{Option, Result, Ok, Err}
 use Rattle.mseed_stream.specs.Device.{BytesRead, BytesWritten, nothing_read}
 use Rattle.mseed_stream.specs.Fault.{IsStreamFault}
+use Rattle.mseed_stream.specs.Gathered.{IsCutOff}
 use Rattle.mseed_audit.specs.Summary.{broken_count}
 use Rattle.mseed_join.specs.declared.joining.Form.{Form}
 use Rattle.mseed_join.specs.declared.joining.Form.TheVariants.{Audit, Part}
@@ -41,13 +42,6 @@ pub record IsJointWritten (answer : Answer) (form : Form) (w : Written) (old new
   pub text : new.bytes ≡ old.bytes ++ text_by form w
   pub fine : new.failures ≡ old.failures
 
--- a prefix of it was written, and then the output failed
-pub record IsJointCutOff (form : Form) (w : Written) (old new : BytesWritten) : Type 0 where
-  pub taken : ℕ
-  pub text : new.bytes ≡ old.bytes ++ take taken (text_by form w)
-  pub part : taken < length (text_by form w)
-  pub failed : new.failures ≡ old.failures + 1
-
 -- By the outcome: of the input, of the output before and after, and of the device that faults are reported to before
 -- and after. Where the parts weren't read whole, or another number of them was expected, nothing was written; where the
 -- input failed, no bad line was read before.
@@ -62,7 +56,8 @@ IsJoinOutcome form past expected (Err (Count parts due)) h old new reported now 
 IsJoinOutcome form past expected (Err (Stream fault)) h old new reported now =
     (new ≡ old) × IsStreamFault fault nothing_read h × IsFailed past nothing_read h reported now
 IsJoinOutcome form past expected (Err Write) h old new reported now =
-    (w : Written) × (IsRead past expected h w reported now × IsJointCutOff form w old new)
+    (w : Written) × (IsRead past expected h w reported now
+    × ((taken : ℕ) × IsCutOff taken (text_by form w) old new))
 IsJoinOutcome form past expected (Err Memory) h old new reported now =
     (new ≡ old)
     × (IsStopped past nothing_read h reported now ⊎ ((w : Written) × IsRead past expected h w reported now))

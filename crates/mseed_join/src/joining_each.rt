@@ -14,11 +14,11 @@ use crate::joint::{JointPart, Reported};
 use crate::parts::tell_passed;
 use crate::reader::{PartsFault, Reader};
 use mseed_audit::Memory;
-use mseed_stream::{Sink, Source, write_all_of};
+use mseed_stream::{Sink, Source, write_all_of, write_beyond};
 use std::alloc::Allocator;
 
-/// So many bytes of lines are gathered before they are written.
-const GATHERED: usize = 1 << 16;
+/// At most so many bytes of lines are kept for the next border.
+const GATHERED: usize = (1 << 16) - 1;
 
 /// Joins parts as `join` does to the text of the audit of their archives, and writes before it a line for each border
 /// with a finding: part after part, ascending by channel within a part. The lines are written as borders come, some at
@@ -125,14 +125,8 @@ fn add_border<A: Allocator, W: Sink>(
         Ok(()) => {}
         Err(_) => return Err(JoinsFault::Memory),
     }
-    if text.len() < GATHERED {
-        return Ok(());
-    }
-    match write_all_of(sink, text) {
-        Ok(()) => {
-            text.clear();
-            Ok(())
-        }
+    match write_beyond(sink, text, GATHERED) {
+        Ok(()) => Ok(()),
         Err(_) => Err(JoinsFault::Write),
     }
 }

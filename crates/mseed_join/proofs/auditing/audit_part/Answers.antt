@@ -19,9 +19,12 @@ returns-clause-outcome g c =
     let read : BytesRead = g.R.Source.read c.gather.new.source in
     let write = c.in-Err-write_all_of.ensures in
     part_cut_off c.in-Ok-push_audited.summary c.in-Err-write_all_of.taken found.0 c.new-text.result.items
-    c.push_audited.new.text.items c.deref.result.now (g.W.Sink.written c.args.sink.now)
-    (g.W.Sink.written c.write_all_of.new.sink) (c.in-Ok-push_audited.ensures read found.0 found.1)
-    c.new-text.ensures.items c.deref.ensures.value write.err write.within write.failed
+    c.push_audited.new.text.items (g.W.Sink.written c.args.sink.now) (g.W.Sink.written c.write_all_of.new.sink)
+    (c.in-Ok-push_audited.ensures read found.0 found.1) c.new-text.ensures.items (record {
+      text = rw c.deref.ensures.value at write.err;
+      part = rw c.deref.ensures.value at write.within;
+      failed = write.failed;
+    })
 
 pub returns-in-Err-clause-writes : goal.returns-in-Err-clause-writes
 returns-in-Err-clause-writes g c = writes_none _ _ _

@@ -1,4 +1,3 @@
-use Rattle.std.proofs.Common.{take}
 use Rattle.mseed_stream.specs.Device.{BytesRead}
 use Rattle.mseed_audit.specs.Scope.{whole}
 use Rattle.mseed_audit.proofs.Gathers.{memory_short}
@@ -33,22 +32,18 @@ returns-clause-outcome g c =
     let read : BytesRead = g.R.Source.read c.gather_each.new.source in
     let write = c.in-Err-write_all_of.ensures in
     reported_cut_off c.in-Ok.summary c.in-Err-write_all_of.field-0 found.0 c.gather_each.new.text.items
-    c.push_audited.new.text.items c.deref.result.now found.1.0 (g.W.Sink.written c.args.sink.now)
-    (g.W.Sink.written c.gather_each.new.sink) (g.W.Sink.written c.write_all_of.new.sink)
-    (c.in-Ok.ensures read found.0 lines.all) lines.are_reported lines.lines c.deref.ensures.value write.err write.within
-    lines.fine write.failed
+    c.push_audited.new.text.items found.1.0 (g.W.Sink.written c.args.sink.now) (g.W.Sink.written c.gather_each.new.sink)
+    (g.W.Sink.written c.write_all_of.new.sink) (c.in-Ok.ensures read found.0 lines.all) lines.are_reported lines.lines
+    (record {
+      text = rw c.deref.ensures.value at write.err;
+      part = rw c.deref.ensures.value at write.within;
+      failed = write.failed;
+    }) lines.fine
 
 pub returns-in-Ok-write_all_of-clause-writes : goal.returns-in-Ok-write_all_of-clause-writes
 returns-in-Ok-write_all_of-clause-writes g c =
-    let write = c.in-Ok-write_all_of.ensures in
-    writes_on _ _ _ _ _ _ _ _ _ c.in_ok-audit.ensures.writes
-    (record { contents = (c.deref.result.now, write.ok, write.known); beside = write.beside })
+    writes_on _ _ _ _ _ _ _ _ _ c.in_ok-audit.ensures.writes c.in-Ok-write_all_of.ensures.writes
 
 pub returns-clause-writes : goal.returns-clause-writes
 returns-clause-writes g c =
-    let write = c.in-Err-write_all_of.ensures in
-    writes_on _ _ _ _ _ _ _ _ _ c.in_ok-audit.ensures.writes
-    (record {
-      contents = (take c.in-Err-write_all_of.field-0 c.deref.result.now, write.err, write.known);
-      beside = write.beside;
-    })
+    writes_on _ _ _ _ _ _ _ _ _ c.in_ok-audit.ensures.writes c.in-Err-write_all_of.ensures.writes

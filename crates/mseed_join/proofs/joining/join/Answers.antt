@@ -1,4 +1,4 @@
-use Rattle.std.proofs.Common.{◌∙◌, ◌++◌, Err, List, ap, inr, refl, sym, subst, take, length, ℕ, ◌<◌}
+use Rattle.std.proofs.Common.{◌∙◌, ◌++◌, Err, List, ap, inr, refl, sym, subst, ℕ}
 use Rattle.mseed_stream.specs.Device.{BytesRead, BytesWritten}
 use Rattle.mseed_stream.proofs.Calls.{writes_none}
 use Rattle.mseed_join.specs.Joins.{IsJoinOutcome, text_by}
@@ -66,12 +66,9 @@ returns-clause-outcome g c =
         read_so c.args.past_faults c.args.expected c.in-Ok.joint (g.R.Source.read c.args.source.now)
             (g.R.Source.read c.read_parts.new.source) (g.E.Sink.written c.args.errors.now)
             (g.E.Sink.written c.read_parts.new.errors) c.requires c.in-Ok.ensures.outcome,
-        record {
-          taken = taken;
-          text = write.err
-              ∙ ap (λ (t : List ℕ). (g.W.Sink.written c.args.sink.now).bytes ++ take taken t) text;
-          part = subst (λ (t : List ℕ). taken < length t) text write.within;
-          failed = write.failed;
-        },
+        (
+          taken,
+          record { text = rw text at write.err; part = rw text at write.within; failed = write.failed },
+        ),
       ),
     )

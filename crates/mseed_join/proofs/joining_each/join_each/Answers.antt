@@ -1,4 +1,3 @@
-use Rattle.std.proofs.Common.{take}
 use Rattle.mseed_stream.proofs.Calls.{writes_on}
 use Rattle.mseed_join.proofs.Each.{each_cut_off, each_no_memory, each_written}
 use Rattle.mseed_join.proofs.joining_each.join_each.Goals as goal
@@ -21,13 +20,12 @@ returns-in-Ok-write_all_of g c =
           c.in-Ok.ensures.answer write.ok write.fine;
       reads = c.in_ok-part.ensures.reads;
       writes = writes_on _ _ _ _ _ _ _ _ _ c.in_ok-part.ensures.writes
-          (record { contents = (c.deref.result.now, write.ok, write.known); beside = write.beside });
+          write.writes;
     }
 
 pub returns : goal.returns
 returns g c =
     let write = c.in-Err-write_all_of.ensures in
-    let taken = take c.in-Err-write_all_of.field-0 c.deref.result.now in
     record {
       outcome = each_cut_off c.args.past_faults c.args.expected _ (g.R.Source.read c.read_each.new.source)
           (g.W.Sink.written c.args.sink.now) (g.W.Sink.written c.read_each.new.sink)
@@ -37,5 +35,5 @@ returns g c =
           c.deref.ensures.value write.err write.within write.failed;
       reads = c.in_ok-part.ensures.reads;
       writes = writes_on _ _ _ _ _ _ _ _ _ c.in_ok-part.ensures.writes
-          (record { contents = (taken, write.err, write.known); beside = write.beside });
+          write.writes;
     }
