@@ -28,7 +28,7 @@ none_by true o e = absurd (cc e)
 none_by false None e = refl
 none_by false (Some i) e = absurd (cc e)
 
--- a channel behind the first has another key than that
+-- a channel after the first has another key than that
 other_by : (b : Bool) (code : List ℕ) (x : List ℕ × Channel) (es : List (List ℕ × Channel)) (j : ℕ)
     → same_key code x.0 ≡ b → place_of (same_key x.0) es ≡ None → place_of (same_key code) es ≡ Some j → b ≡ false
 other_by false code x es j e none there = refl
@@ -74,7 +74,7 @@ none_behind test (e ∷ es) x none miss =
     (missed_by (test e.0) (place_of test es) none)
     (none_behind test es x (none_by (test e.0) (place_of test es) none) miss)
 
--- a new channel stands behind the others
+-- a new channel stands after the others
 pub apart_push : (es : List (List ℕ × Channel)) (x : List ℕ × Channel) → AreApart es
     → place_of (same_key x.0) es ≡ None → AreApart (es ++ x ∷ [])
 apart_push [] x apart none = (refl, tt)

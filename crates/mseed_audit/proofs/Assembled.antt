@@ -76,7 +76,7 @@ later_by : (b : Bool) (v : View) (ws vs : List View) (rate : Option Rate) → co
 later_by true v ws vs rate e h = cc (e)
 later_by false v ws vs rate e h = h e
 
--- the first record of a channel, behind others that are of none or of another
+-- the first record of a channel, after others that are of none or of another
 pub first_there : (key : List ℕ) (rs : List RecordView) (n : ℕ) (r : RecordView) (rate : Option Rate) → n < length rs
     → r ≡ get_or rs n r → true ≡ is_of key (view_of r)
     → filter (is_of key) (map view_of (take n rs)) ≡ [] → IsFirstRate (view_of r ∷ []) rate

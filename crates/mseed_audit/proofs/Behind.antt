@@ -1,4 +1,4 @@
--- Records that stand one behind another, and those of a channel among them.
+-- Records that stand one after another, and those of a channel among them.
 use Rattle.std.proofs.Common.{◌≡◌, ℕ, zero, suc, ◌+◌, ◌^◌, ◌≤◌, ◌<◌, List, [], ◌∷◌, ◌++◌, length, map, take, get_or}
 use Rattle.std.proofs.Common.{cond, if◌then◌else◌, Bool, true, false, Option, refl, sym, ap, subst, ◌∙◌, append-nil}
 use Rattle.std.proofs.Common.{◌*◌, length-take-le, arith}
@@ -31,7 +31,7 @@ end_more : (offset : ℕ) (vs : List View) (v : View) → end_of offset (vs ++ v
 end_more offset [] v = refl
 end_more offset (w ∷ vs) v = end_more (offset + length w.bytes) vs v
 
--- a record behind all others
+-- a record after all others
 pub behind : (offset : ℕ) (vs : List View) (v : View)
     → added_from offset (vs ++ v ∷ []) ≡ added_from offset vs ++ record { view = v; offset = end_of offset vs } ∷ []
 behind offset [] v = refl
@@ -43,7 +43,7 @@ as_many : (offset : ℕ) (vs : List View) → length (added_from offset vs) ≡ 
 as_many offset [] = refl
 as_many offset (v ∷ vs) = omega (arith, as_many (offset + length v.bytes) vs)
 
--- the channel's records with one more record behind all
+-- the channel's records with one more record after all
 one_behind : (key : List ℕ) (vs : List View) (v : View) → records_of key (added_from 0 (vs ++ v ∷ []))
     ≡ with_record key (records_of key (added_from 0 vs))
     (record { view = v; offset = end_of 0 vs; number = length vs + 1 })
@@ -68,7 +68,7 @@ end_next rs n r offset h is at =
     ap (λ (k : ℕ). k + length r.bytes.now) at ∙ sym (end_more 0 vs (view_of r))
     ∙ sym (ap (λ (ws : List View). end_of 0 ws) (passed rs n r h is))
 
--- the offset behind the next record, where each so far had at most 2 ^ 20 bytes
+-- the offset after the next record, where each so far had at most 2 ^ 20 bytes
 pub offset_next : (rs : List RecordView) (n : ℕ) (r : RecordView) (offset : ℕ) (bytes : List ℕ) → n < length rs
     → r ≡ get_or rs n r → offset ≡ end_of 0 (map view_of (take n rs)) → offset ≤ 2 ^ 20 * n → IsView (view_of r)
     → bytes ≡ r.bytes.now

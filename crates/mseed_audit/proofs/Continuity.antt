@@ -78,7 +78,7 @@ no_finding : (p : Placed) (why : Option Why) (rest : List Finding) → finding_a
 no_finding p None rest e = (refl, e)
 no_finding p (Some why) rest e = cc
 
--- records behind another of which nothing is found
+-- records after another of which nothing is found
 behind_sound : HaveOneReading → (b : View) (rate : Ratio) (ps : List Placed) (found : List Finding)
     → known_rate b ≡ Some rate → AreFindings (Some b) ps found → found ≡ []
     → AllByRecursion IsSound (views_in ps) × AllNeighbours Follows (b ∷ views_in ps)

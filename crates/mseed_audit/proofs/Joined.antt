@@ -39,7 +39,7 @@ joined_more (w ∷ vs) _ v more (one _ _ first rest is later) h =
     subst (λ (xs : List ℤ). AreJoined (w ∷ (vs ++ v ∷ [])) xs) (sym (append_assoc first rest more))
     (one w (vs ++ v ∷ []) first (rest ++ more) is (joined_more vs rest v more later h))
 
--- the leap second of one more record stands behind all samples
+-- the leap second of one more record stands after all samples
 steps_next : (place : ℕ) (vs : List View) (samples : List ℤ) (v : View) → AreJoined vs samples
     → steps_from place (vs ++ v ∷ []) ≡ steps_from place vs ++ step_at (place + length samples + count_of v)
     (step_in (leap_of v.bytes))
@@ -114,7 +114,7 @@ holds_same codes start rate vs ws s t e f h =
     subst (λ (us : List View). HoldsAll codes start rate us t) (sym e)
     (subst (λ (u : Trace). HoldsAll codes start rate vs u) (sym f) h)
 
--- a series with more samples, and a leap second behind them
+-- a series with more samples, and a leap second after them
 pub pushed : (old : Trace) (samples more : List ℤ) (steps : List (ℕ × LeapStep)) (place : ℕ) (step : LeapStep)
     → samples ≡ old.samples ++ more → place ≡ length samples → steps ≡ old.steps ++ (place, step) ∷ []
     → record old { samples = samples; steps = steps } ≡ record old {

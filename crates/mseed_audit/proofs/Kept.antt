@@ -157,7 +157,7 @@ judged_next c ps s v tail why e found =
     found (Some s.last.view) (subst (λ (t : Option Tail). IsTailBefore t (Some s.last.view)) (sym e)
     (tail_before (tail_in c.findings) s.last.view s.tail))
 
--- behind all records of the channel
+-- after all records of the channel
 pub found_next : (c : Channel) (ps : List Placed) (s : Stands c ps) (v : View) (tail : Option Tail) (why : Option Why)
     → tail ≡ tail_in c.findings → ((b : Option View) → IsTailBefore tail b → IsFound b v why)
     → IsFound (last_of None ps) v why

@@ -13,7 +13,7 @@ pub last_snoc : (before : Option View) (ps : List Placed) (p : Placed) → last_
 last_snoc before [] p = refl
 last_snoc before (q ∷ ps) p = last_snoc (Some q.view) ps p
 
--- behind the last
+-- after the last
 pub found_last : (ps prefix : List Placed) (last : Placed) (v : View) (why : Option Why) → ps ≡ prefix ++ last ∷ []
     → IsFound (Some last.view) v why → IsFound (last_of None ps) v why
 found_last ps prefix last v why e found =
@@ -25,7 +25,7 @@ of_judged : (ps : List Placed) (v : View) (why : Option Why) → 0 < count_of v 
     → IsFoundOf ps v why
 of_judged ps v why some found = record { silent = λ e. absurd (omega (arith, some, e)); judged = λ l. found }
 
--- behind the records of a channel that is kept
+-- after the records of a channel that is kept
 pub found_kept : (o : Option Channel) (c : Channel) (ps : List Placed) (v : View) (why : Option Why) → o ≡ Some c
     → StandsAt o ps → 0 < count_of v → ((qs : List Placed) → Stands c qs → IsFound (last_of None qs) v why)
     → IsFoundOf ps v why

@@ -14,12 +14,12 @@ use Rattle.mseed_audit.proofs.Continuity.{Excludes}
 use Rattle.mseed_audit.proofs.OneList.{verdicts_one}
 use Rattle.mseed_audit.proofs.OneVerdict.{HasOneFault}
 
--- what was read has one list of records, and one end behind them
+-- what was read has one list of records, and one end after them
 abbrev pub HasOneInput : Type 0
 HasOneInput = (h : BytesRead) (views others : List View) (end other : Option StreamFault) → AreAllViews h views end
     → AreAllViews h others other → (views ≡ others) × (end ≡ other)
 
--- the records, how the input ends behind them, and the verdicts
+-- the records, how the input ends after them, and the verdicts
 pub record IsSame {h : BytesRead} (a b : Audited h) : Type 0 where
   pub views : a.views ≡ b.views
   pub end : a.end ≡ b.end

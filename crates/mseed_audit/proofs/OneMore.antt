@@ -13,7 +13,7 @@ pub prefix_more : {X : Type 0} (vs : List X) (n : ℕ) (v : X) → n < length vs
     → take (n + 1) vs ≡ take n vs ++ v ∷ []
 prefix_more vs n v h is = take_more vs n v h ∙ ap (λ w. take n vs ++ w ∷ []) (sym is)
 
--- lines with one more, behind some text
+-- lines with one more, after some text
 pub text_more : {X : Type 0} (line : X → List ℕ) (lines : List X → List ℕ)
     → ((vs : List X) (v : X) → lines (vs ++ v ∷ []) ≡ lines vs ++ line v)
     → (vs : List X) (n : ℕ) (v : X) (first old new : List ℕ) → n < length vs → v ≡ get_or vs n v

@@ -56,7 +56,7 @@ module _ (es : Entries) (i : ℕ) (e : List ℕ × Channel) (within : i < length
     pub set_is : set es i (e.0, after) ≡ with_channel es i after
     set_is = same ∙ sym (with_is (same_key e.0) es i after place)
 
--- ---- a new channel behind the others
+-- ---- a new channel after the others
 abbrev Places : Type 0
 Places = List (List ℕ × ℕ)
 

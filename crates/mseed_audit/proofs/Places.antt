@@ -38,7 +38,7 @@ cut_at ss i d lt = sym (take-append-drop (suc i) ss) ∙ ap (λ (ts : List (ℕ 
     (take-suc ss i d lt)
     ∙ append_assoc (take i ss) (get_or ss i d ∷ []) (drop (suc i) ss)
 
--- the first that doesn't stand behind the one before it
+-- the first that doesn't stand after the one before it
 pub bad_step : (size : ℕ) (ss : List (ℕ × LeapStep)) (i : ℕ) (d : ℕ × LeapStep) (before : ℕ) → i < length ss
     → AreSteps size (take i ss) → before ≡ place_of 0 (take i ss)
     → ((before < (get_or ss i d).0) × ((get_or ss i d).0 ≤ size) → ⊥) → IsBadStep size ss i

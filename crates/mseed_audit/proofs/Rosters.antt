@@ -126,7 +126,7 @@ next_by false o next n later e = ap (λ (p : Option ℕ). option_map suc p) (lat
 first_by : (b : Bool) → b ≡ true → cond {A = Option ℕ} b (Some 0) None ≡ Some 0
 first_by b e = ap (λ (c : Bool). cond {A = Option ℕ} c (Some 0) None) e
 
--- a new channel stands behind the others
+-- a new channel stands after the others
 pub place_behind : (test : List ℕ → Bool) (es : List (List ℕ × Channel)) (x : List ℕ × Channel)
     → place_of test es ≡ None → test x.0 ≡ true → place_of test (es ++ x ∷ []) ≡ Some (length es)
 place_behind test [] x none hit = first_by (test x.0) hit
@@ -260,7 +260,7 @@ made_next f es key i ps e l is =
     let found : slice_get es i ≡ Some e = slice_get_read es (length es) i e refl l is in
     ap (λ (o : Option (List ℕ × Channel)). read_through f key o ++ made_at f es ps) found
 
--- what is made of the next channel stands behind what was made, and then what is made of the rest
+-- what is made of the next channel stands after what was made, and then what is made of the rest
 made_also : {X : Type 0} (f : Channel → X) (es : List (List ℕ × Channel)) (key : List ℕ) (i : ℕ)
     (ps : List (List ℕ × ℕ)) (e : List ℕ × Channel) (x : X) (made more all : List (List ℕ × X))
     → made ++ made_at f es ((key, i) ∷ ps) ≡ all → i < length es → e ≡ get_or es i e → x ≡ f e.1
@@ -347,7 +347,7 @@ made_each {X = X} f es old ps made is are same key = ap (λ (vs : List (List ℕ
     ∙ ap (λ (fs : List (List ℕ × Channel)). option_map f (lookup (same_key key) fs)) same
 
 -- What is made of the channels at the first of some places stands in a list, and what is made at the rest is to be put
--- behind it: there is room.
+-- after it: there is room.
 pub record IsMaking {X : Type 0} (f : Channel → X) (es : List (List ℕ × Channel)) (first rest : List (List ℕ × ℕ))
     (made : List (List ℕ × X)) (room : ℕ) : Type 0 where
   pub all : made ++ made_at f es rest ≡ made_at f es first

@@ -67,7 +67,8 @@ pub judged_also : (s : Selection) (bytes : List ℕ) (offset : ℕ) (views : Lis
 judged_also s bytes offset views v held next p q Before After shown is adds passes report =
     let ps : List Placed = asked_of s views in
     let more : List Placed = asked_at s (placed_next held v offset) in
-    let all : asked_of s (views ++ v ∷ []) ≡ ps ++ more = asked_more s bytes held offset views v shown is.audit.number in
+    let all : asked_of s (views ++ v ∷ []) ≡ ps ++ more =
+    asked_more s bytes held offset views v shown is.audit.number in
     let size : length (asked_of s (views ++ v ∷ [])) ≡ length ps + length more =
     ap (λ (qs : List Placed). length qs) all ∙ length-append ps more in
     let count : length (views ++ v ∷ []) ≡ length views + 1 = length-append views (v ∷ []) in

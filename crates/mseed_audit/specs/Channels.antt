@@ -50,7 +50,7 @@ abbrev pub sample_count : List Placed → ℕ
 sample_count [] = 0
 sample_count (p ∷ ps) = count_of p.view + sample_count ps
 
--- records that stand one behind another from an offset on
+-- records that stand one after another from an offset on
 abbrev pub added_from : ℕ → List View → List Added
 added_from offset [] = []
 added_from offset (v ∷ vs) = record { view = v; offset = offset } ∷ added_from (offset + length v.bytes) vs

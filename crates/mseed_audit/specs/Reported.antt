@@ -17,12 +17,12 @@ abbrev pub last_of : Option View → List Placed → Option View
 last_of before [] = before
 last_of before (p ∷ ps) = last_of (Some p.view) ps
 
--- what is found of a record behind these records of its channel; of a silent one, nothing
+-- what is found of a record after these records of its channel; of a silent one, nothing
 pub record IsFoundOf (channel : List Placed) (v : View) (why : Option Why) : Type 0 where
   pub silent : count_of v ≡ 0 → why ≡ None
   pub judged : 0 < count_of v → IsFound (last_of None channel) v why
 
--- what is found of a record behind these records of the archive
+-- what is found of a record after these records of the archive
 abbrev pub IsFoundBehind : List Placed → View → Option Why → Type 0
 IsFoundBehind earlier v why = IsFoundOf (channel_in (key_at v.bytes) earlier) v why
 
@@ -41,7 +41,7 @@ reported_at p (Some why) = record {
 }
     ∷ []
 
--- what is reported of the records behind others: each that has a finding, in their order
+-- what is reported of the records after others: each that has a finding, in their order
 pub data AreReported : List Placed → List Placed → List Reported → Type 0 where
   none : (earlier : List Placed) → AreReported earlier [] []
   one : (earlier : List Placed) (p : Placed) (ps : List Placed) (why : Option Why) (reported : List Reported)

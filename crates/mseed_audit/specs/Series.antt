@@ -23,7 +23,7 @@ pub record Trace : Type 0 where
   pub samples : List ℤ
   pub steps : List (ℕ × LeapStep)
 
--- each leap second stands behind another, and at most so many samples are before it
+-- each leap second stands after another, and at most so many samples are before it
 abbrev pub AreStepsFrom : ℕ → ℕ → List (ℕ × LeapStep) → Type 0
 AreStepsFrom place size [] = ⊤
 AreStepsFrom place size (s ∷ ss) = (place < s.0) × (s.0 ≤ size) × AreStepsFrom s.0 size ss
@@ -53,7 +53,7 @@ step_at place None = []
 step_at place (Some step) = (place, step) ∷ []
 
 -- the leap seconds of records that begin with so many samples before them: each stands just past the last sample of
--- the record that bears it
+-- the record that carries it
 abbrev pub steps_from : ℕ → List View → List (ℕ × LeapStep)
 steps_from place [] = []
 steps_from place (v ∷ vs) = step_at (place + count_of v) (step_in (leap_of v.bytes)) ++ steps_from (place + count_of v)

@@ -17,7 +17,7 @@ use Rattle.mseed_audit.specs.Verdict.{AreVerdictsAmong}
 use Rattle.mseed_audit.specs.Audit.{Held, IsAuditAmong}
 use Rattle.mseed_audit.specs.Text.{audit_text}
 
--- what was read is these records and this end behind them, and these are the verdicts on the channels, by those of the
+-- what was read is these records and this end after them, and these are the verdicts on the channels, by those of the
 -- records that are judged
 pub record AuditedIn (scope : Scope) (h : BytesRead) : Type 0 where
   pub views : List View

@@ -20,7 +20,7 @@ use Rattle.mseed_audit.specs.declared.verdict.Verdict.{Verdict}
 use Rattle.mseed_audit.specs.declared.verdict.Verdict.TheVariants.{Continuous, Broken}
 use Rattle.mseed_audit.specs.Reported.{Reported}
 
--- the words of samples that can't be read; a want of memory is no finding
+-- the text of samples that can't be read; a want of memory is no finding
 abbrev pub read_text : ReadFault → List ℕ
 read_text Blockette100 = codes "blockette100"
 read_text (Encoding code) = codes "encoding " ++ decimal code

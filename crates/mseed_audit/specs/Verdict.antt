@@ -20,7 +20,7 @@ abbrev pub finding_at : Placed → Option Why → List Finding
 finding_at p None = []
 finding_at p (Some why) = record { number = p.number; offset = p.offset; why = why } ∷ []
 
--- the findings of the records behind another, each judged by the one just before it
+-- the findings of the records after another, each judged by the one just before it
 pub data AreFindings : Option View → List Placed → List Finding → Type 0 where
   none : (before : Option View) → AreFindings before [] []
   one : (before : Option View) (p : Placed) (ps : List Placed) (why : Option Why) (found : List Finding)

@@ -27,13 +27,13 @@ pub enum NotContinuous {
     /// None of them has samples of the channel.
     Absent,
     /// The channel is broken: the first finding, whose offset is where the record begins if the records
-    /// stand one behind another.
+    /// stand one after another.
     Broken(Finding),
     /// An allocation was refused.
     Memory,
 }
 
-/// The series of a channel: the samples of its records, one behind another.
+/// The series of a channel: the samples of its records, one after another.
 ///
 /// # Errors
 ///
@@ -154,7 +154,7 @@ fn assemble<A: Allocator + Copy>(
     Ok(series)
 }
 
-/// Adds the samples of a sound record behind those that are there, and the leap second that it bears.
+/// Adds the samples of a sound record after those that are there, and the leap second that it carries.
 fn append_record<A: Allocator + Copy>(
     series: &mut Series<A>,
     view: &RecordView,

@@ -258,7 +258,7 @@ impl<A: Allocator + Copy> Audit<A> {
 }
 
 impl<A: Allocator> Channels<A> {
-    /// What is kept of them, by channel.
+    /// Returns what is kept of each channel, ascending by the 12 bytes of their keys.
     pub fn as_slice(&self) -> &[(Codes, Channel)]
         ensures { result.now ≡ self.now }
     {
@@ -267,7 +267,7 @@ impl<A: Allocator> Channels<A> {
 }
 
 impl<A: Allocator> Verdicts<A> {
-    /// The verdicts, by channel.
+    /// Returns each channel with its verdict, ascending by the 12 bytes of their keys.
     pub fn as_slice(&self) -> &[(Codes, Verdict)]
         ensures { result.now ≡ self.now }
     {

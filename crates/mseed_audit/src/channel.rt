@@ -22,11 +22,11 @@ use mseed_time::{Micros, Ratio};
 pub struct Head {
     /// The first record's number among all that were added, from 1.
     pub number: u64,
-    /// Where it begins, in bytes from the input's beginning.
+    /// Where the first record begins, in bytes from the input's beginning.
     pub offset: u64,
-    /// Its first sample's instant.
+    /// The instant of the first record's first sample, in microseconds from 1970 on (UTC).
     pub start: Micros,
-    /// Its sample rate.
+    /// The first record's sample rate, in samples a second.
     pub rate: Ratio,
 }
 
@@ -58,9 +58,9 @@ pub enum Findings {
 pub struct Channel {
     /// The number of records with samples.
     pub records: u64,
-    /// The number of samples in all of them.
+    /// The number of samples of the channel's records.
     pub samples: u64,
-    /// What was found of them, how the first begins and how the last ends.
+    /// What was found of the channel's records, how the first begins and how the last ends.
     pub findings: Findings,
 }
 
@@ -185,7 +185,7 @@ impl Channel {
         }
     }
 
-    /// The verdict on the records so far.
+    /// Returns the verdict on the channel, by the records that were added so far.
     pub fn verdict(&self) -> Verdict
         ensures { result ≡ verdict_of self.now }
     {
@@ -202,7 +202,7 @@ impl Channel {
 }
 
 impl Findings {
-    /// How the first record begins, where it has no finding of its own.
+    /// Returns how the channel's first record begins, where it has no finding of its own.
     pub fn head(&self) -> Option<Head>
         ensures { result ≡ head_in self.now }
     {
@@ -212,7 +212,7 @@ impl Findings {
         }
     }
 
-    /// How the last record ends, where its time and rate are known.
+    /// Returns how the channel's last record ends, where its time and rate are known.
     pub fn tail(&self) -> Option<Tail>
         ensures { result ≡ tail_in self.now }
     {

@@ -23,7 +23,7 @@ use std::collections::btree_map::Entry;
 use std::marker::Model;
 
 /// What is kept of each channel, in the order in which they came. The channel that was found last is found without a
-/// search, and so is the one that came first behind it, or first of all where that one came last; each other by a
+/// search, and so is the one that came first after it, or first of all where that one came last; each other by a
 /// search.
 ///
 /// Contracts see it as the list of its channels, each with its key.
@@ -64,7 +64,7 @@ impl<A: Allocator + Copy> ChannelList<A> {
         }
     }
 
-    /// How many channels there are.
+    /// Returns how many channels the list has.
     pub fn len(&self) -> usize
         ensures value { result ≡ length self.now }
         ensures small { result < 2 ^ 63 }
@@ -72,7 +72,7 @@ impl<A: Allocator + Copy> ChannelList<A> {
         self.places.len()
     }
 
-    /// The channels, in the order in which they came.
+    /// Returns the channels with their keys, in the order in which they came.
     pub fn as_slice(&self) -> &[(Codes, Channel)]
         ensures { result.now ≡ self.now }
     {
@@ -86,7 +86,7 @@ impl<A: Allocator + Copy> ChannelList<A> {
         &self.places
     }
 
-    /// Whether a channel is there.
+    /// Returns whether a channel is on the list.
     pub fn holds(&self, codes: &Codes) -> bool
         ensures { IsTrue result ↔ IsSome (lookup (same_key codes.now) self.now) }
     {
@@ -110,7 +110,7 @@ impl<A: Allocator + Copy> ChannelList<A> {
         }
     }
 
-    /// The channel at a place. Its key stays what it is.
+    /// Returns the channel at a place, to be changed. Its key stays what it is.
     #[inline(always)]
     pub fn channel_mut(&mut self, index: usize) -> &mut Channel
         requires { index < length self.old }
@@ -121,7 +121,7 @@ impl<A: Allocator + Copy> ChannelList<A> {
         &mut self.channels[index].1
     }
 
-    /// Keeps a new channel behind the others. It is then the one that was found last.
+    /// Keeps a new channel after the others. It is then the one that was found last.
     ///
     /// # Errors
     ///
@@ -146,7 +146,7 @@ impl<A: Allocator + Copy> ChannelList<A> {
         Ok(())
     }
 
-    /// Where a channel stands, if it is there; else it is kept behind the others, as it is given. It is then the one
+    /// Where a channel stands, if it is there; else it is kept after the others, as it is given. It is then the one
     /// that was found last.
     ///
     /// # Errors
@@ -192,7 +192,7 @@ impl<A: Allocator + Copy> ChannelList<A> {
         Ok(sorted)
     }
 
-    /// Where a channel stands, if it is the one that was found last, or came first behind that one, or first of all
+    /// Where a channel stands, if it is the one that was found last, or came first after that one, or first of all
     /// where that one came last.
     #[inline(always)]
     fn near(&self, codes: Codes) -> Option<usize>

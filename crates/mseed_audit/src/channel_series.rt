@@ -1,4 +1,4 @@
-//! The series of a channel: its samples, one behind another.
+//! The series of a channel: its samples, one after another.
 ghost use Rattle.std.specs.Prelude.{◌≡◌, ◌↔◌, ◌<◌, ◌≤◌, ◌+◌, ◌++◌, ℤ, List, IsTrue, OnOk, IfErr, IfSome, IsOk, None};
 ghost use Rattle.std.specs.Prelude.{[], length};
 ghost use Rattle.mseed_record.specs.Viewing.{view_of};
@@ -44,7 +44,7 @@ impl<A: Allocator> Model for Series<A> {
 /// Leap seconds that a series can't have: the index of the first bad one, and the list, which comes back.
 #[derive(Debug, Drop)]
 pub struct BadStep<A: Allocator = Global> {
-    /// The index of the first bad one, from 0.
+    /// The index of the first bad leap second among those that were given, from 0.
     pub index: usize,
     /// The list that was given: of each, the number of samples before it, and the leap second.
     pub steps: Vec<(u64, LeapStep), A>,
@@ -64,28 +64,28 @@ impl<A: Allocator + Copy> Series<A> {
         }
     }
 
-    /// The channel.
+    /// Returns the codes of the channel.
     pub fn codes(&self) -> Codes
         ensures { result ≡ self.now.codes }
     {
         self.codes
     }
 
-    /// The instant of the first sample.
+    /// Returns the instant of the first sample, in microseconds from 1970 on (UTC).
     pub fn start(&self) -> Micros
         ensures { result ≡ self.now.start }
     {
         self.start
     }
 
-    /// The sample rate.
+    /// Returns the sample rate, in samples a second.
     pub fn rate(&self) -> Rate
         ensures { result ≡ self.now.rate }
     {
         self.rate
     }
 
-    /// The samples, in their order.
+    /// Returns the samples, in their order.
     pub fn samples(&self) -> &[i32]
         ensures { result.now ≡ self.now.samples }
     {
@@ -100,7 +100,7 @@ impl<A: Allocator + Copy> Series<A> {
         &self.steps
     }
 
-    /// Adds the samples of a sound record, and the leap second behind them. Where memory is refused, a part of
+    /// Adds the samples of a sound record, and the leap second after them. Where memory is refused, a part of
     /// them may have been added.
     pub(crate) fn push(
         &mut self,
@@ -177,7 +177,7 @@ fn first_bad(steps: &[(u64, LeapStep)], size: usize) -> Option<usize>
     None
 }
 
-/// Whether a leap second stands behind a place, and at most so many samples before it.
+/// Whether a leap second stands after a place, and at most so many samples before it.
 fn is_behind(before: u64, place: u64, size: u64) -> bool
     ensures { IsTrue result ↔ ((before < place) × (place ≤ size)) }
 {

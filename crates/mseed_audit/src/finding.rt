@@ -13,7 +13,7 @@ pub enum Why {
     Read(ReadFault),
     /// Its sample rate isn't that of the record before.
     RateChange,
-    /// The record before bears both leap flags, so that nobody can say where it ends.
+    /// The record before carries both leap flags, so that nobody can say where it ends.
     Leap,
     /// It begins so many microseconds after that record's end.
     Gap(u128),
@@ -26,7 +26,7 @@ pub enum Why {
 pub struct Finding {
     /// The record's number among all that were added, from 1.
     pub number: u64,
-    /// Where it begins, in bytes from the input's beginning.
+    /// Where the record begins, in bytes from the input's beginning.
     pub offset: u64,
     /// What breaks the channel there.
     pub why: Why,

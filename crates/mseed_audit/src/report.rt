@@ -14,8 +14,8 @@ use std::alloc::Allocator;
 /// At most so many bytes of lines are kept for the next record.
 const GATHERED: usize = (1 << 16) - 1;
 
-/// What is done with the records that have a finding: nothing, or a line for each goes to an output. A loop over records
-/// takes any report, so that it costs nothing where none is made.
+/// What is done with the records that have a finding: nothing, or a line for each goes to an output. A loop over
+/// records takes any report, so that it costs nothing where none is made.
 pub(crate) trait Report<O> {
     // So the report and its output stand once these were reported: by the output at first, the report and the output.
     ghost stands: { O → Self → O → List Reported → Type 0 };
@@ -23,8 +23,12 @@ pub(crate) trait Report<O> {
     // So the output stands where it failed as these were reported: by the output at first, and the output.
     ghost fails: { O → O → List Reported → Type 0 };
 
-    /// Adds a record, by its number and its offset among all (in bytes), with what is found of it: where that is nothing,
-    /// the record isn't reported.
+    /// Adds a record, by its number (from 1) and its offset (in bytes) in the whole input, with what is found of it:
+    /// where that is nothing, the record isn't reported.
+    ///
+    /// # Errors
+    ///
+    /// `Memory` where an allocation was refused: the record isn't reported then.
     fn add(
         &mut self,
         view: &RecordView,
@@ -40,7 +44,11 @@ pub(crate) trait Report<O> {
             }) why))
             (λ _. stands first self.new now reported) };
 
-    /// Writes what was gathered, once it is much.
+    /// Writes to the output the lines that were gathered, once they have many bytes.
+    ///
+    /// # Errors
+    ///
+    /// `Failed` where the output failed: a prefix of the lines was written, and it isn't called again.
     fn write(&mut self, output: &mut O) -> Result<(), Failed>
         ensures { (first : O) (reported : List Reported) → stands first self.old output.old reported
             → MatchResult result (λ _. stands first self.new output.new reported)

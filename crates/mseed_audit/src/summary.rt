@@ -22,11 +22,11 @@ use thiserror::Error;
 /// What an audit's text says in numbers.
 #[derive(Clone, Copy, Debug, PartialEq, Eq)]
 pub struct Summary {
-    /// The records, silent ones too.
+    /// How many records there are, silent ones (those without samples) too.
     pub records: u64,
-    /// The channels with samples.
+    /// How many channels with samples there are.
     pub channels: u64,
-    /// Those of them that are broken.
+    /// How many channels are broken.
     pub broken: u64,
     /// Whether the text ends with the line of a fault.
     pub fault: bool,

@@ -11,16 +11,16 @@ use mseed_record::{Leap, RecordView};
 use mseed_time::{Join, LeapStep, Micros, Ratio, join};
 
 /// The end of a record whose time and rate are known: where it began, how many samples follow at which
-/// rate, and the leap seconds that it bears.
+/// rate, and the leap seconds that it carries.
 #[derive(Clone, Copy, Debug, PartialEq, Eq)]
 pub struct Tail {
-    /// Its first sample's instant.
+    /// The instant of the record's first sample, in microseconds from 1970 on (UTC).
     pub start: Micros,
-    /// The number of its samples.
+    /// The number of the record's samples.
     pub samples: u16,
-    /// Its sample rate.
+    /// The record's sample rate, in samples a second.
     pub rate: Ratio,
-    /// The leap seconds that it bears.
+    /// The leap seconds that the record carries, by its activity flags (SEED manual, chapter 8, field 12).
     pub leap: Leap,
 }
 

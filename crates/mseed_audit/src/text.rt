@@ -208,7 +208,7 @@ pub fn push_total_line<A: Allocator>(
     push_line(text, line.as_slice())
 }
 
-/// Puts the words of a finding behind a line: at most 53 bytes.
+/// Puts the text of a finding at the end of a line: at most 53 bytes.
 pub fn put_why(line: &mut Line, why: &Why)
     requires room { length line.old + 53 ≤ 256 }
     ensures text { line.new ≡ line.old ++ why_text why.now }
@@ -234,7 +234,7 @@ pub fn put_why(line: &mut Line, why: &Why)
     }
 }
 
-/// Puts the words of samples that can't be read.
+/// Puts the text of samples that can't be read.
 fn put_read_fault(line: &mut Line, fault: &ReadFault)
     requires { length line.old + 53 ≤ 256 }
     ensures text { line.new ≡ line.old ++ read_text fault.now }
@@ -267,7 +267,7 @@ fn put_read_fault(line: &mut Line, fault: &ReadFault)
     }
 }
 
-/// Puts the words of samples that don't end on their constant.
+/// Puts the text of samples that don't end on their constant.
 fn put_last_differs(line: &mut Line, found: i32, constant: i32)
     requires { length line.old + 53 ≤ 256 }
     ensures text { line.new ≡ line.old ++ read_text (LastDiffers found constant) }

@@ -40,7 +40,7 @@ stage_text s lines i =
     text_append (all_rows s.over) (rows_behind s.behind)
     ∙ (λ j. texts_are s.over j ++ behind_text_is s.behind j) ∙ sym i.text
 
--- parts that go on behind a stage: their further lines
+-- parts that go on after a stage: their further lines
 pub record IsAhead (s : Stage) (parts : List Written) (rest : List ℕ) : Type 0 where
   pub others : List Line
   pub text : rest ≡ lines_text others
@@ -68,7 +68,7 @@ ahead s lines parts rest i e h =
       parts_are = run.1.1;
     }
 
--- the next line, which can stand there, and the parts that go on behind it
+-- the next line, which can stand there, and the parts that go on after it
 pub record IsNextLine (past : Bool) (s : Stage) (line : List ℕ) : Type 0 where
   pub x : Line
   pub is_line : IsLine x

@@ -339,7 +339,7 @@ line_taken past h now s t line lines after j r tells l same held c goes taken =
       goes_on = subst (λ (x : LinesRead). GoesOn h now x) (sym same) goes;
     }
 
--- a bad line is the one behind those that were passed
+-- a bad line is the one after those that were passed
 -- it begins where what was passed ends
 pub bad_next : (past : Bool) (h now : BytesRead) (s : Stage) (lines : LinesRead) (by : IsReadBy h now lines)
     (n offset : ℕ) → n ≡ lines.lines → offset + length lines.held ≡ lines.bytes

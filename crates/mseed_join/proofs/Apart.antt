@@ -1,4 +1,4 @@
--- What is reported of archives one behind another.
+-- What is reported of archives one after another.
 use Rattle.std.proofs.Common.{◌≡◌, ℕ, ◌+◌, List, [], ◌∷◌, ◌++◌, Option, None, refl, sym, ap, ◌∙◌, subst}
 use Rattle.std.proofs.Common.{append_assoc, append-nil, arith, IsPermutation, false}
 use Rattle.std.specs.List.{AllByRecursion}
@@ -77,7 +77,7 @@ moved_still (n ∷ ns) =
     noticed_same n (0 + n.finding.number) (0 + n.finding.offset) n.finding.number n.finding.offset
     (moved_notices 0 0 ns) ns (omega arith) (omega arith) (moved_still ns)
 
--- ---- of all archives so far, with more behind
+-- ---- of all archives so far, with more after
 pub record IsMergedTo (before archive : List ℕ) (reported : List Notice) (found : List Border) (a joint : Written)
     (so : IsSoFar before a) : Type 0 where
   pub all : IsSoFar (before ++ archive) joint
@@ -108,7 +108,7 @@ as_bytes bytes others a same so = record {
   faults = so.faults;
 }
 
--- nothing is behind
+-- nothing is after
 ends_here : HaveOneTelling → (before : List ℕ) (a joint : Written) (so : IsSoFar before a) → a ≡ joint
     → IsMergedTo before [] [] [] a joint so
 ends_here single before a joint so same = record {
@@ -122,7 +122,7 @@ ends_here single before a joint so same = record {
       (IsPermutation-refl (notices_of first)));
 }
 
--- one archive is behind
+-- one archive is after
 piece : AddFindings → (before : List ℕ) (a : Written) (so : IsSoFar before a) (h : BytesRead) (p : ReportedPart h)
     → AllByRecursion IsView (so.views ++ p.parted.audited.views) → (first whole : List Reported)
     → AreReportedOf (added_from 0 so.views) first
@@ -156,7 +156,7 @@ shuffled fs ms ns bs rs =
     (IsPermutation-append_right (fs ++ ms) ((ns ++ bs) ++ rs) ((bs ++ ns) ++ rs)
     (IsPermutation-append_left rs (ns ++ bs) (bs ++ ns) (IsPermutation-append_comm ns bs))))
 
--- what is reported behind what is reported of all so far
+-- what is reported after what is reported of all so far
 carried : (fs ms ns bs rs mid whole : List Notice) → IsPermutation (fs ++ (ms ++ bs)) mid
     → IsPermutation (mid ++ (ns ++ rs)) whole → IsPermutation (fs ++ ((ms ++ ns) ++ (bs ++ rs))) whole
 carried fs ms ns bs rs mid whole first behind =

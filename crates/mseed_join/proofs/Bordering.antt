@@ -44,7 +44,7 @@ counted_on_from past a [] vs b n j = refl
 counted_on_from past a (w ∷ ws) vs b n j =
     counted_on_by past a w ws vs b w.end refl n (λ c k. counted_on_from past c ws vs b n k) j
 
--- behind parts whose joint part ends without a fault
+-- after parts whose joint part ends without a fault
 pub counted_on : (past : Bool) (ws vs : List Written) (b : Written) → b.end ≡ None → IsJointOf past ws b
     → counted past (ws ++ vs) ≡ counted past ws ++ counted past vs
 counted_on past ws vs b n j = counted_on_from past nothing ws vs b n j
@@ -151,7 +151,7 @@ last_found before (v ∷ ws) w found b =
     }
 
 -- ---- of the parts so far
--- behind a fault the last doesn't count, and others may stand there
+-- after a fault the last doesn't count, and others may stand there
 skipped : (past : Bool) (over vs us : List Written) (h : Written) (f : StreamFault) → h.end ≡ Some f
     → IsJointOf past over h → (found : List Border) → AreBordersOf past (over ++ vs) found
     → AreBordersOf past (over ++ us) (found ++ [])
@@ -214,7 +214,7 @@ header_borders past over none h m j found b =
 header_borders past over (begun cs) h m j found b = absurd m
 header_borders past over (whole w) h m j found b = begins past (over ++ w ∷ []) h j found b
 
--- ---- behind a fault
+-- ---- after a fault
 abbrev pub IsNoHeader : Line → Type 0
 IsNoHeader header = ⊥
 IsNoHeader (channel key c) = ⊤
@@ -249,7 +249,7 @@ skips_borders past over (whole w) (fault l x) h f v m p n j found b =
     subst (λ (ts : List Written). AreBordersOf past ts (found ++ [])) (sym (append-nil (over ++ with_end w x ∷ [])))
     (skipped past over (w ∷ []) (with_end w x ∷ []) h f n (before_is past over w h f v n j) found b)
 
--- ---- the counts, the faults behind and the fault at the end
+-- ---- the counts, the faults passed and the fault at the end
 abbrev pub IsEnding : Line → Type 0
 IsEnding header = ⊥
 IsEnding (channel key c) = ⊥
@@ -307,7 +307,7 @@ with_one a (d ∷ cs) e =
     ap (λ (bs : List Border). border_with a.part d ++ bs) (with_one a cs e)
     ∙ sym (append_assoc (border_with a.part d) (borders_with a.part cs) (border_with a.part e))
 
--- what is found behind the channels before it is found behind the parts before
+-- what is found after the channels before it is found after the parts before
 same_border : (a h : Written) (key : List ℕ) (c : Channel) → LeavesKept key a.part h.part
     → border_with h.part (key, c) ≡ border_with a.part (key, c)
 same_border a h key c left =

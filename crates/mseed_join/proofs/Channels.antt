@@ -18,7 +18,7 @@ lines_snoc [] c = append-nil (channel_line c.0 c.1)
 lines_snoc (d ∷ cs) c = ap (λ (xs : List ℕ). channel_line d.0 d.1 ++ xs) (lines_snoc cs c)
     ∙ sym (append_assoc (channel_line d.0 d.1) (channel_lines cs) (channel_line c.0 c.1))
 
--- the lines with one more, behind some text
+-- the lines with one more, after some text
 pub lines_more : (cs : List (List ℕ × Channel)) (n : ℕ) (c : List ℕ × Channel) (first old new : List ℕ)
     → n < length cs → c ≡ get_or cs n c → old ≡ first ++ channel_lines (take n cs)
     → new ≡ old ++ channel_line c.0 c.1 → new ≡ first ++ channel_lines (take (n + 1) cs)

@@ -1,4 +1,4 @@
--- Bytes that are records and what is left behind them.
+-- Bytes that are records and what is left after them.
 use Rattle.std.proofs.Common.{◌≡◌, ℕ, ◌+◌, ◌++◌, List, [], ◌∷◌, drop, Option, Some, None, Bool, true, false, refl, sym}
 use Rattle.std.proofs.Common.{ap, ◌∙◌, subst, append_assoc, append-nil}
 use Rattle.std.proofs.lemmas.Bool.{false≢true}
@@ -28,7 +28,7 @@ use Rattle.mseed_join.proofs.Longer.{refused_more}
 use Rattle.mseed_join.proofs.Parting.{sizes}
 
 -- ---- how bytes end
--- the fault behind so many bytes, by what is left there
+-- the fault after so many bytes, by what is left there
 abbrev pub ended : ℕ → End → Option StreamFault
 ended offset clean = None
 ended offset (frame f) = Some (Frame offset f)
@@ -86,7 +86,7 @@ moved_ended e offset clean = refl
 moved_ended e offset (frame f) = refl
 moved_ended e offset (truncated have) = refl
 
--- behind so many more bytes
+-- after so many more bytes
 ends_moved : (e offset : ℕ) (rest : List ℕ) (end : Option StreamFault) → EndsSo offset rest end
     → EndsSo (e + offset) rest (option_map (moved_fault e) end)
 ends_moved e offset rest end so = record {
@@ -110,7 +110,7 @@ pub record IsCut (bytes : List ℕ) (views : List View) (rest : List ℕ) : Type
   pub views_are : AllByRecursion IsView views
   pub joined : bytes ≡ concat (bytes_in views) ++ rest
 
--- what was read is the records, and what is left behind them
+-- what was read is the records, and what is left after them
 pub read_joined : (h : BytesRead) (views : List View) (end : Option StreamFault) (all : AreAllViews h views end)
     → h.bytes ≡ concat (bytes_in views) ++ read_from all.offset h
 read_joined h views end all = sym (take-append-drop all.offset h.bytes)
@@ -131,7 +131,7 @@ joined_append [] ys = refl
 joined_append (x ∷ xs) ys = ap (λ (zs : List ℕ). x.bytes ++ zs) (joined_append xs ys)
     ∙ sym (append_assoc x.bytes (concat (bytes_in xs)) (concat (bytes_in ys)))
 
--- records behind records
+-- records after records
 cut_behind : (first second : List ℕ) (xs ys : List View) (rest : List ℕ) → IsCut first xs [] → IsCut second ys rest
     → IsCut (first ++ second) (xs ++ ys) rest
 cut_behind first second xs ys rest a b = record {
@@ -167,7 +167,7 @@ one_cut bytes vs ws rest left a b c d so to =
     (views, so.end_is ∙ (λ i. ended (size_of (views i)) (at i)) ∙ sym to.end_is)
 
 -- ---- archives
--- an archive is these records, and ends so behind them
+-- an archive is these records, and ends so after them
 pub record IsKnown (archive : List ℕ) (views : List View) (end : Option StreamFault) : Type 0 where
   pub rest : List ℕ
   pub cut : IsCut archive views rest
@@ -196,7 +196,7 @@ known_none = record {
   ends = record { at = clean; is = is_clean refl; end_is = refl };
 }
 
--- an archive behind another, which ends without a fault
+-- an archive after another, which ends without a fault
 pub known_behind : (first second : List ℕ) (xs ys : List View) (before end : Option StreamFault) → before ≡ None
     → IsKnown first xs before → IsKnown second ys end
     → IsKnown (first ++ second) (xs ++ ys) (option_map (moved_fault (size_of xs)) end)

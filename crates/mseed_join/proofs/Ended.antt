@@ -71,7 +71,7 @@ number n few =
 count : (n : ℕ) → n < 2 ^ 63 → plain (decimal n) ≡ true
 count n l = number n (omega (arith, l))
 
--- a count behind something, and a word and something more behind it
+-- a count after something, and a word and something more after it
 behind_count : (a w b : List ℕ) (n : ℕ) → plain a ≡ true → n < 2 ^ 63 → plain w ≡ true → plain b ≡ true
     → plain (a ++ decimal n ++ w ++ b) ≡ true
 behind_count a w b n p few q r =
@@ -167,7 +167,7 @@ first f fits =
     (two (codes "first ") (decimal f.number) refl (count f.number fits.number)) refl) fits.offset refl
     (why f.why fits.why)
 
--- a head and a tail behind their words
+-- a head and a tail after their words
 ends : (a b : List ℕ) → plain a ≡ true → plain b ≡ true → plain (codes " head " ++ a ++ codes " tail " ++ b) ≡ true
 ends a b p q =
     two (codes " head " ++ a ++ codes " tail ") b

@@ -108,7 +108,7 @@ read_fault v f is (in_payload e form some readable has _ why) =
     (λ i. subst (λ (n : ℕ). n < 256) (sym (get_or-drop at v.bytes i 0)) (octets_of v is (at + i))) small
     (count_small v is) why
 
--- ---- what is found behind a record
+-- ---- what is found after a record
 of_join : (j : Join) → JoinFits j → IfSome (why_of j) HasWhy
 of_join Meets h = tt
 of_join (Late us) h = h

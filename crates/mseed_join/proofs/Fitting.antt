@@ -49,7 +49,7 @@ findings_count (Counted count first head tail) h = h.1
 counts_of : (key : List ℕ) (c : Channel) → HasChannelLine key c → CountsFit c
 counts_of key c l = (l.records, l.samples, findings_count c.findings l.findings)
 
--- the records of a channel, behind others
+-- the records of a channel, after others
 ones_moved : (key : List ℕ) (n size d e all whole : ℕ) (ps : List Placed) → d + n ≤ all → e + size ≤ whole
     → AllByRecursion (IsOne key n size) ps → AllByRecursion (IsOne key all whole) (map (moved d e) ps)
 ones_moved key n size d e all whole [] few small h = tt

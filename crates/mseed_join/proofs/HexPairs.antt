@@ -26,7 +26,7 @@ nibble_small b n e = by (is_digit b) refl (nat_le 65 b && nat_le b 70) refl e
         omega (arith, same, small)
     by false d false l h = absurd (cc h)
 
--- a byte of two values, and the bytes behind it
+-- a byte of two values, and the bytes after it
 abbrev made : List ℕ → ℕ → ℕ → Option (ℕ × List ℕ)
 made rest high low = Some (16 * high + low, rest)
 

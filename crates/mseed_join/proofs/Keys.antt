@@ -104,7 +104,7 @@ byte_spelled (h ∷ l ∷ rest) x e = by (nibble_of h) refl (nibble_of l) refl e
           small = omega (arith, p.small, q.small);
         })
 
--- so many bytes behind those that were there
+-- so many bytes after those that were there
 record AreMore (n : ℕ) (done bytes : List ℕ) (x : List ℕ × List ℕ) : Type 0 where
   key : List ℕ
   all : x.0 ≡ done ++ key

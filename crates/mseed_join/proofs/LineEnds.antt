@@ -1,4 +1,4 @@
--- Where the first line of some bytes ends, and lines one behind another.
+-- Where the first line of some bytes ends, and lines one after another.
 use Rattle.std.proofs.Common.{◌≡◌, ℕ, ◌+◌, ◌<◌, ◌≤◌, min, suc, List, [], ◌∷◌, ◌++◌, length, take, drop, get_or}
 use Rattle.std.proofs.Common.{Some, None, Bool, true, false, not, cond, ◌==◌, sym, ap, subst, ◌∙◌, arith}
 use Rattle.std.proofs.Common.{inl, inr, append_assoc, length-take, length-drop, map, replicate, w8, ◌-◌, ◌%◌, ◌≢◌}
@@ -62,7 +62,7 @@ end_found bytes k some = elim (leb_tells (suc (first_end bytes)) (length bytes))
       ap (λ t. cond t (Some (first_end bytes)) None) (sym behind.0) ∙ some in cc e)
 ]
 
--- an LF behind bytes that have none
+-- an LF after bytes that have none
 first_behind : (before rest : List ℕ) → HasNoEnd before → first_end (before ++ rest) ≡ length before + first_end rest
 first_behind [] rest _ = omega arith
 first_behind (b ∷ bs) rest lacks = elim (eqb_tells b 10) [
@@ -91,7 +91,7 @@ no_end_farther bytes at place within lacks found =
       subst HasNoEnd (sym (take-add at place bytes)) (no_end_in_both _ _ lacks more),
     )
 
--- the first LF, looked for behind bytes that have none
+-- the first LF, looked for after bytes that have none
 pub first_is_behind : (bytes : List ℕ) (at : ℕ) → at ≤ length bytes → HasNoEnd (take at bytes)
     → first_end bytes ≡ at + first_end (drop at bytes)
 first_is_behind bytes at within lacks =

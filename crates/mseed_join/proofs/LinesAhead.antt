@@ -22,7 +22,7 @@ use Rattle.mseed_join.specs.private.LineReading.{LinesRead, Grows, IsReadBy, Goe
 use Rattle.mseed_join.specs.private.LineReading.{IsReadFault}
 use Rattle.mseed_join.proofs.LineEnds.{lines_more}
 
--- n bytes more behind those that are held
+-- n bytes more after those that are held
 pub held_more : (items now : List ℕ) (begin end n : ℕ) → take end now ≡ take end items → begin ≤ end
     → end ≤ length now → slice_range now begin (end + n) ≡ slice_range items begin end ++ take n (drop end now)
 held_more items now begin end n same low high =

@@ -1,4 +1,4 @@
--- Bytes that begin no record begin none whatever comes behind them, for the same reason.
+-- Bytes that begin no record begin none whatever comes after them, for the same reason.
 use Rattle.std.proofs.Common.{◌≡◌, ℕ, zero, suc, ◌+◌, ◌^◌, ◌<◌, ◌≤◌, ◌&&◌, ◌++◌, List, [], ◌∷◌, length, get_or, ltb}
 use Rattle.std.proofs.Common.{Bool, true, false, cond, Some, None, refl, sym, ap, subst, ◌∙◌, arith, length-append}
 use Rattle.std.specs.Prelude.{nat_eq, nat_le, not}
@@ -86,7 +86,7 @@ by_offset false false false false false far off wide k n x y f p q r s h =
     (λ i. cond (p refl i) (Some (Need k)) (cond (q refl i) None (cond (r refl i) (Some (Need n)) (Some y))))
     ∙ ap (λ (z : Scan). Some z) (s refl (some_is x (Not f) h))
 
--- what has so many bytes has them with more behind
+-- what has so many bytes has them with more after
 still : (n m k : ℕ) → n ≤ m → ltb n k ≡ false → ltb m k ≡ false
 still n m k l e = le-ltb m k (omega (arith, ltb-false n k e, l))
 

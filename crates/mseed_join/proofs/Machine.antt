@@ -140,7 +140,7 @@ behind_all (begun channels) h = (tt, rows_are channels h.0.channels)
 behind_all (whole w) h = part_are w h.0
 
 -- ---- bytes are the lines of one list
--- what lies behind lines that begin a text
+-- what lies after lines that begin a text
 pub record LeavesLines (ys xs : List Line) (rest : List ℕ) : Type 0 where
   pub others : List Line
   pub lines : ys ≡ xs ++ others

@@ -7,7 +7,7 @@ use Rattle.mseed_join.specs.Written.{Spells, Written}
 use Rattle.mseed_join.proofs.Machine.{AreAll, Entries, all_rows, end_row, faults_row, lines_text, rows, texts_all}
 use Rattle.mseed_join.proofs.Machine.{first_same, nothing_first, texts_are}
 
--- ---- lines one behind another
+-- ---- lines one after another
 lines_one : (xs ys : List Line) → AreAll xs → AreAll ys → lines_text xs ≡ lines_text ys → xs ≡ ys
 lines_one [] [] p q e = refl
 lines_one [] (y ∷ ys) p q e = absurd (nothing_first y (lines_text ys) q.0 (sym e))
@@ -17,7 +17,7 @@ lines_one (x ∷ xs) (y ∷ ys) p q e =
     let more : xs ≡ ys = lines_one xs ys p.1 q.1 both.1 in
     λ i. both.0 i ∷ more i
 
--- ---- parts one behind another
+-- ---- parts one after another
 -- no part begins with the line of a fault, or of faults
 no_fault : (ws : List Written) (bytes : ℕ) (f : StreamFault) (xs : List Line) → all_rows ws ≡ fault bytes f ∷ xs → ⊥
 no_fault [] bytes f xs e = cc e
@@ -41,7 +41,7 @@ ends_one bytes (Some f) (Some g) ws vs e =
     let rest : all_rows ws ≡ all_rows vs = cc e in
     (ap (λ (x : StreamFault). Some x) same, rest)
 
--- what stands behind the counts
+-- what stands after the counts
 abbrev behind : ℕ → ℕ → Option StreamFault → List Written → List Line
 behind n bytes end ws = faults_row n ++ (end_row bytes end ++ all_rows ws)
 
@@ -59,7 +59,7 @@ faults_one (suc n) (suc m) bytes end other ws vs e =
     let rest : end_row bytes end ++ all_rows ws ≡ end_row bytes other ++ all_rows vs = cc e in
     (same, rest)
 
--- the channels, and the counts behind them
+-- the channels, and the counts after them
 record AreSame (cs ds : Entries) (records held count size : ℕ) (xs ys : List Line) : Type 0 where
   channels : cs ≡ ds
   records_same : records ≡ count
@@ -90,7 +90,7 @@ channels_one (c ∷ cs) (d ∷ ds) records held count size xs ys e =
       rest = more.rest;
     }
 
--- a part before it, and what stands behind it
+-- a part before it, and what stands after it
 part_leading : (w : Written) (ws : List Written) → all_rows (w ∷ ws)
     ≡ header ∷ (rows w.part.channels ++ counts w.part.records w.part.bytes ∷ behind w.faults w.part.bytes w.end ws)
 part_leading w ws =

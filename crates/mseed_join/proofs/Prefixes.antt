@@ -104,7 +104,7 @@ counts_leading records bytes = simp append_assoc
 pub faults_leading : (n : ℕ) → faults_line (suc n) ≡ codes "faults " ++ (decimal (suc n) ++ codes "\n")
 faults_leading n = simp append_assoc
 
--- what fails, behind the offset
+-- what fails, after the offset
 abbrev pub fault_words : StreamFault → List ℕ
 fault_words (Frame offset f) = frame_words f
 fault_words (Truncated offset have) = codes "truncated " ++ decimal have
@@ -141,7 +141,7 @@ fault_leading (Read offset) t = simp append_assoc
 fault_leading (Turns offset) t = simp append_assoc
 fault_leading Memory t = absurd t
 
--- behind so many bytes
+-- after so many bytes
 pub fault_of : (f : StreamFault) (bytes : ℕ) → IsFaultBehind bytes f
     → fault_line f ≡ codes "fault at " ++ (decimal bytes ++ (codes " " ++ (fault_words f ++ codes "\n")))
 fault_of (Frame offset f) bytes l = fault_leading (Frame offset f) tt

@@ -88,7 +88,7 @@ step_line lines s x line (Ok reported) old new e h =
 step_line lines s x line (Err Bad) old new e h = λ b. h (subst (λ (t : List ℕ). Begins old.past (lines ++ t)) e b)
 step_line lines s x line (Err Memory) old new e h = tt
 
--- ---- behind a header or a channel
+-- ---- after a header or a channel
 abbrev pub IsEndedLine : List ℕ → Type 0
 IsEndedLine line = (body : List ℕ) × HasNoEnd body × (line ≡ body ++ codes "\n")
 
@@ -163,7 +163,7 @@ row_unknown old last line at ends f g lines s q b =
     let n : IsNextLine old.past s line = next_line old.past s lines ends.0 line q.stage ends.1 ends.2 b in
     no_row last line s.behind n.x (row_place old last s.behind at q.place) n.is_line n.text n.may f g
 
--- ---- behind the counts
+-- ---- after the counts
 whole_place : {A : Type 0} → (j : Joint A) (l : ℕ) (has : Bool) (b : Behind) → j.place ≡ Whole l has
     → IsPlace j.place b → IsPlace (Whole l has) b
 whole_place j l has b e p = subst (λ (q : Place). IsPlace q b) e p

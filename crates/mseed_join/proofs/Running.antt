@@ -51,7 +51,7 @@ rows_run over acc (e ∷ es) s =
           (rows_run over (acc ++ e ∷ []) es t),
     )
 
--- where reading is behind a part, by how it ends
+-- where reading is after a part, by how it ends
 abbrev behind_by : List Written → Written → Option StreamFault → Stage
 behind_by before w None = record { over = before; behind = whole w }
 behind_by before w (Some f) = record { over = before ++ w ∷ []; behind = none }
@@ -133,7 +133,7 @@ parts_run s (w ∷ ws) r h =
 pub all_run : (ws : List Written) → HaveTexts ws → (at : Stage) × (Runs start (all_rows ws) at × (parts_at at ≡ ws))
 all_run ws h = let r : RunsAll start ws = parts_run start ws tt h in (r.at, (r.runs, r.parts))
 
--- the rows of two lists of parts, one behind another
+-- the rows of two lists of parts, one after another
 pub all_rows_append : (ws vs : List Written) → all_rows (ws ++ vs) ≡ all_rows ws ++ all_rows vs
 all_rows_append [] vs = refl
 all_rows_append (w ∷ ws) vs =
@@ -148,7 +148,7 @@ pub texts_behind : (ws vs : List Written) → HaveTexts (ws ++ vs) → HaveTexts
 texts_behind [] vs h = h
 texts_behind (w ∷ ws) vs h = texts_behind ws vs h.1
 
--- a header goes from behind any parts to their being over
+-- a header goes from after any parts to their being over
 header_runs : (at : Stage) → IsReady at.behind → to at header ≡ record { over = parts_at at; behind = begun [] }
 header_runs at r = by at.over at.behind r
   where

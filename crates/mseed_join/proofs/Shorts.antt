@@ -39,7 +39,7 @@ use Rattle.mseed_join.proofs.Digits.{IsWithin}
 use Rattle.mseed_join.proofs.Backwards.{instant_within}
 use Rattle.mseed_join.proofs.Prefixes.{fault_words, fault_of}
 
--- lists one behind another
+-- lists one after another
 two : (a b : List ℕ) (m n : ℕ) → length a ≤ m → length b ≤ n → length (a ++ b) ≤ m + n
 two a b m n h k = omega (arith, length-append a b, h, k)
 

@@ -52,7 +52,7 @@ use Rattle.mseed_join.proofs.Prefixes.{faults_leading}
 use Rattle.mseed_join.proofs.Prefixes.{fault_words, fault_then, fault_of, bad_word_leading, last_differs_leading}
 use Rattle.mseed_join.proofs.Keys.{IsKey, key_spelled}
 
--- a step that answered, and the steps behind it
+-- a step that answered, and the steps after it
 bind_then : {A B : Type 0} (P : Type 0) (o : Option A) (f : A → Option B) (y : B) → (o >>= f) ≡ Some y
     → ((x : A) → o ≡ Some x → f x ≡ Some y → P) → P
 bind_then P None f y e k = absurd (no y e)
@@ -101,7 +101,7 @@ named_spelled text (x ∷ xs) bytes y e =
     else_then (IsRead text Any bytes y) _ _ y e (word_spelled text Any (text x) x refl tt bytes y)
     (named_spelled text xs bytes y)
 
--- a number behind a word
+-- a number after a word
 record IsBehind (word : List ℕ) (largest : ℕ) (bytes : List ℕ) (x : ℕ × List ℕ) : Type 0 where
   is : bytes ≡ word ++ (decimal x.0 ++ x.1)
   bounded : x.0 ≤ largest
@@ -115,7 +115,7 @@ behind_spelled word largest bytes x few e =
       bounded = n.bounded;
     })
 
--- a count behind a word, and the steps behind it
+-- a count after a word, and the steps after it
 count_then : {B : Type 0} (P : Type 0) (word bytes : List ℕ) (f : ℕ × List ℕ → Option B) (y : B)
     → (behind_at word (2 ^ 63 - 1) bytes >>= f) ≡ Some y
     → ((x : ℕ × List ℕ) → IsBehind word (2 ^ 63 - 1) bytes x → f x ≡ Some y → P) → P
@@ -364,7 +364,7 @@ first_spelled bytes y e =
     subst (λ (z : Finding × List ℕ). (bytes ≡ first_then z.0 z.1) × HasFinding z.0) (some_is (f, why.1) y e4)
     (t1, fits)))))
 
--- by the number of findings, behind the tail
+-- by the number of findings, after the tail
 counted_findings_spelled : (count : ℕ) (head : Option Head) (tail : Option Tail) (bytes : List ℕ)
     (y : Findings × List ℕ)
     → counted_findings_at count head tail bytes ≡ Some y → count < 2 ^ 63 → IfSome head HasHead → IfSome tail HasTail

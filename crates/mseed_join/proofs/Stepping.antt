@@ -160,7 +160,7 @@ counts_joint law past over cs n b h k j free joint fit faults_same end_none =
       end = end_none;
     })
 
--- behind what stood before it, the same part with other faults or another end, joined to the same
+-- after what stood before it, the same part with other faults or another end, joined to the same
 same_part : (a w h v k : Written) → IsNext a w h → v.part ≡ w.part → k.part ≡ h.part → k.faults ≡ a.faults + v.faults
     → k.faults < 2 ^ 63 → k.end ≡ option_map (moved_fault a.part.bytes) v.end → IsNext a v k
 same_part a w h v k next own joint sum fit ends = record {

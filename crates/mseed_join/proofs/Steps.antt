@@ -35,7 +35,7 @@ use Rattle.mseed_join.proofs.Stepping.{ended_joint, faults_joint, passed_joint, 
 use Rattle.mseed_join.proofs.Sums.{HaveOneJoint, IsFirst, first_of, none_of}
 use Rattle.mseed_join.proofs.Taken.{number_same, passed_more, passed_same, stopped}
 
--- a line that can stand here, and the parts that go on behind it
+-- a line that can stand here, and the parts that go on after it
 pub record IsHere (past : Bool) (s : Stage) (x : Line) : Type 0 where
   pub may : May s.behind x
   parts : List Written
@@ -257,7 +257,7 @@ counts_refused only old free n l limit lines s r is m b =
         counts_fit only old.past over (written_of old.so_far) free h.parts h.joint h.is_joint cs n l j h.extends_to
     by over (whole w) j q h = absurd q
 
--- ---- the number of faults behind
+-- ---- the number of faults passed
 faults_place : (over : List Written) (b : Behind) (n l : ℕ) → May b (faults n) → 0 < n → IsPlace (Whole l false) b
     → IsPlace (Whole l true) (goes over b (faults n)).behind
 faults_place over none n l m some p = absurd m

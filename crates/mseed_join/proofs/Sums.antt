@@ -1,4 +1,4 @@
--- Parts that count, joined: those before and those behind.
+-- Parts that count, joined: those before and those after.
 use Rattle.std.proofs.Common.{◌≡◌, ◌+◌, ◌<◌, ◌^◌, List, [], ◌∷◌, ◌++◌, Bool, true, false, Option, Some, None}
 use Rattle.std.proofs.Common.{refl, sym, ap, ◌∙◌, subst, arith, inl, inr, ◌⊎◌}
 use Rattle.std.specs.List.Sorted.{IsStrictlySortedBy}
@@ -45,7 +45,7 @@ pub nothing_good : IsGood nothing
 unfolding IsStrictlySortedBy
 nothing_good = record { ascending = tt; records = omega arith; bytes = omega arith; faults = omega arith }
 
--- ---- those before, and those behind
+-- ---- those before, and those after
 -- the joint part of those before; it ends with a fault, and is that of all, or the others are joined to it
 pub record IsSplit (past : Bool) (a : Written) (ws vs : List Written) (h : Written) : Type 0 where
   pub before : Written
@@ -98,7 +98,7 @@ pub split : (past : Bool) (ws vs : List Written) (h : Written) → IsJointOf pas
     → IsSplit past nothing ws vs h
 split past ws vs h j = split_from past nothing ws vs h refl j
 
--- ---- those behind, joined to those before
+-- ---- those after, joined to those before
 -- a part that ends with a fault, and is the last that counts, leaves no joint part without one
 pub never_open : (a w b : Written) (x : StreamFault) → w.end ≡ Some x → b.end ≡ None → AreJoined a (w ∷ []) b → ⊥
 never_open a w b x e n j =
@@ -137,7 +137,7 @@ pub glue : (past : Bool) (ws vs : List Written) (b h : Written) → b.end ≡ No
     → AreJoined b (counted past vs) h → IsJointOf past (ws ++ vs) h
 glue past ws vs b h n j k = glue_from past nothing ws vs b h n j k
 
--- ---- behind a part that ends with a fault none counts
+-- ---- after a part that ends with a fault none counts
 stop_by : (past : Bool) (a w : Written) (ws vs : List Written) (b : Written) (x : StreamFault)
     (end : Option StreamFault) → w.end ≡ end → a.end ≡ None → b.end ≡ Some x
     → ((c : Written) → c.end ≡ None → AreJoined c (counted past ws) b → AreJoined c (counted past (ws ++ vs)) b)

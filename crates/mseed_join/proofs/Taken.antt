@@ -38,7 +38,7 @@ rows_one (d ∷ cs) key c =
     ap (λ (t : List ℕ). channel_line d.0 d.1 ++ t) (rows_one cs key c)
     ∙ sym (append_assoc (channel_line d.0 d.1) (channel_lines cs) (channel_line key c))
 
--- a part's text without what may stand behind its counts
+-- a part's text without what may stand after its counts
 abbrev leading : Written → List ℕ
 leading w = header_line ++ channel_lines w.part.channels ++ counts_line w.part.records w.part.bytes
 
@@ -221,7 +221,7 @@ last_is past over w h e n j = by (split past over (w ∷ []) h j)
         }
         cases (inr k) = absurd (some_none k.0 (sym k.1 ∙ ap (λ (c : Written). c.end) k.2 ∙ n))
 
--- behind a fault the last doesn't count
+-- after a fault the last doesn't count
 pub before_is : (past : Bool) (over : List Written) (w h : Written) (f : StreamFault) → w.end ≡ None → h.end ≡ Some f
     → IsJointOf past (over ++ w ∷ []) h → IsJointOf past over h
 before_is past over w h f e n j = by (split past over (w ∷ []) h j)
@@ -237,7 +237,7 @@ before_is past over w h f e n j = by (split past over (w ∷ []) h j)
             ∙ ap (λ (o : Option StreamFault). option_map (moved_fault s.before.part.bytes) o) e))
         cases (inr k) = subst (λ (c : Written). IsJointOf past over c) k.2 s.joined
 
--- behind a fault any parts may stand
+-- after a fault any parts may stand
 pub stopped : (past : Bool) (over vs : List Written) (w h : Written) (f : StreamFault) → w.end ≡ None
     → h.end ≡ Some f → IsJointOf past (over ++ w ∷ []) h → IsJointOf past (over ++ vs) h
 stopped past over vs w h f e n j = stop past over vs h f n (before_is past over w h f e n j)

@@ -1,4 +1,4 @@
--- The texts of the parts of archives, one behind another.
+-- The texts of the parts of archives, one after another.
 use Rattle.std.proofs.Common.{◌≡◌, ℕ, ◌<◌, ◌^◌, ◌++◌, List, [], ◌∷◌, length, Bool, true, false, refl, sym, subst, arith}
 use Rattle.std.proofs.Common.{length-append}
 use Rattle.std.specs.List.{AllByRecursion}

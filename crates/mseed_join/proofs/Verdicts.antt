@@ -19,7 +19,7 @@ lines_snoc (d ∷ cs) c = ap (λ (xs : List ℕ). verdict_line d.0 (verdict_of d
     ∙ sym (append_assoc (verdict_line d.0 (verdict_of d.1)) (verdict_lines (map verdict_at cs))
     (verdict_line c.0 (verdict_of c.1)))
 
--- the lines with one more, behind some text
+-- the lines with one more, after some text
 pub verdicts_more : (cs : List (List ℕ × Channel)) (n : ℕ) (c : List ℕ × Channel) (v : Verdict)
     (first old new : List ℕ) → n < length cs → c ≡ get_or cs n c → v ≡ verdict_of c.1
     → old ≡ first ++ verdict_lines (map verdict_at (take n cs)) → new ≡ old ++ verdict_line c.0 v

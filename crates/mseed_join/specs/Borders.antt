@@ -9,7 +9,7 @@ use Rattle.mseed_parts.specs.Notices.{Notice}
 use Rattle.mseed_join.specs.Joined.{AreJoined, counted, nothing}
 use Rattle.mseed_join.specs.Written.{Written}
 
--- what is found at the borders of parts behind others, part after part: each is joined to all before it
+-- what is found at the borders of parts after others, part after part: each is joined to all before it
 pub data AreBorders : List Written → List Written → List Border → Type 0 where
   none : (before : List Written) → AreBorders before [] []
   one : (before : List Written) (a w : Written) (ws : List Written) (found : List Border) → AreJoined nothing before a

@@ -1,4 +1,4 @@
--- The audit of archives one behind another, and the joint part of theirs.
+-- The audit of archives one after another, and the joint part of theirs.
 use Rattle.std.specs.Prelude.{⊤, ◌≡◌, ◌<◌, ◌^◌, ℕ, List, [], ◌∷◌, ◌++◌, length, map, Option, Some, None, true}
 use Rattle.std.specs.List.{AllByRecursion}
 use Rattle.mseed_stream.specs.Device.{BytesRead}
@@ -24,7 +24,7 @@ pub record IsReadOf (archive : List ℕ) (h : BytesRead) : Type 0 where
   pub bytes : archive ≡ h.bytes ++ rest
   pub all : h.is_at_end ≡ true → rest ≡ []
 
--- Archives one behind another, and their parts. Each archive but the last ends without a fault.
+-- Archives one after another, and their parts. Each archive but the last ends without a fault.
 pub data AreParted : List ℕ → List Written → Type 0 where
   none : AreParted [] []
   last : (archive : List ℕ) (h : BytesRead) (a : AuditedPart h) → IsReadOf archive h → EndsByBytes a.written.end

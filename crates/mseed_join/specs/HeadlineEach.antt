@@ -1,4 +1,4 @@
--- What is reported of archives one behind another, by what is reported of each alone and at the borders of their parts.
+-- What is reported of archives one after another, by what is reported of each alone and at the borders of their parts.
 use Rattle.std.specs.Prelude.{◌≡◌, ℕ, List, [], ◌∷◌, ◌++◌, None}
 use Rattle.mseed_stream.specs.Device.{BytesRead}
 use Rattle.mseed_audit.specs.Each.{AuditedEach, each_text}
@@ -9,7 +9,7 @@ use Rattle.mseed_join.specs.Headline.{EndsByBytes, IsReadOf}
 use Rattle.mseed_join.specs.Joined.{join_text}
 use Rattle.mseed_join.specs.Written.{Written}
 
--- Archives one behind another, their parts, and what is reported of each alone: numbers and offsets go up by the
+-- Archives one after another, their parts, and what is reported of each alone: numbers and offsets go up by the
 -- records and bytes of the archives before. Each archive but the last ends without a fault.
 pub data AreReportedApart : List ℕ → List Written → List Notice → Type 0 where
   none : AreReportedApart [] [] []

@@ -19,17 +19,17 @@ counted_by past w None rest = w ∷ rest
 counted_by true w (Some fault) rest = record { part = w.part; faults = w.faults + 1; end = None } ∷ rest
 counted_by false w (Some fault) rest = w ∷ []
 
--- those up to the first that ends with a fault; where faults are passed all, and each fault is one more behind
+-- those up to the first that ends with a fault; where faults are passed all, and each fault is one more that was passed
 abbrev pub counted : Bool → List Written → List Written
 counted past [] = []
 counted past (w ∷ ws) = counted_by past w w.end (counted past ws)
 
--- ---- parts one behind another, joined
+-- ---- parts one after another, joined
 -- the part of nothing
 abbrev pub nothing : Written
 nothing = record { part = record { channels = []; records = 0; bytes = 0 }; faults = 0; end = None }
 
--- a fault behind so many more bytes
+-- a fault after so many more bytes
 abbrev pub moved_fault : ℕ → StreamFault → StreamFault
 moved_fault e (Frame offset f) = Frame (e + offset) f
 moved_fault e (Truncated offset have) = Truncated (e + offset) have
@@ -57,14 +57,14 @@ IsJointOf past ws h = AreJoined nothing (counted past ws) h
 abbrev pub verdict_at : (List ℕ × Channel) → List ℕ × Verdict
 verdict_at e = (e.0, verdict_of e.1)
 
--- the text of the audit that a part is the part of, with the faults that lie behind
+-- the text of the audit that a part is the part of, with the faults that lie after
 abbrev pub join_text : Written → List ℕ
 join_text w =
     verdict_lines (map verdict_at w.part.channels) ++ total_line w.part.records (length w.part.channels)
     ++ faults_line w.faults ++ end_line w.end
 
 -- ---- which bytes begin no text
--- with something behind them, these bytes are the texts of parts that can be joined
+-- with something after them, these bytes are the texts of parts that can be joined
 pub record Begins (past : Bool) (bytes : List ℕ) : Type 0 where
   pub rest : List ℕ
   pub parts : List Written

@@ -19,7 +19,7 @@ abbrev pub text_by : Form → Written → List ℕ
 text_by Audit w = join_text w
 text_by Part w = part_text w
 
--- it ends with a fault, or faults lie behind
+-- it ends with a fault, or faults were passed
 abbrev pub is_faulty : Written → Bool
 is_faulty w = is_some w.end || nat_lt 0 w.faults
 

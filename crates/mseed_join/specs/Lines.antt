@@ -87,7 +87,7 @@ channel_line key c =
 abbrev pub counts_line : ℕ → ℕ → List ℕ
 counts_line records bytes = codes "records " ++ decimal records ++ codes " bytes " ++ decimal bytes ++ codes "\n"
 
--- how many faults lie behind, if any does
+-- how many faults were passed, if any does
 abbrev pub faults_line : ℕ → List ℕ
 faults_line zero = []
 faults_line (suc n) = codes "faults " ++ decimal (suc n) ++ codes "\n"
@@ -167,7 +167,7 @@ HasFrameFault (Length exponent) = exponent < 2 ^ 8
 HasFrameFault Outside = ⊤
 HasFrameFault Version3 = ⊤
 
--- a fault behind so many bytes; a want of memory isn't one
+-- a fault after so many bytes; a want of memory isn't one
 abbrev pub IsFaultBehind : ℕ → StreamFault → Type 0
 IsFaultBehind bytes (Frame offset fault) = (offset ≡ bytes) × HasFrameFault fault
 IsFaultBehind bytes (Truncated offset have) = (offset ≡ bytes) × (have < 2 ^ 63)
@@ -175,7 +175,7 @@ IsFaultBehind bytes (Read offset) = offset ≡ bytes
 IsFaultBehind bytes (Turns offset) = offset ≡ bytes
 IsFaultBehind bytes Memory = ⊥
 
--- a fault behind so many bytes has a line
+-- a fault after so many bytes has a line
 pub record HasFaultLine (bytes : ℕ) (fault : StreamFault) : Type 0 where
   pub bytes_fit : bytes < 2 ^ 63
   pub is : IsFaultBehind bytes fault

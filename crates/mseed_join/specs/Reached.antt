@@ -13,7 +13,7 @@ use Rattle.mseed_join.specs.Lines.{header_line}
 use Rattle.mseed_join.specs.Written.{HasText, Written, channel_lines, part_text, texts}
 
 -- ---- how far parts were read
--- what stands behind the parts that are over
+-- what stands after the parts that are over
 pub data Behind : Type 0 where
   none : Behind
   -- a header, and these channels
@@ -21,7 +21,7 @@ pub data Behind : Type 0 where
   -- a part that can be over; or the number of faults comes next, if it isn't there, or the fault
   whole : Written → Behind
 
--- the parts that are over, and what stands behind them
+-- the parts that are over, and what stands after them
 pub record Stage : Type 0 where
   pub over : List Written
   pub behind : Behind
@@ -56,7 +56,7 @@ pub record EndsByFault (over : List Written) : Type 0 where
   pub are : over ≡ parts ++ last ∷ []
   pub ends : last.end ≡ Some fault
 
--- nothing can go on but what is behind: a part that is over, if without a fault, is behind until the next begins
+-- nothing can go on but what is over: a part without a fault is over until the next begins
 abbrev pub IsWhere : List Written → Behind → Type 0
 IsWhere over none = (over ≡ []) ⊎ EndsByFault over
 IsWhere over (begun channels) = ⊤

@@ -1,4 +1,4 @@
--- What reading parts one behind another answers.
+-- What reading parts one after another answers.
 use Rattle.std.specs.Prelude.{⊤, ◌≡◌, ◌≢◌, ℕ, ◌+◌, List, ◌++◌, length, Bool, true, Option, Some, None, Result, Ok, Err}
 use Rattle.mseed_stream.specs.Device.{BytesRead, BytesWritten}
 use Rattle.mseed_stream.specs.Fault.{IsStreamFault}
@@ -61,7 +61,7 @@ pub record IsStopped (past : Bool) (old h : BytesRead) (s new : BytesWritten) : 
   pub stage : Stage
   pub lines : AreReportedTo past bytes stage s new
 
--- the source failed behind it: no bad line was read before
+-- the source failed after it: no bad line was read before
 pub record IsFailed (past : Bool) (old h : BytesRead) (s new : BytesWritten) : Type 0 where
   pub stopped : IsStopped past old h s new
   pub none_bad : HasNoBadLine past stopped.bytes

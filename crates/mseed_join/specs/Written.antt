@@ -1,4 +1,4 @@
--- The text of a part, and texts one behind another.
+-- The text of a part, and texts one after another.
 use Rattle.std.specs.Prelude.{◌≡◌, ◌<◌, ◌^◌, ℕ, List, [], ◌∷◌, ◌++◌, Option, IfSome}
 use Rattle.std.specs.List.{AllByRecursion}
 use Rattle.mseed_stream.specs.declared.fault.StreamFault.{StreamFault}
@@ -8,7 +8,7 @@ use Rattle.mseed_parts.specs.Parts.{Held, IsAscending}
 use Rattle.mseed_join.specs.Lines.{header_line, channel_line, counts_line, faults_line}
 use Rattle.mseed_join.specs.Lines.{HasChannelLine, HasCountsLine, HasFaultLine}
 
--- what a part's text says: the part, how many faults lie behind, and the fault with which it ends, if with one
+-- what a part's text says: the part, how many faults were passed, and the fault with which it ends, if with one
 pub record Written : Type 0 where
   pub part : Held
   pub faults : ℕ
@@ -32,7 +32,7 @@ pub record HasText (w : Written) : Type 0 where
   pub faults : w.faults < 2 ^ 63
   pub end : IfSome w.end (λ fault. HasFaultLine w.part.bytes fault)
 
--- the texts of parts, one behind another
+-- the texts of parts, one after another
 abbrev pub texts : List Written → List ℕ
 texts [] = []
 texts (w ∷ ws) = part_text w ++ texts ws

@@ -1,4 +1,4 @@
-//! Laws: what parts say of the archives one behind another.
+//! Laws: what parts say of the archives one after another.
 ghost use Rattle.std.specs.Prelude.{◌≡◌, ◌<◌, ◌^◌, ◌++◌, Bool, List, ℕ, Option, Some, false, length, take, true};
 ghost use Rattle.std.specs.Io.KnownBytes.{IsAtEnd};
 ghost use Rattle.mseed_stream.specs.Cutting.{TellsMore};
@@ -20,7 +20,7 @@ use mseed_audit::{channels_have_verdicts, one_list_of_verdicts, one_telling};
 use mseed_parts::{findings_add_up, joined_in_turn, joining_laws, one_part, parts_add_up};
 
 /// The joint part of archives, of which each but the last ends without a fault, says what the audit of the archives
-/// one behind another says.
+/// one after another says.
 pub fn joined_audit()
     ensures says { (archive : List ℕ) (ws : List Written) (joint : Written) (h : BytesRead) (a : Audited h)
         → AreParted archive ws → IsJointOf false ws joint → IsReadOf archive h → EndsByBytes a.end
@@ -46,7 +46,7 @@ pub fn joined_audit()
 
 /// The headline with a line for each finding: the lines of archives, of which each but the last ends without a fault,
 /// with their numbers and offsets gone up, and the lines of the borders of their parts, merged by offset, and then the
-/// text of the joint part, are what the audit of the archives one behind another writes that tells each record with a
+/// text of the joint part, are what the audit of the archives one after another writes that tells each record with a
 /// finding.
 pub fn joined_each()
     ensures says { (archive : List ℕ) (ws : List Written) (reported : List Notice) (found : List Border)
@@ -98,7 +98,7 @@ pub fn no_bad_line()
         → IsBadLine past input.bytes input.is_at_end line offset → ⊥ }
 {}
 
-/// Parts of archives can be joined where the archives one behind another can be audited: no number passes 2^63 - 1.
+/// Parts of archives can be joined where the archives one after another can be audited: no number passes 2^63 - 1.
 pub fn parts_can_be_joined()
     ensures { (archive : List ℕ) (ws : List Written) (h : BytesRead) (a : Audited h) → AreParted archive ws
         → length archive < 2 ^ 63 → IsReadOf archive h → EndsByBytes a.end
@@ -108,8 +108,8 @@ pub fn parts_can_be_joined()
     joined_in_turn();
 }
 
-/// The headline over texts: where the texts of the parts of archives stand one behind another and the archives one
-/// behind another can be audited, no line of what is read of the texts is bad; and once they were read to their end,
+/// The headline over texts: where the texts of the parts of archives stand one after another and the archives one
+/// after another can be audited, no line of what is read of the texts is bad; and once they were read to their end,
 /// what is joined says what that audit says.
 pub fn joined_texts()
     ensures spells { (archive : List ℕ) (ws : List Written) → AreParted archive ws → IsWithinLimits archive

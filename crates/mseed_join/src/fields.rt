@@ -9,7 +9,7 @@ use mseed_audit::{Head, Tail};
 use mseed_record::Leap;
 use mseed_time::{Micros, Ratio};
 
-/// A rate, and the bytes behind it.
+/// A rate, and the bytes after it.
 #[inline(always)]
 #[tactic(auto, unfolding(crate::specs::private::Reading::ratio_at))]
 fn ratio_at(bytes: &[u8]) -> Option<(Ratio, &[u8])>
@@ -24,7 +24,7 @@ fn ratio_at(bytes: &[u8]) -> Option<(Ratio, &[u8])>
     }
 }
 
-/// A record's start, and the bytes behind it.
+/// A record's start, and the bytes after it.
 #[inline(always)]
 fn start_at(bytes: &[u8]) -> Option<(Micros, &[u8])>
     ensures { option_map (λ x. (x.0, x.1.now)) result ≡ start_at bytes.now }
@@ -36,7 +36,7 @@ fn start_at(bytes: &[u8]) -> Option<(Micros, &[u8])>
     }
 }
 
-/// The leap seconds that a record bears, and the bytes behind them.
+/// The leap seconds that a record carries, and the bytes after them.
 #[inline(always)]
 #[tactic(auto, unfolding(crate::specs::private::Reading::leap_at))]
 fn leap_at(bytes: &[u8]) -> Option<(Leap, &[u8])>
@@ -55,7 +55,7 @@ fn leap_at(bytes: &[u8]) -> Option<(Leap, &[u8])>
     Some((Leap::Both, rest))
 }
 
-/// How a channel begins, and the bytes behind it.
+/// How a channel begins, and the bytes after it.
 #[inline(always)]
 #[tactic(auto, unfolding(crate::specs::private::Reading::some_head_at))]
 fn some_head_at(bytes: &[u8]) -> Option<(Head, &[u8])>
@@ -82,7 +82,7 @@ fn some_head_at(bytes: &[u8]) -> Option<(Head, &[u8])>
     }
 }
 
-/// How a channel begins, or `none`, and the bytes behind it.
+/// How a channel begins, or `none`, and the bytes after it.
 #[inline(always)]
 #[tactic(auto, unfolding(crate::specs::private::Reading::head_at))]
 pub(crate) fn head_at(bytes: &[u8]) -> Option<(Option<Head>, &[u8])>
@@ -97,7 +97,7 @@ pub(crate) fn head_at(bytes: &[u8]) -> Option<(Option<Head>, &[u8])>
     }
 }
 
-/// How a channel ends, and the bytes behind it.
+/// How a channel ends, and the bytes after it.
 #[inline(always)]
 #[tactic(auto, unfolding(crate::specs::private::Reading::some_tail_at))]
 fn some_tail_at(bytes: &[u8]) -> Option<(Tail, &[u8])>
@@ -127,7 +127,7 @@ fn some_tail_at(bytes: &[u8]) -> Option<(Tail, &[u8])>
     ))
 }
 
-/// How a channel ends, or `none`, and the bytes behind it.
+/// How a channel ends, or `none`, and the bytes after it.
 #[inline(always)]
 #[tactic(auto, unfolding(crate::specs::private::Reading::tail_at))]
 pub(crate) fn tail_at(bytes: &[u8]) -> Option<(Option<Tail>, &[u8])>

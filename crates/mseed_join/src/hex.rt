@@ -11,7 +11,7 @@ use std::simd::prelude::*;
 /// A key has so many digits.
 const DIGITS: usize = 24;
 
-/// A key, and the bytes behind it.
+/// A key, and the bytes after it.
 #[inline(always)]
 pub(crate) fn key_at(bytes: &[u8]) -> Option<(Codes, &[u8])>
     ensures { option_map (λ x. (x.0, x.1.now)) result ≡ key_at bytes.now }

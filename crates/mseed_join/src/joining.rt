@@ -28,9 +28,9 @@ pub enum Form {
 /// What is found of the archives of parts that are joined.
 #[derive(Clone, Copy, Debug, PartialEq, Eq)]
 pub struct Joined {
-    /// The channels that are broken.
+    /// How many channels of the archives are broken.
     pub broken: u64,
-    /// Whether the last archive ends with a fault, or faults lie behind.
+    /// Whether the last archive ends with a fault, or faults were passed.
     pub fault: bool,
 }
 
@@ -60,11 +60,11 @@ pub enum JoinsFault {
     Memory,
 }
 
-/// Reads parts, one behind another, and writes what they are joined to. Without `past_faults` a part behind one that
-/// ends with a fault isn't counted; with it each faulty part counts as if it had none, and its fault is one more behind
-/// and is reported on `errors` as it is read. Where a number of parts is `expected` they have to be as many, those that
-/// aren't counted in too: else nothing is written, whatever they are joined to. The source is one of which nothing was
-/// read yet.
+/// Reads parts, one after another, and writes what they are joined to. Without `past_faults` a part after one that
+/// ends with a fault isn't counted; with it each faulty part counts as if it had none, and its fault is one more that
+/// was passed and is reported on `errors` as it is read. Where a number of parts is `expected` they have to be as many,
+/// those that aren't counted in too: else nothing is written, whatever they are joined to. The source is one of which
+/// nothing was read yet.
 ///
 /// # Errors
 ///
@@ -156,7 +156,7 @@ pub(crate) fn push_joined<A: Allocator + Copy>(
     }
 }
 
-/// Whether there is a fault at the end, or faults lie behind.
+/// Whether there is a fault at the end, or faults were passed.
 fn is_faulty(faults: u64, end: &Option<StreamFault>) -> bool
     ensures { result ≡ (is_some end.now || nat_lt 0 faults) }
 {

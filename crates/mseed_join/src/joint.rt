@@ -26,9 +26,9 @@ use std::cmp::Ordering;
 pub struct JointPart<A: Allocator = Global> {
     /// What is kept of the channels, and how many records and bytes there are.
     pub part: Part<A>,
-    /// How many faults lie behind.
+    /// How many archives before the last end with a fault, which was passed.
     pub faults: u64,
-    /// The fault with which it ends, if with one.
+    /// The fault with which the last archive ends, if with one.
     pub end: Option<StreamFault>,
 }
 
@@ -70,9 +70,9 @@ pub(crate) enum LineFault {
 pub(crate) enum Place {
     /// Before the first line of a part.
     Start,
-    /// Behind a channel with this key, or behind the first line.
+    /// After a channel with this key, or after the first line.
     Channels(Option<Codes>),
-    /// Behind the counts, the bytes among them, and the number of faults, if it was read.
+    /// After the counts, the bytes among them, and the number of faults, if it was read.
     Whole { bytes: u64, has_faults: bool },
 }
 
@@ -179,7 +179,7 @@ impl<A: Allocator + Copy> Joint<A> {
         self.take_counts(records, bytes)
     }
 
-    /// Takes a fault, the number of faults behind, or the first line of the next part.
+    /// Takes a fault, the number of faults passed, or the first line of the next part.
     fn take_ending(
         &mut self,
         bytes: u64,
@@ -251,7 +251,7 @@ impl<A: Allocator + Copy> Joint<A> {
         }
     }
 
-    /// Takes the number of faults behind.
+    /// Takes the number of faults passed.
     fn take_faults(&mut self, faults: u64, bytes: u64) -> Result<Reported, LineFault>
         requires { self.old.place ≡ Place.Whole bytes false }
         ensures { (lines : List ℕ) (s : Stage) → IsReadTo lines s self.old → IsLine (Line.faults faults)
@@ -305,7 +305,7 @@ impl<A: Allocator + Copy> Joint<A> {
     }
 }
 
-/// The fault behind so many bytes.
+/// The fault after so many bytes.
 fn fault_behind(bytes: u64, fault: &StreamFault) -> StreamFault
     ensures { result ≡ fault_behind bytes fault.now }
 {
@@ -318,7 +318,7 @@ fn fault_behind(bytes: u64, fault: &StreamFault) -> StreamFault
     }
 }
 
-/// Whether a channel's key is behind that of the last.
+/// Whether a channel's key is after that of the last.
 fn is_behind(last: Option<Codes>, codes: Codes) -> bool
     ensures { IsTrue result ↔ IsBehindKey last codes }
 {

@@ -117,7 +117,7 @@ impl<A: Allocator> LineReader<A> {
     pub(crate) fn look<R: Source>(&mut self, source: &mut R) -> Result<Ahead, StreamFault>
         ensures ahead { IfOk result (λ a. LiesAhead a self.new (R.read source.new).is_at_end) }
 
-        // What is reported is held behind what was held before, and no line is passed.
+        // What is reported is held after what was held before, and no line is passed.
         ensures more { Grows (R.read source.old) (R.read source.new) (R.remaining source.old) (R.remaining source.new)
             self.old self.new }
         ensures goes_on { (start : BytesRead) → GoesOn start (R.read source.old) self.old
@@ -239,7 +239,7 @@ impl<A: Allocator> LineReader<A> {
         self.begin = 0;
     }
 
-    /// Reads into the room behind what is held, and answers whether the input ended.
+    /// Reads into the room after what is held, and answers whether the input ended.
     fn read<R: Source>(&mut self, source: &mut R) -> Result<bool, StreamFault>
         requires room { 0 < self.old.room }
         requires turns { self.old.reads < 2 ^ 40 }
@@ -290,7 +290,7 @@ fn place_one_by_one(bytes: &[u8]) -> Option<usize>
     bytes.iter().position(|b| *b == b'\n')
 }
 
-/// How many bytes from the start are told to hold no LF: all before the first, or all but the last thirty-one at most.
+/// How many bytes from the start are known to hold no LF: all before the first, or all but the last thirty-one at most.
 #[tactic(auto, using(crate::proofs::LineEnds::no_end_farther))]
 fn pass_lanes(bytes: &[u8]) -> usize
     ensures within { result ≤ length bytes.now }

@@ -32,7 +32,7 @@ pub fn read_counts_line(line: &[u8]) -> Option<(u64, u64)>
     counts_at(line)
 }
 
-/// How many faults lie behind, at least one, from the line with the LF at its end; nothing where it is no such line.
+/// How many faults were passed, at least one, from the line with the LF at its end; nothing where it is no such line.
 pub fn read_faults_line(line: &[u8]) -> Option<u64>
     ensures read { IfSome result (λ n. line.now ≡ faults_line n) }
     ensures fits { IfSome result (λ n. HasFaultsLine n) }
@@ -41,7 +41,7 @@ pub fn read_faults_line(line: &[u8]) -> Option<u64>
     faults_at(line)
 }
 
-/// The fault behind so many bytes, from its line with the LF at its end; nothing where it is no line of a fault there.
+/// The fault after so many bytes, from its line with the LF at its end; nothing where it is no line of a fault there.
 pub fn read_fault_line(line: &[u8], bytes: u64) -> Option<StreamFault>
     ensures read { IfSome result (λ fault. line.now ≡ fault_line fault) }
     ensures fits { IfSome result (λ fault. HasFaultLine bytes fault) }

@@ -7,13 +7,13 @@ ghost use Rattle.mseed_join.specs.private.Reading.{within};
 
 use std::simd::prelude::*;
 
-/// So many digits behind a first fit for sure, and are looked for at once.
+/// So many digits after a first fit for sure, and are looked for at once.
 const FEW: usize = 16;
 
 /// No number of a part is larger, but the microseconds of a gap or an overlap.
 pub(crate) const LIMIT: u64 = 0x7fff_ffff_ffff_ffff;
 
-/// The bytes behind a word, if they begin with it.
+/// The bytes after a word, if they begin with it.
 #[inline(always)]
 pub(crate) fn after<'a, const N: usize>(word: &[u8; N], bytes: &'a [u8]) -> Option<&'a [u8]>
     ensures { option_map (λ rest. rest.now) result ≡ after word.now bytes.now }
@@ -24,7 +24,7 @@ pub(crate) fn after<'a, const N: usize>(word: &[u8; N], bytes: &'a [u8]) -> Opti
     }
 }
 
-/// The number behind a word, which is at most so large.
+/// The number after a word, which is at most so large.
 #[inline(always)]
 pub(crate) fn behind_at<'a, const N: usize>(
     word: &[u8; N],
@@ -38,7 +38,7 @@ pub(crate) fn behind_at<'a, const N: usize>(
     number_at(largest, rest)
 }
 
-/// A number that is at most so large, without leading zeros, and the bytes behind it.
+/// A number that is at most so large, without leading zeros, and the bytes after it.
 #[inline(always)]
 #[tactic(auto, unfolding(crate::specs::private::Reading::number_at))]
 pub(crate) fn number_at(largest: u64, bytes: &[u8]) -> Option<(u64, &[u8])>
@@ -174,7 +174,7 @@ fn digits_ahead(bytes: &[u8]) -> usize
     others.trailing_zeros() as usize
 }
 
-/// The same of fewer bytes.
+/// How many digits a text of fewer than 16 bytes begins with.
 #[inline(always)]
 fn digits_one_by_one(bytes: &[u8]) -> usize
     requires { length bytes.now < 16 }
@@ -189,7 +189,7 @@ fn digits_one_by_one(bytes: &[u8]) -> usize
     count
 }
 
-/// A number that begins with these seventeen digits, if it is at most so large, and the bytes behind it.
+/// A number that begins with these seventeen digits, if it is at most so large, and the bytes after it.
 #[cold]
 fn long_at(largest: u64, number: u64, bytes: &[u8]) -> Option<(u64, &[u8])>
     ensures value { option_map (λ x. (x.0, x.1.now)) result ≡ within largest (more_at number bytes.now) }
@@ -271,7 +271,7 @@ fn is_digit(byte: u8) -> bool
     byte >= b'0' && byte <= b'9'
 }
 
-/// A number that is at most so large, without leading zeros, and the bytes behind it.
+/// A number that is at most so large, without leading zeros, and the bytes after it.
 #[tactic(auto, unfolding(crate::specs::private::Reading::number_at))]
 fn spelled_at<N: Spelled>(largest: N, bytes: &[u8]) -> Option<(N, &[u8])>
     requires { N.value largest < N.limit }
@@ -292,7 +292,7 @@ fn spelled_at<N: Spelled>(largest: N, bytes: &[u8]) -> Option<(N, &[u8])>
     }
 }
 
-/// The number with its further digits, if it is at most so large, and the bytes behind it.
+/// The number with its further digits, if it is at most so large, and the bytes after it.
 fn further_at<N: Spelled>(largest: N, number: N, bytes: &[u8]) -> Option<(N, &[u8])>
     requires { N.value largest < N.limit }
     ensures value { option_map (λ x. (N.value x.0, x.1.now)) result
@@ -337,7 +337,7 @@ fn more_at<N: Spelled>(number: N, bytes: &[u8]) -> Option<(N, &[u8])>
     }
 }
 
-/// A number that is at most so large, or `-` and one that isn't 0 and at most so large, and the bytes behind it.
+/// A number that is at most so large, or `-` and one that isn't 0 and at most so large, and the bytes after it.
 #[inline(always)]
 #[tactic(auto, unfolding(crate::specs::private::Reading::integer_at))]
 pub(crate) fn integer_at(below: u64, above: u64, bytes: &[u8]) -> Option<(i64, &[u8])>

@@ -1,4 +1,4 @@
-//! Parts one behind another, read and joined.
+//! Parts one after another, read and joined.
 ghost use Rattle.std.specs.Prelude.{◌≡◌};
 ghost use Rattle.mseed_stream.specs.Calls.{ReadsOn};
 ghost use Rattle.mseed_stream.specs.Device.{nothing_read};
@@ -14,7 +14,7 @@ use mseed_stream::{Sink, Source, StreamFault, tell};
 use mseed_text::Line;
 use std::alloc::Allocator;
 
-/// Reads the texts of parts, one behind another, and joins them as they are read. A part behind one that ends with a
+/// Reads the texts of parts, one after another, and joins them as they are read. A part after one that ends with a
 /// fault isn't counted; where faults are passed (`past`), each part counts as if it ended without one, and a line on
 /// `errors` tells the fault. Where a number of parts is `expected` they have to be as many, those that aren't counted
 /// too. It takes memory for the channels, and a buffer of a fixed size. The source is one of which nothing was read

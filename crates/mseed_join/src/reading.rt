@@ -12,7 +12,7 @@ use mseed_audit::{Channel, Finding, Findings, Head, Tail};
 use mseed_record::Codes;
 use mseed_stream::StreamFault;
 
-/// The first finding, and the bytes behind it.
+/// The first finding, and the bytes after it.
 #[tactic(auto, unfolding(crate::specs::private::Reading::first_at))]
 fn first_at(bytes: &[u8]) -> Option<(Finding, &[u8])>
     ensures { option_map (λ x. (x.0, x.1.now)) result ≡ first_at bytes.now }
@@ -31,7 +31,7 @@ fn first_at(bytes: &[u8]) -> Option<(Finding, &[u8])>
     ))
 }
 
-/// What is found of a channel, by the number of its findings, and the bytes behind it.
+/// What is found of a channel, by the number of its findings, and the bytes after it.
 #[inline(always)]
 #[tactic(auto, unfolding(crate::specs::private::Reading::counted_findings_at))]
 fn counted_findings_at(
@@ -60,7 +60,7 @@ fn counted_findings_at(
     }
 }
 
-/// How a channel begins and ends, and what is found of it, and the bytes behind it.
+/// How a channel begins and ends, and what is found of it, and the bytes after it.
 #[inline(always)]
 #[tactic(auto, unfolding(crate::specs::private::Reading::findings_at))]
 fn findings_at(bytes: &[u8]) -> Option<(Findings, &[u8])>
@@ -127,7 +127,7 @@ pub(crate) fn counts_at(line: &[u8]) -> Option<(u64, u64)>
     }
 }
 
-/// How many faults lie behind, from their line; nothing where it is no such line.
+/// How many faults were passed, from their line; nothing where it is no such line.
 #[tactic(auto, unfolding(crate::specs::private::Reading::faults_at))]
 pub(crate) fn faults_at(line: &[u8]) -> Option<u64>
     ensures { result ≡ faults_at line.now }
@@ -140,7 +140,7 @@ pub(crate) fn faults_at(line: &[u8]) -> Option<u64>
     }
 }
 
-/// What fails behind so many bytes, from its line; nothing where it is no such line.
+/// What fails after so many bytes, from its line; nothing where it is no such line.
 #[tactic(auto, unfolding(crate::specs::private::Reading::fault_at))]
 pub(crate) fn fault_at(line: &[u8], bytes: u64) -> Option<StreamFault>
     ensures { result ≡ fault_at line.now bytes }

@@ -11,7 +11,7 @@ use mseed_steim::ReadFault;
 use mseed_stream::StreamFault;
 use mseed_time::TimeFault;
 
-/// A field of a time, and the bytes behind it.
+/// A field of a time, and the bytes after it.
 #[tactic(auto, unfolding(crate::specs::private::Reading::time_at))]
 fn time_at(bytes: &[u8]) -> Option<(TimeFault, &[u8])>
     ensures { option_map (λ x. (x.0, x.1.now)) result ≡ time_at bytes.now }
@@ -35,7 +35,7 @@ fn time_at(bytes: &[u8]) -> Option<(TimeFault, &[u8])>
     Some((TimeFault::Fraction, rest))
 }
 
-/// A sample, and the bytes behind it.
+/// A sample, and the bytes after it.
 fn sample_at(bytes: &[u8]) -> Option<(i32, &[u8])>
     ensures { option_map (λ x. (x.0, x.1.now)) result ≡ sample_at bytes.now }
 {
@@ -43,7 +43,7 @@ fn sample_at(bytes: &[u8]) -> Option<(i32, &[u8])>
     Some((sample as i32, rest))
 }
 
-/// A word that spells nothing, and the bytes behind it.
+/// A word that spells nothing, and the bytes after it.
 fn bad_word_at(bytes: &[u8]) -> Option<(ReadFault, &[u8])>
     ensures { option_map (λ x. (x.0, x.1.now)) result ≡ bad_word_at bytes.now }
 {
@@ -52,7 +52,7 @@ fn bad_word_at(bytes: &[u8]) -> Option<(ReadFault, &[u8])>
     Some((ReadFault::BadWord(frame as usize, word as usize), rest))
 }
 
-/// A last sample that isn't its constant, and the bytes behind it.
+/// A last sample that isn't its constant, and the bytes after it.
 fn last_differs_at(bytes: &[u8]) -> Option<(ReadFault, &[u8])>
     ensures { option_map (λ x. (x.0, x.1.now)) result ≡ last_differs_at bytes.now }
 {
@@ -63,7 +63,7 @@ fn last_differs_at(bytes: &[u8]) -> Option<(ReadFault, &[u8])>
     Some((ReadFault::LastDiffers(found, constant), rest))
 }
 
-/// Why samples can't be read, and the bytes behind it.
+/// Why samples can't be read, and the bytes after it.
 #[tactic(auto, unfolding(crate::specs::private::Reading::read_fault_at))]
 fn read_fault_at(bytes: &[u8]) -> Option<(ReadFault, &[u8])>
     ensures { option_map (λ x. (x.0, x.1.now)) result ≡ read_fault_at bytes.now }
@@ -92,7 +92,7 @@ fn read_fault_at(bytes: &[u8]) -> Option<(ReadFault, &[u8])>
     }
 }
 
-/// A start that is no time, and the bytes behind it.
+/// A start that is no time, and the bytes after it.
 fn timed_at(bytes: &[u8]) -> Option<(Why, &[u8])>
     ensures { option_map (λ x. (x.0, x.1.now)) result ≡ timed_at bytes.now }
 {
@@ -101,7 +101,7 @@ fn timed_at(bytes: &[u8]) -> Option<(Why, &[u8])>
     Some((Why::Time(fault), rest))
 }
 
-/// So many microseconds behind a word, and the bytes behind them.
+/// So many microseconds after a word, and the bytes after them.
 fn micros_at<'a, const N: usize>(word: &[u8; N], bytes: &'a [u8]) -> Option<(u128, &'a [u8])>
     ensures { option_map (λ x. (x.0, x.1.now)) result ≡ behind_at word.now (2 ^ 128 - 1) bytes.now }
 {
@@ -109,7 +109,7 @@ fn micros_at<'a, const N: usize>(word: &[u8; N], bytes: &'a [u8]) -> Option<(u12
     wide_at(rest)
 }
 
-/// What is found of a record, and the bytes behind it.
+/// What is found of a record, and the bytes after it.
 #[tactic(auto, unfolding(crate::specs::private::Reading::why_at))]
 pub(crate) fn why_at(bytes: &[u8]) -> Option<(Why, &[u8])>
     ensures { option_map (λ x. (x.0, x.1.now)) result ≡ why_at bytes.now }
@@ -136,7 +136,7 @@ pub(crate) fn why_at(bytes: &[u8]) -> Option<(Why, &[u8])>
     Some((Why::Read(fault), rest))
 }
 
-/// Why bytes begin no record, and the bytes behind it.
+/// Why bytes begin no record, and the bytes after it.
 #[tactic(auto, unfolding(crate::specs::private::Reading::frame_fault_at))]
 fn frame_fault_at(bytes: &[u8]) -> Option<(FrameFault, &[u8])>
     ensures { option_map (λ x. (x.0, x.1.now)) result ≡ frame_fault_at bytes.now }
@@ -163,7 +163,7 @@ fn frame_fault_at(bytes: &[u8]) -> Option<(FrameFault, &[u8])>
     Some((FrameFault::Version3, rest))
 }
 
-/// What fails behind so many bytes of a stream, and the bytes behind it.
+/// What fails after so many bytes of a stream, and the bytes after it.
 #[tactic(auto, unfolding(crate::specs::private::Reading::stream_fault_at))]
 pub(crate) fn stream_fault_at(offset: u64, bytes: &[u8]) -> Option<(StreamFault, &[u8])>
     ensures { option_map (λ x. (x.0, x.1.now)) result ≡ stream_fault_at offset bytes.now }

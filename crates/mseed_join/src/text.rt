@@ -14,7 +14,7 @@ use mseed_stream::StreamFault;
 use mseed_text::push_fault_line;
 use std::alloc::{AllocError, Allocator};
 
-/// Adds the text of a part of these channels, with so many faults behind, which ends with this fault, if with one.
+/// Adds the text of a part of these channels, with so many faults passed, which ends with this fault, if with one.
 /// Where memory is refused, the first bytes of it may have been added.
 pub(crate) fn push_part<A: Allocator>(
     text: &mut Vec<u8, A>,
@@ -51,7 +51,7 @@ fn push_channels<A: Allocator>(
     Ok(())
 }
 
-/// Adds the lines of faults: how many lie behind, and that of the one at the end, if there is one.
+/// Adds the lines of faults: how many were passed, and that of the one at the end, if there is one.
 fn push_faults<A: Allocator>(
     text: &mut Vec<u8, A>,
     faults: u64,
@@ -67,7 +67,7 @@ fn push_faults<A: Allocator>(
     }
 }
 
-/// Adds the text of the audit of which these channels are kept, with so many faults behind, which ends with this fault,
+/// Adds the text of the audit of which these channels are kept, with so many faults passed, which ends with this fault,
 /// if with one. Where memory is refused, the first bytes of it may have been added.
 pub(crate) fn push_join<A: Allocator>(
     text: &mut Vec<u8, A>,

@@ -11,7 +11,7 @@ use mseed_record::{Codes, Leap};
 use mseed_text::{Line, push_line};
 use std::alloc::{AllocError, Allocator};
 
-/// The line before all others, with its LF.
+/// The first line of a part's text, with its LF.
 pub const HEADER: &[u8] = b"mseed part 1\n";
 
 /// Adds a channel's line.
@@ -19,7 +19,7 @@ pub const HEADER: &[u8] = b"mseed part 1\n";
 /// # Errors
 ///
 /// `AllocError` where memory is refused. What was there stays, and a part of the line may have been added
-/// behind it.
+/// after it.
 pub fn push_channel_line<A: Allocator>(
     text: &mut Vec<u8, A>,
     codes: &Codes,
@@ -44,7 +44,7 @@ pub fn push_channel_line<A: Allocator>(
 /// # Errors
 ///
 /// `AllocError` where memory is refused. What was there stays, and a part of the line may have been added
-/// behind it.
+/// after it.
 pub fn push_counts_line<A: Allocator>(
     text: &mut Vec<u8, A>,
     records: u64,
@@ -62,12 +62,12 @@ pub fn push_counts_line<A: Allocator>(
     push_line(text, line.as_slice())
 }
 
-/// Adds the line that tells how many faults lie behind; none where none does.
+/// Adds the line that tells how many faults were passed; none where none does.
 ///
 /// # Errors
 ///
 /// `AllocError` where memory is refused. What was there stays, and a part of the line may have been added
-/// behind it.
+/// after it.
 pub fn push_faults_line<A: Allocator>(text: &mut Vec<u8, A>, faults: u64) -> Result<(), AllocError>
     ensures ok { OnOk result (text.new.items ≡ text.old.items ++ faults_line faults) }
     ensures prefix { IsPrefixOf text.old.items text.new.items }
@@ -178,7 +178,7 @@ impl HeadOrTail for Tail {
     }
 }
 
-/// Puts a word, and behind it how a channel begins or ends, or `none`.
+/// Puts a word, and at its end how a channel begins or ends, or `none`.
 fn put_known<E: HeadOrTail>(line: &mut Line, word: &[u8], end: &Option<E>)
     requires { length line.old + length word.now + 104 ≤ 256 }
     ensures text { line.new ≡ line.old ++ (word.now ++ text_or_none E.spelled end.now) }
@@ -191,7 +191,7 @@ fn put_known<E: HeadOrTail>(line: &mut Line, word: &[u8], end: &Option<E>)
     }
 }
 
-/// The word for the leap seconds that a record bears.
+/// The word for the leap seconds that a record carries.
 fn leap_word(leap: Leap) -> &'static [u8]
     ensures text { result.now ≡ leap_text leap }
     ensures most { length result.now ≤ 8 }

@@ -16,7 +16,7 @@ use Rattle.mseed_parts.proofs.Behind.{head_with, tail_with}
 use Rattle.mseed_parts.proofs.Joined.{same_held}
 use Rattle.mseed_parts.proofs.Moving.{head_moves, tail_moves}
 
--- ---- behind more records and then behind yet more
+-- ---- after more records and then after yet more
 module _ (d e f g : ℕ) where
   head_twice : (h : Head) → moved_head (d + f) (e + g) h ≡ moved_head d e (moved_head f g h)
   head_twice h =
@@ -45,7 +45,7 @@ module _ (d e f g : ℕ) where
       ap (λ (h : Findings). record { records = c.records; samples = c.samples; findings = h })
       (findings_twice c.findings)
 
--- ---- a channel and its further records, both behind more
+-- ---- a channel and its further records, both after more
 border_moved : (d e : ℕ) (t : Option Tail) (h : Option Head)
     → border_of t (option_map (moved_head d e) h) ≡ option_map (moved_finding d e) (border_of t h)
 border_moved d e None h = refl

@@ -1,4 +1,4 @@
--- What is kept of a channel with further records behind.
+-- What is kept of a channel with further records after.
 use Rattle.std.proofs.Common.{◌≡◌, ◌+◌, ◌*◌, ◌==◌, if◌then◌else◌, List, [], ◌∷◌, ◌++◌, length, Option, Some, None}
 use Rattle.std.proofs.Common.{refl, sym, ap, ◌∙◌, subst, arith, append_assoc, append-nil, length-append}
 use Rattle.std.specs.Option.{option_to_list}
@@ -26,7 +26,7 @@ use Rattle.mseed_audit.specs.Audit.{IsHead, IsHeadOf, IsTail, IsTailOf, head_in,
 abbrev pub HaveOneFinding : Type 0
 HaveOneFinding = (before : Option View) (v : View) (a b : Option Why) → IsFound before v a → IsFound before v b → a ≡ b
 
--- ---- what is found of a record alone is found of it behind another
+-- ---- what is found of a record alone is found of it after another
 own_found : (before : Option View) (v : View) (a : Option Why) (why : Why) → IsFound None v a → a ≡ Some why
     → IsFound before v (Some why)
 own_found before v a why (by_time fault e) h =
@@ -60,7 +60,7 @@ found_is h q None head = refl
 found_is h q (Some why) head =
     λ i. record { number = sym head.number i; offset = sym head.offset i; why = why } ∷ []
 
--- a record that is judged behind another has the border's finding before what is found of it alone
+-- a record that is judged after another has the border's finding before what is found of it alone
 pub record IsFoundNext (t : Option Tail) (b : View) (h : Option Head) (q : Placed) (why : Option Why) : Type 0 where
   pub further : Option Why
   pub found : IsFound (Some b) q.view further
@@ -109,7 +109,7 @@ border_found only t b h q qs found tail head (one _ _ _ why rest k later) =
     ∙ append_assoc (option_to_list (border_of t h)) (finding_at q why) rest)
     (one (Some b) q qs f.further rest f.found later)
 
--- the findings of records and of further ones behind them
+-- the findings of records and of further ones after them
 findings_append : (before : Option View) (ps qs : List Placed) (found further : List Finding)
     → AreFindings before ps found → AreFindings (last_of before ps) qs further
     → AreFindings before (ps ++ qs) (found ++ further)

@@ -21,7 +21,7 @@ use Rattle.mseed_parts.proofs.Behind.{HaveOneFinding, last_is, stands_joined}
 use Rattle.mseed_parts.proofs.Moving.{stands_at_moved}
 use Rattle.mseed_parts.proofs.Placing.{moved, bytes_append, records_append}
 
--- the joint part of the parts of two archives is the part of the archives one behind another
+-- the joint part of the parts of two archives is the part of the archives one after another
 pub joint_is : HaveOneFinding → (a b h : Held) (xs ys : List View) → IsPartOf a xs → IsPartOf b ys → IsJoint a b h
     → IsPartOf h (xs ++ ys)
 joint_is only a b h xs ys p q j = record {

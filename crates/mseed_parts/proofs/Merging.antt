@@ -1,4 +1,4 @@
--- The findings of two archives, and those of the borders of their parts, are those of the archives one behind another.
+-- The findings of two archives, and those of the borders of their parts, are those of the archives one after another.
 use Rattle.std.proofs.Common.{◌≡◌, ℕ, zero, suc, ◌+◌, ◌≤◌, List, [], ◌∷◌, ◌++◌, length, not, Bool, true, false}
 use Rattle.std.proofs.Common.{cond, Option, Some, None, refl, sym, ap, ◌∙◌, subst, append_assoc, append-nil, arith}
 use Rattle.std.proofs.Common.{IsPermutation}
@@ -189,7 +189,7 @@ alike_within (suc most) (n ∷ ns) ms le alike =
     (IsPermutation-append (with_key k all) (with_key k ms) (without_key k all) (without_key k ms) (alike k) rest)
     (IsPermutation-sym ms (with_key k ms ++ without_key k ms) (parts ms)))
 
--- ---- the findings of two archives one behind another
+-- ---- the findings of two archives one after another
 pub findings_merge : HaveOneFinding → (a b : Held) (xs ys : List View) (first second whole : List Reported)
     → IsPartOf a xs → IsPartOf b ys → HaveBytes (xs ++ ys) → AreReportedOf (added_from 0 xs) first
     → AreReportedOf (added_from 0 ys) second → AreReportedOf (added_from 0 (xs ++ ys)) whole

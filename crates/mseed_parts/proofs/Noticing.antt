@@ -1,4 +1,4 @@
--- What is reported of a channel in two archives one behind another: of each alone, and between them.
+-- What is reported of a channel in two archives one after another: of each alone, and between them.
 use Rattle.std.proofs.Common.{◌≡◌, ℕ, List, [], ◌∷◌, ◌++◌, map, Bool, true, false, cond, Option, Some, None}
 use Rattle.std.proofs.Common.{refl, sym, ap, ◌∙◌, subst, append-nil}
 use Rattle.std.specs.List.{filter}
@@ -112,7 +112,7 @@ border_is_in key a o c e =
     ∙ ap (λ (h : Option Head). border_notices (border_at key h between)) (head_moves a.records a.bytes c.findings)
     ∙ ap (λ (bs : List Border). border_notices bs) (same_start key a.records a.bytes (head_in c.findings) between)
 
--- ---- records with further ones behind
+-- ---- records with further ones after
 pub record IsReportedWith (key : List ℕ) (c o : Option Channel) (ps qs : List Placed)
     (reported further : List Reported) : Type 0
   where
@@ -124,7 +124,7 @@ none_reported : (ps : List Placed) (reported : List Reported) → ps ≡ [] → 
 none_reported [] reported e (none _) = refl
 none_reported (p ∷ ps) reported e are = cc (e)
 
--- behind none, and before none
+-- after none, and before none
 reported_behind : (ps qs : List Placed) (reported further : List Reported) → ps ≡ [] → AreReportedIn None ps reported
     → AreReportedIn None qs further → AreReportedIn None (ps ++ qs) (reported ++ further)
 reported_behind ps qs reported further e are more =
@@ -209,7 +209,7 @@ moved_first key d e (p ∷ ps) keys q rest is =
     let same : moved d e p ≡ q = cc (is) in
     keys p ps refl ∙ ap (λ (r : Placed). key_at r.view.bytes) same
 
--- ---- of two archives one behind another
+-- ---- of two archives one after another
 pub reported_at_key : HaveOneFinding → (key : List ℕ) (a b : Held) (xs ys : List View)
     (first second whole : List Reported)
     → IsPartOf a xs → IsPartOf b ys → AreReportedOf (added_from 0 xs) first → AreReportedOf (added_from 0 ys) second

@@ -1,4 +1,4 @@
--- Records one behind another, and behind more records.
+-- Records one after another, and after more records.
 use Rattle.std.proofs.Common.{◌≡◌, ℕ, suc, ◌+◌, List, [], ◌∷◌, ◌++◌, Bool, true, false, cond, map, length, refl, ap}
 use Rattle.std.proofs.Common.{◌∙◌, arith, subst, sym}
 use Rattle.std.proofs.lemmas.List.{map-append}
@@ -7,11 +7,11 @@ use Rattle.mseed_record.specs.View.{View}
 use Rattle.mseed_audit.specs.Channels.{Placed, numbered, is_of, records_of, added_from}
 use Rattle.mseed_parts.specs.Parts.{bytes_in}
 
--- a record behind so many more records and bytes
+-- a record after so many more records and bytes
 abbrev pub moved : ℕ → ℕ → Placed → Placed
 moved d e p = record { view = p.view; offset = e + p.offset; number = d + p.number }
 
--- what is told of a record and of those behind it, moved, where a list of what is told stands in a relation to records
+-- what is reported of a record and of those after it, moved, where a list of it stands in a relation to records
 pub told_moved : {X : Type 0} (Of : List X → Type 0) (move : X → X) (first there rest : List X) → there ≡ map move first
     → Of (there ++ map move rest) → Of (map move (first ++ rest))
 told_moved {X} Of move first there rest e told =
@@ -28,7 +28,7 @@ bytes_append [] ys = omega arith
 bytes_append (x ∷ xs) ys = let later : bytes_in (xs ++ ys) ≡ bytes_in xs + bytes_in ys = bytes_append xs ys in
     omega (arith, later)
 
--- the records of the second list stand behind those of the first
+-- the records of the second list stand after those of the first
 placed_append : (n o : ℕ) (xs ys : List View)
     → placed n o (xs ++ ys) ≡ placed n o xs ++ placed (n + length xs) (o + bytes_in xs) ys
 placed_append n o [] ys = placed_at n (n + 0) o (o + 0) ys (omega arith) (omega arith)
@@ -40,7 +40,7 @@ placed_append n o (x ∷ xs) ys =
     (placed_at (n + 1 + length xs) (n + suc (length xs)) (o + size + bytes_in xs) (o + (size + bytes_in xs)) ys
     (omega arith) (omega arith)))
 
--- and behind so many more records and bytes each has its number and offset gone up
+-- and after so many more records and bytes each has its number and offset gone up
 placed_moved : (d e n o : ℕ) (vs : List View) → placed (d + n) (e + o) vs ≡ map (moved d e) (placed n o vs)
 placed_moved d e n o [] = refl
 placed_moved d e n o (v ∷ vs) =
@@ -81,7 +81,7 @@ module _ (key : List ℕ) where
       by true k = ap (λ (rs : List Placed). moved d e p ∷ rs) k
       by false k = k
 
-  -- the records of a channel in two archives one behind another
+  -- the records of a channel in two archives one after another
   pub records_append : (xs ys : List View) → records_of key (added_from 0 (xs ++ ys))
       ≡ records_of key (added_from 0 xs) ++ map (moved (length xs) (bytes_in xs)) (records_of key (added_from 0 ys))
   records_append xs ys =

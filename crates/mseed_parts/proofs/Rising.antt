@@ -85,7 +85,7 @@ same_first least other n m ns ms rise up (inr later) (inr behind) =
     let below : n.finding.offset + 1 ≤ m.finding.offset = not_before (n.finding.offset + 1) ns m rise.1 behind in
     absurd (omega (arith, above, below))
 
--- behind the first place no member is the first
+-- after the first place no member is the first
 others_in : (n : Notice) (ms ns : List Notice) (least : ℕ) → RiseFrom least ns → n.finding.offset < least
     → AllByRecursion (IsIn (n ∷ ms)) ns → AllByRecursion (IsIn ms) ns
 others_in n ms [] least rise lt all = tt

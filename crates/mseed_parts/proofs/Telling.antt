@@ -25,7 +25,7 @@ use Rattle.mseed_parts.specs.Joining.{border_of, moved_finding}
 use Rattle.mseed_parts.proofs.Behind.{HaveOneFinding, found_behind}
 use Rattle.mseed_parts.proofs.Placing.{moved, told_moved}
 
--- what is reported of a channel's records behind another, each judged by the one just before it
+-- what is reported of a channel's records after another, each judged by the one just before it
 pub data AreReportedIn : Option View → List Placed → List Reported → Type 0 where
   none : (before : Option View) → AreReportedIn before [] []
   one : (before : Option View) (p : Placed) (ps : List Placed) (why : Option Why) (reported : List Reported)
@@ -98,7 +98,7 @@ reported_one only before (p ∷ ps) a b (one _ _ _ why rest h later) (one _ _ _ 
     let more : rest ≡ others = reported_one only (Some p.view) ps rest others later latter in
     ap (λ (w : Option Why). reported_at p w ++ rest) here ∙ ap (λ (ts : List Reported). reported_at p other ++ ts) more
 
--- ---- of records and of further ones behind them
+-- ---- of records and of further ones after them
 pub reported_append : (before : Option View) (ps qs : List Placed) (reported further : List Reported)
     → AreReportedIn before ps reported
     → AreReportedIn (last_of before ps) qs further → AreReportedIn before (ps ++ qs) (reported ++ further)
@@ -108,7 +108,7 @@ reported_append before (p ∷ ps) qs reported further (one _ _ _ why rest h late
     (sym (append_assoc (reported_at p why) rest further))
     (one before p (ps ++ qs) why (rest ++ further) h (reported_append (Some p.view) ps qs rest further later k))
 
--- ---- behind so many more records and bytes
+-- ---- after so many more records and bytes
 abbrev pub moved_reported : ℕ → ℕ → Reported → Reported
 moved_reported d e t = record { view = t.view; finding = moved_finding d e t.finding }
 
@@ -126,7 +126,7 @@ reported_moved d e before (p ∷ ps) reported (one _ _ _ why rest h later) =
     (reported_at p why) (reported_at (moved d e p) why) rest (reported_at_moved d e p why) (one before (moved d e p)
     (map (moved d e) ps) why (map (moved_reported d e) rest) h (reported_moved d e (Some p.view) ps rest later))
 
--- ---- behind another record
+-- ---- after another record
 -- what is reported of a border
 abbrev pub border_reported : Placed → Option Finding → List Reported
 border_reported q None = []
@@ -151,7 +151,7 @@ reported_behind q further why o e = reported_is q further ∙ ap (λ (fs : List 
     ∙ map-append (noted q) (option_to_list o) (finding_at q why)
     ∙ sym (λ i. border_is q o i ++ reported_is q why i)
 
--- a record that is judged behind another has the border's finding before what is reported of it alone
+-- a record that is judged after another has the border's finding before what is reported of it alone
 pub reported_border : HaveOneFinding → (t : Option Tail) (b : View) (h : Option Head) (q : Placed) (qs : List Placed)
     (reported : List Reported) → IsTailOf t b → IsHeadOf h q → AreReportedIn None (q ∷ qs) reported
     → AreReportedIn (Some b) (q ∷ qs) (border_reported q (border_of t h) ++ reported)

@@ -56,7 +56,7 @@ first_with (Counted m first head t) (Nothing h tail) (Some x) f g k = f
 first_with (Counted m first head t) (Counted n next h tail) None f g k = f
 first_with (Counted m first head t) (Counted n next h tail) (Some x) f g k = f
 
--- a channel with its further records behind
+-- a channel with its further records after
 behind_within : (d e : ℕ) (c o : Channel) → IsWithin c → Moves d e o
     → CountsFit (channel_behind c (moved_channel d e o)) → IsWithin (channel_behind c (moved_channel d e o))
 behind_within d e c o w m f =

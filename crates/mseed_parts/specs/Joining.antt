@@ -10,7 +10,7 @@ use Rattle.mseed_audit.specs.declared.channel.Head.{Head}
 use Rattle.mseed_audit.specs.declared.tail.Tail.{Tail}
 use Rattle.mseed_audit.specs.Audit.{break_by, head_in, tail_in}
 
--- what is kept of a record behind so many more records and bytes
+-- what is kept of a record after so many more records and bytes
 abbrev pub moved_head : ℕ → ℕ → Head → Head
 moved_head d e h = record { number = d + h.number; offset = e + h.offset; start = h.start; rate = h.rate }
 
@@ -54,7 +54,7 @@ findings_with (Counted m first head t) (Counted n next h tail) (Some border) = C
 abbrev pub findings_behind : Findings → Findings → Findings
 findings_behind a b = findings_with a b (border_of (tail_in a) (head_in b))
 
--- a channel, and its further records behind
+-- a channel, and its further records after
 abbrev pub channel_behind : Channel → Channel → Channel
 channel_behind c o = record {
   records = c.records + o.records;

@@ -36,7 +36,7 @@ border_notice b = record { key = b.key; fault = None; start = b.start; finding =
 abbrev pub border_notices : List Border → List Notice
 border_notices found = map border_notice found
 
--- behind so many more records and bytes
+-- after so many more records and bytes
 abbrev pub moved_notice : ℕ → ℕ → Notice → Notice
 moved_notice d e n = record {
   key = n.key;

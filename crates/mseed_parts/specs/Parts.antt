@@ -34,14 +34,14 @@ IsAscending channels = IsStrictlySortedBy (slice_cmp nat_cmp) (keys_of channels)
 abbrev pub kept_of : List ℕ → List (List ℕ × Channel) → Option Channel
 kept_of key channels = lookup (same_key key) channels
 
--- the part of these records, one behind another
+-- the part of these records, one after another
 pub record IsPartOf (h : Held) (views : List View) : Type 0 where
   pub records : h.records ≡ length views
   pub bytes : h.bytes ≡ bytes_in views
   pub ascending : IsAscending h.channels
   pub each : (key : List ℕ) → StandsAt (kept_of key h.channels) (records_of key (added_from 0 views))
 
--- the joint part of two, the second behind the first
+-- the joint part of two, the second after the first
 pub record IsJoint (a b h : Held) : Type 0 where
   pub records : h.records ≡ a.records + b.records
   pub bytes : h.bytes ≡ a.bytes + b.bytes

@@ -88,7 +88,7 @@ fn moved_findings(findings: &Findings, records: u64, bytes: u64) -> Result<Findi
     }
 }
 
-/// The same channel, behind so many more records and bytes.
+/// A channel as it is after so many more records and bytes: its numbers and offsets go up by them.
 #[inline(always)]
 pub(crate) fn moved(channel: &Channel, records: u64, bytes: u64) -> Result<Channel, TooLarge>
     ensures value { IfOk result (λ c. c ≡ moved_channel records bytes channel.now) }
@@ -132,7 +132,7 @@ fn with_first(head: Head, further: &Findings, border: Option<Finding>) -> Result
     }
 }
 
-/// Puts the findings of further records, and what is found before them, behind those of a channel.
+/// Puts the findings of further records, and what is found before them, after those of a channel.
 #[inline(always)]
 fn put_findings(
     kept: &mut Findings,
@@ -170,7 +170,7 @@ fn size_of(border: Option<Finding>) -> u64
     if border.is_some() { 1 } else { 0 }
 }
 
-/// Puts further records behind a channel, and answers what is found between the two. Where a count would pass the
+/// Puts further records after a channel, and answers what is found between the two. Where a count would pass the
 /// limit, the channel is then as it was.
 #[inline(always)]
 pub(crate) fn add_behind(kept: &mut Channel, further: &Channel) -> Result<Option<Finding>, TooLarge>

@@ -18,7 +18,7 @@ pub fn one_part()
     one_finding();
 }
 
-/// The joint part of the parts of two archives is the part of the archives one behind another.
+/// The joint part of the parts of two archives is the part of the archives one after another.
 pub fn parts_add_up()
     ensures { (a b h : Held) (xs ys : List View) → IsPartOf a xs → IsPartOf b ys → IsJoint a b h
         → IsPartOf h (xs ++ ys) }
@@ -27,7 +27,7 @@ pub fn parts_add_up()
 }
 
 /// The findings of two archives, those of the second with their numbers and offsets gone up, and the findings at the
-/// borders of their parts, merged by offset, are the findings of the archives one behind another.
+/// borders of their parts, merged by offset, are the findings of the archives one after another.
 pub fn findings_add_up()
     ensures merged { (a b : Held) (xs ys : List View) (first second whole : List Reported) → IsPartOf a xs
         → IsPartOf b ys → HaveBytes (xs ++ ys) → AreReportedOf (added_from 0 xs) first

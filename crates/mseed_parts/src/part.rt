@@ -57,7 +57,7 @@ impl<A: Allocator + Copy> Part<A> {
         }
     }
 
-    /// How many records there are, silent ones too.
+    /// Returns how many records the part is of, silent ones (those without samples) too.
     #[tactic(auto, using(mseed_audit::proofs::ByKey::by_key_ascends, crate::proofs::Keeping::by_key_within))]
     pub fn records(&self) -> u64
         ensures value { result ≡ self.now.records }
@@ -68,7 +68,7 @@ impl<A: Allocator + Copy> Part<A> {
         self.records
     }
 
-    /// How many bytes they have.
+    /// Returns how many bytes the part's records have.
     pub fn bytes(&self) -> u64
         ensures { result ≡ self.now.bytes }
     {
@@ -102,7 +102,7 @@ impl<A: Allocator + Copy> Part<A> {
             Ok(further) => further,
             Err(_) => return Err(JoinFault::Limit),
         };
-        // Behind other records its counts are no smaller.
+        // After other records its counts are no smaller.
         if !counts_fit(&further) {
             return Err(JoinFault::Limit);
         }
@@ -139,7 +139,7 @@ impl<A: Allocator + Copy> Part<A> {
         Ok(())
     }
 
-    /// Joins the part of further records behind.
+    /// Joins the part of further records, which come after these.
     ///
     /// # Errors
     ///
@@ -179,7 +179,7 @@ impl<A: Allocator + Copy> Part<A> {
     }
 }
 
-/// Puts further records behind a channel, and answers what is found between the two.
+/// Puts further records after a channel, and answers what is found between the two.
 #[inline(always)]
 fn put_behind(kept: &mut Channel, further: &Channel) -> Result<Option<Finding>, JoinFault>
     ensures value { OnOk result (kept.new ≡ channel_behind kept.old further.now) }

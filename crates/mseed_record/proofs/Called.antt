@@ -18,7 +18,7 @@ use Rattle.mseed_record.proofs.Passing.{none_within}
 use Rattle.mseed_record.proofs.Framed.{passes_above, other_at, record_room}
 use Rattle.mseed_record.proofs.Prefixes.{Alike, alike_cut, byte_alike, number_alike}
 
--- bytes are requested behind those that are there
+-- bytes are requested after those that are there
 pub needs_more : (b : List ℕ) (n : ℕ) → Needs b n → length b < n
 needs_more b n (header s) = omega arith
 needs_more b n (blockette order os last d p i s) = s

@@ -56,7 +56,7 @@ pub other_at : (order : Order) (prefix : List ℕ) (low o : ℕ) → at_offset o
     → type_at order prefix o ≢ 1000
 other_at order prefix low o e = λ t. absurd (grind (arith, nat_tests, e, t))
 
--- the first 1000 of a record that was answered, behind the blockettes that were passed
+-- the first 1000 of a record that was answered, after the blockettes that were passed
 pub found : (order : Order) (prefix : List ℕ) (low o : ℕ) (os : List ℕ) (k : ℕ)
     → DecidesFrom order prefix low o os (Record k)
     → (last : ℕ) × ((low ≤ o) × Passes order prefix o os last × Stands order prefix last k)
@@ -93,7 +93,7 @@ passes_above order b o (q ∷ os) last h =
     let later = passes_above order b (next_at order b o) os last h.3 in
     omega (arith, h.2)
 
--- the fixed section lies within a record, and its first blockette 1000 lies behind it
+-- the fixed section lies within a record, and its first blockette 1000 lies after it
 pub record_room : (order : Order) (os : List ℕ) (last : ℕ) (b : List ℕ) → IsRecordBy order os last b
     → (48 ≤ last) × (last + 8 ≤ length b)
 record_room order os last b r =

@@ -31,7 +31,7 @@ use Rattle.std.specs.Slice.Scan.{big_endian}
 use Rattle.std.specs.declared.cmp.Ordering.{Ordering}
 use Rattle.std.specs.declared.cmp.Ordering.TheVariants.{Less, Equal, Greater}
 
--- three, one behind another
+-- three, one after another
 then_then : (a b c : Ordering) → ordering_then (ordering_then a b) c ≡ ordering_then a (ordering_then b c)
 then_then Less b c = refl
 then_then Equal b c = refl
@@ -71,7 +71,7 @@ spelled_cmp (x ∷ xs) (y ∷ ys) m n l p q =
     ∙ ap (λ (o : Ordering). ordering_then o (slice_cmp nat_cmp xs ys)) (byte_behind m n x y p.0 q.0)
     ∙ then_then (nat_cmp m n) (nat_cmp x y) (slice_cmp nat_cmp xs ys)
 
--- what lies behind the first n counts where those are the same
+-- what lies after the first n counts where those are the same
 pub cmp_behind : (n : ℕ) (xs ys : List ℕ) → n ≤ length xs → n ≤ length ys
     → slice_cmp nat_cmp xs ys
     ≡ ordering_then (slice_cmp nat_cmp (take n xs) (take n ys)) (slice_cmp nat_cmp (drop n xs) (drop n ys))

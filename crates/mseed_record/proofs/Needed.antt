@@ -87,7 +87,7 @@ abbrev Within : List ℕ → List ℕ → Type 0
 Within prefix [] = ⊤
 Within prefix (o ∷ os) = (o + 4 ≤ length prefix) × Within prefix os
 
--- the blockette where bytes are missing, behind those that were passed
+-- the blockette where bytes are missing, after those that were passed
 lacking : (order : Order) (prefix : List ℕ) (low o : ℕ) (os : List ℕ) (k : ℕ)
     → DecidesFrom order prefix low o os (Need k)
     → (last : ℕ) × ((low ≤ o) × Passes order prefix o os last × Within prefix os × Lacks order prefix last k)
@@ -219,14 +219,14 @@ last_small order b os last h =
     h.passes in
     omega arith
 
--- bytes behind a prefix
+-- bytes after a prefix
 behind : (xs ys : List ℕ) (p i : ℕ) → p ≡ length xs + i → get_or (xs ++ ys) p 0 ≡ get_or ys i 0
 behind xs ys p i e =
     let over : length xs ≤ p = omega (arith, e) in
     let same : p - length xs ≡ i = omega (arith, e) in
     get_or-append_right xs ys p 0 over ∙ ap (λ (n : ℕ). get_or ys n 0) same
 
--- the same record may come of a prefix and of what is put behind it
+-- the same record may come of a prefix and of what is put after it
 before : (prefix middle : List ℕ) → HasRecord (prefix ++ middle) → HasRecord prefix
 before prefix middle r = (middle ++ r.0, subst (λ (b : List ℕ). IsRecord b) (append_assoc prefix middle r.0) r.1)
 

@@ -75,7 +75,7 @@ whole_record b k h r s =
 pub prefix_is : (r rest bytes : List ℕ) → bytes ≡ r ++ rest → take (length r) bytes ≡ r
 prefix_is r rest bytes e = ap (take (length r)) e ∙ take-append_seam r rest
 
--- a first record, and what is left behind it, are the only ones
+-- a first record, and what is left after it, are the only ones
 pub one_first : (bytes r s tail rest : List ℕ) → IsRecord r → IsRecord s → bytes ≡ r ++ tail → bytes ≡ s ++ rest
     → (r ≡ s) × (tail ≡ rest)
 one_first bytes r s tail rest is it d e =

@@ -13,7 +13,7 @@ use Rattle.mseed_record.specs.Order.{order_of}
 abbrev pub Alike : List ℕ → List ℕ → Type 0
 Alike b prefix = (m : ℕ) → m ≤ length b → m ≤ length prefix → take m b ≡ take m prefix
 
--- a cut of a prefix with more behind it
+-- a cut of a prefix with more after it
 pub alike_cut : (prefix more : List ℕ) (k : ℕ) → Alike (take k (prefix ++ more)) prefix
 alike_cut prefix more k m there here =
     let cut : m ≤ k = omega (arith, length-take k (prefix ++ more)) in

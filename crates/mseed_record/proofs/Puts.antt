@@ -1,4 +1,4 @@
--- Writing one part of a slice behind another.
+-- Writing one part of a slice after another.
 use Rattle.std.proofs.Common.{◌≡◌, ℕ, ◌+◌, List, ◌++◌, length, take, drop, sym, subst, ◌∙◌, refl, arith}
 use Rattle.std.proofs.Math.Seq.{take-append_seam, drop-append-add, take-length}
 use Rattle.std.proofs.lemmas.List.{drop-drop, length-append}
@@ -15,7 +15,7 @@ pub record Begins (old new prefix : List ℕ) (n : ℕ) : Type 0 where
   pub bytes : new ≡ prefix ++ drop n old
   pub size : length prefix ≡ n
 
--- a part put behind it makes it longer
+-- a part put after it makes it longer
 pub put_next : (old before after prefix part : List ℕ) (n m : ℕ) → n + length part ≡ m → Begins old before prefix n
     → after ≡ take n before ++ part ++ drop (n + length part) before → Begins old after (prefix ++ part) m
 put_next old before after prefix part n m sizes begins put =

@@ -50,7 +50,7 @@ visits_rest order b o (q ∷ vs) p h e =
     let later = visits_rest order b (next_at order b o) vs p h.2 e in
     (next_at order b o ∷ later.0, (cc (h.0, later.1.0), (h.1, refl, later.1.1)))
 
--- the whole chain has the first 1000 and the rest behind it
+-- the whole chain has the first 1000 and the rest after it
 pub visits_whole : (order : Order) (b : List ℕ) (o : ℕ) (os : List ℕ) (last : ℕ) (vs : List ℕ) (p : ℕ)
     → Visits order b o os last → Visits order b o vs p → goes_on order b p ≡ false
     → (rest : List ℕ) × ((vs ++ p ∷ [] ≡ os ++ last ∷ rest) × Rest order b last rest)

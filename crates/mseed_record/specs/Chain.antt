@@ -31,18 +31,18 @@ pub record IsChain (order : Order) (b : List ℕ) (os : List ℕ) (last : ℕ) :
 abbrev pub head_of : ℕ → ℕ
 head_of kind = if kind == 1001 then 8 else 4
 
--- behind the first 1000 the chain goes on from o while the next blockette is at least 4 bytes further on and
+-- after the first 1000 the chain goes on from o while the next blockette is at least 4 bytes further on and
 -- its head lies in the record
 abbrev pub goes_on : Order → List ℕ → ℕ → Bool
 goes_on order b o = nat_le (o + 4) (next_at order b o)
     && nat_le (next_at order b o + head_of (type_at order b (next_at order b o))) (length b)
 
--- the blockettes behind the one at o, up to one from which the chain doesn't go on
+-- the blockettes after the one at o, up to one from which the chain doesn't go on
 abbrev pub Rest : Order → List ℕ → ℕ → List ℕ → Type 0
 Rest order b o [] = goes_on order b o ≡ false
 Rest order b o (p ∷ ps) = (goes_on order b o ≡ true) × (p ≡ next_at order b o) × Rest order b p ps
 
--- the whole chain: that to the first 1000, and the rest behind it
+-- the whole chain: that to the first 1000, and the rest after it
 pub record IsWholeChain (order : Order) (b : List ℕ) (os : List ℕ) (last : ℕ) (rest : List ℕ) : Type 0 where
   pub chain : IsChain order b os last
   pub others : Rest order b last rest

@@ -16,7 +16,7 @@ PassesTo order prefix low o [] least q = (low ≡ least) × (o ≡ q)
 PassesTo order prefix low o (p ∷ os) least q =
     (p ≡ o) × (at_offset order prefix low o ≡ None) × PassesTo order prefix (o + 4) (next_at order prefix o) os least q
 
--- behind a header that isn't refused, the steps have come along the chain to this offset
+-- after a header that isn't refused, the steps have come along the chain to this offset
 pub record HasReached (r : Reached) (prefix : List ℕ) : Type 0 where
   pub other_version : is_version3 prefix ≡ false
   pub header : 48 ≤ length prefix

@@ -63,7 +63,7 @@ step_in Positive = Some Plus
 step_in Negative = Some Minus
 step_in Both = None
 
--- the data begin behind the header, and within the record or at its end
+-- the data begin after the header, and within the record or at its end
 pub record HasPayload (v : View) : Type 0 where
   pub behind : 48 ≤ data_at v.order v.bytes
   pub within : data_at v.order v.bytes ≤ length v.bytes

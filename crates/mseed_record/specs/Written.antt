@@ -32,7 +32,7 @@ first_bad_code network station location channel =
     else if not (is_code 3 channel) then Some Channel
     else None
 
--- a code with spaces behind it, up to the width of its field
+-- a code with spaces after it, up to the width of its field
 abbrev pub filled : ℕ → List ℕ → List ℕ
 filled width code = code ++ replicate (width - length code) 32
 
@@ -71,7 +71,7 @@ name_bytes h =
     padded_decimal 6 h.sequence ++ codes "D "
     ++ slice_range h.key 2 7 ++ slice_range h.key 7 9 ++ slice_range h.key 9 12 ++ slice_range h.key 0 2
 
--- the bytes behind the start: the samples, the rate, the activity flags, no other flag, two blockettes, the
+-- the bytes after the start: the samples, the rate, the activity flags, no other flag, two blockettes, the
 -- correction 0, the data at 64, the first blockette at 48
 abbrev pub count_bytes : Header → List ℕ
 count_bytes h =

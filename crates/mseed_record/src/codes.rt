@@ -56,7 +56,7 @@ impl Ord for Codes {
 }
 
 impl Codes {
-    /// The codes with this key.
+    /// Returns the codes with this key, 12 bytes: network, station, location and channel.
     pub fn of_key(key: [u8; 12]) -> Codes
         ensures { result ≡ key }
     {

@@ -29,6 +29,6 @@ pub enum ViewFault {
     Short(usize),
 }
 
-/// The beginning of data lies within the header, or behind the record's end.
+/// The beginning of data lies within the header, or after the record's end.
 #[derive(Clone, Copy, Debug, PartialEq, Eq)]
 pub struct DataOffset;

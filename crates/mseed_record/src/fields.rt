@@ -7,17 +7,17 @@ use mseed_time::{Btime, Rate};
 /// What a header says that is written.
 #[derive(Clone, Copy, Debug, PartialEq, Eq)]
 pub struct Fields {
-    /// 0 to 999,999.
+    /// The sequence number of the record, 0 to 999,999 (SEED manual, chapter 8, field 1).
     pub sequence: u32,
-    /// The channel.
+    /// The codes of the channel.
     pub codes: Codes,
     /// The time of the first sample, to a ten-thousandth of a second.
     pub start: Btime,
-    /// What the start's instant lies behind its BTIME, in microseconds.
+    /// How many microseconds the start's instant is after its BTIME.
     pub usec: i8,
     /// The number of samples.
     pub samples: u16,
-    /// The sample rate.
+    /// The sample rate, by its factor and multiplier.
     pub rate: Rate,
     /// The code of the payload's encoding, for blockette 1000.
     pub encoding: u8,
@@ -25,7 +25,7 @@ pub struct Fields {
     pub exponent: u8,
     /// How many frames hold data words in use, for blockette 1001.
     pub frames: u8,
-    /// The activity flags.
+    /// The activity flags (SEED manual, chapter 8, field 12).
     pub activity: u8,
     /// The sequence number has six digits.
     pub ghost numbered: { sequence < 1_000_000 },

@@ -37,7 +37,7 @@ pub struct Framer {
 pub(crate) struct Reached {
     /// The byte order of the header.
     order: Order,
-    /// Behind the first four bytes of the last blockette, or behind the header: the next can't begin before.
+    /// After the first four bytes of the last blockette, or after the header: the next can't begin before.
     low: usize,
     /// Where the next blockette begins by what this one says; 0 where there is none.
     offset: usize,

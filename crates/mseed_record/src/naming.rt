@@ -18,10 +18,10 @@ pub enum CodeField {
     Channel,
 }
 
-/// A code doesn't fit its field.
+/// Why codes are no channel's: one of them doesn't fit its field.
 #[derive(Clone, Copy, Debug, PartialEq, Eq)]
 pub struct BadCode {
-    /// The first that doesn't.
+    /// The field of the first code that doesn't fit.
     pub field: CodeField,
 }
 

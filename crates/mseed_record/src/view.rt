@@ -40,7 +40,7 @@ pub struct RecordView<'a> {
     payload_order: Order,
     microseconds: i8,
     has_rate_blockette: bool,
-    // Behind the small fields, so that a fault in place of a view stands over none of its bytes.
+    // After the small fields, so that a fault in place of a view stands over none of its bytes.
     bytes: &'a [u8],
     ghost has_header: { 48 ≤ length bytes.now },
     ghost is_view: { ∥ IsView (record {
@@ -115,7 +115,7 @@ impl<'a> RecordView<'a> {
         }
     }
 
-    /// All of its bytes.
+    /// Returns all bytes of the record.
     pub fn bytes(&self) -> &'a [u8]
         ensures value { result.now ≡ (view_of self.now).bytes }
         ensures view { IsView (view_of self.now) }
@@ -123,7 +123,7 @@ impl<'a> RecordView<'a> {
         self.bytes
     }
 
-    /// The channel that it belongs to.
+    /// Returns the codes of the channel that the record belongs to.
     pub fn codes(&self) -> Codes
         ensures { result ≡ key_at (view_of self.now).bytes }
     {
@@ -216,7 +216,7 @@ impl<'a> RecordView<'a> {
     ///
     /// # Errors
     ///
-    /// `DataOffset` where they begin within the header, or behind the record's end.
+    /// `DataOffset` where they begin within the header, or after the record's end.
     pub fn payload(&self) -> Result<&'a [u8], DataOffset>
         ensures ok { IsOk result ↔ HasPayload (view_of self.now) }
         ensures value { IfOk result (λ bytes. bytes.now ≡ payload_of (view_of self.now)) }

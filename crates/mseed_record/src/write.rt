@@ -18,7 +18,7 @@ const WRITTEN: usize = 64;
 pub struct TooShort;
 
 /// Writes a header, big-endian, with a blockette 1000 and a blockette 1001, into the first 64 bytes of a
-/// record (SEED manual, chapter 8). The data begin behind it.
+/// record (SEED manual, chapter 8). The data begin after it.
 ///
 /// # Errors
 ///
@@ -55,7 +55,7 @@ fn put_names(out: &mut [u8], fields: &Fields)
     put(out, 18, &key[0..2]);
 }
 
-/// The fixed section behind the start: samples, rate, flags, and where things stand.
+/// The fixed section after the start: samples, rate, flags, and where things stand.
 fn counts(fields: &Fields) -> [u8; 18]
     ensures bytes { result ≡ count_bytes (header_of fields.now) }
     ensures samples { fields.now.samples < 2 ^ 16 }
@@ -71,7 +71,7 @@ fn counts(fields: &Fields) -> [u8; 18]
     ]
 }
 
-/// A blockette 1000 and, behind it, a blockette 1001.
+/// A blockette 1000 and, after it, a blockette 1001.
 fn blockettes(fields: &Fields) -> [u8; 16]
     ensures bytes { result ≡ blockette_1000 (header_of fields.now) ++ blockette_1001 (header_of fields.now) }
     ensures microseconds { FitsSigned w8 fields.now.usec }

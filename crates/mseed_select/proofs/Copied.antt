@@ -35,7 +35,7 @@ one_by : (b : Bool) (v : View) → concat (bytes_in (cond b (v ∷ []) [])) ≡ 
 one_by true v = append-nil v.bytes
 one_by false v = refl
 
--- its bytes come behind the others, where it is asked for
+-- its bytes come after the others, where it is asked for
 pub bytes_more : (s : Selection) (views : List View) (v : View)
     → selected_bytes s (views ++ v ∷ []) ≡ selected_bytes s views ++ bytes_by s v
 bytes_more s views v =

@@ -36,7 +36,7 @@ bound_more n i d h low high = omega (arith, h, low, high, pow_more 10 i)
 within_yes : (low high n : ℕ) → low ≤ n → n ≤ high → is_within low high n ≡ true
 within_yes low high n h l = grind (arith, nat_tests)
 
--- the microseconds of some digits behind a point
+-- the microseconds of some digits after a point
 pub fraction_is : (text : List ℕ) (n scale : ℕ) → 1 ≤ length text → length text ≤ 6 → are_digits text ≡ true
     → n ≡ number_of text → scale ≡ 10 ^ (6 - length text) → Some (n * scale) ≡ fraction_of text
 fraction_is text n scale low high digits number power =

@@ -21,7 +21,7 @@ pick_no : (b x y : Bool) → b ≡ false → cond b x y ≡ y
 pick_no false x y h = refl
 pick_no true x y h = absurd (let c : true ≡ false = h in cc c)
 
--- a code that begins with some characters, behind which a test holds
+-- a code that begins with some characters, after which a test holds
 abbrev Behind : (List ℕ → Bool) → (List ℕ → Type 0) → List ℕ → Type 0
 Behind test Q code = (taken : List ℕ) × ((rest : List ℕ) × ((code ≡ taken ++ rest) × Q taken × (test rest ≡ true)))
 

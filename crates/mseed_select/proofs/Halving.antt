@@ -17,7 +17,7 @@ kept p test (q ∷ qs) before =
       | false ↦ kept p test qs before.1
     ]
 
--- records from a later offset on are behind
+-- records from a later offset on are after
 behind : (p : Placed) (offset : ℕ) (views : List View) → p.offset < offset → IsBefore p (placed_from offset views)
 behind p offset [] later = tt
 behind p offset (v ∷ vs) later = (later, behind p (offset + length v.bytes) vs (omega (arith, later)))

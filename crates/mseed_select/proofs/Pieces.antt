@@ -19,7 +19,7 @@ any_first test (x ∷ xs) e = ap (λ (b : Bool). b || any_rest test xs) e
 any_more : (test : List ℕ → Bool) (x : ℕ) (xs : List ℕ) → any_rest test xs ≡ true → any_rest test (x ∷ xs) ≡ true
 any_more test x xs e = ap (λ (b : Bool). test (x ∷ xs) || b) e ∙ or_true (test (x ∷ xs))
 
--- what holds behind a later character holds of a rest
+-- what holds after a later character holds of a rest
 later_one : (c : ℕ) (test : List ℕ → Bool) (xs : List ℕ) → any_rest (λ rest. behind_one c test rest) xs ≡ true
     → any_rest test xs ≡ true
 later_one c test [] e = absurd (let f : false ≡ true = e in cc f)
@@ -91,7 +91,7 @@ piece_star (c ∷ cs) code h star = record {
   no_longer = omega arith;
 }
 
--- ---- behind a `*`
+-- ---- after a `*`
 pub star_whole : (field code : List ℕ) → fits field code ≡ true → fits (42 ∷ field) code ≡ true
 star_whole field code e = any_first (λ rest. fits field rest) code e
 

@@ -9,7 +9,7 @@ pub record Placed : Type 0 where
   pub offset : ℕ
   pub view : View
 
--- records that stand one behind another from an offset on
+-- records that stand one after another from an offset on
 abbrev pub placed_from : ℕ → List View → List Placed
 placed_from offset [] = []
 placed_from offset (v ∷ vs) = record { offset = offset; view = v } ∷ placed_from (offset + length v.bytes) vs

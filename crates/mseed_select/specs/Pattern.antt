@@ -32,7 +32,7 @@ are_patterns text = list_all is_pattern (patterns_in text)
 abbrev pub Takes : ℕ → List ℕ → Type 0
 Takes c taken = (taken ≡ c ∷ []) ⊎ (((c ≡ 63) × (length taken ≡ 1)) ⊎ (c ≡ 42))
 
--- a field fits a code where its characters take the whole code, one behind another
+-- a field fits a code where its characters take the whole code, one after another
 abbrev pub Fits : List ℕ → List ℕ → Type 0
 Fits [] code = code ≡ []
 Fits (c ∷ cs) code = (taken : List ℕ) × ((rest : List ℕ) × ((code ≡ taken ++ rest) × Takes c taken × Fits cs rest))
@@ -72,7 +72,7 @@ IsOfChannels None key = ⊤
 IsOfChannels (Some text) key = Any (λ (pattern : List ℕ). Matches pattern key) (patterns_in text)
 
 -- ---- the same, computed
--- the test holds of the code or of what is left of it behind some characters
+-- the test holds of the code or of what is left of it after some characters
 abbrev pub any_rest : (List ℕ → Bool) → List ℕ → Bool
 any_rest test [] = test []
 any_rest test (x ∷ xs) = test (x ∷ xs) || any_rest test xs

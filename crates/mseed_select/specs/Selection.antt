@@ -29,7 +29,7 @@ rate_in v = rate_of (factor_at v.order v.bytes) (multiplier_at v.order v.bytes)
 abbrev pub start_fault : View → Option TimeFault
 start_fault v = first_fault (time_at v.order v.bytes)
 
--- The last of so many samples is at an instant or behind it: the first is at `start`, and the last (samples - 1)
+-- The last of so many samples is at an instant or after it: the first is at `start`, and the last (samples - 1)
 -- periods later. Without a rate, or with no samples, there is `start` alone.
 abbrev pub LastsTo : Option Ratio → ℤ → ℕ → ℤ → Type 0
 LastsTo None start samples instant = instant ≤ℤ start
@@ -63,7 +63,7 @@ pub record LacksTime (s : Selection) (v : View) : Type 0 where
   pub bounded : (s.from ≢ None) ⊎ (s.until ≢ None)
   pub unknown : start_fault v ≢ None
 
--- Sample `i` of those that begin at `start` is `i` periods behind it. It is at an instant or behind it, or before it.
+-- Sample `i` of those that begin at `start` is `i` periods after it. It is at an instant or after it, or before it.
 abbrev pub IsSampleFrom : Option ℤ → ℤ → Ratio → ℕ → Type 0
 IsSampleFrom None start rate i = ⊤
 IsSampleFrom (Some from) start rate i = ((from -ℤ start) *ℤ pos rate.num) ≤ℤ pos (i * rate.den * 10 ^ 6)

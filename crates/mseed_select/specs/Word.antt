@@ -38,7 +38,7 @@ abbrev pub date_by_day : ℕ → Option ℕ → Option Date
 date_by_day year (Some day) = Some (record { year = year; day = day })
 date_by_day year None = None
 
--- by what stands behind the year, between `-`: the month and the day in it, or the day of the year
+-- by what stands after the year, between `-`: the month and the day in it, or the day of the year
 abbrev pub date_in_year : Option ℕ → List (List ℕ) → Option Date
 date_in_year None parts = None
 date_in_year (Some year) [] = None
@@ -53,7 +53,7 @@ date_by_parts (year ∷ parts) = date_in_year (number_in 4 1900 2100 year) parts
 abbrev pub date_of : List ℕ → Option Date
 date_of text = date_by_parts (slice_split (λ c. c == 45) text)
 
--- the microseconds of one to six digits behind the point
+-- the microseconds of one to six digits after the point
 abbrev pub fraction_of : List ℕ → Option ℕ
 fraction_of text =
     if is_within 1 6 (length text) && are_digits text then Some (number_of text * 10 ^ (6 - length text)) else None
@@ -73,7 +73,7 @@ clock_by_seconds hour minute (second ∷ fraction ∷ []) =
     clock_at hour minute (number_in 2 0 60 second) (fraction_of fraction)
 clock_by_seconds hour minute (a ∷ b ∷ c ∷ more) = None
 
--- by what stands behind the hour, between `:`; what is left out is 0
+-- by what stands after the hour, between `:`; what is left out is 0
 abbrev pub clock_in_hour : Option ℕ → List (List ℕ) → Option Clock
 clock_in_hour None parts = None
 clock_in_hour (Some hour) [] = clock_at hour (Some 0) (Some 0) (Some 0)

@@ -11,7 +11,7 @@ use mseed_stream::StreamFault;
 pub struct Counts {
     /// How many records there were.
     pub records: u64,
-    /// How many of them are asked for.
+    /// How many records are asked for.
     pub asked_for: u64,
     /// How many of them lack a time: their channel is asked for and a window is given, and their start isn't known.
     pub without_time: u64,
@@ -20,7 +20,7 @@ pub struct Counts {
 impl Counts {
     ghost use Rattle.mseed_select.specs.Counting.{one_if};
 
-    /// None yet.
+    /// Returns the counts of no record.
     pub fn none() -> Counts
         ensures { result ≡ record { records = 0; asked_for = 0; without_time = 0 } }
     {
@@ -31,7 +31,7 @@ impl Counts {
         }
     }
 
-    /// Counts one more.
+    /// Counts one more record, by whether it is asked for.
     pub fn add(&mut self, answer: Answer)
         requires records { self.old.records < 2 ^ 60 }
         requires asked_for { self.old.asked_for ≤ self.old.records }
@@ -50,7 +50,7 @@ impl Counts {
         }
     }
 
-    /// All of them, behind which the input ended so.
+    /// All of them, after which the input ended so.
     pub(crate) fn selected(self, end: Option<StreamFault>) -> Selected
         ensures { result ≡ record {
           records = self.records;

@@ -12,7 +12,7 @@ pub struct BadPatterns;
 #[error("no time")]
 pub struct BadTime;
 
-/// A window that doesn't end behind its begin.
+/// A window that doesn't end after its begin.
 #[derive(Clone, Copy, Debug, PartialEq, Eq, Error)]
 #[error("the window is empty")]
 pub struct BadWindow;

@@ -13,7 +13,7 @@ pub(crate) enum Piece<'a> {
     Whole,
     /// The field doesn't fit the code.
     Fails,
-    /// What stands behind the `*`, and the characters that are left for the `*` and for that.
+    /// What stands after the `*`, and the characters that are left for the `*` and for that.
     Star(&'a [u8], &'a [u8]),
 }
 
@@ -53,8 +53,8 @@ fn fits(field: &[u8], code: &[u8]) -> bool
     }
 }
 
-/// Whether a `*` and the field behind it fit a code. Each `*` takes as few characters as the next piece of the field
-/// lets it: whatever fits behind a later place of the piece fits behind its first one too, with more for the next `*`.
+/// Whether a `*` and the field after it fit a code. Each `*` takes as few characters as the next piece of the field
+/// lets it: whatever fits after a later place of the piece fits after its first one too, with more for the next `*`.
 /// So no `*` is asked again once the next one is reached.
 fn fits_behind(field: &[u8], code: &[u8]) -> bool
     ensures { result ≡ fits (42 ∷ field.now) code.now }

@@ -40,7 +40,7 @@ pub(crate) fn number_in(text: &[u8], count: usize, low: u32, high: u32) -> Optio
     Some(number)
 }
 
-/// The microseconds of one to six digits behind a point.
+/// The microseconds of one to six digits after a point.
 pub(crate) fn fraction_of(text: &[u8]) -> Option<u32>
     ensures value { result ≡ fraction_of text.now }
     ensures bound { IfSome result (λ n. n < 1_000_000) }
@@ -51,7 +51,7 @@ pub(crate) fn fraction_of(text: &[u8]) -> Option<u32>
     Some(number_of(text) * scale_of(text.len()))
 }
 
-/// The microseconds of the last of so many digits behind a point.
+/// The microseconds of the last of so many digits after a point.
 fn scale_of(digits: usize) -> u32
     requires low { 1 ≤ digits }
     requires high { digits ≤ 6 }

@@ -23,7 +23,7 @@ fn place_of(text: &[u8], separator: u8) -> Option<usize>
     text.iter().position(|c| *c == separator)
 }
 
-/// What stands before the first separator, and what behind it, if there is one.
+/// What stands before the first separator, and what after it, if there is one.
 pub(crate) fn first_part(text: &[u8], separator: u8) -> (&[u8], Option<&[u8]>)
     ensures { MatchOption result.1 (slice_split (λ c. c == separator) text.now ≡ result.0.now ∷ [])
         (λ rest. slice_split (λ c. c == separator) text.now

@@ -6,7 +6,7 @@ use mseed_stream::StreamFault;
 pub struct Selected {
     /// How many records there were.
     pub records: u64,
-    /// How many of them were asked for, and written.
+    /// How many records were asked for, and written.
     pub written: u64,
     /// How many weren't asked for since their start isn't known, though their channel is and a window is given.
     pub without_time: u64,

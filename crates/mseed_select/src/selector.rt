@@ -29,7 +29,7 @@ impl<'a> Selector<'a> {
     ///
     /// # Errors
     ///
-    /// `BadWindow` exactly where `until` isn't behind `from`.
+    /// `BadWindow` exactly where `until` isn't after `from`.
     pub fn new(
         channels: Option<Patterns<'a>>,
         from: Option<Micros>,
@@ -135,7 +135,7 @@ fn begins_before(until: Option<Micros>, start: Micros) -> bool
     }
 }
 
-/// Whether the last sample of a record that begins at `start` is at an instant or behind it.
+/// Whether the last sample of a record that begins at `start` is at an instant or after it.
 fn lasts_to(view: &RecordView, start: Micros, instant: Micros) -> bool
     ensures { result ≡ lasts_to (rate_in (view_of view.now)) start
         (samples_at (view_of view.now).order (view_of view.now).bytes) instant }
@@ -146,7 +146,7 @@ fn lasts_to(view: &RecordView, start: Micros, instant: Micros) -> bool
     }
 }
 
-/// Whether the last of so many samples from `start` on is at an instant or behind it.
+/// Whether the last of so many samples from `start` on is at an instant or after it.
 fn is_sampled_to(start: Micros, samples: u16, rate: Ratio, instant: Micros) -> bool
     ensures { result ≡ lasts_to (Some rate) start samples instant }
 {

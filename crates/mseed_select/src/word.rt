@@ -13,7 +13,7 @@ use crate::parts::{Parts, parts_of};
 use mseed_time::{Btime, Micros};
 
 /// Reads a time (UTC): `2024-05-14` or `2024-135`, alone or with `T03`, `T03:20` or `T03:20:00`, and one to six digits
-/// behind a point behind the seconds; `Z` may end it. Its year is 1900 to 2100; second 60 is the next minute's first.
+/// after a point after the seconds; `Z` may end it. Its year is 1900 to 2100; second 60 is the next minute's first.
 /// What is left out is its first instant.
 ///
 /// # Errors

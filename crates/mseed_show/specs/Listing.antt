@@ -22,7 +22,7 @@ abbrev pub order_word : Order → List ℕ
 order_word Big = codes " big"
 order_word Little = codes " little"
 
--- the words of a record's line, a few at a time
+-- the text of a record's line, a few at a time
 abbrev pub offset_words : ℕ → View → List ℕ
 offset_words offset v = decimal offset ++ codes " " ++ name_text (key_at v.bytes)
 

@@ -30,7 +30,7 @@ takes_on a b c p q r one two = (
 pub takes_none : (s : BytesWritten) (p : Option (List ℕ)) → TakesMore s s p p
 takes_none s p = ([], sym (append-nil s.bytes), Appends-nil p)
 
--- a call that reads on behind others
+-- a call that reads on after others
 pub reads_on : (a b c : BytesRead) (p q r : Option (List ℕ)) (x y z : BytesWritten) → TellsMore a b p q → y ≡ x
     → ReadsOn b c q r y z → ReadsOn a c p r x z
 reads_on a b c p q r x y z more beside one = record {

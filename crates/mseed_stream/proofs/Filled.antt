@@ -13,7 +13,7 @@ pub written_back : (held items : List ℕ) (n : ℕ) → length held ≡ n → t
 written_back held items n e = ap (λ (k : ℕ). take k (held ++ drop (length held) items)) (sym e)
     ∙ take-append_seam held (drop (length held) items)
 
--- n bytes more behind those that there were
+-- n bytes more after those that there were
 pub prefix_more : (held now : List ℕ) (have n needed : ℕ) → take have now ≡ take have held → have + n ≤ needed
     → take (have + n) now ≡ take have held ++ take n (slice_range now have needed)
 prefix_more held now have n needed same fits =

@@ -18,7 +18,7 @@ gathered_first first old text lines g =
     ∙ ap (λ (xs : List ℕ). take (length g.taken) xs) g.joined in
     (length g.taken, g.bytes ∙ ap (λ (xs : List ℕ). first.bytes ++ xs) prefix)
 
--- the whole, behind what was taken before
+-- the whole, after what was taken before
 pub behind : (first old : BytesWritten) (text lines tail : List ℕ) (before : AreGathered first old text lines)
     → before.taken ++ (text ++ tail) ≡ lines ++ tail
 behind first old text lines tail before = sym (append_assoc before.taken text tail)
@@ -79,7 +79,7 @@ part_behind first old new text lines tail before emitted =
       (omega (arith, emitted.1.0, size), taken_behind first old new text lines tail emitted.0 before emitted.1.1),
     )
 
--- with nothing behind
+-- with nothing after
 none_behind : (P Q : List ℕ → Type 0) (text lines : List ℕ) → (P (text ++ []) → Q (lines ++ [])) → P text → Q lines
 none_behind P Q text lines step p =
     subst (λ (xs : List ℕ). Q xs) (append-nil lines)

@@ -1,4 +1,4 @@
--- What was read of an input has one list of records, and one end behind them.
+-- What was read of an input has one list of records, and one end after them.
 use Rattle.std.proofs.Common.{◌≡◌, ℕ, suc, ◌<◌, ◌≤◌, ◌++◌, Bool, true, false, List, [], ◌∷◌, length, take, drop, Option}
 use Rattle.std.proofs.Common.{Some, None, refl, sym, ap, subst, ◌∙◌, arith, ⊎_elim, append-nil, length-take}
 use Rattle.std.proofs.lemmas.Bool.{cases_lt, false≢true}
@@ -115,7 +115,7 @@ one_views bytes offset vs ws a b =
     (archive_to bytes offset ws b) in
     same_views vs ws a.each b.each both.0
 
--- no record begins behind the last
+-- no record begins after the last
 none_behind : (end : Option StreamFault) (offset : ℕ) (h : BytesRead) → IsEnd end offset h
     → HasNoFurther (read_from offset h)
 none_behind None offset h is = no_further (read_from offset h) clean is.0.0

@@ -1,4 +1,4 @@
--- A cutter that goes behind a record which its source holds whole.
+-- A cutter that goes past a record which its source holds whole.
 use Rattle.std.proofs.Common.{◌≡◌, ℕ, ◌+◌, ◌-◌, ◌^◌, ◌≤◌, ◌++◌, List, [], ◌∷◌, length, take, drop, false, refl, sym, ap}
 use Rattle.std.proofs.Common.{subst, ◌∙◌, arith, append_assoc, length-append, drop-drop}
 use Rattle.std.proofs.lemmas.List.{drop_all, drop-append-le, length-take-le}
@@ -38,7 +38,7 @@ rest_twice size lent middle after l first second =
 abbrev pub passed : Standing → ℕ → Standing
 passed c size = record c { offset = c.offset + size; prefix = []; is_lent = false; reads = c.reads + 2 }
 
--- a cutter that forgot what it lent, with a record behind it
+-- a cutter that forgot what it lent, with a record after it
 abbrev pub behind : Standing → ℕ → Standing
 behind c size = record c { offset = c.offset + size; reads = c.reads + 2 }
 
@@ -53,7 +53,7 @@ stands_behind here old size is none =
       reads = old.reads + 2;
     } in s) none
 
--- what holds where it stands behind the record, and the record was read, holds of it
+-- what holds where it stands after the record, and the record was read, holds of it
 pub stands_passed : (P : BytesRead → Standing → Type 0) (new : BytesRead) (here old : Standing) (size : ℕ)
     (now : BytesRead) → here ≡ record old { prefix = held_of old; is_lent = false } → held_of old ≡ [] → new ≡ now
     → P now (passed old size) → P new (behind here size)

@@ -30,7 +30,7 @@ one_first bytes r s tail rest is it d e =
     (subst (λ (xs : List ℕ). IsRecord xs) (sym two) it) in
     sym one ∙ (ap (λ (n : ℕ). take n bytes) same ∙ two)
 
--- the records of an archive and what is left behind them are the only ones
+-- the records of an archive and what is left after them are the only ones
 pub one_archive : (bytes : List ℕ) (records others : List (List ℕ)) (rest left : List ℕ) → IsArchive bytes records rest
     → IsArchive bytes others left → (records ≡ others) × (rest ≡ left)
 one_archive bytes [] [] rest left a b = (refl, sym a.joined ∙ b.joined)

@@ -31,7 +31,7 @@ ends_behind bytes offset records end within has few is = record {
   ends = is;
 }
 
--- where no record begins behind the records, the bytes end
+-- where no record begins after the records, the bytes end
 pub split_fault : (bytes : List ℕ) (offset : ℕ) (records : List (List ℕ)) (e : ViewFault) → offset < length bytes
     → HasRecords bytes offset records → length records < 2 ^ 40 → Decides (drop offset bytes) (scan_of (Err e))
     → IsSplitFault (fault_at (length bytes) offset e) bytes

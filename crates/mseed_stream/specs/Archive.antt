@@ -1,4 +1,4 @@
--- What an archive is: records one behind another, and what is left behind the last.
+-- What an archive is: records one after another, and what is left after the last.
 use Rattle.std.specs.Prelude.{◌≡◌, ℕ, ◌≤◌, ◌<◌, List, [], ◌++◌, length, take}
 use Rattle.std.specs.List.{concat, AllByRecursion}
 use Rattle.mseed_record.specs.declared.fault.FrameFault.{FrameFault}
@@ -16,7 +16,7 @@ pub record IsArchive (bytes : List ℕ) (records : List (List ℕ)) (rest : List
   pub each : AllByRecursion IsRecord records
   pub no_further : HasNoFurther rest
 
--- how an archive ends: behind a record, with bytes that begin none, or within bytes that might have begun one
+-- how an archive ends: after a record, with bytes that begin none, or within bytes that might have begun one
 pub data End : Type 0 where
   clean : End
   frame : FrameFault → End
@@ -39,7 +39,7 @@ HasOneArchive bytes = (records others : List (List ℕ)) (rest left : List ℕ) 
 abbrev pub HasOneEnd : List ℕ → Type 0
 HasOneEnd rest = (one other : End) → IsEndOf rest one → IsEndOf rest other → one ≡ other
 
--- these records stand one behind another up to the offset
+-- these records stand one after another up to the offset
 pub record HasRecords (bytes : List ℕ) (offset : ℕ) (records : List (List ℕ)) : Type 0 where
   pub joined : take offset bytes ≡ concat records
   pub each : AllByRecursion IsRecord records

@@ -75,7 +75,7 @@ pub record IsAlong (h : BytesRead) (c : Standing) : Type 0 where
   pub ended : IfSome c.answer (λ e. IsEnding e c.offset h)
 
 -- A record of so many bytes begins what the source holds, and the cutter, which goes on and holds nothing, can go
--- behind
+-- after
 -- it.
 pub record IsAhead (size : ℕ) (c : Standing) (lent : List ℕ) : Type 0 where
   pub whole : size ≤ length lent
@@ -179,7 +179,7 @@ pub record IsNextAnswer {X : Type 0} (result : Result (Option X) StreamFault) (c
   pub more : TellsMore old new left rest
   -- ..up to its end where the input is at its end.
   pub known : c.answer ≡ None → new.is_at_end ≡ true → IsAtEnd rest
-  -- There is no further record where the input ended behind the last.
+  -- There is no further record where the input ended after the last.
   pub end : result ≡ Ok None → IsCleanEnd c.offset new
   -- A fault is what became of the input, at the offset.
   pub fault : IfErr result (λ e. IsCutFault e c.offset new)

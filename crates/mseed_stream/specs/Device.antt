@@ -69,6 +69,6 @@ written_also s r bytes = record {
   failures = s.failures + failed_count r;
 }
 
--- the whole is the prefix, with something or nothing behind it
+-- the whole is the prefix, with something or nothing after it
 abbrev pub IsPrefixOf : List ℕ → List ℕ → Type 0
 IsPrefixOf prefix whole = (more : List ℕ) × (whole ≡ prefix ++ more)

@@ -15,7 +15,7 @@ IsStreamFault (Turns n) old new = (length new.bytes ≡ length old.bytes + n) ×
     × (new.calls ≡ old.calls + 2 ^ 40) × (new.is_at_end ≡ false)
 IsStreamFault Memory old new = new.failures ≡ old.failures
 
--- behind how many bytes of an input its fault lies; a read that failed and memory that was refused lie in no byte of it
+-- after how many bytes of an input its fault lies; a read that failed and memory that was refused lie in no byte of it
 abbrev pub offset_of : StreamFault → Option ℕ
 offset_of (Frame n f) = Some n
 offset_of (Truncated n have) = Some n

@@ -22,7 +22,7 @@ pub record AreViews (bytes : List ℕ) (offset : ℕ) (views : List View) : Type
   pub records : HasRecords bytes offset (bytes_in views)
   pub offset_is : length (concat (bytes_in views)) ≡ offset
 
--- how an input ends behind them: where a record ended, or by a fault; no read failed before
+-- how an input ends after them: where a record ended, or by a fault; no read failed before
 abbrev pub IsEnd : Option StreamFault → ℕ → BytesRead → Type 0
 IsEnd None offset h = IsCleanEnd offset h × (h.failures ≡ 0)
 IsEnd (Some fault) offset h = IsCutFault fault offset h × (fault ≢ Memory) × (h.failures ≡ failed_reads fault)
@@ -35,7 +35,7 @@ pub record HasHandedOut (h : BytesRead) (c : Standing) (views : List View) : Typ
   pub records : AreViews h.bytes c.offset views
   pub called : 2 * length views + asks_of (held_of c) ≤ h.calls
 
--- these are all the records of an input, fewer than 2^40, and it ends so behind them
+-- these are all the records of an input, fewer than 2^40, and it ends so after them
 pub record AreAllViews (h : BytesRead) (views : List View) (end : Option StreamFault) : Type 0 where
   pub offset : ℕ
   pub records : AreViews h.bytes offset views

@@ -58,7 +58,7 @@ impl Ending {
 /// Contracts see a cutter as a `Standing`, and say by `IsAlong` how it stands to what its source gave.
 #[derive(Drop)]
 pub struct Cutter<A: Allocator = Global> {
-    // The bytes that were read and not handed out, and room behind them.
+    // The bytes that were read and not handed out, and room after them.
     held: Vec<u8, A>,
     // How many bytes stand at its beginning.
     have: usize,
@@ -139,7 +139,7 @@ impl<A: Allocator> Cutter<A> {
 
     /// The next record, or `None` where the input ended where a record ended.
     ///
-    /// The record is lent. The cutter then stands behind it, and has read no byte that follows. The source
+    /// The record is lent. The cutter then stands after it, and has read no byte that follows. The source
     /// is the same at each call, and the cutter alone asks it, from its first read on.
     ///
     /// After `None`, and after any fault but `Memory`, the same is answered for ever, and the source isn't
@@ -173,7 +173,7 @@ impl<A: Allocator> Cutter<A> {
         // What the source takes stays as it was.
         ensures beside { R.beside source.new ≡ R.beside source.old }
 
-        // Then the cutter stands behind the record, goes on or has its answer for ever, and keeps its buffer.
+        // Then the cutter stands after the record, goes on or has its answer for ever, and keeps its buffer.
         ensures* after { sem 𝓛 (follows_so (the_row A.row A.Allocator)
             (the_row A.row A.Allocator) self.entry.ghost_name none (λ _ _. ⊤)
             (λ c. IsAlong (R.read source.new) c
@@ -191,7 +191,7 @@ impl<A: Allocator> Cutter<A> {
     /// The next record where it lies, as long as the source holds it whole: it is lent from there, and not copied.
     ///
     /// It is lent exactly where it begins what the source holds, and the cutter goes on, holds no bytes and has
-    /// two reads left. Neither the cutter nor the source moves: [`pass`](Cutter::pass) goes behind the record.
+    /// two reads left. Neither the cutter nor the source moves: [`pass`](Cutter::pass) goes past the record.
     /// Where this lends nothing, [`next`](Cutter::next) answers what comes.
     #[inline(always)]
     pub fn peek<'a, R: Source>(&self, source: &'a R) -> Option<RecordView<'a>>
@@ -223,7 +223,7 @@ impl<A: Allocator> Cutter<A> {
         self.is_lent || self.have == 0
     }
 
-    /// Goes behind a record of so many bytes that the source holds whole, as [`next`](Cutter::next) does that lends
+    /// Goes past a record of so many bytes that the source holds whole, as [`next`](Cutter::next) does that lends
     /// it: the source tells what framing asks for, the header and then the rest.
     pub fn pass<R: Source>(&mut self, source: &mut R, size: usize)
         requires along { IsAlong (R.read source.old) self.old }
@@ -235,7 +235,7 @@ impl<A: Allocator> Cutter<A> {
         ensures known { Consumes (R.remaining source.old) (R.remaining source.new) (take size (R.lent source.old)) }
         ensures beside { R.beside source.new ≡ R.beside source.old }
 
-        // The cutter stands behind it, goes on, and keeps its buffer.
+        // The cutter stands after it, goes on, and keeps its buffer.
         ensures along { IsAlong (R.read source.new) self.new }
         ensures offset { self.new.offset ≡ self.old.offset + size }
         ensures goes_on { self.new.answer ≡ None }

@@ -20,7 +20,7 @@ impl Model for Exchanges {
 }
 
 impl Exchanges {
-    /// No link yet.
+    /// Returns the exchanges of no link.
     pub fn new() -> Exchanges
         ensures { result.all ≡ [] }
     {
@@ -29,7 +29,7 @@ impl Exchanges {
         }
     }
 
-    /// One more link, by what went over it.
+    /// Adds one more link, by what went over it.
     pub fn record<T>(&mut self, link: &Counted<T>)
         ensures { self.new.all ≡ self.old.all ++ exchange_over link.now ∷ [] }
     {

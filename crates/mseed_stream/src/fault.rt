@@ -11,14 +11,14 @@ use mseed_record::FrameFault;
 /// began, for [`read_all`](crate::read_all).
 #[derive(Debug, Clone, Copy, PartialEq, Eq)]
 pub enum StreamFault {
-    /// No bytes that may come can make a record of those behind so many bytes.
+    /// No bytes that may come can make a record of those after so many bytes.
     Frame(u64, FrameFault),
-    /// The input ended while more was needed: behind so many bytes, with so many of what might have been
+    /// The input ended while more was needed: after so many bytes, with so many of what might have been
     /// a record.
     Truncated(u64, usize),
-    /// The reader failed, behind so many bytes.
+    /// The reader failed, after so many bytes.
     Read(u64),
-    /// The input wasn't at its end after 2^40 reads, behind so many bytes; for [`split`](crate::split), a
+    /// The input wasn't at its end after 2^40 reads, after so many bytes; for [`split`](crate::split), a
     /// 2^40th record stands there.
     Turns(u64),
     /// An allocation was refused.
@@ -26,7 +26,7 @@ pub enum StreamFault {
 }
 
 impl StreamFault {
-    /// Returns behind how many bytes of the input the fault lies: the offset, in bytes, of what is no record, or of the
+    /// Returns after how many bytes of the input the fault lies: the offset, in bytes, of what is no record, or of the
     /// record that is cut off. A read that failed and memory that was refused lie in no byte of the input, and have
     /// none.
     pub fn offset(&self) -> Option<u64>

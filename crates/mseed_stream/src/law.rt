@@ -6,7 +6,7 @@ ghost use Rattle.mseed_stream.specs.Device.{BytesRead};
 ghost use Rattle.mseed_stream.specs.Cutting.{IsStop};
 ghost use Rattle.mseed_stream.specs.Walk.{AreViews, AreAllViews};
 
-/// What was read has one list of records, and one end behind them. So has each part of it up to an offset,
+/// What was read has one list of records, and one end after them. So has each part of it up to an offset,
 /// and what is read falls short of one stop.
 pub fn one_input()
     ensures input { (h : BytesRead) (views others : List View) (end other : Option StreamFault)

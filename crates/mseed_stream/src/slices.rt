@@ -13,12 +13,12 @@ use std::alloc::{Allocator, Global};
 /// At most so many records.
 const MOST: usize = (1 << 40) - 1;
 
-/// All records of the bytes, where nothing is left behind them.
+/// All records of the bytes, where nothing is left after them.
 ///
 /// # Errors
 ///
 /// As a [`Cutter`](crate::Cutter) says of a reader that tells the bytes: `Frame` and `Truncated` with the
-/// offset behind the records, `Turns` at a 2^40th record, `Memory` where there was no room for a record.
+/// offset after the records, `Turns` at a 2^40th record, `Memory` where there was no room for a record.
 pub fn split(alloc: Global, bytes: &[u8]) -> Result<Vec<RecordView<'_>>, StreamFault>
     ensures archive { IfOk result (λ views. IsArchive bytes.now (bytes_of_each views.items) []) }
     ensures views { IfOk result (λ views. AllByRecursion (λ r. IsView (view_of r)) views.items) }

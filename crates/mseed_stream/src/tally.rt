@@ -21,7 +21,7 @@ impl Model for Tally {
 }
 
 impl Tally {
-    /// No call yet.
+    /// Returns the record of no call.
     pub fn new() -> Tally
         ensures bytes { result.bytes ≡ [] }
         ensures calls { result.calls ≡ 0 }
@@ -32,7 +32,7 @@ impl Tally {
         }
     }
 
-    /// One more call, by which these bytes went through.
+    /// Adds one more call, by which these bytes went through, and whether it failed.
     pub fn record(&mut self, _bytes: &[u8], _failed: bool)
         ensures bytes { self.new.bytes ≡ self.old.bytes ++ _bytes.now }
         ensures calls { self.new.calls ≡ self.old.calls + 1 }

@@ -88,7 +88,7 @@ decimal_eight_more n many fits =
       four_and_four (n % 10 ^ 8),
     ) refl
 
--- behind some text
+-- after some text
 pub put_four : (n : ℕ) (old front new : List ℕ) → 10000 ≤ n → n < 2 ^ 64 → front ≡ old ++ decimal (n / 10000)
     → new ≡ front ++ padded_decimal 4 (n % 10000) → new ≡ old ++ decimal n
 put_four n old front new many fits first last =

@@ -6,7 +6,7 @@ ghost use Rattle.mseed_time.specs.Text.{padded_decimal};
 use crate::line::Line;
 use itoa::Buffer;
 
-/// The two digits of each number below 100, one number behind another.
+/// The two digits of each number below 100, one number after another.
 static DIGITS: [u8; 200] = *b"\
     00010203040506070809101112131415161718192021222324\
     25262728293031323334353637383940414243444546474849\
@@ -14,7 +14,7 @@ static DIGITS: [u8; 200] = *b"\
     75767778798081828384858687888990919293949596979899";
 
 impl Line {
-    /// Puts the decimal digits of a number behind it: at most 20.
+    /// Puts the decimal digits of a number at its end: at most 20.
     #[inline(always)]
     pub fn put_count(&mut self, count: u64)
         requires room { length self.old + 20 ≤ 256 }
@@ -28,7 +28,7 @@ impl Line {
         }
     }
 
-    /// Puts the decimal digits of a number of up to 128 bits behind it: at most 39.
+    /// Puts the decimal digits of a number of up to 128 bits at its end: at most 39.
     pub fn put_wide(&mut self, count: u128)
         requires room { length self.old + 39 ≤ 256 }
         ensures text { self.new ≡ self.old ++ decimal count }
@@ -40,7 +40,7 @@ impl Line {
         }
     }
 
-    /// Puts the decimal digits of a number behind it, with `-` before them where it is negative: at most 20 bytes.
+    /// Puts the decimal digits of a number at its end, with `-` before them where it is negative: at most 20 bytes.
     pub fn put_signed(&mut self, number: i64)
         requires room { length self.old + 20 ≤ 256 }
         ensures text { self.new ≡ self.old ++ signed_decimal number }

@@ -9,7 +9,7 @@ use mseed_stream::StreamFault;
 use std::alloc::{AllocError, Allocator};
 
 impl Line {
-    /// Puts the line of a stream's fault behind it, with its LF; nothing for a want of memory. It has at most 61 bytes.
+    /// Puts the line of a stream's fault at its end, with its LF, at most 61 bytes; nothing for a want of memory.
     pub fn put_fault_line(&mut self, fault: &StreamFault)
         requires room { length self.old + 61 ≤ 256 }
         ensures text { self.new ≡ self.old ++ fault_line fault.now }

@@ -45,7 +45,7 @@ impl Line {
         }
     }
 
-    /// Its bytes.
+    /// Returns the bytes that were put, in their order.
     #[inline(always)]
     pub fn as_slice(&self) -> &[u8]
         ensures { result.now ≡ self.now }
@@ -53,7 +53,7 @@ impl Line {
         &self.bytes[..self.len]
     }
 
-    /// Puts bytes behind it, which have room there.
+    /// Puts bytes at its end, which have room there.
     #[inline(always)]
     pub fn put(&mut self, bytes: &[u8])
         requires room { length self.old + length bytes.now ≤ 256 }
@@ -65,7 +65,7 @@ impl Line {
         self.len = end;
     }
 
-    /// Puts a code without its trailing spaces and NULs. Those are written too, behind the end, so that the number of
+    /// Puts a code without its trailing spaces and NULs. Those are written too, after the end, so that the number of
     /// writes is known.
     #[inline(always)]
     pub(crate) fn put_code(&mut self, code: &[u8])

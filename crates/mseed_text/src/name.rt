@@ -6,7 +6,7 @@ use crate::line::Line;
 use mseed_record::Codes;
 
 impl Line {
-    /// Puts a channel's name behind it: network, station, location and channel, each without its trailing spaces and
+    /// Puts a channel's name at its end: network, station, location and channel, each without its trailing spaces and
     /// NULs, with `?` for what is left and can't be printed. It has at most 15 bytes.
     #[inline(always)]
     pub fn put_name(&mut self, codes: &Codes)

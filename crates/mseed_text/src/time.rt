@@ -9,8 +9,8 @@ use mseed_record::RecordView;
 use mseed_time::{Ratio, TimeFault, show_time};
 
 impl Line {
-    /// Puts a record's start behind it, in UTC and to the microsecond, or `fault` and the first field of it that is out
-    /// of its range: at most 26 bytes.
+    /// Puts a record's start at its end, in UTC and to the microsecond, or `fault` and the start's first field that is
+    /// out of its range: at most 26 bytes.
     #[inline(always)]
     pub fn put_start(&mut self, view: &RecordView)
         requires room { length self.old + 26 ≤ 256 }
@@ -26,7 +26,7 @@ impl Line {
         }
     }
 
-    /// Puts the word for a field of a time behind it: at most 8 bytes.
+    /// Puts the word for a field of a time at its end: at most 8 bytes.
     pub fn put_field(&mut self, fault: TimeFault)
         requires room { length self.old + 8 ≤ 256 }
         ensures text { self.new ≡ self.old ++ fault_word fault }
@@ -35,7 +35,7 @@ impl Line {
         self.put(fault.word().as_bytes());
     }
 
-    /// Puts a sample rate behind it, in samples a second, as a ratio: at most 41 bytes.
+    /// Puts a sample rate at its end, in samples a second, as a ratio: at most 41 bytes.
     #[inline(always)]
     pub fn put_ratio(&mut self, rate: Ratio)
         requires room { length self.old + 41 ≤ 256 }

@@ -57,7 +57,7 @@ pub record HasEnded {A : Type 0} (past : Bool) (h now : BytesRead) (s : Stage) (
   pub number : r.joint.parts ≡ length (parts_at s)
   pub stopped : IsStoppedAt h now s
 
--- a bad line, behind those that were passed
+-- a bad line, after those that were passed
 pub record IsBadBehind (past : Bool) (h now : BytesRead) (s : Stage) (k offset : ℕ) : Type 0 where
   pub bytes : List ℕ
   pub reported : now.bytes ≡ h.bytes ++ bytes

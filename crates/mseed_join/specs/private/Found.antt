@@ -1,4 +1,4 @@
--- What is found of a channel, as it is written behind how the channel ends.
+-- What is found of a channel, as it is written after how the channel ends.
 use Rattle.std.specs.Prelude.{ℕ, List, ◌++◌, codes, decimal}
 use Rattle.mseed_audit.specs.declared.channel.Findings.{Findings}
 use Rattle.mseed_audit.specs.declared.channel.Findings.TheVariants.{Nothing, Counted}

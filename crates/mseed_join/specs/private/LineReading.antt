@@ -10,7 +10,7 @@ use Rattle.mseed_join.specs.declared.line_reader.Ahead.{Ahead}
 use Rattle.mseed_join.specs.declared.line_reader.Ahead.TheVariants.{Line, TooLong, Unended, Nothing}
 
 -- the bytes that were read and not passed, the length of the line that begins them where one was found, the room
--- behind them, how many lines were passed, how many bytes were read in all, and by how many reads
+-- after them, how many lines were passed, how many bytes were read in all, and by how many reads
 pub record LinesRead : Type 0 where
   pub held : List ℕ
   pub size : ℕ
@@ -40,7 +40,7 @@ LiesAhead TooLong r at_end = HasNoEnd (take 512 r.held) × (512 ≤ length r.hel
 LiesAhead Unended r at_end = (at_end ≡ true) × HasNoEnd r.held × (r.held ≢ [])
 LiesAhead Nothing r at_end = (at_end ≡ true) × (r.held ≡ [])
 
--- what more was read, and is held behind what was held before
+-- what more was read, and is held after what was held before
 pub record Grows (old new : BytesRead) (left rest : Option (List ℕ)) (r after : LinesRead) : Type 0 where
   pub more : List ℕ
   pub called : ℕ

@@ -1,4 +1,4 @@
--- Reading from left to right: what stands before it, and the bytes behind it; or nothing.
+-- Reading from left to right: what stands before it, and the bytes after it; or nothing.
 use Rattle.std.specs.Prelude.{ℕ, zero, suc, ◌+◌, ◌-◌, ◌*◌, ◌^◌, ◌==◌, ◌&&◌, nat_le, nat_lt, nat_eq, Bool, if◌then◌else◌}
 use Rattle.std.specs.Prelude.{List, [], ◌∷◌, ◌++◌, length, take, drop, codes, ℤ, pos, negsuc, Option, Some, None}
 use Rattle.std.specs.Cmp.Lexicographic.{pointwise}
@@ -80,7 +80,7 @@ integer_at below above (b ∷ bs) =
     if b == 45 then (number_at below bs >>= negated)
     else (number_at above (b ∷ bs) >>= λ n. Some (pos n.0, n.1))
 
--- the number behind a word
+-- the number after a word
 abbrev pub behind_at : List ℕ → ℕ → List ℕ → Option (ℕ × List ℕ)
 behind_at word largest bytes = after word bytes >>= number_at largest
 
@@ -256,7 +256,7 @@ frame_fault_at bytes =
     (else_by (counted_at (codes "length ") (2 ^ 8 - 1) Length bytes)
     (else_by (word_at (codes "outside") Outside bytes) (word_at (codes "version3") Version3 bytes))))))
 
--- what fails behind so many bytes
+-- what fails after so many bytes
 unfoldable pub stream_fault_at : ℕ → List ℕ → Option (StreamFault × List ℕ)
 stream_fault_at offset bytes =
     else_by (counted_at (codes "truncated ") (2 ^ 63 - 1) (λ have. Truncated offset have) bytes)

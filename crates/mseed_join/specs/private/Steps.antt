@@ -1,4 +1,4 @@
--- How far reading is behind one more line: no public contract is stated by these words.
+-- How far reading is after one more line: no public contract is stated by these words.
 use Rattle.std.specs.Prelude.{⊤, ◌≡◌, ℕ, List, [], ◌∷◌, ◌++◌, Some, None}
 use Rattle.mseed_stream.specs.declared.fault.StreamFault.{StreamFault}
 use Rattle.mseed_audit.specs.declared.channel.Channel.{Channel}

@@ -27,12 +27,12 @@ IsLastKey None channels = channels ≡ []
 IsLastKey (Some key) channels =
     (before : List (List ℕ × Channel)) × (c : Channel) × (channels ≡ before ++ (key, c) ∷ [])
 
--- a key is behind that of the last channel
+-- a key is after that of the last channel
 abbrev pub IsBehindKey : Option (List ℕ) → List ℕ → Type 0
 IsBehindKey None key = ⊤
 IsBehindKey (Some last) key = slice_cmp nat_cmp last key ≡ Less
 
--- whether the number of faults behind was read
+-- whether the number of faults passed was read
 abbrev pub IsRead : Bool → ℕ → Type 0
 IsRead false n = n ≡ 0
 IsRead true n = 0 < n
@@ -92,7 +92,7 @@ IsLineStep lines s line (Ok reported) old new = (t : Stage) × IsTaken lines lin
 IsLineStep lines s line (Err Bad) old new = Begins old.past (lines ++ line) → ⊥
 IsLineStep lines s line (Err NoMemory) old new = ⊤
 
--- a fault behind so many bytes
+-- a fault after so many bytes
 abbrev pub fault_behind : ℕ → StreamFault → StreamFault
 fault_behind e (Frame offset f) = Frame e f
 fault_behind e (Truncated offset have) = Truncated e have

@@ -37,7 +37,7 @@ pub record IsOneMore (s : Selection) (answer : Answer) (views : List View) (old 
   pub answered : answer ≡ answer_of s view
   pub bytes : Adds (bytes_by s view)
 
--- What comes next of an input, behind these records: one more, its end, so that they are all, or a fault.
+-- What comes next of an input, after these records: one more, its end, so that they are all, or a fault.
 abbrev pub IsNext : Selection → Result Step SelectFault → List View → ℕ → BytesRead → BytesRead → Standing
     → (List ℕ → Type 0) → (SelectFault → Type 0) → Type 0
 IsNext s (Ok (Judged answer)) views offset old new c Adds Fails = IsOneMore s answer views old new c Adds

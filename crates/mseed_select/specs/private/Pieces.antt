@@ -5,7 +5,7 @@ use Rattle.mseed_select.specs.declared.matching.Piece.{Piece}
 use Rattle.mseed_select.specs.declared.matching.Piece.TheVariants.{Whole, Fails, Star}
 
 -- What is left decides, also where a `*` stands before the field: the first place of the piece is the best for what
--- stands behind it.
+-- stands after it.
 pub record IsLeft (behind left field code : List ℕ) : Type 0 where
   pub here : fits field code ≡ fits (42 ∷ behind) left
   pub later : fits (42 ∷ field) code ≡ fits (42 ∷ behind) left

@@ -40,7 +40,7 @@ pub record IsOneMore (s : Selection) (answer : Answer) (views : List View) (offs
   pub answered : answer ≡ answer_of s view
   pub line : Adds (line_by s offset view)
 
--- What comes next of an input, behind these records: one more, its end, so that they are all, or a fault.
+-- What comes next of an input, after these records: one more, its end, so that they are all, or a fault.
 abbrev pub IsNext : Selection → Result Step ShowFault → List View → ℕ → BytesRead → BytesRead → Standing
     → (List ℕ → Type 0) → (ShowFault → Type 0) → Type 0
 IsNext s (Ok (Judged answer)) views offset old new c Adds Fails = IsOneMore s answer views offset old new c Adds

@@ -20,7 +20,8 @@ returns-in-Ok-write_all_of-clause-outcome g c =
     let write = c.in-Ok-write_all_of.ensures in
     each_written s c.in-Ok-push_finished.found found.0 r.reported (g.W.Sink.written c.args.sink.now)
     (g.W.Sink.written c.gather_with.new.output) (g.W.Sink.written c.write_all_of.new.sink)
-    c.gather_with.new.report.items c.push_finished.new.text.items (c.in-Ok-push_finished.ensures s read found.0 found.1.0)
+    c.gather_with.new.report.items c.push_finished.new.text.items
+    (c.in-Ok-push_finished.ensures s read found.0 found.1.0)
     r.are_reported r.stands.lines (rw c.deref.ensures.value at write.ok) r.stands.fine write.fine
 
 pub returns-clause-outcome : goal.returns-clause-outcome
@@ -30,9 +31,11 @@ returns-clause-outcome g c =
     let found = c.in-Ok.ensures.gathered in
     let r = found.1.1 in
     let write = c.in-Err-write_all_of.ensures in
-    each_short s c.in-Err-write_all_of.field-0 c.in-Ok-push_finished.found found.0 r.reported (g.W.Sink.written c.args.sink.now)
-    (g.W.Sink.written c.gather_with.new.output) (g.W.Sink.written c.write_all_of.new.sink)
-    c.gather_with.new.report.items c.push_finished.new.text.items (c.in-Ok-push_finished.ensures s read found.0 found.1.0)
+    each_short s c.in-Err-write_all_of.field-0 c.in-Ok-push_finished.found found.0 r.reported
+    (g.W.Sink.written c.args.sink.now) (g.W.Sink.written c.gather_with.new.output)
+    (g.W.Sink.written c.write_all_of.new.sink)
+    c.gather_with.new.report.items c.push_finished.new.text.items
+    (c.in-Ok-push_finished.ensures s read found.0 found.1.0)
     r.are_reported r.stands.lines r.stands.fine (record {
       text = rw c.deref.ensures.value at write.err;
       part = rw c.deref.ensures.value at write.within;
@@ -57,12 +60,14 @@ returns-in-Err-clause-outcome g c =
     let first : BytesWritten = g.W.Sink.written c.args.sink.now in
     let new : BytesWritten = g.W.Sink.written c.gather_with.new.output in
     lines_outcome s c.in-Err.fault read first new
-    (lines_fault g.row.A.Denot s c.in-Err.fault read first new _ _ _ _ c.gather_with.new.report.items c.in-Err.ensures.gathered).0
+    (lines_fault g.row.A.Denot s c.in-Err.fault read first new _ _ _ _ c.gather_with.new.report.items
+    c.in-Err.ensures.gathered).0
 
 pub returns-in-Err-clause-writes : goal.returns-in-Err-clause-writes
 returns-in-Err-clause-writes g c =
-    (lines_fault g.row.A.Denot (g.C.Choice.selection c.args.choice.now) c.in-Err.fault (g.R.Source.read c.gather_with.new.source)
-    (g.W.Sink.written c.args.sink.now) (g.W.Sink.written c.gather_with.new.output) _ _ _ _
+    (lines_fault g.row.A.Denot (g.C.Choice.selection c.args.choice.now) c.in-Err.fault
+    (g.R.Source.read c.gather_with.new.source) (g.W.Sink.written c.args.sink.now)
+    (g.W.Sink.written c.gather_with.new.output) _ _ _ _
     c.gather_with.new.report.items c.in-Err.ensures.gathered).1
 
 pub returns-in-Ok-write_all_of-clause-writes : goal.returns-in-Ok-write_all_of-clause-writes

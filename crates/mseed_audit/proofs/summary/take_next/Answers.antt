@@ -63,6 +63,6 @@ returns-in_err-judge-in-Ok-Some-clause-next g c = λ first now views before judg
     let stay : AreViews new.bytes offset views =
     views_stay old.bytes new.bytes more.0 offset views within more.1 before.records in
     let at = rw (← c.offset-offset.ensures) at before.records in
-    next_none (g.C.Choice.selection c.args.choice.now) c.from_residual-in_err-judge-in-Ok-Some.result _ views _ _ _ _ _ _
-    (g.P.Report.stands first c.judge-in-Ok-Some.new.report now) c.from_residual-in_err-judge-in-Ok-Some.ensures.1 stay
+    next_none (g.C.Choice.selection c.args.choice.now) c.from_residual-in_err-judge-in-Ok-Some.result _ views _ _ _ _ _
+    _ (g.P.Report.stands first c.judge-in-Ok-Some.new.report now) c.from_residual-in_err-judge-in-Ok-Some.ensures.1 stay
     (c.in_err-judge-in-Ok-Some.ensures first now _ views at judged)

@@ -3,7 +3,7 @@ use Rattle.mseed_audit.specs.declared.finding.Finding.{Finding}
 use Rattle.mseed_audit.specs.Text.{why_text}
 use Rattle.mseed_audit.proofs.text.put_broken.Goals as goal
 
--- what was put, one behind another
+-- what was put, one after another
 joined : (line words count record-word number offset-word offset gap why end : List ℕ)
     → ((((((((line ++ words) ++ count) ++ record-word) ++ number) ++ offset-word) ++ offset) ++ gap) ++ why) ++ end
     ≡ line ++ (words ++ count ++ record-word ++ number ++ offset-word ++ offset ++ gap ++ why ++ end)

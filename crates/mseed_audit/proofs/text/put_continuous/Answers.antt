@@ -3,7 +3,7 @@ use Rattle.mseed_time.specs.Text.{time_text}
 use Rattle.mseed_text.specs.Time.{ratio_text}
 use Rattle.mseed_audit.proofs.text.put_continuous.Goals as goal
 
--- what was put, one behind another
+-- what was put, one after another
 joined : (line words start rate-word rate record-word records sample-word samples end : List ℕ)
     → ((((((((line ++ words) ++ start) ++ rate-word) ++ rate) ++ record-word) ++ records) ++ sample-word) ++ samples)
     ++ end

@@ -4,7 +4,7 @@ use mir.Syntax.{w32}
 use Rattle.std.specs.Fmt.{signed_decimal}
 use Rattle.mseed_audit.proofs.text.put_last_differs.Goals as goal
 
--- what was put, one behind another
+-- what was put, one after another
 joined : (line words found gap constant : List ℕ) → (((line ++ words) ++ found) ++ gap) ++ constant
     ≡ line ++ (words ++ found ++ gap ++ constant)
 joined line words found gap constant = simp append_assoc

@@ -8,7 +8,7 @@ use Rattle.mseed_text.specs.Time.{start_text}
 use Rattle.mseed_audit.specs.Text.{why_text}
 use Rattle.mseed_audit.proofs.text.put_reported_line.Goals as goal
 
--- what was put, one behind another
+-- what was put, one after another
 joined : (line offset space name record-word number start-word start gap why end : List ℕ)
     → (((((((((line ++ offset) ++ space) ++ name) ++ record-word) ++ number) ++ start-word) ++ start) ++ gap) ++ why)
     ++ end

@@ -3,7 +3,7 @@ use Rattle.mseed_stream.specs.Telling.{Tells}
 use Rattle.mseed_text.specs.Fault.{fault_line}
 use Rattle.mseed_join.proofs.parts.tell_fault.Goals as goal
 
--- what was put, one behind another
+-- what was put, one after another
 joined : (words part gap fault : List ℕ) → ((words ++ part) ++ gap) ++ fault ≡ words ++ (part ++ gap ++ fault)
 joined words part gap fault = simp append_assoc
 

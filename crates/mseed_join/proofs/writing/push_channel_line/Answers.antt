@@ -20,7 +20,7 @@ all_text (Counted count first head tail) =
     spread (codes " head " ++ text_or_none head_text head ++ codes " tail " ++ text_or_none tail_text tail)
     (codes " findings ") (decimal count) (codes " ") (first_text first)
 
--- what was put, one behind another
+-- what was put, one after another
 joined : (text key records samples head tail found : List ℕ)
     → (text ++ ((key ++ codes " records " ++ records ++ codes " samples " ++ samples) ++ (codes " head " ++ head)))
     ++ (((codes " tail " ++ tail) ++ found) ++ codes "\n")

@@ -3,7 +3,7 @@ use Rattle.mseed_text.specs.Name.{code_text}
 use Rattle.mseed_text.proofs.Codes.{code_fits}
 use Rattle.mseed_text.proofs.line.Line.put_name.Goals as goal
 
--- what was put, one behind another
+-- what was put, one after another
 joined : (line network gap station location channel : List ℕ)
     → ((((((line ++ network) ++ gap) ++ station) ++ gap) ++ location) ++ gap) ++ channel
     ≡ line ++ (network ++ gap ++ station ++ gap ++ location ++ gap ++ channel)
