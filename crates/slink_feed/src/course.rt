@@ -52,10 +52,7 @@ impl Course {
         ensures yes { OnTrue result (self.now.phase ≡ Phase.Closed) }
         ensures no { OnFalse result (self.now.phase ≢ Phase.Closed) }
     {
-        match self.phase {
-            Phase::Closed => true,
-            Phase::Fresh | Phase::Chosen(_) | Phase::Granted(_) | Phase::Streaming => false,
-        }
+        matches!(self.phase, Phase::Closed)
     }
 
     /// Whether records are sent.
@@ -63,10 +60,7 @@ impl Course {
         ensures yes { OnTrue result (self.now.phase ≡ Phase.Streaming) }
         ensures no { OnFalse result (self.now.phase ≢ Phase.Streaming) }
     {
-        match self.phase {
-            Phase::Streaming => true,
-            Phase::Fresh | Phase::Chosen(_) | Phase::Granted(_) | Phase::Closed => false,
-        }
+        matches!(self.phase, Phase::Streaming)
     }
 
     /// The next packet of the place at an index of the feed.
