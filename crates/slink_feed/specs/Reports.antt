@@ -1,9 +1,11 @@
 -- What comes of the records that a client tells of: they are reported on standard error, and the output takes them.
-use Rattle.std.specs.Prelude.{◌≡◌, ℕ, ◌≤◌, List, [], ◌∷◌, ◌++◌, length}
-use Rattle.mseed_stream.specs.Device.{BytesWritten}
+use Rattle.std.specs.Prelude.{◌≡◌, ℕ, ◌≤◌, List, [], ◌∷◌, ◌++◌, length, Result}
+use Rattle.mseed_stream.specs.Device.{BytesRead, BytesWritten}
+use Rattle.slink_feed.specs.declared.turn.LinkFault.{LinkFault}
+use Rattle.slink_feed.specs.declared.turn.Turn.{Turn}
 use Rattle.slink_feed.specs.Delivered.{Numbered}
 use Rattle.slink_feed.specs.Dialogue.{Talk}
-use Rattle.slink_feed.specs.Fetching.{Notes}
+use Rattle.slink_feed.specs.Fetching.{Fetching, Notes, TakesTurn}
 use Rattle.slink_feed.specs.Reporter.{Account, AreReported, Telling, lines_of, telling_behind}
 use Rattle.slink_feed.specs.Reported.{HasReported, bytes_in}
 use Rattle.slink_feed.specs.Turns.{Emitted, EmittedPrefix}
@@ -45,3 +47,10 @@ pub record ReportsRecords (old new : Talk) (reporter_old reporter_new : Account)
   pub received : Notes reporter_old.received reporter_new.received output_old output_new
   pub reports : Reports old new (kept output_old errors_old reporter_old.telling)
       (kept output_new errors_new reporter_new.telling)
+
+-- A client took a turn with its link, in which each record was reported before the output took it.
+pub record TakesReportingTurn (result : Result Turn LinkFault) (old new : Fetching) (before after : BytesRead)
+    (reporter_old reporter_new : Account) (errors_old errors_new : BytesWritten) : Type 0 where
+  pub turn : TakesTurn result old new before after
+  pub reported : ReportsRecords old.client.talk new.client.talk reporter_old reporter_new old.output new.output
+      errors_old errors_new

@@ -5,7 +5,7 @@ ghost use Rattle.slink_feed.specs.declared.dialogue.Event.{Event};
 ghost use Rattle.slink_feed.specs.Fetching.{Delivers, FailsAt, Notes, TakesTurn, fetching};
 ghost use Rattle.slink_feed.specs.private.Delivery.{FailsToHear, Hears, IsDelivered, IsReportedOf, IsUndelivered};
 ghost use Rattle.slink_feed.specs.Listening.{IsLinked};
-ghost use Rattle.slink_feed.specs.Reports.{ReportsRecords, kept};
+ghost use Rattle.slink_feed.specs.Reports.{ReportsRecords, TakesReportingTurn, kept};
 ghost use Rattle.slink_feed.specs.Reporter.{AreReported, lines_of, telling_behind};
 ghost use Rattle.slink_feed.specs.Reported.{record_in};
 
@@ -64,10 +64,9 @@ pub fn fetch_turn_reporting<S: Duplex, W: Sink, E: Sink>(
     errors: &mut E,
     reporter: &mut Reporter,
 ) -> Result<Turn, LinkFault>
-    ensures turn { TakesTurn result (fetching client.old (S.written link.old) (W.written output.old))
-        (fetching client.new (S.written link.new) (W.written output.new)) (S.read link.old) (S.read link.new) }
-    ensures told { ReportsRecords client.old.talk client.new.talk reporter.old reporter.new (W.written output.old)
-        (W.written output.new) (E.written errors.old) (E.written errors.new) }
+    ensures { TakesReportingTurn result (fetching client.old (S.written link.old) (W.written output.old))
+        (fetching client.new (S.written link.new) (W.written output.new)) (S.read link.old) (S.read link.new)
+        reporter.old reporter.new (E.written errors.old) (E.written errors.new) }
 {
     fetch_turn_in(client, link, output, errors, reporter, &mut [0; PACKET])
 }
@@ -86,10 +85,9 @@ pub fn fetch_turn_in<S: Duplex, W: Sink, E: Sink>(
     reporter: &mut Reporter,
     room: &mut Room,
 ) -> Result<Turn, LinkFault>
-    ensures turn { TakesTurn result (fetching client.old (S.written link.old) (W.written output.old))
-        (fetching client.new (S.written link.new) (W.written output.new)) (S.read link.old) (S.read link.new) }
-    ensures told { ReportsRecords client.old.talk client.new.talk reporter.old reporter.new (W.written output.old)
-        (W.written output.new) (E.written errors.old) (E.written errors.new) }
+    ensures { TakesReportingTurn result (fetching client.old (S.written link.old) (W.written output.old))
+        (fetching client.new (S.written link.new) (W.written output.new)) (S.read link.old) (S.read link.new)
+        reporter.old reporter.new (E.written errors.old) (E.written errors.new) }
 {
     client.has_reading();
     let lack = client.lack();
