@@ -1,8 +1,6 @@
 //! Calls of `slink_model`.
-ghost use Rattle.std.specs.Prelude.{◌≡◌, ◌<◌, ◌^◌, All, length};
-ghost use Rattle.slink_feed.specs.Dialogue.{AreNumbers};
-ghost use Rattle.slink_feed.specs.Fault.{IsCapacity};
-ghost use Rattle.slink_model.specs.Relay.{IsOfChannel, IsOfOne};
+ghost use Rattle.std.specs.Prelude.{◌≡◌};
+ghost use Rattle.slink_model.specs.Relay.{IsRelayable};
 
 use mseed_audit::Series;
 use mseed_pack::Options;
@@ -51,12 +49,7 @@ pub fn through_cuts(
     steps: &[Step],
 ) -> Result<Option<Series>, RelayFault>
     requires exponent { options.now.exponent ≡ 9 }
-    requires channel { IsOfChannel setup.now series.now.codes }
-    requires capacity { IsCapacity setup.now.capacity }
-    requires first { setup.now.first < 2 ^ 24 }
-    requires numbers { AreNumbers setup.now.places.items }
-    requires few { length steps.now < 2 ^ 24 }
-    requires steps { All IsOfOne steps.now }
+    requires relayable { IsRelayable setup.now series.now.codes steps.now }
 {
     relay(alloc, series, options, setup, steps)
 }

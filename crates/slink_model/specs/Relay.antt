@@ -1,7 +1,9 @@
 -- A series that is packed, sent through a schedule, and put together from what the client holds.
-use Rattle.std.specs.Prelude.{◌≡◌, ◌≢◌, ◌<◌, ℕ, List, [], ◌∷◌, ◌++◌, Option, Some, None, Result, Ok, Err}
-use Rattle.std.specs.Prelude.{slice_index_or, slice_range}
+use Rattle.std.specs.Prelude.{◌≡◌, ◌≢◌, ◌<◌, ◌^◌, ℕ, All, List, [], ◌∷◌, ◌++◌, length, Option, Some, None, Result, Ok}
+use Rattle.std.specs.Prelude.{Err, slice_index_or, slice_range}
 use Rattle.slink_wire.specs.Place.{Fields}
+use Rattle.slink_feed.specs.Dialogue.{AreNumbers}
+use Rattle.slink_feed.specs.Fault.{IsCapacity}
 use Rattle.slink_model.specs.declared.world.Setup.{Setup}
 use Rattle.slink_model.specs.declared.world.Step.{Step}
 use Rattle.slink_model.specs.declared.world.Step.TheVariants.{Append, Connect, ToServer, ToClient, Send, Cut}
@@ -43,6 +45,16 @@ pub record IsOfChannel (setup : Setup) (codes : List ℕ) : Type 0 where
   pub places : setup.places.items ≡ (place, first) ∷ []
   pub network : place.network ≡ slice_range codes 0 2
   pub station : place.station ≡ slice_range codes 2 7
+
+-- A series of this channel can be sent through a schedule of these steps: of one place, the channel's, and fewer than
+-- 2^24 steps.
+pub record IsRelayable (setup : Setup) (codes : List ℕ) (steps : List Step) : Type 0 where
+  pub channel : IsOfChannel setup codes
+  pub capacity : IsCapacity setup.capacity
+  pub first : setup.first < 2 ^ 24
+  pub numbers : AreNumbers setup.places.items
+  pub few : length steps < 2 ^ 24
+  pub each : All IsOfOne steps
 
 abbrev pub held_of : WorldState → List (List ℕ)
 held_of w = slice_index_or w.held 0 []

@@ -4,10 +4,8 @@ ghost use Rattle.std.specs.Prelude.{slice_index_or};
 ghost use Rattle.mseed_record.specs.Record.{IsRecord};
 ghost use Rattle.mseed_record.specs.Viewing.{view_of};
 ghost use Rattle.mseed_pack.specs.ReadBack.{AreViewsOf, ReadsAs};
-ghost use Rattle.slink_feed.specs.Dialogue.{AreNumbers};
-ghost use Rattle.slink_feed.specs.Fault.{IsCapacity};
 ghost use Rattle.slink_model.specs.World.{lists_of};
-ghost use Rattle.slink_model.specs.Relay.{ComesThrough, IsHeldAs, IsOfChannel, IsOfOne, IsRelay, fed};
+ghost use Rattle.slink_model.specs.Relay.{ComesThrough, IsHeldAs, IsOfOne, IsRelay, IsRelayable, fed};
 ghost use Rattle.slink_model.specs.private.Relaying.{FailsToPackAll, IsAmong, IsOfRecords, IsPackedAs};
 ghost use Rattle.slink_model.specs.declared.world.Step.{Step};
 ghost use Rattle.slink_model.specs.declared.relaying.RelayFault.{RelayFault};
@@ -46,12 +44,7 @@ pub fn relay(
     steps: &[Step],
 ) -> Result<Option<Series>, RelayFault>
     requires exponent { options.now.exponent ≡ 9 }
-    requires channel { IsOfChannel setup.now series.now.codes }
-    requires capacity { IsCapacity setup.now.capacity }
-    requires first { setup.now.first < 2 ^ 24 }
-    requires numbers { AreNumbers setup.now.places.items }
-    requires few { length steps.now < 2 ^ 24 }
-    requires steps { All IsOfOne steps.now }
+    requires relayable { IsRelayable setup.now series.now.codes steps.now }
     ensures { IsRelay result series.now options.now setup.now steps.now }
 {
     one_length();
@@ -83,12 +76,7 @@ fn send(
     records: &[[u8; 512]],
 ) -> Result<Option<Series>, RelayFault>
     requires reads { ReadsAs series.now records.now }
-    requires channel { IsOfChannel setup.now series.now.codes }
-    requires capacity { IsCapacity setup.now.capacity }
-    requires first { setup.now.first < 2 ^ 24 }
-    requires numbers { AreNumbers setup.now.places.items }
-    requires few { length steps.now < 2 ^ 24 }
-    requires steps { All IsOfOne steps.now }
+    requires relayable { IsRelayable setup.now series.now.codes steps.now }
     ensures ok { IfOk result (λ t. ComesThrough t series.now setup.now steps.now records.now) }
     ensures err { IfErr result (λ fault. fault ≡ RelayFault.Memory) }
 {

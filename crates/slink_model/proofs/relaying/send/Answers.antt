@@ -10,50 +10,55 @@ same_steps c = c.deref.ensures.value ∙ c.in_ok-fed.ensures.ok
 
 pub run_schedule-requires-clause-few : goal.run_schedule-requires-clause-few
 run_schedule-requires-clause-few c =
-    let few = fed_few c.args.steps.now c.args.records.now c.deref.result.now (2 ^ 24) c.requires.few (same_steps c) in
+    let relayable = c.requires.relayable in
+    let few = fed_few c.args.steps.now c.args.records.now c.deref.result.now (2 ^ 24) relayable.few (same_steps c) in
     omega (arith, few)
 
 pub run_schedule-requires-clause-steps : goal.run_schedule-requires-clause-steps
 run_schedule-requires-clause-steps c =
-    fed_are_of c.a_stretch_reads_back.ensures.channel c.args.series.now c.args.setup.now c.requires.channel
-    c.args.steps.now c.args.records.now c.deref.result.now c.requires.reads c.told-records c.requires.steps
+    let relayable = c.requires.relayable in
+    fed_are_of c.a_stretch_reads_back.ensures.channel c.args.series.now c.args.setup.now relayable.channel
+    c.args.steps.now c.args.records.now c.deref.result.now c.requires.reads c.told-records relayable.each
     (same_steps c)
 
 pub put_together-requires-clause-few : goal.put_together-requires-clause-few
 put_together-requires-clause-few c =
+    let relayable = c.requires.relayable in
     let same = c.deref.ensures.value ∙ c.in_ok-fed.ensures.ok in
-    let few = fed_few c.args.steps.now c.args.records.now c.deref.result.now (2 ^ 24) c.requires.few same in
-    let ofs = fed_are_of c.a_stretch_reads_back.ensures.channel c.args.series.now c.args.setup.now c.requires.channel
-    c.args.steps.now c.args.records.now c.deref.result.now c.requires.reads c.told-records c.requires.steps same in
+    let few = fed_few c.args.steps.now c.args.records.now c.deref.result.now (2 ^ 24) relayable.few same in
+    let ofs = fed_are_of c.a_stretch_reads_back.ensures.channel c.args.series.now c.args.setup.now relayable.channel
+    c.args.steps.now c.args.records.now c.deref.result.now c.requires.reads c.told-records relayable.each same in
     let run = c.in-Ok.ensures.happen in
     let held = held_are_few c.pushes_what_is_appended.ensures.pushed c.args.setup.now c.args.series.now.codes
-    c.requires.channel c.deref.result.now (seen c.in-Ok.world) c.first_of.result.now (2 ^ 24) few ofs run
+    relayable.channel c.deref.result.now (seen c.in-Ok.world) c.first_of.result.now (2 ^ 24) few ofs run
     (c.in-Ok.ensures.brief run few) c.first_of.ensures in
     omega (arith, held)
 
 pub put_together-requires-clause-among : goal.put_together-requires-clause-among
 put_together-requires-clause-among c =
+    let relayable = c.requires.relayable in
     let same = c.deref.ensures.value ∙ c.in_ok-fed.ensures.ok in
-    let few = fed_few c.args.steps.now c.args.records.now c.deref.result.now (2 ^ 24) c.requires.few same in
-    let ofs = fed_are_of c.a_stretch_reads_back.ensures.channel c.args.series.now c.args.setup.now c.requires.channel
-    c.args.steps.now c.args.records.now c.deref.result.now c.requires.reads c.told-records c.requires.steps same in
+    let few = fed_few c.args.steps.now c.args.records.now c.deref.result.now (2 ^ 24) relayable.few same in
+    let ofs = fed_are_of c.a_stretch_reads_back.ensures.channel c.args.series.now c.args.setup.now relayable.channel
+    c.args.steps.now c.args.records.now c.deref.result.now c.requires.reads c.told-records relayable.each same in
     let run = c.in-Ok.ensures.happen in (
       c.args.records.now,
-      held_among c.pushes_what_is_appended.ensures.pushed c.args.series.now c.args.setup.now c.requires.channel
+      held_among c.pushes_what_is_appended.ensures.pushed c.args.series.now c.args.setup.now relayable.channel
           c.args.steps.now c.args.records.now c.deref.result.now (seen c.in-Ok.world) c.first_of.result.now
-          c.requires.reads c.requires.steps same ofs run (c.in-Ok.ensures.brief run few) c.first_of.ensures,
+          c.requires.reads relayable.each same ofs run (c.in-Ok.ensures.brief run few) c.first_of.ensures,
     )
 
 pub returns-clause-ok : goal.returns-clause-ok
 returns-clause-ok c =
+    let relayable = c.requires.relayable in
     let same = c.deref.ensures.value ∙ c.in_ok-fed.ensures.ok in
-    let few = fed_few c.args.steps.now c.args.records.now c.deref.result.now (2 ^ 24) c.requires.few same in
-    let ofs = fed_are_of c.a_stretch_reads_back.ensures.channel c.args.series.now c.args.setup.now c.requires.channel
-    c.args.steps.now c.args.records.now c.deref.result.now c.requires.reads c.told-records c.requires.steps same in
+    let few = fed_few c.args.steps.now c.args.records.now c.deref.result.now (2 ^ 24) relayable.few same in
+    let ofs = fed_are_of c.a_stretch_reads_back.ensures.channel c.args.series.now c.args.setup.now relayable.channel
+    c.args.steps.now c.args.records.now c.deref.result.now c.requires.reads c.told-records relayable.each same in
     let run = c.in-Ok.ensures.happen in
     let among = held_among c.pushes_what_is_appended.ensures.pushed c.args.series.now c.args.setup.now
-    c.requires.channel c.args.steps.now c.args.records.now c.deref.result.now (seen c.in-Ok.world)
-    c.first_of.result.now c.requires.reads c.requires.steps same ofs run (c.in-Ok.ensures.brief run few)
+    relayable.channel c.args.steps.now c.args.records.now c.deref.result.now (seen c.in-Ok.world)
+    c.first_of.result.now c.requires.reads relayable.each same ofs run (c.in-Ok.ensures.brief run few)
     c.first_of.ensures in
     if_ok c.put_together.result (λ t. (records : List (List ℕ))
     → IsAmong c.args.series.now records c.first_of.result.now
