@@ -11,6 +11,8 @@ mod live_tcp;
 #[cfg(test)]
 mod model;
 #[cfg(test)]
+mod noise;
+#[cfg(test)]
 mod tcp_events;
 #[cfg(test)]
 mod wire;

@@ -1,9 +1,10 @@
 //! Orders and pieces chosen at random, in memory.
-ghost use Rattle.std.specs.Prelude.{◌≡◌, ◌≢◌, ◌≤◌, ◌<◌, [], length, true};
+ghost use Rattle.std.specs.Prelude.{◌≡◌, ◌≢◌, ◌≤◌, [], length, true};
 ghost use Rattle.slink_live.specs.Served.{IsSound};
 
 mod orders;
 
+use crate::noise::Noise;
 use mseed_stream::StreamFault;
 use slink_feed::{Feed, Ring};
 use slink_live::{Event, InputFault, Interest, Log, Ready, Server};
@@ -33,7 +34,7 @@ struct Script {
     is_deaf: bool,
     // With so many events left the input begins.
     begins: u32,
-    seed: u64,
+    noise: Noise,
     left: u32,
     is_left: bool,
     is_over: bool,
@@ -41,20 +42,6 @@ struct Script {
 }
 
 impl Script {
-    /// A number below `most`.
-    fn random(&mut self, most: usize) -> usize
-        requires { 0 < most }
-        ensures below { result < most }
-        ensures log { self.new.log ≡ self.old.log }
-        ensures over { self.new.is_over ≡ self.old.is_over }
-    {
-        self.seed = self
-            .seed
-            .wrapping_mul(6364136223846793005)
-            .wrapping_add(1442695040888963407);
-        (self.seed >> 33) as usize % most
-    }
-
     /// What can be done next.
     fn next_event(&mut self) -> Event
         ensures log { self.new.log ≡ self.old.log }
@@ -65,7 +52,7 @@ impl Script {
             return Event::Nothing;
         }
         self.left -= 1;
-        let choice = self.random(8);
+        let choice = self.noise.below(8);
         match choice {
             0 => self.input_event(),
             1 => Event::Dialled,
@@ -105,7 +92,7 @@ impl Script {
         ensures bound { result ≤ length buf.new }
         ensures log { self.new.log ≡ self.old.log }
     {
-        let most = self.random(9);
+        let most = self.noise.below(9);
         match self.peer(slot) {
             Some(k) if k < self.peers.len() => {
                 let produced = self.peers[k].produced.min(self.peers[k].says.len());
@@ -122,7 +109,7 @@ impl Script {
         ensures bound { result ≤ length bytes.now }
         ensures log { self.new.log ≡ self.old.log }
     {
-        let count = self.random(900).min(bytes.len());
+        let count = self.noise.below(900).min(bytes.len());
         match self.peer(slot) {
             Some(k) if k < self.peers.len() && !self.is_deaf => {
                 match self.peers[k].emitted.extend_from_slice(&bytes[..count]) {
@@ -137,7 +124,8 @@ impl Script {
 
 /// Copies at most so many bytes, and counts them.
 fn copy(from: &[u8], most: usize, to: &mut [u8]) -> usize
-    ensures { result ≤ length to.new }
+    ensures most { result ≤ length to.new }
+    ensures from { result ≤ length from.now }
 {
     let count = most.min(from.len()).min(to.len());
     to[..count].copy_from_slice(&from[..count]);
@@ -156,7 +144,7 @@ impl Ready for Script {
     }
 
     fn read_input(&mut self, buf: &mut [u8]) -> usize {
-        let most = self.random(700);
+        let most = self.noise.below(700);
         let given = self.given.min(self.input.len());
         let count = copy(&self.input[given..], most, buf);
         self.given = given.saturating_add(count);
@@ -289,7 +277,7 @@ fn script_of(rt: &impl Abort, alloc: Global, input: Vec<u8>, seed: u64) -> Scrip
         places: [None; 3],
         is_deaf: false,
         begins: 100_000,
-        seed,
+        noise: Noise::new(seed),
         left: 100_000,
         is_left: false,
         is_over: false,

@@ -1,10 +1,12 @@
 //! What links are sent of several places, by orders chosen at random: each byte, in its turn, and each link that is
 //! closed. The digests are those of a server that asks the session of a link again for each packet, and of one that
 //! first asks it whether anything is due: both sent the same.
-ghost use Rattle.std.specs.Prelude.{◌≡◌, ◌≢◌, ◌≤◌, ◌<◌, ◌^◌, [], length, true};
+ghost use Rattle.std.specs.Prelude.{◌≡◌, ◌≢◌, ◌≤◌, ◌^◌, [], length, true};
 ghost use Rattle.std.specs.List.{AllByRecursion};
 ghost use Rattle.slink_live.specs.Served.{IsSound};
 
+use super::copy;
+use crate::noise::Noise;
 use slink_feed::{Feed, Ring};
 use slink_live::{Event, Interest, Log, Ready, Server};
 use slink_wire::Place;
@@ -39,7 +41,7 @@ const SAYS: [&[u8]; 7] = [
 /// An input without an end, clients, and an order of events.
 #[derive(Drop)]
 struct Order {
-    seed: u64,
+    noise: Noise,
     left: u32,
     // What the link in each slot says, and how much of it it has said.
     says: [usize; SLOTS],
@@ -59,7 +61,7 @@ impl Order {
         ensures { result.log.all ≡ [] }
     {
         Order {
-            seed,
+            noise: Noise::new(seed),
             left: EVENTS,
             says: [0; SLOTS],
             said: [0; SLOTS],
@@ -70,20 +72,6 @@ impl Order {
             is_over: false,
             log: Log::new(),
         }
-    }
-
-    /// A number below `most`.
-    fn random(&mut self, most: usize) -> usize
-        requires { 0 < most }
-        ensures below { result < most }
-        ensures log { self.new.log ≡ self.old.log }
-        ensures over { self.new.is_over ≡ self.old.is_over }
-    {
-        self.seed = self
-            .seed
-            .wrapping_mul(6364136223846793005)
-            .wrapping_add(1442695040888963407);
-        (self.seed >> 33) as usize % most
     }
 
     /// What can be done next.
@@ -99,8 +87,8 @@ impl Order {
         if self.left == LAST {
             return Event::InputEnded;
         }
-        let slot = self.random(SLOTS);
-        match self.random(64) {
+        let slot = self.noise.below(SLOTS);
+        match self.noise.below(64) {
             0 => Event::Gone(slot),
             1..8 => Event::Dialled,
             8..24 => Event::Input,
@@ -142,11 +130,11 @@ impl Order {
     {
         if self.given >= self.record.len() {
             self.number = self.number.wrapping_add(1);
-            let place = self.random(8).min(self.number as usize % 4);
+            let place = self.noise.below(8).min(self.number as usize % 4);
             self.record = record(&STATIONS[place], self.number);
             self.given = 0;
         }
-        let most = 1 + self.random(700);
+        let most = 1 + self.noise.below(700);
         let given = self.given.min(self.record.len());
         let count = copy(&self.record[given..], most, buf);
         self.given = given + count;
@@ -158,7 +146,7 @@ impl Order {
         ensures bound { result ≤ length buf.new }
         ensures log { self.new.log ≡ self.old.log }
     {
-        let most = self.random(40);
+        let most = self.noise.below(40);
         if slot >= SLOTS {
             return 0;
         }
@@ -168,16 +156,6 @@ impl Order {
         self.said[slot] = said.saturating_add(count);
         count
     }
-}
-
-/// Copies at most so many bytes, and counts them.
-fn copy(from: &[u8], most: usize, to: &mut [u8]) -> usize
-    ensures most { result ≤ length to.new }
-    ensures from { result ≤ length from.now }
-{
-    let count = most.min(from.len()).min(to.len());
-    to[..count].copy_from_slice(&from[..count]);
-    count
 }
 
 /// A record of 512 bytes of the network XX.
@@ -219,7 +197,7 @@ impl Ready for Order {
     }
 
     fn accept(&mut self, slot: usize) -> bool {
-        let says = self.random(SAYS.len());
+        let says = self.noise.below(SAYS.len());
         self.digest(slot as u64 ^ 0x1000);
         if slot < SLOTS {
             self.says[slot] = says;
@@ -236,7 +214,7 @@ impl Ready for Order {
     }
 
     fn write(&mut self, slot: usize, bytes: &[u8]) -> usize {
-        let bite = BITES[self.random(BITES.len())];
+        let bite = BITES[self.noise.below(BITES.len())];
         let count = bite.min(bytes.len());
         self.digest(slot as u64);
         self.digest(bytes.len() as u64);

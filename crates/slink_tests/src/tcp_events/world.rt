@@ -6,6 +6,7 @@ use super::feed::Feed;
 use super::host::{Input, Still};
 use super::pattern::Pattern;
 use super::peer::{Peer, Stage};
+use crate::noise::Noise;
 use slink_live::{Event, Interest, Ready};
 use slink_live_tcp::{Plan, Tcp};
 use std::alloc::{AllocError, Global};
@@ -77,7 +78,7 @@ pub(crate) struct World<'a, N: Net> {
     tcp: Tcp<'a, Still<'a, N>, Input>,
     setting: Setting,
     address: SocketAddr,
-    seed: u64,
+    noise: Noise,
     feed: Feed,
     peers: Vec<Peer<N::Stream>>,
     // Which client's link stands in each slot.
@@ -147,7 +148,7 @@ impl<'a, N: Net> World<'a, N> {
             tcp,
             setting,
             address,
-            seed: setting.seed,
+            noise: Noise::new(setting.seed),
             feed,
             peers: Vec::new(alloc),
             slots: slots(alloc, setting.slots)?,
@@ -171,11 +172,7 @@ impl<'a, N: Net> World<'a, N> {
 
     /// A number below `most`, or 0.
     fn random(&mut self, most: usize) -> usize {
-        self.seed = self
-            .seed
-            .wrapping_mul(6364136223846793005)
-            .wrapping_add(1442695040888963407);
-        (self.seed >> 33) as usize % most.max(1)
+        self.noise.below(most.max(1))
     }
 
     /// Whether a client waits for its link to be accepted.
