@@ -1,12 +1,12 @@
 //! Calls of `slink_feed`.
-ghost use Rattle.std.specs.Prelude.{[], IfOk, ◌<◌, length};
+ghost use Rattle.std.specs.Prelude.{[], IfOk, ◌≡◌, ◌^◌, ◌<◌, ℕ, Some, length, slice_get};
 ghost use Rattle.slink_feed.specs.Session.{Fits};
-ghost use Rattle.slink_feed.specs.Window.{Shows};
+ghost use Rattle.slink_feed.specs.Window.{Shows, Window};
 
 use mseed_stream::{Duplex, Sink};
 use slink_feed::{
-    Bytes, Client, Event, Feed, FeedFault, LinkFault, Mode, Reporter, Ring, RingFault, Room, Sent,
-    Session, Turn, Unsent, fetch_turn, fetch_turn_in, fetch_turn_reporting, serve_turn,
+    Bytes, Client, Event, Feed, FeedFault, InputFault, LinkFault, Mode, Reporter, Ring, RingFault,
+    Room, Sent, Session, Turn, Unsent, fetch_turn, fetch_turn_in, fetch_turn_reporting, serve_turn,
 };
 use slink_wire::{Packet, Place, Reply};
 use std::alloc::Global;
@@ -68,6 +68,15 @@ pub fn push_to_feed(feed: &mut Feed, bytes: &[u8; 512]) -> bool {
 pub fn number_to_be(feed: &Feed, bytes: &[u8; 512]) -> Option<u64> {
     let k = feed.bearer(bytes)?;
     Some(feed.ring(k).next())
+}
+
+/// Takes a record of an input, which has this number, into the ring of its place, and returns the number that the ring
+/// gives to it.
+pub fn take_from_input(feed: &mut Feed, bytes: &[u8], number: u64) -> Result<u64, InputFault>
+    requires { (k : ℕ) (w : Window) → slice_get feed.old k ≡ Some w → w.next < 2 ^ 40 }
+{
+    let k = feed.take_record(bytes, number)?;
+    Ok(feed.ring(k).next() - 1)
 }
 
 /// What a new session answers to the first line.

@@ -1,9 +1,8 @@
 -- The rings of a feed, record after record.
 use Rattle.std.proofs.Common.{◌≡◌, ◌≢◌, ℕ, ◌+◌, ◌<◌, ◌≤◌, ◌^◌, inl, inr, zero, suc, refl, sym, ap, subst, ◌∙◌, arith}
 use Rattle.std.proofs.Common.{Bool, true, false, ◌&&◌, ◌||◌, not, List, [], ◌∷◌, ◌++◌, length, append-nil}
-use Rattle.std.proofs.Common.{if◌then◌else◌, ◌-◌, map, set, get_or, take, take_all, Option, Some, None, Result}
-use Rattle.std.proofs.Common.{Ok, Err, slice_get, bytes_eq, IsErrAnd}
-use Rattle.std.specs.Bool.{OnFalse, OnTrue}
+use Rattle.std.proofs.Common.{if◌then◌else◌, ◌-◌, map, get_or, take, take_all, Option, Some, None, Result}
+use Rattle.std.proofs.Common.{Ok, Err, IfErr, OnErr, OnOk, slice_get, bytes_eq, IsErrAnd}
 use Rattle.std.specs.List.{filter}
 use Rattle.std.proofs.lemmas.List.{length-map, map-append, map_more}
 use Rattle.std.proofs.lemmas.Option.{slice_get_read}
@@ -17,34 +16,34 @@ use Rattle.mseed_stream.specs.Standing.{Standing}
 use Rattle.mseed_stream.specs.Cutting.{IfEnds, failed_by}
 use Rattle.mseed_stream.specs.Walk.{AreAllViews, HasHandedOut, IfGoesOn, bytes_in}
 use Rattle.mseed_stream.specs.declared.fault.StreamFault.{StreamFault}
-use Rattle.mseed_stream.specs.declared.fault.StreamFault.TheVariants.{Frame, Truncated, Read, Turns, Memory as NoMemory}
+use Rattle.mseed_stream.specs.declared.fault.StreamFault.TheVariants.{Frame, Truncated, Read, Turns, Memory}
 use Rattle.slink_wire.specs.Place.{Bears, Fields}
-use Rattle.slink_wire.proofs.Bearing.{bears_fails, bears_passes, one_place}
+use Rattle.slink_wire.proofs.Bearing.{bears_fails, one_place, passes_bears}
 use Rattle.slink_wire.proofs.Cuts.{both}
-use Rattle.slink_feed.specs.Rings.{BearsNone, HasPlace}
+use Rattle.slink_feed.specs.Intake.{IsOfFeed, is_of, places_of, pushed}
+use Rattle.slink_feed.specs.Rings.{HasPlace}
 use Rattle.slink_feed.specs.Window.{Shows, Window, window, with_record}
-use Rattle.slink_feed.proofs.Items.{drop_none, get_mapped, map_got, shows_more, within_is}
+use Rattle.slink_feed.specs.declared.input.InputFault.{InputFault}
+use Rattle.slink_feed.specs.declared.input.InputFault.TheVariants.{Stream, Foreign}
+use Rattle.slink_feed.proofs.Items.{drop_none, get_mapped, map_got, shows_more}
 use Rattle.mseed_words.specs.Places.{Called, are_different, has_place, is_same}
 use Rattle.mseed_words.specs.FeedWords.{CanServe}
-use Rattle.mseed.specs.Filling.{AreOfFeed, IsFilling, IsOfFeed, IsPushed, feed_of, is_of, records_of, ring_of, served}
-use Rattle.mseed.specs.Filling.{stream_fault}
+use Rattle.mseed_words.specs.declared.request.Serving.{Serving}
+use Rattle.mseed.specs.Filling.{AreOfFeed, IsFilling, feed_of, records_of, ring_of, served}
 use Rattle.mseed.specs.private.Pushing.{IsNextPushed}
-use Rattle.mseed.specs.declared.fill_fault.FillFault.{FillFault}
-use Rattle.mseed.specs.declared.fill_fault.FillFault.TheVariants.{Foreign}
 use Rattle.mseed.specs.declared.filling.Step.{Step}
 use Rattle.mseed.specs.declared.filling.Step.TheVariants.{Pushed}
-use Rattle.mseed_words.specs.declared.request.Serving.{Serving}
 
-records_taken : (p : Fields) (rs : List (List ℕ)) (r : List ℕ) → Bears r p
+records_taken : (p : Fields) (rs : List (List ℕ)) (r : List ℕ) → is_of p r ≡ true
     → records_of p (rs ++ r ∷ []) ≡ records_of p rs ++ r ∷ []
-records_taken p rs r h = filter-append (is_of p) rs (r ∷ [])
-    ∙ ap (λ (t : Bool). records_of p rs ++ (if t then r ∷ [] else [])) (bears_passes p r h)
+records_taken p rs r is = filter-append (is_of p) rs (r ∷ [])
+    ∙ ap (λ (t : Bool). records_of p rs ++ (if t then r ∷ [] else [])) is
 
-records_left : (p : Fields) (rs : List (List ℕ)) (r : List ℕ) → ¬ (Bears r p)
+records_left : (p : Fields) (rs : List (List ℕ)) (r : List ℕ) → is_of p r ≡ false
     → records_of p (rs ++ r ∷ []) ≡ records_of p rs
-records_left p rs r other =
+records_left p rs r is =
     filter-append (is_of p) rs (r ∷ [])
-    ∙ (ap (λ (t : Bool). records_of p rs ++ (if t then r ∷ [] else [])) (bears_fails p r other)
+    ∙ (ap (λ (t : Bool). records_of p rs ++ (if t then r ∷ [] else [])) is
     ∙ append-nil (records_of p rs))
 
 -- the ring of a place, by its records
@@ -56,9 +55,9 @@ with_list s p rs = record {
   next = s.first + length rs;
 }
 
-ring_taken : (s : Serving) (rs : List (List ℕ)) (r : List ℕ) (p : Fields) → Bears r p
+ring_taken : (s : Serving) (rs : List (List ℕ)) (r : List ℕ) (p : Fields) → is_of p r ≡ true
     → with_record (ring_of s rs p) r ≡ ring_of s (rs ++ r ∷ []) p
-ring_taken s rs r p h =
+ring_taken s rs r p is =
     let old : Window = ring_of s rs p in
     let more : Shows (with_record old r) s.first (records_of p rs ++ r ∷ []) =
     shows_more old s.first (records_of p rs) r (record { records = refl; next = refl }) in
@@ -74,11 +73,11 @@ ring_taken s rs r p h =
       records = window s.capacity (records_of p rs ++ r ∷ []);
       next = n;
     }) more.next
-    ∙ ap (with_list s p) (sym (records_taken p rs r h)))
+    ∙ ap (with_list s p) (sym (records_taken p rs r is)))
 
-ring_left : (s : Serving) (rs : List (List ℕ)) (r : List ℕ) (p : Fields) → ¬ (Bears r p)
+ring_left : (s : Serving) (rs : List (List ℕ)) (r : List ℕ) (p : Fields) → is_of p r ≡ false
     → ring_of s rs p ≡ ring_of s (rs ++ r ∷ []) p
-ring_left s rs r p other = ap (with_list s p) (sym (records_left p rs r other))
+ring_left s rs r p is = ap (with_list s p) (sym (records_left p rs r is))
 
 -- No place stands twice.
 abbrev Lacks : Fields → List Fields → Type 0
@@ -126,51 +125,38 @@ rings_left : (s : Serving) (rs : List (List ℕ)) (r : List ℕ) (p : Fields) (p
     → map (ring_of s rs) ps ≡ map (ring_of s (rs ++ r ∷ [])) ps
 rings_left s rs r p [] h lacks = refl
 rings_left s rs r p (q ∷ qs) h lacks =
-    ap (λ (w : Window). w ∷ map (ring_of s rs) qs) (ring_left s rs r q (λ other. lacks.0 (one_place r q p other h)))
+    ap (λ (w : Window). w ∷ map (ring_of s rs) qs)
+    (ring_left s rs r q (bears_fails q r (λ other. lacks.0 (one_place r q p other h))))
     ∙ ap (λ (ws : List Window). ring_of s (rs ++ r ∷ []) q ∷ ws) (rings_left s rs r p qs h lacks.1)
 
--- a record is pushed to the ring of its place, and the other rings stay
-rings_more : (s : Serving) (rs : List (List ℕ)) (r : List ℕ) (ps : List Fields) (k : ℕ) (w : Window) → Distinct ps
-    → slice_get (map (ring_of s rs) ps) k ≡ Some w → Bears r w.place
-    → set (map (ring_of s rs) ps) k (with_record w r) ≡ map (ring_of s (rs ++ r ∷ [])) ps
-rings_more s rs r [] k w distinct is h = absurd (let bad : None ≡ Some w = is in cc bad)
-rings_more s rs r (p ∷ ps) zero w distinct is h =
-    let same : ring_of s rs p ≡ w = cc is in
-    let of : Bears r p = subst (λ (v : Window). Bears r v.place) (sym same) h in
-    ap (λ (v : Window). with_record v r ∷ map (ring_of s rs) ps) (sym same)
-    ∙ (ap (λ (v : Window). v ∷ map (ring_of s rs) ps) (ring_taken s rs r p of)
-    ∙ ap (λ (ws : List Window). ring_of s (rs ++ r ∷ []) p ∷ ws) (rings_left s rs r p ps of distinct.0))
-rings_more s rs r (p ∷ ps) (suc k) w distinct is h =
-    let at : (q : Fields) × (slice_get ps k ≡ Some q) × (ring_of s rs q ≡ w) = get_mapped (ring_of s rs) ps k w is in
-    let other : ¬ (Bears r p) =
-    λ of. lacks_at p at.0 ps k distinct.0 at.1
-    (one_place r at.0 p (subst (λ (v : Window). Bears r v.place) (sym at.2) h) of) in
-    ap (λ (v : Window). v ∷ set (map (ring_of s rs) ps) k (with_record w r)) (ring_left s rs r p other)
-    ∙ ap (λ (ws : List Window). ring_of s (rs ++ r ∷ []) p ∷ ws) (rings_more s rs r ps k w distinct.1 is h)
+-- the ring of its place takes a record, and the other rings stay
+rings_more : (s : Serving) (rs : List (List ℕ)) (r : List ℕ) (ps : List Fields) → Distinct ps
+    → pushed (map (ring_of s rs) ps) r ≡ map (ring_of s (rs ++ r ∷ [])) ps
+rings_more s rs r [] distinct = refl
+rings_more s rs r (p ∷ ps) distinct = by_test (is_of p r) refl (rings_more s rs r ps distinct.1)
+  where
+    by_test : (t : Bool) → is_of p r ≡ t
+        → pushed (map (ring_of s rs) ps) r ≡ map (ring_of s (rs ++ r ∷ [])) ps
+        → pushed (map (ring_of s rs) (p ∷ ps)) r ≡ map (ring_of s (rs ++ r ∷ [])) (p ∷ ps)
+    by_test true is more =
+        ap (λ (t : Bool). if t then with_record (ring_of s rs p) r ∷ map (ring_of s rs) ps
+        else ring_of s rs p ∷ pushed (map (ring_of s rs) ps) r) is
+        ∙ (ap (λ (v : Window). v ∷ map (ring_of s rs) ps) (ring_taken s rs r p is)
+        ∙ ap (λ (ws : List Window). ring_of s (rs ++ r ∷ []) p ∷ ws)
+        (rings_left s rs r p ps (passes_bears p r is) distinct.0))
+    by_test false is more =
+        ap (λ (t : Bool). if t then with_record (ring_of s rs p) r ∷ map (ring_of s rs) ps
+        else ring_of s rs p ∷ pushed (map (ring_of s rs) ps) r) is
+        ∙ (ap (λ (v : Window). v ∷ pushed (map (ring_of s rs) ps) r) (ring_left s rs r p is)
+        ∙ ap (λ (ws : List Window). ring_of s (rs ++ r ∷ []) p ∷ ws) more)
 
-pub feed_more : (s : Serving) (rs : List (List ℕ)) (r : List ℕ) (feed new : List Window)
-    → are_different s.places ≡ true → feed ≡ feed_of s rs → IsPushed feed r new → new ≡ feed_of s (rs ++ r ∷ [])
-feed_more s rs r feed new different is pushed =
-    pushed.pushed ∙ (ap (λ (ws : List Window). set ws pushed.k (with_record pushed.ring r)) is
-    ∙ rings_more s rs r (served s) pushed.k pushed.ring (distinct_of s.places different)
-    (subst (λ (ws : List Window). slice_get ws pushed.k ≡ Some pushed.ring) is pushed.there) pushed.bears)
+-- the rings are of the places, whatever they have
+places_are : (s : Serving) (rs : List (List ℕ)) (ps : List Fields) → places_of (map (ring_of s rs) ps) ≡ ps
+places_are s rs [] = refl
+places_are s rs (p ∷ ps) = ap (λ (qs : List Fields). p ∷ qs) (places_are s rs ps)
 
--- a record that was pushed is the feed's
-pub of_feed : (s : Serving) (rs : List (List ℕ)) (r : List ℕ) (feed new : List Window) → feed ≡ feed_of s rs
-    → IsPushed feed r new → IsOfFeed (served s) r
-of_feed s rs r feed new is pushed =
-    let at : (q : Fields) × (slice_get (served s) pushed.k ≡ Some q) × (ring_of s rs q ≡ pushed.ring) =
-    get_mapped (ring_of s rs) (served s) pushed.k pushed.ring
-    (subst (λ (ws : List Window). slice_get ws pushed.k ≡ Some pushed.ring) is pushed.there) in
-    (pushed.size, pushed.k, at.0, at.1, subst (λ (v : Window). Bears r v.place) (sym at.2) pushed.bears)
-
--- one of which no ring is isn't
-pub not_of_feed : (s : Serving) (rs : List (List ℕ)) (r : List ℕ) (feed : List Window) → feed ≡ feed_of s rs
-    → (length r ≡ 512 → BearsNone feed r)
-    → ¬ (IsOfFeed (served s) r)
-not_of_feed s rs r feed is none of =
-    none of.0 of.1 (ring_of s rs of.2) (subst (λ (ws : List Window). slice_get ws of.1 ≡ Some (ring_of s rs of.2))
-    (sym is) (map_got (ring_of s rs) (served s) of.1 of.2 of.3)) of.4
+places_in : (s : Serving) (rs : List (List ℕ)) (feed : List Window) → feed ≡ feed_of s rs → places_of feed ≡ served s
+places_in s rs feed is = ap places_of is ∙ places_are s rs (served s)
 
 filter_short : (t : List ℕ → Bool) (xs : List (List ℕ)) → length (filter t xs) ≤ length xs
 filter_short t [] = omega arith
@@ -211,21 +197,6 @@ no_double s (q ∷ qs) zero p distinct is has = has
 no_double s (q ∷ qs) (suc i) p distinct is (inl same) =
     lacks_at q.0 p.0 (map (λ (a : Called). a.0) qs) i distinct.0 (map_got (λ (a : Called). a.0) qs i p is) (sym same)
 no_double s (q ∷ qs) (suc i) p distinct is (inr more) = no_double s qs i p distinct.1 is more
-
--- a record of 512 bytes was pushed
-pub pushed_is : (old new : List Window) (bytes whole : List ℕ) (k : ℕ) → length bytes ≡ 512 → whole ≡ bytes
-    → k < length old → ((w : Window) → slice_get old k ≡ Some w → Bears whole w.place)
-    → ((w : Window) → slice_get old k ≡ Some w → new ≡ set old k (with_record w whole)) → IsPushed old bytes new
-pushed_is old new bytes whole k size same lt bears pushed =
-    let at : (w : Window) × (slice_get old k ≡ Some w) = within_is old k lt in
-    record {
-      size = size;
-      k = k;
-      ring = at.0;
-      there = at.1;
-      bears = subst (λ (b : List ℕ). Bears b at.0.place) same (bears at.0 at.1);
-      pushed = subst (λ (b : List ℕ). new ≡ set old k (with_record at.0 b)) same (pushed at.0 at.1);
-    }
 
 -- The feed while rings are added.
 abbrev opening : Serving → ℕ → List Window
@@ -285,20 +256,22 @@ next_small s views calls feed k w first few is there =
 bytes_more : (views : List View) (v : View) → bytes_in (views ++ v ∷ []) ≡ bytes_in views ++ v.bytes ∷ []
 bytes_more views v = map-append (λ (x : View). x.bytes) views (v ∷ [])
 
-pub feed_reported : (s : Serving) (views : List View) (v : View) (r : List ℕ) (feed new : List Window)
-    → are_different s.places ≡ true → r ≡ v.bytes → feed ≡ feed_of s (bytes_in views) → IsPushed feed r new
+feed_reported : (s : Serving) (views : List View) (v : View) (r : List ℕ) (feed new : List Window)
+    → are_different s.places ≡ true → r ≡ v.bytes → feed ≡ feed_of s (bytes_in views) → new ≡ pushed feed r
     → new ≡ feed_of s (bytes_in (views ++ v ∷ []))
-feed_reported s views v r feed new different same is pushed =
-    feed_more s (bytes_in views) r feed new different is pushed
-    ∙ ap (feed_of s) (ap (λ (x : List ℕ). bytes_in views ++ x ∷ []) same ∙ sym (bytes_more views v))
+feed_reported s views v r feed new different same is taken =
+    taken ∙ (ap (λ (ws : List Window). pushed ws r) is
+    ∙ (rings_more s (bytes_in views) r (served s) (distinct_of s.places different)
+    ∙ ap (feed_of s) (ap (λ (x : List ℕ). bytes_in views ++ x ∷ []) same ∙ sym (bytes_more views v))))
 
-pub records_reported : (s : Serving) (views : List View) (v : View) (r : List ℕ) (feed new : List Window) → r ≡ v.bytes
-    → feed ≡ feed_of s (bytes_in views) → IsPushed feed r new → AreOfFeed (served s) (bytes_in views)
+records_reported : (s : Serving) (views : List View) (v : View) (r : List ℕ) (feed : List Window) → r ≡ v.bytes
+    → feed ≡ feed_of s (bytes_in views) → IsOfFeed (places_of feed) r → AreOfFeed (served s) (bytes_in views)
     → AreOfFeed (served s) (bytes_in (views ++ v ∷ []))
-records_reported s views v r feed new same is pushed before =
+records_reported s views v r feed same is of before =
     subst (AreOfFeed (served s)) (sym (bytes_more views v))
     (all_of_feed (served s) (bytes_in views) v.bytes before
-    (subst (IsOfFeed (served s)) same (of_feed s (bytes_in views) r feed new is pushed)))
+    (subst (IsOfFeed (served s)) same
+    (subst (λ ps. IsOfFeed ps r) (places_in s (bytes_in views) feed is) of)))
 
 -- the cutter has handed out one record more
 pub handed_on : (r : Result (Option RecordView) StreamFault) (o : Option RecordView) (view : RecordView) (P : List View
@@ -308,67 +281,60 @@ handed_on r o view P is some goes =
 
 -- the next record, by whether a ring accepted it
 pub pushed_next : (s : Serving) (views : List View) (view : View) (bytes : List ℕ) (number : ℕ)
-    (result : Result Step FillFault) (is_pushed : Bool) (feed new : List Window) (old h : BytesRead) (c : Standing)
-    → CanServe s → bytes ≡ view.bytes → HasHandedOut h c (views ++ view ∷ []) → old.calls < h.calls
+    (result : Result Step InputFault) (taken : Result ℕ InputFault) (feed new : List Window) (old h : BytesRead)
+    (c : Standing) → CanServe s → bytes ≡ view.bytes → HasHandedOut h c (views ++ view ∷ []) → old.calls < h.calls
     → AreOfFeed (served s) (bytes_in views) → feed ≡ feed_of s (bytes_in views) → number ≡ length views + 1
-    → OnTrue is_pushed (IsPushed feed bytes new)
-    → OnFalse is_pushed (length bytes ≡ 512 → BearsNone feed bytes)
-    → OnTrue is_pushed (result ≡ Ok Pushed) → OnFalse is_pushed (result ≡ Err (Foreign number))
+    → OnOk taken (IsOfFeed (places_of feed) bytes) → OnOk taken (new ≡ pushed feed bytes)
+    → OnErr taken (¬ (IsOfFeed (places_of feed) bytes)) → IfErr taken (λ e. e ≡ Foreign number)
+    → OnOk taken (result ≡ Ok Pushed) → IfErr taken (λ e. result ≡ Err e)
     → IsNextPushed s result views old h c new
-pushed_next s views view bytes number result is_pushed feed new old h c can same handed called each is n =
-    by_test is_pushed
-  where
-    by_test : (t : Bool) → OnTrue t (IsPushed feed bytes new)
-        → OnFalse t (length bytes ≡ 512 → BearsNone feed bytes)
-        → OnTrue t (result ≡ Ok Pushed) → OnFalse t (result ≡ Err (Foreign number))
-        → IsNextPushed s result views old h c new
-    by_test true pushed _ ok _ =
-        subst (λ (r : Result Step FillFault). IsNextPushed s r views old h c new) (sym ok) (record {
-          view = view;
-          filled = record {
-            handed = handed;
-            each = records_reported s views view bytes feed new same is pushed each;
-            feed_is = feed_reported s views view bytes feed new can.places.different same is pushed;
-          };
-          called = called;
-        })
-    by_test false _ none _ err =
-        subst (λ (r : Result Step FillFault). IsNextPushed s r views old h c new) (sym err) (record {
-          before = views;
-          view = view;
-          offset = c.offset;
-          views = handed.records;
-          fine = handed.fine;
-          each = each;
-          other = subst (λ (bs : List ℕ). ¬ (IsOfFeed (served s) bs)) same
-              (not_of_feed s (bytes_in views) bytes feed is none);
-          number_is = n;
-        })
+pushed_next s views view bytes m result (Ok k) feed new old h c can same handed called each is n of taken _ _ ok _ =
+    subst (λ (r : Result Step InputFault). IsNextPushed s r views old h c new) (sym ok) (record {
+      view = view;
+      filled = record {
+        handed = handed;
+        each = records_reported s views view bytes feed same is of each;
+        feed_is = feed_reported s views view bytes feed new can.places.different same is taken;
+      };
+      called = called;
+    })
+pushed_next s views view bytes m result (Err e) feed new old h c can same handed called each is n _ _ none f _ err =
+    subst (λ (r : Result Step InputFault). IsNextPushed s r views old h c new) (sym (err ∙ ap Err f)) (record {
+      before = views;
+      view = view;
+      offset = c.offset;
+      views = handed.records;
+      fine = handed.fine;
+      each = each;
+      other = λ of. none (subst (λ ps. IsOfFeed ps bytes) (sym (places_in s (bytes_in views) feed is))
+          (subst (IsOfFeed (served s)) (sym same) of));
+      number_is = n;
+    })
 
 -- what is wrong comes of an error
-pub not_filled : (s : Serving) (r : Result (List Window) FillFault) (Q : FillFault → Type 0) (fault : FillFault)
-    (h : BytesRead) → IsErrAnd r Q → ((e : FillFault) → Q e → e ≡ fault) → IsFilling s (Err fault) h
+pub not_filled : (s : Serving) (r : Result (List Window) InputFault) (Q : InputFault → Type 0) (fault : InputFault)
+    (h : BytesRead) → IsErrAnd r Q → ((e : InputFault) → Q e → e ≡ fault) → IsFilling s (Err fault) h
     → IsFilling s r h
 not_filled s (Ok feed) Q fault h is q wrong = absurd is
 not_filled s (Err e) Q fault h is q wrong =
-    subst (λ (x : FillFault). IsFilling s (Err x) h) (sym (q e is)) wrong
+    subst (λ (x : InputFault). IsFilling s (Err x) h) (sym (q e is)) wrong
 
-pub not_pushed : (s : Serving) (r : Result Step FillFault) (Q : FillFault → Type 0) (fault : FillFault)
+pub not_pushed : (s : Serving) (r : Result Step InputFault) (Q : InputFault → Type 0) (fault : InputFault)
     (views : List View) (old h : BytesRead) (c : Standing) (new : List Window) → IsErrAnd r Q
-    → ((e : FillFault) → Q e → e ≡ fault) → IsFilling s (Err fault) h → IsNextPushed s r views old h c new
+    → ((e : InputFault) → Q e → e ≡ fault) → IsFilling s (Err fault) h → IsNextPushed s r views old h c new
 not_pushed s (Ok step) Q fault views old h c new is q wrong = absurd is
 not_pushed s (Err e) Q fault views old h c new is q wrong =
-    subst (λ (x : FillFault). IsFilling s (Err x) h) (sym (q e is)) wrong
+    subst (λ (x : InputFault). IsFilling s (Err x) h) (sym (q e is)) wrong
 
 -- the input ended with a fault, or memory was wanted
 pub broken_off : (X : Type 0) (s : Serving) (fault : StreamFault) (h : BytesRead) (views : List View)
     → AreOfFeed (served s) (bytes_in views) → IfEnds {X = X} (Err fault) (AreAllViews h views (Some fault))
-    → h.failures ≡ failed_by {X = X} (Err fault) → IsFilling s (Err (stream_fault fault)) h
+    → h.failures ≡ failed_by {X = X} (Err fault) → IsFilling s (Err (Stream fault)) h
 broken_off X s (Frame n f) h views each all failed = record { views = views; all = all; each = each }
 broken_off X s (Truncated n have) h views each all failed = record { views = views; all = all; each = each }
 broken_off X s (Read n) h views each all failed = record { views = views; all = all; each = each }
 broken_off X s (Turns n) h views each all failed = record { views = views; all = all; each = each }
-broken_off X s NoMemory h views each all failed = failed
+broken_off X s Memory h views each all failed = failed
 
 pub number_of : {n : ℕ} (views : List View) → n ≡ length views → n + 1 ≡ length views + 1
 number_of views is = ap (λ (m : ℕ). m + 1) is

@@ -11,13 +11,15 @@ use Rattle.mseed_stream.specs.Archive.{IsArchive}
 use Rattle.mseed_stream.specs.Device.{BytesRead}
 use Rattle.mseed_stream.specs.Walk.{AreAllViews, bytes_in}
 use Rattle.mseed_stream.specs.declared.fault.StreamFault.{StreamFault}
+use Rattle.mseed_stream.specs.declared.fault.StreamFault.TheVariants.{Frame, Truncated, Read, Turns, Memory}
 use Rattle.mseed_stream.proofs.OneInput.{archive_is, one_input}
 use Rattle.slink_wire.specs.Place.{Fields}
+use Rattle.slink_feed.specs.Intake.{IsOfFeed}
 use Rattle.slink_feed.specs.Window.{Window}
-use Rattle.mseed.specs.Filling.{AreOfFeed, IsFilling, IsForeign, IsOfFeed, IsOneFilling, feed_of, served}
-use Rattle.mseed.specs.declared.fill_fault.FillFault.{FillFault}
-use Rattle.mseed.specs.declared.fill_fault.FillFault.TheVariants.{Stream, Foreign, Memory}
+use Rattle.slink_feed.specs.declared.input.InputFault.{InputFault}
+use Rattle.slink_feed.specs.declared.input.InputFault.TheVariants.{Stream, Foreign}
 use Rattle.mseed_words.specs.declared.request.Serving.{Serving}
+use Rattle.mseed.specs.Filling.{AreOfFeed, IsBrokenOff, IsFilling, IsForeign, IsOneFilling, feed_of, served}
 
 -- These bytes begin with records of the feed, and then one that isn't.
 record Stops (places : List Fields) (bytes : List ℕ) (before : List (List ℕ)) : Type 0 where
@@ -127,27 +129,47 @@ same_fault a b e = cc
 not_clean : (a : StreamFault) → Some a ≡ None → ⊥
 not_clean a e = cc
 
+-- an input's fault, unless it is of memory
+broken : (s : Serving) (h : BytesRead) (f : StreamFault) → IsFilling s (Err (Stream f)) h
+    → (f ≡ Memory) ⊎ IsBrokenOff s f h
+broken s h (Frame n f) p = inr p
+broken s h (Truncated n have) p = inr p
+broken s h (Read n) p = inr p
+broken s h (Turns n) p = inr p
+broken s h Memory p = inl refl
+
+-- An input that ended with a fault came to nothing else, unless it is of memory.
+one_broken : (s : Serving) (h : BytesRead) (f : StreamFault) (b : Result (List Window) InputFault) → IsBrokenOff s f h
+    → IsFilling s b h → (b ≡ Err (Stream Memory)) ⊎ (Err (Stream f) ≡ b)
+one_broken s h f (Ok g) p q =
+    absurd (not_clean f (one_input h p.views q.views (Some f) None p.all q.all).1)
+one_broken s h f (Err (Foreign n)) p q = absurd (never_stops s n h p.views (Some f) q p.all p.each)
+one_broken s h f (Err (Stream g)) p q = elim (broken s h g q) [
+  | inl memory ↦ inl (ap (λ (x : StreamFault). Err (Stream x)) memory)
+  | inr off ↦ inr (ap (λ (x : StreamFault). Err (Stream x))
+      (same_fault f g (one_input h p.views off.views (Some f) (Some g) p.all off.all).1))
+]
+
 -- what filling a feed comes to is determined, but for memory
-pub one_filling : (s : Serving) (h : BytesRead) (a b : Result (List Window) FillFault) → IsFilling s a h
-    → IsFilling s b h → (a ≡ Err Memory) ⊎ ((b ≡ Err Memory) ⊎ (a ≡ b))
-one_filling s h (Err Memory) b p q = inl refl
-one_filling s h (Ok f) (Err Memory) p q = inr (inl refl)
-one_filling s h (Err (Stream f)) (Err Memory) p q = inr (inl refl)
-one_filling s h (Err (Foreign n)) (Err Memory) p q = inr (inl refl)
+one_filling : (s : Serving) (h : BytesRead) (a b : Result (List Window) InputFault) → IsFilling s a h
+    → IsFilling s b h → (a ≡ Err (Stream Memory)) ⊎ ((b ≡ Err (Stream Memory)) ⊎ (a ≡ b))
+one_filling s h (Err (Stream f)) b p q = elim (broken s h f p) [
+  | inl memory ↦ inl (ap (λ (x : StreamFault). Err (Stream x)) memory)
+  | inr off ↦ inr (one_broken s h f b off q)
+]
+one_filling s h (Ok f) (Err (Stream g)) p q = elim (broken s h g q) [
+  | inl memory ↦ inr (inl (ap (λ (x : StreamFault). Err (Stream x)) memory))
+  | inr off ↦ absurd (not_clean g (sym (one_input h p.views off.views None (Some g) p.all off.all).1))
+]
+one_filling s h (Err (Foreign n)) (Err (Stream g)) p q = elim (broken s h g q) [
+  | inl memory ↦ inr (inl (ap (λ (x : StreamFault). Err (Stream x)) memory))
+  | inr off ↦ absurd (never_stops s n h off.views (Some g) p off.all off.each)
+]
 one_filling s h (Ok f) (Ok g) p q =
     let same : (p.views ≡ q.views) × (None ≡ None) = one_input h p.views q.views None None p.all q.all in
     inr (inr (ap Ok (p.feed_is ∙ (ap (λ (vs : List View). feed_of s (bytes_in vs)) same.0 ∙ sym q.feed_is))))
-one_filling s h (Ok f) (Err (Stream g)) p q =
-    absurd (not_clean g (sym (one_input h p.views q.views None (Some g) p.all q.all).1))
-one_filling s h (Err (Stream f)) (Ok g) p q =
-    absurd (not_clean f (one_input h p.views q.views (Some f) None p.all q.all).1)
-one_filling s h (Err (Stream f)) (Err (Stream g)) p q =
-    inr (inr (ap (λ (x : StreamFault). Err (Stream x))
-    (same_fault f g (one_input h p.views q.views (Some f) (Some g) p.all q.all).1)))
 one_filling s h (Ok f) (Err (Foreign n)) p q = absurd (never_stops s n h p.views None q p.all p.each)
 one_filling s h (Err (Foreign n)) (Ok g) p q = absurd (never_stops s n h q.views None p q.all q.each)
-one_filling s h (Err (Stream f)) (Err (Foreign n)) p q = absurd (never_stops s n h p.views (Some f) q p.all p.each)
-one_filling s h (Err (Foreign n)) (Err (Stream g)) p q = absurd (never_stops s n h q.views (Some g) p q.all q.each)
 one_filling s h (Err (Foreign n)) (Err (Foreign m)) p q =
     let before : length (bytes_in p.before) ≡ length (bytes_in q.before) =
     one_stop (served s) h.bytes (bytes_in p.before) (bytes_in q.before) (stops_at s n h p) (stops_at s m h q) in
@@ -161,6 +183,6 @@ one_filling s h (Err (Foreign n)) (Err (Foreign m)) p q =
     ) in
     inr (inr (ap (λ (k : ℕ). Err (Foreign k)) same))
 
-pub only_filling : (s : Serving) (h : BytesRead) (a : Result (List Window) FillFault) → IsFilling s a h
+pub only_filling : (s : Serving) (h : BytesRead) (a : Result (List Window) InputFault) → IsFilling s a h
     → IsOneFilling s a h
 only_filling s h a p b q = one_filling s h a b p q

@@ -4,16 +4,15 @@ use Rattle.std.specs.List.{AllByRecursion}
 use Rattle.mseed_stream.specs.Device.{BytesWritten}
 use Rattle.mseed_stream.specs.Telling.{Tells}
 use Rattle.slink_wire.specs.Place.{Fields}
+use Rattle.slink_feed.specs.Intake.{places_of}
 use Rattle.slink_feed.specs.Window.{Window}
+use Rattle.slink_feed.specs.declared.input.InputFault.{InputFault}
 use Rattle.slink_live.specs.Happening.{Happening, input_of}
-use Rattle.slink_live.specs.Input.{IsInputFault, places_of}
+use Rattle.slink_live.specs.Input.{IsInputFault}
 use Rattle.slink_live.specs.Served.{IsFinished, IsServing, ServerState}
-use Rattle.slink_live.specs.declared.fault.InputFault.{InputFault}
-use Rattle.slink_live.specs.declared.fault.InputFault.TheVariants as inputs
 use Rattle.mseed_words.specs.FeedWords.{CanLive}
+use Rattle.mseed.specs.Outcome.{no_memory}
 use Rattle.mseed.specs.Plans.{fill_text}
-use Rattle.mseed.specs.declared.fill_fault.FillFault.{FillFault}
-use Rattle.mseed.specs.declared.fill_fault.FillFault.TheVariants as fills
 use Rattle.mseed.specs.declared.outcome.Run.{Run}
 use Rattle.mseed.specs.declared.outcome.Run.TheVariants as runs
 
@@ -28,11 +27,6 @@ CanBeServed (runs.Serve plan) = ⊤
 CanBeServed (runs.Live living) = CanLive living
 CanBeServed (runs.Fetch plan) = ⊤
 
--- what is wrong with the input, as what keeps a feed from being filled
-abbrev pub fill_fault : InputFault → FillFault
-fill_fault (inputs.Stream fault) = fills.Stream fault
-fill_fault (inputs.Foreign number) = fills.Foreign number
-
 -- Nothing is left to do: the input is read no more, and no link stands, and the status is the one that is due. Or links
 -- may have been cut off, since the device failed, and standard error got its line.
 pub data EndsWith (s : ServerState) (is_over : Bool) (due status : ℕ) (old new : BytesWritten) : Type 0 where
@@ -46,10 +40,10 @@ pub data HasEnded (places : List Fields) (s : ServerState) (is_over : Bool) (log
     (old new : BytesWritten) : Type 0 where
   input_ended : EndsWith s is_over 0 status old new → HasEnded places s is_over log status old new
   input_wrong : (fault : InputFault) (reported : BytesWritten) → IsInputFault places (input_of log) fault
-      → Tells (fill_text (fill_fault fault)) old reported → EndsWith s is_over 2 status reported new
+      → Tells (fill_text fault) old reported → EndsWith s is_over 2 status reported new
       → HasEnded places s is_over log status old new
   for_long : (fault last : InputFault) (reported : BytesWritten) → IsInputFault places (input_of log) fault
-      → Tells (fill_text (fill_fault fault)) old reported → IsInputFault places (input_of log) last → status ≡ 2
+      → Tells (fill_text fault) old reported → IsInputFault places (input_of log) last → status ≡ 2
       → Tells (codes "mseed: link failed\n") reported new → HasEnded places s is_over log status old new
 
 -- The rings were filled by what the input gave, and each link was served from them by a session of its own, as the log
@@ -58,11 +52,11 @@ pub data HasServed (feed : List Window) (is_over : Bool) (log : List Happening) 
     : Type 0 where
   served : (s : ServerState) → IsServing feed s log → HasEnded (places_of feed) s is_over log status old new
       → HasServed feed is_over log status old new
-  no_room : status ≡ 2 → Tells (fill_text fills.Memory) old new → HasServed feed is_over log status old new
+  no_room : status ≡ 2 → Tells no_memory old new → HasServed feed is_over log status old new
 
 -- Over TCP: so it was, whatever happened; or the port couldn't be had, or there was no memory for the device.
 pub data HasServedTcp (feed : List Window) (status : ℕ) (old new : BytesWritten) : Type 0 where
   over_links : (is_over : Bool) (log : List Happening) → HasServed feed is_over log status old new
       → HasServedTcp feed status old new
   no_port : status ≡ 2 → Tells (codes "mseed: link failed\n") old new → HasServedTcp feed status old new
-  no_device : status ≡ 2 → Tells (fill_text fills.Memory) old new → HasServedTcp feed status old new
+  no_device : status ≡ 2 → Tells no_memory old new → HasServedTcp feed status old new

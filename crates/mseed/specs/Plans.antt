@@ -1,15 +1,17 @@
 -- The plans of the two commands of a feed, and what is given where there is none.
 use Rattle.std.specs.Prelude.{◌≡◌, ℕ, List, [], ◌++◌, Result, Ok, Err, codes, decimal}
 use Rattle.mseed_stream.specs.Device.{BytesRead, BytesWritten}
+use Rattle.mseed_stream.specs.Telling.{Tells}
+use Rattle.mseed_stream.specs.declared.fault.StreamFault.TheVariants.{Frame, Truncated, Read, Turns, Memory}
 use Rattle.mseed_text.specs.Fault.{fault_line}
 use Rattle.slink_feed.specs.Dialogue.{Talk, wants_of}
 use Rattle.slink_feed.specs.Window.{Window}
 use Rattle.slink_feed.specs.declared.dialogue.Stage.TheVariants.{Unlinked}
 use Rattle.slink_feed.specs.declared.grant.Mode.TheVariants as modes
+use Rattle.slink_feed.specs.declared.input.InputFault.{InputFault}
+use Rattle.slink_feed.specs.declared.input.InputFault.TheVariants.{Stream, Foreign}
 use Rattle.mseed.specs.Filling.{IsFilling, IsOneFilling}
-use Rattle.mseed_stream.specs.Telling.{Tells}
-use Rattle.mseed.specs.declared.fill_fault.FillFault.{FillFault}
-use Rattle.mseed.specs.declared.fill_fault.FillFault.TheVariants.{Stream, Foreign, Memory}
+use Rattle.mseed.specs.Outcome.{no_memory}
 use Rattle.mseed.specs.declared.outcome.Run.{Run}
 use Rattle.mseed.specs.declared.outcome.Run.TheVariants.{Status, Serve, Live, Fetch}
 use Rattle.slink_links.specs.declared.plan.FetchPlan.{FetchPlan}
@@ -18,11 +20,14 @@ use Rattle.mseed_words.specs.declared.request.Fetching.{Fetching}
 use Rattle.mseed_words.specs.declared.request.Living.{Living}
 use Rattle.mseed_words.specs.declared.request.Serving.{Serving}
 
--- why a feed wasn't filled
-abbrev pub fill_text : FillFault → List ℕ
-fill_text (Stream fault) = codes "mseed: " ++ fault_line fault
+-- why a feed isn't filled further
+abbrev pub fill_text : InputFault → List ℕ
+fill_text (Stream (Frame n f)) = codes "mseed: " ++ fault_line (Frame n f)
+fill_text (Stream (Truncated n have)) = codes "mseed: " ++ fault_line (Truncated n have)
+fill_text (Stream (Read n)) = codes "mseed: " ++ fault_line (Read n)
+fill_text (Stream (Turns n)) = codes "mseed: " ++ fault_line (Turns n)
+fill_text (Stream Memory) = no_memory
 fill_text (Foreign number) = codes "mseed: record " ++ decimal number ++ codes " is not of this feed\n"
-fill_text Memory = codes "mseed: no memory\n"
 
 -- the feed, and the values that were requested
 pub record IsServePlan {A : Type 0} (serving : Serving) (feed : List Window) (plan : ServePlan A) : Type 0 where
@@ -33,7 +38,7 @@ pub record IsServePlan {A : Type 0} (serving : Serving) (feed : List Window) (pl
   pub feed_is : plan.feed ≡ feed
 
 -- by what filling the feed came to: a plan, and no line; or status 2, and a line
-abbrev pub IsPlannedBy : {A : Type 0} → Serving → Result (List Window) FillFault → Run A → BytesWritten → BytesWritten
+abbrev pub IsPlannedBy : {A : Type 0} → Serving → Result (List Window) InputFault → Run A → BytesWritten → BytesWritten
     → Type 0
 IsPlannedBy serving (Ok feed) (Status ended) old new = ⊥
 IsPlannedBy serving (Ok feed) (Serve plan) old new = IsServePlan serving feed plan × (new ≡ old)
@@ -47,7 +52,7 @@ IsPlannedBy serving (Err fault) (Fetch plan) old new = ⊥
 -- what `serve` comes to before it opens a socket; the input decides it, but for memory
 pub record IsServeRun {A : Type 0} (serving : Serving) (run : Run A) (read : BytesRead)
     (reported_old reported_new : BytesWritten) : Type 0 where
-  pub outcome : Result (List Window) FillFault
+  pub outcome : Result (List Window) InputFault
   pub filling : IsFilling serving outcome read
   pub only : IsOneFilling serving outcome read
   pub planned : IsPlannedBy serving outcome run reported_old reported_new

@@ -1,22 +1,20 @@
 //! Filling a feed with the records of an archive.
-ghost use Rattle.std.specs.Prelude.{◌≡◌, ◌^◌, ◌<◌, ℕ, List, [], ◌∷◌, ◌++◌, length, IfErr, IfOk, IfSome};
-ghost use Rattle.std.specs.Prelude.{None, Some, Ok, Err, Result, slice_get, ◌+◌};
-ghost use Rattle.std.specs.Bool.{OnFalse, OnTrue};
+ghost use Rattle.std.specs.Prelude.{◌≡◌, ◌^◌, ◌<◌, ◌+◌, ℕ, List, [], length, IfErr, IfOk, OnOk, Some, Ok, Err, Result};
+ghost use Rattle.std.specs.Prelude.{slice_get};
 ghost use Rattle.mseed_record.specs.View.{View};
 ghost use Rattle.mseed_stream.specs.Cutting.{IsAlong};
 ghost use Rattle.mseed_stream.specs.Device.{BytesRead, nothing_read};
-ghost use Rattle.slink_feed.specs.Rings.{BearsNone};
+ghost use Rattle.mseed_stream.specs.declared.fault.StreamFault.{StreamFault};
 ghost use Rattle.slink_feed.specs.Window.{Window};
-ghost use Rattle.mseed.specs.Filling.{IsFilling, IsOneFilling, IsPushed, feed_of};
+ghost use Rattle.slink_feed.specs.declared.input.InputFault.{InputFault};
+ghost use Rattle.mseed.specs.Filling.{IsFilling, IsOneFilling, feed_of};
 ghost use Rattle.mseed_words.specs.FeedWords.{CanServe};
 ghost use Rattle.mseed.specs.private.Pushing.{HasFilled, IsNextPushed};
-ghost use Rattle.mseed.specs.declared.fill_fault.FillFault.{FillFault};
 ghost use Rattle.mseed_words.specs.declared.request.Serving.{Serving};
 
-use crate::fill_fault::FillFault;
-use mseed_stream::{Cutter, Source};
+use mseed_stream::{Cutter, Source, StreamFault};
 use mseed_words::Serving;
-use slink_feed::{Feed, Ring};
+use slink_feed::{Feed, InputFault, Ring};
 use std::alloc::{Allocator, Global};
 
 /// What comes next of an input.
@@ -34,12 +32,12 @@ pub(crate) enum Step {
 /// # Errors
 ///
 /// What is wrong first: `Foreign` where a record hasn't 512 bytes or is of none of the places, `Stream` where the
-/// input failed or doesn't end where a record ends. `Memory` where an allocation was refused.
+/// input failed or doesn't end where a record ends, or an allocation was refused.
 pub fn fill<A: Allocator + Copy, R: Source>(
     alloc: A,
     serving: &Serving,
     input: &mut R,
-) -> Result<Feed<A>, FillFault>
+) -> Result<Feed<A>, InputFault>
     requires unread { R.read input.old ≡ nothing_read }
     requires called { CanServe serving.now }
     ensures { IsFilling serving.now result (R.read input.new) }
@@ -62,7 +60,7 @@ fn push_next<A: Allocator, R: Source>(
     cutter: &mut Cutter<A>,
     input: &mut R,
     number: u64,
-) -> Result<Step, FillFault>
+) -> Result<Step, InputFault>
     requires along { IsAlong (R.read input.old) cutter.old }
     requires room { (k : ℕ) (w : Window) → slice_get feed.old k ≡ Some w → w.next < 2 ^ 63 }
     ensures { (serving : Serving) (views : List View) → CanServe serving
@@ -71,38 +69,37 @@ fn push_next<A: Allocator, R: Source>(
 {
     if let Some(view) = cutter.peek(input) {
         let size = view.bytes().len();
-        let is_pushed = push_record(feed, view.bytes());
+        let taken = feed.take_record(view.bytes(), number);
         cutter.pass(input, size);
-        return answer(is_pushed, number);
+        return answer(taken);
     }
     match cutter.next(input)? {
-        Some(view) => answer(push_record(feed, view.bytes()), number),
+        Some(view) => answer(feed.take_record(view.bytes(), number)),
         None => Ok(Step::Ended),
     }
 }
 
-/// What came of the record of this number, of which it is known whether a ring accepted it.
-fn answer(is_pushed: bool, number: u64) -> Result<Step, FillFault>
-    ensures yes { OnTrue is_pushed (result ≡ Ok Step.Pushed) }
-    ensures no { OnFalse is_pushed (result ≡ Err (FillFault.Foreign number)) }
+/// What came of a record of which it is known whether a ring accepted it.
+fn answer(taken: Result<usize, InputFault>) -> Result<Step, InputFault>
+    ensures ok { OnOk taken (result ≡ Ok Step.Pushed) }
+    ensures err { IfErr taken (λ fault. result ≡ Err fault) }
 {
-    if is_pushed {
-        Ok(Step::Pushed)
-    } else {
-        Err(FillFault::Foreign(number))
+    match taken {
+        Ok(_) => Ok(Step::Pushed),
+        Err(fault) => Err(fault),
     }
 }
 
 /// The feed before the first record.
-fn open<A: Allocator + Copy>(alloc: A, serving: &Serving) -> Result<Feed<A>, FillFault>
+fn open<A: Allocator + Copy>(alloc: A, serving: &Serving) -> Result<Feed<A>, InputFault>
     requires { CanServe serving.now }
     ensures ok { IfOk result (λ feed. feed ≡ feed_of serving.now []) }
-    ensures err { IfErr result (λ fault. fault ≡ FillFault.Memory) }
+    ensures err { IfErr result (λ fault. fault ≡ InputFault.Stream StreamFault.Memory) }
 {
     let mut feed = Feed::new();
     for (place, _) in serving.places.as_slice() {
         let Ok(ring) = Ring::new(alloc, *place, serving.capacity as usize, serving.first) else {
-            return Err(FillFault::Memory);
+            return Err(InputFault::Stream(StreamFault::Memory));
         };
         feed.add_other(ring);
     }
@@ -113,35 +110,17 @@ fn open<A: Allocator + Copy>(alloc: A, serving: &Serving) -> Result<Feed<A>, Fil
 ///
 /// # Errors
 ///
-/// `Memory` where an allocation was refused.
-pub(crate) fn open_feed(alloc: Global, serving: &Serving) -> Result<Feed, FillFault>
+/// `Stream` where an allocation was refused.
+pub(crate) fn open_feed(alloc: Global, serving: &Serving) -> Result<Feed, InputFault>
     requires { CanServe serving.now }
     ensures ok { IfOk result (λ feed. feed ≡ feed_of serving.now []) }
-    ensures err { IfErr result (λ fault. fault ≡ FillFault.Memory) }
+    ensures err { IfErr result (λ fault. fault ≡ InputFault.Stream StreamFault.Memory) }
 {
     open(alloc, serving)
 }
 
-/// Gives a record to the ring of its place, and answers whether it has 512 bytes and is of one of the places.
-fn push_record<A: Allocator>(feed: &mut Feed<A>, bytes: &[u8]) -> bool
-    requires room { (k : ℕ) (w : Window) → slice_get feed.old k ≡ Some w → w.next < 2 ^ 63 }
-    ensures yes { OnTrue result (IsPushed feed.old bytes.now feed.new) }
-    ensures no { OnFalse result (length bytes.now ≡ 512 → BearsNone feed.old bytes.now) }
-{
-    let Some(bytes) = bytes.as_array::<512>() else {
-        return false;
-    };
-    match feed.bearer(bytes) {
-        Some(k) => {
-            feed.push(k, bytes);
-            true
-        }
-        None => false,
-    }
-}
-
 /// What was read of an input comes to one filling of a feed, but where memory was refused.
 pub fn one_filling()
-    ensures { (serving : Serving) (read : BytesRead) (outcome : Result (List Window) FillFault)
+    ensures { (serving : Serving) (read : BytesRead) (outcome : Result (List Window) InputFault)
         → IsFilling serving outcome read → IsOneFilling serving outcome read }
 {}

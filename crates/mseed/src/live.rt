@@ -1,23 +1,23 @@
 //! Serving the records of an input to many clients at once, while they come.
 ghost use Rattle.std.specs.Prelude.{◌≡◌, ◌⊎◌, [], List, IfErr, IfOk, codes, length, true};
 ghost use Rattle.mseed_stream.specs.Telling.{Tells};
+ghost use Rattle.slink_feed.specs.Intake.{places_of};
 ghost use Rattle.slink_feed.specs.Window.{Window};
 ghost use Rattle.slink_live.specs.Happening.{input_of};
-ghost use Rattle.slink_live.specs.Input.{IsInputFault, places_of};
+ghost use Rattle.slink_live.specs.Input.{IsInputFault};
 ghost use Rattle.slink_live.specs.Served.{IsFinished, IsServing, IsSound, ServerState};
 ghost use Rattle.mseed_words.specs.FeedWords.{CanLive};
 ghost use Rattle.mseed.specs.Filling.{feed_of};
-ghost use Rattle.mseed.specs.Live.{CanNumber, EndsWith, HasEnded, HasServed, HasServedTcp, fill_fault};
+ghost use Rattle.mseed.specs.Live.{CanNumber, EndsWith, HasEnded, HasServed, HasServedTcp};
 
 use crate::command::refuse_memory;
-use crate::fill_fault::FillFault;
 use crate::filling::open_feed;
 use crate::outcome::{DONE, FAULT};
 use crate::refusal::refuse_to_serve;
 use mseed_stream::{Sink, tell};
 use mseed_words::Living;
 use slink_feed::Feed;
-use slink_live::{InputFault, Ready, Server};
+use slink_live::{Ready, Server};
 use slink_live_tcp::{Plan, Tcp};
 use std::alloc::{AllocError, Global};
 use std::io::{ErrorKind, Read};
@@ -144,7 +144,7 @@ fn serve_to_the_end<R: Device, E: Sink>(server: &mut Server, ready: &mut R, erro
     match server.serve(ready) {
         Ok(()) => end_of(ready, DONE, errors),
         Err(fault) => {
-            let status = refuse_to_serve(errors, &fill_fault(fault));
+            let status = refuse_to_serve(errors, &fault);
             match server.serve(ready) {
                 Ok(()) => end_of(ready, status, errors),
                 Err(_) => link_failed(errors),
@@ -172,14 +172,4 @@ fn link_failed<E: Sink>(errors: &mut E) -> u8
 {
     tell(errors, b"mseed: link failed\n");
     FAULT
-}
-
-/// The same fault, of a feed that isn't filled further.
-fn fill_fault(fault: InputFault) -> FillFault
-    ensures { result ≡ fill_fault fault }
-{
-    match fault {
-        InputFault::Stream(fault) => FillFault::Stream(fault),
-        InputFault::Foreign(number) => FillFault::Foreign(number),
-    }
 }

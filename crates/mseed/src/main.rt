@@ -10,7 +10,6 @@ mod blame;
 mod command;
 mod ending;
 mod files;
-mod fill_fault;
 mod filling;
 mod live;
 mod naming;

@@ -11,7 +11,6 @@ ghost use Rattle.mseed.specs.Restretched.{stretches_status, stretches_text};
 ghost use Rattle.mseed_repack.specs.ByStretches.{broken_line};
 
 use crate::command::{refuse_memory, write_failed};
-use crate::fill_fault::FillFault;
 use crate::outcome::{BROKEN, FAULT};
 use mseed_join::JoinsFault;
 use mseed_pack::PackFault;
@@ -19,6 +18,7 @@ use mseed_record::Codes;
 use mseed_repack::{RepackFault, StretchesFault, tell_broken, tell_misfit};
 use mseed_stream::{Sink, StreamFault, tell};
 use mseed_text::Line;
+use slink_feed::InputFault;
 
 /// Says why an archive wasn't packed anew, and answers the exit status: a broken channel is no fault.
 pub fn refuse_to_repack<E: Sink>(errors: &mut E, fault: &RepackFault) -> u8
@@ -54,14 +54,15 @@ pub fn refuse_to_stretch<E: Sink>(errors: &mut E, fault: &StretchesFault) -> u8
     }
 }
 
-/// Says why a feed wasn't filled, and answers the exit status.
-pub fn refuse_to_serve<E: Sink>(errors: &mut E, fault: &FillFault) -> u8
+/// Says why a feed isn't filled further, and answers the exit status.
+pub fn refuse_to_serve<E: Sink>(errors: &mut E, fault: &InputFault) -> u8
     ensures status { result ≡ 2 }
     ensures reported { Tells (fill_text fault.now) (E.written errors.old) (E.written errors.new) }
 {
     match fault {
-        FillFault::Stream(fault) => tell_fault(errors, fault),
-        FillFault::Foreign(number) => {
+        InputFault::Stream(StreamFault::Memory) => refuse_memory(errors),
+        InputFault::Stream(fault) => tell_fault(errors, fault),
+        InputFault::Foreign(number) => {
             tell_number(
                 errors,
                 b"mseed: record ",
@@ -69,7 +70,6 @@ pub fn refuse_to_serve<E: Sink>(errors: &mut E, fault: &FillFault) -> u8
                 b" is not of this feed\n",
             )
         }
-        FillFault::Memory => refuse_memory(errors),
     }
 }
 

@@ -12,6 +12,7 @@ pub mod Goings
 pub mod Heads
 pub mod Quiet
 pub mod Received
+pub mod Intakes
 pub mod Items
 pub mod Noting
 pub mod Numbers

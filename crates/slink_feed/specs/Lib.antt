@@ -1,6 +1,7 @@
 pub mod Window
 pub mod Fault
 pub mod Rings
+pub mod Intake
 pub mod Grant
 pub mod Session
 pub mod Serving

@@ -1,14 +1,16 @@
 //! The rings of one feed.
 ghost use Rattle.std.specs.Prelude.{◌≡◌, ◌≢◌, ◌^◌, ◌<◌, ◌≤◌, ℕ, List, [], ◌∷◌, ◌++◌, Some, length, slice_get};
-ghost use Rattle.std.specs.Prelude.{slice_set, IfErr, IfSome, None, OnOk, OnErr, IsSomeAnd, option_map};
+ghost use Rattle.std.specs.Prelude.{slice_set, IfErr, IfOk, IfSome, None, OnOk, OnErr, IsSomeAnd, option_map};
 ghost use Rattle.std.specs.Option.{ForSome};
 ghost use Rattle.std.specs.Bool.{OnFalse, OnTrue};
 ghost use Rattle.slink_wire.specs.Place.{Bears};
 ghost use Rattle.slink_feed.specs.Fault.{IsFeedFault};
+ghost use Rattle.slink_feed.specs.Intake.{IsOfFeed, places_of, pushed};
 ghost use Rattle.slink_feed.specs.Rings.{BearsNone, HasPlace, IsBearer, LacksPlace, station_at};
 ghost use Rattle.slink_feed.specs.Session.{Fits, State};
 ghost use Rattle.slink_feed.specs.Window.{Shows, Window, with_record};
 
+use crate::input::InputFault;
 use crate::ring::Ring;
 use arrayvec::ArrayVec;
 use slink_wire::Place;
@@ -153,6 +155,36 @@ impl<A: Allocator> Feed<A> {
             }
         }
         None
+    }
+
+    /// Gives the record of this number of an input, counted from 1, to the first ring of its place, and returns that
+    /// ring's index.
+    ///
+    /// # Errors
+    ///
+    /// `Foreign`, with the number, where the record hasn't 512 bytes or is of none of the places. The rings stay as
+    /// they were then.
+    pub fn take_record(&mut self, bytes: &[u8], number: u64) -> Result<usize, InputFault>
+        requires { (k : ℕ) (w : Window) → slice_get self.old k ≡ Some w → w.next < 2 ^ 63 }
+        ensures of { OnOk result (IsOfFeed (places_of self.old) bytes.now) }
+        ensures bearer { IfOk result (IsBearer self.old bytes.now) }
+        ensures pushed { OnOk result (self.new ≡ pushed self.old bytes.now) }
+        ensures others { IfOk result (λ k. (j : ℕ) → j ≢ k → slice_get self.new j ≡ slice_get self.old j) }
+        ensures most { IfOk result (λ k. k < 16) }
+        ensures foreign { OnErr result (¬ (IsOfFeed (places_of self.old) bytes.now)) }
+        ensures fault { IfErr result (λ e. e ≡ InputFault.Foreign number) }
+        ensures stays { OnErr result (self.new ≡ self.old) }
+    {
+        let Some(whole) = bytes.as_array::<512>() else {
+            return Err(InputFault::Foreign(number));
+        };
+        match self.bearer(whole) {
+            Some(k) => {
+                self.push(k, whole);
+                Ok(k)
+            }
+            None => Err(InputFault::Foreign(number)),
+        }
     }
 
     /// The index of the first ring whose place has this station, in this network or in any.

@@ -10,6 +10,7 @@ mod dialogue;
 mod feed;
 mod fetching;
 mod grant;
+mod input;
 mod law;
 mod reported;
 mod reporter;
@@ -24,6 +25,7 @@ pub use dialogue::{Answer, Bytes, Ending, Event, Stage, Wanted};
 pub use feed::{Feed, FeedFault};
 pub use fetching::{Room, fetch_turn, fetch_turn_in, fetch_turn_reporting};
 pub use grant::{Grant, Mode};
+pub use input::InputFault;
 pub use law::{
     a_stretch_is_sent, a_stretch_is_wanted, each_record_once, granted_behind_the_last,
     no_record_twice, one_reading, whole_packets_are_reported,

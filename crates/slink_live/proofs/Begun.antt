@@ -3,8 +3,8 @@ use Rattle.std.proofs.Common.{◌≡◌, ℕ, zero, suc, ◌*◌, ◌^◌, ◌<�
 use Rattle.std.proofs.Common.{false, get_or, length, Option, Some, None}
 use Rattle.std.specs.List.{AllByRecursion}
 use Rattle.slink_feed.specs.Window.{Window}
+use Rattle.slink_feed.specs.Intake.{places_of}
 use Rattle.slink_live.specs.Awake.{IsAwake}
-use Rattle.slink_live.specs.Input.{places_of}
 use Rattle.slink_live.specs.Served.{AreEmpty, IsBelow, IsServing, IsSound, LinkState, Matches, ServerState}
 use Rattle.slink_live.specs.Story.{no_event}
 use Rattle.slink_live.proofs.Cuts.{short_none}

@@ -16,13 +16,14 @@ use Rattle.mseed_stream.specs.declared.fault.StreamFault.TheVariants as faults
 use Rattle.slink_wire.specs.Place.{Fields}
 use Rattle.slink_feed.specs.Session.{Fits, State}
 use Rattle.slink_feed.specs.Window.{Window}
-use Rattle.slink_live.specs.declared.fault.InputFault.{InputFault}
-use Rattle.slink_live.specs.declared.fault.InputFault.TheVariants.{Stream, Foreign}
-use Rattle.slink_live.specs.Input.{IsFaultIn, IsFedTo, IsOf, fed, places_of, pushed}
+use Rattle.slink_feed.specs.declared.input.InputFault.{InputFault}
+use Rattle.slink_feed.specs.declared.input.InputFault.TheVariants.{Stream, Foreign}
+use Rattle.slink_feed.specs.Intake.{IsOfFeed, places_of, pushed}
+use Rattle.slink_live.specs.Input.{IsFaultIn, IsFedTo, IsOf, fed}
 use Rattle.slink_live.specs.Served.{IntakeState, IsBelow}
-use Rattle.slink_live.specs.private.Cutting.{Cuts, CutsOff, IsOfNone, IsRefused, LooksOn, waits, pushes}
+use Rattle.slink_live.specs.private.Cutting.{Cuts, CutsOff, IsRefused, LooksOn, waits, pushes}
 use Rattle.slink_feed.proofs.Deliveries.{take_prefix}
-use Rattle.slink_live.proofs.Borne.{below_fed, fed_append, fits_fed, places_fed}
+use Rattle.slink_live.proofs.Fed.{below_fed, fed_append, fits_fed, places_fed}
 
 all_append : (P : List ℕ → Type 0) (xs ys : List (List ℕ)) → AllByRecursion P xs → AllByRecursion P ys
     → AllByRecursion P (xs ++ ys)
@@ -156,12 +157,12 @@ refused_long places n number kept k decides none long at = record {
 }
 
 pub refused_none : (places : List Fields) (n number : ℕ) (kept : List ℕ) → length kept ≡ 512
-    → Decides kept (scans.Record 512) → IsOfNone places kept → number ≡ n + 1
+    → Decides kept (scans.Record 512) → ¬ (IsOfFeed places kept) → number ≡ n + 1
     → IsRefused places n kept (Foreign number)
 refused_none places n number kept size decides none at =
     let leading : (more : List ℕ) → take 512 (kept ++ more) ≡ kept =
     λ more. take-append-le 512 kept more (omega (arith, size)) ∙ take_all 512 kept (omega (arith, size)) in
-    let not_of : ¬ (IsOf places kept) = λ of. none of.k of.place of.there of.bears in
+    let not_of : ¬ (IsOf places kept) = λ of. none (of.size, of.k, of.place, of.there, of.bears) in
     record {
       none = λ more of. not_of (subst (IsOf places) (leading more) of);
       is_fault = λ more. (

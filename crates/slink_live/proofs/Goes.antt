@@ -2,11 +2,11 @@
 use Rattle.std.proofs.Common.{◌≡◌, ℕ, true, false, List, [], ◌∷◌, ◌++◌, Option, Some, None, get_or, refl, sym, ap}
 use Rattle.std.proofs.Common.{◌∙◌, append_assoc, append-nil, subst, take, Result}
 use Rattle.slink_feed.specs.Window.{Window}
+use Rattle.slink_feed.specs.declared.input.InputFault.{InputFault}
 use Rattle.slink_live.specs.declared.ready.Event.{Event}
 use Rattle.slink_live.specs.declared.ready.Event.TheVariants as events
 use Rattle.slink_live.specs.Awake.{Goes, IsAwake, IsClosedRightly, further, nothing}
 use Rattle.slink_live.specs.Happening.{Happening, Input, Opened, Received, Emitted, Missed, Next, input_of}
-use Rattle.slink_live.specs.declared.fault.InputFault.{InputFault}
 use Rattle.slink_live.specs.Served.{GoesOn, IsServing, IsSound, LinkState, ServerState, StaysUnread}
 use Rattle.slink_live.specs.Turns.{Closes, HasTurns, IsCalled, ReadsFrom, WritesTo, gives_up, is_full, misses, no_turn}
 use Rattle.slink_live.specs.Turns.{one_turn, reads, stays, takes, too_often}

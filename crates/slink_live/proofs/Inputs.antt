@@ -5,7 +5,8 @@ use Rattle.std.proofs.Math.Seq.{take-append_seam}
 use Rattle.std.specs.List.{AllByRecursion, concat}
 use Rattle.slink_wire.specs.Place.{Fields}
 use Rattle.slink_feed.specs.Window.{Window}
-use Rattle.slink_live.specs.Input.{IsFed, IsInput, IsOf, fed, places_of}
+use Rattle.slink_feed.specs.Intake.{places_of}
+use Rattle.slink_live.specs.Input.{IsFed, IsInput, IsOf, fed}
 
 drop_seam : (xs ys : List ℕ) → drop (length xs) (xs ++ ys) ≡ ys
 drop_seam [] ys = refl

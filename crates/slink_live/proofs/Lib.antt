@@ -1,4 +1,4 @@
-pub mod Borne
+pub mod Fed
 pub mod Cuts
 pub mod Rings
 pub mod Inputs

@@ -5,9 +5,10 @@ use Rattle.std.proofs.Common.{List, [], ◌∷◌, ◌++◌, append_assoc, appen
 use Rattle.std.proofs.Common.{if◌then◌else◌}
 use Rattle.slink_feed.specs.Window.{Shows, Window, with_record}
 use Rattle.slink_feed.proofs.Items.{shows_more}
-use Rattle.slink_live.specs.Input.{fed, is_of, places_of, pushed}
+use Rattle.slink_feed.specs.Intake.{is_of, places_of, pushed}
+use Rattle.slink_feed.proofs.Intakes.{places_pushed}
+use Rattle.slink_live.specs.Input.{fed}
 use Rattle.slink_live.specs.Stretches.{is_first, records_at}
-use Rattle.slink_live.proofs.Borne.{places_pushed}
 
 abbrev one_if : Bool → List ℕ → List (List ℕ)
 one_if t r = if t then r ∷ [] else []

@@ -22,8 +22,9 @@ use Rattle.slink_feed.specs.Session.{sent, sent_bytes, sent_in}
 use Rattle.slink_feed.specs.Window.{Shows, Window}
 use Rattle.slink_feed.proofs.Connected.{on_sent, read_further, reply_none}
 use Rattle.slink_feed.proofs.Sendings.{IsOn, answer_read, read_on, stretch_sent}
+use Rattle.slink_feed.specs.Intake.{places_of}
 use Rattle.slink_live.specs.Happening.{Happening, Received, Emitted, input_of}
-use Rattle.slink_live.specs.Input.{IsFed, IsInput, fed, places_of}
+use Rattle.slink_live.specs.Input.{IsFed, IsInput, fed}
 use Rattle.slink_live.specs.Story.{Asks, IsServed, Story, story, none_called, one_called, no_event, elsewhere}
 use Rattle.slink_live.specs.Story.{opens}
 use Rattle.slink_live.specs.Story.{hears, asks, takes, goes}

@@ -7,9 +7,10 @@ use Rattle.std.proofs.lemmas.Bool.Decides.{eqb_tells}
 use Rattle.std.specs.List.{AllByRecursion}
 use Rattle.slink_feed.specs.Session.{Fits}
 use Rattle.slink_feed.specs.Window.{Window}
+use Rattle.slink_feed.specs.Intake.{places_of}
 use Rattle.slink_live.specs.Happening.{Happening, Input, Opened, Received, Emitted, Gone, Next, Missed, Wants}
 use Rattle.slink_live.specs.Happening.{WantsLinks, Left, input_of, is_at, piece_of}
-use Rattle.slink_live.specs.Input.{IsFed, IsInput, places_of}
+use Rattle.slink_live.specs.Input.{IsFed, IsInput}
 use Rattle.slink_live.specs.Served.{IsServing, IsSound, IsStory, LinkState, ServerState, link_state}
 use Rattle.slink_live.specs.Story.{IsNew, elsewhere}
 use Rattle.slink_live.specs.private.Calling.{HasFilled, HasReceived, HasTaken}

@@ -6,9 +6,10 @@ use Rattle.std.specs.Option.{is_some}
 use Rattle.slink_feed.specs.Session.{Fits}
 use Rattle.slink_feed.specs.Window.{Window}
 use Rattle.slink_feed.proofs.Items.{same_or_not}
-use Rattle.slink_live.specs.declared.fault.InputFault.{InputFault}
+use Rattle.slink_feed.specs.declared.input.InputFault.{InputFault}
+use Rattle.slink_feed.specs.Intake.{places_of}
 use Rattle.slink_live.specs.Happening.{Happening, Opened, Gone, WantsLinks, input_of, is_at, piece_of}
-use Rattle.slink_live.specs.Input.{IsInputFault, places_of}
+use Rattle.slink_live.specs.Input.{IsInputFault}
 use Rattle.slink_live.specs.Served.{AreEmpty, IsServing, IsSound, LinkState, ServerState}
 use Rattle.slink_live.specs.Story.{IsNew}
 use Rattle.slink_live.specs.private.Calling.{HasFilled, HasReceived, HasTaken}

@@ -4,17 +4,18 @@ use Rattle.std.proofs.Common.{List, [], ◌∷◌, ◌++◌, length, append-nil,
 use Rattle.std.proofs.lemmas.List.{length-map}
 use Rattle.mseed_stream.specs.declared.fault.StreamFault.TheVariants as faults
 use Rattle.slink_feed.specs.Window.{Window}
-use Rattle.slink_live.specs.declared.fault.InputFault.{InputFault}
-use Rattle.slink_live.specs.declared.fault.InputFault.TheVariants.{Stream}
+use Rattle.slink_feed.specs.declared.input.InputFault.{InputFault}
+use Rattle.slink_feed.specs.declared.input.InputFault.TheVariants.{Stream}
+use Rattle.slink_feed.specs.Intake.{places_of}
 use Rattle.slink_live.specs.declared.places.Places.{Places}
 use Rattle.slink_live.specs.Happening.{Happening, Input, input_of}
-use Rattle.slink_live.specs.Input.{IsFaultIn, IsFedTo, IsInput, IsInputFault, IsOf, fed, places_of}
+use Rattle.slink_live.specs.Input.{IsFaultIn, IsFedTo, IsInput, IsInputFault, IsOf, fed}
 use Rattle.slink_live.specs.Served.{IntakeState, IsServing, IsSound, ServerState}
 use Rattle.slink_live.specs.Turns.{Closes}
 use Rattle.slink_live.specs.private.Cutting.{Cuts, CutsOff}
 use Rattle.slink_live.specs.private.Granting.{StaysBut}
 use Rattle.slink_live.specs.private.Keeping.{AnswersFault, KeepsServing, Tends, TendsAnew, TendsBut}
-use Rattle.slink_live.proofs.Borne.{below_more, places_fed}
+use Rattle.slink_live.proofs.Fed.{below_more, places_fed}
 use Rattle.slink_live.proofs.Cuts.{cut_below, cut_few, cut_fits, cuts_on, short_none}
 use Rattle.slink_live.proofs.Settling.{input_ends, input_tends}
 use Rattle.slink_live.proofs.Slots.{closes_input, input_append, story_elsewhere}

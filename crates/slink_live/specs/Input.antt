@@ -1,19 +1,15 @@
 -- The input: records of the places that are served, one behind another (own).
-use Rattle.std.specs.Prelude.{◌≡◌, ℕ, Bool, ◌&&◌, ◌*◌, ◌+◌, ◌<◌, ◌⊎◌, List, [], ◌∷◌, ◌++◌, length, map, take, bytes_eq}
-use Rattle.std.specs.Prelude.{slice_get, slice_range, Some, if◌then◌else◌}
+use Rattle.std.specs.Prelude.{◌≡◌, ℕ, ◌*◌, ◌+◌, ◌<◌, ◌⊎◌, List, [], ◌∷◌, ◌++◌, length, take, slice_get, Some}
 use Rattle.std.specs.List.{AllByRecursion, concat}
 use Rattle.mseed_record.specs.declared.framer.Scan.TheVariants as scans
 use Rattle.mseed_record.specs.Record.{IsRecord}
 use Rattle.mseed_record.specs.Scan.{Decides}
 use Rattle.mseed_stream.specs.declared.fault.StreamFault.TheVariants.{Frame, Truncated, Read, Turns, Memory}
 use Rattle.slink_wire.specs.Place.{Bears, Fields}
-use Rattle.slink_feed.specs.Window.{Window, with_record}
-use Rattle.slink_live.specs.declared.fault.InputFault.{InputFault}
-use Rattle.slink_live.specs.declared.fault.InputFault.TheVariants.{Stream, Foreign}
-
--- the places of rings
-abbrev pub places_of : List Window → List Fields
-places_of feed = map (λ w. w.place) feed
+use Rattle.slink_feed.specs.Intake.{places_of, pushed}
+use Rattle.slink_feed.specs.Window.{Window}
+use Rattle.slink_feed.specs.declared.input.InputFault.{InputFault}
+use Rattle.slink_feed.specs.declared.input.InputFault.TheVariants.{Stream, Foreign}
 
 -- The bytes are a record of 512 bytes, of one of the places.
 pub record IsOf (places : List Fields) (bytes : List ℕ) : Type 0 where
@@ -29,15 +25,6 @@ pub record IsInput (places : List Fields) (bytes : List ℕ) (records : List (Li
   pub joined : bytes ≡ concat records ++ rest
   pub each : AllByRecursion (IsOf places) records
   pub no_further : ¬ (IsOf places (take 512 rest))
-
--- whether a record's header has the station and network of a place
-abbrev pub is_of : Fields → List ℕ → Bool
-is_of place bytes = bytes_eq (slice_range bytes 8 13) place.station && bytes_eq (slice_range bytes 18 20) place.network
-
--- the rings, once the first one of a record's place accepted it
-abbrev pub pushed : List Window → List ℕ → List Window
-pushed [] bytes = []
-pushed (w ∷ ws) bytes = if is_of w.place bytes then with_record w bytes ∷ ws else w ∷ pushed ws bytes
 
 -- the rings, once records came, one after another
 abbrev pub fed : List Window → List (List ℕ) → List Window

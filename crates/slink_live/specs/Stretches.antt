@@ -10,7 +10,7 @@ use Rattle.slink_feed.specs.Connection.{bytes_sent}
 use Rattle.slink_feed.specs.Sending.{AreCalled, Called, IsStretch, packets_of}
 use Rattle.slink_feed.specs.Session.{State, grant_at}
 use Rattle.slink_feed.specs.Window.{Shows, Window}
-use Rattle.slink_live.specs.Input.{is_of, places_of}
+use Rattle.slink_feed.specs.Intake.{is_of, places_of}
 
 -- whether the place at an index is the first one that a record is of
 abbrev pub is_first : ℕ → List Fields → List ℕ → Bool

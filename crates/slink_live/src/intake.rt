@@ -1,21 +1,20 @@
 //! The input, cut into records, each of which goes into the ring of its place.
-ghost use Rattle.std.specs.Prelude.{◌≡◌, ◌+◌, ◌*◌, ◌^◌, ◌<◌, ◌≤◌, ◌++◌, [], None, Some, IfErr, OnErr};
-ghost use Rattle.std.specs.Prelude.{IfNone, IfOk, IfSome, OnOk, length};
+ghost use Rattle.std.specs.Prelude.{◌≡◌, ◌+◌, ◌*◌, ◌^◌, ◌<◌, ◌≤◌, ◌++◌, [], IfErr, OnErr};
+ghost use Rattle.std.specs.Prelude.{IfOk, OnOk, length};
 ghost use Rattle.mseed_record.specs.declared.framer.Scan.{Scan};
 ghost use Rattle.mseed_record.specs.Record.{IsRecord};
 ghost use Rattle.mseed_record.specs.Scan.{Decides};
 ghost use Rattle.mseed_stream.specs.declared.fault.StreamFault.{StreamFault};
-ghost use Rattle.slink_live.specs.Input.{places_of};
+ghost use Rattle.slink_feed.specs.Intake.{places_of};
 ghost use Rattle.slink_live.specs.Served.{IsBelow};
-ghost use Rattle.slink_live.specs.private.Cutting.{Cuts, CutsOff, IsOfNone, IsPushed, IsRefused, LooksOn};
-ghost use Rattle.slink_live.specs.private.Granting.{OthersStay, StaysBeside, StaysBut};
+ghost use Rattle.slink_live.specs.private.Cutting.{Cuts, CutsOff, IsRefused, LooksOn};
+ghost use Rattle.slink_live.specs.private.Granting.{StaysBeside, StaysBut};
 
-use crate::fault::InputFault;
 use crate::places::Places;
 use arrayvec::ArrayVec;
 use mseed_record::{Scan, scan};
 use mseed_stream::StreamFault;
-use slink_feed::Feed;
+use slink_feed::{Feed, InputFault};
 use std::marker::Model;
 
 /// So many bytes has each record of a feed.
@@ -35,23 +34,6 @@ impl Model for Intake {
     ghost Value = { IntakeState };
 
     ghost view = { λ i. record { feed = i.feed; kept = i.kept.items; records = i.records } };
-}
-
-/// Gives a record to the first ring of its place, and answers its index, where there is one.
-fn push_record(feed: &mut Feed, bytes: &[u8; 512]) -> Option<usize>
-    requires { IsBelow 9223372036854775807 feed.old }
-    ensures some { IfSome result (λ _. IsPushed feed.old feed.new bytes.now) }
-    ensures none { IfNone result (IsOfNone (places_of feed.old) bytes.now) }
-    ensures others { OthersStay result feed.old feed.new }
-    ensures most { IfSome result (λ k. k < 16) }
-{
-    match feed.bearer(bytes) {
-        Some(k) => {
-            feed.push(k, bytes);
-            Some(k)
-        }
-        None => None,
-    }
 }
 
 impl Intake {
@@ -164,16 +146,12 @@ impl Intake {
         ensures foreign { IfErr result (λ e. e ≡ InputFault.Foreign (self.old.records + 1)) }
         ensures stays { OnErr result (self.new ≡ self.old) }
     {
-        let mut bytes = [0; RECORD];
-        bytes.copy_from_slice(self.kept.as_slice());
-        match push_record(&mut self.feed, &bytes) {
-            Some(k) => {
-                self.records += 1;
-                self.kept.clear();
-                Ok(places.with(k))
-            }
-            None => Err(InputFault::Foreign(self.records + 1)),
-        }
+        let k = self
+            .feed
+            .take_record(self.kept.as_slice(), self.records + 1)?;
+        self.records += 1;
+        self.kept.clear();
+        Ok(places.with(k))
     }
 
     /// What is wrong with an input that ends now.

@@ -4,10 +4,11 @@ ghost use Rattle.slink_wire.specs.Place.{Fields};
 ghost use Rattle.slink_feed.specs.Window.{Shows, Window};
 ghost use Rattle.slink_feed.specs.Serving.{Standing};
 ghost use Rattle.slink_feed.specs.Session.{State, sent};
+ghost use Rattle.slink_feed.specs.Intake.{places_of};
 ghost use Rattle.slink_live.specs.Awake.{AreSame, IsLost};
 ghost use Rattle.slink_live.specs.Fairness.{HasDue, IsAmong, TakesTurns};
 ghost use Rattle.slink_live.specs.Happening.{Happening, input_of, those_of};
-ghost use Rattle.slink_live.specs.Input.{IsFed, IsInput, fed, places_of};
+ghost use Rattle.slink_live.specs.Input.{IsFed, IsInput, fed};
 ghost use Rattle.slink_live.specs.Story.{Asks, IsServed, IsTurn, Story};
 ghost use Rattle.slink_live.specs.Stretches.{SaysStretches, records_at};
 

@@ -1,7 +1,6 @@
 //! A feed of SeedLink 3 that is served to many links at once, by one thread, while its input comes.
 #![tactic(auto)]
 
-mod fault;
 mod intake;
 mod law;
 mod link;
@@ -12,7 +11,6 @@ mod places;
 mod ready;
 mod server;
 
-pub use fault::InputFault;
 pub use law::{
     a_link_is_sent_stretches, each_moment_has_a_story, in_turns, input_in_order,
     no_other_link_matters, other_places_change_nothing,
@@ -20,3 +18,4 @@ pub use law::{
 pub use log::Log;
 pub use ready::{Event, Interest, Ready};
 pub use server::Server;
+pub use slink_feed::InputFault;

@@ -6,9 +6,10 @@ ghost use Rattle.std.specs.Bool.{OnTrue};
 ghost use Rattle.std.specs.List.{AllByRecursion};
 ghost use Rattle.slink_feed.specs.Session.{Fits};
 ghost use Rattle.slink_feed.specs.Window.{Window};
+ghost use Rattle.slink_feed.specs.Intake.{places_of};
 ghost use Rattle.slink_live.specs.Awake.{Goes, IsAwake, IsClosedRightly, IsFirstFree, has_free};
 ghost use Rattle.slink_live.specs.Happening.{Happening, Gone, Next, WantsLinks, input_of};
-ghost use Rattle.slink_live.specs.Input.{IsInputFault, places_of};
+ghost use Rattle.slink_live.specs.Input.{IsInputFault};
 ghost use Rattle.slink_live.specs.Served.{AreEmpty, GoesOn, IsBelow, IsFinished, IsServing, IsSound, ServerState};
 ghost use Rattle.slink_live.specs.Served.{StaysUnread};
 ghost use Rattle.slink_live.specs.private.Calling.{IfRested};
@@ -16,13 +17,12 @@ ghost use Rattle.slink_live.specs.Turns.{Closes, HasTurns, IsCalled, Opens, Read
 ghost use Rattle.slink_live.specs.private.Keeping.{AnswersFault, KeepsServing, Settles, Tends, TendsAll};
 ghost use Rattle.slink_live.specs.private.Keeping.{TendsAnew, TendsBut};
 
-use crate::fault::InputFault;
 use crate::intake::Intake;
 use crate::link::{Link, Update};
 use crate::links::Links;
 use crate::places::Places;
 use crate::ready::{Event, Ready};
-use slink_feed::Feed;
+use slink_feed::{Feed, InputFault};
 use std::alloc::{AllocError, Global};
 use std::marker::Model;
 

@@ -5,8 +5,8 @@ use Rattle.mseed_stream.specs.Device.{BytesRead}
 use Rattle.mseed_stream.specs.Standing.{Standing}
 use Rattle.mseed_stream.specs.Walk.{HasHandedOut, bytes_in}
 use Rattle.slink_feed.specs.Window.{Window}
+use Rattle.slink_feed.specs.declared.input.InputFault.{InputFault}
 use Rattle.mseed.specs.Filling.{AreOfFeed, IsFilling, feed_of, served}
-use Rattle.mseed.specs.declared.fill_fault.FillFault.{FillFault}
 use Rattle.mseed.specs.declared.filling.Step.{Step}
 use Rattle.mseed.specs.declared.filling.Step.TheVariants.{Pushed, Ended}
 use Rattle.mseed_words.specs.declared.request.Serving.{Serving}
@@ -26,7 +26,7 @@ pub record IsPushedAlso (serving : Serving) (old new : BytesRead) (c : Standing)
   pub called : old.calls < new.calls
 
 -- What comes next of an input, behind these records: one more, its end, or what is wrong.
-abbrev pub IsNextPushed : Serving → Result Step FillFault → List View → BytesRead → BytesRead → Standing → List Window
+abbrev pub IsNextPushed : Serving → Result Step InputFault → List View → BytesRead → BytesRead → Standing → List Window
     → Type 0
 IsNextPushed serving (Ok Pushed) views old new c feed = IsPushedAlso serving old new c feed views
 IsNextPushed serving (Ok Ended) views old new c feed = IsFilling serving (Ok feed) new

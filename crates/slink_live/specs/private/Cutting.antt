@@ -1,23 +1,11 @@
 -- How bytes of the input are taken in.
-use Rattle.std.specs.Prelude.{◌≡◌, ℕ, ◌+◌, ◌<◌, List, [], ◌++◌, length, take, slice_get, Some}
+use Rattle.std.specs.Prelude.{◌≡◌, ℕ, ◌+◌, ◌<◌, List, [], ◌++◌, length, take}
 use Rattle.std.specs.List.{AllByRecursion, concat}
-use Rattle.slink_wire.specs.Place.{Bears, Fields}
-use Rattle.slink_feed.specs.Window.{Window}
-use Rattle.slink_live.specs.declared.fault.InputFault.{InputFault}
-use Rattle.slink_live.specs.Input.{IsFaultIn, IsOf, fed, places_of, pushed}
+use Rattle.slink_wire.specs.Place.{Fields}
+use Rattle.slink_feed.specs.declared.input.InputFault.{InputFault}
+use Rattle.slink_feed.specs.Intake.{places_of, pushed}
+use Rattle.slink_live.specs.Input.{IsFaultIn, IsOf, fed}
 use Rattle.slink_live.specs.Served.{IntakeState}
-
--- The first ring of its place accepted the record.
-pub record IsPushed (old new : List Window) (bytes : List ℕ) : Type 0 where
-  pub k : ℕ
-  pub place : Fields
-  pub there : slice_get (places_of old) k ≡ Some place
-  pub bears : Bears bytes place
-  pub feed_is : new ≡ pushed old bytes
-
--- it is of none of these places
-abbrev pub IsOfNone : List Fields → List ℕ → Type 0
-IsOfNone places bytes = (k : ℕ) (place : Fields) → slice_get places k ≡ Some place → ¬ (Bears bytes place)
 
 -- What is kept isn't whole yet; or it was a record, which its ring has now.
 pub data LooksOn (old new : IntakeState) : Type 0 where

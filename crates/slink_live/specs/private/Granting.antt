@@ -1,5 +1,5 @@
 -- Which places concern a link.
-use Rattle.std.specs.Prelude.{◌≡◌, ◌≢◌, ◌<◌, ℕ, List, Option, Some, None, get_or, length, set, slice_get}
+use Rattle.std.specs.Prelude.{◌≡◌, ◌<◌, ℕ, List, Option, Some, None, get_or, length, set, slice_get}
 use Rattle.std.specs.Int.{bit_at}
 use Rattle.slink_feed.specs.declared.grant.Grant.{Grant}
 use Rattle.slink_feed.specs.declared.session.Phase.TheVariants.{Streaming}
@@ -43,11 +43,6 @@ pub record Changes (j : ℕ) (P : Option LinkState → Option LinkState → Type
 -- Each ring stays but those of these places.
 abbrev pub StaysBut : Places → List Window → List Window → Type 0
 StaysBut places old new = (k : ℕ) → ¬ (Has places k) → slice_get new k ≡ slice_get old k
-
--- One ring accepted a record, or none did, and the others stay.
-abbrev pub OthersStay : Option ℕ → List Window → List Window → Type 0
-OthersStay None old new = new ≡ old
-OthersStay (Some k) old new = (j : ℕ) → j ≢ k → slice_get new j ≡ slice_get old j
 
 -- Each ring stays but those of places that were added to some.
 abbrev pub StaysBeside : Places → Places → List Window → List Window → Type 0

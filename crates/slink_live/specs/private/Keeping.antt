@@ -1,10 +1,11 @@
 -- What each step of a server keeps.
 use Rattle.std.specs.Prelude.{◌≡◌, ◌≢◌, ℕ, true, List, None, get_or, length, Result, IfErr, OnErr}
 use Rattle.slink_feed.specs.Window.{Window}
-use Rattle.slink_live.specs.declared.fault.InputFault.{InputFault}
+use Rattle.slink_feed.specs.declared.input.InputFault.{InputFault}
+use Rattle.slink_feed.specs.Intake.{places_of}
 use Rattle.slink_live.specs.Awake.{Goes, IsAwake, IsAwakeIn, IsClosedRightly, IsTold}
 use Rattle.slink_live.specs.Happening.{Happening, input_of}
-use Rattle.slink_live.specs.Input.{IsInputFault, places_of}
+use Rattle.slink_live.specs.Input.{IsInputFault}
 use Rattle.slink_live.specs.Served.{IsServing, IsSound, ServerState}
 use Rattle.slink_live.specs.declared.places.Places.{Places}
 use Rattle.slink_live.specs.private.Granting.{LeavesOut}

@@ -2,7 +2,7 @@ use Rattle.std.proofs.Common.{◌≡◌, ◌+◌, ◌++◌, ◌∷◌, [], List,
 use Rattle.std.proofs.lemmas.List.{length-append}
 use Rattle.mseed_record.specs.View.{View}
 use Rattle.mseed_stream.specs.Device.{BytesRead}
-use Rattle.mseed.specs.declared.fill_fault.FillFault.{FillFault}
+use Rattle.slink_feed.specs.declared.input.InputFault.{InputFault}
 use Rattle.mseed.proofs.Fills.{next_small, not_filled, number_of}
 use Rattle.mseed.proofs.filling.fill.Goals as goal
 
@@ -27,7 +27,7 @@ pub returns-in_err-push_next : goal.returns-in_err-push_next
 returns-in_err-push_next g c =
     let views : List View = c.records.invariant.2.0 in
     let filled = c.records.invariant.2.1 in
-    let fault : FillFault = c.in_err-push_next.field-0.0 in
+    let fault : InputFault = c.in_err-push_next.field-0.0 in
     let read : BytesRead = g.R.Source.read c.push_next.new.input in
     not_filled c.args.serving.now c.from_residual-in_err-push_next.result _ fault read
     c.from_residual-in_err-push_next.ensures.1 (λ e q. q)

@@ -5,7 +5,7 @@ use Rattle.mseed_record.specs.declared.view.RecordView.{RecordView}
 use Rattle.mseed_stream.specs.Device.{BytesRead}
 use Rattle.mseed_stream.specs.Walk.{HasHandedOut}
 use Rattle.mseed_stream.specs.declared.fault.StreamFault.{StreamFault}
-use Rattle.mseed.specs.Filling.{stream_fault}
+use Rattle.slink_feed.specs.declared.input.InputFault.TheVariants.{Stream}
 use Rattle.mseed.proofs.Fills.{broken_off, handed_on, not_pushed, pushed_next}
 use Rattle.mseed.proofs.filling.push_next.Goals as goal
 
@@ -16,12 +16,13 @@ returns-in-Some g c = λ serving views can filled number.
     let is = c.in-Some.ensures.record in
     let same : view.bytes ≡ take (length c.bytes-size.result.now) lent =
     is.1 ∙ ap (λ (xs : List ℕ). take (length xs) lent) (sym c.bytes-size.ensures.value) in
-    pushed_next serving views view c.bytes.result.now c.args.number c.answer.result c.push_record-is_pushed.result
-    c.args.feed.now c.push_record-is_pushed.new.feed (g.R.Source.read c.args.input.now)
+    pushed_next serving views view c.bytes.result.now c.args.number c.answer.result c.take_record-taken.result
+    c.args.feed.now c.take_record-taken.new.self (g.R.Source.read c.args.input.now)
     (g.R.Source.read c.pass.new.source) c.pass.new.self can c.bytes.ensures.value
     (c.pass.ensures.handed views view filled.handed is.0 same)
     (omega (arith, ap (λ (h : BytesRead). h.calls) c.pass.ensures.reported)) filled.each filled.feed_is number
-    c.push_record-is_pushed.ensures.yes c.push_record-is_pushed.ensures.no c.answer.ensures.yes c.answer.ensures.no
+    c.take_record-taken.ensures.of c.take_record-taken.ensures.pushed c.take_record-taken.ensures.foreign
+    c.take_record-taken.ensures.fault c.answer.ensures.ok c.answer.ensures.err
 
 pub returns-in-Some-2 : goal.returns-in-Some-2
 returns-in-Some-2 g c = λ serving views can filled number.
@@ -34,10 +35,10 @@ returns-in-Some-2 g c = λ serving views can filled number.
     (λ more. HasHandedOut read c.next.follows.lender-at-none (views ++ more)) c.in_ok-view.was
     c.in-Some-2.is (c.next.follows.holds-at-none.4 views filled.handed) in
     pushed_next serving views view c.bytes-in-Some-2.result.now c.args.number c.answer-in-Some-2.result
-    c.push_record.result c.args.feed.now c.push_record.new.feed (g.R.Source.read c.args.input.now) read
+    c.take_record.result c.args.feed.now c.take_record.new.self (g.R.Source.read c.args.input.now) read
     c.next.follows.lender-at-none can c.bytes-in-Some-2.ensures.value handed called filled.each filled.feed_is
-    number c.push_record.ensures.yes c.push_record.ensures.no c.answer-in-Some-2.ensures.yes
-    c.answer-in-Some-2.ensures.no
+    number c.take_record.ensures.of c.take_record.ensures.pushed c.take_record.ensures.foreign
+    c.take_record.ensures.fault c.answer-in-Some-2.ensures.ok c.answer-in-Some-2.ensures.err
 
 pub returns-in-None : goal.returns-in-None
 returns-in-None g c = λ serving views can filled number.
@@ -49,7 +50,7 @@ returns-in_err-view g c = λ serving views can filled number.
     let read : BytesRead = g.R.Source.read c.next.new.source in
     let fault : StreamFault = c.in_err-view.field-0.0 in
     let failed = c.in_err-view.ensures.answer.failed filled.handed.goes_on in
-    not_pushed serving c.from_residual.result _ (stream_fault fault) views (g.R.Source.read c.args.input.now) read
+    not_pushed serving c.from_residual.result _ (Stream fault) views (g.R.Source.read c.args.input.now) read
     c.next.follows.lender-at-none c.args.feed.now c.from_residual.ensures.1 (λ e q. q)
     (broken_off RecordView serving fault read views filled.each (c.in_err-view.ensures.all views filled.handed)
     (omega (arith, failed, filled.handed.fine)))

@@ -1,9 +1,7 @@
 use Rattle.std.proofs.Common.{ℕ, List, subst, sym}
-use Rattle.slink_live.specs.Input.{IsInputFault, places_of}
-use Rattle.mseed_stream.specs.Telling.{Tells}
-use Rattle.mseed.specs.Plans.{fill_text}
+use Rattle.slink_feed.specs.Intake.{places_of}
+use Rattle.slink_live.specs.Input.{IsInputFault}
 use Rattle.mseed.specs.Live.{EndsWith, for_long, input_ended, input_wrong}
-use Rattle.mseed.specs.declared.fill_fault.FillFault.{FillFault}
 use Rattle.mseed.proofs.live.serve_to_the_end.Goals as goal
 
 pub returns-in-Ok-clause-ended : goal.returns-in-Ok-clause-ended
@@ -14,9 +12,7 @@ returns-in-Ok-serve-clause-ended g c start v =
     input_wrong c.in-Err.fault (g.E.Sink.written c.refuse_to_serve-status.new.errors)
     (subst (λ (bytes : List ℕ). IsInputFault (places_of start) bytes c.in-Err.fault)
     (sym (c.serve-in-Err.ensures.unread c.in-Err.ensures.ended).1) (c.in-Err.ensures.fault start v))
-    (subst (λ (f : FillFault). Tells (fill_text f) (g.E.Sink.written c.args.errors.now)
-    (g.E.Sink.written c.refuse_to_serve-status.new.errors)) c.fill_fault.ensures
-    c.refuse_to_serve-status.ensures.reported)
+    c.refuse_to_serve-status.ensures.reported
     (subst (λ (n : ℕ). EndsWith c.serve-in-Err.new.self (g.R.Ready.is_over c.serve-in-Err.new.ready) n
     c.end_of-in-Ok-serve.result (g.E.Sink.written c.refuse_to_serve-status.new.errors)
     (g.E.Sink.written c.end_of-in-Ok-serve.new.errors)) c.refuse_to_serve-status.ensures.status
@@ -27,8 +23,6 @@ returns-in-Err-serve-clause-ended g c start v =
     for_long c.in-Err.fault c.in-Err-serve.field-0 (g.E.Sink.written c.refuse_to_serve-status.new.errors)
     (subst (λ (bytes : List ℕ). IsInputFault (places_of start) bytes c.in-Err.fault)
     (sym (c.serve-in-Err.ensures.unread c.in-Err.ensures.ended).1) (c.in-Err.ensures.fault start v))
-    (subst (λ (f : FillFault). Tells (fill_text f) (g.E.Sink.written c.args.errors.now)
-    (g.E.Sink.written c.refuse_to_serve-status.new.errors)) c.fill_fault.ensures
-    c.refuse_to_serve-status.ensures.reported)
+    c.refuse_to_serve-status.ensures.reported
     (c.in-Err-serve.ensures.fault start (c.in-Err.ensures.serving start v)) c.link_failed.ensures.status
     c.link_failed.ensures.reported

@@ -3,7 +3,7 @@ use Rattle.mseed_record.specs.declared.framer.Scan.{Scan}
 use Rattle.mseed_record.specs.declared.framer.Scan.TheVariants as scans
 use Rattle.mseed_record.specs.Record.{IsRecord}
 use Rattle.mseed_record.specs.Scan.{Decides, HasNoRecord, HasNoShorter}
-use Rattle.slink_live.specs.Input.{places_of}
+use Rattle.slink_feed.specs.Intake.{places_of}
 use Rattle.slink_live.specs.Served.{IntakeState}
 use Rattle.slink_live.specs.private.Cutting.{waits}
 use Rattle.slink_live.proofs.Cuts.{refused_long, refused_not, refused_other, whole_record}

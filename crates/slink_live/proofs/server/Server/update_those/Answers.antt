@@ -1,5 +1,5 @@
-use Rattle.std.proofs.Common.{◌≡◌, ◌≤◌, arith, ap, length, refl, subst, Option, None, get_or}
-use Rattle.slink_live.specs.Served.{LinkState, ServerState}
+use Rattle.std.proofs.Common.{arith, ap, length, refl, subst, None, get_or}
+use Rattle.slink_live.specs.Served.{ServerState}
 use Rattle.slink_live.specs.private.Granting.{LeavesOut}
 use Rattle.slink_live.proofs.Settling.{settled_but, settled_more, settled_none, settled_past}
 use Rattle.slink_live.proofs.Slots.{closes_both, closes_none}

@@ -1,48 +1,18 @@
--- Which ring takes a record.
-use Rattle.std.proofs.Common.{◌≡◌, ℕ, zero, suc, ◌+◌, ◌<◌, ◌≤◌, ◌∙◌, ap, subst, refl, sym, arith, Bool, true, false}
-use Rattle.std.proofs.Common.{◌⊎◌, List}
-use Rattle.std.proofs.Common.{[], ◌∷◌, ◌++◌, length, set, Some, None, option_map, slice_get}
-use Rattle.std.proofs.Common.{if◌then◌else◌, inl, inr}
-use Rattle.std.proofs.lemmas.Option.{slice_get-map}
-use Rattle.slink_wire.specs.Place.{Bears, Fields}
-use Rattle.slink_wire.proofs.Bearing.{bears_fails, bears_passes}
-use Rattle.slink_feed.specs.Rings.{BearsNone, IsBearer}
+-- The rings, record after record.
+use Rattle.std.proofs.Common.{◌≡◌, ℕ, zero, suc, ◌+◌, ◌≤◌, ◌⊎◌, ◌∙◌, ap, subst, refl, sym, arith, Bool, true, false}
+use Rattle.std.proofs.Common.{inl, inr, List, [], ◌∷◌, ◌++◌, length, set, Some, None, slice_get, if◌then◌else◌}
+use Rattle.slink_feed.specs.Intake.{is_of, places_of, pushed}
 use Rattle.slink_feed.specs.Session.{Fits, State}
 use Rattle.slink_feed.specs.Window.{Window, with_record}
 use Rattle.slink_feed.proofs.Fitting.{fits_pushed}
-use Rattle.slink_feed.proofs.Items.{within_is}
-use Rattle.slink_live.specs.Input.{fed, is_of, places_of, pushed}
+use Rattle.slink_feed.proofs.Intakes.{places_pushed}
+use Rattle.slink_live.specs.Input.{fed}
 use Rattle.slink_live.specs.Served.{IsBelow}
-use Rattle.slink_live.specs.private.Cutting.{IsOfNone, IsPushed}
 
 same_some : (v w : Window) → Some v ≡ Some w → v ≡ w
 same_some v w e = cc e
 
--- The first ring of its place takes it.
-pub pushed_at : (feed : List Window) (r : List ℕ) (k : ℕ) (w : Window) → slice_get feed k ≡ Some w → Bears r w.place
-    → ((j : ℕ) (v : Window) → j < k → slice_get feed j ≡ Some v → ¬ (Bears r v.place))
-    → pushed feed r ≡ set feed k (with_record w r)
-pushed_at [] r k w here bears first = absurd (let bad : None ≡ Some w = here in cc bad)
-pushed_at (v ∷ ws) r zero w here bears first =
-    let same : v ≡ w = same_some v w here in
-    ap (λ (t : Bool). if t then with_record v r ∷ ws else v ∷ pushed ws r)
-    (bears_passes v.place r (subst (λ (x : Window). Bears r x.place) (sym same) bears))
-    ∙ ap (λ (x : Window). with_record x r ∷ ws) same
-pushed_at (v ∷ ws) r (suc k) w here bears first =
-    ap (λ (t : Bool). if t then with_record v r ∷ ws else v ∷ pushed ws r)
-    (bears_fails v.place r (first 0 v (omega arith) refl))
-    ∙ ap (λ xs. v ∷ xs) (pushed_at ws r k w here bears (λ j x lt there. first (suc j) x (omega (arith, lt)) there))
-
 -- the places stay
-places_if : (t : Bool) (v : Window) (ws xs : List Window) (r : List ℕ) → places_of xs ≡ places_of ws
-    → places_of (if t then with_record v r ∷ ws else v ∷ xs) ≡ places_of (v ∷ ws)
-places_if true v ws xs r e = refl
-places_if false v ws xs r e = ap (λ ps. v.place ∷ ps) e
-
-pub places_pushed : (feed : List Window) (r : List ℕ) → places_of (pushed feed r) ≡ places_of feed
-places_pushed [] r = refl
-places_pushed (v ∷ ws) r = places_if (is_of v.place r) v ws (pushed ws r) r (places_pushed ws r)
-
 pub places_fed : (feed : List Window) (records : List (List ℕ)) → places_of (fed feed records) ≡ places_of feed
 places_fed feed [] = refl
 places_fed feed (r ∷ rs) = places_fed (pushed feed r) rs ∙ places_pushed feed r
@@ -50,33 +20,6 @@ places_fed feed (r ∷ rs) = places_fed (pushed feed r) rs ∙ places_pushed fee
 pub fed_append : (feed : List Window) (rs more : List (List ℕ)) → fed feed (rs ++ more) ≡ fed (fed feed rs) more
 fed_append feed [] more = refl
 fed_append feed (r ∷ rs) more = fed_append (pushed feed r) rs more
-
-pub place_at : (feed : List Window) (k : ℕ) (w : Window) → slice_get feed k ≡ Some w
-    → slice_get (places_of feed) k ≡ Some w.place
-place_at feed k w here = slice_get-map (λ (v : Window). v.place) feed k ∙ ap (option_map (λ (v : Window). v.place)) here
-
-pub window_of : (feed : List Window) (k : ℕ) (p : Fields) → slice_get (places_of feed) k ≡ Some p
-    → (w : Window) × (slice_get feed k ≡ Some w) × (w.place ≡ p)
-window_of [] k p h = absurd (let bad : None ≡ Some p = h in cc bad)
-window_of (v ∷ ws) zero p h = (v, refl, (let both : Some v.place ≡ Some p = h in cc both))
-window_of (v ∷ ws) (suc k) p h = window_of ws k p h
-
-pub of_none : (feed : List Window) (r : List ℕ) → BearsNone feed r → IsOfNone (places_of feed) r
-of_none feed r none k p here bears =
-    let at : (w : Window) × (slice_get feed k ≡ Some w) × (w.place ≡ p) = window_of feed k p here in
-    none k at.0 at.1 (subst (Bears r) (sym at.2) bears)
-
-pub is_pushed : (feed new : List Window) (r : List ℕ) (k : ℕ) → IsBearer feed r k
-    → ((w : Window) → slice_get feed k ≡ Some w → new ≡ set feed k (with_record w r)) → IsPushed feed new r
-is_pushed feed new r k b done =
-    let at : (w : Window) × (slice_get feed k ≡ Some w) = within_is feed k b.within in
-    record {
-      k = k;
-      place = at.0.place;
-      there = place_at feed k at.0 at.1;
-      bears = b.bears at.0 at.1;
-      feed_is = done at.0 at.1 ∙ sym (pushed_at feed r k at.0 at.1 (b.bears at.0 at.1) b.first);
-    }
 
 pub below_more : (m n : ℕ) (feed : List Window) → m ≤ n → IsBelow m feed → IsBelow n feed
 below_more m n feed le below k w there = omega (arith, le, below k w there)

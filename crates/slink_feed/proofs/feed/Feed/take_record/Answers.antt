@@ -1,0 +1,27 @@
+use Rattle.std.proofs.Common.{rules, refl}
+use Rattle.slink_feed.proofs.Intakes.{not_of_feed, of_feed, pushed_is}
+use Rattle.slink_feed.proofs.feed.Feed.take_record.Goals as goal
+
+pub push-requires : goal.push-requires
+push-requires g c = (
+  search rules,
+  (
+    c.in-Some-bearer.ensures.some.within,
+    (c.in-Some-bearer.ensures.some.bears, λ w there. c.requires c.in-Some-bearer.k w there),
+  ),
+)
+
+pub returns-in-Some-bearer-clause-of : goal.returns-in-Some-bearer-clause-of
+returns-in-Some-bearer-clause-of g c =
+    of_feed c.args.self.now c.args.bytes.now c.in-Some.whole.now c.in-Some-bearer.k c.in-Some.ensures.cases.long
+    c.in-Some.ensures.cases.same c.in-Some-bearer.ensures.some
+
+pub returns-in-Some-bearer-clause-pushed : goal.returns-in-Some-bearer-clause-pushed
+returns-in-Some-bearer-clause-pushed g c =
+    pushed_is c.args.self.now c.push.new.self c.args.bytes.now c.in-Some.whole.now c.in-Some-bearer.k
+    c.in-Some.ensures.cases.same c.in-Some-bearer.ensures.some c.push.ensures.pushed
+
+pub returns-in-None-clause-foreign : goal.returns-in-None-clause-foreign
+returns-in-None-clause-foreign g c =
+    not_of_feed c.args.self.now c.args.bytes.now c.in-Some.whole.now c.in-Some.ensures.cases.same
+    (c.in-None.ensures.none refl)
