@@ -1,4 +1,4 @@
--- What a turn of a session comes to, by its parts.
+-- What a step of a session comes to, by its parts.
 use Rattle.std.proofs.Common.{◌≡◌, ◌≢◌, ℕ, ◌+◌, ◌≤◌, ◌<◌, ◌==◌, ◌&&◌, ◌||◌, ◌∙◌, zero, suc, refl, arith, ap, sym, subst}
 use Rattle.std.proofs.Common.{inl, inr, Bool, true, false, not, List, [], ◌∷◌, ◌++◌, append-nil, length, take, Ok, Err}
 use Rattle.std.proofs.Common.{Result}
@@ -64,7 +64,7 @@ reported_is h n buf some bound = elim (eqb_tells n 0) [
 pub stays : {A : Type 0} {a b x y : A} → a ≡ x → a ≡ b → b ≡ y → x ≡ y
 stays p same q = sym p ∙ (same ∙ q)
 
--- a turn, where what was read before it is the same
+-- a step, where what was read before it is the same
 pub attends_as : (feed : List Window) (old new : Attending) (before now after : BytesRead) (r : Result Turn LinkFault)
     → now ≡ before → IfOk r (λ turn. Attends feed old new now after turn)
     → IfOk r (λ turn. Attends feed old new before after turn)

@@ -1,4 +1,4 @@
--- What the link of one session takes in its turns is what it was requested.
+-- What the link of one session takes in its steps is what it was requested.
 use Rattle.std.proofs.Common.{◌≡◌, ℕ, ◌+◌, ◌<◌, ◌==◌, inl, inr, refl, sym, ap, subst, ◌∙◌, arith, Bool, true, false}
 use Rattle.std.proofs.Common.{if◌then◌else◌, List, [], ◌∷◌, ◌++◌, append_assoc, append-nil, length, take, drop}
 use Rattle.std.proofs.Common.{take-append-drop, Option, Some, None, slice_get}
@@ -253,7 +253,7 @@ module _ (feed : List Window) where
         stream = rest.stream;
       }
 
-  -- What a turn leaves of it.
+  -- What a step leaves of it.
   record TurnOn (a now : Attending) : Type 0 where
     given : List Sent
     place : ℕ
@@ -318,7 +318,7 @@ module _ (feed : List Window) where
         (w.shown k first pushed shown.1);
   }
 
--- all turns
+-- all steps
 abbrev AllWrote : List (List Window) → Attending → Attending → Type 0
 AllWrote feeds a b = (bytes : List ℕ) × (b.written.bytes ≡ a.written.bytes ++ bytes) × Wrote feeds a.session.state bytes
 

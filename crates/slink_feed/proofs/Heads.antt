@@ -10,7 +10,7 @@ use Rattle.slink_feed.specs.Cutting.{record_begun}
 use Rattle.slink_feed.specs.private.Parts.{IsDue}
 use Rattle.slink_feed.proofs.Prefixes.{get_left}
 
--- bytes behind the first eight change nothing of them
+-- bytes after the first eight change nothing of them
 pub head_same : (xs ys : List ℕ) (n : ℕ) → 8 ≤ length xs → HasHead xs n → HasHead (xs ++ ys) n
 head_same xs ys n long has = (
   take-append-le 2 xs ys (omega (arith, long)) ∙ has.0,
@@ -28,7 +28,7 @@ head_before xs ys n long has = (
 pub one_begins : (xs : List ℕ) (a b : ℕ) → Begins xs a → Begins xs b → a ≡ b
 one_begins xs a b p q = let both : Some a ≡ Some b = sym p ∙ q in cc both
 
--- behind eight bytes of a packet that is begun, up to its end
+-- after eight bytes of a packet that is begun, up to its end
 pub due_body : (xs ys : List ℕ) → IsPacketBegun xs → 8 ≤ length xs → length xs + length ys ≤ 520 → IsDue (xs ++ ys)
 due_body xs ys (nothing e) long most = absurd (omega (arith, e, long))
 due_body xs ys (end_begun b short) long most = absurd (omega (arith, short, long))

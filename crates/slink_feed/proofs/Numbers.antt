@@ -1,4 +1,4 @@
--- The numbers of the records that a client tells of a place go up one by one.
+-- The numbers of the records that a client reports a place go up one by one.
 use Rattle.std.proofs.Common.{◌≡◌, ◌≢◌, ℕ, ◌+◌, ◌%◌, ◌^◌, inl, inr, zero, suc, refl, sym, ap, subst, ◌∙◌, arith, Bool}
 use Rattle.std.proofs.Common.{true, false, if◌then◌else◌, List, [], ◌∷◌, ◌++◌, length, set, get_or, Option, Some}
 use Rattle.std.proofs.Common.{None, IfSome, ◌-◌, ◌<◌, ◌≤◌, ◌&&◌, ◌||◌, map, nat_lt}
@@ -23,7 +23,7 @@ use Rattle.slink_feed.specs.Dialogue.{says_place, to_answer, to_place, reported,
 use Rattle.slink_feed.specs.Holding.{AreRising, GoBy, IsNext, Rise, Turn, connects, brings, numbers_in, numbers_of}
 use Rattle.slink_feed.specs.Holding.{talk_behind, turned}
 
--- what comes of a turn for a place: nothing is reported of it; or a record, of the number that it wants, if any
+-- what comes of a step for a place: nothing is reported of it; or a record, of the number that it wants, if any
 pub data Moved (k : ℕ) (t : Talk) (x : Talk × Event) : Type 0 where
   stays : numbers_in k x.1 ≡ [] → next_at x.0.wants k ≡ next_at t.wants k → Moved k t x
   moves : (n : ℕ) → numbers_in k x.1 ≡ n ∷ [] → IfSome (next_at t.wants k) (λ want. IsNext t.holes want n)
@@ -129,7 +129,7 @@ moved_wanted k j n bytes t w None at is = moved_reported k j n bytes t w at
 moved_wanted k j n bytes t w (Some want) at is =
     moved_if k j n bytes t w (is_taken t.holes want n) want at is (taken_next t.holes want n)
 
--- the first place that a record bears is one of the places
+-- the first place that a record carries is one of the places
 borne_some : (bytes : List ℕ) (o : Option Wanted) → is_borne bytes o ≡ true → (w : Wanted) × (o ≡ Some w)
 borne_some bytes None h = absurd (let bad : false ≡ true = h in cc bad)
 borne_some bytes (Some w) h = (w, refl)
@@ -186,7 +186,7 @@ moved_turn : (k : ℕ) (t : Talk) (turn : Turn) → Moved k t (turned t turn)
 moved_turn k t connects = moved_place k 0 t (want_at t.wants 0)
 moved_turn k t (brings w) = moved_read k t t.stage w
 
--- No turn changes whether the client goes past holes.
+-- No step changes whether the client goes past holes.
 kept_end : (t : Talk) (ending : Ending) → (ended ending t).0.holes ≡ t.holes
 kept_end t ending = refl
 

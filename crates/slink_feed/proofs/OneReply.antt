@@ -22,7 +22,7 @@ use Rattle.slink_feed.specs.Window.{Window}
 use Rattle.slink_feed.proofs.Closing.{Open, held_same, open_or, shut_on}
 use Rattle.slink_wire.proofs.Prefixes.{prefixes}
 
--- With more bytes a stream spells what it spelled, and lines behind that; once one was too long, none.
+-- With more bytes a stream spells what it spelled, and lines after that; once one was too long, none.
 record Grows (old new : Spelled) : Type 0 where
   more : List (List ℕ)
   lines : new.lines ≡ old.lines ++ more
@@ -170,7 +170,7 @@ module _ (feed : List Window) where
             ∙ (append-nil q.1 ∙ before.1)),
       )
 
-  -- What a session comes to in bytes behind a stream.
+  -- What a session comes to in bytes after a stream.
   record Ran (s : Standing) (stream bytes way : List ℕ) (last : Standing) (all : List ℕ) : Type 0 where
     prefix : List ℕ
     left : List ℕ

@@ -1,4 +1,4 @@
--- A turn of a session comes to one thing.
+-- A step of a session comes to one thing.
 use Rattle.std.proofs.Common.{◌≡◌, ℕ, ◌+◌, ◌≤◌, ◌<◌, ◌⊎◌, ◌==◌, zero, suc, inl, inr, refl, sym, ap, subst, ◌∙◌, arith}
 use Rattle.std.proofs.Common.{Bool, true, false, if◌then◌else◌, List, [], ◌∷◌, ◌++◌, append_assoc, append-nil, length}
 use Rattle.std.proofs.Common.{length-append, replicate, take, Option, Some, None, slice_get}
@@ -377,7 +377,7 @@ turned_once feed old a b before after t u stands (replies m bytes g e some few p
 turned_once feed old a b before after t u stands (replies m bytes g e some few p) (replies n more h f much short q) =
     (refl, replied_alike feed old m n a b bytes more stands g h (reported_same before more bytes (sym f ∙ e)) p q)
 
--- A link that failed in a turn.
+-- A link that failed in a step.
 emitted_alike : (a b : Attending) → AreAlike a b → EmittedAlike a b
 emitted_alike a b same = record { state = same.state; bytes = same.bytes; failures = same.failures }
 

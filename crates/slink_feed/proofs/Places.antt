@@ -98,7 +98,7 @@ pub none_left : (p : Window → Bool) (feed : List Window) (k : ℕ) (o : Option
 none_left p feed k o past before = before ∙ ap (position_from p k) (drop_of_length-le feed past)
 
 -- Which ring takes a record.
--- one more ring whose place a record doesn't bear
+-- one more ring whose place a record doesn't carry
 pub none_more : (feed : List Window) (r : List ℕ) (k : ℕ) (w : Window) → slice_get feed k ≡ Some w
     → ¬ (Bears r w.place) → ((j : ℕ) (v : Window) → j < k → slice_get feed j ≡ Some v → ¬ (Bears r v.place))
     → (j : ℕ) (v : Window) → j < k + 1 → slice_get feed j ≡ Some v → ¬ (Bears r v.place)

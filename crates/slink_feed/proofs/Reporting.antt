@@ -70,7 +70,7 @@ all_taken rs a b takes fine =
           absurd (omega (arith, emitted.failures, fine))
     ]
 
--- the bytes of the record that an event tells of
+-- the bytes of the record that an event reports
 pub record_bytes : (e : Event) → record_reported e ≡ bytes_in (record_in e)
 record_bytes events.None = refl
 record_bytes (events.Say line) = refl
@@ -166,7 +166,7 @@ reports_both old now new a b c p fine q = record {
   handed_over = handed_over_both p.records q.records a b c p.handed_over fine q.handed_over;
 }
 
--- What one who tells of records has reported, one call after another.
+-- What one who reports records has reported, one call after another.
 pub told_none : (t : Talk) (reporter : Account) (output errors : BytesWritten)
     → ReportsRecords t t reporter reporter output output errors errors
 told_none t reporter output errors = record {
@@ -182,7 +182,7 @@ told_both old now new r s t a b c d e f p fine q = record {
       q.reports;
 }
 
--- What an event tells of.
+-- What an event reports.
 reported_event : (talk : Talk) (bytes : List ℕ) (new : Listening) (event : Event) → Brings talk bytes new event
     → HasReported talk.holes talk.wants new.talk.wants (record_in event)
 reported_event talk bytes new event (whole w is h nothing) =

@@ -1,4 +1,4 @@
--- What a client tells of over a link, and over one link after another.
+-- What a client reports over a link, and over one link after another.
 use Rattle.std.proofs.Common.{◌≡◌, ℕ, ◌+◌, ◌%◌, ◌^◌, ◌<◌, refl, sym, ap, subst, ◌∙◌, arith, Bool, true, false, not}
 use Rattle.std.proofs.Common.{cond, nat_lt, ◌==◌, ◌&&◌, bytes_eq, if◌then◌else◌, List, [], ◌∷◌, ◌++◌, append_assoc}
 use Rattle.std.proofs.Common.{append-nil, length, length-drop, drop, map, slice_range, Option, Some, None, IfSome}
@@ -27,7 +27,8 @@ use Rattle.slink_feed.specs.Reported.{AreOf, HasReported, bytes_in, numbers_at, 
 use Rattle.slink_feed.proofs.Numbers.{Moved, moves, stays, bearer_some, get_want, go_on_more, kept_read, moved_reported}
 use Rattle.slink_feed.proofs.Numbers.{taken_next}
 
--- what comes of a whole: nothing is reported; or a record, of the place that it bears and of the number that this wants
+-- what comes of a whole: nothing is reported; or a record, of the place that it carries and of the number that this
+-- wants
 pub data Comes (t : Talk) (x : Talk × Event) : Type 0 where
   nothing : records_reported (telling x.1) ≡ [] → x.0.wants ≡ t.wants → Comes t x
   a_record : (k n : ℕ) (bytes : List ℕ) → length bytes ≡ 512 → bearer t.wants bytes ≡ Some k
@@ -94,7 +95,7 @@ comes_read t Packets bytes (Reply line) is = absurd is
 comes_read t Unlinked bytes w is = absurd is
 comes_read t (Ended e) bytes w is = absurd is
 
--- whether a record bears a place
+-- whether a record carries a place
 abbrev is_place : List ℕ → Option Fields → Bool
 is_place bytes None = false
 is_place bytes (Some p) = bytes_eq (slice_range bytes 8 13) p.station && bytes_eq (slice_range bytes 18 20) p.network
@@ -119,7 +120,7 @@ bearer_place wants bytes =
     ∙ ap (λ l. cond (nat_lt (position_or_len (is_place bytes) (map place_of wants)) l)
     (Some (position_or_len (is_place bytes) (map place_of wants))) None) (sym (length-map wants place_of))
 
--- The same places bear the same records.
+-- The same places carry the same records.
 bearer_same : (old new : Wants) (bytes : List ℕ) → places_of new ≡ places_of old → bearer new bytes ≡ bearer old bytes
 bearer_same old new bytes same = bearer_place new bytes
     ∙ (ap (position (is_place bytes)) same ∙ sym (bearer_place old bytes))
@@ -228,7 +229,7 @@ reported_brought t (b ∷ bs) are =
     (reported_both t.holes t.wants x.0.wants (talk_after x.0 bs).wants (records_reported (telling x.1))
     (records_reported (events_of x.0 bs)) one more)
 
--- what a client tells of a link
+-- what a client reports a link
 pub reported_link : (start : Talk) (stream : List ℕ) (events : List Event) (now : Listening)
     → Reads start stream events now → HasReported start.holes start.wants now.talk.wants (records_reported events)
 reported_link start stream events now reads =

@@ -122,7 +122,7 @@ words_more (x ∷ xs) (suc i) d lt =
     ∙ (ap (λ ys. word_of x ++ ys) (words_more xs i d (omega (arith, lt)))
     ∙ sym (append_assoc (word_of x) (words_of (take i xs)) (word_of (get_or xs i d))))
 
--- the places behind the first
+-- the places after the first
 pub behind_first : (ws : Wants) → take (length ws - 1) (drop 1 ws) ≡ drop 1 ws
 behind_first ws = take_all (length ws - 1) (drop 1 ws) (omega (arith, length-drop 1 ws))
 

@@ -1,4 +1,4 @@
--- A turn of a session with its link: what is due is sent, or else one read is answered.
+-- A step of a session with its link: what is due is sent, or else one read is answered.
 use Rattle.std.specs.Prelude.{◌≡◌, ◌≢◌, ℕ, ◌+◌, ◌≤◌, ◌<◌, List, [], ◌++◌, length}
 use Rattle.mseed_stream.specs.Device.{BytesRead, BytesWritten}
 use Rattle.slink_wire.specs.declared.reply.Reply.{Reply}
@@ -18,7 +18,7 @@ pub record RepliesToAll (feed : List Window) (old new : Attending) (bytes : List
   pub serves : Serves feed old.session bytes old.written.bytes new.session new.written.bytes
   pub failures : new.written.failures ≡ old.written.failures
 
--- The link failed within the reply to the piece behind a prefix of these bytes.
+-- The link failed within the reply to the piece after a prefix of these bytes.
 pub record FailsToReply (feed : List Window) (old new : Attending) (bytes : List ℕ) : Type 0 where
   pub prefix : List ℕ
   pub piece : List ℕ
@@ -36,7 +36,7 @@ pub record GoesOn (feed : List Window) (old new : Attending) : Type 0 where
   pub sends : SendsAll feed old new
   pub open_still : new.session.state.phase ≢ Closed
 
--- A turn: the session is closed, so that nothing is read; or the link is at its end; or the bytes that it gave, at most
+-- A step: the session is closed, so that nothing is read; or the link is at its end; or the bytes that it gave, at most
 -- 512, are answered.
 pub data Attends (feed : List Window) (old new : Attending) (before after : BytesRead) : Turn → Type 0 where
   is_closed : SendsAll feed old new → new.session.state.phase ≡ Closed → after ≡ before
@@ -46,8 +46,8 @@ pub data Attends (feed : List Window) (old new : Attending) (before after : Byte
       → 0 < length bytes → length bytes ≤ 512
       → RepliesToAll feed now new bytes → Attends feed old new before after turns.Goes
 
--- A turn in which the link failed: at a write of what was due, at the read, or at a write of a reply. The bytes that it
--- accepted in the turn are counted.
+-- A step in which the link failed: at a write of what was due, at the read, or at a write of a reply. The bytes that it
+-- accepted in the step are counted.
 pub data IsServeFault (feed : List Window) (old new : Attending) (before after : BytesRead) : LinkFault → Type 0 where
   at_send : (count : ℕ) → FailsToSend feed old new count → after ≡ before
       → IsServeFault feed old new before after (faults.Write count)

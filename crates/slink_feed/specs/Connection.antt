@@ -1,4 +1,4 @@
--- What the link of one session takes in its turns.
+-- What the link of one session takes in its steps.
 use Rattle.std.specs.Prelude.{◌≡◌, ◌≢◌, ℕ, List, [], ◌∷◌, ◌++◌, take, Some, None, slice_get}
 use Rattle.mseed_stream.specs.Device.{BytesRead}
 use Rattle.slink_feed.specs.declared.grant.Grant.{Grant}
@@ -26,7 +26,7 @@ pub data FailsInTurn : Attending → List (List Window) → Attending → Type 0
       (turn : Turn)
       → Attends feed a now before after turn → FailsInTurn now feeds b → FailsInTurn a (feed ∷ feeds) b
 
--- At each turn the ring of the place shows the last of the records that were pushed so far, which are a prefix of
+-- At each step the ring of the place shows the last of the records that were pushed so far, which are a prefix of
 -- these.
 abbrev pub ShowPushed : ℕ → ℕ → List (List ℕ) → List (List Window) → Type 0
 ShowPushed k first pushed [] = Unit {0}
@@ -39,7 +39,7 @@ abbrev pub bytes_sent : List Called → List ℕ
 bytes_sent [] = []
 bytes_sent (a ∷ more) = sent_bytes a.answer ++ bytes_sent more
 
--- In these turns a session sent these bytes, of packets, and `END` where all that was requested was sent: the packets
+-- In these steps a session sent these bytes, of packets, and `END` where all that was requested was sent: the packets
 -- of
 -- each place that has a grant are those of a stretch of its pushed records from the grant on, and there is none of any
 -- other place.
@@ -51,15 +51,15 @@ pub record SendsStretches (feeds : List (List Window)) (s : State) (bytes : List
       → ShowPushed k first pushed feeds → IsStretch first pushed g.position (packets_of k called)
   pub none : (k : ℕ) → grant_at s.grants k ≡ None → packets_of k called ≡ []
 
--- Two turns came to the same: the session stands so, and the link accepted the same bytes. What a session holds that is
--- closed tells nothing.
+-- Two steps came to the same: the session stands so, and the link accepted the same bytes. What a session holds that is
+-- closed makes no difference.
 pub record AreAlike (a b : Attending) : Type 0 where
   pub state : a.session.state ≡ b.session.state
   pub held : a.session.state.phase ≢ Closed → a.session.held ≡ b.session.held
   pub bytes : a.written.bytes ≡ b.written.bytes
   pub failures : a.written.failures ≡ b.written.failures
 
--- Two turns left the session in the same state, and the link accepted the same bytes.
+-- Two steps left the session in the same state, and the link accepted the same bytes.
 pub record EmittedAlike (a b : Attending) : Type 0 where
   pub state : a.session.state ≡ b.session.state
   pub bytes : a.written.bytes ≡ b.written.bytes

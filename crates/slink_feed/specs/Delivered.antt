@@ -11,7 +11,7 @@ pub record Numbered : Type 0 where
   pub number : ℕ
   pub bytes : List ℕ
 
--- Each is a record of the place that it bears, and of the number that this place then wants, if it wants one.
+-- Each is a record of the place that it carries, and of the number that this place then wants, if it wants one.
 abbrev pub AreWanted : Talk → List Numbered → Type 0
 AreWanted t [] = Unit {0}
 AreWanted t (r ∷ rs) = (length r.bytes ≡ 512) × (r.number < 2 ^ 24) × (bearer t.wants r.bytes ≡ Some r.place)
@@ -23,7 +23,7 @@ abbrev pub all_packets : List Numbered → List ℕ
 all_packets [] = []
 all_packets (r ∷ rs) = packet_bytes r.number r.bytes ++ all_packets rs
 
--- the events that tell of them
+-- the events that report them
 abbrev pub record_events : List Numbered → List Event
 record_events [] = []
 record_events (r ∷ rs) = events.Record r.place r.number r.bytes ∷ record_events rs
@@ -33,7 +33,7 @@ abbrev pub numbered : ℕ → ℕ → List (List ℕ) → List Numbered
 numbered k number [] = []
 numbered k number (r ∷ rs) = record { place = k; number = number % 2 ^ 24; bytes = r } ∷ numbered k (number + 1) rs
 
--- Each has 512 bytes, and bears this place as the first of those that are requested.
+-- Each has 512 bytes, and carries this place as the first of those that are requested.
 abbrev pub AreBorne : Wants → ℕ → List (List ℕ) → Type 0
 AreBorne wants k [] = Unit {0}
 AreBorne wants k (r ∷ rs) = (length r ≡ 512) × (bearer wants r ≡ Some k) × AreBorne wants k rs

@@ -1,4 +1,4 @@
--- What a client says over a link, and what it makes of what the link brings.
+-- The requests that a client sends over a link, and what it makes of the replies and packets that the link brings.
 use Rattle.std.specs.Prelude.{◌≡◌, ℕ, Bool, false, ◌+◌, ◌-◌, ◌%◌, ◌^◌, ◌<◌, ◌==◌, ◌&&◌, ◌||◌, nat_lt, List, ◌++◌}
 use Rattle.std.specs.Prelude.{length, map}
 use Rattle.std.specs.Prelude.{replicate, bytes_eq, codes, Option, Some, None, IfSome, All, nat_eq, unwrap_or, position}
@@ -68,7 +68,7 @@ pub data Whole : Type 0 where
   End : Whole
   Garbage : Whole
 
--- the event that tells of an ending
+-- the event that reports an ending
 abbrev pub event_of : Ending → Event
 event_of endings.End = events.End
 event_of (endings.Refused k) = events.Refused k
@@ -83,7 +83,7 @@ ended ending t = (record t { stage = Ended ending }, event_of ending)
 abbrev pub says : Talk → Stage → Request → Talk × Event
 says t stage request = (record t { stage = stage }, events.Say (record { items = request_bytes request }))
 
--- the STATION of a place; behind the last place, the END
+-- the STATION of a place; after the last place, the END
 abbrev pub to_place : Option Wanted → ℕ → Talk → Talk × Event
 to_place (Some w) k t = says t (Station k) (requests.Station w.place)
 to_place None k t = says t Packets requests.End
@@ -115,7 +115,7 @@ is_borne bytes None = false
 is_borne bytes (Some w) = bytes_eq (slice_range bytes 8 13) w.place.station
     && bytes_eq (slice_range bytes 18 20) w.place.network
 
--- the first place that a record bears
+-- the first place that a record carries
 abbrev pub bearer : Wants → List ℕ → Option ℕ
 bearer wants bytes = position (is_borne bytes) wants
 

@@ -1,4 +1,4 @@
--- A turn of a client with its link: one read, and what comes of the bytes that it gave.
+-- A step of a client with its link: one read, and what comes of the bytes that it gave.
 use Rattle.std.specs.Prelude.{◌≡◌, ◌≢◌, ◌⊎◌, ℕ, ◌≤◌, ◌<◌, Bool, true, false, List, [], ◌∷◌, ◌++◌, length}
 use Rattle.std.specs.Prelude.{IfErr, IfOk, Result}
 use Rattle.mseed_stream.specs.Device.{BytesRead, IsPrefixOf, BytesWritten}
@@ -16,7 +16,7 @@ use Rattle.slink_feed.specs.Dialogue.{Talk}
 use Rattle.slink_feed.specs.Listening.{IsLinked, Listening, Reads}
 use Rattle.slink_feed.specs.Turns.{Emitted, EmittedPrefix, failed_once, reported_once}
 
--- the line that an event says
+-- the line that an event has for the link
 abbrev pub line_written : Event → List ℕ
 line_written events.None = []
 line_written (events.Say line) = line.items
@@ -27,7 +27,7 @@ line_written (events.Gap k want got) = []
 line_written events.Garbage = []
 line_written events.Foreign = []
 
--- the bytes of the record that an event tells of
+-- the bytes of the record that an event reports
 abbrev pub record_reported : Event → List ℕ
 record_reported events.None = []
 record_reported (events.Say line) = []
@@ -47,16 +47,16 @@ joined_by given (e ∷ es) = given e ++ joined_by given es
 abbrev pub lines_written : List Event → List ℕ
 lines_written reported = joined_by line_written reported
 
--- the bytes of the records that they tell of
+-- the bytes of the records that they report
 abbrev pub bytes_reported : List Event → List ℕ
 bytes_reported reported = joined_by record_reported reported
 
--- A client reads on by these bytes, of which it tells these events, whatever it read before.
+-- A client reads on by these bytes, of which it makes these events, whatever it read before.
 abbrev pub ReadsOn : Listening → List ℕ → List Event → Listening → Type 0
 ReadsOn old bytes reported new = (start : Talk) (stream : List ℕ) (before : List Event)
     → Reads start stream before old → Reads start (stream ++ bytes) (before ++ reported) new
 
--- Of these bytes a client accepted a prefix, of which it tells these events.
+-- Of these bytes a client accepted a prefix, of which it makes these events.
 pub record Takes (old new : Listening) (bytes : List ℕ) (reported : List Event) : Type 0 where
   pub taken : List ℕ
   pub prefix : IsPrefixOf taken bytes
@@ -68,8 +68,8 @@ pub record Fetching : Type 0 where
   pub written : BytesWritten
   pub output : BytesWritten
 
--- A client accepted these bytes: all of them, unless it came to an end. The lines that it says went to the link, and
--- the records that it tells of went to the output.
+-- A client accepted these bytes: all of them, unless it came to an end. Its lines went to the link, and
+-- the records that it reports went to the output.
 pub record Delivers (old new : Fetching) (bytes : List ℕ) : Type 0 where
   pub reported : List Event
   pub takes : Takes old.client new.client bytes reported
@@ -126,7 +126,7 @@ abbrev pub turn_after : List ℕ → Stage → Turn
 turn_after [] stage = turns.Closed
 turn_after (b ∷ bs) stage = turn_at stage
 
--- A turn: one read gave these bytes, at most 1024, and what came of them is done.
+-- A step: one read gave these bytes, at most 1024, and what came of them is done.
 pub record Fetches (old new : Fetching) (before after : BytesRead) (turn : Turn) : Type 0 where
   pub bytes : List ℕ
   pub read : after ≡ reported_once before bytes
@@ -135,7 +135,7 @@ pub record Fetches (old new : Fetching) (before after : BytesRead) (turn : Turn)
   pub nothing : bytes ≡ [] → new ≡ old
   pub turn_is : turn ≡ turn_after bytes new.client.talk.stage
 
--- A turn in which a write failed: one read gave these bytes.
+-- A step in which a write failed: one read gave these bytes.
 pub record IsCutShort (old new : Fetching) (before after : BytesRead) (fault : LinkFault) : Type 0 where
   pub bytes : List ℕ
   pub read : after ≡ reported_once before bytes
@@ -148,8 +148,8 @@ IsFetchFault faults.Read old new before after = (new ≡ old) × (after ≡ fail
 IsFetchFault (faults.Write count) old new before after = IsCutShort old new before after (faults.Write count)
 IsFetchFault (faults.Output count) old new before after = IsCutShort old new before after (faults.Output count)
 
--- What a call that takes a turn comes to: a turn, or what failed in it. The bytes that the client had kept read as what
--- is begun: so the turn tells what they read as with those of the link.
+-- What a call that takes a step comes to: a step, or what failed in it. The bytes that the client had kept read as what
+-- is begun: so the step tells what they read as with those of the link.
 pub record TakesTurn (result : Result Turn LinkFault) (old new : Fetching) (before after : BytesRead) : Type 0 where
   pub ok : IfOk result (λ turn. Fetches old new before after turn)
   pub fault : IfErr result (λ fault. IsFetchFault fault old new before after)

@@ -1,4 +1,4 @@
--- What a client tells of a place, over any links and whatever they bring.
+-- What a client reports a place, over any links and whatever they bring.
 use Rattle.std.specs.Prelude.{◌⊎◌, Bool, true, false, ◌<◌, ◌≤◌, IfSome, map}
 use Rattle.std.specs.Prelude.{◌≡◌, ℕ, ◌+◌, ◌%◌, ◌^◌, ◌==◌, List, [], ◌∷◌, ◌++◌, Option, Some, None, if◌then◌else◌}
 use Rattle.slink_feed.specs.declared.dialogue.Event.{Event}
@@ -39,7 +39,7 @@ abbrev pub IsNext : Bool → ℕ → ℕ → Type 0
 IsNext false want number = number ≡ want
 IsNext true want number = (number ≡ want) ⊎ ((0 < ahead_of want number) × (ahead_of want number < 2 ^ 23))
 
--- Each number is taken where one is wanted, if any is, and the next one is wanted behind it.
+-- Each number is taken where one is wanted, if any is, and the next one is wanted after it.
 abbrev pub GoBy : Bool → Option ℕ → List ℕ → Option ℕ → Type 0
 GoBy holes want [] last = last ≡ want
 GoBy holes None (n ∷ ns) last = GoBy holes (Some ((n + 1) % 2 ^ 24)) ns last
@@ -49,7 +49,7 @@ GoBy holes (Some want) (n ∷ ns) last = IsNext holes want n × GoBy holes (Some
 abbrev pub GoOn : Option ℕ → List ℕ → Option ℕ → Type 0
 GoOn want ns last = GoBy false want ns last
 
--- Positions go up, each one from the one behind the last by less than half of all numbers: none comes twice.
+-- Positions go up, each one from the one after the last by less than half of all numbers: none comes twice.
 abbrev pub Rise : ℕ → List ℕ → Type 0
 Rise position [] = Unit {0}
 Rise position (p ∷ ps) = (position ≤ p) × (p < position + 2 ^ 23) × Rise (p + 1) ps

@@ -71,7 +71,7 @@ abbrev pub talk_after : Talk → List Brought → Talk
 talk_after talk [] = talk
 talk_after talk (b ∷ bs) = talk_after (read talk b.whole).0 bs
 
--- the events that tell of them
+-- the events that report them
 abbrev pub events_of : Talk → List Brought → List Event
 events_of talk [] = []
 events_of talk (b ∷ bs) = telling (read talk b.whole).1 ++ events_of (read talk b.whole).0 bs
@@ -80,7 +80,7 @@ abbrev pub bytes_of : List Brought → List ℕ
 bytes_of [] = []
 bytes_of (b ∷ bs) = b.bytes ++ bytes_of bs
 
--- A stream of bytes reads as wholes, of which these events tell, and as bytes of one that is begun.
+-- A stream of bytes reads as wholes, which these events report, and as bytes of one that is begun.
 pub record Reads (start : Talk) (stream : List ℕ) (events : List Event) (now : Listening) : Type 0 where
   pub brought : List Brought
   pub are_brought : AreBrought start brought

@@ -1,4 +1,4 @@
--- What a client tells of, over any links: the records of its places.
+-- What a client reports, over any links: the records of its places.
 use Rattle.std.specs.Prelude.{◌≡◌, ℕ, Bool, ◌==◌, List, [], ◌∷◌, ◌++◌, length, map, Option, Some, option_map}
 use Rattle.std.specs.Prelude.{if◌then◌else◌}
 use Rattle.slink_wire.specs.Place.{Fields}
@@ -8,7 +8,7 @@ use Rattle.slink_feed.specs.Delivered.{Numbered}
 use Rattle.slink_feed.specs.Dialogue.{Wants, bearer, next_at}
 use Rattle.slink_feed.specs.Holding.{GoBy}
 
--- the record that an event tells of, where it is one
+-- the record that an event reports, where it is one
 abbrev pub record_in : Event → List Numbered
 record_in events.None = []
 record_in (events.Say bytes) = []
@@ -19,7 +19,7 @@ record_in (events.Gap k want got) = []
 record_in events.Garbage = []
 record_in events.Foreign = []
 
--- the records that events tell of, in their order
+-- the records that events report, in their order
 abbrev pub records_reported : List Event → List Numbered
 records_reported [] = []
 records_reported (e ∷ es) = record_in e ++ records_reported es
@@ -34,7 +34,7 @@ abbrev pub bytes_in : List Numbered → List ℕ
 bytes_in [] = []
 bytes_in (r ∷ rs) = r.bytes ++ bytes_in rs
 
--- Each has 512 bytes, and bears its place as the first of those that are requested.
+-- Each has 512 bytes, and carries its place as the first of those that are requested.
 abbrev pub AreOf : Wants → List Numbered → Type 0
 AreOf wants [] = Unit {0}
 AreOf wants (r ∷ rs) = (length r.bytes ≡ 512) × (bearer wants r.bytes ≡ Some r.place) × AreOf wants rs

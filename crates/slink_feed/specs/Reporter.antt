@@ -30,7 +30,7 @@ telling_of wants firsts = record { wants = wants; firsts = replicate 16 firsts; 
 abbrev pub first_line : Fields → ℕ → List ℕ
 first_line place number = codes "mseed: first " ++ label_of place ++ codes ":" ++ hexadecimal 6 number ++ codes "\n"
 
--- the line of a record that comes behind a hole: the number that was wanted, and the one that came
+-- the line of a record that comes after a hole: the number that was wanted, and the one that came
 abbrev pub hole_line : Fields → ℕ → ℕ → List ℕ
 hole_line place want got = codes "mseed: hole " ++ label_of place ++ codes " " ++ hexadecimal 6 want ++ codes " "
     ++ hexadecimal 6 got ++ codes "\n"
@@ -70,7 +70,7 @@ abbrev pub telling_behind : Telling → List Numbered → Telling
 telling_behind t [] = t
 telling_behind t (r ∷ rs) = telling_behind (telling_past t r.place r.number) rs
 
--- the words that name a number, where one is known
+-- the arguments that name a number, where one is known
 abbrev pub number_behind : List ℕ → Option ℕ → List ℕ
 number_behind name None = []
 number_behind name (Some n) = name ++ hexadecimal 6 n
@@ -90,7 +90,7 @@ abbrev pub words_of : Wants → List ℕ
 words_of [] = []
 words_of (w ∷ ws) = word_of w ++ words_of ws
 
--- the words of a fetch that goes on with these places
+-- the arguments of a `fetch` that goes on with these places
 abbrev pub next_line : Option Wanted → Wants → List ℕ
 next_line first others = codes "mseed: next" ++ options_of first ++ words_of others ++ codes "\n"
 
@@ -103,7 +103,7 @@ wants_left failed None wants = wants
 wants_left false (Some last) wants = wants
 wants_left true (Some last) wants = with_next wants last.0 last.1
 
--- what one who tells of records has come to: what is reported, and whether the output accepted a whole record since it
+-- what one who reports records has come to: what is reported, and whether the output accepted a whole record since it
 -- was called to note that
 pub record Account : Type 0 where
   pub telling : Telling

@@ -1,4 +1,4 @@
--- What comes of the records that a client tells of: they are reported on standard error, and the output takes them.
+-- What comes of the records that a client reports: they are reported on standard error, and the output takes them.
 use Rattle.std.specs.Prelude.{◌≡◌, ℕ, ◌≤◌, List, [], ◌∷◌, ◌++◌, length, Result}
 use Rattle.mseed_stream.specs.Device.{BytesRead, BytesWritten}
 use Rattle.slink_feed.specs.declared.turn.LinkFault.{LinkFault}
@@ -48,7 +48,7 @@ pub record ReportsRecords (old new : Talk) (reporter_old reporter_new : Account)
   pub reports : Reports old new (kept output_old errors_old reporter_old.telling)
       (kept output_new errors_new reporter_new.telling)
 
--- A client took a turn with its link, in which each record was reported before the output took it.
+-- A client took a step with its link, in which each record was reported before the output took it.
 pub record TakesReportingTurn (result : Result Turn LinkFault) (old new : Fetching) (before after : BytesRead)
     (reporter_old reporter_new : Account) (errors_old errors_new : BytesWritten) : Type 0 where
   pub turn : TakesTurn result old new before after

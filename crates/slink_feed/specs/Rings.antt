@@ -19,13 +19,13 @@ LacksPlace (w ∷ ws) place = (w.place ≢ place) × LacksPlace ws place
 abbrev pub station_at : List Window → List ℕ → Option (List ℕ) → Option ℕ
 station_at feed sta net = position_from (λ w. matches w.place sta net) 0 feed
 
--- the first ring whose place a record bears
+-- the first ring whose place a record carries
 pub record IsBearer (feed : List Window) (bytes : List ℕ) (k : ℕ) : Type 0 where
   pub within : k < length feed
   pub bears : ForSome (slice_get feed k) (λ w. Bears bytes w.place)
   pub first : (j : ℕ) (w : Window) → j < k → slice_get feed j ≡ Some w → ¬ (Bears bytes w.place)
 
--- A record bears the place of no ring.
+-- A record carries the place of no ring.
 abbrev pub BearsNone : List Window → List ℕ → Type 0
 BearsNone feed bytes = (k : ℕ) (w : Window) → slice_get feed k ≡ Some w → ¬ (Bears bytes w.place)
 

@@ -9,11 +9,11 @@ use Rattle.slink_feed.specs.Session.{State, sent, sent_bytes}
 use Rattle.slink_feed.specs.Turns.{Emitted, EmittedPrefix}
 use Rattle.slink_feed.specs.Window.{Window}
 
--- the place behind another; behind the last place the first one
+-- the place after another; after the last place the first one
 abbrev pub place_behind : List Window → ℕ → ℕ
 place_behind feed k = if k + 1 == length feed then 0 else k + 1
 
--- Called for a packet of this place, then of the one behind it, and so on, a session gives these. It comes to the other
+-- Called for a packet of this place, then of the one after it, and so on, a session gives these. It comes to the other
 -- place and state.
 abbrev pub Gives : List Window → ℕ → State → List Sent → ℕ → State → Type 0
 Gives feed k s [] last new = (last ≡ k) × (new ≡ s)
@@ -45,7 +45,7 @@ pub record SendsAll (feed : List Window) (old new : Attending) : Type 0 where
   pub held : new.session.held ≡ old.session.held
   pub written : Emitted old.written new.written (all_sent given)
 
--- The link failed within the last that it gave, once it had taken so many bytes. The session stands behind that.
+-- The link failed within the last that it gave, once it had taken so many bytes. The session stands after that.
 pub record FailsToSend (feed : List Window) (old new : Attending) (count : ℕ) : Type 0 where
   pub given : List Sent
   pub last : Sent

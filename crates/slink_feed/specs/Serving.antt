@@ -24,7 +24,7 @@ IsAnswer feed s More new reply = (new ≡ s) × (reply ≡ Replies.Nothing)
 IsAnswer feed s (Line line) new reply = (c : Command) × IsCommand line.items c × (answered feed s c ≡ (new, reply))
 IsAnswer feed s TooLong new reply = ended s ≡ (new, reply)
 
--- The answer to what the one stream tells beyond the other.
+-- The answer to what the one stream has beyond the other.
 abbrev pub Answers : List Window → State → List ℕ → List ℕ → State → Reply → Type 0
 Answers feed s before after new reply = (what : What) × Tells what before after × IsAnswer feed s what new reply
 

@@ -1,4 +1,4 @@
--- What goes through the devices of a turn.
+-- What goes through the devices of a step.
 use Rattle.std.specs.Prelude.{◌≡◌, ℕ, Bool, true, false, ◌+◌, ◌||◌, ◌++◌, ◌<◌, List, [], ◌∷◌, length, take}
 use Rattle.mseed_stream.specs.Device.{BytesRead, BytesWritten}
 

@@ -1,5 +1,5 @@
 -- What a ring shows of its feed: the list of all records that were ever pushed, of which the one at index i has the
--- number first + i. Packets and commands tell numbers modulo 2^24.
+-- number first + i. Packets and commands have numbers modulo 2^24.
 use Rattle.std.specs.Prelude.{◌≡◌, ℕ, ◌+◌, ◌-◌, ◌^◌, ◌%◌, ◌≤◌, List, [], ◌∷◌, ◌++◌, length, drop, Option, Some, None}
 use Rattle.std.specs.Prelude.{slice_get, nat_lt, nat_le, if◌then◌else◌}
 use Rattle.slink_wire.specs.Place.{Fields}
@@ -36,7 +36,7 @@ with_record w bytes = record w { records = window w.capacity (w.records ++ bytes
 abbrev pub Resolves : Window → ℕ → ℕ → Type 0
 Resolves w seq number = (oldest_of w ≤ number) × (number ≤ w.next) × (number % 2 ^ 24 ≡ seq % 2 ^ 24)
 
--- how far the first number that is seq modulo 2^24 stands behind the oldest
+-- how far the first number that is seq modulo 2^24 stands after the oldest
 abbrev pub ahead_of : Window → ℕ → ℕ
 ahead_of w seq = (seq % 2 ^ 24 + 2 ^ 24 - oldest_of w % 2 ^ 24) % 2 ^ 24
 

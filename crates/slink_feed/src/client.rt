@@ -21,9 +21,9 @@ use std::marker::Model;
 
 /// A client that asks for the records of up to sixteen places over one link, and over another once that is lost.
 ///
-/// It takes no memory. A record is wanted once: the number that a place wants next moves by each record that is
-/// reported it, and by nothing else, so that each link goes on behind the last record of the one before. One that goes
-/// past holes leaves records out, and tells none twice.
+/// It asks for no memory. A record is wanted once: the number that a place wants next moves by each record that is
+/// reported of it, and by nothing else, so that each link goes on after the last record of the one before. A client
+/// that goes past holes leaves records out, and reports none twice.
 #[derive(Drop)]
 pub struct Client {
     dialogue: Dialogue,
@@ -52,7 +52,7 @@ impl Client {
     }
 
     /// A client as by [`Client::new`] that goes past holes: it takes a record too whose number is ahead of the one that
-    /// its place wants, by 1 to 2^23 - 1, modulo 2^24, and wants the one behind it next.
+    /// its place wants, by 1 to 2^23 - 1, modulo 2^24, and wants the one after it next.
     pub fn past_holes(places: &[(Place, Option<u32>)], mode: Mode) -> Client
         requires count { length places.now ≤ 16 }
         requires numbers { AreNumbers places.now }
@@ -117,7 +117,7 @@ impl Client {
         // Before the first link all bytes are dropped.
         ensures unlinked { self.old.talk.stage ≡ Stage.Unlinked
             → (result.0 ≡ length bytes.now) × (result.1 ≡ Event.None) × (self.new ≡ self.old) }
-        // Behind the last event of a link nothing is taken, and it is reported again.
+        // After the last event of a link nothing is taken, and it is reported again.
         ensures ended { (ending : Ending) → self.old.talk.stage ≡ Stage.Ended ending
             → (result.0 ≡ 0) × (result.1 ≡ event_of ending) × (self.new ≡ self.old) }
     {
@@ -190,7 +190,7 @@ impl Client {
         }
     }
 
-    /// What a turn comes to in which the link gave bytes.
+    /// What a step comes to in which the link gave bytes.
     pub(crate) fn turn(&self) -> Turn
         ensures { result ≡ turn_at self.now.talk.stage }
     {
@@ -210,7 +210,7 @@ fn line_of(bytes: &[u8]) -> &[u8]
     &bytes[..bytes.len() - 2]
 }
 
-/// Hears what the bytes of a reply have come to.
+/// Takes what the bytes of a reply have come to.
 fn read_reply(dialogue: &mut Dialogue, kept: &mut ArrayVec<u8, 520>, part: Part) -> Event
     requires stage { AwaitsReply dialogue.old.stage }
     requires part { IsReplyPart kept.old.items part }
@@ -227,7 +227,7 @@ fn read_reply(dialogue: &mut Dialogue, kept: &mut ArrayVec<u8, 520>, part: Part)
     event
 }
 
-/// Hears what the bytes of a packet have come to.
+/// Takes what the bytes of a packet have come to.
 fn read_packets(dialogue: &mut Dialogue, kept: &mut ArrayVec<u8, 520>, part: Part) -> Event
     requires stage { dialogue.old.stage ≡ Stage.Packets }
     requires part { IsPacketPart kept.old.items part }
@@ -244,7 +244,7 @@ fn read_packets(dialogue: &mut Dialogue, kept: &mut ArrayVec<u8, 520>, part: Par
     event
 }
 
-/// Hears the packet at the start of bytes, where its record is wanted.
+/// Takes the packet at the start of bytes, where its record is wanted.
 fn read_leading<'a>(dialogue: &mut Dialogue, bytes: &'a [u8]) -> Option<(usize, u32, &'a [u8; 512])>
     requires { dialogue.old.stage ≡ Stage.Packets }
     ensures brings { IfSome result (λ r. Brings dialogue.old (take 520 bytes.now)
@@ -264,7 +264,7 @@ fn read_leading<'a>(dialogue: &mut Dialogue, bytes: &'a [u8]) -> Option<(usize, 
     }
 }
 
-/// Hears a packet.
+/// Takes the bytes of a whole packet.
 fn read_packet(dialogue: &mut Dialogue, bytes: &[u8]) -> Event
     requires { (n : ℕ) × HasHead bytes.now n × (length bytes.now ≡ 520) }
     ensures read { (n : ℕ) × (r : List ℕ) × IsPacket bytes.now n r

@@ -1,4 +1,4 @@
-//! The laws of what the link of one session takes in its turns.
+//! The laws of what the link of one session accepts in its steps.
 ghost use Rattle.std.specs.Prelude.{◌≡◌, ◌++◌, List, ℕ};
 ghost use Rattle.mseed_stream.specs.Device.{BytesRead, IsPrefixOf};
 ghost use Rattle.slink_feed.specs.declared.turn.LinkFault.{LinkFault};
@@ -12,8 +12,8 @@ ghost use Rattle.slink_feed.specs.Window.{Window};
 
 use crate::session::Phase;
 
-/// A turn of a session with its link comes to one thing: what the session comes to, which bytes the link takes and what
-/// the turn is are determined by the session, by its feed, and by what the link gave.
+/// A step of a session with its link comes to one thing: what the session comes to, which bytes the link accepts and
+/// what the step returns are determined by the session, by its feed, and by what the link gave.
 pub fn one_turn()
     ensures turn { (feed : List Window) (old a b : Attending) (before after : BytesRead) (t u : Turn)
         → Stands old.session
@@ -21,14 +21,14 @@ pub fn one_turn()
     // So are the rounds in which it sends what is due.
     ensures rounds { (feed : List Window) (old a b : Attending) → SendsAll feed old a → SendsAll feed old b
         → AreAlike a b }
-    // So is a turn in which the link fails: by how many bytes it accepted, and by what was read before.
+    // So is a step in which the link fails: by how many bytes it accepted, and by what was read before.
     ensures fault { (feed : List Window) (old a b : Attending) (before after : BytesRead) (fault : LinkFault)
         → Stands old.session → IsServeFault feed old a before after fault
         → IsServeFault feed old b before after fault → EmittedAlike a b }
 {}
 
-/// From the moment on when a session streams, what its link takes in turns, with whatever is pushed between them and
-/// whatever the link tells, are packets, and `END` where all that was requested was sent. The packets of each place
+/// From the moment on when a session streams, what its link accepts in steps, with whatever is pushed between them and
+/// whatever the link gives, are packets, and `END` where all that was requested was sent. The packets of each place
 /// with a grant are a stretch of its records from the grant on, and no other place has any. Before that moment there
 /// are none.
 pub fn turns_send_stretches()
@@ -38,7 +38,7 @@ pub fn turns_send_stretches()
         → Stands old.session → TakesTurns old feeds new
         → (bytes : List ℕ) × (new.written.bytes ≡ old.written.bytes ++ bytes)
         × SendsStretches feeds old.session.state bytes }
-    // Where the link failed in the last turn, it accepted a prefix of such bytes.
+    // Where the link failed in the last step, it accepted a prefix of such bytes.
     ensures failed { (feeds : List (List Window)) (old new : Attending) → old.session.state.phase ≡ Phase.Streaming
         → Stands old.session → FailsInTurn old feeds new → (bytes prefix : List ℕ) × IsPrefixOf prefix bytes
         × (new.written.bytes ≡ old.written.bytes ++ prefix) × SendsStretches feeds old.session.state bytes }

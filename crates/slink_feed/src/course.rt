@@ -1,4 +1,4 @@
-//! Where a session stands: which commands it answers how, and which packets it sends.
+//! How far a session has come: which commands it answers how, and which packets it sends.
 ghost use Rattle.std.specs.Prelude.{◌≡◌, ◌≢◌, ◌⊎◌, ◌≤◌, ◌<◌, List, ℕ, None, IfErr, IfNone, IfOk, IfSome};
 ghost use Rattle.std.specs.Prelude.{◌↔◌, ◌^◌, IsTrue, Some, length, replicate, slice_get};
 ghost use Rattle.std.specs.Bool.{OnFalse, OnTrue};
@@ -37,7 +37,7 @@ impl Model for Course {
 }
 
 impl Course {
-    /// No place is chosen, and none has a grant.
+    /// A course in which no place is chosen, and none has a grant.
     pub(crate) fn new() -> Course
         ensures { result ≡ at Phase.Fresh (replicate 16 None) }
     {
@@ -176,13 +176,13 @@ impl Course {
         match self.phase {
             Phase::Fresh | Phase::Chosen(_) | Phase::Granted(_) => true,
             Phase::Streaming => self.is_up_to_date(feed),
-            // Of each place it is told that the session is closed.
+            // A call for any place reports that the session is closed.
             Phase::Closed => feed.len() == 0,
         }
     }
 
-    /// The same while records are sent: each place that has a grant has all its records, and where one has, not all
-    /// are fetched for good.
+    /// Whether a session that sends records sends nothing now: each place that has a grant has all its records, and
+    /// where one has, not all are fetched for good.
     fn is_up_to_date<A: Allocator>(&self, feed: &Feed<A>) -> bool
         requires { self.now.phase ≡ Phase.Streaming }
         ensures { IsTrue result ↔ IsWaiting feed.now self.now }
@@ -265,7 +265,7 @@ impl Course {
         }
     }
 
-    /// Where the session stands.
+    /// How far the session has come.
     fn phase(&self) -> Phase
         ensures { result ≡ self.now.phase }
     {

@@ -29,7 +29,7 @@ pub(crate) enum Part {
     Garbage,
 }
 
-/// Puts bytes behind those that are kept.
+/// Appends bytes to those that are kept.
 fn append(kept: &mut ArrayVec<u8, 520>, bytes: &[u8])
     requires { length kept.old.items + length bytes.now ≤ 520 }
     ensures { kept.new.items ≡ kept.old.items ++ bytes.now }
@@ -55,7 +55,7 @@ fn take_reply_byte(kept: &mut ArrayVec<u8, 520>, byte: u8) -> Part
     }
 }
 
-/// Whether this byte is an LF right behind a CR.
+/// Whether this byte is an LF right after a CR.
 fn ends_reply(bytes: &[u8], byte: u8) -> bool
     ensures { result ≡ ends_reply bytes.now byte }
 {

@@ -1,4 +1,4 @@
-//! What a client says over a link, and what it makes of what the link brings.
+//! The requests that a client sends over a link, and what it makes of the replies and packets of the server.
 ghost use Rattle.std.specs.Prelude.{◌≡◌, ◌≢◌, ◌+◌, ◌%◌, ◌^◌, ◌<◌, ◌≤◌, IfNone, IfSome, length};
 ghost use Rattle.slink_wire.specs.Request.{IsSpelled};
 ghost use Rattle.slink_feed.specs.Dialogue.{AreNumbers, IsStage, Reply, answer_of, at_packet, bearer, ended, event_of};
@@ -13,7 +13,7 @@ use arrayvec::ArrayVec;
 use slink_wire::{Place, Request};
 use std::marker::Model;
 
-/// A line that a client says.
+/// A line that a client sends, with its CR LF: at most 32 bytes.
 pub type Bytes = ArrayVec<u8, 32>;
 
 /// A place that is requested.
@@ -25,7 +25,7 @@ pub struct Wanted {
     pub next: Option<u32>,
 }
 
-/// What a client waits for. The places are named by their indices.
+/// What a client waits for. Places are named by their indices, counted from 0.
 #[derive(Clone, Copy)]
 pub enum Stage {
     /// A link.
@@ -62,7 +62,7 @@ pub enum Ending {
     Foreign,
 }
 
-/// What a client tells of the bytes that it accepted.
+/// What a client makes of the bytes that it accepted.
 #[derive(Debug, PartialEq, Eq, Drop)]
 pub enum Event {
     /// Nothing yet.
@@ -91,7 +91,7 @@ pub enum Event {
 }
 
 impl Ending {
-    /// The event that tells it.
+    /// The event that reports this ending.
     pub(crate) fn event(self) -> Event
         ensures { result ≡ event_of self }
     {
@@ -105,7 +105,7 @@ impl Ending {
     }
 }
 
-/// What a reply says.
+/// What the server replies to STATION, DATA or FETCH (SeedLink 3, handshaking).
 #[derive(Clone, Copy)]
 pub enum Answer {
     /// `OK`.
@@ -116,7 +116,7 @@ pub enum Answer {
     Neither,
 }
 
-/// What a reply says, from its line.
+/// What a reply says, by its line without CR LF.
 pub(crate) fn answer_of(line: &[u8]) -> Answer
     ensures { result ≡ answer_of line.now }
 {
@@ -129,7 +129,7 @@ pub(crate) fn answer_of(line: &[u8]) -> Answer
     }
 }
 
-/// What a client has come to in what it says and reads.
+/// How far a client has come in the handshake and the packets: what it waits for, and what it wants of each place.
 #[derive(Drop)]
 pub(crate) struct Dialogue {
     mode: Mode,
@@ -148,7 +148,7 @@ impl Model for Dialogue {
     ghost invariant = { λ d. AreShort d.wants × IsStage d.stage };
 }
 
-/// Whether a record bears a place.
+/// Whether a record's header has the station and network of a place that is wanted.
 fn is_borne(bytes: &[u8; 512], want: &Option<Wanted>) -> bool
     ensures { result ≡ is_borne bytes.now want.now }
 {
@@ -184,7 +184,7 @@ fn is_ahead(want: u32, number: u32) -> bool
 }
 
 impl Dialogue {
-    /// Before the first link; where it goes past holes, with `holes`.
+    /// A dialogue before its first link, which goes past holes where `holes` says so.
     pub(crate) fn new(places: &[(Place, Option<u32>)], mode: Mode, holes: bool) -> Dialogue
         requires count { length places.now ≤ 16 }
         requires numbers { AreNumbers places.now }
@@ -199,7 +199,7 @@ impl Dialogue {
         }
     }
 
-    /// What it waits for.
+    /// What the client waits for.
     pub(crate) fn stage(&self) -> Stage
         ensures { result ≡ self.now.stage }
     {
@@ -213,7 +213,7 @@ impl Dialogue {
         &self.wants
     }
 
-    /// The number that is wanted next of a place.
+    /// The number of the record that is wanted next of the place at an index, modulo 2^24, if one is.
     pub(crate) fn next(&self, k: usize) -> Option<u32>
         ensures value { result ≡ next_at self.now.wants k }
         ensures short { IfSome result (λ n. n < 2 ^ 24) }
@@ -237,7 +237,7 @@ impl Dialogue {
         }
     }
 
-    /// Says a request, and waits for what comes of it.
+    /// Returns the line of a request, and waits for what comes of it.
     fn say(&mut self, stage: Stage, request: Request) -> Bytes
         requires request { IsSpelled request }
         requires stage { IsStage stage }
@@ -247,7 +247,7 @@ impl Dialogue {
         request.bytes()
     }
 
-    /// Says the STATION of the place at an index; behind the last place, the END.
+    /// Returns the STATION line of the place at an index; after the last place, the END line.
     pub(crate) fn say_place(&mut self, k: usize) -> Bytes
         ensures { says_place k self.old ≡ (self.new, Event.Say result) }
     {
@@ -257,7 +257,7 @@ impl Dialogue {
         }
     }
 
-    /// Says the DATA or FETCH of a place.
+    /// Returns the DATA or FETCH line of a place.
     fn say_number(&mut self, k: usize) -> Bytes
         requires { k < 16 }
         ensures { says_number k self.old ≡ (self.new, Event.Say result) }
@@ -270,7 +270,7 @@ impl Dialogue {
         self.say(Stage::Number(k), request)
     }
 
-    /// Hears a reply.
+    /// Takes a reply, by its line without CR LF, and returns the event that it makes.
     pub(crate) fn read_reply(&mut self, line: &[u8]) -> Event
         requires { AwaitsReply self.old.stage }
         ensures read { read self.old (Reply line.now) ≡ (self.new, result) }
@@ -283,7 +283,7 @@ impl Dialogue {
         }
     }
 
-    /// Hears the reply to the STATION of a place.
+    /// Takes the reply to the STATION line of a place.
     fn read_station(&mut self, k: usize, answer: Answer) -> Event
         requires { k < 16 }
         ensures read { to_answer answer k (says_number k self.old) self.old ≡ (self.new, result) }
@@ -296,7 +296,7 @@ impl Dialogue {
         }
     }
 
-    /// Hears the reply to the DATA or FETCH of a place.
+    /// Takes the reply to the DATA or FETCH line of a place.
     fn read_number(&mut self, k: usize, answer: Answer) -> Event
         requires { k < 16 }
         ensures read { to_answer answer k (says_place (k + 1) self.old) self.old ≡ (self.new, result) }
@@ -309,7 +309,7 @@ impl Dialogue {
         }
     }
 
-    /// Hears a packet.
+    /// Takes a packet, by its number modulo 2^24 and its record, and returns the event that it makes.
     pub(crate) fn read_packet(&mut self, number: u32, bytes: &[u8; 512]) -> Event
         requires { number < 2 ^ 24 }
         ensures read { at_packet (bearer self.old.wants bytes.now) number bytes.now self.old ≡ (self.new, result) }
@@ -321,7 +321,7 @@ impl Dialogue {
         }
     }
 
-    /// Hears a record of a place.
+    /// Takes a record of a place, with its number modulo 2^24.
     fn read_record(&mut self, k: usize, number: u32, bytes: &[u8; 512]) -> Event
         requires place { k < 16 }
         requires number { number < 2 ^ 24 }
@@ -341,7 +341,7 @@ impl Dialogue {
         }
     }
 
-    /// Hears a packet whose record is wanted, and answers the index of its place. Of another one nothing is received.
+    /// Takes a packet whose record is wanted, and returns the index of its place. Another packet changes nothing.
     pub(crate) fn read_wanted(&mut self, number: u32, bytes: &[u8; 512]) -> Option<usize>
         requires { number < 2 ^ 24 }
         ensures read { IfSome result (λ k. at_packet (bearer self.old.wants bytes.now) number bytes.now self.old
@@ -370,7 +370,7 @@ impl Dialogue {
         number == want || self.holes && is_ahead(want, number)
     }
 
-    /// Goes on behind a record of a place.
+    /// Wants the record after this one next of a place.
     fn pass(&mut self, k: usize, number: u32)
         requires place { k < 16 }
         requires number { number < 2 ^ 24 }
@@ -393,7 +393,7 @@ impl Dialogue {
         }
     }
 
-    /// The first place that a record bears.
+    /// The index of the first place whose station and network a record's header has.
     fn bearer(&self, bytes: &[u8; 512]) -> Option<usize>
         ensures value { result ≡ bearer self.now.wants bytes.now }
         ensures most { IfSome result (λ k. k < 16) }

@@ -68,7 +68,7 @@ impl<A: Allocator> Feed<A> {
         }
     }
 
-    /// Takes a ring, unless the feed has sixteen already, or one of the same place: then nothing changes.
+    /// Adds a ring, unless the feed has sixteen already, or one of the same place: then nothing changes.
     ///
     /// # Errors
     ///
@@ -89,7 +89,7 @@ impl<A: Allocator> Feed<A> {
         Ok(())
     }
 
-    /// Takes the ring of a place that has none yet, where there are fewer than sixteen.
+    /// Adds the ring of a place that has none yet, where there are fewer than sixteen.
     pub fn add_other(&mut self, ring: Ring<A>)
         requires room { length self.old < 16 }
         requires differs { ¬ (HasPlace self.old ring.place) }
@@ -101,7 +101,7 @@ impl<A: Allocator> Feed<A> {
         }
     }
 
-    /// How many rings there are.
+    /// Returns how many rings the feed has, at most sixteen.
     pub fn len(&self) -> usize
         ensures value { result ≡ length self.now }
         ensures most { result ≤ 16 }
@@ -109,7 +109,7 @@ impl<A: Allocator> Feed<A> {
         self.rings.len()
     }
 
-    /// The ring at an index, counting from 0 in the order in which they were added.
+    /// Returns the ring at an index, counted from 0 in the order in which the rings were added.
     pub fn ring(&self, k: usize) -> &Ring<A>
         requires { k < length self.now }
         ensures ring { slice_get self.now k ≡ Some result.now }
@@ -121,7 +121,8 @@ impl<A: Allocator> Feed<A> {
         }
     }
 
-    /// Gives a record of its place to the ring at an index.
+    /// Gives a record to the ring at an index, whose station and network it carries, under the ring's next number. The
+    /// oldest record leaves a full ring.
     pub fn push(&mut self, k: usize, bytes: &[u8; 512])
         requires in_range { k < length self.old }
         requires bears { ForSome (slice_get self.old k) (λ w. Bears bytes.now w.place) }
@@ -143,7 +144,7 @@ impl<A: Allocator> Feed<A> {
         push_slot(&mut slots[k], bytes);
     }
 
-    /// The index of the first ring whose place a record bears.
+    /// Returns the index of the first ring whose station and network a record carries in its header, if there is one.
     pub fn bearer(&self, bytes: &[u8; 512]) -> Option<usize>
         ensures some { IfSome result (IsBearer self.now bytes.now) }
         ensures most { IfSome result (λ k. k < 16) }

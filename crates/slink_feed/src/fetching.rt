@@ -1,4 +1,4 @@
-//! One turn of a client with its link.
+//! One step of a client with its link: what a read brought is taken, and the records of it go to an output.
 ghost use Rattle.std.specs.Prelude.{◌≡◌, ◌≤◌, ◌<◌, ◌^◌, IfErr, IfOk, OnOk, length};
 ghost use Rattle.mseed_stream.specs.Device.{BytesWritten};
 ghost use Rattle.slink_feed.specs.declared.dialogue.Event.{Event};
@@ -17,27 +17,28 @@ use crate::turn::{LinkFault, Turn};
 use mseed_stream::{Counted, Duplex, Failed, Sink, write_all_of};
 use std::io::sink;
 
-/// Room for what a turn reads, which is lent to one turn after another.
+/// Room for the bytes that a step reads, which is lent to one step after another.
 pub type Room = [u8; PACKET];
 
-/// How many bytes the link and the output accepted in a turn so far.
+/// How many bytes the link and the output accepted in a step so far.
 #[derive(Clone, Copy)]
 pub(crate) struct Counts {
     pub(crate) written: usize,
     pub(crate) output: usize,
 }
 
-/// Takes a turn with a client's link: reads once, at most 1024 bytes, and takes what was read of it event by event. A
-/// line goes to the link, and the bytes of a record to the output. The line of `connect` is the caller's to write
-/// first.
+/// Takes one step with a client's link: reads once, at most as many bytes as a packet still lacks of its 520, and takes
+/// them event by event. The lines of the handshake go to the link, and the 512 bytes of each record to the output. The
+/// caller writes the line of [`Client::connect`] first.
 ///
-/// The answer is `Closed` where the link is at its end; else `Ended` or `Stopped` where the client has ended, and
-/// `Goes` where it hasn't. A client that isn't connected, or has ended, drops what is read.
+/// Returns `Closed` where the link is at its end; else `Ended` or `Stopped` where the client has ended, and `Goes`
+/// where it hasn't. A client that isn't connected, or has ended, drops what is read.
 ///
 /// # Errors
 ///
-/// `Read`, `Write` or `Output` where that device failed. The line or the record that wasn't taken whole isn't written
-/// again, and what was read behind it is lost: the link is to be given up.
+/// `Read`, `Write` or `Output` where that device failed, the last two with the number of bytes that it accepted in this
+/// step. The line or the record that wasn't accepted whole isn't written again, and what was read after it is lost: the
+/// link is to be given up.
 pub fn fetch_turn<S: Duplex, W: Sink>(
     client: &mut Client,
     link: &mut S,
@@ -51,8 +52,8 @@ pub fn fetch_turn<S: Duplex, W: Sink>(
     fetch_turn_reporting(client, link, output, &mut nowhere, &mut reporter)
 }
 
-/// Takes a turn with a client's link as [`fetch_turn`]. Each record is reported on `errors` before it is written, and
-/// the teller notes that the output accepted one.
+/// Takes one step with a client's link as [`fetch_turn`] does. Each record is reported on `errors` before it is
+/// written, and the reporter notes that the output accepted one.
 ///
 /// # Errors
 ///
@@ -71,8 +72,8 @@ pub fn fetch_turn_reporting<S: Duplex, W: Sink, E: Sink>(
     fetch_turn_in(client, link, output, errors, reporter, &mut [0; PACKET])
 }
 
-/// Takes a turn with a client's link as [`fetch_turn_telling`]. What is read stands in room that is lent to one turn
-/// after another: a record goes to the output from there.
+/// Takes one step with a client's link as [`fetch_turn_reporting`] does. The bytes that are read stand in room that is
+/// lent to one step after another: a record goes to the output from there.
 ///
 /// # Errors
 ///
@@ -102,7 +103,7 @@ pub fn fetch_turn_in<S: Duplex, W: Sink, E: Sink>(
     Ok(client.turn())
 }
 
-/// Takes bytes of a link, and delivers what they tell.
+/// Takes bytes of a link, and delivers the lines and records of their events.
 fn read<L: Sink, W: Sink, E: Sink>(
     client: &mut Client,
     bytes: &[u8],
@@ -152,8 +153,8 @@ pub(crate) struct Received {
     counts: Counts,
 }
 
-/// Takes bytes of a link up to the first event, or all, and delivers what they tell. The record of a packet that is
-/// there whole goes to the output from where it stands.
+/// Takes bytes of a link up to the first event, or all, and delivers the line or the record of that event. The record
+/// of a packet that is there whole goes to the output from where it stands.
 fn hear<L: Sink, W: Sink, E: Sink>(
     client: &mut Client,
     bytes: &[u8],
@@ -199,7 +200,7 @@ fn hear<L: Sink, W: Sink, E: Sink>(
     }
 }
 
-/// Puts what an event tells where it belongs: a line to the link, and a record, once it was reported, to the output.
+/// Delivers an event: its line to the link, or its record, once that was reported, to the output.
 fn deliver<L: Sink, W: Sink, E: Sink>(
     event: &Event,
     link: &mut L,
@@ -238,7 +239,7 @@ fn deliver<L: Sink, W: Sink, E: Sink>(
     }
 }
 
-/// Tells of a record, and puts it to the output.
+/// Reports a record, and writes it to the output.
 fn deliver_record<W: Sink, E: Sink>(
     place: usize,
     number: u32,

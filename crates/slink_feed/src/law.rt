@@ -22,13 +22,13 @@ use crate::dialogue::Stage;
 use crate::session::Phase;
 
 /// The bytes of a link read as replies, packets and the end in one way: however they are cut into the pieces that a
-/// client takes, it tells the same events, and comes to the same.
+/// client takes, it reports the same events, and comes to the same.
 pub fn one_reading()
     ensures { (start : Talk) (stream : List ℕ) (a b : List Event) (m n : Listening)
         → Reads start stream a m → Reads start stream b n → (a ≡ b) × (m ≡ n) }
 {}
 
-/// A client that asks for the record behind its last one, and lacks fewer than 2^24 of those that were pushed, is
+/// A client that asks for the record after its last one, and lacks fewer than 2^24 of those that were pushed, is
 /// granted this number exactly where its record is still in the ring or is the next one; else it is granted none, and
 /// no other.
 pub fn granted_behind_the_last()
@@ -51,15 +51,15 @@ pub fn a_stretch_is_sent()
         → s.phase ≡ Phase.Streaming → IsAnswer feed s what new reply → IsReadFrom s new }
 {}
 
-/// A client that doesn't go past holes tells each record once and in order, over any links and whatever they bring: the
-/// numbers of the records of a place go up one by one, modulo 2^24, from the one that it wants, if any, to the one
+/// A client that doesn't go past holes reports each record once and in order, over any links and whatever they bring:
+/// the numbers of the records of a place go up one by one, modulo 2^24, from the one that it wants, if any, to the one
 /// before the next that it wants.
 pub fn each_record_once()
     ensures { (k : ℕ) (t : Talk) (turns : List Turn) → t.holes ≡ false
         → GoOn (next_at t.wants k) (numbers_of k t turns) (next_at (talk_behind t turns).wants k) }
 {}
 
-/// A client, also one that goes past holes, tells each record at most once and in rising order, over any links and
+/// A client, also one that goes past holes, reports each record at most once and in rising order, over any links and
 /// whatever they bring: the numbers of the records of a place are those of positions that go up from the one that it
 /// wants, if any, each by less than half of all numbers.
 pub fn no_record_twice()
@@ -67,8 +67,8 @@ pub fn no_record_twice()
         → AreRising (next_at t.wants k) (numbers_of k t turns) }
 {}
 
-/// Of the packets of a link that is cut off at any byte, a client that wants their records tells of those that were
-/// delivered whole, one after another, and of no other.
+/// Of the packets of a link that is cut off at any byte, a client that wants their records reports those that were
+/// delivered whole, one after another, and no other.
 pub fn whole_packets_are_reported()
     ensures { (records : List Numbered) (t : Talk) (delivered : ℕ)
         → t.stage ≡ Stage.Packets → AreWanted t records → delivered ≤ length (all_packets records)

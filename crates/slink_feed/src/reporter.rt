@@ -20,7 +20,7 @@ use std::marker::Model;
 /// A line: the longest one names sixteen places.
 type Line = ArrayVec<u8, 320>;
 
-/// Puts bytes behind a line.
+/// Appends bytes to a line.
 fn put(line: &mut Line, bytes: &[u8])
     requires { length line.old.items + length bytes.now ≤ 320 }
     ensures { line.new.items ≡ line.old.items ++ bytes.now }
@@ -42,7 +42,7 @@ fn first_line(place: &Place, number: u32) -> Line
     line
 }
 
-/// The line of a record that comes behind a hole.
+/// The line of a record that comes after a hole.
 fn hole_line(place: &Place, want: u32, got: u32) -> Line
     ensures { result.items ≡ hole_line place.now want got }
 {
@@ -57,7 +57,7 @@ fn hole_line(place: &Place, want: u32, got: u32) -> Line
     line
 }
 
-/// Puts a number behind a line, with its name, where it is known.
+/// Appends a number to a line, after its name, where it is known.
 fn put_number(line: &mut Line, name: &[u8], number: Option<u32>)
     requires { length line.old.items + length name.now + 6 ≤ 320 }
     ensures { PutsBehind line.old.items line.new.items (number_behind name.now number) (length name.now + 6) }
@@ -68,7 +68,7 @@ fn put_number(line: &mut Line, name: &[u8], number: Option<u32>)
     }
 }
 
-/// Puts the options that name the first place behind a line.
+/// Appends the options that name the first place to a line.
 fn put_options(line: &mut Line, want: &Option<Wanted>)
     requires { length line.old.items + 43 ≤ 320 }
     ensures { PutsBehind line.old.items line.new.items (options_of want.now) 43 }
@@ -82,7 +82,7 @@ fn put_options(line: &mut Line, want: &Option<Wanted>)
     }
 }
 
-/// Puts the word that names a further place behind a line.
+/// Appends the argument that names a further place to a line.
 fn put_word(line: &mut Line, want: &Option<Wanted>)
     requires { length line.old.items + 16 ≤ 320 }
     ensures { PutsBehind line.old.items line.new.items (word_of want.now) 16 }
@@ -94,7 +94,7 @@ fn put_word(line: &mut Line, want: &Option<Wanted>)
     }
 }
 
-/// The words of a fetch that goes on with these places.
+/// The arguments of a `fetch` that goes on with these places.
 fn next_line(first: &Option<Wanted>, others: &[Option<Wanted>]) -> Line
     requires { length others.now ≤ 15 }
     ensures { result.items ≡ next_line first.now others.now }
@@ -109,7 +109,7 @@ fn next_line(first: &Option<Wanted>, others: &[Option<Wanted>]) -> Line
     line
 }
 
-/// The same places, and the same numbers.
+/// A copy of the places that are wanted, with the numbers that they want next.
 fn copied(wants: &[Option<Wanted>; 16]) -> [Option<Wanted>; 16]
     ensures { result ≡ wants.now }
 {
@@ -169,7 +169,7 @@ fn report_first<E: Sink>(is_first: bool, want: &Option<Wanted>, number: u32, err
     }
 }
 
-/// Reports on standard error each record that is about to be written: that it comes behind a hole, and that it is the
+/// Reports on standard error each record that is about to be written: that it comes after a hole, and that it is the
 /// first one of its place.
 #[derive(Drop)]
 pub struct Reporter {
@@ -191,8 +191,8 @@ impl Model for Reporter {
 }
 
 impl Reporter {
-    /// For the records that a client wants. The first one of each place is reported where `firsts` says so, and each
-    /// hole in any case.
+    /// A reporter of the records that a client wants. The first record of each place is reported where `firsts` says
+    /// so, and each hole in any case.
     pub fn new(client: &Client, firsts: bool) -> Reporter
         ensures { result ≡ record { telling = telling_of client.now.talk.wants firsts; received = false } }
     {
@@ -224,7 +224,7 @@ impl Reporter {
         }
     }
 
-    /// Goes on behind a record.
+    /// Notes that a record of a place was reported, and which is wanted next.
     #[tactic(auto, using(std::proofs::lemmas::List::set_past))]
     fn pass(&mut self, k: usize, number: u32)
         ensures { self.new ≡ record self.old { telling = telling_past self.old.telling k number } }
@@ -284,8 +284,8 @@ impl Reporter {
         }
     }
 
-    /// Reports the words of a fetch that goes on with what a client wants. Where the output `failed`, the last record
-    /// that was reported is wanted again.
+    /// Reports the arguments of a `fetch` that goes on with what a client wants. Where the output `failed`, the last
+    /// record that was reported is wanted again.
     pub fn report_next<E: Sink>(&self, client: &Client, failed: bool, errors: &mut E)
         ensures { Tells (next_line_of (wants_left failed self.now.telling.last client.now.talk.wants))
             (E.written errors.old) (E.written errors.new) }

@@ -10,7 +10,7 @@ use slink_wire::Place;
 use std::alloc::{Allocator, Global};
 use std::marker::Model;
 
-/// Numbers count modulo this.
+/// Sequence numbers count modulo this: they have six hexadecimal digits (SeedLink 3, packets).
 pub(crate) const SPAN: u64 = 1 << 24;
 
 /// The most records that a ring keeps.
@@ -23,7 +23,7 @@ pub enum RingFault {
     Capacity,
     /// The first number isn't below 2^24.
     First,
-    /// Memory lacked.
+    /// An allocation was refused.
     Memory,
 }
 
@@ -82,7 +82,7 @@ impl<A: Allocator> Ring<A> {
         }
     }
 
-    /// Takes a record of the ring's place under the next number. The oldest leaves a full ring.
+    /// Takes a record of the ring's place under the next number. The oldest record leaves a full ring.
     pub fn push(&mut self, bytes: &[u8; 512])
         requires bears { Bears bytes.now self.old.place }
         requires room { self.old.next < 2 ^ 63 }
@@ -95,14 +95,14 @@ impl<A: Allocator> Ring<A> {
         self.next += 1;
     }
 
-    /// Whose records these are.
+    /// Returns the station and network whose records the ring keeps.
     pub fn place(&self) -> Place
         ensures { result ≡ self.now.place }
     {
         self.place
     }
 
-    /// The number of the oldest record, or the next one's where there is none.
+    /// Returns the number of the oldest record that the ring keeps, or the next record's where it keeps none.
     pub fn oldest(&self) -> u64
         ensures value { result ≡ oldest_of self.now }
         ensures at_most { result ≤ self.now.next }
@@ -111,7 +111,7 @@ impl<A: Allocator> Ring<A> {
         self.next - self.records.len() as u64
     }
 
-    /// The number of the record that comes next.
+    /// Returns the number that the next record gets.
     pub fn next(&self) -> u64
         ensures value { result ≡ self.now.next }
         ensures most { result ≤ 2 ^ 63 }
@@ -119,7 +119,7 @@ impl<A: Allocator> Ring<A> {
         self.next
     }
 
-    /// The record of this number, where it is there.
+    /// Returns the record of this number, where the ring keeps it.
     pub fn get(&self, number: u64) -> Option<&[u8; 512]>
         ensures value { option_copied result ≡ record_at self.now number }
         ensures within { IfSome result (λ _. number < self.now.next) }
@@ -133,7 +133,7 @@ impl<A: Allocator> Ring<A> {
         self.records.get((number - oldest) as usize)
     }
 
-    /// The one number from the oldest to the next that is `seq` modulo 2^24.
+    /// Returns the one number from the oldest record's to the next that is `seq` modulo 2^24, if there is one.
     pub fn resolve(&self, seq: u32) -> Option<u64>
         ensures value { result ≡ resolve_of self.now seq }
         ensures number { IfSome result (λ n. Resolves self.now seq n) }

@@ -1,4 +1,4 @@
-//! One turn of a session with its link.
+//! One step of a session with its link: due packets are written, and a read is answered line by line.
 ghost use Rattle.std.specs.Prelude.{◌≡◌, ◌≢◌, ◌≤◌, ◌<◌, IfErr, IfOk, OnOk, length};
 ghost use Rattle.slink_feed.specs.declared.session.Phase.{Phase};
 ghost use Rattle.slink_feed.specs.Attending.{Attends, IsServeFault, RepliesToAll, attending};
@@ -17,22 +17,23 @@ use mseed_stream::{Duplex, Failed, Sink, write_all_of};
 use slink_wire::Packet;
 use std::alloc::Allocator;
 
-/// The most bytes that a turn reads.
+/// The most bytes that a step reads.
 const ROOM: usize = 512;
 
-/// Takes a turn with a session's link: writes what is due, round and round of the places, one packet a place, until the
-/// session is closed or a whole round gives none. Unless it is closed then, it reads once, at most 512 bytes, and
-/// writes the reply to each line.
+/// Takes one step with a session's link: writes the due packets, round and round of the places, one packet a place,
+/// until the session is closed or a whole round gives none. Unless it is closed then, it reads once, at most 512 bytes,
+/// and writes the reply to each line (SeedLink 3, handshaking).
 ///
-/// The answer is `Closed` where the session is closed before the read, or the link is at its end; else it is `Goes`. A
-/// session that a line closes is reported by the next turn.
+/// Returns `Closed` where the session is closed before the read, or the link is at its end; else `Goes`. Where a line
+/// closes the session, the next step returns `Closed`.
 ///
 /// It is lent the same feed at every call, whose rings keep their indices.
 ///
 /// # Errors
 ///
-/// `Read` or `Write` where the link failed so. What wasn't taken whole isn't written again, and what was read is lost:
-/// the link is to be given up, and the session with it.
+/// `Read` or `Write` where the link failed so, the latter with the number of bytes that it accepted in this step. What
+/// wasn't accepted whole isn't written again, and what was read is lost: the link is to be given up, and the session
+/// with it.
 pub fn serve_turn<A: Allocator, S: Duplex>(
     session: &mut Session,
     feed: &Feed<A>,
@@ -54,7 +55,7 @@ pub fn serve_turn<A: Allocator, S: Duplex>(
     answer_once(session, feed, link, written)
 }
 
-/// Reads once, at most 512 bytes, and writes the reply to each line, behind so many bytes of what was due.
+/// Reads once, at most 512 bytes, and writes the reply to each line, after `written` bytes of due packets.
 fn answer_once<A: Allocator, S: Duplex>(
     session: &mut Session,
     feed: &Feed<A>,
@@ -65,7 +66,7 @@ fn answer_once<A: Allocator, S: Duplex>(
     requires stands { Stands session.old }
     requires awake { session.old.state.phase ≢ Phase.Closed }
     requires few { written ≤ 1099511627776 }
-    // From whatever the turn began with.
+    // From whatever the step began with.
     ensures ok { (start : Attending) → HasSent feed.now start (attending session.old (S.written link.old)) written
         → IfOk result (λ turn. Attends feed.now start (attending session.new (S.written link.new)) (S.read link.old)
         (S.read link.new) turn) }
@@ -87,7 +88,7 @@ fn answer_once<A: Allocator, S: Duplex>(
     Ok(Turn::Goes)
 }
 
-/// Writes what is due, and counts its bytes. Each packet is made in the room.
+/// Writes the due packets, and returns how many bytes they have. Each packet is made in the room.
 fn send_all<A: Allocator, L: Sink>(
     session: &mut Session,
     feed: &Feed<A>,
@@ -119,14 +120,14 @@ fn send_all<A: Allocator, L: Sink>(
     Ok(written)
 }
 
-/// How many bytes were written, and how often there was nothing to give by then, one after another.
+/// How many bytes were written so far, and how many places in a row had nothing to send.
 #[derive(Clone, Copy)]
 pub(crate) struct Given {
     written: usize,
     waits: usize,
 }
 
-/// Writes what is due of a place behind so many bytes. The packet of a record, which its ring lends, is made in room.
+/// Writes what is due of a place, after so many bytes. The packet of a record, which its ring lends, is made in room.
 fn give<A: Allocator, L: Sink>(
     session: &mut Session,
     feed: &Feed<A>,
@@ -164,7 +165,7 @@ fn give<A: Allocator, L: Sink>(
     }
 }
 
-/// How often there was nothing to give, one after another.
+/// How many places in a row had nothing to send, once another one was asked.
 fn count_waits(unsent: Unsent, waits: usize) -> usize
     requires { waits < 16 }
     ensures { result ≡ waits_after (sent_without unsent) waits }
@@ -175,7 +176,7 @@ fn count_waits(unsent: Unsent, waits: usize) -> usize
     }
 }
 
-/// The place behind another; behind the last place the first one.
+/// The index of the place after another; after the last place the first one.
 fn next_place<A: Allocator>(feed: &Feed<A>, k: usize) -> usize
     requires { k < length feed.now }
     ensures { result ≡ place_behind feed.now k }
@@ -184,7 +185,7 @@ fn next_place<A: Allocator>(feed: &Feed<A>, k: usize) -> usize
     if k + 1 == count { 0 } else { k + 1 }
 }
 
-/// Takes bytes line by line, and writes the replies behind so many bytes.
+/// Takes bytes line by line, and writes the replies, after so many bytes.
 fn reply_to_all<A: Allocator, L: Sink>(
     session: &mut Session,
     feed: &Feed<A>,
@@ -214,7 +215,7 @@ fn reply_to_all<A: Allocator, L: Sink>(
     Ok(())
 }
 
-/// Writes bytes behind so many, and counts them.
+/// Writes bytes after so many others, and returns how many there are with these.
 fn say<L: Sink>(link: &mut L, bytes: &[u8], before: usize) -> Result<usize, LinkFault>
     requires room { before ≤ 2199023255552 }
     requires few { length bytes.now ≤ 520 }

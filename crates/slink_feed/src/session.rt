@@ -72,7 +72,7 @@ impl Unsent {
         }
     }
 
-    /// What a session sends in its place.
+    /// What a session sends where no record is sent for this reason.
     pub(crate) fn sent(self) -> Sent
         ensures { result ≡ sent_without self }
     {
@@ -105,7 +105,7 @@ impl Model for Session {
 }
 
 impl Session {
-    /// The session of a new connection.
+    /// The session of a new connection: no place is chosen, and none has a grant.
     pub fn new() -> Session
         ensures state { result.state ≡ at Phase.Fresh (replicate 16 None) }
         ensures fits { (feed : List Window) → Fits feed result.state }
@@ -118,7 +118,8 @@ impl Session {
         }
     }
 
-    /// Takes bytes up to the end of one line, and answers it. A closed session takes all.
+    /// Takes bytes up to the end of one line, and returns how many it took, and its reply to that line (SeedLink 3,
+    /// handshaking). A closed session takes all bytes, and replies nothing.
     ///
     /// It is lent the same feed at every call, whose rings keep their indices.
     pub fn take<A: Allocator>(&mut self, feed: &Feed<A>, bytes: &[u8]) -> (usize, Reply)
@@ -150,7 +151,7 @@ impl Session {
         (used, self.course.answer_to(feed, what))
     }
 
-    /// The next packet of the place at an index of the feed.
+    /// Returns the next packet of the place at an index of the feed, or why none is sent.
     ///
     /// It is lent the same feed at every call, whose rings keep their indices.
     pub fn packet<A: Allocator>(&mut self, feed: &Feed<A>, k: usize) -> Sent
@@ -167,15 +168,15 @@ impl Session {
         self.course.packet(feed, k)
     }
 
-    /// The record of the next packet of the place at an index of the feed, with its number modulo 2^24: the session
-    /// goes on as by [`Session::packet`], and the ring lends the record, so that its packet can be made where it is to
-    /// lie.
+    /// Returns the record of the next packet of the place at an index of the feed, with its number modulo 2^24. The
+    /// session goes on as by [`Session::packet`], and the ring lends the record, so that its packet can be made where
+    /// it is to lie.
     ///
     /// It is lent the same feed at every call, whose rings keep their indices.
     ///
     /// # Errors
     ///
-    /// Why no record is sent.
+    /// The reason, where no record is sent.
     pub fn next_record<'f, A: Allocator>(
         &mut self,
         feed: &'f Feed<A>,
@@ -196,7 +197,7 @@ impl Session {
         self.course.next_record(feed, k)
     }
 
-    /// Whether nothing is sent of any place now: then a call for any would be in vain.
+    /// Returns whether nothing is sent of any place now: then [`Session::packet`] gives nothing for any of them.
     ///
     /// It is lent the same feed at every call, whose rings keep their indices.
     pub fn is_waiting<A: Allocator>(&self, feed: &Feed<A>) -> bool
@@ -205,9 +206,10 @@ impl Session {
         self.course.is_waiting(feed)
     }
 
-    /// Whether the session streams, and was granted the place at an index of the feed, and its next record isn't the
-    /// one that comes next: then a call for the place gives it, or says that it left the ring. While that is so of one
-    /// place, nothing is sent of those of which it isn't.
+    /// Returns whether a record is due of the place at an index of the feed: the session streams, was granted the
+    /// place, and hasn't sent all records that were pushed to it. Then [`Session::packet`] gives the next one, or
+    /// reports that it left the ring. While a record of one place is due, nothing is sent of the places that have none
+    /// due.
     ///
     /// It is lent the same feed at every call, whose rings keep their indices.
     pub fn is_due<A: Allocator>(&self, feed: &Feed<A>, k: usize) -> bool
@@ -220,8 +222,8 @@ impl Session {
         self.course.is_due(feed, k)
     }
 
-    /// Whether all that was requested is sent, and no record that comes is requested. So it is of a session without
-    /// grants.
+    /// Returns whether all that was requested is sent, and no record that comes later is requested. It is so of a
+    /// session without grants.
     ///
     /// It is lent the same feed at every call, whose rings keep their indices.
     pub fn has_sent_all<A: Allocator>(&self, feed: &Feed<A>) -> bool
@@ -230,7 +232,8 @@ impl Session {
         self.course.is_done(feed)
     }
 
-    /// It stands for the stream that its link brought, unless it is closed. Nothing is done.
+    /// Does nothing. Where it is called, a proof knows that the session stands for the stream that its link brought,
+    /// unless it is closed.
     pub(crate) fn has_stream(&self)
         ensures { Stands self.now }
     {
@@ -238,7 +241,7 @@ impl Session {
         let _ = &self.course;
     }
 
-    /// Whether nothing more is answered or sent.
+    /// Returns whether the session is closed: nothing more is answered or sent.
     pub fn is_closed(&self) -> bool
         ensures yes { OnTrue result (self.now.state.phase ≡ Phase.Closed) }
         ensures no { OnFalse result (self.now.state.phase ≢ Phase.Closed) }
@@ -246,7 +249,7 @@ impl Session {
         self.course.is_closed()
     }
 
-    /// Whether records are sent: the link has sent all that it has to say.
+    /// Returns whether records are sent: the client has ended the handshake by END.
     pub fn is_streaming(&self) -> bool
         ensures yes { OnTrue result (self.now.state.phase ≡ Phase.Streaming) }
         ensures no { OnFalse result (self.now.state.phase ≢ Phase.Streaming) }
@@ -254,7 +257,7 @@ impl Session {
         self.course.is_streaming()
     }
 
-    /// The number of the record that is sent next of a place that has a grant.
+    /// Returns the number of the record that is sent next of the place at an index of the feed, where it has a grant.
     pub fn position(&self, k: usize) -> Option<u64>
         ensures { result ≡ option_map (λ (g : Grant). g.position) (grant_at self.now.state.grants k) }
     {

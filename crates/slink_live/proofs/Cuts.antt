@@ -43,7 +43,7 @@ nothing_cut old = record {
   counted = omega arith;
 }
 
--- no more records than bytes, behind a short rest
+-- no more records than bytes, after a short rest
 concat_size : (places : List Fields) (rs : List (List ℕ)) → AllByRecursion (IsOf places) rs
     → length (concat rs) ≡ 512 * length rs
 concat_size places [] h = refl

@@ -112,7 +112,7 @@ due_sends feed s j d waits =
     ∙ (ap (λ (o : Option Grant). sent_of feed s j o (slice_get feed j)) d.granted
     ∙ ap (λ (r : Option Window). sent_of feed s j (Some d.grant) r) d.there)) ∙ waits)
 
--- In a round from behind a place on, another one has not been passed.
+-- In a round from after a place on, another one has not been passed.
 abbrev IsAhead : ℕ → ℕ → ℕ → Type 0
 IsAhead k ring j = ((k < ring) × (ring ≤ j)) ⊎ ((j < k) × (k < ring)) ⊎ ((j < k) × (ring ≤ j))
 

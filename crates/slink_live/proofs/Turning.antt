@@ -13,7 +13,7 @@ use Rattle.slink_live.specs.private.Calling.{Gives}
 abbrev pub Waits : List Window → State → ℕ → Type 0
 Waits feed s j = sent feed s j ≡ (s, Sents.Wait)
 
--- one more of some that stand one behind another
+-- one more of some that stand one after another
 pub waits_more : (feed : List Window) (s : State) (from k : ℕ) → ((j : ℕ) → from ≤ j → j < k → Waits feed s j)
     → Waits feed s k → (j : ℕ) → from ≤ j → j < k + 1 → Waits feed s j
 waits_more feed s from k before here j least lt = elim (eqb_tells j k) [

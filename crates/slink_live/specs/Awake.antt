@@ -39,7 +39,7 @@ pub record HasAll (feed : List Window) (l : LinkState) : Type 0 where
   pub waits : IsWaiting feed l.session.state
   pub none : l.pending ≡ []
 
--- Why a link is closed, but for that the device says that it is gone. One that still shakes hands is not.
+-- Why a link is closed, but for that the device reports that it is gone. One that still shakes hands is not.
 pub data IsClosable (feed : List Window) (has_ended : Bool) (l : LinkState) : Type 0 where
   is_over : IsOver l → IsClosable feed has_ended l
   is_lost : IsLost feed l.session.state → IsClosable feed has_ended l
@@ -54,12 +54,12 @@ abbrev pub IsFilled : List Window → LinkState → Type 0
 IsFilled feed l = length l.pending + 520 ≤ 6240
     → IsWaiting feed l.session.state ⊎ (l.session.state.phase ≡ Closed)
 
--- It has bytes pending, and the device was told that it wants to write; or nothing more is due to it.
+-- It has bytes pending, and it was reported to the device that it wants to write; or nothing more is due to it.
 pub data Sleeps (feed : List Window) (l : LinkState) (interest : Interest) : Type 0 where
   writes : l.pending ≢ [] → interest.writes ≡ true → Sleeps feed l interest
   waits : l.pending ≡ [] → interest.writes ≡ false → IsWaiting feed l.session.state → Sleeps feed l interest
 
--- A link stands by right, and the device was told what is wanted of it.
+-- A link stands by right, and what is wanted of it was reported to the device.
 pub record IsSettled (feed : List Window) (has_ended : Bool) (l : LinkState) (interest : Interest) : Type 0 where
   pub stands : ¬ (IsClosable feed has_ended l)
   pub sleeps : Sleeps feed l interest
@@ -78,8 +78,8 @@ has_free [] = false
 has_free (None ∷ links) = true
 has_free (Some l ∷ links) = has_free links
 
--- The device was told that links are wanted exactly where the input is read and a slot is free, and that the input is
--- read no more exactly where that is so.
+-- It was reported to the device that links are wanted exactly where the input is read and a slot is free, and that the
+-- input is read no more exactly where that is so.
 pub record IsTold (s : ServerState) (log : List Happening) : Type 0 where
   pub links : wants_links log ≡ (not s.has_ended && has_free s.links)
   pub left : is_left log ≡ s.has_ended
@@ -110,7 +110,7 @@ pub record WasClosable (start : List Window) (before : List Happening) (k : ℕ)
   pub left : is_left before ≡ server.has_ended
   pub closable : IsClosable server.intake.feed server.has_ended link
 
--- A link is closed where the device said that it is gone, or it was closable.
+-- A link is closed where the device reported that it is gone, or it was closable.
 abbrev pub IsClosedRightly : List Window → List Happening → Happening → Type 0
 IsClosedRightly start before (Gone k) =
     ((earlier : List Happening) × (before ≡ earlier ++ Next (events.Gone k) ∷ [])) ⊎ WasClosable start before k

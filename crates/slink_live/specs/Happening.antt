@@ -7,8 +7,8 @@ use Rattle.slink_live.specs.declared.ready.Event.TheVariants as events
 use Rattle.slink_live.specs.declared.ready.Interest.{Interest}
 
 -- bytes came from the input; a link stands in a slot from now on; bytes came from it; it accepted bytes; it is gone;
--- the device said what can be done next; nobody dialled any more who could stand in a slot; the device was told what is
--- wanted of the link in a slot, whether further links are wanted, and that the input is read no more
+-- the device reported what can be done next; nobody dialled any more who could stand in a slot; to the device it was
+-- reported what is wanted of the link in a slot, whether further links are wanted, and that the input is read no more
 pub data Happening : Type 0 where
   Input : (bytes : List ℕ) → Happening
   Opened : (slot : ℕ) → Happening
@@ -165,7 +165,8 @@ abbrev pub those_of : ℕ → List Happening → List Happening
 those_of k [] = []
 those_of k (h ∷ hs) = if is_input h || is_at k h then h ∷ those_of k hs else those_of k hs
 
--- what the device was told of the link in a slot; at first it counts as told that the link is read
+-- what is wanted of the link in a slot, as it was reported to the device; at first it counts as reported that the link
+-- is read
 abbrev pub first_interest : Interest
 first_interest = record { reads = true; writes = false; is_streaming = false }
 
@@ -178,7 +179,7 @@ abbrev pub told_from : ℕ → Interest → List Happening → Interest
 told_from k interest [] = interest
 told_from k interest (h ∷ hs) = told_from k (told_by k interest h) hs
 
--- what it was last told of the link in a slot
+-- what was last reported of the link in a slot
 abbrev pub told : ℕ → List Happening → Interest
 told k log = told_from k first_interest log
 
@@ -190,7 +191,7 @@ abbrev pub links_from : Bool → List Happening → Bool
 links_from wanted [] = wanted
 links_from wanted (h ∷ hs) = links_from (links_by wanted h) hs
 
--- whether it was last told that further links are wanted; at first it counts as told so
+-- whether it was last reported that further links are wanted; at first it counts as reported so
 abbrev pub wants_links : List Happening → Bool
 wants_links log = links_from true log
 
@@ -202,6 +203,6 @@ abbrev pub left_from : Bool → List Happening → Bool
 left_from is_left [] = is_left
 left_from is_left (h ∷ hs) = left_from (left_by is_left h) hs
 
--- whether it was told that the input is read no more
+-- whether it was reported that the input is read no more
 abbrev pub is_left : List Happening → Bool
 is_left log = left_from false log

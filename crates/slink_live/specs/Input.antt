@@ -1,4 +1,4 @@
--- The input: records of the places that are served, one behind another (own).
+-- The input: records of the places that are served, one after another (own).
 use Rattle.std.specs.Prelude.{◌≡◌, ℕ, ◌*◌, ◌+◌, ◌<◌, ◌⊎◌, List, [], ◌∷◌, ◌++◌, length, take, slice_get, Some}
 use Rattle.std.specs.List.{AllByRecursion, concat}
 use Rattle.mseed_record.specs.declared.framer.Scan.TheVariants as scans
@@ -45,7 +45,7 @@ abbrev pub IsForeign : List Fields → List ℕ → Type 0
 IsForeign places leading = ((k : ℕ) × Decides leading (scans.Record k) × ¬ (IsOf places (take k leading)))
     ⊎ ((k : ℕ) × Decides leading (scans.Need k) × (512 < k))
 
--- What is wrong with the rest behind so many records: bytes that begin no record, or none of these places; a record
+-- What is wrong with the rest after so many records: bytes that begin no record, or none of these places; a record
 -- that the input ended within; a read that failed, or 2^40 of them.
 abbrev pub IsFaultIn : List Fields → ℕ → List ℕ → InputFault → Type 0
 IsFaultIn places n rest (Stream (Frame offset fault)) = (leading more : List ℕ) × (rest ≡ leading ++ more)

@@ -9,8 +9,8 @@ use Rattle.slink_live.specs.Happening.{Happening, input_of}
 use Rattle.slink_live.specs.Input.{IsFedTo}
 use Rattle.slink_live.specs.Story.{IsServed, Story}
 
--- what a server keeps of a link: its session, the place whose turn it is, and what was sent that the link didn't take
--- yet
+-- what a server keeps of a link: its session, the place that is called next, and what was sent that the link didn't
+-- accept yet
 pub record LinkState : Type 0 where
   pub session : Standing
   pub ring : ℕ
@@ -19,7 +19,7 @@ pub record LinkState : Type 0 where
 abbrev pub link_state : Standing → ℕ → List ℕ → LinkState
 link_state session ring pending = record { session = session; ring = ring; pending = pending }
 
--- what it keeps of the input: the rings, the bytes behind the last record, and how many records there were
+-- what it keeps of the input: the rings, the bytes after the last record, and how many records there were
 pub record IntakeState : Type 0 where
   pub feed : List Window
   pub kept : List ℕ
@@ -48,8 +48,8 @@ pub record IsSound (s : ServerState) : Type 0 where
   pub few : s.intake.records ≤ 8192 * s.reads
   pub few_reads : s.reads ≤ 2 ^ 40
 
--- A slot has a link where the story has one: with its session and turn, and what that sent and the link didn't take
--- yet.
+-- A slot has a link where the story has one: with its session and the place that is called next, and what that sent
+-- and the link didn't accept yet.
 abbrev pub Matches : Option LinkState → Option Story → Type 0
 Matches None None = Unit {0}
 Matches None (Some t) = ⊥

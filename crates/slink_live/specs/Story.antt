@@ -1,4 +1,4 @@
--- What a link is sent: what one session says, to the link's own lines alone, over the rings of the records so far.
+-- What a link is sent: what one session sends, to the link's own lines alone, over the rings of the records so far.
 use Rattle.std.specs.Prelude.{◌≡◌, ℕ, ◌+◌, ◌<◌, ◌≤◌, ◌⊎◌, false, List, [], ◌∷◌, ◌++◌, length, replicate, Option, Some}
 use Rattle.std.specs.Prelude.{None}
 use Rattle.mseed_stream.specs.Device.{IsPrefixOf}
@@ -12,7 +12,7 @@ use Rattle.slink_feed.specs.Window.{Window}
 use Rattle.slink_live.specs.Happening.{Happening, Opened, Received, Emitted, Gone, input_of, is_at}
 use Rattle.slink_live.specs.Input.{IsFed}
 
--- a session, the place whose turn it is, what was sent so far, and what its link accepted of that
+-- a session, the place that is called next, what was sent so far, and what its link accepted of that
 pub record Story : Type 0 where
   pub session : Standing
   pub ring : ℕ
@@ -39,7 +39,7 @@ pub record IsTurn (feed : List Window) (s : State) (ring k : ℕ) : Type 0 where
   pub first : (j : ℕ) → j < length feed → IsEarlier ring j k → sent feed s j ≡ (s, Sents.Wait)
 
 -- A session is called for packets, in turns: each time for the first place of which something is sent, in a round from
--- the one behind the place that was called last. What it gives goes on its way.
+-- the one after the place that was called last. What it gives goes on its way.
 pub data Asks (feed : List Window) (s : Standing) (ring : ℕ) (way : List ℕ) : Standing → ℕ → List ℕ → Type 0 where
   none_called : Asks feed s ring way s ring way
   one_called : (now last : Standing) (turn k : ℕ) (answer : Sent) (on all : List ℕ) → Asks feed s ring way now turn on

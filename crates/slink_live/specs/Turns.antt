@@ -1,4 +1,4 @@
--- What a server does with what the device says.
+-- What a server does with each event that the device reports.
 use Rattle.std.specs.Prelude.{◌≡◌, ℕ, true, false, not, ◌&&◌, ◌≤◌, ◌^◌, List, [], ◌∷◌, ◌++◌, take, get_or, Option, Some}
 use Rattle.std.specs.Prelude.{None}
 use Rattle.std.specs.List.{AllByRecursion}
@@ -11,7 +11,7 @@ use Rattle.slink_live.specs.Happening.{WantsLinks}
 use Rattle.slink_live.specs.Happening.{Left}
 use Rattle.slink_live.specs.Served.{IsServing, LinkState, ServerState}
 
--- A link was closed, or the device was told something.
+-- A link was closed, or something was reported to the device.
 abbrev pub IsTelling : Happening → Type 0
 IsTelling (Input bytes) = ⊥
 IsTelling (Opened k) = ⊥
@@ -24,7 +24,7 @@ IsTelling (Wants k interest) = Unit {0}
 IsTelling (WantsLinks wanted) = Unit {0}
 IsTelling Left = Unit {0}
 
--- Links were closed and the device was told things, and nothing else happened.
+-- Links were closed and things were reported to the device, and nothing else happened.
 pub record Closes (log last : List Happening) : Type 0 where
   pub gone : List Happening
   pub each : AllByRecursion IsTelling gone

@@ -17,10 +17,10 @@ use mseed_stream::StreamFault;
 use slink_feed::{Feed, InputFault};
 use std::marker::Model;
 
-/// So many bytes has each record of a feed.
+/// The bytes of each record of a feed.
 const RECORD: usize = 512;
 
-/// The rings, the bytes of the input behind its last record, and how many records there were.
+/// The rings, the bytes of the input after its last whole record, and how many records there were.
 #[derive(Drop)]
 pub(crate) struct Intake {
     feed: Feed,
@@ -37,7 +37,7 @@ impl Model for Intake {
 }
 
 impl Intake {
-    /// Before the first byte of the input.
+    /// An intake before the first byte of the input.
     pub(crate) fn new(feed: Feed) -> Self
         ensures { result ≡ record { feed = feed; kept = []; records = 0 } }
     {
@@ -48,14 +48,14 @@ impl Intake {
         }
     }
 
-    /// The rings.
+    /// Returns the rings of the feed.
     pub(crate) fn feed(&self) -> &Feed
         ensures { result.now ≡ self.now.feed }
     {
         &self.feed
     }
 
-    /// Where the next record begins, in bytes.
+    /// The offset in the input, in bytes, at which the next record begins.
     fn offset(&self) -> u64
         requires { self.now.records ≤ 2 ^ 54 }
         ensures { result ≡ 512 * self.now.records }
@@ -63,8 +63,8 @@ impl Intake {
         512 * self.records
     }
 
-    /// Takes bytes of the input, at most 8,192. Each record goes to its ring as soon as it is whole. The answer is
-    /// which places got some.
+    /// Takes bytes of the input, at most 8,192. Each record goes to its ring as soon as it is whole. Returns the places
+    /// that got a record.
     ///
     /// # Errors
     ///
@@ -91,7 +91,7 @@ impl Intake {
         Ok(places)
     }
 
-    /// How many of so many bytes are kept: as many as a record still wants.
+    /// How many of so many bytes are kept: as many as a record of 512 bytes still lacks.
     fn wanted(&self, left: usize) -> usize
         requires short { length self.now.kept < 512 }
         requires left { 0 < left }
@@ -114,8 +114,8 @@ impl Intake {
         }
     }
 
-    /// Looks whether what is kept is a record, and gives it to its ring. The answer is these places, and that of the
-    /// record.
+    /// Looks whether the bytes that are kept are a record, and gives it to its ring. Returns these places, and with
+    /// them that of the record.
     fn look(&mut self, places: Places) -> Result<Places, InputFault>
         requires size { length self.old.kept ≤ 512 }
         requires below { IsBelow 9223372036854775807 self.old.feed }
@@ -133,7 +133,7 @@ impl Intake {
         }
     }
 
-    /// Gives the record that is kept to its ring. The answer is these places, and that of the record.
+    /// Gives the record that is kept to its ring. Returns these places, and with them that of the record.
     fn push_kept(&mut self, places: Places) -> Result<Places, InputFault>
         requires whole { length self.old.kept ≡ 512 }
         requires record { IsRecord self.old.kept }

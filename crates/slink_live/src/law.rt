@@ -26,8 +26,8 @@ pub fn each_moment_has_a_story()
         → (reported_then : Option Story) × IsServed start k before reported_then }
 {}
 
-/// An input has one list of records, in whatever pieces it came, and so its rings come to one thing. More of it adds
-/// records behind those that there are, and leaves them.
+/// An input has one list of records, in whatever pieces it came, and so its rings come to one thing. More of it appends
+/// records to those that there are, and leaves them.
 pub fn input_in_order()
     ensures one { (places : List Fields) (bytes : List ℕ) (records others : List (List ℕ)) (rest left : List ℕ)
         → IsInput places bytes records rest → IsInput places bytes others left

@@ -86,7 +86,7 @@ impl Link {
         self.pending.as_slice()
     }
 
-    /// Whether its session is over.
+    /// Whether its session is closed.
     fn is_closed(&self) -> bool
         ensures yes { OnTrue result (self.now.session.state.phase ≡ Phase.Closed) }
         ensures no { OnFalse result (self.now.session.state.phase ≢ Phase.Closed) }
@@ -94,7 +94,7 @@ impl Link {
         self.session.is_closed()
     }
 
-    /// Whether its session is over, and nothing is pending.
+    /// Whether its session is closed, and nothing is pending.
     fn must_close(&self) -> bool
         ensures yes { OnTrue result (IsOver self.now) }
         ensures no { OnFalse result (¬ (IsOver self.now)) }
@@ -157,7 +157,8 @@ impl Link {
         self.must_close() || self.is_stuck(feed) || has_ended && self.has_all()
     }
 
-    /// The same, where nothing more is due to it, and no record that is to be sent next has left its ring.
+    /// Whether the link is to be closed, where nothing more is due to it, and no record that is to be sent next has
+    /// left its ring.
     pub(crate) fn is_closable_at_rest(&self, has_ended: bool) -> bool
         ensures yes { OnTrue result ((feed : List Window) → IsRested feed self.now
             → IsClosable feed has_ended self.now) }
@@ -231,7 +232,7 @@ impl Link {
         }
     }
 
-    /// Queues bytes, to be sent behind those that are pending.
+    /// Queues bytes, to be sent after those that are pending.
     fn queue(&mut self, bytes: &[u8])
         requires { length self.old.pending + length bytes.now ≤ 6240 }
         ensures { self.new ≡ record self.old { pending = self.old.pending ++ bytes.now } }
@@ -247,7 +248,7 @@ impl Link {
         ensures fits { Fits feed.now self.new.session.state }
         ensures filled { IsFilled feed.now self.new }
     {
-        // Before it streams a session sends nothing, and behind its end nothing either.
+        // Before it streams a session sends nothing, and after its end nothing either.
         if !self.is_streaming() {
             return;
         }
@@ -267,7 +268,7 @@ impl Link {
         }
     }
 
-    /// Of which places a record is due.
+    /// The places of which a record is due.
     fn due(&self, feed: &Feed) -> Places
         requires { self.now.session.state.phase ≡ Phase.Streaming }
         ensures { AreDue feed.now self.now.session.state result }
@@ -292,7 +293,7 @@ impl Link {
         self.session.is_due(feed, k)
     }
 
-    /// Of some places the one whose turn it is.
+    /// The index of the place that is asked next, of those that have a record due.
     fn turn(&self, due: Places) -> Option<usize>
         ensures some { IfSome result (Has due) }
         ensures first { IfSome result (λ k. (j : ℕ) → IsEarlier self.now.ring j k → ¬ (Has due j)) }
@@ -301,7 +302,7 @@ impl Link {
         due.first_from(self.ring)
     }
 
-    /// Asks for the packet of a place of which a record is due. The answer is of which places one is due then.
+    /// Asks for the packet of a place of which a record is due. Returns the places of which one is due then.
     fn ask_due(&mut self, feed: &Feed, k: usize, due: Places) -> Places
         requires room { length self.old.pending + 520 ≤ 6240 }
         requires fits { Fits feed.now self.old.session.state }
@@ -326,7 +327,7 @@ impl Link {
         self.session.has_sent_all(feed)
     }
 
-    /// Says that all is sent, where all that was requested is, and no record that comes.
+    /// Queues the END, where all that was requested is sent, and no record that comes is requested.
     fn end(&mut self, feed: &Feed)
         requires room { length self.old.pending + 520 ≤ 6240 }
         requires fits { Fits feed.now self.old.session.state }
@@ -342,7 +343,7 @@ impl Link {
         }
     }
 
-    /// Asks for the packet of the place whose turn it is, and answers whether something is sent of any.
+    /// Asks for the packet of the next place that has something to send, and returns whether one has.
     fn ask(&mut self, feed: &Feed) -> bool
         requires room { length self.old.pending + 520 ≤ 6240 }
         requires fits { Fits feed.now self.old.session.state }
@@ -371,7 +372,7 @@ impl Link {
         false
     }
 
-    /// Asks for the next packet of a place, and answers whether something is sent of it.
+    /// Asks for the next packet of a place, and returns whether something is sent of it.
     fn ask_at(&mut self, feed: &Feed, k: usize) -> bool
         requires within { k < length feed.now }
         requires few { k < 16 }
@@ -398,7 +399,7 @@ impl Link {
         }
     }
 
-    /// So many bytes were taken by the link.
+    /// Notes that the link accepted so many bytes.
     pub(crate) fn taken(&mut self, count: usize)
         requires { count ≤ length self.old.pending }
         ensures { self.new ≡ record self.old { pending = drop count self.old.pending } }

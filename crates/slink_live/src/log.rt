@@ -1,5 +1,5 @@
-//! What happened at a device, and what it was told, in order. It has no bytes, and its functions do nothing at run
-//! time.
+//! What happened at a device, and what was reported to it, in order. It has no bytes, and its functions do nothing at
+//! run time.
 ghost use Rattle.std.specs.Prelude.{◌≡◌, List, ℕ, [], ◌∷◌, ◌++◌};
 ghost use Rattle.slink_live.specs.Happening.{Happening, Input, Opened, Received, Emitted, Gone, Next, Missed, Wants};
 ghost use Rattle.slink_live.specs.Happening.{WantsLinks, Left, flag_of, happening, happenings_code};
@@ -8,7 +8,7 @@ ghost use base.Fml.{ftrue};
 use crate::ready::{Event, Interest};
 use std::marker::{Model, PhantomData};
 
-/// What happened at a device, and what it was told, in order.
+/// What happened at a device, and what was reported to it, in order.
 #[derive(Drop)]
 pub struct Log {
     marker: PhantomData<u8>,
@@ -28,7 +28,7 @@ fn flag(is_so: bool) -> u8
 }
 
 impl Log {
-    /// Nothing happened yet.
+    /// A log of which nothing happened yet.
     pub fn new() -> Log
         ensures { result.all ≡ [] }
     {
@@ -37,42 +37,42 @@ impl Log {
         }
     }
 
-    /// The input gave these bytes.
+    /// Notes that the input gave these bytes.
     pub fn input(&mut self, bytes: &[u8])
         ensures { self.new.all ≡ self.old.all ++ Input bytes.now ∷ [] }
     {
         self.note(0, 0, bytes);
     }
 
-    /// A new link stands in a slot.
+    /// Notes that a new link stands in a slot.
     pub fn opened(&mut self, slot: usize)
         ensures { self.new.all ≡ self.old.all ++ Opened slot ∷ [] }
     {
         self.note(1, slot, &[]);
     }
 
-    /// The link in a slot gave these bytes.
+    /// Notes that the link in a slot gave these bytes.
     pub fn received(&mut self, slot: usize, bytes: &[u8])
         ensures { self.new.all ≡ self.old.all ++ Received slot bytes.now ∷ [] }
     {
         self.note(2, slot, bytes);
     }
 
-    /// The link in a slot accepted these bytes.
+    /// Notes that the link in a slot accepted these bytes.
     pub fn emitted(&mut self, slot: usize, bytes: &[u8])
         ensures { self.new.all ≡ self.old.all ++ Emitted slot bytes.now ∷ [] }
     {
         self.note(3, slot, bytes);
     }
 
-    /// No link stands in a slot any more.
+    /// Notes that no link stands in a slot any more.
     pub fn gone(&mut self, slot: usize)
         ensures { self.new.all ≡ self.old.all ++ Gone slot ∷ [] }
     {
         self.note(4, slot, &[]);
     }
 
-    /// The device said what can be done next.
+    /// Notes what the device returned as what can be done next.
     pub fn next(&mut self, event: Event)
         ensures { self.new.all ≡ self.old.all ++ Next event ∷ [] }
     {
@@ -88,14 +88,14 @@ impl Log {
         }
     }
 
-    /// Nobody dialled any more who could stand in a slot.
+    /// Notes that nobody dialled any more who could stand in a slot.
     pub fn missed(&mut self, slot: usize)
         ensures { self.new.all ≡ self.old.all ++ Missed slot ∷ [] }
     {
         self.note(5, slot, &[]);
     }
 
-    /// The device was told what is wanted of the link in a slot.
+    /// Notes what is wanted of the link in a slot.
     pub fn wants(&mut self, slot: usize, interest: Interest)
         ensures { self.new.all ≡ self.old.all ++ Wants slot interest ∷ [] }
     {
@@ -107,21 +107,21 @@ impl Log {
         self.note(6, slot, &flags);
     }
 
-    /// The device was told whether further links are wanted.
+    /// Notes whether further links are wanted.
     pub fn wants_links(&mut self, wanted: bool)
         ensures { self.new.all ≡ self.old.all ++ WantsLinks wanted ∷ [] }
     {
         self.note(7, usize::from(flag(wanted)), &[]);
     }
 
-    /// The device was told that the input is read no more.
+    /// Notes that the input is read no more.
     pub fn left(&mut self)
         ensures { self.new.all ≡ self.old.all ++ Left ∷ [] }
     {
         self.note(8, 0, &[]);
     }
 
-    /// One thing more.
+    /// Notes one thing more.
     fn note(&mut self, _kind: usize, _slot: usize, _bytes: &[u8])
         ensures { self.new.all ≡ self.old.all ++ happening _kind _slot _bytes.now ∷ [] }
     {}

@@ -9,14 +9,14 @@ use std::marker::Model;
 /// The most bytes that wait to be written: twelve packets.
 pub(crate) const ROOM: usize = 6_240;
 
-/// So many bytes has a packet.
+/// The bytes of a packet.
 pub(crate) const PACKET: usize = 520;
 
-/// Bytes that wait to be written, in order. What is taken of them leaves its place free, and what is left moves there
-/// only when there is no room behind it.
+/// Bytes that wait to be written, in order. Those that a link accepted leave room at the front, and the others move
+/// there only when there is no room after them.
 #[derive(Drop)]
 pub(crate) struct Pending {
-    // The bytes before this place were taken.
+    // The bytes before this offset were accepted.
     begin: u16,
     // From here on there is room.
     end: u16,
@@ -34,7 +34,7 @@ impl Model for Pending {
     ghost invariant = { λ p. (p.begin ≤ p.end) × (p.end ≤ 6240) };
 }
 
-/// Puts bytes at a place.
+/// Puts bytes at an offset.
 fn put_bytes(room: &mut [u8; ROOM], at: usize, bytes: &[u8])
     requires { at + length bytes.now ≤ 6240 }
     ensures { take (at + length bytes.now) room.new ≡ take at room.old ++ bytes.now }
@@ -55,7 +55,7 @@ fn fill_packet(room: &mut [u8], number: u32, bytes: &[u8; 512])
     }
 }
 
-/// Puts the packet of a record at a place.
+/// Puts the packet of a record at an offset.
 fn put_packet(room: &mut [u8; ROOM], at: usize, number: u32, bytes: &[u8; 512])
     requires room { at + 520 ≤ 6240 }
     requires number { number < 2 ^ 24 }
@@ -66,7 +66,7 @@ fn put_packet(room: &mut [u8; ROOM], at: usize, number: u32, bytes: &[u8; 512])
 }
 
 impl Pending {
-    /// No bytes.
+    /// Room in which no bytes wait.
     pub(crate) fn new() -> Pending
         ensures { result.bytes ≡ [] }
     {
@@ -77,7 +77,7 @@ impl Pending {
         }
     }
 
-    /// All of them.
+    /// Returns all bytes that wait.
     pub(crate) fn as_slice(&self) -> &[u8]
         ensures value { result.now ≡ self.now.bytes }
         ensures most { length result.now ≤ 6240 }
@@ -85,7 +85,7 @@ impl Pending {
         &self.bytes[usize::from(self.begin)..usize::from(self.end)]
     }
 
-    /// How many there are.
+    /// Returns how many bytes wait.
     pub(crate) fn len(&self) -> usize
         ensures value { result ≡ length self.now.bytes }
         ensures most { result ≤ 6240 }
@@ -93,7 +93,7 @@ impl Pending {
         usize::from(self.end - self.begin)
     }
 
-    /// Whether there are none.
+    /// Returns whether no bytes wait.
     pub(crate) fn is_empty(&self) -> bool
         ensures yes { OnTrue result (self.now.bytes ≡ []) }
         ensures no { OnFalse result (self.now.bytes ≢ []) }
@@ -101,7 +101,7 @@ impl Pending {
         self.begin == self.end
     }
 
-    /// Appends bytes.
+    /// Appends bytes to those that wait.
     pub(crate) fn queue(&mut self, bytes: &[u8])
         requires { length self.old.bytes + length bytes.now ≤ 6240 }
         ensures { self.new.bytes ≡ self.old.bytes ++ bytes.now }
@@ -111,7 +111,7 @@ impl Pending {
         self.end += bytes.len() as u16;
     }
 
-    /// Appends the packet of a record.
+    /// Appends the packet of a record, with its number modulo 2^24, to the bytes that wait.
     pub(crate) fn queue_packet(&mut self, number: u32, bytes: &[u8; 512])
         requires room { length self.old.bytes + 520 ≤ 6240 }
         requires number { number < 2 ^ 24 }
@@ -137,7 +137,7 @@ impl Pending {
         }
     }
 
-    /// Drops the first of them, which were taken.
+    /// Drops the first `count` bytes that wait, which were accepted.
     pub(crate) fn taken(&mut self, count: usize)
         requires { count ≤ length self.old.bytes }
         ensures { self.new.bytes ≡ drop count self.old.bytes }

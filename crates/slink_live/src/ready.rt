@@ -1,4 +1,4 @@
-//! What comes next, as a device says.
+//! The device of a server: its input, its links, and what can be done next with them.
 ghost use Rattle.std.specs.Prelude.{◌≡◌, ◌≤◌, ◌∷◌, ◌++◌, [], List, Bool, true, length, take, if◌then◌else◌};
 ghost use Rattle.slink_live.specs.Happening.{Happening, Input, Opened, Received, Emitted, Gone, Next, Missed, Wants};
 ghost use Rattle.slink_live.specs.Happening.{WantsLinks, Left};
@@ -37,39 +37,40 @@ pub struct Interest {
 
 /// The input and the links of a server, none of which is waited for but by `next`.
 ///
-/// The links stand in slots, of which the server says the number. What is ready is the device's to say, and how long
-/// it waits: no clause speaks of time.
+/// The links stand in slots, whose number the server chooses. The device decides what is ready, and how long it waits:
+/// no clause speaks of time.
 pub trait Ready {
-    // What happened so far, and what the device was told, in order.
+    // What happened so far, and what was reported to the device, in order.
     ghost log: { Self → List Happening };
 
     // Nothing comes any more.
     ghost is_over: { Self → Bool };
 
-    /// What can be done next. It may be less than it says.
+    /// Returns what can be done next. A link that is `Readable` or `Writable` may have no bytes, or no room, after all.
     fn next(&mut self) -> Event
         ensures log { log self.new ≡ log self.old ++ Next result ∷ [] }
         ensures over { result ≡ Event.Nothing → is_over self.new ≡ true };
 
-    /// Reads once from the input; 0 where there is nothing now.
+    /// Reads once from the input into `buf`, and returns the number of bytes; 0 where there are none now.
     fn read_input(&mut self, buf: &mut [u8]) -> usize
         ensures bound { result ≤ length buf.new }
         ensures log { log self.new ≡ log self.old ++ Input (take result buf.new) ∷ [] };
 
-    /// The input isn't read any more.
+    /// Takes note that the input isn't read any more.
     fn leave_input(&mut self)
         ensures log { log self.new ≡ log self.old ++ Left ∷ [] };
 
-    /// Puts a link that dials into a slot, if there is one.
+    /// Puts a link that dials into a slot, and returns whether there was one.
     fn accept(&mut self, slot: usize) -> bool
         ensures log { log self.new ≡ log self.old ++ (if result then Opened slot else Missed slot) ∷ [] };
 
-    /// Reads once from the link in a slot; 0 where there is nothing now.
+    /// Reads once from the link in a slot into `buf`, and returns the number of bytes; 0 where there are none now.
     fn read(&mut self, slot: usize, buf: &mut [u8]) -> usize
         ensures bound { result ≤ length buf.new }
         ensures log { log self.new ≡ log self.old ++ Received slot (take result buf.new) ∷ [] };
 
-    /// Writes once to the link in a slot, which takes a prefix of the bytes; 0 where it takes nothing now.
+    /// Writes once to the link in a slot, which accepts a prefix of the bytes, and returns the number of bytes that it
+    /// accepted; 0 where it accepts none now.
     fn write(&mut self, slot: usize, bytes: &[u8]) -> usize
         ensures bound { result ≤ length bytes.now }
         ensures log { log self.new ≡ log self.old ++ Emitted slot (take result bytes.now) ∷ [] };
@@ -78,11 +79,11 @@ pub trait Ready {
     fn close(&mut self, slot: usize)
         ensures log { log self.new ≡ log self.old ++ Gone slot ∷ [] };
 
-    /// What the server wants of the link in a slot.
+    /// Takes note of what the server wants of the link in a slot.
     fn wants(&mut self, slot: usize, interest: Interest)
         ensures log { log self.new ≡ log self.old ++ Wants slot interest ∷ [] };
 
-    /// Whether the server would take another link.
+    /// Takes note whether the server would take another link.
     fn wants_links(&mut self, wanted: bool)
         ensures log { log self.new ≡ log self.old ++ WantsLinks wanted ∷ [] };
 }

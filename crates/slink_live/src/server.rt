@@ -99,7 +99,7 @@ impl Server {
     ///
     /// # Errors
     ///
-    /// What is wrong with the input, at once: `Turns` behind 2^40 reads, and where 2^40 events came in one call. It
+    /// What is wrong with the input, at once: `Turns` after 2^40 reads, and where 2^40 events came in one call. It
     /// isn't read further: the next call serves the links on, from the records that came before.
     pub fn serve<R: Ready>(&mut self, ready: &mut R) -> Result<(), InputFault>
         requires sound { IsSound self.old }
@@ -217,7 +217,7 @@ impl Server {
         Err(fault)
     }
 
-    /// Reads the input no more, since the device was called too often, and says so.
+    /// Reads the input no more, since the device was called too often, and returns that fault.
     #[tactic(auto, using(crate::proofs::Steps::ended_sound, crate::proofs::Steps::few_records))]
     fn give_up<R: Ready>(&mut self, ready: &mut R) -> InputFault
         requires { IsSound self.old }
@@ -258,7 +258,7 @@ impl Server {
         }
     }
 
-    /// Takes a new link into a slot, and says whether further ones are wanted.
+    /// Takes a new link into a slot, and reports to the device whether further ones are wanted.
     fn take<R: Ready>(&mut self, slot: usize, ready: &mut R)
         requires sound { IsSound self.old }
         requires reads { self.old.has_ended ≡ false }
@@ -352,7 +352,7 @@ impl Server {
         ready.wants_links(!self.has_ended);
     }
 
-    /// Settles each link.
+    /// Queues what is due to each link, and reports what is wanted of it, or closes it.
     fn update_all<R: Ready>(&mut self, ready: &mut R)
         requires { IsSound self.old }
         ensures keeps { KeepsServing self.old self.new (R.log ready.old) (R.log ready.new) }
@@ -364,7 +364,8 @@ impl Server {
         }
     }
 
-    /// Settles each link that may be sent records of some of these places. The others are as they were.
+    /// Queues what is due to each link that may be sent records of some of these places, and reports what is wanted of
+    /// it, or closes it. The others are as they were.
     fn update_those<R: Ready>(&mut self, places: Places, ready: &mut R)
         requires { IsSound self.old }
         ensures keeps { KeepsServing self.old self.new (R.log ready.old) (R.log ready.new) }
@@ -378,8 +379,8 @@ impl Server {
         }
     }
 
-    /// Queues what is due of the session of the link in a slot, and tells the device what is wanted of the link, or
-    /// closes it.
+    /// Queues what is due of the session of the link in a slot, and reports to the device what is wanted of the link,
+    /// or closes it.
     fn update<R: Ready>(&mut self, slot: usize, ready: &mut R)
         requires sound { IsSound self.old }
         requires within { slot < length self.old.links }
@@ -394,7 +395,7 @@ impl Server {
         }
     }
 
-    /// Says what is wanted of the link in a slot, or closes it, where nothing more is due to it.
+    /// Reports to the device what is wanted of the link in a slot, or closes it, where nothing more is due to it.
     fn update_at_rest<R: Ready>(&mut self, slot: usize, ready: &mut R)
         requires sound { IsSound self.old }
         requires within { slot < length self.old.links }

@@ -13,7 +13,7 @@ const FIRST_INTEREST: Interest = Interest {
     is_streaming: false,
 };
 
-/// Behind a write of more bytes than these, more is to be written: all that a link has waiting had no room.
+/// After a write of more bytes than these, more is to be written: all that a link has waiting had no room.
 const LONG: usize = 5_720;
 
 /// A stream, what the server wants of it, and what may be had.

@@ -45,7 +45,7 @@ use Rattle.slink_model.proofs.Shaking.{has_number, has_place, streams}
 use Rattle.slink_model.proofs.Sparing.{WorldTalks, opening_talks, step_talks}
 use Rattle.slink_model.proofs.Worlds.{AreOf, each_of}
 
--- what goes behind isn't whole yet
+-- what goes after isn't whole yet
 wholes_more : (xs ys : List Item) (d : ℕ) → d ≤ length (way_bytes xs) → wholes d (xs ++ ys) ≡ wholes d xs
 wholes_more [] [] d le = refl
 wholes_more [] (y ∷ ys) d le =
@@ -129,7 +129,7 @@ one_counted (xs ∷ lists) (suc j) b lt =
     let more : held_count (with_one lists j b) ≡ held_count lists + 1 = one_counted lists j b (omega (arith, lt)) in
     omega (arith, more)
 
--- nothing more, and more behind more
+-- nothing more, and more after more
 holds_none : (held : Lists) → HoldsMore held [] held
 holds_none held = record { each = λ k. sym (append-nil (get_or held k [])); count = omega arith }
 

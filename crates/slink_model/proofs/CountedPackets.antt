@@ -1,4 +1,4 @@
--- Behind the replies a packet is whole for each 520 bytes.
+-- After the replies a packet is whole for each 520 bytes.
 use Rattle.std.proofs.Common.{◌≡◌, ℕ, ◌-◌, ◌*◌, ◌/◌, ◌%◌, ◌^◌, ◌+◌, ◌<◌, ◌≤◌, zero, suc, refl, sym, ap, ◌∙◌, arith}
 use Rattle.std.proofs.Common.{List, [], ◌∷◌, ◌++◌, length, replicate, take}
 use Rattle.slink_model.specs.Counted.{ArePackets, wholes}
@@ -35,7 +35,7 @@ packets_whole (Carried k n r ∷ ps) e are =
     (λ lt. let none : e / 520 ≡ 0 = omega (arith, lt, size) in ap (λ m. take m (Carried k n r ∷ ps)) (sym none))
 packets_whole (Finished ∷ ps) e are = absurd are
 
--- with the end behind them
+-- with the end after them
 packets_ending : (ps : List Item) (e : ℕ) → ArePackets ps → e < 520 * length ps + 3
     → wholes e (ps ++ Finished ∷ []) ≡ take (e / 520) ps
 packets_ending [] e are few = whole_or Finished [] e (λ ws bs p. ws ≡ take (e / 520) [])
@@ -70,7 +70,7 @@ packets_ended (Carried k n r ∷ ps) e are all =
     (λ lt. absurd (omega (arith, all, lt, size)))
 packets_ended (Finished ∷ ps) e are all = absurd are
 
--- behind the replies
+-- after the replies
 pub behind_replies : (places delivered : ℕ) (ps : List Item) → 8 * places ≤ delivered
     → wholes delivered (replicate (2 * places) Accepted ++ ps) ≡ replicate (2 * places) Accepted ++ wholes
     (delivered - 8 * places) ps

@@ -31,7 +31,7 @@ use Rattle.slink_model.proofs.Shaking.{AreBorne, AreRinged, AreSent, IsSuited, s
 use Rattle.slink_model.proofs.Sparing.{borne_more, sent_more, slot_within, streaming_is, suited_more, window_sound}
 use Rattle.slink_model.proofs.Waiting.{answered_few}
 
--- what is sent goes behind what was
+-- what is sent goes after what was
 ends_more : (phase : Phase) (is ys : List Item) → EndsIn Streaming is → EndsIn phase ys → EndsIn phase (is ++ ys)
 ends_more phase [] ys h k = k
 ends_more phase (Accepted ∷ is) ys h k = ends_more phase is ys h k

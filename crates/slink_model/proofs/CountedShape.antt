@@ -70,7 +70,7 @@ abbrev pub AreShaped : Places → Talk → Option CountedLink → Type 0
 AreShaped places talk None = Unit {0}
 AreShaped places talk (Some c) = IsLinked talk.stage → Shape places talk.stage c.sent c.delivered
 
--- what goes behind while packets are awaited
+-- what goes after while packets are awaited
 shape_more : (places : Places) (talk : Talk) (sent ys : List Item) (d : ℕ) → d ≤ length (way_bytes sent)
     → Shape places talk.stage sent d → Shape places talk.stage (sent ++ ys) d
 shape_more places talk sent ys d few h =

@@ -80,7 +80,7 @@ take_wholes (i ∷ is) d =
     (take (part (d - length (item_bytes i)) is) (way_bytes (behind (d - length (item_bytes i)) is))))))
     (λ lt. refl)
 
--- what goes behind stays behind
+-- what goes after stays after
 pub behind_more : (xs ys : List Item) (d : ℕ) → d ≤ length (way_bytes xs) → behind d (xs ++ ys) ≡ behind d xs ++ ys
 behind_more [] [] d le = refl
 behind_more [] (y ∷ ys) d le =

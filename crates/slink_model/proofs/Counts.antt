@@ -45,7 +45,7 @@ use Rattle.slink_model.proofs.Shaking.{in_phase, is_short, no_grant, none_suited
 use Rattle.slink_model.proofs.Shaking.{streams, unanswered}
 use Rattle.slink_model.proofs.Waiting.{answered_few, asking_waits}
 
--- Nothing comes behind the end, which closes the session.
+-- Nothing comes after the end, which closes the session.
 abbrev pub EndsIn : Phase → List Item → Type 0
 EndsIn phase [] = Unit {0}
 EndsIn phase (Accepted ∷ is) = EndsIn phase is

@@ -37,7 +37,7 @@ get_within [] i r h = absurd (let bad : None ≡ Some r = h in cc bad)
 get_within (x ∷ xs) zero r h = omega arith
 get_within (x ∷ xs) (suc i) r h = let more : i < length xs = get_within xs i r h in omega (arith, more)
 
--- The record behind the last one held is held too.
+-- The record after the last one held is held too.
 pub holds_next : (first n : ℕ) (F : List (List ℕ)) (next : Option ℕ) (held : List (List ℕ)) (start : Option ℕ)
     (r : List ℕ) → first ≤ n → slice_get F (n - first) ≡ Some r
     → ((s : ℕ) → start ≡ Some s → n ≡ s + length held) → Holds first F next held start
@@ -183,7 +183,7 @@ pub way_started : (few : ℕ → Type 0) (first : ℕ) (F held : List (List ℕ)
     → or_else start sent ≡ None → ⊥
 way_started few first F held start sent g i rest w e = started_some start sent w.0 i rest w.5 e
 
--- The record of a packet that comes, and that is wanted, is the one behind the last one held.
+-- The record of a packet that comes, and that is wanted, is the one after the last one held.
 pub delivered : (first : ℕ) (F : List (List ℕ)) (next : Option ℕ) (held : List (List ℕ)) (start sent : Option ℕ)
     (g : Grant) (n : ℕ) (r : List ℕ) (rest : List (ℕ × List ℕ))
     → ((w : ℕ) → next ≡ Some w → n % 2 ^ 24 ≡ w) → Holds first F next held start

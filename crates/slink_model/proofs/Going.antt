@@ -1,4 +1,4 @@
--- The first packet of a place on its way is that of the record behind the last one held.
+-- The first packet of a place on its way is that of the record after the last one held.
 use Rattle.std.proofs.Common.{◌≡◌, ℕ, ◌+◌, ◌-◌, ◌*◌, ◌%◌, ◌^◌, ◌<◌, inl, inr, refl, sym, ap, subst, ◌∙◌, arith, List}
 use Rattle.std.proofs.Common.{[]}
 use Rattle.std.proofs.Common.{◌∷◌, ◌++◌, length, length-append, append_assoc, get_or, drop, Option, Some, None}
@@ -111,7 +111,7 @@ module _ (places : Places) (differ : Differ places) where
       first_many x y xs ys p.0 q.0 (sym (marked x xs) ∙ (ap mark_in e ∙ marked y ys)) e j
       (λ f. same_many xs ys p.1 q.1 f j)
 
-  -- what is carried was pushed, and so bears its place
+  -- what is carried was pushed, and so carries its place
   each_borne : (items : List Item) → AreWhole items → ((k n : ℕ) (r : List ℕ) (prefix back : List (ℕ × List ℕ))
       → of_place k items ≡ prefix ++ (n, r) ∷ back → (p : Fields × Option ℕ) × (slice_get places k ≡ Some p)
       × (length r ≡ 512) × Bears r p.0) → AreBorne places items

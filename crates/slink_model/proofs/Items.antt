@@ -26,7 +26,7 @@ whole_more (Greeted ∷ xs) ys a b = whole_more xs ys a b
 whole_more (Carried k n r ∷ xs) ys a b = (a.0, whole_more xs ys a.1 b)
 whole_more (Finished ∷ xs) ys a b = whole_more xs ys a b
 
--- what is sent goes behind what is on its way
+-- what is sent goes after what is on its way
 pub flow_more : (kept way bytes : List ℕ) (xs ys : List Item) → bytes ≡ way_bytes ys → kept ++ way ≡ way_bytes xs
     → kept ++ (way ++ bytes) ≡ way_bytes (xs ++ ys)
 flow_more kept way bytes xs ys more flow = sym (append_assoc kept way bytes)

@@ -65,7 +65,7 @@ reported_events f (events.Gap k want got) es g = refl
 reported_events f events.Garbage es g = refl
 reported_events f events.Foreign es g = refl
 
--- the wholes that a client read, and what was lost behind its end
+-- the wholes that a client read, and what was lost after its end
 pub record ReadAllOf (f : Numbers) (t : Taking) (bytes : List ℕ) (last : Taking) : Type 0 where
   pub brought : List Brought
   pub lost : List ℕ

@@ -17,7 +17,7 @@ nothing : (used : ℕ) → ◌≡◌ {A = List ℕ} (take used []) []
 nothing zero = refl
 nothing (suc n) = refl
 
--- the piece that begins at an offset, and the rest behind it
+-- the piece that begins at an offset, and the rest after it
 pub at_offset : (bytes : List ℕ) (start used : ℕ)
     → drop start bytes ≡ take used (drop start bytes) ++ drop (start + used) bytes
 at_offset bytes zero used = let none : zero + used ≡ used = omega arith in

@@ -121,7 +121,7 @@ bears_key b codes place long key network station =
       sym first ∙ (ap (λ (k : List ℕ). slice_range k 0 2) key ∙ sym network),
     )
 
--- each record of the packing bears the schedule's place
+-- each record of the packing carries the schedule's place
 abbrev pub AllBear : Fields → List (List ℕ) → Type 0
 AllBear place rs = AllByRecursion (λ (r : List ℕ). Bears r place) rs
 
@@ -197,7 +197,7 @@ prefix (ToClient n ∷ steps) rs of = prefix steps rs of.1
 prefix (Send k ∷ steps) rs of = prefix steps rs of.1
 prefix (Cut ∷ steps) rs of = prefix steps rs of.1
 
--- what is held are some of them, one behind another
+-- what is held are some of them, one after another
 pub record Between (rs held : List (List ℕ)) : Type 0 where
   pub before : List (List ℕ)
   pub after : List (List ℕ)

@@ -132,7 +132,7 @@ carried_at places first w l t is =
 
 module _ (setup : Setup) (steps : List Step) (now : WorldState) (run : AllHappen (opening setup) steps now)
     (is : IsSchedule setup steps) (lacks : LackFew setup.first (opening setup) steps now run) where
-  -- After any steps the record behind the last one held is granted, where it can be.
+  -- After any steps the record after the last one held is granted, where it can be.
   pub resume_granted : Resumes now
   resume_granted = resumes_at setup.places.items setup.first now (ties_after setup steps now run is lacks)
       (last_lacks setup.first steps (opening setup) now run lacks)

@@ -39,7 +39,7 @@ use Rattle.slink_model.proofs.Requested.{also_at, end_command, number_command, r
 use Rattle.slink_model.proofs.Requested.{station_found}
 use Rattle.slink_model.proofs.Resolved.{resolved_alike}
 
--- Of records, each has 512 bytes and bears its place.
+-- Of records, each has 512 bytes and carries its place.
 abbrev pub IsBorne : Places → Item → Type 0
 IsBorne places Accepted = Unit {0}
 IsBorne places Refused = Unit {0}
@@ -81,7 +81,7 @@ pub record Flows (places : Places) (client : Listening) (grants : List (Option G
   pub borne : AreBorne places items
   pub suited : (k : ℕ) → IsSuited (next_at client.talk.wants k) (grant_at grants k) (of_place k items)
 
--- where the session stands when a place is requested: at the beginning, or behind the grant of the place before
+-- where the session stands when a place is requested: at the beginning, or after the grant of the place before
 abbrev pub IsReadyFor : ℕ → Phase → Type 0
 IsReadyFor k phase = ((k ≡ 0) × (phase ≡ Fresh)) ⊎ ((j : ℕ) × (k ≡ j + 1) × (phase ≡ Granted j))
 
@@ -136,7 +136,7 @@ module _ (places : Places) (differ : Differ places) (codes : (k : ℕ) (p : Fiel
   abbrev pub Talks : Standing → List ℕ → List ℕ → Type 0
   Talks s to_server to_client = LinkTalks places client s to_server to_client
 
-  -- a reply goes on its way behind nothing
+  -- a reply goes on its way after nothing
   pub replied : (grants new : Grants) (way : List ℕ) (items : List Item) (reply : Reply) → items ≡ []
       → ((k : ℕ) → IsSuited (next_at client.talk.wants k) (grant_at new k) []) → AreBorne places (items_of reply)
       → Flows places client grants way items → Flows places client new (way ++ reply_bytes reply) (items_of reply)

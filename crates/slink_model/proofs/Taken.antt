@@ -62,7 +62,7 @@ pub borne_is : (r : List ℕ) (o : Option Wanted) → is_borne r o ≡ true → 
 borne_is r None h = absurd (let bad : false ≡ true = h in cc bad)
 borne_is r (Some w) h = (w, refl, passes_bears w.place r h)
 
--- the place that bears a record
+-- the place that carries a record
 bearer_is : (wants : Wants) (r : List ℕ) (j : ℕ) → bearer wants r ≡ Some j
     → (w : Wanted) × (slice_get wants j ≡ Some (Some w)) × Bears r w.place
 bearer_is wants r j h =
@@ -281,7 +281,7 @@ module _ (places : Places) (first : ℕ) (pushed : Lists) (state : State) (first
         };
       }
 
-  -- The record of the first packet on the way is held. It is of the place that bears it.
+  -- The record of the first packet on the way is held. It is of the place that carries it.
   taken_ties : (client new : Listening) (held : Lists) (start : Numbers) (way left : List ℕ) (k j n : ℕ) (r : List ℕ)
       (rest : List Item) → (c : ClientTies client held start way)
       → c.link.items ≡ Carried k n r ∷ rest → left ≡ way_bytes rest → bearer client.talk.wants r ≡ Some j

@@ -1,4 +1,4 @@
--- What is answered to a client that says the number which it wants next.
+-- What is answered to a client that requests the number which it wants next.
 use Rattle.std.specs.Prelude.{◌≡◌, ℕ, ◌+◌, ◌⊎◌, [], ◌++◌, length, Some, slice_get, slice_index_or}
 use Rattle.slink_wire.specs.declared.reply.Reply.{Reply}
 use Rattle.slink_wire.specs.Reply.{reply_bytes}
@@ -21,7 +21,7 @@ IsUnanswered l m = (m.session.state ≡ l.session.state) × (m.to_client ≡ [])
 
 -- The line has come, and was answered by the number that the client wants next. Where something is held of the place,
 -- the
--- answer is the grant of the record behind the last one held, where there is that grant, and else the refusal.
+-- answer is the grant of the record after the last one held, where there is that grant, and else the refusal.
 pub record IsAnswered (w : WorldState) (k : ℕ) (l m : LinkState) : Type 0 where
   pub reply : Reply
   pub written : m.to_client ≡ reply_bytes reply

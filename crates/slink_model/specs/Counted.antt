@@ -133,7 +133,7 @@ part d (i ∷ is) = if nat_le (length (item_bytes i)) d then part (d - length (i
 
 -- What a client makes of what is sent to it, by what it waits for: `OK` lets it say its next line, and `ERROR` ends the
 -- link;
--- a packet brings a record of its place, and the number behind it is wanted next.
+-- a packet brings a record of its place, and the number after it is wanted next.
 abbrev pub on_item : Stage → Item → Talk → Talk × Event
 on_item (Station k) Accepted t = says_number k t
 on_item (Station k) Refused t = ended (endings.Refused k) t
@@ -265,7 +265,7 @@ ArePackets (Greeted ∷ is) = ⊥
 ArePackets (Carried k n r ∷ is) = (length r ≡ 512) × ArePackets is
 ArePackets (Finished ∷ is) = ⊥
 
--- the same, and behind the last of them the end, if it was sent
+-- the same, and after the last of them the end, if it was sent
 abbrev pub AreItems : List Item → Type 0
 AreItems [] = Unit {0}
 AreItems (Accepted ∷ is) = ⊥
@@ -274,8 +274,8 @@ AreItems (Greeted ∷ is) = ⊥
 AreItems (Carried k n r ∷ is) = (length r ≡ 512) × AreItems is
 AreItems (Finished ∷ is) = is ≡ []
 
--- Two replies of 4 bytes to each of so many places were sent and came to the client; behind them packets were sent,
--- and behind the last of these the end, if it was.
+-- Two replies of 4 bytes to each of so many places were sent and came to the client; after them packets were sent,
+-- and after the last of these the end, if it was.
 pub record IsStreamed (places : ℕ) (l : CountedLink) : Type 0 where
   pub packets : List Item
   pub sent_is : l.sent ≡ replicate (2 * places) Accepted ++ packets

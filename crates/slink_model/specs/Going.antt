@@ -3,9 +3,9 @@ use Rattle.std.specs.Prelude.{◌≡◌, ℕ, ◌+◌, ◌<◌, List, [], ◌∷
 use Rattle.slink_model.specs.Ties.{Item, Places, of_place, way_bytes}
 use Rattle.slink_model.specs.World.{LinkState, WorldState, number_at}
 
--- What is on its way to the client, behind the bytes that it kept, are replies and packets. Where something is held of
+-- What is on its way to the client, after the bytes that it kept, are replies and packets. Where something is held of
 -- a
--- place, the first packet of it is that of the record behind the last one held.
+-- place, the first packet of it is that of the record after the last one held.
 pub record GoesOn (places : Places) (w : WorldState) (l : LinkState) : Type 0 where
   pub items : List Item
   pub bytes : w.client.kept ++ l.to_client ≡ way_bytes items

@@ -59,7 +59,7 @@ pub record IsRelayable (setup : Setup) (codes : List ℕ) (steps : List Step) : 
 abbrev pub held_of : WorldState → List (List ℕ)
 held_of w = slice_index_or w.held 0 []
 
--- Some of the records that a series is packed into, one behind another, which are continuous; and their series, the
+-- Some of the records that a series is packed into, one after another, which are continuous; and their series, the
 -- part of it that they were packed from.
 pub record IsPartHeld (s : Trace) (records held : List (List ℕ)) (t : Trace) : Type 0 where
   pub before : List (List ℕ)

@@ -22,7 +22,7 @@ use Rattle.slink_feed.specs.Running.{HasStream}
 use Rattle.slink_model.specs.World.{LinkState, Lists, Numbers, WorldState, number_at}
 
 -- What is held of a place is one stretch of all its records, in their order and each once: `start` is the number of the
--- first one held, and the number of the record behind the last one is wanted next.
+-- first one held, and the number of the record after the last one is wanted next.
 abbrev pub Holds : ℕ → List (List ℕ) → Option ℕ → List (List ℕ) → Option ℕ → Type 0
 Holds first pushed next held None = held ≡ []
 Holds first pushed next held (Some start) =
@@ -72,7 +72,7 @@ AreNext first pushed n [] = Unit {0}
 AreNext first pushed n (i ∷ is) =
     (i.0 ≡ n) × (slice_get pushed (n - first) ≡ Some i.1) × AreNext first pushed (n + 1) is
 
--- The record that comes next is the one behind the last one held, or at least it isn't 2^24 or more before it.
+-- The record that comes next is the one after the last one held, or at least it isn't 2^24 or more before it.
 abbrev pub IsNear : (ℕ → Type 0) → ℕ → Option ℕ → ℕ → Type 0
 IsNear few n None count = Unit {0}
 IsNear few n (Some start) count = (n ≡ start + count) ⊎ ((start + count < n + 2 ^ 24) × few (start + count))
@@ -91,11 +91,11 @@ IsOnWay few first pushed held start first_sent (Some g) rest =
     (n : ℕ) × (first ≤ n) × AreNext first pushed n rest × (g.position ≡ n + length rest)
     × IsNear few n start (length held) × IsFirst start first_sent n rest
 
--- each record of a place bears it
+-- each record of a place carries it
 abbrev pub AreSound : Fields → List (List ℕ) → Type 0
 AreSound place pushed = (i : ℕ) (r : List ℕ) → slice_get pushed i ≡ Some r → (length r ≡ 512) × Bears r place
 
--- a record that a client's event tells of: the index of its place, its number modulo 2^24, its bytes
+-- a record that a client's event reports: the index of its place, its number modulo 2^24, its bytes
 pub record Reported : Type 0 where
   pub index : ℕ
   pub number : ℕ

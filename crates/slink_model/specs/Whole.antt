@@ -43,13 +43,13 @@ abbrev pub held_count : Lists → ℕ
 held_count [] = 0
 held_count (records ∷ held) = length records + held_count held
 
--- Of each place is held what was held before, and behind it its records in these items: one for each packet.
+-- Of each place is held what was held before, and after it its records in these items: one for each packet.
 pub record HoldsMore (old : Lists) (items : List Item) (held : Lists) : Type 0 where
   pub each : (k : ℕ) → slice_index_or held k [] ≡ slice_index_or old k [] ++ records_in k items
   pub count : held_count held ≡ held_count old + packet_count items
 
--- Two replies of 4 bytes to each of so many places came to the client, and packets behind them. For each 520 bytes that
--- came behind the replies a packet is whole, and the records of these are held.
+-- Two replies of 4 bytes to each of so many places came to the client, and packets after them. For each 520 bytes that
+-- came after the replies a packet is whole, and the records of these are held.
 pub record HoldsWhole (places : ℕ) (old held : Lists) (l : CountedLink) : Type 0 where
   pub streamed : IsStreamed places l
   pub holds : HoldsMore old (take ((l.delivered - 8 * places) / 520) streamed.packets) held

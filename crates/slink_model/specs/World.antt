@@ -138,7 +138,7 @@ pub record IsNew (s : Standing) : Type 0 where
   pub state : s.state ≡ at Fresh (replicate 16 None)
   pub held : IsHeld s.held []
 
--- what a client says
+-- what a client sends
 abbrev pub written : Event → List ℕ
 written (events.Say line) = line.items
 written event = []
@@ -206,7 +206,7 @@ abbrev pub Differ : List (Fields × Option ℕ) → Type 0
 Differ places = (i j : ℕ) (p q : Fields × Option ℕ) → slice_get places i ≡ Some p → slice_get places j ≡ Some q
     → p.0 ≡ q.0 → i ≡ j
 
--- A step names one of the places, and a record bears the place that it is pushed to.
+-- A step names one of the places, and a record carries the place that it is pushed to.
 abbrev pub IsOf : List (Fields × Option ℕ) → Step → Type 0
 IsOf places (Append k bytes) = (p : Fields × Option ℕ) × (slice_get places k ≡ Some p) × Bears bytes p.0
 IsOf places (Send k) = k < length places

@@ -66,7 +66,7 @@ pub(crate) fn note_first(numbers: &mut [Option<u64>], k: usize, number: Option<u
     }
 }
 
-/// Gives bytes to a session, and puts its replies behind what is on its way to the client.
+/// Gives bytes to a session, and puts its replies after what is on its way to the client.
 pub(crate) fn serve_bytes(
     feed: &Feed,
     session: &mut Session,
@@ -123,7 +123,7 @@ fn read_piece(client: &mut Client, bytes: &[u8]) -> (usize, Event)
     client.take(bytes)
 }
 
-/// Gives bytes to a client, and puts what it tells where it belongs. What is behind its end is lost.
+/// Gives bytes to a client, and puts what it tells where it belongs. What is after its end is lost.
 pub(crate) fn read_bytes(
     client: &mut Client,
     bytes: &[u8],

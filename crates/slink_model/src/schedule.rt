@@ -99,7 +99,7 @@ fn open(alloc: Global, setup: &Setup) -> Result<World, Memory>
 /// Carries out a schedule: pushes, deliveries, cuts and reconnections in any order.
 ///
 /// The places are different. The capacity is from 1 to 1,000,000 records, the first number and those that the client
-/// wants first are below 2^24. A step names one of the places, and a record that is pushed bears its place's station
+/// wants first are below 2^24. A step names one of the places, and a record that is pushed carries its place's station
 /// and network.
 ///
 /// # Errors
@@ -127,7 +127,7 @@ pub fn run_schedule(alloc: Global, setup: &Setup, steps: &[Step]) -> Result<Worl
     // So it is after fewer than 2^24 steps.
     ensures brief { IfOk result (λ w. AllHappen (opening setup.now) steps.now (seen w) → length steps.now < 2 ^ 24
         → HoldsStretches setup.now.places.items setup.now.first (seen w)) }
-    // A client that comes again is then granted the record behind the last one held exactly where it can be, and no
+    // A client that comes again is then granted the record after the last one held exactly where it can be, and no
     // other.
     ensures resumes { IfOk result (λ w. (run : AllHappen (opening setup.now) steps.now (seen w))
         → LackFew setup.now.first (opening setup.now) steps.now (seen w) run → Resumes (seen w)) }
@@ -141,7 +141,7 @@ pub fn run_schedule(alloc: Global, setup: &Setup, steps: &[Step]) -> Result<Worl
         → LackFew setup.now.first (opening setup.now) steps.now (seen w) run → 0 < length setup.now.places.items
         → (n : ℕ) (next : WorldState) (l m : LinkState) → Happens (seen w) (Step.ToServer n) next
         → (seen w).link ≡ Some l → next.link ≡ Some m → AreAnswered (seen w) l m) }
-    // The first packet of a place on its way is that of the record behind the last one held.
+    // The first packet of a place on its way is that of the record after the last one held.
     ensures goes_on { IfOk result (λ w. (run : AllHappen (opening setup.now) steps.now (seen w))
         → LackFew setup.now.first (opening setup.now) steps.now (seen w) run → 0 < length setup.now.places.items
         → (l : LinkState) → (seen w).link ≡ Some l → IsLinked (seen w).client.talk.stage

@@ -17,7 +17,7 @@ ghost use Rattle.slink_model.specs.Whole.{HoldsMore, HoldsWhole, KeepsLink};
 ghost use Rattle.slink_model.specs.World.{AllHappen, Happens, IsOf, LinkState, WorldState, opening};
 
 /// After any steps of a schedule, what a client holds of each place is one slice of all records that were pushed of it,
-/// in their order and each once; and the number of the record behind the last one is wanted next.
+/// in their order and each once; and the number of the record after the last one is wanted next.
 ///
 /// Links may be cut after any byte. At no moment may 2^24 records or more be lacking of a place where one is held.
 #[tactic(auto, using(crate::proofs::Worlds::stretch_held))]
@@ -28,7 +28,7 @@ pub fn holds_one_slice()
 {}
 
 /// After any steps of a schedule, a client that holds something of a place, and asks for the number that it wants next,
-/// is granted the record behind the last one held exactly where that is still in the window or is the next one; else it
+/// is granted the record after the last one held exactly where that is still in the window or is the next one; else it
 /// is refused.
 #[tactic(auto, using(crate::proofs::Resumed::resume_granted))]
 pub fn resumes_behind_the_last()
@@ -38,7 +38,7 @@ pub fn resumes_behind_the_last()
 
 /// After any steps of a schedule, bytes that come to the server answer a client that awaits the grant of a place by the
 /// number that it wants at that moment: where something is held of the place, the answer is the grant of the record
-/// behind the last one held, where that is still in the window or is the next one, and else the refusal. While a client
+/// after the last one held, where that is still in the window or is the next one, and else the refusal. While a client
 /// takes from its link, a place comes to have a grant by no other way.
 #[tactic(auto, using(crate::proofs::Calling::answered_after))]
 pub fn answers_the_number_wanted()
@@ -83,7 +83,7 @@ pub fn one_world()
 {}
 
 /// After any steps of a schedule, while a client takes from its link, and where something is held of a place, the first
-/// packet of it that is on its way is that of the record behind the last one held.
+/// packet of it that is on its way is that of the record after the last one held.
 #[tactic(auto, using(crate::proofs::Going::goes_on_after))]
 pub fn goes_on_behind_the_last()
     ensures next { (setup : Setup) (steps : List Step) (now : WorldState) (run : AllHappen (opening setup) steps now)
@@ -101,8 +101,8 @@ pub fn is_the_counted_world()
         → IsCounted setup (counted_after setup (counted_opening setup) steps) now }
 {}
 
-/// Of two replies to each of so many places, and packets behind them, there are whole in a prefix of their bytes,
-/// behind the replies, as many packets as the prefix has whole 520 bytes behind these. So it is where the end is behind
+/// Of two replies to each of so many places, and packets after them, there are whole in a prefix of their bytes,
+/// after the replies, as many packets as the prefix has whole 520 bytes after these. So it is where the end is after
 /// the packets, which is whole where all bytes are there.
 pub fn counts_whole_packets()
     ensures whole { (places delivered : ℕ) (packets : List Item) → ArePackets packets → 8 * places ≤ delivered
@@ -119,7 +119,7 @@ pub fn counts_whole_packets()
 {}
 
 /// After any steps of a schedule, while a client awaits packets, what its link was sent are two replies to each place,
-/// which have come to it, behind them packets of whole records, and behind the last of these the end, once or not yet.
+/// which have come to it, after them packets of whole records, and after the last of these the end, once or not yet.
 #[tactic(auto, using(crate::proofs::CountedWorld::counted_streamed))]
 pub fn streams_behind_the_replies()
     ensures streams { (setup : Setup) (steps : List Step) (now : WorldState) → AllHappen (opening setup) steps now
@@ -128,7 +128,7 @@ pub fn streams_behind_the_replies()
         (counted_after setup (counted_opening setup) steps).link }
 {}
 
-/// While a client takes from a link, it holds of each place what it held when it connected, and behind it the records
+/// While a client takes from a link, it holds of each place what it held when it connected, and after it the records
 /// of the packets that came whole.
 pub fn holds_whole_packets()
     ensures whole { (setup : Setup) (before after : List Step) (now : WorldState)
@@ -138,7 +138,7 @@ pub fn holds_whole_packets()
         → (counted_after setup (counted_opening setup) (before ++ Step.Connect ∷ after)).link ≡ Some l
         → IsLinked (counted_after setup (counted_opening setup) (before ++ Step.Connect ∷ after)).talk.stage
         → HoldsMore (counted_after setup (counted_opening setup) before).held (wholes l.delivered l.sent) now.held }
-    // While it awaits packets, it holds one record more for each 520 bytes that came behind the replies.
+    // While it awaits packets, it holds one record more for each 520 bytes that came after the replies.
     ensures counted { (setup : Setup) (before after : List Step) (now : WorldState)
         → AllHappen (opening setup) (before ++ Step.Connect ∷ after) now
         → IsSchedule setup (before ++ Step.Connect ∷ after) → AreAskable setup.places.items → All KeepsLink after

@@ -74,7 +74,7 @@ pub struct World {
 }
 
 impl Setup {
-    /// Whether a step names one of the places, and a record that it pushes bears its place.
+    /// Whether a step names one of the places, and a record that it pushes carries its place.
     pub fn has_step(&self, step: &Step) -> bool
         ensures { IsTrue result ↔ IsOf self.now.places.items step.now }
     {

@@ -267,7 +267,7 @@ fn serve_plan_of(feed: Feed, connections: u32, seconds: u32) -> ServePlan {
     }
 }
 
-/// The records of these marks, one behind another.
+/// The records of these marks, one after another.
 fn records(rt: &impl Abort, alloc: Global, marks: Range<u8>) -> Vec<u8> {
     let mut bytes = Vec::new(alloc);
     for mark in marks {

@@ -207,7 +207,7 @@ fn record(number: u8) -> [u8; 512] {
     bytes
 }
 
-/// Records, one behind another.
+/// Records, one after another.
 fn records(rt: &impl Abort, alloc: Global, count: u8) -> Vec<u8> {
     let mut bytes = Vec::new(alloc);
     for number in 0..count {

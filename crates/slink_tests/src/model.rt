@@ -283,7 +283,7 @@ fn takes_another(rt: &impl Abort, alloc: Global, feed: &mut Feed, letter: u8) ->
     is_double && matches!(add_letter(rt, alloc, feed, letter), Added::Well)
 }
 
-/// Whether a feed of no rings takes sixteen, and none behind them.
+/// Whether a feed of no rings takes sixteen, and none after them.
 fn holds_sixteen(rt: &impl Abort, alloc: Global, feed: &mut Feed) -> bool {
     let mut is_well = matches!(add_letter(rt, alloc, feed, b'A'), Added::Well);
     for k in 1..16 {

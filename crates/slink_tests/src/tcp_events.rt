@@ -2,7 +2,7 @@
 //! server and the clock do, chosen at random.
 //!
 //! Of each event it is judged whether it may come: a link is readable, writable or gone, and somebody dials, only where
-//! something was done that makes it so, and where that is wanted. What has to come does, behind a bounded number of
+//! something was done that makes it so, and where that is wanted. What has to come does, after a bounded number of
 //! others. The bytes of each link are those that its client said, each once and in order; and its client receives those
 //! that were accepted, also where the link is closed then.
 //!

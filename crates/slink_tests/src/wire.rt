@@ -210,14 +210,14 @@ fn replies(rt: HostRuntime) {
     }
 }
 
-/// Whether the next command of the stream is this one, or there is none; the one behind it is the next then.
+/// Whether the next command of the stream is this one, or there is none; the one after it is the next then.
 fn is_next(at: &mut usize, command: Option<Command>) -> bool {
     let wanted = stream::COMMANDS.get(*at).copied();
     *at = at.saturating_add(1);
     wanted == command
 }
 
-/// Takes a piece of the stream, whose lines say the next of its commands. Says whether one was too long, behind all
+/// Takes a piece of the stream, whose lines say the next of its commands. Says whether one was too long, after all
 /// commands.
 fn takes_piece(rt: &impl Abort, lines: &mut Lines, piece: &[u8], at: &mut usize) -> bool {
     let mut rest = piece;

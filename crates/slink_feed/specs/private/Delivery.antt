@@ -1,4 +1,4 @@
--- What is done for one event of a turn.
+-- What is done for one event of a step.
 use Rattle.std.specs.Prelude.{◌≡◌, ℕ, ◌+◌, ◌≤◌, ◌<◌, List, ◌++◌, length, take}
 use Rattle.mseed_stream.specs.Device.{BytesWritten}
 use Rattle.slink_feed.specs.declared.dialogue.Event.{Event}
@@ -23,7 +23,7 @@ pub record IsDelivered (event : Event) (before after : Counts)
   pub short : length (line_written event) ≤ 32
   pub sized : length (record_reported event) ≤ 512
 
--- A device failed within what the event gives it, behind so many bytes. The other device took nothing.
+-- A device failed within what the event gives it, after so many bytes. The other device took nothing.
 pub record FailsAtEvent (given : Event → List ℕ) (event : Event) (before count : ℕ)
     (failing_old failing_new other_old other_new : BytesWritten) : Type 0 where
   pub more : ℕ
@@ -46,7 +46,7 @@ pub record ComesTo (event : Event) (used : ℕ) (bytes : List ℕ) (old new : Li
   pub some : 0 < used
   pub bound : used ≤ length bytes
 
--- A record that an event tells of was reported.
+-- A record that an event reports was reported.
 pub record IsReportedOf (event : Event) (old new : Kept) : Type 0 where
   pub telling : new.telling ≡ telling_behind old.telling (record_in event)
   pub lines : AreReported (lines_of old.telling (record_in event)) old.errors new.errors

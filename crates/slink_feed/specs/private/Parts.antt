@@ -6,7 +6,7 @@ use Rattle.slink_feed.specs.declared.cutting.Part.{Part}
 use Rattle.slink_feed.specs.declared.cutting.Part.TheVariants as parts
 use Rattle.slink_feed.specs.Cutting.{Begins, IsNoPacket, IsNoReply, IsPacketBegun, IsReply, IsReplyBegun}
 
--- whether a byte is an LF behind these, of which the last is a CR
+-- whether a byte is an LF after these, of which the last is a CR
 abbrev pub ends_behind : Option ℕ → ℕ → Bool
 ends_behind None byte = false
 ends_behind (Some last) byte = last == 13 && byte == 10
@@ -35,7 +35,7 @@ pub record IsDue (bytes : List ℕ) : Type 0 where
   pub end : Begins bytes 69 → length bytes ≤ 3
   pub head : Begins bytes 83 → 8 < length bytes → (n : ℕ) × HasHead bytes n
 
--- So many of these bytes went behind those that were kept, and this is what they have come to. Where they come to
+-- So many of these bytes went after those that were kept, and this is what they have come to. Where they come to
 -- nothing yet, all were taken.
 pub record TakesUpTo (Comes : List ℕ → Part → Type 0) (old new bytes : List ℕ) (used : ℕ) (it : Part) : Type 0 where
   pub kept : new ≡ old ++ take used bytes

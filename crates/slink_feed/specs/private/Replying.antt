@@ -1,4 +1,4 @@
--- What the parts of a session's turn do.
+-- What the parts of a session's step do.
 use Rattle.std.specs.Prelude.{◌≡◌, ℕ, ◌+◌, ◌≤◌, List, length, slice_get}
 use Rattle.std.specs.Option.{ForSome}
 use Rattle.mseed_stream.specs.Device.{BytesWritten}
@@ -12,12 +12,12 @@ use Rattle.slink_feed.specs.Session.{sent, sent_bytes}
 use Rattle.slink_feed.specs.Turns.{Emitted, EmittedPrefix}
 use Rattle.slink_feed.specs.Window.{Window}
 
--- Behind so many bytes these were written.
+-- After so many bytes these were written.
 pub record IsWritten (old new : BytesWritten) (bytes : List ℕ) (before after : ℕ) : Type 0 where
   pub written : Emitted old new bytes
   pub count : after ≡ before + length bytes
 
--- Behind so many bytes a prefix of these was.
+-- After so many bytes a prefix of these was.
 pub record IsUnwritten (old new : BytesWritten) (bytes : List ℕ) (before after : ℕ) : Type 0 where
   pub more : ℕ
   pub written : EmittedPrefix old new bytes more
@@ -36,7 +36,7 @@ waits_after sents.Done waits = 0
 waits_after sents.Overrun waits = 0
 waits_after sents.Closed waits = 0
 
--- Behind so many bytes, what a session gave of a place was written; so often, one after another, there was nothing.
+-- After so many bytes, what a session gave of a place was written; so often, one after another, there was nothing.
 pub record HasGiven (feed : List Window) (k : ℕ) (old new : Attending) (before after waits waited : ℕ) : Type 0 where
   pub answer : Sent
   pub is : sent feed old.session.state k ≡ (new.session.state, answer)

@@ -18,7 +18,7 @@ pub record IsRefused (places : List Fields) (n : ℕ) (kept : List ℕ) (fault :
   pub none : (more : List ℕ) → ¬ (IsOf places (take 512 (kept ++ more)))
   pub is_fault : (more : List ℕ) → IsFaultIn places n (kept ++ more) fault
 
--- The bytes that were kept and those behind them were cut into records, which the rings have now, and this rest.
+-- The bytes that were kept and those after them were cut into records, which the rings have now, and this rest.
 pub record Cuts (old : IntakeState) (bytes : List ℕ) (new : IntakeState) (rest : List ℕ) : Type 0 where
   pub records : List (List ℕ)
   pub joined : old.kept ++ bytes ≡ concat records ++ rest

@@ -45,7 +45,7 @@ pub record AnswersFault (old new : ServerState) (before after : List Happening) 
 pub record Settles (j : ℕ) (old new : ServerState) (before after : List Happening) : Type 0 where
   -- No link sleeps that didn't in another slot.
   pub links : (k : ℕ) → (k ≢ j → IsAwakeIn old before k) → IsAwakeIn new after k
-  -- The device has been told what it has to be.
+  -- What has to be reported to the device has been.
   pub is_told : IsTold old before → IsTold new after
   -- A link is closed by right.
   pub closed : (start : List Window) → IsServing start old before → IsTold old before
@@ -53,25 +53,25 @@ pub record Settles (j : ℕ) (old new : ServerState) (before after : List Happen
   -- The other slots are as they were.
   pub others : (k : ℕ) → k ≢ j → get_or new.links k None ≡ get_or old.links k None
 
--- A step behind which no link sleeps, where none slept before.
+-- A step after which no link sleeps, where none slept before.
 pub record Tends (old new : ServerState) (before after : List Happening) : Type 0 where
   pub awake : IsAwake old before → IsAwake new after
   -- A link is closed by right.
   pub closed : (start : List Window) → IsServing start old before → IsAwake old before
       → Goes (IsClosedRightly start) before after
 
--- The same, whichever links sleep before, once the device was told what it has to be.
+-- A step after which no link sleeps, whichever slept before, once what has to be was reported to the device.
 pub record TendsAll (old new : ServerState) (before after : List Happening) : Type 0 where
   pub awake : IsTold old before → IsAwake new after
   pub closed : (start : List Window) → IsServing start old before → IsTold old before
       → Goes (IsClosedRightly start) before after
 
--- The same, also where the device was told nothing.
+-- A step after which no link sleeps, also where nothing was reported to the device before.
 pub record TendsAnew (old new : ServerState) (before after : List Happening) : Type 0 where
   pub awake : IsAwake new after
   pub closed : (start : List Window) → IsServing start old before → Goes (IsClosedRightly start) before after
 
--- The same, where no link sleeps but those that are sent records of some of these places.
+-- A step after which no link sleeps, where none slept before but those that are sent records of some of these places.
 pub record TendsBut (places : Places) (old new : ServerState) (before after : List Happening) : Type 0 where
   pub awake : IsTold old before
       → ((k : ℕ) → LeavesOut places (get_or old.links k None) → IsAwakeIn old before k) → IsAwake new after

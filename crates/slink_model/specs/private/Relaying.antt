@@ -1,4 +1,4 @@
--- What the parts of relaying leave behind.
+-- What the parts of relaying come to.
 use Rattle.std.specs.Prelude.{◌≡◌, ◌⊎◌, ◌++◌, ℕ, List, Result, Err}
 use Rattle.std.specs.List.{concat}
 use Rattle.mseed_record.specs.View.{View}
@@ -36,7 +36,7 @@ pub record IsViewedAs (answer : Result Trace NotContinuous) (codes : List ℕ) (
 abbrev pub IsOfRecords : Result Trace NotContinuous → List ℕ → List (List ℕ) → Type 0
 IsOfRecords answer codes records = (answer ≡ Err Memory) ⊎ IsViewedAs answer codes records
 
--- They are some, one behind another, of records that a series is packed into.
+-- They are some, one after another, of records that a series is packed into.
 abbrev pub IsAmong : Trace → List (List ℕ) → List (List ℕ) → Type 0
 IsAmong s records held =
     (before : List (List ℕ)) × (after : List (List ℕ)) × (records ≡ before ++ (held ++ after)) × ReadsAs s records

@@ -169,7 +169,7 @@ fn many_pushed(rt: &impl Abort, alloc: Global) -> Feed {
 /// What a client says that lacks all of them.
 const REQUEST: &[u8] = b"STATION STA XX\r\nFETCH 0\r\nEND\r\n";
 
-/// The 64th packet goes out at once behind those that were gathered. What is shorter goes out behind the others.
+/// The 64th packet goes out at once after those that were gathered. What is shorter goes out after the others.
 static GATHERED: [Call; 7] = [
     Call::Read(REQUEST.len()),
     Call::Wrote(4),
@@ -202,7 +202,7 @@ fn up_to(bytes: &[u8], count: usize) -> &[u8] {
 /// A client that says this asks for records as they come, and then leaves.
 const LEAVING: &[u8] = b"STATION STA XX\r\nDATA 1\r\nEND\r\nBYE\r\n";
 
-/// The client's first lines come in one piece, and the last one behind it.
+/// The client's first lines come in one piece, and the last one after it.
 static READ: [Call; 5] = [
     Call::Read(LEAVING.len() - 5),
     Call::Wrote(4),

@@ -122,7 +122,7 @@ type Fetch = (u64, &'static [Option<usize>], u8, usize, usize);
 
 static FETCHES: [Fetch; 6] = [
     (1, &[Some(1051)], 0, 1024, 1),
-    // Cut off in the packet of record 1, and then behind it.
+    // Cut off in the packet of record 1, and then after it.
     (2, &[Some(8 + 519), Some(1051)], 0, 1024, 2),
     (2, &[Some(8 + 519), Some(8 + 520)], 2, 512, 2),
     (1, &[None, Some(1051)], 2, 0, 0),
@@ -232,7 +232,7 @@ fn ends_at_once_where_no_try_helps(rt: HostRuntime) {
     }
 }
 
-/// How many bytes each link tells, and the pauses in tenths of a second. Behind 528 bytes a record is whole.
+/// How many bytes each link tells, and the pauses in tenths of a second. After 528 bytes a record is whole.
 static PAUSES: [(&[Option<usize>], &[u8]); 5] = [
     (&[], b""),
     (&[None], b""),

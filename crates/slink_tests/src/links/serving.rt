@@ -72,7 +72,7 @@ fn serves_each_connection(rt: HostRuntime) {
     }
 }
 
-/// How many of three links are left behind a planned server of so many connections, if all goes well.
+/// How many of three links are left after a planned server of so many connections, if all goes well.
 fn left_behind(rt: &impl Abort, alloc: Global, connections: u32) -> Option<usize> {
     let mut links = Links::new(rt, alloc, &[ASKING, ASKING, ASKING]);
     let plan = serve_plan_of(three_pushed(rt, alloc, 0), connections, 600);

@@ -16,7 +16,7 @@ use std::process::Abort;
 /// So many links stand at once.
 const SLOTS: usize = 6;
 
-/// So many events has an order, of which these many come behind the end of the input.
+/// So many events has an order, of which these many come after the end of the input.
 const EVENTS: u32 = 50_000;
 
 const LAST: u32 = 1_000;

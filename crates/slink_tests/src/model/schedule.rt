@@ -84,7 +84,7 @@ fn holds(rt: &impl Abort, alloc: Global, steps: &[Step], held: &[[u8; 512]], nex
     first(&world.held) == held && world.client.next(0) == Some(next)
 }
 
-/// Whether these records were pushed in these steps, behind the start.
+/// Whether these records were pushed in these steps, after the start.
 fn was_pushed(rt: &impl Abort, alloc: Global, steps: &[Step], pushed: &[[u8; 512]]) -> bool {
     let world = world_of(rt, alloc, steps);
     first(&world.pushed) == pushed && world.start.as_slice() == [Some(0)].as_slice()

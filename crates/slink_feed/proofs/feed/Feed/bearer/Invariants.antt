@@ -3,6 +3,6 @@ use Rattle.slink_wire.specs.Place.{Bears}
 use Rattle.slink_feed.specs.Window.{Window}
 use Rattle.slink_feed.proofs.feed.Feed.bearer.Given as goal
 
--- none of those before bears it
+-- none of those before carries it
 abbrev pub invariant-loop-k : goal.invariant-loop-k
 invariant-loop-k g l = (j : ℕ) (w : Window) → j < l.k → slice_get l.self j ≡ Some w → ¬ (Bears l.bytes w.place)
