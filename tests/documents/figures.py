@@ -150,7 +150,7 @@ FIGURES = [
     size("docs/protocol.md", "Otherwise it reads at most ", " bytes", "slink_feed/src/serving.rt", "ROOM"),
     size("docs/protocol.md", "until the client closes the link, ", " bytes", "slink_links/src/closing.rt", "MOST"),
     size("docs/protocol.md", "the input gives at most ", " bytes", "slink_live/src/server.rt", "INPUT"),
-    size("docs/texts.md", "or a name of at most ", " letters", "slink_links/src/host.rt", "LONGEST"),
+    size("docs/texts.md", "or a name of at most ", " letters", "slink_wire/src/host.rt", "LONGEST"),
 ]
 
 

@@ -6,9 +6,10 @@ ghost use Rattle.slink_links.specs.Served.{IsServed};
 use mseed_stream::Sink;
 use slink_feed::{Client, Feed, LinkFault};
 use slink_links::{
-    Accept, Address, Dial, FetchEnd, FetchPlan, Host, Name, Pause, ServePlan, Settle, Timeout,
-    fetch, fetch_all, fetch_link, fetch_planned, serve, serve_all, serve_link, serve_planned,
+    Accept, Dial, FetchEnd, FetchPlan, Pause, ServePlan, Settle, fetch, fetch_all, fetch_link,
+    fetch_planned, serve, serve_all, serve_link, serve_planned,
 };
+use slink_wire::{Address, Host, Timeout};
 use std::net::Net;
 use std::time::Clock;
 
@@ -117,14 +118,6 @@ pub fn is_there<D: Dial>(dialler: &mut D) -> bool
             true
         }
         None => false,
-    }
-}
-
-/// Whom a word names: this machine, or a host that the system resolves.
-pub fn host_named(word: &str) -> Option<Host> {
-    match word {
-        "here" => Some(Host::Address(Address::local())),
-        _ => Some(Host::Name(Name::new(word)?)),
     }
 }
 

@@ -6,8 +6,10 @@ ghost use Rattle.slink_wire.specs.Place.{SpellsPlace};
 
 use arrayvec::ArrayVec;
 use slink_wire::{
-    BadPlace, Command, Lines, NotPacket, Packet, Place, Reply, Request, What, six_digits,
+    Address, BadPlace, Command, Host, Lines, Name, NotPacket, Packet, Place, Reply, Request,
+    Timeout, What, six_digits,
 };
+use std::time::Duration;
 
 /// The place of a network and station, such as `NL_HGN`.
 pub fn place_of(text: &[u8]) -> Result<Place, BadPlace>
@@ -101,4 +103,25 @@ pub fn digits_behind(number: u32) -> [u8; 6]
     requires { number < 2 ^ 24 }
 {
     six_digits(number + 1)
+}
+
+/// Whom a word names: this machine, or a host that the system resolves.
+pub fn host_named(word: &str) -> Option<Host> {
+    match word {
+        "here" => Some(Host::Address(Address::local())),
+        _ => Some(Host::Name(Name::new(word)?)),
+    }
+}
+
+/// The name of a host, where it has one.
+pub fn name_in(host: &Host) -> Option<&str> {
+    match host {
+        Host::Address(_) => None,
+        Host::Name(name) => Some(name.text()),
+    }
+}
+
+/// How long a call waits at most over a link whose time-out is a number of seconds, if there is a bound.
+pub fn longest_wait(seconds: u32) -> Option<Duration> {
+    Timeout { seconds }.limit()
 }

@@ -4,12 +4,12 @@ use Rattle.std.specs.Prelude.{Option, Some, None, option_and_then}
 use Rattle.std.specs.Char.{is_ascii_alphabetic, is_ascii_alphanumeric}
 use Rattle.std.specs.List.{after_first, before_first, list_all, list_any}
 use Rattle.clap.specs.Walk.{Text}
-use Rattle.slink_links.specs.Hosts.{name_of}
-use Rattle.slink_links.specs.declared.host.Address.{Address}
-use Rattle.slink_links.specs.declared.host.Host.{Host}
-use Rattle.slink_links.specs.declared.host.Host.TheVariants as hosts
-use Rattle.slink_links.specs.declared.host.Name.{Name}
-use Rattle.slink_links.specs.declared.host.Timeout.{Timeout}
+use Rattle.slink_wire.specs.Hosts.{name_of}
+use Rattle.slink_wire.specs.declared.host.Address.{Address}
+use Rattle.slink_wire.specs.declared.host.Host.{Host}
+use Rattle.slink_wire.specs.declared.host.Host.TheVariants as hosts
+use Rattle.slink_wire.specs.declared.host.Name.{Name}
+use Rattle.slink_wire.specs.declared.host.Timeout.{Timeout}
 use Rattle.mseed_words.specs.Numbers.{number_in}
 
 -- how many decimal digits a number of an address has

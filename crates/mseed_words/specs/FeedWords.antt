@@ -6,15 +6,14 @@ use Rattle.std.specs.Char.{is_ascii_alphanumeric}
 use Rattle.std.specs.List.{after_first, before_first, list_all, position_or_len}
 use Rattle.clap.specs.Walk.{Row, Text, first_of}
 use Rattle.slink_wire.specs.Place.{Fields, fields_of}
-use Rattle.slink_feed.specs.Fault.{IsCapacity}
 use Rattle.mseed_words.specs.Found.{asks, further_in, has_only}
 use Rattle.mseed_words.specs.Numbers.{counted_in, counted_or, hexadecimal_in, number_in}
 use Rattle.mseed_words.specs.Places.{ArePlaces, Called, places_of}
 use Rattle.mseed_words.specs.declared.feed_words.Naming.{Naming}
 use Rattle.mseed_words.specs.declared.feed_words.Naming.TheVariants.{Plain, Numbered}
-use Rattle.slink_links.specs.declared.host.Address.{Address}
-use Rattle.slink_links.specs.declared.host.Host.{Host}
-use Rattle.slink_links.specs.declared.host.Timeout.{Timeout}
+use Rattle.slink_wire.specs.declared.host.Address.{Address}
+use Rattle.slink_wire.specs.declared.host.Host.{Host}
+use Rattle.slink_wire.specs.declared.host.Timeout.{Timeout}
 use Rattle.mseed_words.specs.Addresses.{IsTimeout, address_of, host_of, timeout_in}
 use Rattle.mseed_words.specs.declared.request.Endpoint.{Endpoint}
 use Rattle.mseed_words.specs.declared.request.Living.{Living}
@@ -177,7 +176,7 @@ pub record IsEndpoint {H : Type 0} (endpoint : Endpoint H) : Type 0 where
 pub record CanServe (serving : Serving) : Type 0 where
   pub listener : IsEndpoint serving.listener
   pub connections : IsCount serving.connections
-  pub capacity : IsCapacity serving.capacity
+  pub capacity : IsCount serving.capacity
   pub first : serving.first < 2 ^ 24
   pub places : ArePlaces serving.places
 

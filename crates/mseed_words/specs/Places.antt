@@ -3,8 +3,7 @@ use Rattle.std.specs.Prelude.{◌≡◌, ℕ, Bool, true, ◌≤◌, ◌&&◌, n
 use Rattle.std.specs.Prelude.{Option, Some, None, option_and_then, option_map}
 use Rattle.std.specs.List.{list_any}
 use Rattle.std.specs.Str.{bytes_eq}
-use Rattle.slink_wire.specs.Place.{Fields}
-use Rattle.slink_feed.specs.Dialogue.{AreNumbers}
+use Rattle.slink_wire.specs.Place.{AreNumbers, Fields}
 
 -- a place, and the number of the record that is wanted first of it, where one is given
 abbrev pub Called : Type 0

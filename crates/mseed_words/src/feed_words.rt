@@ -1,6 +1,5 @@
 //! What the words of the two commands of a feed ask for.
 ghost use Rattle.std.specs.Prelude.{◌≡◌, ◌<◌, ◌^◌, ◌∷◌, IfSome, map, option_map};
-ghost use Rattle.slink_feed.specs.Fault.{IsCapacity};
 ghost use Rattle.clap.specs.Matches.{found_of};
 ghost use Rattle.clap.specs.Walk.{rows_of};
 ghost use Rattle.mseed_words.specs.Places.{ArePlaces, places_of};
@@ -17,8 +16,7 @@ use crate::numbers::{counted_in, counted_or, hexadecimal_in, number_in};
 use crate::places::Places;
 use crate::request::{Endpoint, Fetching, Living, Serving};
 use clap::ArgMatches;
-use slink_links::{Address, Host, Timeout};
-use slink_wire::Place;
+use slink_wire::{Address, Host, Place, Timeout};
 
 /// How further places are named.
 #[derive(Clone, Copy)]
@@ -134,7 +132,7 @@ fn serving_with(
 ) -> Option<Serving>
     requires listener { IfSome listener IsEndpoint }
     requires connections { IfSome connections IsCount }
-    requires capacity { IfSome capacity IsCapacity }
+    requires capacity { IfSome capacity IsCount }
     requires first { IfSome first (λ n. n < 2 ^ 24) }
     requires places { IfSome places ArePlaces }
     ensures value { result ≡ serving_with listener connections capacity first places }
@@ -211,7 +209,7 @@ fn port_in(text: Option<&str>) -> Option<u16>
 /// How many records a ring keeps: a thousand where nothing is given.
 fn capacity_in(text: Option<&str>) -> Option<u32>
     ensures value { result ≡ capacity_in (option_map (λ t. t.now) text.entry) }
-    ensures range { IfSome result IsCapacity }
+    ensures range { IfSome result IsCount }
 {
     match text {
         None => Some(1000),
@@ -222,7 +220,7 @@ fn capacity_in(text: Option<&str>) -> Option<u32>
 /// A ring's capacity: from one record to a million.
 fn capacity_by(number: u32) -> Option<u32>
     ensures value { result ≡ capacity_by number }
-    ensures range { IfSome result IsCapacity }
+    ensures range { IfSome result IsCount }
 {
     if 1 <= number && number <= 1_000_000 {
         Some(number)

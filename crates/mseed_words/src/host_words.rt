@@ -8,7 +8,7 @@ ghost use Rattle.mseed_words.specs.Addresses.{host_with, is_in_name, is_name, na
 ghost use Rattle.mseed_words.specs.Addresses.{timeout_in};
 
 use crate::numbers::number_in;
-use slink_links::{Address, Host, Name, Timeout};
+use slink_wire::{Address, Host, Name, Timeout};
 
 /// The address to listen at: that of this machine where none is given.
 pub(crate) fn address_of(text: Option<&str>) -> Option<Address>

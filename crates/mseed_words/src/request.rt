@@ -2,7 +2,7 @@
 use crate::places::Places;
 use mseed_pack::Encoding;
 use mseed_select::Selector;
-use slink_links::{Address, Host, Timeout};
+use slink_wire::{Address, Host, Timeout};
 
 /// What the words of a command line request, of which records, and of which files.
 #[derive(Drop)]

@@ -1,6 +1,6 @@
 //! What the two commands of a feed leave to do: all but the sockets.
-use crate::host::{Address, Host, Timeout};
 use slink_feed::{Client, Feed};
+use slink_wire::{Address, Host, Timeout};
 use std::alloc::{Allocator, Global};
 
 /// How records are to be served.

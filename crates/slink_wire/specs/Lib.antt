@@ -1,4 +1,5 @@
 pub mod Place
+pub mod Hosts
 pub mod Hexadecimal
 pub mod Packet
 pub mod Lines

@@ -1,8 +1,7 @@
 -- Stations and their networks, as commands spell them and as a header's fields have them (SEED manual, chapter 8,
--- "Fixed
--- section of data header").
+-- "Fixed section of data header").
 use Rattle.std.specs.Prelude.{◌≡◌, ℕ, Bool, ◌-◌, ◌≤◌, ◌==◌, ◌&&◌, IsTrue, Option, Some, None, bytes_eq, List, ◌∷◌, ◌++◌}
-use Rattle.std.specs.Prelude.{length, replicate, slice_range}
+use Rattle.std.specs.Prelude.{◌<◌, ◌^◌, All, IfSome, length, replicate, slice_range}
 use Rattle.std.specs.List.{list_all, before_first}
 use Rattle.std.specs.Char.{is_ascii_alphanumeric}
 
@@ -48,3 +47,7 @@ label_of fields = code_in fields.network ++ 95 ∷ code_in fields.station
 abbrev pub matches : Fields → List ℕ → Option (List ℕ) → Bool
 matches place sta None = bytes_eq place.station sta
 matches place sta (Some net) = bytes_eq place.station sta && bytes_eq place.network net
+
+-- The numbers of the records that are wanted first of places have 24 bits, where they are given.
+abbrev pub AreNumbers : List (Fields × Option ℕ) → Type 0
+AreNumbers places = All (λ p. IfSome p.1 (λ n. n < 2 ^ 24)) places

@@ -4,7 +4,7 @@ use Rattle.std.specs.Borrow.{Bor}
 use Rattle.std.proofs.lemmas.List.{drop_all, drop_more}
 use Rattle.std.proofs.lemmas.List.Elements.{All-push}
 use Rattle.clap.specs.Walk.{Text}
-use Rattle.slink_feed.specs.Dialogue.{AreNumbers}
+use Rattle.slink_wire.specs.Place.{AreNumbers}
 use Rattle.mseed_words.specs.FeedWords.{called_in}
 use Rattle.mseed_words.specs.Places.{Called, are_different, has_place}
 use Rattle.mseed_words.specs.declared.feed_words.Naming.{Naming}

@@ -1,5 +1,5 @@
 use Rattle.std.proofs.Common.{◌≡◌, ◌≤◌, ◌∷◌, true, drop, length, map}
-use Rattle.slink_feed.specs.Dialogue.{AreNumbers}
+use Rattle.slink_wire.specs.Place.{AreNumbers}
 use Rattle.mseed_words.specs.FeedWords.{called_in}
 use Rattle.mseed_words.specs.Places.{are_different, places_of}
 use Rattle.mseed_words.proofs.Different.{with_rest}

@@ -4,7 +4,6 @@ use Rattle.std.specs.Borrow.{Bor}
 use Rattle.clap.proofs.WalkLemmas.{raw_values-rows}
 use Rattle.clap.specs.Matches.{found_of}
 use Rattle.clap.specs.Walk.{Row, Text, rows_of}
-use Rattle.mseed_words.specs.Files.{files_of}
 use Rattle.mseed_words.specs.Found.{further_in}
 use Rattle.mseed_words.proofs.Further.{all_files, further_is, texts_of}
 use Rattle.mseed_words.proofs.words.files_of.Goals as goal

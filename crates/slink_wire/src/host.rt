@@ -1,6 +1,8 @@
-//! Where a link leads, and how long it may be silent.
-ghost use Rattle.std.specs.Prelude.{◌≡◌, ◌≤◌, ◌∷◌, [], length};
-ghost use Rattle.slink_links.specs.Hosts.{name_of, padded};
+//! Where a link leads, and how long it may wait.
+ghost use Rattle.std.specs.Prelude.{◌≡◌, ◌≤◌, ◌∷◌, [], List, Some, length, option_map, ℕ};
+ghost use Rattle.std.specs.Duration.{as_nanos};
+ghost use Rattle.std.specs.Str.{IsUtf8};
+ghost use Rattle.slink_wire.specs.Hosts.{limit_in, name_of, padded};
 
 use std::str;
 use std::time::Duration;
@@ -13,7 +15,7 @@ pub struct Address {
 }
 
 impl Address {
-    /// This machine: 127.0.0.1.
+    /// This machine's address, 127.0.0.1.
     pub fn local() -> Address
         ensures { result.octets ≡ 127 ∷ 0 ∷ 0 ∷ 1 ∷ [] }
     {
@@ -26,7 +28,7 @@ impl Address {
 /// The most bytes that a name has.
 const LONGEST: usize = 253;
 
-/// A text, with zeros behind it.
+/// A text with zeros behind it, up to an array's length.
 fn padded<const N: usize>(text: &[u8]) -> [u8; N]
     requires { length text.now ≤ N }
     ensures { result ≡ padded N text.now }
@@ -36,7 +38,7 @@ fn padded<const N: usize>(text: &[u8]) -> [u8; N]
     bytes
 }
 
-/// A name that the system is called for: at most 253 bytes.
+/// A host's name of at most 253 bytes, which the system resolves to addresses.
 #[derive(Clone, Copy)]
 pub struct Name {
     bytes: [u8; LONGEST],
@@ -44,7 +46,7 @@ pub struct Name {
 }
 
 impl Name {
-    /// A name, unless it is too long.
+    /// The name that a text is, or `None` where it has more than 253 bytes.
     pub fn new(name: &str) -> Option<Name>
         ensures { result ≡ name_of name.now }
     {
@@ -58,8 +60,10 @@ impl Name {
         })
     }
 
-    /// Its text.
-    pub(crate) fn text(&self) -> &str {
+    /// The text that the name is.
+    pub fn text(&self) -> &str
+        ensures { (text : List ℕ) → IsUtf8 text → name_of text ≡ Some self.now → result.now ≡ text }
+    {
         match self.bytes.get(..usize::from(self.count)) {
             Some(bytes) => str::from_utf8(bytes).unwrap_or(""),
             None => "",
@@ -67,25 +71,27 @@ impl Name {
     }
 }
 
-/// Where a client asks for links.
+/// The machine that a client asks for a link.
 #[derive(Clone, Copy)]
 pub enum Host {
-    /// An address.
+    /// The machine at this address.
     Address(Address),
-    /// A name, of which the system says anew at each try where it leads.
+    /// The machine of this name, which the system resolves anew at each try.
     Name(Name),
 }
 
 /// How long a call of a link may wait, and a handshake may take, in seconds. 0 stands for any time.
 #[derive(Clone, Copy, Debug, PartialEq, Eq)]
 pub struct Timeout {
-    /// So many seconds.
+    /// The number of seconds, or 0.
     pub seconds: u32,
 }
 
 impl Timeout {
-    /// The time, where there is one.
-    pub(crate) fn limit(self) -> Option<Duration> {
+    /// The time after which a call fails that still waits, or `None` where it may wait for any time.
+    pub fn limit(self) -> Option<Duration>
+        ensures { option_map as_nanos result ≡ limit_in self }
+    {
         if self.seconds == 0 {
             None
         } else {
