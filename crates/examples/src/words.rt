@@ -24,7 +24,7 @@ pub fn is_selective(command: &Command) -> bool {
 pub fn places_requested(request: &Request) -> usize {
     match request {
         Request::Serve(serving) => serving.places.as_slice().len(),
-        Request::Live(living) => living.serving.places.as_slice().len(),
+        Request::Live(live) => live.serving.places.as_slice().len(),
         Request::Fetch(fetching) => fetching.places.as_slice().len(),
         _ => 0,
     }

@@ -10,7 +10,7 @@ use Rattle.slink_feed.specs.declared.input.InputFault.{InputFault}
 use Rattle.slink_live.specs.Happening.{Happening, input_of}
 use Rattle.slink_live.specs.Input.{IsInputFault}
 use Rattle.slink_live.specs.Served.{IsFinished, IsServing, ServerState}
-use Rattle.mseed_words.specs.FeedWords.{CanLive}
+use Rattle.mseed_words.specs.FeedWords.{CanServeLive}
 use Rattle.mseed.specs.Outcome.{no_memory}
 use Rattle.mseed.specs.Plans.{fill_text}
 use Rattle.mseed.specs.declared.outcome.Run.{Run}
@@ -24,7 +24,7 @@ CanNumber feed = AllByRecursion (λ w. w.next ≤ 2 ^ 62) feed
 abbrev pub CanBeServed : {A : Type 0} → Run A → Type 0
 CanBeServed (runs.Status ended) = ⊤
 CanBeServed (runs.Serve plan) = ⊤
-CanBeServed (runs.Live living) = CanLive living
+CanBeServed (runs.Live live) = CanServeLive live
 CanBeServed (runs.Fetch plan) = ⊤
 
 -- Nothing is left to do: the input is read no more, and no link stands, and the status is the one that is due. Or links

@@ -17,7 +17,7 @@ use Rattle.mseed.specs.declared.outcome.Run.TheVariants.{Status, Serve, Live, Fe
 use Rattle.slink_links.specs.declared.plan.FetchPlan.{FetchPlan}
 use Rattle.slink_links.specs.declared.plan.ServePlan.{ServePlan}
 use Rattle.mseed_words.specs.declared.request.Fetching.{Fetching}
-use Rattle.mseed_words.specs.declared.request.Living.{Living}
+use Rattle.mseed_words.specs.declared.request.LiveServing.{LiveServing}
 use Rattle.mseed_words.specs.declared.request.Serving.{Serving}
 
 -- why a feed isn't filled further
@@ -42,11 +42,11 @@ abbrev pub IsPlannedBy : {A : Type 0} → Serving → Result (List Window) Input
     → Type 0
 IsPlannedBy serving (Ok feed) (Status ended) old new = ⊥
 IsPlannedBy serving (Ok feed) (Serve plan) old new = IsServePlan serving feed plan × (new ≡ old)
-IsPlannedBy serving (Ok feed) (Live living) old new = ⊥
+IsPlannedBy serving (Ok feed) (Live live) old new = ⊥
 IsPlannedBy serving (Ok feed) (Fetch plan) old new = ⊥
 IsPlannedBy serving (Err fault) (Status ended) old new = (ended.status ≡ 2) × Tells (fill_text fault) old new
 IsPlannedBy serving (Err fault) (Serve plan) old new = ⊥
-IsPlannedBy serving (Err fault) (Live living) old new = ⊥
+IsPlannedBy serving (Err fault) (Live live) old new = ⊥
 IsPlannedBy serving (Err fault) (Fetch plan) old new = ⊥
 
 -- what `serve` comes to before it opens a socket; the input decides it, but for memory
@@ -58,11 +58,11 @@ pub record IsServeRun {A : Type 0} (serving : Serving) (run : Run A) (read : Byt
   pub planned : IsPlannedBy serving outcome run reported_old reported_new
 
 -- what `serve --live` comes to before it opens a socket: what was requested
-abbrev pub IsLiveRun : {A : Type 0} → Living → Run A → Type 0
-IsLiveRun living (Status ended) = ⊥
-IsLiveRun living (Serve plan) = ⊥
-IsLiveRun living (Live called) = called ≡ living
-IsLiveRun living (Fetch plan) = ⊥
+abbrev pub IsLiveRun : {A : Type 0} → LiveServing → Run A → Type 0
+IsLiveRun live (Status ended) = ⊥
+IsLiveRun live (Serve plan) = ⊥
+IsLiveRun live (Live called) = called ≡ live
+IsLiveRun live (Fetch plan) = ⊥
 
 -- a new client for the places that were requested
 abbrev pub talk_of : Fetching → Talk
@@ -87,5 +87,5 @@ pub record IsFetchPlan (fetching : Fetching) (plan : FetchPlan) : Type 0 where
 abbrev pub IsFetchRun : {A : Type 0} → Fetching → Run A → Type 0
 IsFetchRun fetching (Status ended) = ⊥
 IsFetchRun fetching (Serve plan) = ⊥
-IsFetchRun fetching (Live living) = ⊥
+IsFetchRun fetching (Live live) = ⊥
 IsFetchRun fetching (Fetch plan) = IsFetchPlan fetching plan

@@ -33,7 +33,7 @@ use Rattle.mseed.specs.Streams.{IsIdle, Streams}
 abbrev pub IsStatusAnd : {A : Type 0} → Run A → (Ended → Type 0) → Type 0
 IsStatusAnd (runs.Status ended) P = P ended
 IsStatusAnd (runs.Serve plan) P = ⊥
-IsStatusAnd (runs.Live living) P = ⊥
+IsStatusAnd (runs.Live live) P = ⊥
 IsStatusAnd (runs.Fetch plan) P = ⊥
 
 -- the command is done: it came to an outcome, and ended by it
@@ -71,7 +71,7 @@ HasCarriedOut (RepackStretches packing leave) asked run old new = IsStatusAnd ru
     (options : Options) × (AreOptionsOf packing options × HasRestretched options leave asked ended old new))
 HasCarriedOut (Serve serving) asked run old new =
     IsServeRun serving run new.input old.errors new.errors × (new.output ≡ old.output)
-HasCarriedOut (Live living) asked run old new = IsLiveRun living run × IsIdle old new × (new.errors ≡ old.errors)
+HasCarriedOut (Live live) asked run old new = IsLiveRun live run × IsIdle old new × (new.errors ≡ old.errors)
 HasCarriedOut (Fetch fetching) asked run old new = IsFetchRun fetching run × IsIdle old new × (new.errors ≡ old.errors)
 
 -- the words ask for nothing that there is

@@ -179,7 +179,7 @@ pub fn carry_out<A: Allocator + Copy, R: Source, W: Sink, E: Sink>(
             Run::Status(ended)
         }
         Request::Serve(serving) => plan_serve(alloc, &serving, input, errors),
-        Request::Live(living) => Run::Live(living),
+        Request::Live(live) => Run::Live(live),
         Request::Fetch(fetching) => Run::Fetch(plan_fetch(&fetching)),
     }
 }

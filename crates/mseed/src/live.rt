@@ -6,7 +6,7 @@ ghost use Rattle.slink_feed.specs.Window.{Window};
 ghost use Rattle.slink_live.specs.Happening.{input_of};
 ghost use Rattle.slink_live.specs.Input.{IsInputFault};
 ghost use Rattle.slink_live.specs.Served.{IsFinished, IsServing, IsSound, ServerState};
-ghost use Rattle.mseed_words.specs.FeedWords.{CanLive};
+ghost use Rattle.mseed_words.specs.FeedWords.{CanServeLive};
 ghost use Rattle.mseed.specs.Filling.{feed_of};
 ghost use Rattle.mseed.specs.Live.{CanNumber, EndsWith, HasEnded, HasServed, HasServedTcp};
 
@@ -15,7 +15,7 @@ use crate::filling::open_feed;
 use crate::outcome::{DONE, FAULT};
 use crate::refusal::refuse_to_serve;
 use mseed_stream::{Sink, tell};
-use mseed_words::Living;
+use mseed_words::LiveServing;
 use slink_feed::Feed;
 use slink_live::{Ready, Server};
 use slink_live_tcp::{Plan, Tcp};
@@ -43,16 +43,16 @@ impl<C: Clock, I: Read + AsRawFd + Drop> Device for Tcp<'_, C, I> {
 pub fn serve<N: Net + Clock, I: Read + AsRawFd + Drop, E: Sink>(
     host: &N,
     alloc: Global,
-    living: &Living,
+    live: &LiveServing,
     input: I,
     errors: &mut E,
 ) -> u8
-    requires { CanLive living.now }
-    ensures { HasServedTcp (feed_of living.now.serving []) result (E.written errors.old) (E.written errors.new) }
+    requires { CanServeLive live.now }
+    ensures { HasServedTcp (feed_of live.now.serving []) result (E.written errors.old) (E.written errors.new) }
 {
-    match Tcp::bind(host, alloc, links_of(living), input) {
+    match Tcp::bind(host, alloc, links_of(live), input) {
         Ok(mut device) => {
-            let status = serve_live(alloc, living, &mut device, errors);
+            let status = serve_live(alloc, live, &mut device, errors);
             device.finish();
             status
         }
@@ -62,13 +62,13 @@ pub fn serve<N: Net + Clock, I: Read + AsRawFd + Drop, E: Sink>(
 }
 
 /// Where links are taken, how many, and how long each may be silent.
-fn links_of(living: &Living) -> Plan {
-    let listener = &living.serving.listener;
+fn links_of(live: &LiveServing) -> Plan {
+    let listener = &live.serving.listener;
     let address = Ipv4Addr::from(listener.host.octets);
     let seconds = listener.timeout.seconds;
     Plan {
         address: SocketAddr::from((address, listener.port)),
-        clients: living.clients as usize,
+        clients: live.clients as usize,
         timeout: if seconds == 0 {
             None
         } else {
@@ -84,17 +84,17 @@ fn links_of(living: &Living) -> Plan {
 /// it is.
 pub fn serve_live<R: Device, E: Sink>(
     alloc: Global,
-    living: &Living,
+    live: &LiveServing,
     ready: &mut R,
     errors: &mut E,
 ) -> u8
     requires new { R.log ready.old ≡ [] }
-    requires called { CanLive living.now }
-    ensures { HasServed (feed_of living.now.serving []) (R.is_over ready.new) (R.log ready.new) result
+    requires called { CanServeLive live.now }
+    ensures { HasServed (feed_of live.now.serving []) (R.is_over ready.new) (R.log ready.new) result
         (E.written errors.old) (E.written errors.new) }
 {
-    match open_feed(alloc, &living.serving) {
-        Ok(feed) => serve_feed(alloc, feed, living.clients, ready, errors),
+    match open_feed(alloc, &live.serving) {
+        Ok(feed) => serve_feed(alloc, feed, live.clients, ready, errors),
         Err(_) => refuse_memory(errors),
     }
 }

@@ -36,7 +36,7 @@ fn main(rt: HostRuntime) -> ExitCode {
     let status = match run_with_words(&rt, &mut errors) {
         Ok(Run::Status(ended)) => ended.status,
         Ok(Run::Serve(plan)) => slink_links::serve(&rt, &plan, &mut errors),
-        Ok(Run::Live(living)) => { live::serve(&rt, rt.alloc(), &living, rt.stdin(), &mut errors) }
+        Ok(Run::Live(live)) => { live::serve(&rt, rt.alloc(), &live, rt.stdin(), &mut errors) }
         Ok(Run::Fetch(mut plan)) => {
             let mut output = Counted::new(io::writer(&rt));
             slink_links::fetch(&rt, &mut plan, &mut output, &mut errors)

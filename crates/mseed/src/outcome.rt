@@ -2,7 +2,7 @@
 ghost use Rattle.std.specs.Prelude.{◌≡◌};
 ghost use Rattle.mseed.specs.declared.outcome.Blame.{Blame};
 
-use mseed_words::{Command, Living};
+use mseed_words::{Command, LiveServing};
 use slink_links::{FetchPlan, ServePlan};
 use std::alloc::{Allocator, Global};
 
@@ -70,7 +70,7 @@ pub enum Run<A: Allocator = Global> {
     /// A feed is to be served.
     Serve(ServePlan<A>),
     /// A feed is to be served while its records come.
-    Live(Living),
+    Live(LiveServing),
     /// Records are to be fetched.
     Fetch(FetchPlan),
 }

@@ -16,7 +16,7 @@ use Rattle.slink_wire.specs.declared.host.Host.{Host}
 use Rattle.slink_wire.specs.declared.host.Timeout.{Timeout}
 use Rattle.mseed_words.specs.Addresses.{IsTimeout, address_of, host_of, timeout_in}
 use Rattle.mseed_words.specs.declared.request.Endpoint.{Endpoint}
-use Rattle.mseed_words.specs.declared.request.Living.{Living}
+use Rattle.mseed_words.specs.declared.request.LiveServing.{LiveServing}
 use Rattle.mseed_words.specs.declared.request.Serving.{Serving}
 use Rattle.mseed_words.specs.declared.request.Fetching.{Fetching}
 
@@ -139,15 +139,15 @@ serving_in rows =
 abbrev pub serving_of : List Row → Option Serving
 serving_of rows = if has_only serve_names rows then serving_in rows else None
 
-abbrev pub living_with : Option Serving → Option ℕ → Option Living
-living_with (Some serving) (Some clients) = Some (record { serving = serving; clients = clients })
-living_with _ _ = None
+abbrev pub live_serving_with : Option Serving → Option ℕ → Option LiveServing
+live_serving_with (Some serving) (Some clients) = Some (record { serving = serving; clients = clients })
+live_serving_with _ _ = None
 
 -- a feed to be served while its records come: to 64 clients at once where no number is given
-abbrev pub living_of : List Row → Option Living
-living_of rows =
+abbrev pub live_serving_of : List Row → Option LiveServing
+live_serving_of rows =
     if has_only live_names rows
-    then living_with (serving_in rows) (counted_or 64 1024 (first_of (codes "clients") rows))
+    then live_serving_with (serving_in rows) (counted_or 64 1024 (first_of (codes "clients") rows))
     else None
 
 -- a feed to be fetched, by one try where no number is given: `--from` is the number of the first place
@@ -185,9 +185,9 @@ abbrev pub IsClients : ℕ → Type 0
 IsClients clients = (1 ≤ clients) × (clients ≤ 1024)
 
 -- what a feed can be served by while its records come
-pub record CanLive (living : Living) : Type 0 where
-  pub serving : CanServe living.serving
-  pub clients : IsClients living.clients
+pub record CanServeLive (live : LiveServing) : Type 0 where
+  pub serving : CanServe live.serving
+  pub clients : IsClients live.clients
 
 -- what a feed can be fetched by
 pub record CanFetch (fetching : Fetching) : Type 0 where

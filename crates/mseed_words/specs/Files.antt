@@ -22,7 +22,7 @@ takes_files Select = true
 takes_files (Repack packing) = true
 takes_files (RepackStretches packing leave) = true
 takes_files (Serve serving) = false
-takes_files (Live living) = false
+takes_files (Live live) = false
 takes_files (Fetch fetching) = false
 
 -- a word that can't name a file before others: `-`, which is standard input, where it's named again; an empty word

@@ -63,7 +63,7 @@ takes_selection Select = true
 takes_selection (Repack packing) = true
 takes_selection (RepackStretches packing leave) = true
 takes_selection (Serve serving) = false
-takes_selection (Live living) = false
+takes_selection (Live live) = false
 takes_selection (Fetch fetching) = false
 
 -- which records something is requested of, where the words say: else of all

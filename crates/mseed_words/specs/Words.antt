@@ -13,7 +13,7 @@ use Rattle.mseed_select.specs.Selection.{Selection}
 use Rattle.mseed_words.specs.Files.{files_of}
 use Rattle.mseed_words.specs.Found.{asks, has_only}
 use Rattle.mseed_words.specs.Numbers.{number_in, number_within}
-use Rattle.mseed_words.specs.FeedWords.{CanFetch, CanLive, CanServe, fetching_of, living_of, serving_of}
+use Rattle.mseed_words.specs.FeedWords.{CanFetch, CanServe, CanServeLive, fetching_of, live_serving_of, serving_of}
 use Rattle.mseed_words.specs.Selecting.{asked_of}
 use Rattle.mseed_words.specs.declared.request.Request.{Request}
 use Rattle.mseed_words.specs.declared.request.Request.TheVariants.{Audit, AuditEach, AuditPart, AuditPartEach}
@@ -146,7 +146,7 @@ joining_of rows =
 -- what serving asks for: all of the input first, or while it comes
 abbrev pub serving_by : Bool → List Row → Option Request
 serving_by false rows = option_map Serve (serving_of rows)
-serving_by true rows = option_map Live (living_of rows)
+serving_by true rows = option_map Live (live_serving_of rows)
 
 -- what a command's word asks for
 abbrev pub request_named : Text → List Row → Option Request
@@ -180,7 +180,7 @@ CanBeCalled Select = ⊤
 CanBeCalled (Repack packing) = (7 ≤ packing.exponent) × (packing.exponent ≤ 12)
 CanBeCalled (RepackStretches packing leave) = (7 ≤ packing.exponent) × (packing.exponent ≤ 12)
 CanBeCalled (Serve serving) = CanServe serving
-CanBeCalled (Live living) = CanLive living
+CanBeCalled (Live live) = CanServeLive live
 CanBeCalled (Fetch fetching) = CanFetch fetching
 
 -- what is requested, of which records, where the words say, and of which files: of none where standard input is read

@@ -4,17 +4,17 @@ ghost use Rattle.clap.specs.Matches.{found_of};
 ghost use Rattle.clap.specs.Walk.{rows_of};
 ghost use Rattle.mseed_words.specs.Places.{ArePlaces, places_of};
 ghost use Rattle.mseed_words.specs.Addresses.{IsTimeout};
-ghost use Rattle.mseed_words.specs.FeedWords.{CanFetch, CanLive, CanServe, IsClients, IsCount, IsEndpoint, IsPort};
+ghost use Rattle.mseed_words.specs.FeedWords.{CanFetch, CanServe, CanServeLive, IsClients, IsCount, IsEndpoint, IsPort};
 ghost use Rattle.mseed_words.specs.FeedWords.{called_in, called_with, capacity_by, capacity_in, endpoint_of};
-ghost use Rattle.mseed_words.specs.FeedWords.{endpoint_with, fetching_of, fetching_with, first_in, living_of};
-ghost use Rattle.mseed_words.specs.FeedWords.{living_with, numbered_in, place_by, place_in, place_named, places_in};
-ghost use Rattle.mseed_words.specs.FeedWords.{port_in, serving_in, serving_of, serving_with};
+ghost use Rattle.mseed_words.specs.FeedWords.{endpoint_with, fetching_of, fetching_with, first_in, live_serving_of};
+ghost use Rattle.mseed_words.specs.FeedWords.{live_serving_with, numbered_in, place_by, place_in, place_named};
+ghost use Rattle.mseed_words.specs.FeedWords.{places_in, port_in, serving_in, serving_of, serving_with};
 
 use crate::found::{asks, has_only, text_of};
 use crate::host_words::{address_of, host_of, timeout_in};
 use crate::numbers::{counted_in, counted_or, hexadecimal_in, number_in};
 use crate::places::Places;
-use crate::request::{Endpoint, Fetching, Living, Serving};
+use crate::request::{Endpoint, Fetching, LiveServing, Serving};
 use clap::ArgMatches;
 use slink_wire::{Address, Host, Place, Timeout};
 
@@ -63,28 +63,28 @@ fn serving_in(matches: &ArgMatches<'_>) -> Option<Serving>
 }
 
 /// What is requested of serving while records come: of 64 clients at once where no number is given.
-pub(crate) fn living_of(matches: &ArgMatches<'_>) -> Option<Living>
-    ensures value { result ≡ living_of (rows_of (found_of matches.now)) }
-    ensures range { IfSome result CanLive }
+pub(crate) fn live_serving_of(matches: &ArgMatches<'_>) -> Option<LiveServing>
+    ensures value { result ≡ live_serving_of (rows_of (found_of matches.now)) }
+    ensures range { IfSome result CanServeLive }
 {
     if !has_only(matches, feed_names!("capacity", "first", "live", "clients")) {
         return None;
     }
-    living_with(
+    live_serving_with(
         serving_in(matches),
         counted_or(64, 1_024, text_of(matches, "clients")),
     )
 }
 
 /// What is requested of serving while records come, where each value is one that there is.
-fn living_with(serving: Option<Serving>, clients: Option<u32>) -> Option<Living>
+fn live_serving_with(serving: Option<Serving>, clients: Option<u32>) -> Option<LiveServing>
     requires serving { IfSome serving CanServe }
     requires clients { IfSome clients IsClients }
-    ensures value { result ≡ living_with serving clients }
-    ensures range { IfSome result CanLive }
+    ensures value { result ≡ live_serving_with serving clients }
+    ensures range { IfSome result CanServeLive }
 {
     match (serving, clients) {
-        (Some(serving), Some(clients)) => Some(Living { serving, clients }),
+        (Some(serving), Some(clients)) => Some(LiveServing { serving, clients }),
         _ => None,
     }
 }

@@ -16,5 +16,5 @@ mod words;
 
 pub use places::Places;
 pub use refusal::Refusal;
-pub use request::{Command, Endpoint, Fetching, Joining, Living, Packing, Request, Serving};
+pub use request::{Command, Endpoint, Fetching, Joining, LiveServing, Packing, Request, Serving};
 pub use words::read;

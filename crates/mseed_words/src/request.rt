@@ -49,7 +49,7 @@ pub enum Request {
     /// Serve the records on standard input.
     Serve(Serving),
     /// Serve the records on standard input while they come.
-    Live(Living),
+    Live(LiveServing),
     /// Fetch the records that are served.
     Fetch(Fetching),
 }
@@ -98,9 +98,9 @@ pub struct Serving {
     pub places: Places,
 }
 
-/// How records are served while they come.
+/// How records are served to many clients at once, while they come.
 #[derive(Drop)]
-pub struct Living {
+pub struct LiveServing {
     /// Where connections are taken, and the rings. Its count of connections is that of a `serve` that names none, and
     /// isn't requested.
     pub serving: Serving,

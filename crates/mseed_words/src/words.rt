@@ -14,7 +14,7 @@ ghost use Rattle.mseed_words.specs.Words.{packing_of, packing_with, request_name
 ghost use Rattle.mseed_words.specs.Words.{selecting_of, serving_by, showing_of};
 ghost use Rattle.mseed_select.specs.Selecting.{selection_of};
 
-use crate::feed_words::{fetching_of, living_of, serving_of};
+use crate::feed_words::{fetching_of, live_serving_of, serving_of};
 use crate::files::{can_be_files, takes_files};
 use crate::found::{asks, has_only, text_of};
 use crate::numbers::{number_in, number_within};
@@ -166,7 +166,7 @@ fn serving_by(live: bool, matches: &ArgMatches<'_>) -> Option<Request>
     ensures range { IfSome result CanBeCalled }
 {
     if live {
-        Some(Request::Live(living_of(matches)?))
+        Some(Request::Live(live_serving_of(matches)?))
     } else {
         Some(Request::Serve(serving_of(matches)?))
     }

@@ -9,7 +9,7 @@ pub serve_feed-requires : goal.serve_feed-requires
 serve_feed-requires g c = record {
   new = c.requires.new;
   numbers = subst (λ (feed : List Window). CanNumber feed) (sym c.in-Ok.ensures.ok)
-      (can_number_new c.args.living.now.serving (served c.args.living.now.serving) c.requires.called.serving.first);
+      (can_number_new c.args.live.now.serving (served c.args.live.now.serving) c.requires.called.serving.first);
 }
 
 pub returns-in-Ok : goal.returns-in-Ok
