@@ -1,5 +1,5 @@
 -- Lines on standard error, one after another.
-use Rattle.std.proofs.Common.{List, ℕ, [], ◌∷◌, ◌++◌, ◌≡◌, sym, subst, refl}
+use Rattle.std.proofs.Common.{List, ℕ, [], ◌∷◌, ◌++◌, sym, subst}
 use Rattle.mseed_stream.specs.Device.{BytesWritten}
 use Rattle.mseed_stream.specs.Telling.{Tells}
 use Rattle.mseed.specs.Outcome.{TellsLines}

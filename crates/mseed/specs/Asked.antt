@@ -1,30 +1,38 @@
--- What `run` comes to, by what the words ask for, of which records, and of which files.
-use Rattle.std.specs.Prelude.{◌≡◌, List, ℕ, map, Option, option_map}
+-- What reading the words of a command line comes to: a command, or the exit status of words that request nothing.
+use Rattle.std.specs.Prelude.{◌≡◌, ◌⊎◌, List, ℕ, map, Option, option_map, Result, Ok, Err}
 use Rattle.mseed_select.specs.Selecting.{selection_of}
 use Rattle.mseed_select.specs.Selection.{Selection}
-use Rattle.mseed_words.specs.Words.{CanBeCalled}
+use Rattle.mseed_stream.specs.Device.{BytesWritten}
+use Rattle.mseed_stream.specs.Telling.{Tells}
+use Rattle.mseed_words.specs.declared.request.Command.{Command}
 use Rattle.mseed_words.specs.declared.request.Request.{Request}
-use Rattle.mseed.specs.Live.{CanBeServed}
-use Rattle.mseed.specs.Run.{LacksMemory}
-use Rattle.mseed.specs.Streams.{IsIdle, Streams}
-use Rattle.mseed.specs.declared.outcome.Asked.{Asked}
-use Rattle.mseed.specs.declared.outcome.Asked.TheVariants.{Done, Files}
-use Rattle.mseed.specs.declared.outcome.Run.{Run}
+use Rattle.mseed.specs.Done.{bad_value}
+use Rattle.mseed.specs.Outcome.{no_memory}
 
--- it was run over one input, and this holds of what that came to
-abbrev pub HasRun : {A : Type 0} → Asked A → (Run A → Streams → Streams → Type 0) → Streams → Streams → Type 0
-HasRun (Done run) P old new = P run old new
-HasRun (Files command) P old new = ⊥
-
--- nothing was read or written: it is to be carried out with these records of these files, unless there was no memory
--- for the words
-abbrev pub IsLeft : {A : Type 0} → Request → Option Selection → List (List ℕ) → Asked A → Streams → Streams → Type 0
-IsLeft request asked files (Done run) old new = LacksMemory run old new
-IsLeft request asked files (Files command) old new =
+-- it is the command that does this, with these records, of these files; no line was written
+abbrev pub IsAsked : Request → Option Selection → List (List ℕ) → Result Command ℕ → BytesWritten → BytesWritten
+    → Type 0
+IsAsked request asked files (Ok command) old new =
     (command.request ≡ request) × (option_map selection_of command.selector ≡ asked)
-    × (map (λ file. file.now) command.files.items ≡ files) × IsIdle old new × (new.errors ≡ old.errors)
+    × (map (λ file. file.now) command.files.items ≡ files) × (new ≡ old)
+IsAsked request asked files (Err status) old new = ⊥
 
--- what is left to be done can be done
-abbrev pub CanBeDone : {A : Type 0} → Asked A → Type 0
-CanBeDone (Done run) = CanBeServed run
-CanBeDone (Files command) = CanBeCalled command.request
+-- the words ask for nothing that there is
+abbrev pub HasRefusedRequest : Result Command ℕ → BytesWritten → BytesWritten → Type 0
+HasRefusedRequest (Ok command) old new = ⊥
+HasRefusedRequest (Err status) old new = (status ≡ 3) × Tells bad_value old new
+
+-- the words aren't those of a command line; the text on standard error is that of `clap`
+abbrev pub HasRefusedWords : Result Command ℕ → BytesWritten → BytesWritten → Type 0
+HasRefusedWords (Ok command) old new = ⊥
+HasRefusedWords (Err status) old new = status ≡ 3
+
+-- there was no memory for the words
+abbrev pub LacksMemory : Result Command ℕ → BytesWritten → BytesWritten → Type 0
+LacksMemory (Ok command) old new = ⊥
+LacksMemory (Err status) old new = (status ≡ 2) × Tells no_memory old new
+
+-- this came of it, unless there was no memory for the words
+abbrev pub UnlessMemoryLacks : (Result Command ℕ → BytesWritten → BytesWritten → Type 0) → Result Command ℕ → BytesWritten
+    → BytesWritten → Type 0
+UnlessMemoryLacks P result old new = P result old new ⊎ LacksMemory result old new

@@ -1,6 +1,6 @@
 -- How a listing ends, or words for which nothing was done.
 use Rattle.std.specs.Prelude.{◌≡◌, ℕ, List, Option, Some, None, Result, Ok, Err, codes, string_bytes}
-use Rattle.mseed_stream.specs.Device.{BytesRead, BytesWritten}
+use Rattle.mseed_stream.specs.Device.{BytesWritten}
 use Rattle.mseed_stream.specs.declared.fault.StreamFault.{StreamFault}
 use Rattle.mseed_stream.specs.Telling.{Tells}
 use Rattle.mseed.specs.Blame.{blame_by}
@@ -35,9 +35,3 @@ abbrev pub EndsRefused : Refusal → ℕ → BytesWritten → BytesWritten → T
 EndsRefused (Text text) status old new = (status ≡ 3) × Tells (string_bytes text) old new
 EndsRefused NoRequest status old new = (status ≡ 3) × Tells bad_value old new
 EndsRefused NoMemory status old new = (status ≡ 2) × Tells no_memory old new
-
--- nothing was read or written for this status
-pub record IsIdle (due status : ℕ) (old new : BytesRead) (written_old written_new : BytesWritten) : Type 0 where
-  pub unread : new ≡ old
-  pub unwritten : written_new ≡ written_old
-  pub status_is : status ≡ due

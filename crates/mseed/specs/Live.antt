@@ -1,5 +1,5 @@
 -- How serving a feed to many clients ends, while its records come.
-use Rattle.std.specs.Prelude.{◌≡◌, ⊤, ℕ, ◌^◌, ◌≤◌, Bool, true, List, codes}
+use Rattle.std.specs.Prelude.{◌≡◌, ℕ, ◌^◌, ◌≤◌, Bool, true, List, codes}
 use Rattle.std.specs.List.{AllByRecursion}
 use Rattle.mseed_stream.specs.Device.{BytesWritten}
 use Rattle.mseed_stream.specs.Telling.{Tells}
@@ -10,22 +10,12 @@ use Rattle.slink_feed.specs.declared.input.InputFault.{InputFault}
 use Rattle.slink_live.specs.Happening.{Happening, input_of}
 use Rattle.slink_live.specs.Input.{IsInputFault}
 use Rattle.slink_live.specs.Served.{IsFinished, IsServing, ServerState}
-use Rattle.mseed_words.specs.FeedWords.{CanServeLive}
 use Rattle.mseed.specs.Outcome.{no_memory}
 use Rattle.mseed.specs.Plans.{fill_text}
-use Rattle.mseed.specs.declared.outcome.Run.{Run}
-use Rattle.mseed.specs.declared.outcome.Run.TheVariants as runs
 
 -- Records can be numbered on for as long as the input is read.
 abbrev pub CanNumber : List Window → Type 0
 CanNumber feed = AllByRecursion (λ w. w.next ≤ 2 ^ 62) feed
-
--- What is left to be served while records come can be served so.
-abbrev pub CanBeServed : {A : Type 0} → Run A → Type 0
-CanBeServed (runs.Status ended) = ⊤
-CanBeServed (runs.Serve plan) = ⊤
-CanBeServed (runs.Live live) = CanServeLive live
-CanBeServed (runs.Fetch plan) = ⊤
 
 -- Nothing is left to do: the input is read no more, and no link stands, and the status is the one that is due. Or links
 -- may have been cut off, since the device failed, and standard error got its line.

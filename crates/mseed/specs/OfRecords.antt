@@ -23,10 +23,9 @@ use Rattle.mseed_show.specs.declared.fault.ShowFault.{ShowFault}
 use Rattle.mseed_show.specs.declared.listing.Shown.{Shown}
 use Rattle.mseed_stream.specs.Device.{BytesWritten}
 use Rattle.mseed_stream.specs.declared.fault.StreamFault.{StreamFault}
-use Rattle.mseed_words.specs.declared.request.Packing.{Packing}
 use Rattle.mseed.specs.Done.{EndsShow}
 use Rattle.mseed.specs.Outcome.{EndsAudit, EndsEach}
-use Rattle.mseed.specs.Repacked.{AreOptionsOf, EndsRepack}
+use Rattle.mseed.specs.Repacked.{EndsRepack}
 use Rattle.mseed.specs.Restretched.{EndsStretches}
 use Rattle.mseed.specs.Selected.{EndsSelect, EndsSelectedAudit, EndsSelectedEach, EndsSelectedShow, asked_or_all}
 use Rattle.mseed.specs.Streams.{Streams}

@@ -12,12 +12,9 @@ use Rattle.slink_feed.specs.declared.input.InputFault.{InputFault}
 use Rattle.slink_feed.specs.declared.input.InputFault.TheVariants.{Stream, Foreign}
 use Rattle.mseed.specs.Filling.{IsFilling, IsOneFilling}
 use Rattle.mseed.specs.Outcome.{no_memory}
-use Rattle.mseed.specs.declared.outcome.Run.{Run}
-use Rattle.mseed.specs.declared.outcome.Run.TheVariants.{Status, Serve, Live, Fetch}
 use Rattle.slink_links.specs.declared.plan.FetchPlan.{FetchPlan}
 use Rattle.slink_links.specs.declared.plan.ServePlan.{ServePlan}
 use Rattle.mseed_words.specs.declared.request.Fetching.{Fetching}
-use Rattle.mseed_words.specs.declared.request.LiveServing.{LiveServing}
 use Rattle.mseed_words.specs.declared.request.Serving.{Serving}
 
 -- why a feed isn't filled further
@@ -38,31 +35,20 @@ pub record IsServePlan {A : Type 0} (serving : Serving) (feed : List Window) (pl
   pub feed_is : plan.feed ≡ feed
 
 -- by what filling the feed came to: a plan, and no line; or status 2, and a line
-abbrev pub IsPlannedBy : {A : Type 0} → Serving → Result (List Window) InputFault → Run A → BytesWritten → BytesWritten
-    → Type 0
-IsPlannedBy serving (Ok feed) (Status ended) old new = ⊥
-IsPlannedBy serving (Ok feed) (Serve plan) old new = IsServePlan serving feed plan × (new ≡ old)
-IsPlannedBy serving (Ok feed) (Live live) old new = ⊥
-IsPlannedBy serving (Ok feed) (Fetch plan) old new = ⊥
-IsPlannedBy serving (Err fault) (Status ended) old new = (ended.status ≡ 2) × Tells (fill_text fault) old new
-IsPlannedBy serving (Err fault) (Serve plan) old new = ⊥
-IsPlannedBy serving (Err fault) (Live live) old new = ⊥
-IsPlannedBy serving (Err fault) (Fetch plan) old new = ⊥
+abbrev pub IsPlannedBy : {A : Type 0} → Serving → Result (List Window) InputFault → Result (ServePlan A) ℕ
+    → BytesWritten → BytesWritten → Type 0
+IsPlannedBy serving (Ok feed) (Ok plan) old new = IsServePlan serving feed plan × (new ≡ old)
+IsPlannedBy serving (Ok feed) (Err status) old new = ⊥
+IsPlannedBy serving (Err fault) (Ok plan) old new = ⊥
+IsPlannedBy serving (Err fault) (Err status) old new = (status ≡ 2) × Tells (fill_text fault) old new
 
 -- what `serve` comes to before it opens a socket; the input decides it, but for memory
-pub record IsServeRun {A : Type 0} (serving : Serving) (run : Run A) (read : BytesRead)
+pub record IsServeRun {A : Type 0} (serving : Serving) (result : Result (ServePlan A) ℕ) (read : BytesRead)
     (reported_old reported_new : BytesWritten) : Type 0 where
   pub outcome : Result (List Window) InputFault
   pub filling : IsFilling serving outcome read
   pub only : IsOneFilling serving outcome read
-  pub planned : IsPlannedBy serving outcome run reported_old reported_new
-
--- what `serve --live` comes to before it opens a socket: what was requested
-abbrev pub IsLiveRun : {A : Type 0} → LiveServing → Run A → Type 0
-IsLiveRun live (Status ended) = ⊥
-IsLiveRun live (Serve plan) = ⊥
-IsLiveRun live (Live called) = called ≡ live
-IsLiveRun live (Fetch plan) = ⊥
+  pub planned : IsPlannedBy serving outcome result reported_old reported_new
 
 -- a new client for the places that were requested
 abbrev pub talk_of : Fetching → Talk
@@ -82,10 +68,3 @@ pub record IsFetchPlan (fetching : Fetching) (plan : FetchPlan) : Type 0 where
   pub tell_next : plan.tell_next ≡ fetching.tell_next
   pub talk : plan.client.talk ≡ talk_of fetching
   pub kept : plan.client.kept ≡ []
-
--- what `fetch` comes to before it opens a socket
-abbrev pub IsFetchRun : {A : Type 0} → Fetching → Run A → Type 0
-IsFetchRun fetching (Status ended) = ⊥
-IsFetchRun fetching (Serve plan) = ⊥
-IsFetchRun fetching (Live live) = ⊥
-IsFetchRun fetching (Fetch plan) = IsFetchPlan fetching plan

@@ -1,5 +1,4 @@
 -- What a command reads and writes.
-use Rattle.std.specs.Prelude.{◌≡◌}
 use Rattle.mseed_stream.specs.Device.{BytesRead, BytesWritten}
 
 -- what was read of the input, and what the output and the errors accepted
@@ -10,7 +9,3 @@ pub record Streams : Type 0 where
 
 abbrev pub streams : BytesRead → BytesWritten → BytesWritten → Streams
 streams input output errors = record { input = input; output = output; errors = errors }
-
--- nothing was read or written
-abbrev pub IsIdle : Streams → Streams → Type 0
-IsIdle old new = (new.input ≡ old.input) × (new.output ≡ old.output)

@@ -8,7 +8,7 @@ ghost use Rattle.slink_live.specs.Input.{IsInputFault};
 ghost use Rattle.slink_live.specs.Served.{IsFinished, IsServing, IsSound, ServerState};
 ghost use Rattle.mseed_words.specs.FeedWords.{CanServeLive};
 ghost use Rattle.mseed.specs.Filling.{feed_of};
-ghost use Rattle.mseed.specs.Live.{CanNumber, EndsWith, HasEnded, HasServed, HasServedTcp};
+ghost use Rattle.mseed.specs.Live.{EndsWith, HasEnded, HasServed, HasServedTcp};
 
 use crate::command::refuse_memory;
 use crate::filling::open_feed;
@@ -16,14 +16,13 @@ use crate::outcome::{DONE, FAULT};
 use crate::refusal::refuse_to_serve;
 use mseed_stream::{Sink, tell};
 use mseed_words::LiveServing;
-use slink_feed::Feed;
 use slink_live::{Ready, Server};
 use slink_live_tcp::{Plan, Tcp};
 use std::alloc::{AllocError, Global};
 use std::io::{ErrorKind, Read};
 use std::net::{Ipv4Addr, Net, SocketAddr};
 use std::os::fd::AsRawFd;
-use std::time::{Clock, Duration};
+use std::time::Clock;
 
 /// An input and links of which it is known whether they failed all together.
 pub trait Device: Ready {
@@ -61,19 +60,14 @@ pub fn serve<N: Net + Clock, I: Read + AsRawFd + Drop, E: Sink>(
     }
 }
 
-/// Where links are taken, how many, and how long each may be silent.
+/// Where links are taken, how many stand at once, and how long each may be silent.
 fn links_of(live: &LiveServing) -> Plan {
     let listener = &live.serving.listener;
     let address = Ipv4Addr::from(listener.host.octets);
-    let seconds = listener.timeout.seconds;
     Plan {
         address: SocketAddr::from((address, listener.port)),
         clients: live.clients as usize,
-        timeout: if seconds == 0 {
-            None
-        } else {
-            Some(Duration::from_secs(u64::from(seconds)))
-        },
+        timeout: listener.timeout.limit(),
     }
 }
 
@@ -93,43 +87,27 @@ pub fn serve_live<R: Device, E: Sink>(
     ensures { HasServed (feed_of live.now.serving []) (R.is_over ready.new) (R.log ready.new) result
         (E.written errors.old) (E.written errors.new) }
 {
-    match open_feed(alloc, &live.serving) {
-        Ok(feed) => serve_feed(alloc, feed, live.clients, ready, errors),
-        Err(_) => refuse_memory(errors),
-    }
-}
-
-/// Serves these rings to so many links at once.
-fn serve_feed<R: Device, E: Sink>(
-    alloc: Global,
-    feed: Feed,
-    clients: u32,
-    ready: &mut R,
-    errors: &mut E,
-) -> u8
-    requires new { R.log ready.old ≡ [] }
-    requires numbers { CanNumber feed }
-    ensures { HasServed feed (R.is_over ready.new) (R.log ready.new) result (E.written errors.old)
-        (E.written errors.new) }
-{
-    match server_of(alloc, feed, clients) {
+    match server_of(alloc, live) {
         Ok(mut server) => serve_to_the_end(&mut server, ready, errors),
-        Err(_) => refuse_memory(errors),
+        Err(AllocError) => refuse_memory(errors),
     }
 }
 
-/// A server of these rings, with a slot for each client that is served at once.
+/// A server of the rings that were requested, without records, and with a slot for each client that is served at once.
 ///
 /// # Errors
 ///
-/// Where there is no memory for the slots.
-fn server_of(alloc: Global, feed: Feed, clients: u32) -> Result<Server, AllocError>
-    requires { CanNumber feed }
-    ensures serving { IfOk result (λ server. IsServing feed server []) }
+/// Where there is no memory for the rings or the slots.
+fn server_of(alloc: Global, live: &LiveServing) -> Result<Server, AllocError>
+    requires { CanServeLive live.now }
+    ensures serving { IfOk result (λ server. IsServing (feed_of live.now.serving []) server []) }
     ensures sound { IfOk result IsSound }
-    ensures clients { IfOk result (λ server. length server.links ≡ clients) }
+    ensures clients { IfOk result (λ server. length server.links ≡ live.now.clients) }
 {
-    Server::new(alloc, feed, clients as usize)
+    match open_feed(alloc, &live.serving) {
+        Ok(feed) => Server::new(alloc, feed, live.clients as usize),
+        Err(_) => Err(AllocError),
+    }
 }
 
 /// Serves until nothing is left to do, or the device failed, and answers the exit status.

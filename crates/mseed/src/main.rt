@@ -2,9 +2,6 @@
 //! and fetches their records.
 #![tactic(auto)]
 
-ghost use Rattle.std.specs.Prelude.{IfOk};
-ghost use Rattle.mseed.specs.Live.{CanBeServed};
-
 mod asked;
 mod blame;
 mod command;
@@ -19,51 +16,50 @@ mod refusal;
 mod trail;
 mod watched;
 
-use files::{run_over_files, texts_of};
+use command::{command_of, refuse_memory};
+use files::{run_over_files, run_over_input, serve_input, texts_of};
 use mseed_files::words_of;
-use mseed_stream::{Buffered, Counted, Sink};
-use outcome::{Asked, Run};
+use mseed_stream::{Counted, Sink};
+use mseed_words::Request;
+use planning::plan_fetch;
 use std::alloc::{AllocError, Global};
 use std::io;
-use std::io::BufReader;
 use std::process::ExitCode;
-
-/// So many bytes of the input are read at once.
-const ROOM: usize = 1 << 17;
 
 fn main(rt: HostRuntime) -> ExitCode {
     let mut errors = Counted::new(rt.stderr());
     let status = match run_with_words(&rt, &mut errors) {
-        Ok(Run::Status(ended)) => ended.status,
-        Ok(Run::Serve(plan)) => slink_links::serve(&rt, &plan, &mut errors),
-        Ok(Run::Live(live)) => { live::serve(&rt, rt.alloc(), &live, rt.stdin(), &mut errors) }
-        Ok(Run::Fetch(mut plan)) => {
-            let mut output = Counted::new(io::writer(&rt));
-            slink_links::fetch(&rt, &mut plan, &mut output, &mut errors)
-        }
-        Err(_) => command::refuse_memory(&mut errors),
+        Ok(status) => status,
+        Err(_) => refuse_memory(&mut errors),
     };
     ExitCode::from(status)
 }
 
-/// Runs the command over the standard streams with the words of the command line. It takes all that `main`
-/// needs memory for, so that `main` has one place to say that there was none. No clause says what the system
-/// gives: this is only tested.
+/// Runs the command with the words of the command line over the standard streams, and answers the exit status. What
+/// the command needs is asked for once it is known what the words request: a server of records that come, and a client,
+/// have no buffer for an input. No clause says what the system gives: this is only tested.
 ///
 /// # Errors
 ///
 /// Where there was no room for the words or a buffer. Nothing was read or written then.
-fn run_with_words<E: Sink>(rt: &HostRuntime, errors: &mut E) -> io::Result<Run>
-    ensures { IfOk result CanBeServed }
-{
+fn run_with_words<E: Sink>(rt: &HostRuntime, errors: &mut E) -> io::Result<u8> {
     let words = words_of(rt)?;
     let texts = texts_of(rt.alloc(), &words)?;
     let lent = lend(rt.alloc(), &texts)?;
-    let mut input = Buffered::new(BufReader::with_capacity(rt.alloc(), ROOM, rt.reader())?);
+    let mut input = Counted::new(rt.reader());
     let mut output = Counted::new(io::writer(rt));
-    match command::run(rt.alloc(), &lent, &mut input, &mut output, errors) {
-        Asked::Done(run) => Ok(run),
-        Asked::Files(command) => run_over_files(rt, command, &words, errors),
+    let command = match command_of(rt.alloc(), &lent, &mut input, &mut output, errors) {
+        Ok(command) => command,
+        Err(status) => return Ok(status),
+    };
+    match &command.request {
+        Request::Serve(serving) => serve_input(rt, serving, errors),
+        Request::Live(live) => Ok(live::serve(rt, rt.alloc(), live, rt.stdin(), errors)),
+        Request::Fetch(fetching) => {
+            Ok(slink_links::fetch(rt, &mut plan_fetch(fetching), &mut output, errors))
+        }
+        _ if command.files.is_empty() => run_over_input(rt, command, &mut output, errors),
+        _ => run_over_files(rt, command, &words, &mut output, errors),
     }
 }
 

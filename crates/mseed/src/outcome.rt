@@ -1,10 +1,6 @@
-//! What a command leaves to do, and the exit statuses.
+//! How a command ends: by its exit status, and by what is wrong with its input.
 ghost use Rattle.std.specs.Prelude.{◌≡◌};
 ghost use Rattle.mseed.specs.declared.outcome.Blame.{Blame};
-
-use mseed_words::{Command, LiveServing};
-use slink_links::{FetchPlan, ServePlan};
-use std::alloc::{Allocator, Global};
 
 /// All was done; of an audit: each channel is continuous.
 pub const DONE: u8 = 0;
@@ -17,15 +13,6 @@ pub const FAULT: u8 = 2;
 
 /// A bad command line.
 pub const BAD_COMMAND: u8 = 3;
-
-/// What the words of a command line come to.
-#[derive(Drop)]
-pub enum Asked<'a, A: Allocator = Global> {
-    /// What was asked for was run over one input.
-    Done(Run<A>),
-    /// It is to be carried out over files.
-    Files(Command<'a>),
-}
 
 /// How a command ended.
 #[derive(Clone, Copy)]
@@ -60,17 +47,4 @@ pub enum Blame {
     Fault(u64),
     /// The record that begins behind so many bytes is cut off.
     Cut(u64),
-}
-
-/// What a command that was carried out answers.
-#[derive(Drop)]
-pub enum Run<A: Allocator = Global> {
-    /// The command is done, and ended so.
-    Status(Ended),
-    /// A feed is to be served.
-    Serve(ServePlan<A>),
-    /// A feed is to be served while its records come.
-    Live(LiveServing),
-    /// Records are to be fetched.
-    Fetch(FetchPlan),
 }

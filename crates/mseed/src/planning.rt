@@ -2,11 +2,9 @@
 ghost use Rattle.std.specs.Prelude.{◌≡◌, []};
 ghost use Rattle.mseed_stream.specs.Device.{nothing_read};
 ghost use Rattle.mseed_words.specs.FeedWords.{CanFetch, CanServe};
-ghost use Rattle.mseed.specs.Live.{CanBeServed};
 ghost use Rattle.mseed.specs.Plans.{IsFetchPlan, IsServeRun, talk_of};
 
 use crate::filling::{fill, one_filling};
-use crate::outcome::{Ended, Run};
 use crate::refusal::refuse_to_serve;
 use mseed_stream::{Sink, Source};
 use mseed_words::{Fetching, Serving};
@@ -14,32 +12,36 @@ use slink_feed::{Client, Mode};
 use slink_links::{FetchPlan, ServePlan};
 use std::alloc::Allocator;
 
-/// Fills the feed that is to be served, or says on `errors` why there is none.
+/// Fills the feed that is to be served with the records of an input, and answers how it is served.
+///
+/// # Errors
+///
+/// The exit status, 2, behind a line on `errors` that says why there is no feed: the input's records aren't all the
+/// feed's, or it doesn't end where a record ends, or there was no memory.
 pub fn plan_serve<A: Allocator + Copy, R: Source, E: Sink>(
     alloc: A,
     serving: &Serving,
     input: &mut R,
     errors: &mut E,
-) -> Run<A>
+) -> Result<ServePlan<A>, u8>
     requires unread { R.read input.old ≡ nothing_read }
     requires called { CanServe serving.now }
-    ensures run { IsServeRun serving.now result (R.read input.new) (E.written errors.old) (E.written errors.new) }
-    ensures served { CanBeServed result }
+    ensures { IsServeRun serving.now result (R.read input.new) (E.written errors.old) (E.written errors.new) }
 {
     one_filling();
     match fill(alloc, serving, input) {
-        Ok(feed) => Run::Serve(ServePlan {
+        Ok(feed) => Ok(ServePlan {
             address: serving.listener.host,
             port: serving.listener.port,
             connections: serving.connections,
             timeout: serving.listener.timeout,
             feed,
         }),
-        Err(fault) => Run::Status(Ended::with(refuse_to_serve(errors, &fault))),
+        Err(fault) => Err(refuse_to_serve(errors, &fault)),
     }
 }
 
-/// A new client for what is to be fetched.
+/// How the records that are requested are fetched: by a new client, from the host and over as many tries as are named.
 pub fn plan_fetch(fetching: &Fetching) -> FetchPlan
     requires { CanFetch fetching.now }
     ensures { IsFetchPlan fetching.now result }
@@ -54,7 +56,7 @@ pub fn plan_fetch(fetching: &Fetching) -> FetchPlan
     }
 }
 
-/// A new client, which goes past holes where that is requested.
+/// A new client of the places that are requested, which goes past holes where that is requested.
 fn client_of(fetching: &Fetching) -> Client
     requires { CanFetch fetching.now }
     ensures talk { result.talk ≡ talk_of fetching.now }

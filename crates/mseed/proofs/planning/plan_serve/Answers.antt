@@ -1,8 +1,8 @@
-use Rattle.std.proofs.Common.{◌∙◌, Ok, Err, refl}
+use Rattle.std.proofs.Common.{Ok, Err, refl}
 use Rattle.mseed.proofs.planning.plan_serve.Goals as goal
 
-pub returns-in-Ok-clause-run : goal.returns-in-Ok-clause-run
-returns-in-Ok-clause-run g c = record {
+pub returns-in-Ok : goal.returns-in-Ok
+returns-in-Ok g c = record {
   outcome = Ok c.in-Ok.feed;
   filling = c.in-Ok.ensures;
   only = c.one_filling.ensures c.args.serving.now (g.R.Source.read c.fill.new.input) (Ok c.in-Ok.feed) c.in-Ok.ensures;
@@ -18,11 +18,11 @@ returns-in-Ok-clause-run g c = record {
   );
 }
 
-pub returns-in-Err-clause-run : goal.returns-in-Err-clause-run
-returns-in-Err-clause-run g c = record {
+pub returns-in-Err : goal.returns-in-Err
+returns-in-Err g c = record {
   outcome = Err c.in-Err.fault;
   filling = c.in-Err.ensures;
   only = c.one_filling.ensures c.args.serving.now (g.R.Source.read c.fill.new.input) (Err c.in-Err.fault)
       c.in-Err.ensures;
-  planned = ((c.with.ensures.status ∙ c.refuse_to_serve.ensures.status), c.refuse_to_serve.ensures.reported);
+  planned = (c.refuse_to_serve.ensures.status, c.refuse_to_serve.ensures.reported);
 }
