@@ -4,6 +4,7 @@
 pub mod audits;
 pub mod feed;
 pub mod files;
+pub mod input;
 pub mod join;
 pub mod links;
 pub mod listing;

@@ -7,7 +7,7 @@ use Rattle.mseed_stream.specs.Telling.{Tells}
 use Rattle.mseed_words.specs.declared.request.Command.{Command}
 use Rattle.mseed_words.specs.declared.request.Request.{Request}
 use Rattle.mseed.specs.Done.{bad_value}
-use Rattle.mseed.specs.Outcome.{no_memory}
+use Rattle.mseed_input.specs.Files.{no_memory}
 
 -- it is the command that does this, with these records, of these files; no line was written
 abbrev pub IsAsked : Request → Option Selection → List (List ℕ) → Result Command ℕ → BytesWritten → BytesWritten

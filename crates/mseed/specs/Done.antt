@@ -3,9 +3,10 @@ use Rattle.std.specs.Prelude.{◌≡◌, ℕ, List, Option, Some, None, Result, 
 use Rattle.mseed_stream.specs.Device.{BytesWritten}
 use Rattle.mseed_stream.specs.declared.fault.StreamFault.{StreamFault}
 use Rattle.mseed_stream.specs.Telling.{Tells}
-use Rattle.mseed.specs.Blame.{blame_by}
-use Rattle.mseed.specs.Outcome.{EndsBy, Report, no_memory, with_line, without_line, write_failed}
-use Rattle.mseed.specs.declared.outcome.Blame.TheVariants.{Nothing}
+use Rattle.mseed_input.specs.Blame.{blame_by}
+use Rattle.mseed_input.specs.Files.{no_memory}
+use Rattle.mseed.specs.Outcome.{EndsBy, Report, with_line, without_line, write_failed}
+use Rattle.mseed_input.specs.declared.blame.Blame.TheVariants.{Nothing}
 use Rattle.mseed.specs.declared.outcome.Ended.{Ended}
 use Rattle.mseed_show.specs.declared.fault.ShowFault.{ShowFault}
 use Rattle.mseed_show.specs.declared.fault.ShowFault.TheVariants.{Write, Memory}

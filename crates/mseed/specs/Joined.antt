@@ -6,8 +6,9 @@ use Rattle.mseed_join.specs.declared.joining.Joined.{Joined}
 use Rattle.mseed_join.specs.declared.joining.JoinsFault.{JoinsFault}
 use Rattle.mseed_join.specs.declared.joining.JoinsFault.TheVariants.{Line, Count, Stream, Write, Memory}
 use Rattle.mseed.specs.Blame.{join_blame}
-use Rattle.mseed.specs.Outcome.{EndsBy, Report, no_memory, with_line, without_line, write_failed}
-use Rattle.mseed.specs.declared.outcome.Blame.TheVariants.{Nothing}
+use Rattle.mseed_input.specs.Files.{no_memory}
+use Rattle.mseed.specs.Outcome.{EndsBy, Report, with_line, without_line, write_failed}
+use Rattle.mseed_input.specs.declared.blame.Blame.TheVariants.{Nothing}
 use Rattle.mseed.specs.declared.outcome.Ended.{Ended}
 
 -- the exit status: that of the audit, where its text or its part was written

@@ -9,9 +9,7 @@ pub mod Selected
 pub mod Streams
 pub mod OfRecords
 pub mod Run
-pub mod Files
 pub mod Filling
 pub mod Plans
-pub mod Watched
 pub mod Live
 pub mod private

@@ -10,7 +10,7 @@ use Rattle.slink_feed.specs.declared.input.InputFault.{InputFault}
 use Rattle.slink_live.specs.Happening.{Happening, input_of}
 use Rattle.slink_live.specs.Input.{IsInputFault}
 use Rattle.slink_live.specs.Served.{IsFinished, IsServing, ServerState}
-use Rattle.mseed.specs.Outcome.{no_memory}
+use Rattle.mseed_input.specs.Files.{no_memory}
 use Rattle.mseed.specs.Plans.{fill_text}
 
 -- Records can be numbered on for as long as the input is read.

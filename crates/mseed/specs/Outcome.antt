@@ -7,17 +7,15 @@ use Rattle.mseed_audit.specs.declared.summary.AuditFault.{AuditFault}
 use Rattle.mseed_audit.specs.declared.summary.AuditFault.TheVariants.{Write, Memory}
 use Rattle.mseed_audit.specs.declared.each.EachFault.{EachFault}
 use Rattle.mseed_audit.specs.declared.each.EachFault.TheVariants as each
-use Rattle.mseed.specs.Blame.{blame_by}
-use Rattle.mseed.specs.declared.outcome.Blame.{Blame}
-use Rattle.mseed.specs.declared.outcome.Blame.TheVariants.{Nothing}
+use Rattle.mseed_input.specs.Blame.{blame_by}
+use Rattle.mseed_input.specs.Files.{no_memory}
+use Rattle.mseed_input.specs.declared.blame.Blame.{Blame}
+use Rattle.mseed_input.specs.declared.blame.Blame.TheVariants.{Nothing}
 use Rattle.mseed.specs.declared.outcome.Ended.{Ended}
 
--- the lines of an output that failed, and of memory that was refused
+-- the line of an output that failed
 abbrev pub write_failed : List ℕ
 write_failed = codes "mseed: write failed\n"
-
-abbrev pub no_memory : List ℕ
-no_memory = codes "mseed: no memory\n"
 
 -- lines were written, one after another
 abbrev pub TellsLines : List (List ℕ) → BytesWritten → BytesWritten → Type 0

@@ -1,5 +1,6 @@
 -- The plans of the two commands of a feed, and what is given where there is none.
 use Rattle.std.specs.Prelude.{◌≡◌, ℕ, List, [], ◌++◌, Result, Ok, Err, codes, decimal}
+use Rattle.mseed_input.specs.Files.{no_memory}
 use Rattle.mseed_stream.specs.Device.{BytesRead, BytesWritten}
 use Rattle.mseed_stream.specs.Telling.{Tells}
 use Rattle.mseed_stream.specs.declared.fault.StreamFault.TheVariants.{Frame, Truncated, Read, Turns, Memory}
@@ -11,7 +12,6 @@ use Rattle.slink_feed.specs.declared.grant.Mode.TheVariants as modes
 use Rattle.slink_feed.specs.declared.input.InputFault.{InputFault}
 use Rattle.slink_feed.specs.declared.input.InputFault.TheVariants.{Stream, Foreign}
 use Rattle.mseed.specs.Filling.{IsFilling, IsOneFilling}
-use Rattle.mseed.specs.Outcome.{no_memory}
 use Rattle.slink_links.specs.declared.plan.FetchPlan.{FetchPlan}
 use Rattle.slink_links.specs.declared.plan.ServePlan.{ServePlan}
 use Rattle.mseed_words.specs.declared.request.Fetching.{Fetching}

@@ -10,8 +10,9 @@ use Rattle.mseed_words.specs.declared.request.Packing.{Packing}
 use Rattle.mseed_repack.specs.declared.fault.RepackFault.{RepackFault}
 use Rattle.mseed_repack.specs.declared.fault.RepackFault.TheVariants.{Stream, Broken, Misfit, Write, Memory}
 use Rattle.mseed.specs.Blame.{packing_blame}
-use Rattle.mseed.specs.Outcome.{EndsBy, Report, no_memory, with_line, without_line, write_failed}
-use Rattle.mseed.specs.declared.outcome.Blame.TheVariants.{Nothing}
+use Rattle.mseed_input.specs.Files.{no_memory}
+use Rattle.mseed.specs.Outcome.{EndsBy, Report, with_line, without_line, write_failed}
+use Rattle.mseed_input.specs.declared.blame.Blame.TheVariants.{Nothing}
 use Rattle.mseed.specs.declared.outcome.Ended.{Ended}
 
 -- the line about a channel that can't be packed

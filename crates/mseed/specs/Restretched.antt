@@ -9,8 +9,9 @@ use Rattle.mseed_repack.specs.declared.stretches_fault.StretchesFault.{Stretches
 use Rattle.mseed_repack.specs.declared.stretches_fault.StretchesFault.TheVariants.{Stream, Broken, Misfit, Write}
 use Rattle.mseed_repack.specs.declared.stretches_fault.StretchesFault.TheVariants.{Memory}
 use Rattle.mseed.specs.Blame.{stretches_blame}
-use Rattle.mseed.specs.Outcome.{EndsBy, Report, no_memory, with_line, without_line, write_failed}
-use Rattle.mseed.specs.declared.outcome.Blame.TheVariants as blames
+use Rattle.mseed_input.specs.Files.{no_memory}
+use Rattle.mseed.specs.Outcome.{EndsBy, Report, with_line, without_line, write_failed}
+use Rattle.mseed_input.specs.declared.blame.Blame.TheVariants as blames
 use Rattle.mseed.specs.declared.outcome.Ended.{Ended}
 
 -- the line of a fault

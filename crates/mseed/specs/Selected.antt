@@ -15,10 +15,11 @@ use Rattle.mseed_show.specs.declared.listing.Shown.{Shown}
 use Rattle.mseed_stream.specs.Device.{BytesWritten}
 use Rattle.mseed_stream.specs.declared.fault.StreamFault.{StreamFault}
 use Rattle.mseed_text.specs.Fault.{fault_line}
-use Rattle.mseed.specs.Blame.{blame_by}
+use Rattle.mseed_input.specs.Blame.{blame_by}
 use Rattle.mseed.specs.Done.{end_status}
-use Rattle.mseed.specs.Outcome.{EndsBy, Report, no_memory, summary_status, with_line, write_failed}
-use Rattle.mseed.specs.declared.outcome.Blame.TheVariants.{Nothing}
+use Rattle.mseed_input.specs.Files.{no_memory}
+use Rattle.mseed.specs.Outcome.{EndsBy, Report, summary_status, with_line, write_failed}
+use Rattle.mseed_input.specs.declared.blame.Blame.TheVariants.{Nothing}
 use Rattle.mseed.specs.declared.outcome.Ended.{Ended}
 
 -- all records

@@ -1,33 +1,10 @@
-//! What is wrong with an input, by the fault with which it ended.
+//! What is wrong with an input, by the fault with which a command ended.
 ghost use Rattle.std.specs.Prelude.{◌≡◌};
-ghost use Rattle.mseed.specs.Blame.{blame_by, blame_of, join_blame, packing_blame, stretches_blame};
+ghost use Rattle.mseed.specs.Blame.{join_blame, packing_blame, stretches_blame};
 
-use crate::outcome::Blame;
+use mseed_input::{Blame, blame_of};
 use mseed_join::JoinsFault;
 use mseed_repack::{RepackFault, StretchesFault};
-use mseed_stream::StreamFault;
-
-/// What is wrong with an input that ended with this fault, if with one.
-pub fn blame_by(end: &Option<StreamFault>) -> Blame
-    ensures { result ≡ blame_by end.now }
-{
-    match end {
-        Some(fault) => blame_of(fault),
-        None => Blame::Nothing,
-    }
-}
-
-/// What is wrong with an input that ended with this fault.
-pub fn blame_of(fault: &StreamFault) -> Blame
-    ensures { result ≡ blame_of fault.now }
-{
-    match fault {
-        StreamFault::Frame(offset, _) | StreamFault::Turns(offset) => Blame::Fault(*offset),
-        StreamFault::Truncated(offset, _) => Blame::Cut(*offset),
-        StreamFault::Read(_) => Blame::Read,
-        StreamFault::Memory => Blame::Nothing,
-    }
-}
 
 /// What is wrong with parts that weren't joined: a bad line lies where it begins.
 pub fn join_blame(fault: &JoinsFault) -> Blame

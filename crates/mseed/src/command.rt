@@ -1,5 +1,6 @@
 //! The command line.
 ghost use Rattle.std.specs.Prelude.{◌≡◌, ℕ, IfOk, List, map, Option, option_map, true};
+ghost use Rattle.mseed_input.specs.Files.{no_memory};
 ghost use Rattle.mseed_join.specs.declared.joining.Form.{Form};
 ghost use Rattle.mseed_select.specs.Selecting.{selection_of};
 ghost use Rattle.mseed_select.specs.Selection.{Selection};
@@ -10,7 +11,7 @@ ghost use Rattle.mseed_words.specs.Words.{AreRefused, AsksFor, AsksForNothing, C
 ghost use Rattle.mseed_words.specs.declared.request.Request.{Request};
 ghost use Rattle.mseed.specs.Asked.{HasRefusedRequest, HasRefusedWords, IsAsked, UnlessMemoryLacks};
 ghost use Rattle.mseed.specs.Done.{EndsRefused, bad_value};
-ghost use Rattle.mseed.specs.Outcome.{no_memory, write_failed};
+ghost use Rattle.mseed.specs.Outcome.{write_failed};
 ghost use Rattle.mseed.specs.Repacked.{AreOptionsOf};
 ghost use Rattle.mseed.specs.Run.{HasCarriedOut, HasJoined};
 ghost use Rattle.mseed.specs.Streams.{streams};
@@ -20,6 +21,7 @@ use crate::asked::{
 };
 use crate::ending::{audited, audited_each, joined};
 use crate::outcome::{BAD_COMMAND, Ended, FAULT};
+use mseed_input::tell_no_memory;
 use mseed_join::{Form, audit_part, audit_part_each, join, join_each};
 use mseed_pack::Options;
 use mseed_select::Selector;
@@ -190,6 +192,6 @@ pub fn refuse_memory<E: Sink>(errors: &mut E) -> u8
     ensures status { result ≡ 2 }
     ensures reported { Tells no_memory (E.written errors.old) (E.written errors.new) }
 {
-    tell(errors, b"mseed: no memory\n");
+    tell_no_memory(errors);
     FAULT
 }

@@ -1,6 +1,6 @@
 //! How commands end: what is said at their end, and the exit status.
 ghost use Rattle.std.specs.Prelude.{◌≡◌, nat_lt, if◌then◌else◌, Ok};
-ghost use Rattle.mseed.specs.Blame.{blame_by};
+ghost use Rattle.mseed_input.specs.Blame.{blame_by};
 ghost use Rattle.mseed.specs.Done.{EndsShow, end_status};
 ghost use Rattle.mseed.specs.Joined.{EndsJoin};
 ghost use Rattle.mseed.specs.Outcome.{EndsAudit, EndsEach, TellsLines, summary_status};
@@ -9,13 +9,14 @@ ghost use Rattle.mseed.specs.Restretched.{EndsStretches};
 ghost use Rattle.mseed.specs.Selected.{EndsSelect, EndsSelectedAudit, EndsSelectedEach, EndsSelectedShow, end_lines};
 ghost use Rattle.mseed.specs.Selected.{untimed_lines};
 
-use crate::blame::{blame_by, blame_of, join_blame, packing_blame, stretches_blame};
+use crate::blame::{join_blame, packing_blame, stretches_blame};
 use crate::command::{refuse_memory, write_failed};
 use crate::outcome::{BROKEN, DONE, Ended, FAULT};
 use crate::refusal::{
     refuse_to_join, refuse_to_repack, refuse_to_stretch, tell_fault, tell_number,
 };
 use mseed_audit::{AuditFault, EachFault, SelectedSummary, Summary};
+use mseed_input::{blame_by, blame_of};
 use mseed_join::{Joined, JoinsFault};
 use mseed_repack::{Left, RepackFault, StretchesFault};
 use mseed_select::{SelectFault, Selected};

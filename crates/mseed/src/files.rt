@@ -5,61 +5,18 @@ ghost use Rattle.mseed_words.specs.Files.{takes_files};
 ghost use Rattle.mseed_words.specs.Words.{CanBeCalled};
 
 use crate::command::run;
-use crate::naming::{tell_blame, tell_unreadable};
 use crate::outcome::FAULT;
 use crate::planning::plan_serve;
-use crate::trail::Trail;
-use crate::watched::Watched;
 use mseed_files::{Chain, Named, find_unreadable};
+use mseed_input::{Watched, tell_blame, tell_unreadable, word_of};
 use mseed_stream::{Buffered, Sink};
 use mseed_words::{Command, Request, Serving};
-use std::alloc::{AllocError, Global};
 use std::io;
 use std::io::BufReader;
-use std::str::from_utf8;
 
 /// So many bytes of the input are read at once: whole records of up to 4,096 bytes, and less than the 128 KiB for which
 /// the C library maps pages apart.
 const ROOM: usize = 31 << 12;
-
-/// What begins the stand-in of a word that isn't text. No word has it.
-const STAND_IN: char = '\0';
-
-/// The words as texts. What stands for one that isn't UTF-8 is its number behind a character that no word has; for one
-/// that begins as an option, an empty text, which names nothing, unless it stands behind `--`.
-///
-/// # Errors
-///
-/// Where there is no memory for them.
-pub fn texts_of(alloc: Global, words: &[Vec<u8>]) -> Result<Vec<String>, AllocError> {
-    let mut texts = Vec::new(alloc);
-    let mut have_ended = false;
-    for index in 0..words.len() {
-        let word = &words[index];
-        let text = match from_utf8(word) {
-            Ok(text) => {
-                have_ended = have_ended || text == "--";
-                format!(in alloc; "{text}")?
-            }
-            Err(_) if !have_ended && word.starts_with(b"-") => String::new(alloc),
-            Err(_) => format!(in alloc; "{STAND_IN}{index}")?,
-        };
-        texts.push(text)?;
-    }
-    Ok(texts)
-}
-
-/// The word that a text stands for.
-fn word_of<'a>(text: &'a str, words: &'a [Vec<u8>]) -> &'a [u8] {
-    let index = match text.strip_prefix(STAND_IN) {
-        Some(digits) => digits.parse::<usize>().unwrap_or(words.len()),
-        None => words.len(),
-    };
-    match words.get(index) {
-        Some(word) => word,
-        None => text.as_bytes(),
-    }
-}
 
 /// Serves the records of standard input, once all of it is read, and answers the exit status.
 ///
@@ -132,9 +89,9 @@ pub fn run_over_files<W: Sink, E: Sink>(
         return Ok(FAULT);
     }
     let mut chain = Chain::new(rt.alloc(), Named { words: &names })?;
-    let trail = trail_of(rt.alloc(), &command.request);
     let reader = BufReader::with_capacity(rt.alloc(), ROOM, &mut chain)?;
-    let mut input = Watched::new(Buffered::new(reader), trail);
+    let is_archive = reads_archive(&command.request);
+    let mut input = Watched::new(rt.alloc(), Buffered::new(reader), is_archive);
     let ended = run(
         rt.alloc(),
         command.request,
@@ -143,18 +100,16 @@ pub fn run_over_files<W: Sink, E: Sink>(
         output,
         errors,
     );
-    let last = input.trail().last_size();
+    let last = input.last_size();
     drop(input);
     tell_blame(rt.alloc(), errors, &names, &chain, ended.blame, last);
     Ok(ended.status)
 }
 
-/// What follows the records of an input: parts have none.
-fn trail_of(alloc: Global, request: &Request) -> Trail {
-    match request {
-        Request::Join(_) | Request::JoinEach(_) | Request::JoinPart(_) => {
-            Trail::of_no_records(alloc)
-        }
-        _ => Trail::new(alloc),
-    }
+/// Whether what is requested reads an archive: joining reads parts, in which no record lies.
+fn reads_archive(request: &Request) -> bool {
+    !matches!(
+        request,
+        Request::Join(_) | Request::JoinEach(_) | Request::JoinPart(_)
+    )
 }

@@ -9,16 +9,14 @@ mod ending;
 mod files;
 mod filling;
 mod live;
-mod naming;
 mod outcome;
 mod planning;
 mod refusal;
-mod trail;
-mod watched;
 
 use command::{command_of, refuse_memory};
-use files::{run_over_files, run_over_input, serve_input, texts_of};
+use files::{run_over_files, run_over_input, serve_input};
 use mseed_files::words_of;
+use mseed_input::texts_of;
 use mseed_stream::{Counted, Sink};
 use mseed_words::Request;
 use planning::plan_fetch;

@@ -1,6 +1,8 @@
 //! How a command ends: by its exit status, and by what is wrong with its input.
 ghost use Rattle.std.specs.Prelude.{◌≡◌};
-ghost use Rattle.mseed.specs.declared.outcome.Blame.{Blame};
+ghost use Rattle.mseed_input.specs.declared.blame.Blame.{Blame};
+
+use mseed_input::Blame;
 
 /// All was done; of an audit: each channel is continuous.
 pub const DONE: u8 = 0;
@@ -34,17 +36,4 @@ impl Ended {
             blame: Blame::Nothing,
         }
     }
-}
-
-/// What is wrong with an input, where its files are named.
-#[derive(Clone, Copy)]
-pub enum Blame {
-    /// Nothing of which more is to be said.
-    Nothing,
-    /// A read failed.
-    Read,
-    /// There is a fault behind so many bytes.
-    Fault(u64),
-    /// The record that begins behind so many bytes is cut off.
-    Cut(u64),
 }

@@ -6,9 +6,12 @@ use Rattle.mseed_files.specs.Standing.{IsPlace, Standing}
 use Rattle.mseed_files.specs.declared.place.Place.{Place}
 use Rattle.mseed_stream.specs.Device.{BytesWritten}
 use Rattle.mseed_stream.specs.Telling.{Tells}
-use Rattle.mseed.specs.Outcome.{no_memory}
-use Rattle.mseed.specs.declared.outcome.Blame.{Blame}
-use Rattle.mseed.specs.declared.outcome.Blame.TheVariants.{Nothing, Read, Fault, Cut}
+use Rattle.mseed_input.specs.declared.blame.Blame.{Blame}
+use Rattle.mseed_input.specs.declared.blame.Blame.TheVariants.{Nothing, Read, Fault, Cut}
+
+-- the line of memory that was refused
+abbrev pub no_memory : List ℕ
+no_memory = codes "mseed: no memory\n"
 
 -- a byte as it is told: one that isn't a printable character of ASCII as `?`
 abbrev pub told_byte : ℕ → ℕ

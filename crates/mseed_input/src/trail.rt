@@ -5,7 +5,7 @@ use std::alloc::{AllocError, Allocator, Global};
 
 /// How long the last whole record of an input is, as its bytes come, in pieces of any size.
 #[derive(Drop)]
-pub struct Trail<A: Allocator = Global> {
+pub(crate) struct Trail<A: Allocator = Global> {
     // The bytes of a record that isn't whole yet.
     held: Vec<u8, A>,
     // The bytes of the last whole record: those of its header, where it was passed, and the others.
@@ -25,21 +25,18 @@ enum End {
 }
 
 impl<A: Allocator> Trail<A> {
-    /// A trail of an input of which nothing came yet.
-    pub fn new(alloc: A) -> Trail<A> {
+    /// A trail of an input of which nothing came yet. In one that isn't an archive no record is looked for.
+    pub(crate) fn new(alloc: A, is_archive: bool) -> Trail<A> {
         Trail {
             held: Vec::new(alloc),
             header: 0,
             others: 0,
-            end: None,
+            end: if is_archive {
+                None
+            } else {
+                Some(End::NoRecord)
+            },
         }
-    }
-
-    /// A trail of an input that has no records.
-    pub fn of_no_records(alloc: A) -> Trail<A> {
-        let mut trail = Trail::new(alloc);
-        trail.end = Some(End::NoRecord);
-        trail
     }
 
     /// The length of the last whole record, in bytes: 0 where there was none.
@@ -47,7 +44,7 @@ impl<A: Allocator> Trail<A> {
     /// # Errors
     ///
     /// Where a piece of a record had no room.
-    pub fn last_size(&self) -> Result<u64, AllocError> {
+    pub(crate) fn last_size(&self) -> Result<u64, AllocError> {
         match self.end {
             Some(End::NoMemory) => Err(AllocError),
             _ => Ok((self.header as u64).saturating_add(self.others as u64)),
@@ -56,13 +53,13 @@ impl<A: Allocator> Trail<A> {
 
     /// Goes on by so many bytes of a record that is known to lie ahead: first those of its header, and then the others.
     #[inline(always)]
-    pub fn pass(&mut self, amount: usize) {
+    pub(crate) fn pass(&mut self, amount: usize) {
         self.header = self.others;
         self.others = amount;
     }
 
     /// Goes on by these bytes.
-    pub fn follow(&mut self, bytes: &[u8]) {
+    pub(crate) fn follow(&mut self, bytes: &[u8]) {
         let mut rest = bytes;
         for _ in 0..bytes.len() {
             if self.end.is_some() || rest.is_empty() {

@@ -1,10 +1,10 @@
 //! What is told of the files that words name.
 ghost use Rattle.std.specs.Prelude.{◌≡◌, ◌++◌, IfOk, map, option_map};
-ghost use Rattle.mseed.specs.Files.{IsTold, TellsBlame, TellsFault, TellsFile, TellsName, TellsPlace, TellsWord};
-ghost use Rattle.mseed.specs.Files.{cannot_read, fault_in, last_of, told_byte, word_at};
+ghost use Rattle.mseed_input.specs.Files.{IsTold, TellsBlame, TellsFault, TellsFile, TellsName, TellsPlace, TellsWord};
+ghost use Rattle.mseed_input.specs.Files.{cannot_read, fault_in, last_of, no_memory, told_byte, word_at};
+ghost use Rattle.mseed_stream.specs.Telling.{Tells};
 
-use crate::command::refuse_memory;
-use crate::outcome::Blame;
+use crate::blame::Blame;
 use mseed_files::{Chain, Open, Place};
 use mseed_stream::{Sink, tell};
 use mseed_text::Line;
@@ -79,9 +79,7 @@ fn tell_fault<E: Sink, O: Open>(
             let place = told_place(chain, offset, last_of(offset, size), reached);
             tell_place(alloc, errors, names, place);
         }
-        Err(AllocError) => {
-            refuse_memory(errors);
-        }
+        Err(AllocError) => tell_no_memory(errors),
     }
 }
 
@@ -143,6 +141,13 @@ pub fn tell_unreadable<E: Sink>(alloc: Global, errors: &mut E, word: &[u8])
     tell_named(alloc, errors, b"mseed: cannot read ", word, b"\n");
 }
 
+/// Says that memory was refused: to a command, or for the words of the command line.
+pub fn tell_no_memory<E: Sink>(errors: &mut E)
+    ensures { Tells no_memory (E.written errors.old) (E.written errors.new) }
+{
+    tell(errors, b"mseed: no memory\n");
+}
+
 /// Says that a fault lies in the file that a word names, behind so many bytes of it.
 fn tell_fault_in<E: Sink>(alloc: Global, errors: &mut E, word: &[u8], offset: u64)
     ensures { TellsName (fault_in offset word.now) (E.written errors.old) (E.written errors.new) }
@@ -161,9 +166,7 @@ fn tell_named<E: Sink>(alloc: Global, errors: &mut E, before: &[u8], word: &[u8]
 {
     match named_line(alloc, before, word, behind) {
         Ok(line) => tell(errors, &line),
-        Err(AllocError) => {
-            refuse_memory(errors);
-        }
+        Err(AllocError) => tell_no_memory(errors),
     }
 }
 

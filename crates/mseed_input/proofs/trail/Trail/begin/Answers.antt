@@ -1,5 +1,5 @@
 use Rattle.std.proofs.Common.{◌≤◌, length, refl, arith}
-use Rattle.mseed.proofs.trail.Trail.begin.Goals as goal
+use Rattle.mseed_input.proofs.trail.Trail.begin.Goals as goal
 
 pub slice_bounds-result-count : goal.slice_bounds-result-count
 slice_bounds-result-count g c =

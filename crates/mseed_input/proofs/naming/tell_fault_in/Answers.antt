@@ -1,7 +1,7 @@
 use Rattle.std.proofs.Common.{◌∙◌, ◌++◌, List, ℕ, codes, map, subst}
 use Rattle.mseed_stream.specs.Device.{BytesWritten}
-use Rattle.mseed.specs.Files.{TellsName, told_byte}
-use Rattle.mseed.proofs.naming.tell_fault_in.Goals as goal
+use Rattle.mseed_input.specs.Files.{TellsName, told_byte}
+use Rattle.mseed_input.proofs.naming.tell_fault_in.Goals as goal
 
 pub returns : goal.returns
 returns g c =

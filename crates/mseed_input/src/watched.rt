@@ -1,9 +1,10 @@
 //! A source that knows how long its last whole record is.
+
 use crate::trail::Trail;
 use mseed_stream::{Failed, Source};
-use std::alloc::{Allocator, Global};
+use std::alloc::{AllocError, Allocator, Global};
 
-/// A source that knows how long the last whole record of what was read of it is.
+/// A source that knows how long the last whole record is that was read of it.
 #[derive(Drop)]
 pub struct Watched<R, A: Allocator = Global> {
     source: R,
@@ -12,23 +13,31 @@ pub struct Watched<R, A: Allocator = Global> {
 
 impl<R: Source, A: Allocator> Watched<R, A> {
     ghost use Rattle.std.specs.Prelude.{◌≡◌};
-    ghost use Rattle.mseed.specs.Watched.{source_of};
+    ghost use Rattle.mseed_input.specs.Watched.{source_of};
 
-    /// The source, of which nothing was read yet, and a trail of which nothing came.
-    pub fn new(source: R, trail: Trail<A>) -> Watched<R, A>
+    /// A source of which nothing was read yet. In one that isn't an archive, as a text of parts, no record is looked
+    /// for.
+    pub fn new(alloc: A, source: R, is_archive: bool) -> Watched<R, A>
         ensures { source_of result ≡ source }
     {
-        Watched { source, trail }
+        Watched {
+            source,
+            trail: Trail::new(alloc, is_archive),
+        }
     }
 
-    /// What follows its records.
-    pub fn trail(&self) -> &Trail<A> {
-        &self.trail
+    /// The length in bytes of the last whole record that was read of the source: 0 where there was none.
+    ///
+    /// # Errors
+    ///
+    /// Where there was no memory for the piece of a record that was read.
+    pub fn last_size(&self) -> Result<u64, AllocError> {
+        self.trail.last_size()
     }
 }
 
 impl<R: Source, A: Allocator> Source for Watched<R, A> {
-    ghost use Rattle.mseed.specs.Watched.{source_of};
+    ghost use Rattle.mseed_input.specs.Watched.{source_of};
 
     ghost read = { λ w. R.read (source_of w) };
 

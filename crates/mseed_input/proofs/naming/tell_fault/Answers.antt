@@ -1,5 +1,5 @@
-use Rattle.mseed.specs.Files.{IsTold, last_of}
-use Rattle.mseed.proofs.naming.tell_fault.Goals as goal
+use Rattle.mseed_input.specs.Files.{IsTold, last_of}
+use Rattle.mseed_input.proofs.naming.tell_fault.Goals as goal
 
 pub returns-in-Ok : goal.returns-in-Ok
 returns-in-Ok g c =

@@ -1,7 +1,7 @@
 use Rattle.std.proofs.Common.{List, ℕ, Option, subst}
 use Rattle.mseed_stream.specs.Device.{BytesWritten}
-use Rattle.mseed.specs.Files.{TellsWord, fault_in}
-use Rattle.mseed.proofs.naming.tell_place.Goals as goal
+use Rattle.mseed_input.specs.Files.{TellsWord, fault_in}
+use Rattle.mseed_input.proofs.naming.tell_place.Goals as goal
 
 pub returns-in-Some : goal.returns-in-Some
 returns-in-Some g c =

@@ -1,5 +1,5 @@
 -- What contracts read of a source that is watched.
-use Rattle.mseed.specs.declared.watched.Watched.{Watched}
+use Rattle.mseed_input.specs.declared.watched.Watched.{Watched}
 
 -- the source that is watched
 abbrev pub source_of : {R A : Type 0} → Watched R A → R
