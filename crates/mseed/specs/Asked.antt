@@ -33,6 +33,6 @@ LacksMemory (Ok command) old new = ⊥
 LacksMemory (Err status) old new = (status ≡ 2) × Tells no_memory old new
 
 -- this came of it, unless there was no memory for the words
-abbrev pub UnlessMemoryLacks : (Result Command ℕ → BytesWritten → BytesWritten → Type 0) → Result Command ℕ → BytesWritten
-    → BytesWritten → Type 0
+abbrev pub UnlessMemoryLacks : (Result Command ℕ → BytesWritten → BytesWritten → Type 0) → Result Command ℕ
+    → BytesWritten → BytesWritten → Type 0
 UnlessMemoryLacks P result old new = P result old new ⊎ LacksMemory result old new

@@ -20,13 +20,14 @@ use crate::asked::{
     audit_asked, audit_each_asked, repack_asked, restretch_asked, select_asked, show_asked,
 };
 use crate::ending::{audited, audited_each, joined};
-use crate::outcome::{BAD_COMMAND, Ended, FAULT};
+use crate::outcome::{BAD_COMMAND, Ended};
 use mseed_input::tell_no_memory;
 use mseed_join::{Form, audit_part, audit_part_each, join, join_each};
 use mseed_pack::Options;
 use mseed_select::Selector;
 use mseed_stream::{Sink, Source, tell};
 use mseed_words::{Command, Joining, Packing, Refusal, Request};
+use slink_links::FAULT;
 use std::alloc::{Allocator, Global};
 
 /// Reads the words of the command line, those after the program's name, and answers the command that they ask for: what

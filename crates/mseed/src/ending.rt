@@ -11,7 +11,7 @@ ghost use Rattle.mseed.specs.Selected.{untimed_lines};
 
 use crate::blame::{join_blame, packing_blame, stretches_blame};
 use crate::command::{refuse_memory, write_failed};
-use crate::outcome::{BROKEN, DONE, Ended, FAULT};
+use crate::outcome::{BROKEN, Ended};
 use crate::refusal::{
     refuse_to_join, refuse_to_repack, refuse_to_stretch, tell_fault, tell_number,
 };
@@ -22,6 +22,7 @@ use mseed_repack::{Left, RepackFault, StretchesFault};
 use mseed_select::{SelectFault, Selected};
 use mseed_show::{ShowFault, Shown};
 use mseed_stream::{Sink, StreamFault};
+use slink_links::{DONE, FAULT};
 
 /// Says why not all of an audit was written, and answers how it ended. A fault of the input is in the text.
 pub fn audited<E: Sink>(outcome: Result<Summary, AuditFault>, errors: &mut E) -> Ended

@@ -5,12 +5,12 @@ ghost use Rattle.mseed_words.specs.Files.{takes_files};
 ghost use Rattle.mseed_words.specs.Words.{CanBeCalled};
 
 use crate::command::run;
-use crate::outcome::FAULT;
 use crate::planning::plan_serve;
 use mseed_files::{Chain, Named, find_unreadable};
 use mseed_input::{Watched, tell_blame, tell_unreadable, word_of};
 use mseed_stream::{Buffered, Sink};
 use mseed_words::{Command, Request, Serving};
+use slink_links::FAULT;
 use std::io;
 use std::io::BufReader;
 

@@ -12,10 +12,10 @@ ghost use Rattle.mseed.specs.Live.{EndsWith, HasEnded, HasServed, HasServedTcp};
 
 use crate::command::refuse_memory;
 use crate::filling::open_feed;
-use crate::outcome::{DONE, FAULT};
 use crate::refusal::refuse_to_serve;
 use mseed_stream::{Sink, tell};
 use mseed_words::LiveServing;
+use slink_links::{DONE, FAULT};
 use slink_live::{Ready, Server};
 use slink_live_tcp::{Plan, Tcp};
 use std::alloc::{AllocError, Global};

@@ -4,19 +4,13 @@ ghost use Rattle.mseed_input.specs.declared.blame.Blame.{Blame};
 
 use mseed_input::Blame;
 
-/// All was done; of an audit: each channel is continuous.
-pub const DONE: u8 = 0;
-
-/// All was done, and some channel is broken.
+/// The exit status of a command that did all that was requested, and found that a channel is broken.
 pub const BROKEN: u8 = 1;
 
-/// A fault, named on standard error or in the text.
-pub const FAULT: u8 = 2;
-
-/// A bad command line.
+/// The exit status of a bad command line.
 pub const BAD_COMMAND: u8 = 3;
 
-/// How a command ended.
+/// How a command ended. Beside the statuses here there are those of `slink_links`: all was done, or there was a fault.
 #[derive(Clone, Copy)]
 pub struct Ended {
     /// The exit status.

@@ -11,7 +11,7 @@ ghost use Rattle.mseed.specs.Restretched.{stretches_status, stretches_text};
 ghost use Rattle.mseed_repack.specs.ByStretches.{broken_line};
 
 use crate::command::{refuse_memory, write_failed};
-use crate::outcome::{BROKEN, FAULT};
+use crate::outcome::BROKEN;
 use mseed_join::JoinsFault;
 use mseed_pack::PackFault;
 use mseed_record::Codes;
@@ -19,6 +19,7 @@ use mseed_repack::{RepackFault, StretchesFault, tell_broken, tell_misfit};
 use mseed_stream::{Sink, StreamFault, tell};
 use mseed_text::Line;
 use slink_feed::InputFault;
+use slink_links::FAULT;
 
 /// Says why an archive wasn't packed anew, and answers the exit status: a broken channel is no fault.
 pub fn refuse_to_repack<E: Sink>(errors: &mut E, fault: &RepackFault) -> u8

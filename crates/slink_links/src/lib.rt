@@ -31,4 +31,5 @@ pub use plan::{FetchPlan, ServePlan};
 pub use planned::{fetch_planned, serve_planned};
 pub use serving::{serve_all, serve_link};
 pub use settle::Settle;
+pub use status::{DONE, FAULT};
 pub use tcp::{fetch, serve};

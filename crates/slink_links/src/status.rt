@@ -1,7 +1,7 @@
-//! The exit statuses of serving and fetching.
+//! The exit statuses of serving and fetching, which are also those of a command that does neither.
 
-/// All was done.
-pub(crate) const DONE: u8 = 0;
+/// The exit status of a command that did all that was requested.
+pub const DONE: u8 = 0;
 
-/// A fault, named on standard error.
-pub(crate) const FAULT: u8 = 2;
+/// The exit status of a command that met a fault, which it named on standard error or in its text.
+pub const FAULT: u8 = 2;
