@@ -37,7 +37,7 @@ pub fn is_wrong(end: &Option<StreamFault>) -> bool {
     !matches!(blame_by(end), Blame::Nothing)
 }
 
-/// Tells in which of the files that words name a fault lies that ended their bytes, behind no record.
+/// Reports in which of the files that words name a fault lies that ended their bytes, after no record.
 pub fn tell_fault_of<E: Sink>(
     alloc: Global,
     words: &[&[u8]],
@@ -49,7 +49,7 @@ pub fn tell_fault_of<E: Sink>(
     Ok(())
 }
 
-/// Tells that the file that a word names can't be read, and, where it can't be looked at, that memory was refused.
+/// Reports that the file that a word names can't be read, and, where it can't be looked at, that memory was refused.
 pub fn tell_unread<E: Sink>(
     alloc: Global,
     word: &[u8],

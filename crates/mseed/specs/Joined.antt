@@ -24,7 +24,7 @@ join_fault_text (Stream fault) = codes "mseed: " ++ fault_line fault
 join_fault_text Write = write_failed
 join_fault_text Memory = no_memory
 
--- behind the lines of the faults that were passed
+-- after the lines of the faults that were passed
 abbrev pub join_report : Result Joined JoinsFault → Report
 join_report (Ok joined) = without_line (joined_status joined) Nothing
 join_report (Err fault) = with_line 2 (join_fault_text fault) (join_blame fault)

@@ -36,7 +36,7 @@ abbrev pub IsDone : {O : Type 0} → (O → Type 0) → (O → Ended → BytesWr
     → BytesWritten → BytesWritten → Type 0
 IsDone {O} Is Ends ended old new = (outcome : O) × (Is outcome × Ends outcome ended old new)
 
--- behind what was reported before it ended
+-- after what was reported before it ended
 abbrev pub IsReported : {O : Type 0} → (O → BytesWritten → Type 0)
     → (O → Ended → BytesWritten → BytesWritten → Type 0) → Ended → BytesWritten → Type 0
 IsReported {O} Is Ends ended new =
@@ -49,7 +49,7 @@ HasAudited None ended old new = IsDone (λ (outcome : Result Summary AuditFault)
 HasAudited (Some s) ended old new = IsDone (λ (outcome : Result SelectedSummary AuditFault).
     IsSelectedOutcome s outcome new.input old.output new.output) EndsSelectedAudit ended old.errors new.errors
 
--- and each finding told
+-- and each finding reported
 abbrev pub HasAuditedEach : Option Selection → Ended → Streams → Streams → Type 0
 HasAuditedEach None ended old new = IsDone (λ (outcome : Result Summary EachFault).
     IsEachOutcome outcome new.input old.output new.output) EndsEach ended old.errors new.errors

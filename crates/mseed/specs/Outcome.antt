@@ -54,7 +54,7 @@ audit_report (Err Memory) = with_line 2 no_memory Nothing
 abbrev pub EndsAudit : Result Summary AuditFault → Ended → BytesWritten → BytesWritten → Type 0
 EndsAudit outcome ended old new = EndsBy (audit_report outcome) ended old new
 
--- and one that tells each finding
+-- and one that reports each finding
 abbrev pub each_report : Result Summary EachFault → Report
 each_report (Ok summary) = without_line (summary_status summary) (blame_by summary.end)
 each_report (Err each.Write) = with_line 2 write_failed Nothing

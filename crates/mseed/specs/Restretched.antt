@@ -36,7 +36,7 @@ left_status Nothing = 0
 left_status LeftBroken = 1
 left_status LeftMisfit = 2
 
--- behind the lines that were reported
+-- after the lines that were reported
 abbrev pub stretches_report : Result Left StretchesFault → Report
 stretches_report (Ok left) = without_line (left_status left) blames.Nothing
 stretches_report (Err fault) = with_line (stretches_status fault) (stretches_text fault) (stretches_blame fault)

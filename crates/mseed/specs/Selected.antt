@@ -31,7 +31,7 @@ abbrev pub asked_or_all : Option Selection → Selection
 asked_or_all None = everything
 asked_or_all (Some s) = s
 
--- the line that tells how many records lack a time, where some do
+-- the line that says how many records lack a time, where some do
 abbrev pub untimed_line : ℕ → List ℕ
 untimed_line count = codes "mseed: " ++ decimal count ++ codes " records without a time\n"
 
@@ -70,7 +70,7 @@ selected_audit_report (Err audits.Memory) = with_line 2 no_memory Nothing
 abbrev pub EndsSelectedAudit : Result SelectedSummary AuditFault → Ended → BytesWritten → BytesWritten → Type 0
 EndsSelectedAudit outcome ended old new = EndsBy (selected_audit_report outcome) ended old new
 
--- and one that tells each finding
+-- and one that reports each finding
 abbrev pub selected_each_report : Result SelectedSummary EachFault → Report
 selected_each_report (Ok found) = record {
   status = summary_status found.summary;

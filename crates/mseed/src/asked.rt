@@ -43,7 +43,7 @@ pub fn audit_asked<A: Allocator + Copy, R: Source, W: Sink, E: Sink>(
     }
 }
 
-/// Audits the records that are asked for, tells each finding, and answers how the audit ended.
+/// Audits the records that are asked for, reports each finding, and answers how the audit ended.
 pub fn audit_each_asked<A: Allocator + Copy, R: Source, W: Sink, E: Sink>(
     alloc: A,
     selector: &Option<Selector<'_>>,

@@ -35,7 +35,8 @@ pub fn audited<E: Sink>(outcome: Result<Summary, AuditFault>, errors: &mut E) ->
     }
 }
 
-/// The same of an audit that tells each finding.
+/// Says why not all of an audit that reports each finding was written, and answers how it ended. A fault of the input
+/// is in the text.
 pub fn audited_each<E: Sink>(outcome: Result<Summary, EachFault>, errors: &mut E) -> Ended
     ensures { EndsEach outcome result (E.written errors.old) (E.written errors.new) }
 {
@@ -70,7 +71,8 @@ fn ended_by(summary: &Summary) -> Ended
     }
 }
 
-/// The same of an audit of the records that are asked for: how many lack a time is said first.
+/// Says how many records lack a time, and why not all of the audit of the records that are asked for was written, and
+/// answers how it ended. A fault of the input is in the text.
 pub fn audited_some<E: Sink>(outcome: Result<SelectedSummary, AuditFault>, errors: &mut E) -> Ended
     ensures { EndsSelectedAudit outcome result (E.written errors.old) (E.written errors.new) }
 {
@@ -84,7 +86,8 @@ pub fn audited_some<E: Sink>(outcome: Result<SelectedSummary, AuditFault>, error
     }
 }
 
-/// The same of one that tells each finding.
+/// Says how many records lack a time, and why not all of an audit was written that reports each finding of the records
+/// that are asked for, and answers how it ended. A fault of the input is in the text.
 pub fn audited_each_some<E: Sink>(
     outcome: Result<SelectedSummary, EachFault>,
     errors: &mut E,
@@ -125,7 +128,8 @@ pub fn shown<E: Sink>(outcome: Result<Option<StreamFault>, ShowFault>, errors: &
     }
 }
 
-/// The same of a listing of the records that are asked for: how many lack a time is said first.
+/// Says how many records lack a time, and why not all of the listing of the records that are asked for was written, and
+/// answers how it ended. A fault of the input is in the listing.
 pub fn shown_some<E: Sink>(outcome: Result<Shown, ShowFault>, errors: &mut E) -> Ended
     ensures { EndsSelectedShow outcome result (E.written errors.old) (E.written errors.new) }
 {

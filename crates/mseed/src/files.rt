@@ -62,8 +62,8 @@ pub fn run_over_input<W: Sink, E: Sink>(
 }
 
 /// Carries out a command over the files that it names, of these words, and answers the exit status. The files are
-/// looked at first; one that can't be read is told, and nothing is done then. What is wrong with the input is told
-/// last, of the file in which it lies.
+/// looked at first; one that can't be read is reported, and nothing is done then. What is wrong with the input is
+/// reported last, of the file in which it lies.
 ///
 /// # Errors
 ///

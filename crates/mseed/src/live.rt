@@ -74,7 +74,7 @@ fn links_of(live: &LiveServing) -> Plan {
 /// Serves a feed to the links of a device, as the records of its input come, and answers the exit status. Each place
 /// has a ring of the capacity that was requested, without records at first.
 ///
-/// What is wrong with the input is reported on `errors` at once. What came before it stays served, and nothing behind
+/// What is wrong with the input is reported on `errors` at once. What came before it stays served, and nothing after
 /// it is.
 pub fn serve_live<R: Device, E: Sink>(
     alloc: Global,

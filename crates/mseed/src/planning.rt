@@ -16,7 +16,7 @@ use std::alloc::Allocator;
 ///
 /// # Errors
 ///
-/// The exit status, 2, behind a line on `errors` that says why there is no feed: the input's records aren't all the
+/// The exit status, 2, after a line on `errors` that says why there is no feed: the input's records aren't all the
 /// feed's, or it doesn't end where a record ends, or there was no memory.
 pub fn plan_serve<A: Allocator + Copy, R: Source, E: Sink>(
     alloc: A,

@@ -155,7 +155,7 @@ fn reason(fault: &PackFault) -> &'static [u8]
     }
 }
 
-/// Says something of what has this number, in the words before the number and behind it.
+/// Says something of what has this number, in the words before the number and after it.
 pub fn tell_number<'a, E: Sink>(
     errors: &mut E,
     before: &'a [u8],

@@ -35,7 +35,7 @@ abbrev pub left_in : {F : Type 0} → (F → Option (List ℕ)) → Option F →
 left_in remaining None = Some []
 left_in remaining (Some file) = remaining file
 
--- what is left to be read: what is left of the file that is open, and the files behind it
+-- what is left to be read: what is left of the file that is open, and the files after it
 abbrev pub remaining_of : Standing → Option (List ℕ)
 remaining_of s = joined s.left (all_of (drop (length s.begins) s.contents))
 
@@ -47,7 +47,7 @@ before contents count = all_of (take count contents)
 abbrev pub file_due : Standing → ℕ
 file_due s = if s.is_open then length s.begins - 1 else length s.begins
 
--- Each file that was opened begins behind those before it, and what was read and what is left of the last one are
+-- Each file that was opened begins after those before it, and what was read and what is left of the last one are
 -- all that was opened.
 pub record IsAlong (contents : Contents) (begins : List ℕ) (is_open : Bool) (left : Option (List ℕ)) (bytes : ℕ)
     : Type 0 where
@@ -59,7 +59,7 @@ pub record IsAlong (contents : Contents) (begins : List ℕ) (is_open : Bool) (l
   pub read : (xs : List ℕ) → before contents (length begins) ≡ Some xs
       → (rest : List ℕ) × ((left ≡ Some rest) × (bytes + length rest ≡ length xs))
 
--- The place is in a file that was opened, the offset is behind the files before it, and no file that was opened
+-- The place is in a file that was opened, the offset is after the files before it, and no file that was opened
 -- later begins there or before.
 pub record IsPlace (s : Standing) (offset : ℕ) (place : Place) : Type 0 where
   pub opened : place.file < length s.begins

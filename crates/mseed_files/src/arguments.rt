@@ -21,7 +21,7 @@ pub fn words_of<R: Env + Alloc>(rt: &R) -> Result<Vec<Vec<u8, R::A>, R::A>, Allo
     Ok(words)
 }
 
-/// One of them, where there is one of this number.
+/// The word of the command line with this number, where there is one.
 ///
 /// # Errors
 ///

@@ -1,4 +1,4 @@
-//! Files one behind another, as one reader.
+//! Files one after another, as one reader.
 ghost use Rattle.std.specs.Prelude.{◌≡◌, ◌<◌, ◌≤◌, ◌+◌, ℕ, List, [], ◌∷◌, ◌++◌, None, Some, Ok, true, false, length};
 ghost use Rattle.std.specs.Prelude.{IfOk, IfErr, IfSome, OnOk, OnErr, IsTrue, slice_index, take, vec_len, vec_capacity};
 ghost use Rattle.std.specs.Io.{ReadsAtMost};
@@ -12,7 +12,7 @@ use std::io;
 use std::io::{ErrorKind, Read};
 use std::marker::Model;
 
-/// Files one behind another, as one reader. One of them is open at a time.
+/// Files one after another, as one reader. One of them is open at a time.
 ///
 /// The end of a file that others follow is no end, and neither is an empty file. A file that can't be opened, or a read
 /// that fails, is an error of that read; a further read tries again.
@@ -80,7 +80,7 @@ impl<O: Open, A: Allocator> Chain<O, A> {
         self.failed
     }
 
-    /// How many bytes were read.
+    /// The number of bytes that were read of all files.
     pub fn bytes_read(&self) -> u64
         ensures { result ≡ self.now.bytes }
     {
@@ -88,7 +88,7 @@ impl<O: Open, A: Allocator> Chain<O, A> {
     }
 
     /// Where the byte lies before which so many bytes were read: in the last file of those that were opened that
-    /// doesn't begin behind it. None where no file was opened.
+    /// doesn't begin after it. None where no file was opened.
     #[tactic(auto, using(crate::proofs::Opening::placed))]
     pub fn place_of(&self, offset: u64) -> Option<Place>
         ensures place { IfSome result (IsPlace self.now offset) }
@@ -145,7 +145,7 @@ fn put<A: Allocator>(numbers: &mut Vec<u64, A>, number: u64)
     }
 }
 
-/// The last of the files that don't begin behind an offset, by where they begin, and the offset within it.
+/// The last of the files that don't begin after an offset, by where they begin, and the offset within it.
 fn place_in(begins: &[u64], offset: u64) -> Option<Place>
     ensures opened { IfSome result (λ p. p.file < length begins.now) }
     ensures offset { IfSome result (λ p. slice_index begins.now p.file + p.offset ≡ offset) }
@@ -213,10 +213,10 @@ impl<O: Open, A: Allocator> Read for Chain<O, A> {
     fn read(&mut self, buf: &mut [u8]) -> io::Result<usize>
         ensures bound { ReadsAtMost result buf.new }
 
-        // What is told is what is left of the file that is open, and then the files behind it.
+        // What is read is what is left of the file that is open, and then the files after it.
         ensures bytes { ReadConsumes (remaining_of self.old) (remaining_of self.new) result buf.new }
 
-        // The end is told once no file is left, and no file is told for another.
+        // The end is reported once no file is left, and no file is reported for another.
         ensures end { result ≡ Ok 0 → 0 < length buf.new → HasEnded self.new }
         ensures goes_on { GoesOn result self.old self.new }
     {

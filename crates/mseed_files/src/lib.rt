@@ -1,4 +1,4 @@
-//! Files one behind another, as the bytes of one input.
+//! Files one after another, as the bytes of one input.
 //!
 //! A [`Chain`] is a reader of `std::io` over the files that an [`Open`] opens, one at a time and in their order. It
 //! knows in which of them each byte that it gave lies. [`Named`] opens the files that the words of a command line name,

@@ -13,7 +13,7 @@ pub trait Open {
     // The bytes of each file, where they are known.
     ghost contents: { Self → Contents };
 
-    /// How many files there are.
+    /// The number of files.
     fn count(&self) -> usize
         ensures { result ≡ length (contents self.now) };
 

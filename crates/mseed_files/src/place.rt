@@ -5,6 +5,6 @@
 pub struct Place {
     /// The file's number in the list, from 0.
     pub file: usize,
-    /// So many bytes stand before it in the file.
+    /// The number of bytes before the place in the file.
     pub offset: u64,
 }

@@ -1,4 +1,4 @@
--- What is told of a file.
+-- What is reported of a file.
 use Rattle.std.specs.Prelude.{◌≡◌, ◌⊎◌, ℕ, ◌-◌, ◌==◌, List, [], map, decimal, ◌++◌, ◌&&◌, nat_le, slice_get, option_map}
 use Rattle.std.specs.Borrow.{Bor}
 use Rattle.std.specs.Prelude.{if◌then◌else◌, Option, Some, None, Result, Ok, Err, codes}
@@ -13,7 +13,7 @@ use Rattle.mseed_input.specs.declared.blame.Blame.TheVariants.{Nothing, Read, Fa
 abbrev pub no_memory : List ℕ
 no_memory = codes "mseed: no memory\n"
 
--- a byte as it is told: one that isn't a printable character of ASCII as `?`
+-- a byte as it is reported: one that isn't a printable character of ASCII as `?`
 abbrev pub told_byte : ℕ → ℕ
 told_byte b = if nat_le 32 b && nat_le b 126 then b else 63
 
@@ -39,7 +39,7 @@ Names = List (Bor (List ℕ))
 abbrev pub word_at : Names → ℕ → Option (List ℕ)
 word_at names file = option_map (λ name. name.now) (slice_get names file)
 
--- so it was told of the file of this number, if there is one; else nothing was
+-- so it was reported of the file of this number, if there is one; else nothing was
 abbrev pub TellsWord : Option (List ℕ) → (List ℕ → List ℕ) → BytesWritten → BytesWritten → Type 0
 TellsWord None line old new = new ≡ old
 TellsWord (Some word) line old new = TellsName (line word) old new
@@ -48,7 +48,7 @@ abbrev pub TellsFile : Option ℕ → Names → (List ℕ → List ℕ) → Byte
 TellsFile None names line old new = new ≡ old
 TellsFile (Some file) names line old new = TellsWord (word_at names file) line old new
 
--- Where a fault is told that lies at an offset, where the record before it begins at another: there, if that is in
+-- Where a fault is reported that lies at an offset, where the record before it begins at another: there, if that is in
 -- another file than the one that is reached, and else where it lies.
 pub record IsBehindRecord (s : Standing) (offset last reached : ℕ) (place : Place) : Type 0 where
   pub own : Place
@@ -83,9 +83,9 @@ TellsFault (Err lacks) offset reached names s old new = Tells no_memory old new
 TellsFault (Ok size) offset reached names s old new =
     (place : Option Place) × IsTold s offset (last_of offset size) reached place × TellsPlace place names old new
 
--- What is wrong with an input is told of its files: of the one that failed, or of the one in which the fault lies. But
--- where the record before the fault begins in another file, it is told of that file and record; and where a record is
--- cut off, where the one before reaches over the end of the file in which it begins.
+-- What is wrong with an input is reported of its files: of the one that failed, or of the one in which the fault lies.
+-- But where the record before the fault begins in another file, it is reported of that file and record; and where a
+-- record is cut off, where the one before reaches over the end of the file in which it begins.
 abbrev pub TellsBlame : {E : Type 0} → Blame → Result ℕ E → Names → Standing → BytesWritten
     → BytesWritten → Type 0
 TellsBlame Nothing last names s old new = new ≡ old

@@ -11,9 +11,9 @@ pub enum Blame {
     Nothing,
     /// A read failed.
     Read,
-    /// There is a fault behind so many bytes.
+    /// There is a fault after so many bytes.
     Fault(u64),
-    /// The record that begins behind so many bytes is cut off.
+    /// The record that begins after so many bytes is cut off.
     Cut(u64),
 }
 

@@ -1,4 +1,4 @@
-//! What is told of the files that words name.
+//! What is reported of the files that words name.
 ghost use Rattle.std.specs.Prelude.{◌≡◌, ◌++◌, IfOk, map, option_map};
 ghost use Rattle.mseed_input.specs.Files.{IsTold, TellsBlame, TellsFault, TellsFile, TellsName, TellsPlace, TellsWord};
 ghost use Rattle.mseed_input.specs.Files.{cannot_read, fault_in, last_of, no_memory, told_byte, word_at};
@@ -61,7 +61,7 @@ fn tell_unreadable_word<E: Sink>(alloc: Global, errors: &mut E, word: Option<&[u
     }
 }
 
-/// Says where a fault is told that lies at an offset, behind a record of `last` bytes.
+/// Says where a fault is reported that lies at an offset, after a record of `last` bytes.
 fn tell_fault<E: Sink, O: Open>(
     alloc: Global,
     errors: &mut E,
@@ -94,8 +94,8 @@ fn last_of(offset: u64, size: u64) -> Option<u64>
     }
 }
 
-/// Where a fault is told that lies at an offset: where the record before it begins, if that is in another file than the
-/// one that is reached, and else where it lies. None where no file was opened.
+/// Where a fault is reported that lies at an offset: where the record before it begins, if that is in another file than
+/// the one that is reached, and else where it lies. None where no file was opened.
 fn told_place<O: Open>(
     chain: &Chain<O>,
     offset: u64,
@@ -123,7 +123,7 @@ fn tell_place<E: Sink>(alloc: Global, errors: &mut E, names: &[&[u8]], place: Op
     }
 }
 
-/// Says that a fault lies in the file that a word names, behind so many bytes of it, if there is one.
+/// Says that a fault lies in the file that a word names, after so many bytes of it, if there is one.
 fn tell_fault_in_word<E: Sink>(alloc: Global, errors: &mut E, word: Option<&[u8]>, offset: u64)
     ensures { TellsWord (option_map (λ w. w.now) word.entry) (fault_in offset) (E.written errors.old)
         (E.written errors.new) }
@@ -148,7 +148,7 @@ pub fn tell_no_memory<E: Sink>(errors: &mut E)
     tell(errors, b"mseed: no memory\n");
 }
 
-/// Says that a fault lies in the file that a word names, behind so many bytes of it.
+/// Says that a fault lies in the file that a word names, after so many bytes of it.
 fn tell_fault_in<E: Sink>(alloc: Global, errors: &mut E, word: &[u8], offset: u64)
     ensures { TellsName (fault_in offset word.now) (E.written errors.old) (E.written errors.new) }
 {
@@ -159,7 +159,7 @@ fn tell_fault_in<E: Sink>(alloc: Global, errors: &mut E, word: &[u8], offset: u6
     tell_named(alloc, errors, b"mseed: fault in ", word, behind.as_slice());
 }
 
-/// Says something of the file that a word names, in the words before the name and behind it.
+/// Says something of the file that a word names, in the words before the name and after it.
 fn tell_named<E: Sink>(alloc: Global, errors: &mut E, before: &[u8], word: &[u8], behind: &[u8])
     ensures { TellsName (before.now ++ map told_byte word.now ++ behind.now) (E.written errors.old)
         (E.written errors.new) }
@@ -192,7 +192,7 @@ fn named_line(
     Ok(line)
 }
 
-/// A byte as it's told.
+/// A byte as it's written.
 fn told(byte: u8) -> u8
     ensures { result ≡ told_byte byte }
 {

@@ -5,9 +5,9 @@ use std::str::from_utf8;
 /// What begins the stand-in of a word that isn't text. No word has it.
 const STAND_IN: char = '\0';
 
-/// The words of a command line as texts, in their order. What stands for a word that isn't UTF-8 is its number behind a
+/// The words of a command line as texts, in their order. What stands for a word that isn't UTF-8 is its number after a
 /// NUL, which no word has; for one that begins as an option, an empty text, which names nothing, unless it stands
-/// behind `--`.
+/// after `--`.
 ///
 /// # Errors
 ///

@@ -73,7 +73,7 @@ impl<A: Allocator> Trail<A> {
         }
     }
 
-    /// Finds the record that begins these bytes, or keeps them until it is whole. Answers what is behind it.
+    /// Finds the record that begins these bytes, or keeps them until it is whole. Answers what is after it.
     fn begin<'b>(&mut self, bytes: &'b [u8]) -> &'b [u8] {
         match scan(bytes) {
             Scan::Record(size) => {
@@ -91,7 +91,7 @@ impl<A: Allocator> Trail<A> {
         }
     }
 
-    /// Takes what the record that is held lacks, or what there is of it. Answers what is behind that.
+    /// Takes what the record that is held lacks, or what there is of it. Answers what is after that.
     fn go_on<'b>(&mut self, bytes: &'b [u8]) -> &'b [u8] {
         let lacking = match scan(&self.held) {
             Scan::Need(needed) => needed - self.held.len(),
@@ -117,7 +117,7 @@ impl<A: Allocator> Trail<A> {
         }
     }
 
-    /// Goes behind a record of so many bytes.
+    /// Goes after a record of so many bytes.
     fn find(&mut self, size: usize) {
         self.header = 0;
         self.others = size;

@@ -26,7 +26,7 @@ abbrev pub address_with : Option ℕ → Option ℕ → Option ℕ → Option �
 address_with (Some a) (Some b) (Some c) (Some d) = Some (record { octets = a ∷ b ∷ c ∷ d ∷ [] })
 address_with _ _ _ _ = None
 
--- what stands before the first dot, and what stands behind it
+-- what stands before the first dot, and what stands after it
 abbrev pub before_dot : Text → Text
 before_dot text = before_first (λ c. c == 46) text
 

@@ -28,7 +28,7 @@ is_code width code = nat_le 1 (length code) && (nat_le (length code) width && li
 abbrev pub place_by : Text → Text → Option Fields
 place_by sta net = if is_code 5 sta && is_code 2 net then Some (fields_of sta net) else None
 
--- the place that a word names: the network's code before its first underscore, the station's behind it
+-- the place that a word names: the network's code before its first underscore, the station's after it
 abbrev pub place_in : Text → Option Fields
 place_in word = place_by (after_first (λ c. c == 95) word) (before_first (λ c. c == 95) word)
 
@@ -44,7 +44,7 @@ called_with None digits = None
 called_with (Some place) None = Some (place, None)
 called_with (Some place) (Some digits) = option_map (λ number. (place, Some number)) (hexadecimal_in digits)
 
--- what stands behind the first colon, where there is one
+-- what stands after the first colon, where there is one
 abbrev pub behind_colon : Text → Option Text
 behind_colon word =
     if nat_lt (position_or_len (λ c. c == 58) word) (length word) then Some (after_first (λ c. c == 58) word) else None

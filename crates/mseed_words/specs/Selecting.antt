@@ -20,7 +20,7 @@ abbrev pub instant_in : Option Text → Option (Option ℤ)
 instant_in None = Some None
 instant_in (Some word) = option_map Some (time_of word)
 
--- a window has its end behind its begin, where both are given
+-- a window has its end after its begin, where both are given
 abbrev pub is_window : Option ℤ → Option ℤ → Bool
 is_window None until = true
 is_window (Some from) None = true

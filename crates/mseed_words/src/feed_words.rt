@@ -279,7 +279,7 @@ fn called_in(naming: Naming, word: &str) -> Option<(Place, Option<u32>)>
     }
 }
 
-/// The place that a word names, with the number behind its first colon, if there is one.
+/// The place that a word names, with the number after its first colon, if there is one.
 fn numbered_in(word: &str) -> Option<(Place, Option<u32>)>
     ensures value { result ≡ numbered_in word.now }
     ensures range { IfSome result (λ p. IfSome p.1 (λ n. n < 2 ^ 24)) }

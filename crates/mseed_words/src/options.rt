@@ -11,7 +11,7 @@ use clap::builder::ValueParser;
 use clap::{Arg, ArgAction, Command, value_parser};
 use std::alloc::{AllocError, Global};
 
-/// What has a name on the command line, behind `--`.
+/// What has a name on the command line, after `--`.
 #[derive(Clone, Copy)]
 enum Named {
     Channels,
@@ -40,7 +40,7 @@ enum Named {
     Clients,
 }
 
-/// All of them, in the order of the help.
+/// All that has a name on the command line, in the order of the help.
 const ALL: [Named; 24] = [
     Named::Channels,
     Named::From,
@@ -68,7 +68,7 @@ const ALL: [Named; 24] = [
     Named::Clients,
 ];
 
-/// What stands behind the name.
+/// What stands after the name.
 #[derive(Clone, Copy)]
 enum Kind {
     /// Nothing.
@@ -112,7 +112,7 @@ impl Named {
         }
     }
 
-    /// What stands behind it.
+    /// What stands after it.
     fn kind(self) -> Kind
         ensures { result ≡ kind_of self }
     {
@@ -215,7 +215,7 @@ fn bare_command<'a>(alloc: Global) -> Command<'a>
         .no_binary_name(true)
 }
 
-/// With the place of the command's word, and further places.
+/// A command with two arguments that have no name: the command's word, and files or further places.
 fn with_places<'a>(alloc: Global, command: Command<'a>) -> Result<Command<'a>, AllocError>
     ensures { IfOk result (λ c. app_of c ≡ with_rule (with_rule (app_of command.entry) word_rule) places_rule) }
 {
@@ -226,7 +226,7 @@ fn with_places<'a>(alloc: Global, command: Command<'a>) -> Result<Command<'a>, A
     command.arg(word)?.arg(places)
 }
 
-/// With all of these.
+/// A command with these arguments, in their order.
 fn with_all<'a>(
     alloc: Global,
     command: Command<'a>,
@@ -241,7 +241,7 @@ fn with_all<'a>(
     Ok(command)
 }
 
-/// With an argument behind `--`, by its name and what stands behind it.
+/// A command with one more argument after `--`, by its name and what stands after that.
 fn with_argument<'a>(
     alloc: Global,
     command: Command<'a>,
@@ -254,7 +254,7 @@ fn with_argument<'a>(
     command.arg(argument(alloc, name, kind, help))
 }
 
-/// The argument.
+/// An argument after `--`, by its name, what stands after that, and what the help says of it.
 fn argument<'a>(alloc: Global, name: &'a str, kind: Kind, help: &'a str) -> Arg<'a>
     ensures rule { rule_of result ≡ rule_by kind name.entry.now }
     ensures global { result.global ≡ false }
@@ -267,7 +267,7 @@ fn argument<'a>(alloc: Global, name: &'a str, kind: Kind, help: &'a str) -> Arg<
     }
 }
 
-/// The numbers from 1 to one.
+/// A parser of the numbers from 1 to the greatest that can be given.
 fn numbers<'a>(most: u32) -> ValueParser<'a>
     ensures { result ≡ Signed (pos 1) (pos most) }
 {

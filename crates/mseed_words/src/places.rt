@@ -37,7 +37,7 @@ impl Places {
         }
     }
 
-    /// How many there are.
+    /// The number of places, 1 to 16.
     pub(crate) fn len(&self) -> usize
         ensures value { result ≡ length self.now }
         ensures some { 1 ≤ result }
@@ -46,21 +46,22 @@ impl Places {
         self.count
     }
 
-    /// All of them, in the order in which they came.
+    /// The places in the order of the words, each with the number of the record that is wanted first of it, where one
+    /// is given.
     pub fn as_slice(&self) -> &[(Place, Option<u32>)]
         ensures { result.now ≡ self.now }
     {
         &self.items[..self.count]
     }
 
-    /// Whether this place is one of them, whatever number it has.
+    /// Whether a place is one of those that were added, whatever number it has.
     pub(crate) fn has(&self, place: Place) -> bool
         ensures { result ≡ has_place place self.now }
     {
         self.as_slice().iter().any(|called| called.0 == place)
     }
 
-    /// Adds a place.
+    /// Adds a place, as the last one, with the number of the record that is wanted first of it, where one is given.
     pub(crate) fn push(&mut self, place: (Place, Option<u32>))
         requires { length self.old < 16 }
         ensures { self.new ≡ self.old ++ place ∷ [] }

@@ -3,9 +3,9 @@
 /// Why the words of a command line request nothing that can be done.
 #[derive(Debug, Drop)]
 pub enum Refusal {
-    /// They aren't those of a command line, or they ask for the help or the version. This text is for the user.
+    /// The words aren't those of a command line, or ask for the help or the version. The text is for the user.
     Text(String),
-    /// They are those of a command line, but request nothing that there is.
+    /// The words are those of a command line, but request nothing that there is.
     NoRequest,
     /// An allocation was refused.
     Memory,

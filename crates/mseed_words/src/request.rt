@@ -11,7 +11,7 @@ pub struct Command<'a> {
     pub request: Request,
     /// Which records of the input it is done with, where the words say: else with all of them.
     pub selector: Option<Selector<'a>>,
-    /// The words that name the files whose bytes, one behind another, are the input; `-` is standard input. Without
+    /// The words that name the files whose bytes, one after another, are the input; `-` is standard input. Without
     /// one standard input is read.
     pub files: Vec<&'a str>,
 }
@@ -21,17 +21,17 @@ pub struct Command<'a> {
 pub enum Request {
     /// Audit the archive.
     Audit,
-    /// Audit it, and tell each finding.
+    /// Audit the archive, and report each finding.
     AuditEach,
-    /// Audit it, and write its part.
+    /// Audit the archive, and write its part.
     AuditPart,
-    /// Audit it, tell each finding, and write its part.
+    /// Audit the archive, report each finding, and write its part.
     AuditPartEach,
     /// Join the parts, and write what the audit of their archives says.
     Join(Joining),
-    /// Join them so, and tell each border with a finding.
+    /// Join the parts, write what the audit of their archives says, and report each border with a finding.
     JoinEach(Joining),
-    /// Join them, and write their joint part.
+    /// Join the parts, and write their joint part.
     JoinPart(Joining),
     /// List the records.
     Show,
@@ -39,7 +39,7 @@ pub enum Request {
     Select,
     /// Pack the archive anew.
     Repack(Packing),
-    /// Pack it anew, each channel as a list of stretches.
+    /// Pack the archive anew, each channel as a list of stretches.
     RepackStretches {
         /// What records it is packed into.
         packing: Packing,
@@ -57,29 +57,29 @@ pub enum Request {
 /// How parts are joined.
 #[derive(Clone, Copy)]
 pub struct Joining {
-    /// Whether parts behind one that ends with a fault count.
+    /// Whether parts after one that ends with a fault count.
     pub past_faults: bool,
-    /// How many parts there have to be, if that is given: 1 to 999,999,999.
+    /// The number of parts that there have to be, where it is given: 1 to 999,999,999.
     pub expected: Option<u64>,
 }
 
 /// What records an archive is packed into.
 #[derive(Clone, Copy)]
 pub struct Packing {
-    /// They have 2 to the power of this many bytes.
+    /// The length of a record, as an exponent of 2: 7 stands for 128 bytes, and 12 for 4,096.
     pub exponent: u8,
-    /// How their samples are encoded.
+    /// The encoding of the samples.
     pub encoding: Encoding,
 }
 
 /// Where connections are taken, which is an [`Address`] of this machine, or whom to ask for them, which is a [`Host`].
 #[derive(Clone, Copy)]
 pub struct Endpoint<H> {
-    /// The machine.
+    /// The machine: this one's address, or the host that is asked.
     pub host: H,
-    /// The port there.
+    /// The port there, 1 to 65,535.
     pub port: u16,
-    /// How long the other side may be silent where it has something to say.
+    /// How long the other side may be silent where it has something to say: up to a day.
     pub timeout: Timeout,
 }
 
@@ -88,13 +88,13 @@ pub struct Endpoint<H> {
 pub struct Serving {
     /// Where connections are taken.
     pub listener: Endpoint<Address>,
-    /// So many connections are served, one after another.
+    /// The number of connections that are served, one after another: 1 to 1,000,000.
     pub connections: u32,
-    /// Each place's ring keeps so many records.
+    /// The number of records that the ring of each place keeps: 1 to 1,000,000.
     pub capacity: u32,
-    /// The first record of each place has this number.
+    /// The number of the first record of each place, below 2^24.
     pub first: u32,
-    /// Whose records are served. None has a number of its own.
+    /// The places whose records are served, none with a number of its own.
     pub places: Places,
 }
 
@@ -104,21 +104,22 @@ pub struct LiveServing {
     /// Where connections are taken, and the rings. Its count of connections is that of a `serve` that names none, and
     /// isn't requested.
     pub serving: Serving,
-    /// So many connections stand at once.
+    /// The number of connections that stand at once: 1 to 1,024.
     pub clients: u32,
 }
 
 /// What is fetched.
 #[derive(Drop)]
 pub struct Fetching {
-    /// Whom to ask.
+    /// The host that is asked, and at which port.
     pub server: Endpoint<Host>,
-    /// At most so many connections are tried.
+    /// The most connections that are tried: 1 to 1,000,000.
     pub tries: u32,
-    /// Whose records are requested, and from which number on.
+    /// The places whose records are requested, each with the number of the first one that is wanted, where that is
+    /// given.
     pub places: Places,
     /// Whether standard error is informed of the first record of each place and, at the end, how to go on.
     pub tell_next: bool,
-    /// Whether records behind a hole are taken.
+    /// Whether records after a hole are taken.
     pub holes: bool,
 }

@@ -69,7 +69,7 @@ fn selector_in<'a>(matches: &ArgMatches<'a>) -> Option<Selector<'a>>
     selector_by(channels, from, until)
 }
 
-/// What asks for some channels and a window, if its end is behind its begin.
+/// What asks for some channels and a window, if its end is after its begin.
 fn selector_by<'a>(
     channels: Option<Patterns<'a>>,
     from: Option<Micros>,

@@ -28,8 +28,7 @@ use mseed_pack::Encoding;
 use std::alloc::Global;
 
 /// Reads the words of a command line, those after the program's name: what they request, of which records, and of which
-/// files. A word
-/// that isn't text stands for itself by another that can be no word.
+/// files. For a word that isn't text another one has to stand that can be no word.
 ///
 /// # Errors
 ///

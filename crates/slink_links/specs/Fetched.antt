@@ -116,7 +116,7 @@ abbrev pub next_lines : Bool → Wants → List (List ℕ)
 next_lines false wants = []
 next_lines true wants = next_line_of wants ∷ []
 
--- what is wanted next behind these records: what the client wants, and a record again that wasn't taken whole
+-- what is wanted next after these records: what the client wants, and a record again that wasn't taken whole
 abbrev pub left_behind : Bool → FetchEnd → List Numbered → Wants → Wants → Wants
 left_behind firsts end records old new =
     wants_left (is_unwritten end) (telling_behind (telling_of old firsts) records).last new
@@ -182,7 +182,7 @@ pub record HasTurned (end : Option FetchEnd) (old new : Listening) (read_old rea
 abbrev pub IsReading : Listening → Type 0
 IsReading now = (start : Talk) × (stream : List ℕ) × (events : List Event) × Reads start stream events now
 
--- A link was fetched over: a client begins on it, reads a prefix of what came over it, and tells of these events, whose
+-- A link was fetched over: a client begins on it, reads a prefix of what came over it, and reports these events, whose
 -- records the output accepted.
 pub record HasReadLink (old new : Listening) (read_old read_new : BytesRead)
     (written_old written_new : BytesWritten) : Type 0 where
@@ -201,7 +201,7 @@ pub record IsTurnBy (end : Option FetchEnd) (old new : Fetching) (before after :
   pub takes : TakesTurn turn old new before after
   pub ends : end ≡ end_by turn
 
--- So many turns were taken with a link, and the fetch goes on behind each.
+-- So many turns were taken with a link, and the fetch goes on after each.
 pub data HasTakenTurns (first : Fetching) (before : BytesRead) : ℕ → Fetching → BytesRead → Type 0 where
   none : HasTakenTurns first before 0 first before
   more : (n : ℕ) (now new : Fetching) (mid after : BytesRead) → HasTakenTurns first before n now mid
@@ -252,7 +252,7 @@ pub data HasReadLinks : FetchEnd → Listening → Listening → List Exchange �
   over_the_last : (end : FetchEnd) (old new : Listening) (link : Exchange) (a b : BytesWritten)
       → WasFetchedOver end old new link a b → HasReadLinks end old new (link ∷ []) a b
 
--- Some links were given back behind those before, and these were fetched over in turn.
+-- Some links were given back after those before, and these were fetched over in turn.
 pub record HasReadEach (end : FetchEnd) (old new : Listening) (before after : List Exchange)
     (written_old written_new : BytesWritten) : Type 0 where
   pub links : List Exchange
@@ -273,14 +273,14 @@ pub data IsTry (end : FetchEnd) (received : Bool) (old new : Listening) (a b : B
         → (end ≡ LinkFailed → HasBrought received (records_reported over.read.reported))
         → IsTry end received old new a b (link ∷ [])
 
--- A try, whose link was given back behind those before.
+-- A try, whose link was given back after those before.
 pub record HasTried (end : FetchEnd) (received : Bool) (old new : Listening) (before after : List Exchange)
     (a b : BytesWritten) : Type 0 where
   pub links : List Exchange
   pub given_back : after ≡ before ++ links
   pub tried : IsTry end received old new a b links
 
--- Tries that failed, one behind another: of each, whether it brought a record, and the links that were had.
+-- Tries that failed, one after another: of each, whether it brought a record, and the links that were had.
 pub data HaveFailed : List Bool → Listening → Listening → List Exchange → BytesWritten → BytesWritten → Type 0 where
   none : (now : Listening) (written : BytesWritten) → HaveFailed [] now now [] written written
   one_more : (tries : List Bool) (received : Bool) (old now new : Listening) (links others : List Exchange)
@@ -297,7 +297,7 @@ pub record Calls : Type 0 where
 abbrev pub calls_of : ℕ → List Exchange → List ℕ → Calls
 calls_of dials given_back called = record { dials = dials; given_back = given_back; called = called }
 
--- No try was made; or tries that failed, behind each of which was paused, and a last one.
+-- No try was made; or tries that failed, after each of which was paused, and a last one.
 pub data HasPaused (end : FetchEnd) (old new : Listening) (a b : BytesWritten) (before after : Calls) : Type 0 where
   untried : end ≡ LinkFailed → after ≡ before → HasPaused end old new a b before after
   tried : (tries : List Bool) (received : Bool) (now : Listening) (written : BytesWritten)

@@ -18,14 +18,14 @@ use Rattle.mseed_stream.specs.Telling.{Tells}
 abbrev pub has_failed : BytesRead → BytesWritten → Bool
 has_failed read written = nat_lt 0 (read.failures + written.failures)
 
--- So many turns were taken with a link, and the session goes on behind each.
+-- So many turns were taken with a link, and the session goes on after each.
 pub data HasTakenTurns (feed : List Window) (first : Attending) (before : BytesRead) : ℕ → Attending → BytesRead
     → Type 0 where
   none : HasTakenTurns feed first before 0 first before
   more : (n : ℕ) (now new : Attending) (mid after : BytesRead) → HasTakenTurns feed first before n now mid
       → Attends feed now new mid after Goes → HasTakenTurns feed first before (n + 1) new after
 
--- Turns were taken up to one behind which nothing more is to be sent, or in which the link failed; or 2^40 of them.
+-- Turns were taken up to one after which nothing more is to be sent, or in which the link failed; or 2^40 of them.
 pub data HasTakenAll (feed : List Window) (first : Attending) (before : BytesRead) : Result ⊤ LinkFault → Attending
     → BytesRead
     → Type 0 where
@@ -56,7 +56,7 @@ abbrev pub WasServed : List Window → Exchange → Type 0
 WasServed feed link = (result : Result ⊤ LinkFault) × IsServed feed result nothing_read link.read nothing_written
     link.written
 
--- Some links were given back behind those before, and each of them was served.
+-- Some links were given back after those before, and each of them was served.
 pub record HasServedEach (feed : List Window) (before after : List Exchange) : Type 0 where
   pub links : List Exchange
   pub given_back : after ≡ before ++ links

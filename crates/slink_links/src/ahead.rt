@@ -9,7 +9,7 @@ use std::marker::Model;
 const ROOM: usize = 1 << 15;
 
 /// A stream of which all that is there is read at once, and handed on piece by piece. It isn't called while something
-/// is left to tell, so that a client that takes a packet at a time costs the system one read for many.
+/// is left to hand on, so that a client that takes a packet at a time costs the system one read for many.
 #[derive(Drop)]
 pub(crate) struct Ahead<S> {
     stream: S,

@@ -38,11 +38,11 @@ pub enum FetchEnd {
 
 /// Fetches over one link after another, at most so many, until the server says that it has sent all that was requested,
 /// and gives each back. A `dial` that fails uses up a try. Each record goes to the output as soon as it is reported.
-/// Behind each try but the last it waits by `waits`: a tenth of a second, and then twice as long each time, up to five
+/// After each try but the last it waits by `waits`: a tenth of a second, and then twice as long each time, up to five
 /// seconds; a received record begins anew.
 ///
 /// The exit status is answered: 0, or 2 with a line on `errors` that says why not all came. Before each record that
-/// comes behind a hole a line is written there; with `tell_next` also before the first record of each place, and, at
+/// comes after a hole a line is written there; with `tell_next` also before the first record of each place, and, at
 /// the end, the words of a fetch that goes on.
 pub fn fetch_all<D: Dial, P: Pause, W: Sink, E: Sink>(
     client: &mut Client,
@@ -57,7 +57,7 @@ pub fn fetch_all<D: Dial, P: Pause, W: Sink, E: Sink>(
     ensures dials { D.calls dialler.new ≤ D.calls dialler.old + tries }
     ensures done { result ≡ 0 → client.new.talk.stage ≡ Stage.Ended Ending.End }
     // What the client reported went to the output, and the status and the line are by how it ended. Each link was
-    // fetched over before it was given back, one behind another, and all but the last one failed. Between the tries it
+    // fetched over before it was given back, one after another, and all but the last one failed. Between the tries it
     // paused, by which of them brought a record.
     ensures end { (end : FetchEnd)
         × (fetched : HasFetched end client.old client.new (W.written output.old) (W.written output.new))
@@ -84,7 +84,7 @@ pub fn fetch_all<D: Dial, P: Pause, W: Sink, E: Sink>(
     fetch_status(end)
 }
 
-/// Tells the words of a fetch that goes on, where they are requested.
+/// Writes the words of a fetch that goes on, where they are requested.
 fn report_next_of<E: Sink>(
     is_called: bool,
     reporter: &Reporter,
@@ -101,7 +101,7 @@ fn report_next_of<E: Sink>(
     }
 }
 
-/// Tells why not all came.
+/// Writes why not all came.
 fn report_end<E: Sink>(end: FetchEnd, errors: &mut E)
     ensures { ReportsOfFetch end (E.written errors.old) (E.written errors.new) }
 {
@@ -217,7 +217,7 @@ pub fn fetch_link<S: Settle, W: Sink>(client: &mut Client, link: &mut S, output:
     fetch_link_reporting(client, link, output, &mut nowhere, &mut reporter)
 }
 
-/// Fetches over one link as [`fetch_link`], tells of each record before it is written, and notes that the output
+/// Fetches over one link as [`fetch_link`], reports each record before it is written, and notes that the output
 /// accepted one.
 fn fetch_link_reporting<S: Settle, W: Sink, E: Sink>(
     client: &mut Client,
@@ -293,7 +293,7 @@ fn take_turn<S: Settle, W: Sink, E: Sink>(
     end_by(&turn)
 }
 
-/// Tells the link where the handshake is over.
+/// Informs the link where the handshake is over.
 fn settle<S: Settle>(client: &Client, link: &S) {
     if client.is_streaming() {
         link.settle();

@@ -60,7 +60,7 @@ impl<S: Write> Gathering<S> {
         self.stream.write_all(&self.bytes[..count])
     }
 
-    /// Writes these bytes behind what was gathered, or so many of them as the stream takes at once.
+    /// Writes these bytes after what was gathered, or so many of them as the stream takes at once.
     ///
     /// # Errors
     ///

@@ -9,9 +9,9 @@ use std::time::{Clock, Duration, Instant};
 /// What a call that waits may take, if there is a bound.
 #[derive(Clone, Copy)]
 pub(crate) struct Limits {
-    /// The handshake as a whole, and behind it a write.
+    /// The handshake as a whole, and after it a write.
     pub(crate) all: Option<Duration>,
-    /// A read behind the handshake.
+    /// A read after the handshake.
     pub(crate) reads: Option<Duration>,
 }
 

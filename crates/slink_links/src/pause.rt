@@ -24,7 +24,7 @@ pub(crate) struct Sleeper<'a, C: Clock> {
 }
 
 impl<'a, C: Clock> Sleeper<'a, C> {
-    /// It had no call yet.
+    /// A sleeper by a clock, which hasn't waited yet.
     pub(crate) fn new(clock: &'a C) -> Sleeper<'a, C> {
         Sleeper {
             clock,
@@ -48,7 +48,7 @@ const FIRST: [u8; 6] = [1, 2, 4, 8, 16, 32];
 /// The longest pause.
 const LONGEST: u8 = 50;
 
-/// How long a pause is behind so many.
+/// How long a pause is after so many.
 fn pause_behind(count: usize) -> u8
     ensures { result ≡ pause_behind count }
 {
@@ -58,7 +58,7 @@ fn pause_behind(count: usize) -> u8
     }
 }
 
-/// Waits behind a try that brought a record or didn't, and behind so many pauses. The answer is behind how many the
+/// Waits after a try that brought a record or didn't, and after so many pauses. The answer is after how many the
 /// next one comes.
 pub(crate) fn wait_behind<P: Pause>(received: bool, count: usize, waits: &mut P) -> usize
     requires { count + 1 < 2 ^ 64 }

@@ -10,7 +10,7 @@ pub struct ServePlan<A: Allocator = Global> {
     pub address: Address,
     /// The port there.
     pub port: u16,
-    /// So many connections, one after another.
+    /// The number of connections that are served, one after another.
     pub connections: u32,
     /// How long a client may be silent that has something to say.
     pub timeout: Timeout,
@@ -21,11 +21,11 @@ pub struct ServePlan<A: Allocator = Global> {
 /// How records are to be fetched.
 #[derive(Drop)]
 pub struct FetchPlan {
-    /// Whom to ask.
+    /// The host that is asked for links.
     pub host: Host,
     /// The port there.
     pub port: u16,
-    /// At most so many connections.
+    /// The most connections that are tried.
     pub tries: u32,
     /// How long the server may be silent.
     pub timeout: Timeout,

@@ -103,7 +103,7 @@ pub fn serve_link<B: Allocator, S: Settle>(feed: &Feed<B>, link: &mut S) -> Resu
     Ok(())
 }
 
-/// Tells the link where the handshake is over.
+/// Informs the link where the handshake is over.
 fn settle<S: Settle>(session: &Session, link: &S) {
     if session.is_streaming() {
         link.settle();

@@ -1,4 +1,4 @@
--- Numbers in hexadecimal digits, as packets and commands tell the number of a record (SeedLink 3, sequence numbers).
+-- Numbers in hexadecimal digits, as packets and commands give the number of a record (SeedLink 3, sequence numbers).
 use Rattle.std.specs.Prelude.{◌≡◌, ℕ, zero, suc, ◌+◌, ◌/◌, ◌%◌, ◌^◌, ◌<◌, List, [], ◌∷◌, ◌++◌, length, map, nat_lt}
 use Rattle.std.specs.Prelude.{if◌then◌else◌}
 use Rattle.std.specs.Char.{to_ascii_uppercase}

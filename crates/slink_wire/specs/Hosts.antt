@@ -4,7 +4,7 @@ use Rattle.std.specs.Prelude.{if◌then◌else◌}
 use Rattle.slink_wire.specs.declared.host.Name.{Name}
 use Rattle.slink_wire.specs.declared.host.Timeout.{Timeout}
 
--- a text, with zeros behind it up to a width
+-- a text, with zeros after it up to a width
 abbrev pub padded : ℕ → List ℕ → List ℕ
 padded width text = text ++ replicate (width - length text) 0
 

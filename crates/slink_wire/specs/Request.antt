@@ -8,7 +8,7 @@ use Rattle.slink_wire.specs.Hexadecimal.{hexadecimal}
 use Rattle.slink_wire.specs.Place.{IsField, code_in}
 use Rattle.slink_wire.specs.Reply.{line_end}
 
--- a number behind a keyword
+-- a number after a keyword
 abbrev pub number_bytes : Option ℕ → List ℕ
 number_bytes None = []
 number_bytes (Some n) = 32 ∷ hexadecimal 6 n

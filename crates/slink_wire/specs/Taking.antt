@@ -1,4 +1,4 @@
--- What a call that takes bytes of a stream tells.
+-- What a call that takes bytes of a stream says.
 use Rattle.std.specs.Prelude.{◌≡◌, ℕ, true, false, List, [], ◌∷◌, ◌++◌}
 use Rattle.slink_wire.specs.declared.lines.What.{What}
 use Rattle.slink_wire.specs.declared.lines.What.TheVariants.{More, Line, TooLong}
@@ -16,7 +16,7 @@ pub record Call : Type 0 where
   pub bytes : List ℕ
   pub what : What
 
--- calls one after another, behind this stream
+-- calls one after another, after this stream
 abbrev pub AreCalls : List ℕ → List Call → Type 0
 AreCalls stream [] = Unit {0}
 AreCalls stream (call ∷ calls) = Tells call.what stream (stream ++ call.bytes) × AreCalls (stream ++ call.bytes) calls

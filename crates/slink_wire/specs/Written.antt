@@ -1,4 +1,4 @@
--- Lines as they are written: each with CR LF behind it.
+-- Lines as they are written: each with CR LF after it.
 use Rattle.std.specs.Prelude.{◌≡◌, ℕ, ◌==◌, ◌≤◌, not, IsTrue, false, List, [], ◌∷◌, ◌++◌, length, take}
 use Rattle.std.specs.List.{list_all}
 use Rattle.slink_wire.specs.Lines.{Spelled, lines_of, stripped}
@@ -19,7 +19,7 @@ abbrev pub written_bytes : List (List ℕ) → List ℕ
 written_bytes [] = []
 written_bytes (line ∷ lines) = line ++ 13 ∷ 10 ∷ written_bytes lines
 
--- lines, and nothing behind them
+-- lines, and nothing after them
 abbrev pub only_lines : List (List ℕ) → Spelled
 only_lines lines = record { lines = lines; begun = []; is_too_long = false }
 

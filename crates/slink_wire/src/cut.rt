@@ -34,7 +34,7 @@ pub(crate) fn first_other(bytes: &[u8], byte: u8) -> usize
     place_of_other(bytes, byte).unwrap_or(bytes.len())
 }
 
-/// What stands before and behind the first such byte.
+/// What stands before and after the first such byte.
 pub(crate) fn parts(bytes: &[u8], byte: u8) -> Option<(&[u8], &[u8])>
     ensures { MatchOption result
         (IsTrue (list_all (λ b. not (b == byte)) bytes.now))

@@ -10,7 +10,7 @@ use std::time::Duration;
 /// An IPv4 address.
 #[derive(Clone, Copy, Debug, PartialEq, Eq)]
 pub struct Address {
-    /// Its four numbers, as they are written.
+    /// The four numbers of the address, in the order in which they are written.
     pub octets: [u8; 4],
 }
 
@@ -28,7 +28,7 @@ impl Address {
 /// The most bytes that a name has.
 const LONGEST: usize = 253;
 
-/// A text with zeros behind it, up to an array's length.
+/// A text with zeros after it, up to an array's length.
 fn padded<const N: usize>(text: &[u8]) -> [u8; N]
     requires { length text.now ≤ N }
     ensures { result ≡ padded N text.now }

@@ -7,7 +7,7 @@ ghost use Rattle.slink_wire.specs.Taking.{Tells};
 use arrayvec::ArrayVec;
 use std::marker::Model;
 
-/// What the bytes that a call accepted tell.
+/// What the bytes that a call accepted say.
 #[derive(Debug, Drop)]
 pub enum What {
     /// No line ended.
@@ -18,12 +18,12 @@ pub enum What {
     TooLong,
 }
 
-/// How many bytes a call accepted, and what they tell.
+/// How many bytes a call accepted, and what they say.
 #[derive(Debug, Drop)]
 pub struct Took {
     /// The number of bytes that were taken.
     pub used: usize,
-    /// What they tell.
+    /// What they say.
     pub what: What,
 }
 
@@ -92,7 +92,7 @@ impl Lines {
         // The answer is what these bytes add to what the stream spells.
         ensures reported { (stream : List ℕ) → IsHeld self.old stream
             → Tells result.what stream (stream ++ take result.used piece.now) }
-        // Fewer of them add nothing, so that it stops where there is something to tell.
+        // Fewer of them add nothing, so that it stops where there is something to say.
         ensures first { (stream : List ℕ) (k : ℕ) → IsHeld self.old stream → k < result.used
             → TellsNothing stream (stream ++ take k piece.now) }
         ensures whole { result.what ≡ What.More → result.used ≡ length piece.now }

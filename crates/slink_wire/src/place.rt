@@ -76,7 +76,7 @@ fn are_same(bytes: &[u8], field: &[u8]) -> bool
     true
 }
 
-/// Puts bytes behind a label.
+/// Puts bytes after a label.
 fn put(label: &mut ArrayVec<u8, 8>, bytes: &[u8])
     requires { length label.old.items + length bytes.now ≤ 8 }
     ensures { label.new.items ≡ label.old.items ++ bytes.now }

@@ -5,11 +5,11 @@ ghost use Rattle.slink_wire.specs.Reply.{reply_bytes};
 /// What a server answers to a line.
 #[derive(Clone, Copy, Debug, PartialEq, Eq)]
 pub enum Reply {
-    /// No byte.
+    /// No byte is answered.
     Nothing,
     /// The command is taken.
     Ok,
-    /// It isn't.
+    /// The command isn't taken.
     Error,
     /// The server's name, in two lines.
     Hello,

@@ -13,15 +13,15 @@ use arrayvec::ArrayVec;
 pub enum Request {
     /// A station in its network is chosen.
     Station(Place),
-    /// Its records as they come, from the next one on or from a number.
+    /// The records of the station as they come, from the next one on or from a number.
     Data(Option<u32>),
-    /// Its records that are there, from the oldest one on or from a number.
+    /// The records of the station that are there, from the oldest one on or from a number.
     Fetch(Option<u32>),
     /// The records are to be sent.
     End,
 }
 
-/// Puts bytes behind a line.
+/// Puts bytes after a line.
 fn put(line: &mut ArrayVec<u8, 32>, bytes: &[u8])
     requires { length line.old.items + length bytes.now ≤ 32 }
     ensures { line.new.items ≡ line.old.items ++ bytes.now }

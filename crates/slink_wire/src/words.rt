@@ -13,7 +13,7 @@ pub(crate) enum Words<'a> {
     Others,
 }
 
-/// The first word of a line, and what stands behind it.
+/// The first word of a line, and what stands after it.
 fn first_word(line: &[u8]) -> Option<(&[u8], &[u8])>
     ensures { MatchOption result (words line.now ≡ []) (λ p. words line.now ≡ p.0.now ∷ words p.1.now) }
 {

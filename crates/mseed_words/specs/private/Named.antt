@@ -1,4 +1,4 @@
--- What has a name on the command line: the name, what stands behind it, and the rule of both.
+-- What has a name on the command line: the name, what stands after it, and the rule of both.
 use Rattle.std.specs.Prelude.{pos, codes}
 use Rattle.clap.specs.Walk.{Rule, Text}
 use Rattle.clap.specs.declared.builder.value_parser.ValueParser.TheVariants.{Signed}

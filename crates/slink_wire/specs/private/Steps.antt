@@ -4,7 +4,7 @@ use Rattle.slink_wire.specs.declared.lines.What.{What}
 use Rattle.slink_wire.specs.declared.lines.What.TheVariants.{More, Line, TooLong}
 use Rattle.slink_wire.specs.Lines.{Held}
 
--- what is held after a byte, and what it tells: a CR, an LF, any other
+-- what is held after a byte, and what it says: a CR, an LF, any other
 abbrev pub begun : List ℕ → Held
 begun line = record { begun = line; is_too_long = false }
 
