@@ -1,29 +1,33 @@
 -- The trails of an archive's channels, and what is found and written of their records.
-use Rattle.std.proofs.Common.{◌≡◌, ℕ, suc, ◌+◌, ◌<◌, ◌≤◌, ◌^◌, Bool, true, false, if◌then◌else◌, List, [], ◌∷◌, ◌++◌}
-use Rattle.std.proofs.Common.{length, map, take, drop, get_or, sym, ap, subst, ◌∙◌, arith, append_assoc, All}
+use Rattle.std.proofs.Common.{◌≡◌, ◌≢◌, ℕ, suc, ◌+◌, ◌<◌, ◌≤◌, ◌^◌, Bool, true, false, if◌then◌else◌, List, []}
+use Rattle.std.proofs.Common.{◌∷◌, ◌++◌, length, map, take, drop, get_or, sym, ap, subst, ◌∙◌, arith, append_assoc, All}
 use Rattle.std.specs.List.{AllByRecursion}
 use Rattle.std.proofs.Math.Seq.{take-suc}
 use Rattle.std.proofs.lemmas.List.{get_or_default, length-map, take-append-drop, take_all, take_more}
-use Rattle.std.proofs.lemmas.List.Elements.{All-from_recursion, All-more, recursion_from_All}
+use Rattle.std.proofs.lemmas.List.Elements.{All-from_recursion, recursion_from_All}
 use Rattle.mseed_record.specs.View.{View}
 use Rattle.mseed_record.specs.Viewing.{view_of}
 use Rattle.mseed_stream.specs.Device.{BytesWritten}
 use Rattle.mseed_audit.specs.Channels.{is_of}
+use Rattle.mseed_audit.specs.Follows.{IsSound}
 use Rattle.mseed_audit.proofs.Behind.{views_are}
 use Rattle.mseed_pack.specs.declared.fault.PackFault.{PackFault}
 use Rattle.mseed_pack.specs.declared.options.Options.{Options}
 use Rattle.mseed_repack.specs.Repack.{AreContinuous, ArePackedInto, AreTexts, CanBePacked, CantBePacked, Channel}
-use Rattle.mseed_repack.specs.Repack.{IsFirst, IsPartPacked, IsTextUpTo, StretchFits, StretchMisfits, Wrote}
-use Rattle.mseed_repack.specs.Repack.{records_in}
-use Rattle.mseed_repack.specs.private.Archives.{HasRoomForSeries, IsAudited, IsTrailOf, records_on}
-use Rattle.mseed_repack.specs.private.Planning.{CanBeWritten, IsFirstMisfit, IsPartOn, IsReadable, IsTextOn, planned}
-use Rattle.mseed_repack.specs.private.Planning.{stretches_by, whole}
-use Rattle.mseed_repack.specs.private.Reading.{channel_in, samples_written, steps_of}
+use Rattle.mseed_repack.specs.Repack.{IsFirst, IsPartPacked, IsTextUpTo, Wrote, records_in}
+use Rattle.mseed_repack.specs.private.Archives.{IsAudited, IsTrailOf, records_on}
+use Rattle.mseed_repack.specs.private.Planning.{AreReady, AreWritable, CanBeWritten, IsPartOn, IsTextOn, StandsAs}
+use Rattle.mseed_repack.specs.private.Planning.{counts_of, planned, stretches_by}
+use Rattle.mseed_repack.specs.private.Reading.{channel_in, steps_of}
+use Rattle.mseed_repack.specs.private.Restretching.{IsNoMisfit}
+use Rattle.mseed_repack.specs.declared.plan.Plan.{Plan}
+use Rattle.mseed_repack.specs.declared.standing.Standing.{Standing}
+use Rattle.mseed_repack.specs.declared.standing.Standing.TheVariants.{Fit, Misfit}
+use Rattle.mseed_repack.specs.declared.stretching.Cutting.TheVariants.{Whole}
 use Rattle.mseed_repack.specs.declared.archive.Archive.{Archive}
 use Rattle.mseed_repack.specs.declared.archive.Trail.{Trail}
-use Rattle.mseed_repack.proofs.Judged.{written_at}
-use Rattle.mseed_repack.proofs.Planning.{as_planned, each_whole, planned_at, roomier, whole_each, whole_misfit}
-use Rattle.mseed_repack.proofs.Planning.{whole_parts, whole_planned, whole_texts, wrote_as}
+use Rattle.mseed_repack.proofs.Planning.{as_planned, as_standing, misfits_whole, planned_at, whole_leading}
+use Rattle.mseed_repack.proofs.Planning.{whole_parts, whole_standing, whole_texts, written_at, wrote_as}
 use Rattle.mseed_repack.proofs.Repacks.{first_at}
 use Rattle.mseed_repack.proofs.Standings.{steps_gathered}
 use Rattle.mseed_repack.proofs.Texts.{wrote_more, wrote_part}
@@ -87,109 +91,64 @@ few_trail a k t w h =
     let few = h.few in
     omega (arith, most, few)
 
--- each channel of continuous ones can be read, where there is room for the longest and for all leap seconds
-pub series_readable : (a : Archive) (room places : ℕ) → IsAudited a
-    → AreContinuous (map view_of a.views.now) a.channels.now
-    → All (λ (c : Channel). samples_written c.1 ≤ room) a.channels.now
-    → steps_of (map view_of a.views.now) ≤ places
-    → All (λ (c : Channel). IsReadable room places (records_in (map view_of a.views.now) c.0)) a.channels.now
-series_readable a room places h continuous most steps = λ k d lt.
-    let here = continuous k d lt in
-    let written = written_at (views_of a) a.channels.now k d h.verdicts continuous lt in
-    let fits = most k d lt in
-    let key : List ℕ = (get_or a.channels.now k d).0 in
-    record {
-      some = here.some;
-      sound = here.each;
-      samples_fit = omega (arith, written, fits);
-      steps_fit = steps_gathered key (records_in (views_of a) key) (views_of a) places (views_are key (views_of a))
-          steps;
-    }
-
--- a channel that is packed whole can be read
-pub readable_whole : (a : Archive) (k room places more further : ℕ) (t : Trail) → k < length a.channels.now
-    → IsTrailOf a k t → HasRoomForSeries a room places → room ≤ more → places ≤ further
-    → AllByRecursion (IsReadable more further) (stretches_by whole (records_on t))
-readable_whole a k room places more further t lt w h le within =
-    roomier room more places further (stretches_by whole (records_on t)) le within
-    (whole_each (IsReadable room places) (records_on t) (few_trail a k t w h.audited)
-    (subst (λ (vs : List View). IsReadable room places vs) (sym (at_index a k t w)) (h.readable k w.channel lt)))
-
--- it can be packed, or can't
-pub fit_next : (o : Options) (a : Archive) (k : ℕ) (t : Trail) → k < length a.channels.now → IsTrailOf a k t
-    → IsAudited a → AllByRecursion (StretchFits o) (stretches_by whole (records_on t))
-    → All (λ (c : Channel). CanBePacked o (map view_of a.views.now) c.0) (take k a.channels.now)
-    → All (λ (c : Channel). CanBePacked o (map view_of a.views.now) c.0) (take (k + 1) a.channels.now)
-fit_next o a k t lt w h fits before =
-    All-more (λ (c : Channel). CanBePacked o (views_of a) c.0) a.channels.now k w.channel lt before
-    (subst (λ (vs : List View). StretchFits o vs) (at_index a k t w)
-    (each_whole (StretchFits o) (records_on t) (few_trail a k t w h) fits))
-
-pub misfit_at : (o : Options) (a : Archive) (k number : ℕ) (t : Trail) (fault : PackFault)
-    → k < length a.channels.now → IsTrailOf a k t → IsAudited a
-    → IsFirstMisfit o number fault (stretches_by whole (records_on t))
-    → All (λ (c : Channel). CanBePacked o (map view_of a.views.now) c.0) (take k a.channels.now)
-    → IsFirst (CanBePacked o (map view_of a.views.now)) (CantBePacked o (map view_of a.views.now) fault) t.codes.now
-    a.channels.now
-misfit_at o a k number t fault lt w h misfit before =
-    let Before : List ℕ → Type 0 = λ key. CanBePacked o (views_of a) key in
-    let At : List ℕ → Type 0 = λ key. CantBePacked o (views_of a) fault key in
-    subst (λ (key : List ℕ). IsFirst Before At key a.channels.now)
-    (sym (w.codes_are ∙ ap (λ (c : Channel). c.0) w.at))
-    (first_at Before At a.channels.now k w.channel lt before
-    (subst (λ (vs : List View). StretchMisfits o fault vs) (at_index a k t w)
-    (whole_misfit o (records_on t) number fault (few_trail a k t w h) misfit)))
+-- the records of a continuous channel are some
+pub some_on : (a : Archive) (k : ℕ) (t : Trail) → k < length a.channels.now → IsTrailOf a k t
+    → AreContinuous (map view_of a.views.now) a.channels.now → records_on t ≢ []
+some_on a k t lt w continuous =
+    subst (λ (vs : List View). vs ≢ []) (sym (at_index a k t w)) (continuous k w.channel lt).some
 
 -- The stretches of a channel, by its trail.
 
-abbrev plan_of : Archive → List (List ℕ) → List (List (List View))
+abbrev plan_of : Archive → List (List Plan) → List (List (List View))
 plan_of a ls = planned (map view_of a.views.now) a.channels.now ls
 
-at_plan : (a : Archive) (ls : List (List ℕ)) (k : ℕ) (t : Trail) (ns : List ℕ) → k < length a.channels.now
-    → IsTrailOf a k t → ns ≡ get_or ls k whole → get_or (plan_of a ls) k [] ≡ stretches_by ns (records_on t)
-at_plan a ls k t ns lt w e =
+at_plan : (a : Archive) (ls : List (List Plan)) (k : ℕ) (t : Trail) (ps : List Plan) → k < length a.channels.now
+    → IsTrailOf a k t → ps ≡ get_or ls k [] → get_or (plan_of a ls) k [] ≡ stretches_by (counts_of ps) (records_on t)
+at_plan a ls k t ps lt w e =
     planned_at (views_of a) a.channels.now ls k w.channel [] lt
-    ∙ ap (λ (ms : List ℕ). stretches_by ms (records_in (views_of a) (get_or a.channels.now k w.channel).0)) (sym e)
-    ∙ ap (λ (vs : List View). stretches_by ns vs) (sym (at_index a k t w))
+    ∙ ap (λ (qs : List Plan). stretches_by (counts_of qs)
+    (records_in (views_of a) (get_or a.channels.now k w.channel).0)) (sym e)
+    ∙ ap (λ (vs : List View). stretches_by (counts_of ps) vs) (sym (at_index a k t w))
 
-inside_plan : (a : Archive) (ls : List (List ℕ)) (k : ℕ) → k < length a.channels.now → k < length (plan_of a ls)
+inside_plan : (a : Archive) (ls : List (List Plan)) (k : ℕ) → k < length a.channels.now → k < length (plan_of a ls)
 inside_plan a ls k lt = let size = as_planned (views_of a) a.channels.now ls in omega (arith, size, lt)
 
-pub written_next : {o : Options} {room places : ℕ} (a : Archive) (ls : List (List ℕ)) (k : ℕ) (t : Trail) (ns : List ℕ)
-    → k < length a.channels.now → IsTrailOf a k t → ns ≡ get_or ls k whole
-    → AllByRecursion (CanBeWritten o room places) (plan_of a ls)
-    → CanBeWritten o room places (stretches_by ns (records_on t))
-written_next {o = o} {room = room} {places = places} a ls k t ns lt w e all =
-    subst (λ (ss : List (List View)). CanBeWritten o room places ss) (at_plan a ls k t ns lt w e)
-    (All-from_recursion (CanBeWritten o room places) (plan_of a ls) all k [] (inside_plan a ls k lt))
+pub written_next : {o : Options} {room places : ℕ} (a : Archive) (ls : List (List Plan)) (k : ℕ) (t : Trail)
+    (ps : List Plan) → k < length a.channels.now → IsTrailOf a k t → ps ≡ get_or ls k []
+    → AreWritable o room places (map view_of a.views.now) a.channels.now ls
+    → CanBeWritten o room places ps (records_on t)
+written_next {o = o} {room = room} {places = places} a ls k t ps lt w e all =
+    subst (λ (qs : List Plan). CanBeWritten o room places qs (records_on t)) (sym e)
+    (subst (λ (vs : List View). CanBeWritten o room places (get_or ls k []) vs) (sym (at_index a k t w))
+    (written_at (views_of a) a.channels.now ls k w.channel lt all))
 
-pub texts_next : {o : Options} {first old new : BytesWritten} (a : Archive) (ls : List (List ℕ)) (k : ℕ) (t : Trail)
-    (ns : List ℕ) → k < length a.channels.now → IsTrailOf a k t → ns ≡ get_or ls k whole
+pub texts_next : {o : Options} {first old new : BytesWritten} (a : Archive) (ls : List (List Plan)) (k : ℕ) (t : Trail)
+    (ps : List Plan) → k < length a.channels.now → IsTrailOf a k t → ps ≡ get_or ls k []
     → Wrote (AreTexts (IsTextOn o) (take k (plan_of a ls))) 0 first old
-    → Wrote (IsTextOn o (stretches_by ns (records_on t))) 0 old new
+    → Wrote (IsTextOn o (stretches_by (counts_of ps) (records_on t))) 0 old new
     → Wrote (AreTexts (IsTextOn o) (take (k + 1) (plan_of a ls))) 0 first new
-texts_next {o = o} {first = first} {old = old} {new = new} a ls k t ns lt w e before one =
-    let ps : List (List (List View)) = plan_of a ls in
+texts_next {o = o} {first = first} {old = old} {new = new} a ls k t ps lt w e before one =
+    let all : List (List (List View)) = plan_of a ls in
     subst (λ (qs : List (List (List View))). Wrote (AreTexts (IsTextOn o) qs) 0 first new)
-    (sym (take_more ps k [] (inside_plan a ls k lt)))
-    (wrote_more (IsTextOn o) (take k ps) (get_or ps k []) before
-    (subst (λ (ss : List (List View)). Wrote (IsTextOn o ss) 0 old new) (sym (at_plan a ls k t ns lt w e)) one))
+    (sym (take_more all k [] (inside_plan a ls k lt)))
+    (wrote_more (IsTextOn o) (take k all) (get_or all k []) before
+    (subst (λ (ss : List (List View)). Wrote (IsTextOn o ss) 0 old new) (sym (at_plan a ls k t ps lt w e)) one))
 
-pub texts_part : {o : Options} {first old new : BytesWritten} (a : Archive) (ls : List (List ℕ)) (k : ℕ) (t : Trail)
-    (ns : List ℕ) → k < length a.channels.now → IsTrailOf a k t → ns ≡ get_or ls k whole
+pub texts_part : {o : Options} {first old new : BytesWritten} (a : Archive) (ls : List (List Plan)) (k : ℕ) (t : Trail)
+    (ps : List Plan) → k < length a.channels.now → IsTrailOf a k t → ps ≡ get_or ls k []
     → Wrote (AreTexts (IsTextOn o) (take k (plan_of a ls))) 0 first old
-    → Wrote (IsPartOn o (stretches_by ns (records_on t))) 1 old new
+    → Wrote (IsPartOn o (stretches_by (counts_of ps) (records_on t))) 1 old new
     → Wrote (IsTextUpTo (IsTextOn o) (IsPartOn o) (plan_of a ls)) 1 first new
-texts_part {o = o} {old = old} {new = new} a ls k t ns lt w e before one =
-    let ps : List (List (List View)) = plan_of a ls in
-    let whole_plan : ps ≡ take k ps ++ get_or ps k [] ∷ drop (suc k) ps =
-    sym (take-append-drop (suc k) ps)
-    ∙ ap (λ (qs : List (List (List View))). qs ++ drop (suc k) ps) (take-suc ps k [] (inside_plan a ls k lt))
-    ∙ append_assoc (take k ps) (get_or ps k [] ∷ []) (drop (suc k) ps) in
-    wrote_part (IsTextOn o) (IsPartOn o) (take k ps) (drop (suc k) ps) (get_or ps k []) ps whole_plan before
-    (subst (λ (ss : List (List View)). Wrote (IsPartOn o ss) 1 old new) (sym (at_plan a ls k t ns lt w e)) one)
+texts_part {o = o} {old = old} {new = new} a ls k t ps lt w e before one =
+    let all : List (List (List View)) = plan_of a ls in
+    let whole_plan : all ≡ take k all ++ get_or all k [] ∷ drop (suc k) all =
+    sym (take-append-drop (suc k) all)
+    ∙ ap (λ (qs : List (List (List View))). qs ++ drop (suc k) all) (take-suc all k [] (inside_plan a ls k lt))
+    ∙ append_assoc (take k all) (get_or all k [] ∷ []) (drop (suc k) all) in
+    wrote_part (IsTextOn o) (IsPartOn o) (take k all) (drop (suc k) all) (get_or all k []) all whole_plan before
+    (subst (λ (ss : List (List View)). Wrote (IsPartOn o ss) 1 old new) (sym (at_plan a ls k t ps lt w e)) one)
 
-pub texts_all : (o : Options) {first new : BytesWritten} (a : Archive) (ls : List (List ℕ)) (k : ℕ)
+pub texts_all : (o : Options) {first new : BytesWritten} (a : Archive) (ls : List (List Plan)) (k : ℕ)
     → length a.channels.now ≤ k → Wrote (AreTexts (IsTextOn o) (take k (plan_of a ls))) 0 first new
     → Wrote (AreTexts (IsTextOn o) (plan_of a ls)) 0 first new
 texts_all o {first = first} {new = new} a ls k past wrote =
@@ -199,30 +158,56 @@ texts_all o {first = first} {new = new} a ls k past wrote =
 
 -- Channels that are packed whole.
 
-pub series_written : (o : Options) (a : Archive) (ls : List (List ℕ)) (room places more further : ℕ)
-    → HasRoomForSeries a room places
-    → All (λ (c : Channel). CanBePacked o (map view_of a.views.now) c.0) a.channels.now → ls ≡ [] → room ≤ more
-    → places ≤ further
-    → AllByRecursion (CanBeWritten o more further) (planned (map view_of a.views.now) a.channels.now ls)
-series_written o a ls room places more further h fit none le within =
-    let cs : List Channel = a.channels.now in
-    subst (λ (ms : List (List ℕ)). AllByRecursion (CanBeWritten o more further) (planned (views_of a) cs ms)) (sym none)
-    (whole_planned o more further (views_of a) cs (λ key. few_records a key h.audited)
-    (recursion_from_All (λ (c : Channel). IsReadable more further (records_in (views_of a) c.0)) cs
-    (λ k d lt. (roomier room more places further (records_in (views_of a) (get_or cs k d).0 ∷ []) le within
-    (h.readable k d lt, tt)).0))
-    (recursion_from_All (λ (c : Channel). StretchFits o (records_in (views_of a) c.0)) cs fit))
+sound_each : (views : List View) (cs : List Channel) → AreContinuous views cs
+    → AllByRecursion (λ (c : Channel). AllByRecursion IsSound (records_in views c.0)) cs
+sound_each views cs continuous =
+    recursion_from_All (λ (c : Channel). AllByRecursion IsSound (records_in views c.0)) cs
+    (λ k d lt. (continuous k d lt).each)
 
-pub series_texts : (o : Options) {old new : BytesWritten} (a : Archive) (ls : List (List ℕ)) → IsAudited a → ls ≡ []
-    → Wrote (AreTexts (IsTextOn o) (planned (map view_of a.views.now) a.channels.now ls)) 0 old new
-    → Wrote (ArePackedInto o (map view_of a.views.now) a.channels.now) 0 old new
-series_texts o {old = old} {new = new} a ls h none wrote =
-    wrote_as (λ text is. whole_texts o (views_of a) a.channels.now text (λ key. few_records a key h) is)
-    (subst (λ (ms : List (List ℕ)). Wrote (AreTexts (IsTextOn o) (plan_of a ms)) 0 old new) none wrote)
+pub whole_fit : (o : Options) (room places : ℕ) (views : List View) (cs : List Channel) (ss : List Standing)
+    (ls : List (List Plan)) → AreReady Whole o room places views cs ss ls → AreContinuous views cs → All IsNoMisfit ss
+    → All (λ (c : Channel). CanBePacked o views c.0) cs
+whole_fit o room places views cs ss ls ready continuous fine =
+    let size = as_standing Whole o room places views cs ss ls ready in
+    All-from_recursion (λ (c : Channel). CanBePacked o views c.0) cs
+    (subst (λ (ds : List Channel). AllByRecursion (λ (c : Channel). CanBePacked o views c.0) ds)
+    (take_all (length ss) cs (omega (arith, size)))
+    (whole_leading o room places views cs ss ls (length ss) ready (sound_each views cs continuous)
+    (subst (λ (ts : List Standing). AllByRecursion IsNoMisfit ts) (sym (take_all (length ss) ss (omega arith)))
+    (recursion_from_All IsNoMisfit ss fine))))
 
-pub series_part : (o : Options) {old new : BytesWritten} (a : Archive) (ls : List (List ℕ)) → IsAudited a → ls ≡ []
-    → Wrote (IsTextUpTo (IsTextOn o) (IsPartOn o) (planned (map view_of a.views.now) a.channels.now ls)) 1 old new
-    → Wrote (IsPartPacked o (map view_of a.views.now) a.channels.now) 1 old new
-series_part o {old = old} {new = new} a ls h none wrote =
-    wrote_as (λ text is. whole_parts o (views_of a) a.channels.now text (λ key. few_records a key h) is)
-    (subst (λ (ms : List (List ℕ)). Wrote (IsTextUpTo (IsTextOn o) (IsPartOn o) (plan_of a ms)) 1 old new) none wrote)
+pub whole_refused : (o : Options) (room places : ℕ) (views : List View) (cs : List Channel) (ss : List Standing)
+    (ls : List (List Plan)) (k number : ℕ) (fault : PackFault) (c : Channel)
+    → AreReady Whole o room places views cs ss ls → AreContinuous views cs → k < length ss
+    → get_or ss k Fit ≡ Misfit number fault → All IsNoMisfit (take k ss)
+    → IsFirst (CanBePacked o views) (CantBePacked o views fault) (get_or cs k c).0 cs
+whole_refused o room places views cs ss ls k number fault c ready continuous lt is before =
+    let Before : List ℕ → Type 0 = λ key. CanBePacked o views key in
+    let At : List ℕ → Type 0 = λ key. CantBePacked o views fault key in
+    let d : Channel = get_or cs k c in
+    let size = as_standing Whole o room places views cs ss ls ready in
+    let less : k < length cs = omega (arith, lt, size) in
+    let here : StandsAs Whole o (records_in views d.0) (Misfit number fault) =
+    whole_standing o room places views cs ss ls k d (Misfit number fault) ready less (get_or_default cs k c d less)
+    (sym is ∙ get_or_default ss k Fit (Misfit number fault) lt) in
+    first_at Before At cs k c less
+    (All-from_recursion (λ (e : Channel). Before e.0) (take k cs)
+    (whole_leading o room places views cs ss ls k ready (sound_each views cs continuous)
+    (recursion_from_All IsNoMisfit (take k ss) before)))
+    (misfits_whole here)
+
+pub series_texts : (o : Options) (room places : ℕ) {old new : BytesWritten} (views : List View) (cs : List Channel)
+    (ss : List Standing) (ls : List (List Plan)) → AreReady Whole o room places views cs ss ls → AreContinuous views cs
+    → All IsNoMisfit ss → Wrote (AreTexts (IsTextOn o) (planned views cs ls)) 0 old new
+    → Wrote (ArePackedInto o views cs) 0 old new
+series_texts o room places views cs ss ls ready continuous fine wrote =
+    wrote_as (λ text is. whole_texts o room places views cs ss ls text ready (sound_each views cs continuous)
+    (recursion_from_All IsNoMisfit ss fine) is) wrote
+
+pub series_part : (o : Options) (room places : ℕ) {old new : BytesWritten} (views : List View) (cs : List Channel)
+    (ss : List Standing) (ls : List (List Plan)) → AreReady Whole o room places views cs ss ls → AreContinuous views cs
+    → All IsNoMisfit ss → Wrote (IsTextUpTo (IsTextOn o) (IsPartOn o) (planned views cs ls)) 1 old new
+    → Wrote (IsPartPacked o views cs) 1 old new
+series_part o room places views cs ss ls ready continuous fine wrote =
+    wrote_as (λ text is. whole_parts o room places views cs ss ls text ready (sound_each views cs continuous)
+    (recursion_from_All IsNoMisfit ss fine) is) wrote

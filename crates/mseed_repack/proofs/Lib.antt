@@ -8,7 +8,6 @@ pub mod Supplied
 pub mod Trails
 pub mod ReadChannels
 pub mod Outlines
-pub mod Judged
 pub mod Written
 pub mod ReadBack
 pub mod Stretched

@@ -1,5 +1,5 @@
 -- What is known of a channel's samples, record by record.
-use Rattle.std.proofs.Common.{◌≡◌, ℕ, ℤ, ◌+◌, ◌≤◌, ◌<◌, List, [], ◌∷◌, ◌++◌, length, take, refl, sym, ap, subst, ◌∙◌}
+use Rattle.std.proofs.Common.{◌≡◌, ℕ, ℤ, ◌+◌, ◌≤◌, List, [], ◌∷◌, ◌++◌, length, take, refl, sym, ap, subst, ◌∙◌}
 use Rattle.std.proofs.Common.{arith, All}
 use Rattle.std.proofs.lemmas.List.{take_all, length-append}
 use Rattle.std.proofs.lemmas.List.Elements.{All-append, All-nil}
@@ -8,14 +8,11 @@ use Rattle.mseed_record.specs.View.{View, leap_of}
 use Rattle.mseed_steim.specs.Reading.{count_of, IsWhole}
 use Rattle.mseed_steim.specs.Spelling.{IsWithin}
 use Rattle.mseed_audit.specs.Judging.{step_in}
-use Rattle.mseed_audit.specs.Series.{Trace, step_at}
+use Rattle.mseed_audit.specs.Series.{step_at}
 use Rattle.mseed_audit.proofs.Joined.{count_is}
-use Rattle.mseed_pack.specs.Fitting.{Fits}
-use Rattle.mseed_pack.specs.declared.options.Options.{Options}
-use Rattle.mseed_repack.specs.private.Outline.{AreHeld, IsKnown, IsOutline, with_samples}
+use Rattle.mseed_repack.specs.private.Outline.{IsKnown, IsOutline}
 use Rattle.mseed_repack.specs.private.Reading.{AreOf, step_count}
 use Rattle.mseed_repack.specs.declared.outline.Nearness.{Nearness}
-use Rattle.mseed_repack.specs.declared.outline.Nearness.TheVariants.{Empty}
 use Rattle.mseed_repack.proofs.Near.{whole_within}
 use Rattle.mseed_repack.proofs.ReadChannels.{IsRead, read_more, read_none}
 
@@ -28,13 +25,14 @@ pub record IsOutlined (key : List ℕ) (vs : List View) (m k : ℕ) (nearness : 
   pub within : All (IsWithin 32) samples
   pub known : IsKnown nearness samples
 
-pub outlined_none : (key : List ℕ) (steps : List (ℕ × LeapStep)) → IsOutlined key [] 0 0 Empty steps
-outlined_none key steps = record {
+pub outlined_none : (key : List ℕ) (before : Nearness) (steps : List (ℕ × LeapStep)) → IsKnown before []
+    → IsOutlined key [] 0 0 before steps
+outlined_none key before steps known = record {
   samples = [];
   read = read_none key [] steps;
   long = refl;
   within = All-nil (IsWithin 32);
-  known = refl;
+  known = known;
 }
 
 -- one more record
@@ -68,19 +66,4 @@ outline_is key vs m k near ss h = record {
   count_is = sym h.long;
   within = h.within;
   known = h.known;
-}
-
-empty_list : (ys : List ℤ) → length ys ≡ 0 → ys ≡ []
-empty_list [] e = refl
-empty_list (y ∷ ys) e = absurd (omega (arith, e))
-
--- a series fits where another of as many samples does, and the encoding holds its own
-pub fits_with : (s : Trace) (xs : List ℤ) (o p : Options) → length xs ≡ length s.samples → Fits s p
-    → AreHeld o.encoding xs → Fits (with_samples xs s) o
-fits_with s xs o p size fits held = record {
-  some = λ none. fits.some (empty_list s.samples (sym size ∙ ap (λ (ys : List ℤ). length ys) none));
-  slow = fits.slow;
-  timed = λ outside. fits.timed (outside.0, (subst (λ (n : ℕ). outside.0 < n) size outside.1.0, outside.1.1));
-  samples = held.0;
-  differences_fit = held.1;
 }

@@ -3,7 +3,7 @@ use Rattle.std.proofs.Common.{◌≡◌, ◌≢◌, inl, inr, ℕ, zero, suc, �
 use Rattle.std.proofs.Common.{length, take, drop, get_or, refl, sym, ap, subst, ◌∙◌, arith, append_assoc, append-nil}
 use Rattle.std.proofs.Common.{length-append}
 use Rattle.std.specs.List.{AllByRecursion, concat}
-use Rattle.std.proofs.lemmas.List.{drop_all, drop_more, take-append-drop, take_all}
+use Rattle.std.proofs.lemmas.List.{drop_all, drop_more, take-append-drop, take_all, take_more}
 use Rattle.std.proofs.lemmas.List.Folds.{concat-append}
 use Rattle.mseed_record.specs.View.{View}
 use Rattle.mseed_stream.specs.Device.{BytesWritten}
@@ -12,18 +12,25 @@ use Rattle.mseed_audit.specs.Series.{Trace, IsSeriesOf}
 use Rattle.mseed_stretches.specs.Stretches.{AreStretches, AreStretchesUpTo, IsFirstStretch}
 use Rattle.mseed_pack.specs.Outcome.{EmittedAll, EmittedPrefix}
 use Rattle.mseed_pack.specs.declared.fault.PackFault.{PackFault}
+use Rattle.mseed_pack.specs.declared.options.Encoding.{Encoding}
 use Rattle.mseed_pack.specs.declared.options.Options.{Options}
 use Rattle.mseed_repack.specs.Repack.{AreTexts, Channel, IsPackedInPart, IsSeriesText, IsStretchPacked, IsTextUpTo}
 use Rattle.mseed_repack.specs.Repack.{StretchFits, StretchMisfits, Wrote, records_in}
 use Rattle.mseed_repack.specs.Restretch.{ArePackedOn, ChannelMisfits, IsChannelPart, IsChannelText}
 use Rattle.mseed_repack.specs.Restretch.{IsNextStretch, IsNumberedOn, more, none}
-use Rattle.mseed_repack.specs.ByStretches.{AreStandings, AreStretched, IsPartStretched, kept_of}
-use Rattle.mseed_repack.specs.private.Planning.{AreReady, CanBeWritten, IsCut, IsFirstMisfit, IsPartOn}
-use Rattle.mseed_repack.specs.private.Planning.{IsReadable, IsReady, IsStretchText, IsTextOn, planned, stretches_by}
-use Rattle.mseed_repack.specs.private.Planning.{whole}
+use Rattle.mseed_repack.specs.ByStretches.{AreStandings, AreStretched, IsPartStretched, Stands, kept_of}
+use Rattle.mseed_repack.specs.private.Planning.{AreReady, AreWritable, CanBeWritten, EachGoes, FitsAs, GoesBy, IsCut}
+use Rattle.mseed_repack.specs.private.Planning.{IsCutAs, IsFirstMisfit, IsPartOn, IsReadable, IsReady, IsStretchText}
+use Rattle.mseed_repack.specs.private.Planning.{IsTextOn, MisfitsAs, StandsAs, counts_of, planned, stretches_by}
 use Rattle.mseed_repack.specs.private.Reading.{steps_of}
+use Rattle.mseed_repack.specs.private.Restretching.{IsNoMisfit}
+use Rattle.mseed_repack.specs.declared.plan.Plan.{Plan}
+use Rattle.mseed_repack.specs.declared.plan.Way.{Way}
+use Rattle.mseed_repack.specs.declared.plan.Way.TheVariants.{Frames, Listed}
 use Rattle.mseed_repack.specs.declared.standing.Standing.{Standing}
 use Rattle.mseed_repack.specs.declared.standing.Standing.TheVariants.{Fit, Broken, Misfit}
+use Rattle.mseed_repack.specs.declared.stretching.Cutting.{Cutting}
+use Rattle.mseed_repack.specs.declared.stretching.Cutting.TheVariants.{Whole, Stretches}
 use Rattle.mseed_repack.proofs.ChannelReadBack.{each_at_back, each_in_leading, each_more, ends_apart, one_next}
 use Rattle.mseed_repack.proofs.ChannelReadBack.{snoc_one}
 use Rattle.mseed_repack.proofs.ReadChannels.{steps_append}
@@ -49,6 +56,63 @@ stretches_next ns vs k inside = ap (λ (ms : List ℕ). stretches_by ms vs) (dro
 pub stretches_end : (ns : List ℕ) (vs : List View) (k : ℕ) → length ns ≤ k → stretches_by (drop k ns) vs ≡ []
 stretches_end ns vs k past = ap (λ (ms : List ℕ). stretches_by ms vs) (drop_all k ns past)
 
+-- the same of plans
+
+pub plans_next : (ps : List Plan) (vs : List View) (k : ℕ) (d : Plan) → k < length ps
+    → stretches_by (counts_of (drop k ps)) vs
+    ≡ take (get_or ps k d).records vs ∷ stretches_by (counts_of (drop (k + 1) ps)) (drop (get_or ps k d).records vs)
+plans_next ps vs k d inside = ap (λ (qs : List Plan). stretches_by (counts_of qs) vs) (drop_more ps k d inside)
+
+pub plans_end : (ps : List Plan) (vs : List View) (k : ℕ) → length ps ≤ k
+    → stretches_by (counts_of (drop k ps)) vs ≡ []
+plans_end ps vs k past = ap (λ (qs : List Plan). stretches_by (counts_of qs) vs) (drop_all k ps past)
+
+-- a stretch goes its way in more room, and whatever the sequence number is
+pub goes_on : (encoding other : Encoding) (room next : ℕ) (way : Way) (s : List View) → other ≡ encoding → room ≤ next
+    → GoesBy encoding room way s → GoesBy other next way s
+goes_on encoding other room next Frames s e le goes =
+    subst (λ (f : Encoding). GoesBy f next Frames s) (sym e) goes
+goes_on encoding other room next Listed s e le fits = omega (arith, fits, le)
+
+pub each_goes_on : (encoding : Encoding) (room next : ℕ) (ps : List Plan) (ss : List (List View)) → room ≤ next
+    → EachGoes encoding room ps ss → EachGoes encoding next ps ss
+each_goes_on encoding room next [] [] le all = tt
+each_goes_on encoding room next [] (s ∷ ss) le all = absurd all
+each_goes_on encoding room next (p ∷ ps) [] le all = absurd all
+each_goes_on encoding room next (p ∷ ps) (s ∷ ss) le all =
+    (goes_on encoding encoding room next p.way s refl le all.0, each_goes_on encoding room next ps ss le all.1)
+
+-- one more goes its way
+each_goes_more : (encoding : Encoding) (room next : ℕ) (ps : List Plan) (p : Plan) (ss : List (List View))
+    (s : List View) → room ≤ next → EachGoes encoding room ps ss → GoesBy encoding next p.way s
+    → EachGoes encoding next (ps ++ p ∷ []) (ss ++ s ∷ [])
+each_goes_more encoding room next [] p [] s le all goes = (goes, tt)
+each_goes_more encoding room next [] p (t ∷ ss) s le all goes = absurd all
+each_goes_more encoding room next (q ∷ ps) p [] s le all goes = absurd all
+each_goes_more encoding room next (q ∷ ps) p (t ∷ ss) s le all goes = (
+  goes_on encoding encoding room next q.way t refl le all.0,
+  each_goes_more encoding room next ps p ss s le all.1 goes,
+)
+
+-- the next one goes its way, and so do those behind it
+pub goes_next : (encoding : Encoding) (room : ℕ) (ps : List Plan) (k : ℕ) (d : Plan) (ss back : List (List View))
+    (s : List View) → k < length ps → EachGoes encoding room (drop k ps) ss → ss ≡ s ∷ back
+    → GoesBy encoding room (get_or ps k d).way s × EachGoes encoding room (drop (k + 1) ps) back
+goes_next encoding room ps k d ss back s inside all e =
+    subst (λ (qs : List Plan). EachGoes encoding room qs (s ∷ back)) (drop_more ps k d inside)
+    (subst (λ (ts : List (List View)). EachGoes encoding room (drop k ps) ts) e all)
+
+-- how many records each of the stretches so far has, and one more
+counts_append : (ps : List Plan) (p : Plan) → counts_of (ps ++ p ∷ []) ≡ counts_of ps ++ p.records ∷ []
+counts_append [] p = refl
+counts_append (q ∷ ps) p = ap (λ (ns : List ℕ). q.records ∷ ns) (counts_append ps p)
+
+pub counts_more : (ps : List Plan) (p : Plan) (ns : List ℕ) (k : ℕ) → k < length ns → counts_of ps ≡ take k ns
+    → p.records ≡ get_or ns k 0 → counts_of (ps ++ p ∷ []) ≡ take (k + 1) ns
+counts_more ps p ns k inside e is =
+    counts_append ps p ∙ ap (λ (ms : List ℕ). ms ++ p.records ∷ []) e
+    ∙ ap (λ (n : ℕ). take k ns ++ n ∷ []) is ∙ sym (take_more ns k 0 inside)
+
 -- of each of those behind others
 pub next_each : (P : List View → Type 0) (ss done rest back : List (List View)) (s : List View) → AllByRecursion P ss
     → ss ≡ done ++ rest → rest ≡ s ∷ back → P s
@@ -62,33 +126,44 @@ parts_more : (ss done rest back : List (List View)) (s : List View) → ss ≡ d
 parts_more ss done rest back s parts e =
     parts ∙ ap (λ (ts : List (List View)). done ++ ts) e ∙ sym (append_assoc done (s ∷ []) back)
 
--- so many stretches fit, and these are left
-pub record IsFitSo (o : Options) (ss rest : List (List View)) (number : ℕ) : Type 0 where
+-- so many stretches fit, as they are planned, and these are left
+pub record IsFitSo (o : Options) (room : ℕ) (ps : List Plan) (ss rest : List (List View)) (number : ℕ) : Type 0 where
   pub done : List (List View)
   pub parts : ss ≡ done ++ rest
   pub fit : AllByRecursion (StretchFits o) done
+  pub ways : EachGoes o.encoding room ps done
   pub number_is : number ≡ length done
 
-pub fit_none : (o : Options) (ss : List (List View)) → IsFitSo o ss ss 0
-fit_none o ss = record { done = []; parts = refl; fit = tt; number_is = refl }
+pub fit_none : (o : Options) (room : ℕ) (ps : List Plan) (ss : List (List View)) → ps ≡ [] → IsFitSo o room ps ss ss 0
+fit_none o room ps ss empty = record {
+  done = [];
+  parts = refl;
+  fit = tt;
+  ways = subst (λ (qs : List Plan). EachGoes o.encoding room qs []) (sym empty) tt;
+  number_is = refl;
+}
 
-pub fit_more : {o : Options} {ss rest back : List (List View)} {s : List View} {number : ℕ} → IsFitSo o ss rest number
-    → rest ≡ s ∷ back → StretchFits o s → IsFitSo o ss back (number + 1)
-fit_more {o = o} {ss = ss} {rest = rest} {back = back} {s = s} h e one = record {
+pub fit_more : {o : Options} {room : ℕ} {ps : List Plan} {ss rest back : List (List View)} {s : List View} {number : ℕ}
+    (next : ℕ) (p : Plan) → IsFitSo o room ps ss rest number → rest ≡ s ∷ back → room ≤ next
+    → StretchFits o s → GoesBy o.encoding next p.way s → IsFitSo o next (ps ++ p ∷ []) ss back (number + 1)
+fit_more {o = o} {room = room} {ps = ps} {ss = ss} {rest = rest} {back = back} {s = s} next p h e le one goes = record {
   done = h.done ++ s ∷ [];
   parts = parts_more ss h.done rest back s h.parts e;
   fit = each_more (StretchFits o) h.done s h.fit one;
+  ways = each_goes_more o.encoding room next ps p h.done s le h.ways goes;
   number_is = let size = length-append h.done (s ∷ []) in omega (arith, h.number_is, size);
 }
 
-pub fit_all : {o : Options} {ss rest : List (List View)} {number : ℕ} → IsFitSo o ss rest number → rest ≡ []
-    → AllByRecursion (StretchFits o) ss
-fit_all {o = o} h e =
-    subst (λ (ts : List (List View)). AllByRecursion (StretchFits o) ts)
-    (sym (h.parts ∙ ap (λ (ts : List (List View)). h.done ++ ts) e ∙ append-nil h.done)) h.fit
+pub fit_all : {o : Options} {room : ℕ} {ps : List Plan} {ss rest : List (List View)} {number : ℕ}
+    → IsFitSo o room ps ss rest number → rest ≡ []
+    → AllByRecursion (StretchFits o) ss × EachGoes o.encoding room ps ss
+fit_all {o = o} {room = room} {ps = ps} h e =
+    subst (λ (ts : List (List View)). AllByRecursion (StretchFits o) ts × EachGoes o.encoding room ps ts)
+    (sym (h.parts ∙ ap (λ (ts : List (List View)). h.done ++ ts) e ∙ append-nil h.done)) (h.fit, h.ways)
 
-pub misfit_next : {o : Options} {ss rest back : List (List View)} {s : List View} {number : ℕ} (fault : PackFault)
-    → IsFitSo o ss rest number → rest ≡ s ∷ back → StretchMisfits o fault s → IsFirstMisfit o (number + 1) fault ss
+pub misfit_next : {o : Options} {room : ℕ} {ps : List Plan} {ss rest back : List (List View)} {s : List View}
+    {number : ℕ} (fault : PackFault) → IsFitSo o room ps ss rest number → rest ≡ s ∷ back → StretchMisfits o fault s
+    → IsFirstMisfit o (number + 1) fault ss
 misfit_next {back = back} {s = s} fault h e one = record {
   before = h.done;
   stretch = s;
@@ -225,45 +300,68 @@ emitted_part o vs s taken old new series emitted = record {
 
 -- The stretches into which a channel is cut.
 
-pub are_cut : (most : ℕ) (ns : List ℕ) (vs : List View) → IsCut most ns vs → AreStretches vs (stretches_by ns vs)
-are_cut most [] vs e = e
-are_cut most (n ∷ ns) vs (first, fits, behind) = (drop n vs, (first, are_cut most ns (drop n vs) behind))
+pub are_cut : (ns : List ℕ) (vs : List View) → IsCut ns vs → AreStretches vs (stretches_by ns vs)
+are_cut [] vs e = e
+are_cut (n ∷ ns) vs (first, behind) = (drop n vs, (first, are_cut ns (drop n vs) behind))
 
 some_first : (s rest vs : List View) → IsFirstStretch vs s rest → s ≢ []
 some_first [] rest vs first = λ e. first.stretch
 some_first (v ∷ s) rest vs first = λ e. cc
 
+some_upto : (ss : List (List View)) (vs left : List View) → AreStretchesUpTo vs ss left
+    → AllByRecursion (λ (s : List View). s ≢ []) ss
+some_upto [] vs left are = tt
+some_upto (s ∷ ss) vs left (rest, (first, behind)) = (some_first s rest vs first, some_upto ss rest left behind)
+
+-- each has a record
+pub some_each : (cutting : Cutting) (vs : List View) (ss : List (List View)) → (cutting ≡ Whole → vs ≢ [])
+    → IsCutAs cutting vs ss → AllByRecursion (λ (s : List View). s ≢ []) ss
+some_each Whole vs ss some e =
+    subst (λ (ts : List (List View)). AllByRecursion (λ (s : List View). s ≢ []) ts) (sym e) (some refl, tt)
+some_each Stretches vs ss some are = some_upto ss vs [] are
+
 -- each can be read
-pub readable_cut : (most room places : ℕ) (ns : List ℕ) (vs : List View) → IsCut most ns vs → AllByRecursion IsSound vs
-    → most ≤ room → steps_of vs ≤ places → AllByRecursion (IsReadable room places) (stretches_by ns vs)
-readable_cut most room places [] vs cut sound le fit = tt
-readable_cut most room places (n ∷ ns) vs (first, few, behind) sound le fit =
+pub readable_by : (places : ℕ) (ns : List ℕ) (vs : List View)
+    → AllByRecursion (λ (s : List View). s ≢ []) (stretches_by ns vs) → AllByRecursion IsSound vs
+    → length vs ≤ 2 ^ 40 → steps_of vs ≤ places → AllByRecursion (IsReadable places) (stretches_by ns vs)
+readable_by places [] vs some sound few fit = tt
+readable_by places (n ∷ ns) vs some sound few fit =
     let parts : vs ≡ take n vs ++ drop n vs = sym (take-append-drop n vs) in
     let each = subst (λ (us : List View). AllByRecursion IsSound us) parts sound in
+    let long : length vs ≡ length (take n vs ++ drop n vs) = ap (λ (us : List View). length us) parts in
+    let size = length-append (take n vs) (drop n vs) in
     let steps : steps_of vs ≡ steps_of (take n vs) + steps_of (drop n vs) =
     ap steps_of parts ∙ steps_append (take n vs) (drop n vs) in (
       record {
-        some = some_first (take n vs) (drop n vs) vs first;
+        some = some.0;
         sound = each_in_leading IsSound (take n vs) (drop n vs) each;
-        samples_fit = omega (arith, few, le);
+        few = omega (arith, long, size, few);
         steps_fit = omega (arith, steps, fit);
       },
-      readable_cut most room places ns (drop n vs) behind (each_at_back IsSound (take n vs) (drop n vs) each) le
-          (omega (arith, steps, fit)),
+      readable_by places ns (drop n vs) some.1 (each_at_back IsSound (take n vs) (drop n vs) each)
+          (omega (arith, long, size, few)) (omega (arith, steps, fit)),
     )
 
-pub roomier : (room next places further : ℕ) (ss : List (List View)) → room ≤ next → places ≤ further
-    → AllByRecursion (IsReadable room places) ss → AllByRecursion (IsReadable next further) ss
-roomier room next places further [] le within all = tt
-roomier room next places further (s ∷ ss) le within all = (
+pub roomier : (places further : ℕ) (ss : List (List View)) → places ≤ further
+    → AllByRecursion (IsReadable places) ss → AllByRecursion (IsReadable further) ss
+roomier places further [] within all = tt
+roomier places further (s ∷ ss) within all = (
   record {
     some = all.0.some;
     sound = all.0.sound;
-    samples_fit = let fits = all.0.samples_fit in omega (arith, fits, le);
+    few = all.0.few;
     steps_fit = let fits = all.0.steps_fit in omega (arith, fits, within);
   },
-  roomier room next places further ss le within all.1,
+  roomier places further ss within all.1,
 )
+
+pub written_on : {o : Options} {room places : ℕ} {ps : List Plan} {vs : List View} (next further : ℕ) → room ≤ next
+    → places ≤ further → CanBeWritten o room places ps vs → CanBeWritten o next further ps vs
+written_on {o = o} {room = room} {places = places} {ps = ps} {vs = vs} next further le within h = record {
+  readable = roomier places further (stretches_by (counts_of ps) vs) within h.readable;
+  fit = h.fit;
+  ways = each_goes_on o.encoding room next ps (stretches_by (counts_of ps) vs) le h.ways;
+}
 
 -- What is found of a channel that is cut into stretches.
 
@@ -317,8 +415,11 @@ channel_part o vs ss text are p = record {
 
 -- A channel that is packed whole has one stretch.
 
-pub whole_is : (vs : List View) → length vs ≤ 2 ^ 40 → stretches_by whole vs ≡ vs ∷ []
-whole_is vs few = ap (λ (us : List View). us ∷ []) (take_all (2 ^ 64 - 1) vs (omega (arith, few)))
+pub whole_is : (ns : List ℕ) (vs : List View) → length vs ≤ 2 ^ 40 → ns ≡ (2 ^ 64 - 1) ∷ []
+    → stretches_by ns vs ≡ vs ∷ []
+whole_is ns vs few e =
+    ap (λ (ms : List ℕ). stretches_by ms vs) e
+    ∙ ap (λ (us : List View). us ∷ []) (take_all (2 ^ 64 - 1) vs (omega (arith, few)))
 
 on_nothing : (o : Options) (ss : List (List View)) (records : List (List ℕ)) → ArePackedOn o ss records → ss ≡ []
     → records ≡ []
@@ -348,18 +449,18 @@ one_part (b ∷ before) back s t e =
     let long = length-append before (t ∷ back) in
     absurd (omega (arith, size, long))
 
-pub whole_text : (o : Options) (vs : List View) (text : List ℕ) → length vs ≤ 2 ^ 40
-    → IsTextOn o (stretches_by whole vs) text → IsSeriesText o vs text
-whole_text o vs text few is = record {
+whole_text : (o : Options) (vs : List View) (ss : List (List View)) (text : List ℕ) → ss ≡ vs ∷ []
+    → IsTextOn o ss text → IsSeriesText o vs text
+whole_text o vs ss text one is = record {
   records = is.records;
-  packed = on_one o (stretches_by whole vs) vs is.records is.packed (whole_is vs few);
+  packed = on_one o ss vs is.records is.packed one;
   text_is = is.text_is;
 }
 
-pub whole_part : (o : Options) (vs : List View) (text : List ℕ) → length vs ≤ 2 ^ 40
-    → IsPartOn o (stretches_by whole vs) text → IsPackedInPart o vs text
-whole_part o vs text few p =
-    let same = one_part p.before p.back vs p.stretch (sym (whole_is vs few) ∙ p.parts) in
+whole_part : (o : Options) (vs : List View) (ss : List (List View)) (text : List ℕ) → ss ≡ vs ∷ []
+    → IsPartOn o ss text → IsPackedInPart o vs text
+whole_part o vs ss text one p =
+    let same = one_part p.before p.back vs p.stretch (sym one ∙ p.parts) in
     let first : p.records ≡ [] = on_nothing o p.before p.records p.packed same.0 in
     let own : p.own ≡ text =
     sym (p.text_is ∙ ap (λ (rs : List (List ℕ)). concat rs ++ p.own) first) in
@@ -368,116 +469,108 @@ whole_part o vs text few p =
     (subst (λ (q : Options). IsPackedInPart q p.stretch p.own) (on_same o p.options p.records first p.numbered)
     p.part))
 
-pub whole_misfit : (o : Options) (vs : List View) (number : ℕ) (fault : PackFault) → length vs ≤ 2 ^ 40
-    → IsFirstMisfit o number fault (stretches_by whole vs) → StretchMisfits o fault vs
-whole_misfit o vs number fault few m =
-    let same = one_part m.before m.back vs m.stretch (sym (whole_is vs few) ∙ m.parts) in
+whole_misfit : (o : Options) (vs : List View) (ss : List (List View)) (number : ℕ) (fault : PackFault) → ss ≡ vs ∷ []
+    → IsFirstMisfit o number fault ss → StretchMisfits o fault vs
+whole_misfit o vs ss number fault one m =
+    let same = one_part m.before m.back vs m.stretch (sym one ∙ m.parts) in
     subst (λ (us : List View). StretchMisfits o fault us) same.1 m.misfit
 
--- what holds of the channel holds of its stretch
-pub whole_each : (P : List View → Type 0) (vs : List View) → length vs ≤ 2 ^ 40 → P vs
-    → AllByRecursion P (stretches_by whole vs)
-whole_each P vs few one =
-    subst (λ (ss : List (List View)). AllByRecursion P ss) (sym (whole_is vs few)) (one, tt)
+-- What is found of a channel that is packed whole, or by its stretches.
 
-pub each_whole : (P : List View → Type 0) (vs : List View) → length vs ≤ 2 ^ 40
-    → AllByRecursion P (stretches_by whole vs) → P vs
-each_whole P vs few all = (subst (λ (ss : List (List View)). AllByRecursion P ss) (whole_is vs few) all).0
+pub fits_whole : {o : Options} {vs : List View} → FitsAs Whole o vs → StretchFits o vs
+fits_whole {o = o} h = (subst (λ (ss : List (List View)). AllByRecursion (StretchFits o) ss) h.cut h.fit).0
+
+pub misfits_whole : {o : Options} {number : ℕ} {fault : PackFault} {vs : List View}
+    → MisfitsAs Whole o number fault vs → StretchMisfits o fault vs
+misfits_whole {o = o} {number = number} {fault = fault} {vs = vs} h =
+    whole_misfit o vs h.stretches number fault h.cut h.misfit
+
+stands_cut : (o : Options) (vs : List View) (s : Standing) → StandsAs Stretches o vs s → Stands o vs s
+stands_cut o vs Fit h = record { sound = h.sound; stretches = h.stretches; are = h.cut; fit = h.fit }
+stands_cut o vs Broken h = h
+stands_cut o vs (Misfit number fault) h = channel_misfits o vs h.stretches number fault h.sound h.cut h.misfit
 
 -- The stretches of all channels.
 
-pub planned_at : (views : List View) (cs : List Channel) (ls : List (List ℕ)) (k : ℕ) (c : Channel)
+pub planned_at : (views : List View) (cs : List Channel) (ls : List (List Plan)) (k : ℕ) (c : Channel)
     (ss : List (List View)) → k < length cs
-    → get_or (planned views cs ls) k ss ≡ stretches_by (get_or ls k whole) (records_in views (get_or cs k c).0)
+    → get_or (planned views cs ls) k ss ≡ stretches_by (counts_of (get_or ls k [])) (records_in views (get_or cs k c).0)
 planned_at views [] ls k c ss lt = absurd (omega (arith, lt))
 planned_at views (d ∷ cs) [] zero c ss lt = refl
-planned_at views (d ∷ cs) (ns ∷ ls) zero c ss lt = refl
+planned_at views (d ∷ cs) (ps ∷ ls) zero c ss lt = refl
 planned_at views (d ∷ cs) [] (suc k) c ss lt = planned_at views cs [] k c ss (omega (arith, lt))
-planned_at views (d ∷ cs) (ns ∷ ls) (suc k) c ss lt = planned_at views cs ls k c ss (omega (arith, lt))
+planned_at views (d ∷ cs) (ps ∷ ls) (suc k) c ss lt = planned_at views cs ls k c ss (omega (arith, lt))
 
-pub as_planned : (views : List View) (cs : List Channel) (ls : List (List ℕ)) → length (planned views cs ls) ≡ length cs
+pub as_planned : (views : List View) (cs : List Channel) (ls : List (List Plan))
+    → length (planned views cs ls) ≡ length cs
 as_planned views [] ls = refl
 as_planned views (c ∷ cs) [] = ap suc (as_planned views cs [])
-as_planned views (c ∷ cs) (ns ∷ ls) = ap suc (as_planned views cs ls)
+as_planned views (c ∷ cs) (ps ∷ ls) = ap suc (as_planned views cs ls)
 
--- of channels that are packed whole
-pub whole_planned : (o : Options) (room places : ℕ) (views : List View) (cs : List Channel)
-    → ((key : List ℕ) → length (records_in views key) ≤ 2 ^ 40)
-    → AllByRecursion (λ (c : Channel). IsReadable room places (records_in views c.0)) cs
-    → AllByRecursion (λ (c : Channel). StretchFits o (records_in views c.0)) cs
-    → AllByRecursion (CanBeWritten o room places) (planned views cs [])
-whole_planned o room places views [] few readable fit = tt
-whole_planned o room places views (c ∷ cs) few readable fit = (
-  record {
-    readable = whole_each (IsReadable room places) (records_in views c.0) (few c.0) readable.0;
-    fit = whole_each (StretchFits o) (records_in views c.0) (few c.0) fit.0;
-  },
-  whole_planned o room places views cs few readable.1 fit.1,
-)
+-- there is a plan for each
+pub plan_each : (o : Options) (room places : ℕ) (views : List View) (cs : List Channel) (ls : List (List Plan))
+    → AreWritable o room places views cs ls → length cs ≤ length ls
+plan_each o room places views [] ls all = omega arith
+plan_each o room places views (c ∷ cs) [] all = absurd all
+plan_each o room places views (c ∷ cs) (ps ∷ ls) all =
+    let rest = plan_each o room places views cs ls all.1 in
+    omega (arith, rest)
 
-pub whole_texts : (o : Options) (views : List View) (cs : List Channel) (text : List ℕ)
-    → ((key : List ℕ) → length (records_in views key) ≤ 2 ^ 40) → AreTexts (IsTextOn o) (planned views cs []) text
-    → AreTexts (λ (c : Channel) own. IsSeriesText o (records_in views c.0) own) cs text
-whole_texts o views [] text few e = e
-whole_texts o views (c ∷ cs) text few (own, (rest, a)) =
-    (own, (rest, (a.0, whole_text o (records_in views c.0) own (few c.0) a.1, whole_texts o views cs rest few a.2)))
-
-pub whole_parts : (o : Options) (views : List View) (cs : List Channel) (text : List ℕ)
-    → ((key : List ℕ) → length (records_in views key) ≤ 2 ^ 40)
-    → IsTextUpTo (IsTextOn o) (IsPartOn o) (planned views cs []) text
-    → IsTextUpTo (λ (c : Channel) own. IsSeriesText o (records_in views c.0) own)
-    (λ (c : Channel) own. IsPackedInPart o (records_in views c.0) own) cs text
-whole_parts o views [] text few is = is
-whole_parts o views (c ∷ cs) text few (inl part) = inl (whole_part o (records_in views c.0) text (few c.0) part)
-whole_parts o views (c ∷ cs) text few (inr (own, (rest, a))) = inr (
-  own,
-  (rest, (a.0, whole_text o (records_in views c.0) own (few c.0) a.1, whole_parts o views cs rest few a.2)),
-)
+pub written_at : {o : Options} {room places : ℕ} (views : List View) (cs : List Channel) (ls : List (List Plan)) (k : ℕ)
+    (c : Channel) → k < length cs → AreWritable o room places views cs ls
+    → CanBeWritten o room places (get_or ls k []) (records_in views (get_or cs k c).0)
+written_at views [] ls k c lt all = absurd (omega (arith, lt))
+written_at views (d ∷ cs) [] k c lt all = absurd all
+written_at views (d ∷ cs) (ps ∷ ls) zero c lt all = all.0
+written_at views (d ∷ cs) (ps ∷ ls) (suc k) c lt all = written_at views cs ls k c (omega (arith, lt)) all.1
 
 -- of channels of which this is found
 pub standings_of : (o : Options) (room places : ℕ) (views : List View) (cs : List Channel) (ss : List Standing)
-    (ls : List (List ℕ)) → AreReady o room places views cs ss ls → AreStandings o views cs ss
+    (ls : List (List Plan)) → AreReady Stretches o room places views cs ss ls → AreStandings o views cs ss
 standings_of o room places views [] [] ls ready = tt
 standings_of o room places views [] (s ∷ ss) ls ready = absurd ready
 standings_of o room places views (c ∷ cs) [] ls ready = absurd ready
 standings_of o room places views (c ∷ cs) (s ∷ ss) [] ready = absurd ready
-standings_of o room places views (c ∷ cs) (s ∷ ss) (ns ∷ ls) ready =
-    (ready.0.stands, standings_of o room places views cs ss ls ready.1)
+standings_of o room places views (c ∷ cs) (s ∷ ss) (ps ∷ ls) ready =
+    (stands_cut o (records_in views c.0) s ready.0.stands, standings_of o room places views cs ss ls ready.1)
 
-nothing_planned : (o : Options) (room places : ℕ) (vs : List View) (ns : List ℕ) → ns ≡ []
-    → CanBeWritten o room places (stretches_by ns vs)
-nothing_planned o room places vs ns e =
-    subst (λ (ms : List ℕ). CanBeWritten o room places (stretches_by ms vs)) (sym e)
-    (record { readable = tt; fit = tt })
+nothing_planned : (o : Options) (room places : ℕ) (vs : List View) (ps : List Plan) → ps ≡ []
+    → CanBeWritten o room places ps vs
+nothing_planned o room places vs ps e =
+    subst (λ (qs : List Plan). CanBeWritten o room places qs vs) (sym e)
+    (record { readable = tt; fit = tt; ways = tt })
 
-pub ready_planned : (o : Options) (room places : ℕ) (views : List View) (cs : List Channel) (ss : List Standing)
-    (ls : List (List ℕ)) → AreReady o room places views cs ss ls
-    → AllByRecursion (CanBeWritten o room places) (planned views cs ls)
-ready_planned o room places views [] ss ls ready = tt
-ready_planned o room places views (c ∷ cs) [] ls ready = absurd ready
-ready_planned o room places views (c ∷ cs) (s ∷ ss) [] ready = absurd ready
-ready_planned o room places views (c ∷ cs) (Fit ∷ ss) (ns ∷ ls) ready =
-    (ready.0.plan.1, ready_planned o room places views cs ss ls ready.1)
-ready_planned o room places views (c ∷ cs) (Broken ∷ ss) (ns ∷ ls) ready = (
-  nothing_planned o room places (records_in views c.0) ns ready.0.plan,
-  ready_planned o room places views cs ss ls ready.1,
+pub ready_planned : (cutting : Cutting) (o : Options) (room places : ℕ) (views : List View) (cs : List Channel)
+    (ss : List Standing) (ls : List (List Plan)) → AreReady cutting o room places views cs ss ls
+    → AreWritable o room places views cs ls
+ready_planned cutting o room places views [] ss ls ready = tt
+ready_planned cutting o room places views (c ∷ cs) [] ls ready = absurd ready
+ready_planned cutting o room places views (c ∷ cs) (s ∷ ss) [] ready = absurd ready
+ready_planned cutting o room places views (c ∷ cs) (Fit ∷ ss) (ps ∷ ls) ready =
+    (ready.0.plan.1, ready_planned cutting o room places views cs ss ls ready.1)
+ready_planned cutting o room places views (c ∷ cs) (Broken ∷ ss) (ps ∷ ls) ready = (
+  nothing_planned o room places (records_in views c.0) ps ready.0.plan,
+  ready_planned cutting o room places views cs ss ls ready.1,
 )
-ready_planned o room places views (c ∷ cs) (Misfit n f ∷ ss) (ns ∷ ls) ready = (
-  nothing_planned o room places (records_in views c.0) ns ready.0.plan,
-  ready_planned o room places views cs ss ls ready.1,
+ready_planned cutting o room places views (c ∷ cs) (Misfit n f ∷ ss) (ps ∷ ls) ready = (
+  nothing_planned o room places (records_in views c.0) ps ready.0.plan,
+  ready_planned cutting o room places views cs ss ls ready.1,
 )
 
 -- nothing is written of a channel that is left out
-no_text : (o : Options) (vs : List View) (ns : List ℕ) (own : List ℕ) → ns ≡ [] → IsTextOn o (stretches_by ns vs) own
+no_text : (o : Options) (vs : List View) (ps : List Plan) (own : List ℕ) → ps ≡ []
+    → IsTextOn o (stretches_by (counts_of ps) vs) own
     → own ≡ []
-no_text o vs ns own e is =
+no_text o vs ps own e is =
     is.text_is
-    ∙ ap concat (on_nothing o (stretches_by ns vs) is.records is.packed (ap (λ (ms : List ℕ). stretches_by ms vs) e))
+    ∙ ap concat (on_nothing o (stretches_by (counts_of ps) vs) is.records is.packed
+    (ap (λ (qs : List Plan). stretches_by (counts_of qs) vs) e))
 
-no_part : (o : Options) (vs : List View) (ns : List ℕ) (own : List ℕ) → ns ≡ []
-    → IsPartOn o (stretches_by ns vs) own → ⊥
-no_part o vs ns own e p =
-    let none : [] ≡ p.before ++ p.stretch ∷ p.back = sym (ap (λ (ms : List ℕ). stretches_by ms vs) e) ∙ p.parts in
+no_part : (o : Options) (vs : List View) (ps : List Plan) (own : List ℕ) → ps ≡ []
+    → IsPartOn o (stretches_by (counts_of ps) vs) own → ⊥
+no_part o vs ps own e p =
+    let none : [] ≡ p.before ++ p.stretch ∷ p.back =
+    sym (ap (λ (qs : List Plan). stretches_by (counts_of qs) vs) e) ∙ p.parts in
     let size : 0 ≡ length (p.before ++ p.stretch ∷ p.back) = ap (λ (ts : List (List View)). length ts) none in
     let long = length-append p.before (p.stretch ∷ p.back) in
     omega (arith, size, long)
@@ -486,42 +579,42 @@ without : (own rest text : List ℕ) → text ≡ own ++ rest → own ≡ [] →
 without own rest text e gone = sym (e ∙ ap (λ (xs : List ℕ). xs ++ rest) gone)
 
 pub kept_texts : (o : Options) (room places : ℕ) (views : List View) (cs : List Channel) (ss : List Standing)
-    (ls : List (List ℕ)) (text : List ℕ) → AreReady o room places views cs ss ls
+    (ls : List (List Plan)) (text : List ℕ) → AreReady Stretches o room places views cs ss ls
     → AreTexts (IsTextOn o) (planned views cs ls) text → AreStretched o views (kept_of cs ss) text
 kept_texts o room places views [] ss ls text ready e = e
 kept_texts o room places views (c ∷ cs) [] ls text ready a = absurd ready
 kept_texts o room places views (c ∷ cs) (s ∷ ss) [] text ready a = absurd ready
-kept_texts o room places views (c ∷ cs) (Fit ∷ ss) (ns ∷ ls) text ready (own, (rest, a)) =
+kept_texts o room places views (c ∷ cs) (Fit ∷ ss) (ps ∷ ls) text ready (own, (rest, a)) =
     let vs : List View = records_in views c.0 in (
       own,
       (
         rest,
         (
           a.0,
-          channel_text o vs (stretches_by ns vs) own ready.0.plan.0 a.1,
+          channel_text o vs (stretches_by (counts_of ps) vs) own ready.0.plan.0 a.1,
           kept_texts o room places views cs ss ls rest ready.1 a.2,
         ),
       ),
     )
-kept_texts o room places views (c ∷ cs) (Broken ∷ ss) (ns ∷ ls) text ready (own, (rest, a)) =
+kept_texts o room places views (c ∷ cs) (Broken ∷ ss) (ps ∷ ls) text ready (own, (rest, a)) =
     subst (λ (t : List ℕ). AreStretched o views (kept_of cs ss) t)
-    (without own rest text a.0 (no_text o (records_in views c.0) ns own ready.0.plan a.1))
+    (without own rest text a.0 (no_text o (records_in views c.0) ps own ready.0.plan a.1))
     (kept_texts o room places views cs ss ls rest ready.1 a.2)
-kept_texts o room places views (c ∷ cs) (Misfit n f ∷ ss) (ns ∷ ls) text ready (own, (rest, a)) =
+kept_texts o room places views (c ∷ cs) (Misfit n f ∷ ss) (ps ∷ ls) text ready (own, (rest, a)) =
     subst (λ (t : List ℕ). AreStretched o views (kept_of cs ss) t)
-    (without own rest text a.0 (no_text o (records_in views c.0) ns own ready.0.plan a.1))
+    (without own rest text a.0 (no_text o (records_in views c.0) ps own ready.0.plan a.1))
     (kept_texts o room places views cs ss ls rest ready.1 a.2)
 
 pub kept_parts : (o : Options) (room places : ℕ) (views : List View) (cs : List Channel) (ss : List Standing)
-    (ls : List (List ℕ)) (text : List ℕ) → AreReady o room places views cs ss ls
+    (ls : List (List Plan)) (text : List ℕ) → AreReady Stretches o room places views cs ss ls
     → IsTextUpTo (IsTextOn o) (IsPartOn o) (planned views cs ls) text → IsPartStretched o views (kept_of cs ss) text
 kept_parts o room places views [] ss ls text ready is = absurd is
 kept_parts o room places views (c ∷ cs) [] ls text ready is = absurd ready
 kept_parts o room places views (c ∷ cs) (s ∷ ss) [] text ready is = absurd ready
-kept_parts o room places views (c ∷ cs) (Fit ∷ ss) (ns ∷ ls) text ready (inl part) =
+kept_parts o room places views (c ∷ cs) (Fit ∷ ss) (ps ∷ ls) text ready (inl part) =
     let vs : List View = records_in views c.0 in
-    inl (channel_part o vs (stretches_by ns vs) text ready.0.plan.0 part)
-kept_parts o room places views (c ∷ cs) (Fit ∷ ss) (ns ∷ ls) text ready (inr (own, (rest, a))) =
+    inl (channel_part o vs (stretches_by (counts_of ps) vs) text ready.0.plan.0 part)
+kept_parts o room places views (c ∷ cs) (Fit ∷ ss) (ps ∷ ls) text ready (inr (own, (rest, a))) =
     let vs : List View = records_in views c.0 in
     inr (
       own,
@@ -529,49 +622,154 @@ kept_parts o room places views (c ∷ cs) (Fit ∷ ss) (ns ∷ ls) text ready (i
         rest,
         (
           a.0,
-          channel_text o vs (stretches_by ns vs) own ready.0.plan.0 a.1,
+          channel_text o vs (stretches_by (counts_of ps) vs) own ready.0.plan.0 a.1,
           kept_parts o room places views cs ss ls rest ready.1 a.2,
         ),
       ),
     )
-kept_parts o room places views (c ∷ cs) (Broken ∷ ss) (ns ∷ ls) text ready (inl part) =
-    absurd (no_part o (records_in views c.0) ns text ready.0.plan part)
-kept_parts o room places views (c ∷ cs) (Broken ∷ ss) (ns ∷ ls) text ready (inr (own, (rest, a))) =
+kept_parts o room places views (c ∷ cs) (Broken ∷ ss) (ps ∷ ls) text ready (inl part) =
+    absurd (no_part o (records_in views c.0) ps text ready.0.plan part)
+kept_parts o room places views (c ∷ cs) (Broken ∷ ss) (ps ∷ ls) text ready (inr (own, (rest, a))) =
     subst (λ (t : List ℕ). IsPartStretched o views (kept_of cs ss) t)
-    (without own rest text a.0 (no_text o (records_in views c.0) ns own ready.0.plan a.1))
+    (without own rest text a.0 (no_text o (records_in views c.0) ps own ready.0.plan a.1))
     (kept_parts o room places views cs ss ls rest ready.1 a.2)
-kept_parts o room places views (c ∷ cs) (Misfit n f ∷ ss) (ns ∷ ls) text ready (inl part) =
-    absurd (no_part o (records_in views c.0) ns text ready.0.plan part)
-kept_parts o room places views (c ∷ cs) (Misfit n f ∷ ss) (ns ∷ ls) text ready (inr (own, (rest, a))) =
+kept_parts o room places views (c ∷ cs) (Misfit n f ∷ ss) (ps ∷ ls) text ready (inl part) =
+    absurd (no_part o (records_in views c.0) ps text ready.0.plan part)
+kept_parts o room places views (c ∷ cs) (Misfit n f ∷ ss) (ps ∷ ls) text ready (inr (own, (rest, a))) =
     subst (λ (t : List ℕ). IsPartStretched o views (kept_of cs ss) t)
-    (without own rest text a.0 (no_text o (records_in views c.0) ns own ready.0.plan a.1))
+    (without own rest text a.0 (no_text o (records_in views c.0) ps own ready.0.plan a.1))
     (kept_parts o room places views cs ss ls rest ready.1 a.2)
 
+-- Channels that are packed whole, each of which is sound, and of whose series each can be packed.
+
+pub whole_standing : (o : Options) (room places : ℕ) (views : List View) (cs : List Channel) (ss : List Standing)
+    (ls : List (List Plan)) (k : ℕ) (c : Channel) (s : Standing) → AreReady Whole o room places views cs ss ls
+    → k < length cs → c ≡ get_or cs k c → s ≡ get_or ss k s → StandsAs Whole o (records_in views c.0) s
+whole_standing o room places views [] ss ls k c s ready lt at is = absurd (omega (arith, lt))
+whole_standing o room places views (d ∷ cs) [] ls k c s ready lt at is = absurd ready
+whole_standing o room places views (d ∷ cs) (t ∷ ss) [] k c s ready lt at is = absurd ready
+whole_standing o room places views (d ∷ cs) (t ∷ ss) (ps ∷ ls) zero c s ready lt at is =
+    subst (λ (u : Standing). StandsAs Whole o (records_in views c.0) u) (sym is)
+    (subst (λ (e : Channel). StandsAs Whole o (records_in views e.0) t) (sym at) ready.0.stands)
+whole_standing o room places views (d ∷ cs) (t ∷ ss) (ps ∷ ls) (suc k) c s ready lt at is =
+    whole_standing o room places views cs ss ls k c s ready.1 (omega (arith, lt)) at is
+
+pub as_standing : (cutting : Cutting) (o : Options) (room places : ℕ) (views : List View) (cs : List Channel)
+    (ss : List Standing) (ls : List (List Plan)) → AreReady cutting o room places views cs ss ls → length ss ≡ length cs
+as_standing cutting o room places views [] [] ls ready = refl
+as_standing cutting o room places views [] (s ∷ ss) ls ready = absurd ready
+as_standing cutting o room places views (c ∷ cs) [] ls ready = absurd ready
+as_standing cutting o room places views (c ∷ cs) (s ∷ ss) [] ready = absurd ready
+as_standing cutting o room places views (c ∷ cs) (s ∷ ss) (ps ∷ ls) ready =
+    ap suc (as_standing cutting o room places views cs ss ls ready.1)
+
+-- so do the first of them
+pub whole_leading : (o : Options) (room places : ℕ) (views : List View) (cs : List Channel) (ss : List Standing)
+    (ls : List (List Plan)) (k : ℕ) → AreReady Whole o room places views cs ss ls
+    → AllByRecursion (λ (c : Channel). AllByRecursion IsSound (records_in views c.0)) cs
+    → AllByRecursion IsNoMisfit (take k ss)
+    → AllByRecursion (λ (c : Channel). StretchFits o (records_in views c.0)) (take k cs)
+whole_leading o room places views cs ss ls zero ready sound fine = tt
+whole_leading o room places views [] ss ls (suc k) ready sound fine = tt
+whole_leading o room places views (c ∷ cs) [] ls (suc k) ready sound fine = absurd ready
+whole_leading o room places views (c ∷ cs) (s ∷ ss) [] (suc k) ready sound fine = absurd ready
+whole_leading o room places views (c ∷ cs) (Fit ∷ ss) (ps ∷ ls) (suc k) ready sound fine =
+    (fits_whole ready.0.stands, whole_leading o room places views cs ss ls k ready.1 sound.1 fine.1)
+whole_leading o room places views (c ∷ cs) (Broken ∷ ss) (ps ∷ ls) (suc k) ready sound fine =
+    absurd (ready.0.stands sound.0)
+whole_leading o room places views (c ∷ cs) (Misfit n f ∷ ss) (ps ∷ ls) (suc k) ready sound fine = absurd fine.0
+
+pub whole_texts : (o : Options) (room places : ℕ) (views : List View) (cs : List Channel) (ss : List Standing)
+    (ls : List (List Plan)) (text : List ℕ) → AreReady Whole o room places views cs ss ls
+    → AllByRecursion (λ (c : Channel). AllByRecursion IsSound (records_in views c.0)) cs → AllByRecursion IsNoMisfit ss
+    → AreTexts (IsTextOn o) (planned views cs ls) text
+    → AreTexts (λ (c : Channel) own. IsSeriesText o (records_in views c.0) own) cs text
+whole_texts o room places views [] ss ls text ready sound fine e = e
+whole_texts o room places views (c ∷ cs) [] ls text ready sound fine a = absurd ready
+whole_texts o room places views (c ∷ cs) (s ∷ ss) [] text ready sound fine a = absurd ready
+whole_texts o room places views (c ∷ cs) (Fit ∷ ss) (ps ∷ ls) text ready sound fine (own, (rest, a)) = (
+  own,
+  (
+    rest,
+    (
+      a.0,
+      whole_text o (records_in views c.0) (stretches_by (counts_of ps) (records_in views c.0)) own ready.0.plan.0 a.1,
+      whole_texts o room places views cs ss ls rest ready.1 sound.1 fine.1 a.2,
+    ),
+  ),
+)
+whole_texts o room places views (c ∷ cs) (Broken ∷ ss) (ps ∷ ls) text ready sound fine a =
+    absurd (ready.0.stands sound.0)
+whole_texts o room places views (c ∷ cs) (Misfit n f ∷ ss) (ps ∷ ls) text ready sound fine a = absurd fine.0
+
+pub whole_parts : (o : Options) (room places : ℕ) (views : List View) (cs : List Channel) (ss : List Standing)
+    (ls : List (List Plan)) (text : List ℕ) → AreReady Whole o room places views cs ss ls
+    → AllByRecursion (λ (c : Channel). AllByRecursion IsSound (records_in views c.0)) cs → AllByRecursion IsNoMisfit ss
+    → IsTextUpTo (IsTextOn o) (IsPartOn o) (planned views cs ls) text
+    → IsTextUpTo (λ (c : Channel) own. IsSeriesText o (records_in views c.0) own)
+    (λ (c : Channel) own. IsPackedInPart o (records_in views c.0) own) cs text
+whole_parts o room places views [] ss ls text ready sound fine is = is
+whole_parts o room places views (c ∷ cs) [] ls text ready sound fine is = absurd ready
+whole_parts o room places views (c ∷ cs) (s ∷ ss) [] text ready sound fine is = absurd ready
+whole_parts o room places views (c ∷ cs) (Fit ∷ ss) (ps ∷ ls) text ready sound fine (inl part) =
+    inl (whole_part o (records_in views c.0) (stretches_by (counts_of ps) (records_in views c.0)) text ready.0.plan.0
+    part)
+whole_parts o room places views (c ∷ cs) (Fit ∷ ss) (ps ∷ ls) text ready sound fine (inr (own, (rest, a))) = inr (
+  own,
+  (
+    rest,
+    (
+      a.0,
+      whole_text o (records_in views c.0) (stretches_by (counts_of ps) (records_in views c.0)) own ready.0.plan.0 a.1,
+      whole_parts o room places views cs ss ls rest ready.1 sound.1 fine.1 a.2,
+    ),
+  ),
+)
+whole_parts o room places views (c ∷ cs) (Broken ∷ ss) (ps ∷ ls) text ready sound fine is =
+    absurd (ready.0.stands sound.0)
+whole_parts o room places views (c ∷ cs) (Misfit n f ∷ ss) (ps ∷ ls) text ready sound fine is = absurd fine.0
+
+-- a channel that fits can be written as it is planned
+pub written_by : {o : Options} {room places : ℕ} {ns : List ℕ} {ps : List Plan} {vs : List View}
+    → AllByRecursion (IsReadable places) (stretches_by ns vs) → AllByRecursion (StretchFits o) (stretches_by ns vs)
+    → EachGoes o.encoding room ps (stretches_by ns vs) → counts_of ps ≡ ns → CanBeWritten o room places ps vs
+written_by {o = o} {room = room} {places = places} {ps = ps} {vs = vs} readable fit ways e = record {
+  readable = subst (λ (ms : List ℕ). AllByRecursion (IsReadable places) (stretches_by ms vs)) (sym e) readable;
+  fit = subst (λ (ms : List ℕ). AllByRecursion (StretchFits o) (stretches_by ms vs)) (sym e) fit;
+  ways = subst (λ (ms : List ℕ). EachGoes o.encoding room ps (stretches_by ms vs)) (sym e) ways;
+}
+
+pub ready_fit : (cutting : Cutting) (o : Options) (room places : ℕ) (ns : List ℕ) (ps : List Plan) (vs : List View)
+    → AllByRecursion IsSound vs → IsCutAs cutting vs (stretches_by ns vs)
+    → AllByRecursion (IsReadable places) (stretches_by ns vs) → AllByRecursion (StretchFits o) (stretches_by ns vs)
+    → EachGoes o.encoding room ps (stretches_by ns vs) → counts_of ps ≡ ns → IsReady cutting o room places vs Fit ps
+ready_fit cutting o room places ns ps vs sound cut readable fit ways e = record {
+  stands = record { sound = sound; stretches = stretches_by ns vs; cut = cut; fit = fit };
+  plan = (
+    subst (λ (ms : List ℕ). IsCutAs cutting vs (stretches_by ms vs)) (sym e) cut,
+    written_by readable fit ways e,
+  );
+}
+
 -- one more channel
-pub ready_more : (o : Options) (room next places further : ℕ) (views : List View) (cs : List Channel)
-    (ss : List Standing) (ls : List (List ℕ)) (c : Channel) (s : Standing) (ns : List ℕ) → room ≤ next
-    → places ≤ further → AreReady o room places views cs ss ls → IsReady o next further (records_in views c.0) s ns
-    → AreReady o next further views (cs ++ c ∷ []) (ss ++ s ∷ []) (ls ++ ns ∷ [])
-ready_more o room next places further views [] [] [] c s ns le within ready one = (one, tt)
-ready_more o room next places further views [] [] (ms ∷ ls) c s ns le within ready one = absurd ready
-ready_more o room next places further views [] (t ∷ ss) ls c s ns le within ready one = absurd ready
-ready_more o room next places further views (d ∷ cs) [] ls c s ns le within ready one = absurd ready
-ready_more o room next places further views (d ∷ cs) (t ∷ ss) [] c s ns le within ready one = absurd ready
-ready_more o room next places further views (d ∷ cs) (t ∷ ss) (ms ∷ ls) c s ns le within ready one =
-    (with_room t ready.0, ready_more o room next places further views cs ss ls c s ns le within ready.1 one)
+pub ready_more : (cutting : Cutting) (o : Options) (room next places further : ℕ) (views : List View)
+    (cs : List Channel) (ss : List Standing) (ls : List (List Plan)) (c : Channel) (s : Standing) (ps : List Plan)
+    → room ≤ next → places ≤ further → AreReady cutting o room places views cs ss ls
+    → IsReady cutting o next further (records_in views c.0) s ps
+    → AreReady cutting o next further views (cs ++ c ∷ []) (ss ++ s ∷ []) (ls ++ ps ∷ [])
+ready_more cutting o room next places further views [] [] [] c s ps le within ready one = (one, tt)
+ready_more cutting o room next places further views [] [] (qs ∷ ls) c s ps le within ready one = absurd ready
+ready_more cutting o room next places further views [] (t ∷ ss) ls c s ps le within ready one = absurd ready
+ready_more cutting o room next places further views (d ∷ cs) [] ls c s ps le within ready one = absurd ready
+ready_more cutting o room next places further views (d ∷ cs) (t ∷ ss) [] c s ps le within ready one = absurd ready
+ready_more cutting o room next places further views (d ∷ cs) (t ∷ ss) (qs ∷ ls) c s ps le within ready one =
+    (with_room t ready.0, ready_more cutting o room next places further views cs ss ls c s ps le within ready.1 one)
   where
-    with_room : (u : Standing) → IsReady o room places (records_in views d.0) u ms
-        → IsReady o next further (records_in views d.0) u ms
+    with_room : (u : Standing) → IsReady cutting o room places (records_in views d.0) u qs
+        → IsReady cutting o next further (records_in views d.0) u qs
     with_room Fit h = record {
       stands = h.stands;
-      plan = (
-        h.plan.0,
-        record {
-          readable = roomier room next places further (stretches_by ms (records_in views d.0)) le within
-              h.plan.1.readable;
-          fit = h.plan.1.fit;
-        },
-      );
+      plan = (h.plan.0, written_on next further le within h.plan.1);
     }
     with_room Broken h = record { stands = h.stands; plan = h.plan }
     with_room (Misfit n f) h = record { stands = h.stands; plan = h.plan }

@@ -1,17 +1,20 @@
 -- The series of a stretch, and whether it fits.
-use Rattle.std.proofs.Common.{◌≡◌, ℕ, ◌+◌, ◌%◌, ◌<◌, ℤ, List, [], ◌∷◌}
-use Rattle.std.proofs.Common.{sym, subst, ap, ◌∙◌, refl, arith, Result, Ok, Err, OnOk, IfErr, All}
+use Rattle.std.proofs.Common.{◌≡◌, ℕ, ◌+◌, ◌%◌, ◌<◌, ℤ, List, [], ◌∷◌, length}
+use Rattle.std.proofs.Common.{sym, subst, ap, ◌∙◌, refl, arith, All}
 use Rattle.mseed_time.specs.declared.outcome.LeapStep.{LeapStep}
 use Rattle.mseed_record.specs.View.{View}
-use Rattle.mseed_audit.specs.Series.{Trace, IsSeriesOf}
+use Rattle.mseed_audit.specs.Series.{AreSteps, Trace, IsSeriesOf}
 use Rattle.mseed_stretches.specs.declared.stretch.Stretch.{Stretch}
 use Rattle.mseed_pack.specs.Stretches.{differences}
 use Rattle.mseed_pack.specs.Fitting.{Fits, IsDifferenceOf, IsMisfit, IsSampleOf}
 use Rattle.mseed_pack.specs.declared.options.Encoding.{Encoding}
 use Rattle.mseed_pack.specs.declared.fault.PackFault.{PackFault}
+use Rattle.mseed_pack.specs.Traces.{headed}
 use Rattle.mseed_pack.specs.declared.options.Options.{Options}
+use Rattle.mseed_pack.specs.declared.series_head.SeriesHead.{SeriesHead}
 use Rattle.mseed_repack.specs.Repack.{StretchFits, StretchMisfits}
 use Rattle.mseed_repack.specs.Restretch.{IsNumberedOn}
+use Rattle.mseed_repack.specs.private.Outline.{AreHeld}
 use Rattle.mseed_repack.specs.private.Reading.{AreOf}
 use Rattle.mseed_repack.specs.private.Planning.{IsBegunBy}
 
@@ -33,15 +36,26 @@ series_is s (first ∷ rest) xs ss is are =
       steps = all.steps;
     }
 
-pub fits_as : {U : Type 0} (r : Result U PackFault) (o : Options) (vs : List View) (s : Trace)
-    → IsSeriesOf s vs → OnOk r (Fits s o) → OnOk r (StretchFits o vs)
-fits_as (Ok u) o vs s series fits = record { trace = s; series = series; fits = fits }
-fits_as (Err e) o vs s series fits = tt
+pub series_fits : (o : Options) (vs : List View) (s : Trace) → IsSeriesOf s vs → Fits s o → StretchFits o vs
+series_fits o vs s series fits = record { trace = s; series = series; fits = fits }
 
-pub misfits_as : {U : Type 0} (r : Result U PackFault) (o : Options) (vs : List View) (s : Trace)
-    → IsSeriesOf s vs → IfErr r (λ f. IsMisfit s o f) → IfErr r (λ f. StretchMisfits o f vs)
-misfits_as (Ok u) o vs s series misfit = tt
-misfits_as (Err f) o vs s series misfit = record { trace = s; series = series; misfit = misfit }
+pub series_misfits : (o : Options) (vs : List View) (s : Trace) (fault : PackFault) → IsSeriesOf s vs
+    → IsMisfit s o fault → StretchMisfits o fault vs
+series_misfits o vs s fault series misfit = record { trace = s; series = series; misfit = misfit }
+
+-- a series can be packed whose samples the encoding holds, where it can but for them
+pub series_held : (o : Options) (vs : List View) (head : SeriesHead) (xs : List ℤ) → IsSeriesOf (headed head xs) vs
+    → length xs ≡ head.count → AreHeld o.encoding xs
+    → ((samples : List ℤ) (options : Options) → length samples ≡ head.count
+    → All (IsSampleOf options.encoding) samples → All (IsDifferenceOf options.encoding) (differences samples)
+    → Fits (headed head samples) options) → StretchFits o vs
+series_held o vs head xs series size held fits =
+    series_fits o vs (headed head xs) series (fits xs o size held.0 held.1)
+
+-- the leap seconds of its samples
+pub head_places : (m n : ℕ) (ss ts : List (ℕ × LeapStep)) → m ≡ n → ts ≡ ss → AreSteps n ss → AreSteps m ts
+head_places m n ss ts e f h =
+    subst (λ (us : List (ℕ × LeapStep)). AreSteps m us) (sym f) (subst (λ (k : ℕ). AreSteps k ss) (sym e) h)
 
 -- what fits doesn't depend on the sequence number
 pub fits_on : (o next : Options) (n : ℕ) (vs : List View) → IsNumberedOn o n next → StretchFits o vs

@@ -9,6 +9,7 @@ use Rattle.std.proofs.lemmas.Int.{ints, to_z-of_z}
 use Rattle.std.proofs.lemmas.List.{drop-drop, drop-take, length-drop, take-take}
 use Rattle.std.proofs.Math.Seq.{drop-append_seam, take-append_seam}
 use Rattle.mseed_time.specs.declared.outcome.LeapStep.{LeapStep}
+use Rattle.mseed_time.specs.declared.rate.Rate.{Rate}
 use Rattle.mseed_record.specs.View.{View}
 use Rattle.mseed_steim.specs.Reading.{IsSteim, IsWhole, count_of}
 use Rattle.mseed_steim.specs.Samples.{AreEnds, differences_from as differences_in, steps_of}
@@ -17,20 +18,19 @@ use Rattle.mseed_steim.specs.declared.fault.Ends.{Ends}
 use Rattle.mseed_audit.specs.Follows.{IsSound}
 use Rattle.mseed_audit.specs.Series.{AreJoined, IsSeriesOf, Trace, none, one}
 use Rattle.mseed_audit.proofs.Joined.{count_is}
-use Rattle.mseed_stretches.specs.declared.stretch.Stretch.{Stretch}
 use Rattle.mseed_pack.specs.Fitting.{Fits}
 use Rattle.mseed_pack.specs.Stretches.{differences, differences_from}
 use Rattle.mseed_pack.specs.Supplies.{IsNextGiven}
+use Rattle.mseed_pack.specs.Traces.{headed}
 use Rattle.mseed_pack.specs.declared.options.Options.{Options}
+use Rattle.mseed_pack.specs.declared.series_head.SeriesHead.{SeriesHead}
 use Rattle.mseed_repack.specs.Repack.{StretchFits}
-use Rattle.mseed_repack.specs.private.Planning.{IsBegunBy}
 use Rattle.mseed_repack.specs.private.Outline.{AreNear, IsKnown, IsOutline, last_behind, says_near}
 use Rattle.mseed_repack.specs.private.Reading.{IsSoundWalk}
-use Rattle.mseed_repack.specs.private.Supplying.{AreSteimOf, IsLast, IsSupplied, IsUnpackable}
+use Rattle.mseed_repack.specs.private.Supplying.{AreUnread, AreSteimOf, IsLast, IsSupplied, IsUnpackable}
 use Rattle.mseed_repack.specs.declared.outline.Nearness.{Nearness}
 use Rattle.mseed_repack.specs.declared.outline.Nearness.TheVariants.{Empty, Near, Unknown}
 use Rattle.mseed_repack.proofs.Near.{ends_on, last_append}
-use Rattle.mseed_repack.proofs.Stretched.{series_is}
 
 same_differences : (before : ℤ) (xs : List ℤ) → differences_in before xs ≡ differences_from before xs
 same_differences before [] = refl
@@ -404,14 +404,38 @@ near_known Empty xs says known = absurd (false≢true says)
 near_known (Near last) xs says known = known.1
 near_known Unknown xs says known = absurd (false≢true says)
 
+-- records have one list of samples
+joined_only : (vs : List View) (xs ys : List ℤ) → AllByRecursion IsSound vs → AreJoined vs xs → AreJoined vs ys
+    → ys ≡ xs
+joined_only [] xs ys sound a b = joined_none ys b ∙ sym (joined_none xs a)
+joined_only (v ∷ vs) xs ys sound a b =
+    let first = joined_next v vs xs a in
+    let other = joined_next v vs ys b in
+    let here : other.0 ≡ first.0 = only_one v first.0 other.0 sound.0 first.1.1.0 other.1.1.0 in
+    let rest : other.1.0 ≡ first.1.0 = joined_only vs first.1.0 other.1.0 sound.1 first.1.1.1.0 other.1.1.1.0 in
+    other.1.1.1.1 ∙ ap (λ (s : List ℤ). s ++ other.1.0) here ∙ ap (λ (more : List ℤ). first.0 ++ more) rest
+    ∙ sym first.1.1.1.1
+
+-- records that go from frames to frames, by their outline
+pub unread_by : {key : List ℕ} {vs : List View} {count bears : ℕ} {nearness : Nearness} {steps : List (ℕ × LeapStep)}
+    (start : ℤ) (rate : Rate) → IsOutline key vs count bears nearness steps → AllByRecursion IsSound vs
+    → IsTrue (says_near nearness) → AllByRecursion IsUnpackable vs → AreUnread vs
+unread_by {vs = vs} {nearness = nearness} start rate h sound says unpackable = record {
+  unpackable = unpackable;
+  near = λ xs joined.
+      subst (λ (ys : List ℤ). AreNear ys)
+      (sym (joined_only vs h.samples xs sound (h.are start rate).samples joined))
+      (near_known nearness h.samples says h.known);
+}
+
 pub steim_of : {key : List ℕ} {vs : List View} {count bears : ℕ} {nearness : Nearness}
-    {steps : List (ℕ × LeapStep)} → IsOutline key vs count bears nearness steps → IsTrue (says_near nearness)
-    → AllByRecursion IsUnpackable vs → AreSteimOf key vs count (take bears steps)
-steim_of {nearness = nearness} h says steim = record {
-  unpackable = steim;
+    {steps : List (ℕ × LeapStep)} (start : ℤ) (rate : Rate) → IsOutline key vs count bears nearness steps
+    → AreUnread vs → AreSteimOf key vs count (take bears steps)
+steim_of start rate h unread = record {
+  unpackable = unread.unpackable;
   samples = h.samples;
   are = h.are;
-  near = near_known nearness h.samples says h.known;
+  near = unread.near h.samples (h.are start rate).samples;
   count_is = h.count_is;
   places = h.places;
 }
@@ -507,21 +531,16 @@ pub record HasSupply {S : Type 0} (leads : S → Type 0) (left : S → List View
   pub series : IsSeriesOf s (left rest)
   pub fits : Fits s o
 
--- the trace of a series that begins so
-abbrev pub begun_trace : Stretch → List ℤ → List (ℕ × LeapStep) → Trace
-begun_trace s xs ss = record { codes = s.codes; start = s.start; rate = s.rate; samples = xs; steps = ss }
-
 pub has_supply : {S : Type 0} {leads : S → Type 0} {left : S → List View} {rest : S} {count : ℕ}
-    {steps : List (ℕ × LeapStep)} (stretch : Stretch) (o : Options) (first : ℤ) (room : List ℤ)
-    (h : AreSteimOf stretch.codes (left rest) count steps) → IsSoundWalk leads left rest
-    → IsBegunBy stretch (left rest) → 7056 ≤ length room
-    → ((xs : List ℤ) → AreJoined (left rest) xs → get_or xs 0 (pos 0) ≡ first) → StretchFits o (left rest)
+    {steps : List (ℕ × LeapStep)} (head : SeriesHead) (o : Options) (room : List ℤ)
+    (h : AreSteimOf head.codes (left rest) count steps) → IsSoundWalk leads left rest
+    → IsSeriesOf (headed head h.samples) (left rest) → 7056 ≤ length room
+    → ((xs : List ℤ) → AreJoined (left rest) xs → get_or xs 0 (pos 0) ≡ head.first) → StretchFits o (left rest)
     → ((s t : Trace) (vs : List View) → IsSeriesOf s vs → IsSeriesOf t vs → s ≡ t)
-    → HasSupply leads left rest first room h.samples o (begun_trace stretch h.samples steps)
-has_supply {left = left} {rest = rest} {steps = steps} stretch o first room h walks begun fits is can one_series =
-    let joined : AreJoined (left rest) h.samples = (h.are stretch.start stretch.rate).samples in
-    let trace : Trace = begun_trace stretch h.samples steps in
-    let series : IsSeriesOf trace (left rest) = series_is stretch (left rest) h.samples steps begun h.are in
+    → HasSupply leads left rest head.first room h.samples o (headed head h.samples)
+has_supply {left = left} {rest = rest} head o room h walks series fits is can one_series =
+    let joined : AreJoined (left rest) h.samples = (h.are head.start head.rate).samples in
+    let trace : Trace = headed head h.samples in
     record {
       supplied = supplied_first walks h.unpackable fits joined h.near (is h.samples joined);
       first_is = is h.samples joined;

@@ -1,6 +1,6 @@
 -- Records that a walk has gone over.
 use Rattle.std.proofs.Common.{◌≡◌, ℕ, ◌+◌, ◌≤◌, ℤ, List, [], ◌∷◌, ◌++◌, refl, sym, ap, subst, ◌∙◌, arith}
-use Rattle.std.proofs.Common.{append_assoc, append-nil, drop, ◌-◌, ◌<◌}
+use Rattle.std.proofs.Common.{append_assoc, append-nil, drop, length, length-append, ◌-◌, ◌*◌, ◌<◌}
 use Rattle.std.specs.List.{AllByRecursion}
 use Rattle.std.proofs.lemmas.List.{drop-drop, drop_all}
 use Rattle.mseed_time.specs.declared.outcome.LeapStep.{LeapStep}
@@ -78,7 +78,16 @@ abbrev pub AreReadSo : ℕ → ℕ → List ℤ → List (ℕ × LeapStep) → L
 AreReadSo m k samples steps vs = (key : List ℕ) → IsRead key vs m k samples steps
 
 abbrev pub AreOutlinedSo : ℕ → ℕ → Nearness → List (ℕ × LeapStep) → List View → Type 0
-AreOutlinedSo m k nearness steps vs = (key : List ℕ) → IsOutlined key vs m k nearness steps
+AreOutlinedSo m k nearness steps vs =
+    (m ≤ 65_535 * length vs) × ((key : List ℕ) → IsOutlined key vs m k nearness steps)
+
+-- there are no more records before one that is left than there are in all
+pub few_so_far : {P : List View → Type 0} {all rest : List View} {v : View} → (h : IsNext P all v rest)
+    → length h.gone + 1 ≤ length all
+few_so_far {rest = rest} {v = v} h =
+    let size = length-append h.gone (v ∷ rest) in
+    let whole : length _ ≡ length (h.gone ++ v ∷ rest) = ap (λ (vs : List View). length vs) h.parts in
+    omega (arith, size, whole)
 
 -- what is left behind so many records
 pub dropped_more : (t : ℕ) (vs rest : List View) (v : View) → drop t vs ≡ v ∷ rest → rest ≡ drop (t + 1) vs

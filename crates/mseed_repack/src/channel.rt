@@ -4,14 +4,15 @@ ghost use Rattle.std.specs.List.{AllByRecursion};
 ghost use Rattle.mseed_record.specs.Viewing.{view_of};
 ghost use Rattle.mseed_audit.specs.Follows.{IsSound};
 ghost use Rattle.mseed_stretches.specs.Stretches.{AreStretches};
-ghost use Rattle.mseed_repack.specs.private.Planning.{IsCut, IsReadable, stretches_by};
+ghost use Rattle.mseed_repack.specs.private.Planning.{CanBeWritten, IsCut, IsReadable, counts_of, stretches_by};
 ghost use Rattle.mseed_repack.specs.Restretch.{IsChannelRepacking};
 
 use crate::channel_fault::ChannelFault;
 use crate::fitting::fit_stretches;
 use crate::numbering::pack_stretches;
+use crate::plan::Plan;
 use crate::reading::count_steps;
-use crate::room::room_for;
+use crate::room::blank_steps;
 use crate::stretching::cut_stretches;
 use crate::unpacking::Unpacking;
 use crate::walk::{Part, Row, Walk};
@@ -24,7 +25,10 @@ use std::alloc::Allocator;
 
 /// Packs the records of one channel, in their order, anew: stretch by stretch, each from its own start, with sequence
 /// numbers that run on. All stretches are known to fit before the first byte is written. Memory is requested
-/// before it, too: for how many records each stretch has, the samples of the largest one, and all leap seconds.
+/// before it, too: for how each stretch is packed, for all leap seconds, and for the samples of the largest stretch
+/// that goes by a list. A stretch goes from frames to frames, and no memory is requested for its samples, where its
+/// records are Steim, and so is what is written, no record has more than 7,056 samples, and it shows without reading
+/// them that each sample is the one before it plus a difference of 30 bits.
 ///
 /// # Errors
 ///
@@ -47,42 +51,75 @@ pub fn repack_channel<A: Allocator + Copy, W: Sink>(
     }
     let mut lengths = Vec::new(alloc);
     match cut_stretches(row, &mut lengths) {
-        Ok(most) => repack_cut(alloc, records, &lengths, most, options, output),
+        Ok(()) => repack_cut(alloc, records, &lengths, options, output),
         Err(_) => Err(ChannelFault::Memory),
     }
 }
 
-/// The same of sound records, by how many each stretch has, and the most samples of one.
+/// The same of sound records, by how many each stretch has.
 fn repack_cut<A: Allocator + Copy, W: Sink>(
     alloc: A,
     records: &[RecordView],
     lengths: &[usize],
-    most: usize,
     options: &Options,
     output: &mut W,
 ) -> Result<(), ChannelFault>
+    requires few { length records.now ≤ 2 ^ 40 }
     requires sound { AllByRecursion IsSound (map view_of records.now) }
-    requires cut { IsCut most lengths.now (map view_of records.now) }
+    requires cut { IsCut lengths.now (map view_of records.now) }
     ensures { IsChannelRepacking options.now (map view_of records.now) result
         (W.written output.old) (W.written output.new) }
 {
-    match room_for(alloc, most, count_steps(records)) {
-        Ok(mut room) => repack_within(
+    match blank_steps(alloc, count_steps(records)) {
+        Ok(mut steps) => repack_within(
+            alloc,
             Row { records, index: 0 },
             lengths,
             options,
-            &mut room.samples,
-            &mut room.steps,
+            &mut steps,
             output,
         ),
         Err(_) => Err(ChannelFault::Memory),
     }
 }
 
-/// The same with lists that have room for the samples and leap seconds of each stretch.
-fn repack_within<'a, R: Walk<'a>, W: Sink>(
+/// The same with a list that has room for the leap seconds of each stretch.
+fn repack_within<'a, A: Allocator + Copy, R: Walk<'a>, W: Sink>(
+    alloc: A,
     records: R,
     lengths: &[usize],
+    options: &Options,
+    steps: &mut [(u64, LeapStep)],
+    output: &mut W,
+) -> Result<(), ChannelFault>
+    requires led { R.leads records }
+    requires sound { AllByRecursion IsSound (R.left records) }
+    requires are { AreStretches (R.left records) (stretches_by lengths.now (R.left records)) }
+    requires readable { AllByRecursion (IsReadable (length steps.old))
+        (stretches_by lengths.now (R.left records)) }
+    ensures { IsChannelRepacking options.now (R.left records) result (W.written output.old) (W.written output.new) }
+{
+    let mut samples = Vec::new(alloc);
+    let mut plans = Vec::new(alloc);
+    match fit_stretches(
+        alloc,
+        records,
+        lengths,
+        options,
+        &mut plans,
+        &mut samples,
+        steps,
+    ) {
+        Ok(None) => repack_planned(records, &plans, options, &mut samples, steps, output),
+        Ok(Some(misfit)) => Err(ChannelFault::Misfit(misfit.number, misfit.fault)),
+        Err(_) => Err(ChannelFault::Memory),
+    }
+}
+
+/// The same by how each stretch is packed, of which each fits.
+fn repack_planned<'a, R: Walk<'a>, W: Sink>(
+    records: R,
+    plans: &[Plan],
     options: &Options,
     samples: &mut [i32],
     steps: &mut [(u64, LeapStep)],
@@ -90,15 +127,10 @@ fn repack_within<'a, R: Walk<'a>, W: Sink>(
 ) -> Result<(), ChannelFault>
     requires led { R.leads records }
     requires sound { AllByRecursion IsSound (R.left records) }
-    requires are { AreStretches (R.left records) (stretches_by lengths.now (R.left records)) }
-    requires readable { AllByRecursion (IsReadable (length samples.old) (length steps.old))
-        (stretches_by lengths.now (R.left records)) }
+    requires are { AreStretches (R.left records) (stretches_by (counts_of plans.now) (R.left records)) }
+    requires ready { CanBeWritten options.now (length samples.old) (length steps.old) plans.now (R.left records) }
     ensures { IsChannelRepacking options.now (R.left records) result (W.written output.old) (W.written output.new) }
 {
-    match fit_stretches(records, lengths, options, samples, steps) {
-        Ok(()) => {}
-        Err(misfit) => return Err(ChannelFault::Misfit(misfit.number, misfit.fault)),
-    }
     let mut packer = Packer::new();
     let mut unpacking = Unpacking::none(Part {
         rest: records,
@@ -106,7 +138,7 @@ fn repack_within<'a, R: Walk<'a>, W: Sink>(
     });
     match pack_stretches(
         records,
-        lengths,
+        plans,
         options,
         samples,
         steps,

@@ -1,13 +1,14 @@
 //! Whether the stretches of a channel can be packed.
-ghost use Rattle.std.specs.Prelude.{length, IfErr, OnOk};
+ghost use Rattle.std.specs.Prelude.{◌≡◌, ◌≤◌, [], length, IfOk};
 ghost use Rattle.std.specs.List.{AllByRecursion};
-ghost use Rattle.mseed_repack.specs.Repack.{StretchFits};
-ghost use Rattle.mseed_repack.specs.private.Planning.{IsFirstMisfit, IsReadable, stretches_by};
+ghost use Rattle.mseed_repack.specs.private.Planning.{AreFitting, IsReadable, stretches_by};
 
-use crate::series::fit_series;
+use crate::plan::Plan;
+use crate::series::{Fitting, fit_series};
 use crate::walk::{Part, Walk, behind};
 use mseed_pack::{Options, PackFault};
 use mseed_time::LeapStep;
+use std::alloc::{AllocError, Allocator};
 
 /// The first stretch of a channel that can't be packed: its number, from 1, and why.
 #[derive(Clone, Copy)]
@@ -16,21 +17,27 @@ pub(crate) struct Misfit {
     pub(crate) fault: PackFault,
 }
 
-/// Whether each stretch of a channel's records can be packed, by how many records each has. There is room for the
-/// samples and for the leap seconds of each.
-pub(crate) fn fit_stretches<'a, R: Walk<'a>>(
+/// The first stretch of a channel's records that can't be packed, by how many records each has. How each stretch before
+/// it is packed is put into a list, which is empty. The list of samples grows where a stretch wants more room.
+///
+/// # Errors
+///
+/// `AllocError` where there is no memory for either list.
+pub(crate) fn fit_stretches<'a, A: Allocator + Copy, R: Walk<'a>>(
+    alloc: A,
     records: R,
     lengths: &[usize],
     options: &Options,
-    samples: &mut [i32],
+    plans: &mut Vec<Plan, A>,
+    samples: &mut Vec<i32, A>,
     steps: &mut [(u64, LeapStep)],
-) -> Result<(), Misfit>
+) -> Result<Option<Misfit>, AllocError>
     requires led { R.leads records }
-    requires readable { AllByRecursion (IsReadable (length samples.old) (length steps.old))
-        (stretches_by lengths.now (R.left records)) }
-    ensures ok { OnOk result (AllByRecursion (StretchFits options.now) (stretches_by lengths.now (R.left records))) }
-    ensures err { IfErr result (λ misfit. IsFirstMisfit options.now misfit.number misfit.fault
-        (stretches_by lengths.now (R.left records))) }
+    requires readable { AllByRecursion (IsReadable (length steps.old)) (stretches_by lengths.now (R.left records)) }
+    requires none { plans.old.items ≡ [] }
+    ensures found { IfOk result (λ misfit. AreFitting options.now (length samples.new.items) lengths.now
+        plans.new.items (stretches_by lengths.now (R.left records)) misfit) }
+    ensures grown { IfOk result (λ _. length samples.old.items ≤ length samples.new.items) }
 {
     let mut rest = records;
     for (number, count) in lengths.iter().enumerate() {
@@ -38,17 +45,20 @@ pub(crate) fn fit_stretches<'a, R: Walk<'a>>(
             rest,
             count: *count,
         };
-        match fit_series(stretch, options, samples, steps) {
-            Ok(()) => {}
-            Err(fault) => return Err(Misfit {
+        match fit_series(alloc, stretch, options, samples, steps)? {
+            Fitting::Fits(way) => plans.push(Plan {
+                records: *count,
+                way,
+            })?,
+            Fitting::Misfits(fault) => return Ok(Some(Misfit {
                 number: number as u64 + 1,
                 fault,
-            }),
+            })),
         }
         if number + 1 == lengths.len() {
-            return Ok(());
+            return Ok(None);
         }
         rest = behind(rest, *count);
     }
-    Ok(())
+    Ok(None)
 }

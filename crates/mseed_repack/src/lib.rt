@@ -12,6 +12,7 @@ mod law;
 mod numbering;
 mod outline;
 mod packing;
+mod plan;
 mod reading;
 mod refusing;
 mod repacking;

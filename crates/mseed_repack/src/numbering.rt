@@ -1,10 +1,10 @@
 //! Packing a channel stretch by stretch, with sequence numbers that run on.
 ghost use Rattle.std.specs.Prelude.{length, IfErr, OnOk};
-ghost use Rattle.std.specs.List.{AllByRecursion};
-ghost use Rattle.mseed_repack.specs.Repack.{StretchFits, Wrote};
+ghost use Rattle.mseed_repack.specs.Repack.{Wrote};
 ghost use Rattle.mseed_repack.specs.Restretch.{IsNumberedOn};
-ghost use Rattle.mseed_repack.specs.private.Planning.{IsPartOn, IsReadable, IsTextOn, stretches_by};
+ghost use Rattle.mseed_repack.specs.private.Planning.{CanBeWritten, IsPartOn, IsTextOn, counts_of, stretches_by};
 
+use crate::plan::Plan;
 use crate::series::pack_series;
 use crate::unpacking::Unpacking;
 use crate::walk::{Part, Walk, behind};
@@ -12,14 +12,14 @@ use mseed_pack::{Options, Packer};
 use mseed_stream::{Failed, Sink};
 use mseed_time::LeapStep;
 
-/// Writes the records of a channel's stretches, of so many records each, of which each can be packed.
+/// Writes the records of a channel's stretches, of which each can be packed, by how each is.
 ///
 /// # Errors
 ///
 /// `Failed` where the output failed: a part was written.
 pub(crate) fn pack_stretches<'a, R: Walk<'a>, W: Sink>(
     records: R,
-    lengths: &[usize],
+    plans: &[Plan],
     options: &Options,
     samples: &mut [i32],
     steps: &mut [(u64, LeapStep)],
@@ -28,29 +28,30 @@ pub(crate) fn pack_stretches<'a, R: Walk<'a>, W: Sink>(
     output: &mut W,
 ) -> Result<(), Failed>
     requires led { R.leads records }
-    requires readable { AllByRecursion (IsReadable (length samples.old) (length steps.old))
-        (stretches_by lengths.now (R.left records)) }
-    requires fits { AllByRecursion (StretchFits options.now) (stretches_by lengths.now (R.left records)) }
-    ensures ok { OnOk result (Wrote (IsTextOn options.now (stretches_by lengths.now (R.left records))) 0
+    requires ready { CanBeWritten options.now (length samples.old) (length steps.old) plans.now (R.left records) }
+    ensures ok { OnOk result (Wrote (IsTextOn options.now (stretches_by (counts_of plans.now) (R.left records))) 0
         (W.written output.old) (W.written output.new)) }
-    ensures err { IfErr result (λ _. Wrote (IsPartOn options.now (stretches_by lengths.now (R.left records))) 1
+    ensures err { IfErr result (λ _.
+        Wrote (IsPartOn options.now (stretches_by (counts_of plans.now) (R.left records))) 1
         (W.written output.old) (W.written output.new)) }
 {
     let mut next = *options;
     let mut rest = records;
-    for (number, count) in lengths.iter().enumerate() {
+    for (number, plan) in plans.iter().enumerate() {
         let stretch = Part {
             rest,
-            count: *count,
+            count: plan.records,
         };
-        match pack_series(stretch, &next, samples, steps, unpacking, packer, output) {
+        match pack_series(
+            stretch, plan.way, &next, samples, steps, unpacking, packer, output,
+        ) {
             Ok(written) => next = numbered_on(&next, written),
             Err(failed) => return Err(failed),
         }
-        if number + 1 == lengths.len() {
+        if number + 1 == plans.len() {
             return Ok(());
         }
-        rest = behind(rest, *count);
+        rest = behind(rest, plan.records);
     }
     Ok(())
 }

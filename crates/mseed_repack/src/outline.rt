@@ -1,5 +1,5 @@
 //! What is known of records before their samples are read.
-ghost use Rattle.std.specs.Prelude.{◌≡◌, ◌<◌, ◌≤◌, ◌+◌, ◌++◌, ◌^◌, ◌-ℤ◌, All, IfSome, List, ℕ, ℤ, length, take};
+ghost use Rattle.std.specs.Prelude.{◌≡◌, ◌<◌, ◌≤◌, ◌+◌, ◌++◌, ◌^◌, ◌-ℤ◌, [], All, IfSome, List, ℕ, ℤ, length, take};
 ghost use Rattle.std.specs.Prelude.{◌↔◌, IsTrue};
 ghost use Rattle.std.specs.Bool.{OnTrue};
 ghost use Rattle.mseed_record.specs.View.{leap_of};
@@ -11,7 +11,7 @@ ghost use Rattle.mseed_audit.specs.Follows.{IsSound};
 ghost use Rattle.mseed_audit.specs.Judging.{step_in};
 ghost use Rattle.mseed_audit.specs.Series.{step_at};
 ghost use Rattle.mseed_repack.specs.private.Outline.{AreHeld, AreNear, IsKnown, IsOutline, is_held};
-ghost use Rattle.mseed_repack.specs.private.Reading.{IsSoundWalk, samples_of, step_count, steps_of};
+ghost use Rattle.mseed_repack.specs.private.Reading.{CanBeRead, samples_of, step_count};
 
 use crate::reading::put_step;
 use crate::walk::Walk;
@@ -39,11 +39,25 @@ pub(crate) struct Outline {
     pub(crate) nearness: Nearness,
 }
 
-/// The outline of some records. Their leap seconds are put into the list.
-pub(crate) fn outline_records<'a, R: Walk<'a>>(records: R, steps: &mut [(u64, LeapStep)]) -> Outline
-    requires sound { IsSoundWalk R.leads R.left records }
-    requires few { samples_of (R.left records) < 2 ^ 64 }
-    requires steps_fit { steps_of (R.left records) ≤ length steps.old }
+/// What is known of samples before the first one, where they are to be written in this encoding. To integers nothing
+/// needs to be known of them: those of 32 bits hold any, and of those of 16 bits only the samples tell.
+pub(crate) fn nearness_before(encoding: Encoding) -> Nearness
+    ensures { IsKnown result [] }
+{
+    match encoding {
+        Encoding::Int16 | Encoding::Int32 => Nearness::Unknown,
+        Encoding::Steim1 | Encoding::Steim2 => Nearness::Empty,
+    }
+}
+
+/// The outline of some records, where this is known before them. Their leap seconds are put into the list.
+pub(crate) fn outline_records<'a, R: Walk<'a>>(
+    records: R,
+    before: Nearness,
+    steps: &mut [(u64, LeapStep)],
+) -> Outline
+    requires read { CanBeRead R.leads R.left records (length steps.old) }
+    requires none { IsKnown before [] }
     ensures outline { (key : List ℕ) → IsOutline key (R.left records)
         result.samples result.steps result.nearness steps.new }
     ensures samples { result.samples ≡ samples_of (R.left records) }
@@ -52,7 +66,7 @@ pub(crate) fn outline_records<'a, R: Walk<'a>>(records: R, steps: &mut [(u64, Le
     let mut outline = Outline {
         samples: 0,
         steps: 0,
-        nearness: Nearness::Empty,
+        nearness: before,
     };
     let mut rest = records;
     while let Some(view) = rest.next() {
@@ -68,9 +82,10 @@ pub(crate) fn outline_record(
     steps: &mut [(u64, LeapStep)],
 ) -> Outline
     requires sound { IsSound (view_of view.now) }
-    requires few { before.samples + count_of (view_of view.now) < 2 ^ 64 }
+    requires few { before.samples + 65_535 < 2 ^ 64 }
     requires steps_fit { before.steps + step_count (view_of view.now) ≤ length steps.old }
     ensures samples { result.samples ≡ before.samples + count_of (view_of view.now) }
+    ensures most { result.samples ≤ before.samples + 65_535 }
     ensures steps { take result.steps steps.new ≡ take before.steps steps.old
         ++ step_at result.samples (step_in (leap_of (view_of view.now).bytes)) }
     ensures steps_count { result.steps ≡ before.steps + step_count (view_of view.now) }
@@ -90,6 +105,9 @@ fn nearness_with(before: Nearness, view: &RecordView) -> Nearness
     requires { IsSound (view_of view.now) }
     ensures { (xs s : List ℤ) → IsKnown before xs → IsWhole (view_of view.now) s → IsKnown result (xs ++ s) }
 {
+    if let Nearness::Unknown = before {
+        return Nearness::Unknown;
+    }
     let Some(ends) = near_ends(view) else {
         return Nearness::Unknown;
     };

@@ -1,13 +1,13 @@
 //! Writing the records of an archive's channels.
-ghost use Rattle.std.specs.Prelude.{◌≡◌, length, map, slice_index_or, IfErr, OnOk};
-ghost use Rattle.std.specs.List.{AllByRecursion};
+ghost use Rattle.std.specs.Prelude.{◌≡◌, ◌<◌, [], length, map, slice_index_or, IfErr, OnOk};
 ghost use Rattle.mseed_record.specs.Viewing.{view_of};
 ghost use Rattle.mseed_repack.specs.private.Archives.{IsAudited};
-ghost use Rattle.mseed_repack.specs.private.Planning.{CanBeWritten, IsPartOn, IsTextOn, planned, whole};
+ghost use Rattle.mseed_repack.specs.private.Planning.{AreWritable, IsPartOn, IsTextOn, planned};
 ghost use Rattle.mseed_repack.specs.Repack.{AreTexts, IsTextUpTo, Wrote};
 
 use crate::archive::Archive;
 use crate::numbering::pack_stretches;
+use crate::plan::Plan;
 use crate::unpacking::Unpacking;
 use crate::walk::Part;
 use mseed_pack::{Options, Packer};
@@ -15,27 +15,23 @@ use mseed_stream::{Failed, Sink};
 use mseed_time::LeapStep;
 use std::alloc::Allocator;
 
-/// How many records the one stretch of a channel has that is packed whole: all of them.
-pub(crate) static WHOLE: [usize; 1] = [usize::MAX];
-
-/// Writes the records of all channels, each by its stretches: by how many records each has, or as one where this isn't
-/// said.
+/// Writes the records of all channels, each by how its stretches are packed.
 pub(crate) fn pack_channels<A: Allocator, W: Sink>(
     archive: &Archive,
-    lengths: &[Vec<usize, A>],
+    plans: &[Vec<Plan, A>],
     options: &Options,
     samples: &mut [i32],
     steps: &mut [(u64, LeapStep)],
     output: &mut W,
 ) -> Result<(), Failed>
     requires audited { IsAudited archive.now }
-    requires ready { AllByRecursion (CanBeWritten options.now (length samples.old) (length steps.old))
-        (planned (map view_of archive.now.views.now) archive.now.channels.now (map (λ own. own.items) lengths.now)) }
+    requires ready { AreWritable options.now (length samples.old) (length steps.old) (map view_of archive.now.views.now)
+        archive.now.channels.now (map (λ own. own.items) plans.now) }
     ensures ok { OnOk result (Wrote (AreTexts (IsTextOn options.now)
-        (planned (map view_of archive.now.views.now) archive.now.channels.now (map (λ own. own.items) lengths.now))) 0
+        (planned (map view_of archive.now.views.now) archive.now.channels.now (map (λ own. own.items) plans.now))) 0
         (W.written output.old) (W.written output.new)) }
     ensures err { IfErr result (λ _. Wrote (IsTextUpTo (IsTextOn options.now) (IsPartOn options.now)
-        (planned (map view_of archive.now.views.now) archive.now.channels.now (map (λ own. own.items) lengths.now))) 1
+        (planned (map view_of archive.now.views.now) archive.now.channels.now (map (λ own. own.items) plans.now))) 1
         (W.written output.old) (W.written output.new)) }
 {
     if archive.channels.is_empty() {
@@ -50,7 +46,7 @@ pub(crate) fn pack_channels<A: Allocator, W: Sink>(
     for number in 0..archive.channels.len() {
         match pack_stretches(
             archive.trail(number),
-            lengths_at(lengths, number),
+            plans_at(plans, number),
             options,
             samples,
             steps,
@@ -65,12 +61,10 @@ pub(crate) fn pack_channels<A: Allocator, W: Sink>(
     Ok(())
 }
 
-/// How many records each stretch of the channel with this number has.
-fn lengths_at<A: Allocator>(lengths: &[Vec<usize, A>], number: usize) -> &[usize]
-    ensures { result.now ≡ slice_index_or (map (λ own. own.items) lengths.now) number whole }
+/// How the stretches of the channel with this number are packed.
+fn plans_at<A: Allocator>(plans: &[Vec<Plan, A>], number: usize) -> &[Plan]
+    requires { number < length plans.now }
+    ensures { result.now ≡ slice_index_or (map (λ own. own.items) plans.now) number [] }
 {
-    match lengths.get(number) {
-        Some(own) => own.as_slice(),
-        None => &WHOLE,
-    }
+    plans[number].as_slice()
 }

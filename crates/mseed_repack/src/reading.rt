@@ -6,7 +6,7 @@ ghost use Rattle.mseed_steim.specs.Reading.{count_of, IsWhole};
 ghost use Rattle.mseed_audit.specs.Follows.{IsSound};
 ghost use Rattle.mseed_audit.specs.Judging.{step_in};
 ghost use Rattle.mseed_audit.specs.Series.{AreSteps, step_at};
-ghost use Rattle.mseed_repack.specs.private.Reading.{CanBeRead, step_count, steps_of};
+ghost use Rattle.mseed_repack.specs.private.Reading.{CanBeRead, samples_of, step_count, steps_of};
 ghost use Rattle.mseed_repack.specs.private.Planning.{AreOfAny};
 
 use crate::walk::Walk;
@@ -28,7 +28,8 @@ pub(crate) fn read_records<'a, R: Walk<'a>>(
     samples: &mut [i32],
     steps: &mut [(u64, LeapStep)],
 ) -> Read
-    requires { CanBeRead R.leads R.left records (length samples.old) (length steps.old) }
+    requires read { CanBeRead R.leads R.left records (length steps.old) }
+    requires samples_fit { samples_of (R.left records) ≤ length samples.old }
     ensures read { AreOfAny (R.left records) (take result.samples samples.new) (take result.steps steps.new) }
     ensures places { AreSteps result.samples (take result.steps steps.new) }
     ensures samples_inside { result.samples ≤ length samples.new }

@@ -83,7 +83,7 @@ fn first_broken(standings: &[Standing]) -> Option<usize>
 }
 
 /// The index of the first channel of which a stretch doesn't fit, with the stretch's number and the reason.
-fn first_misfit(standings: &[Standing]) -> Option<(usize, u64, PackFault)>
+pub(crate) fn first_misfit(standings: &[Standing]) -> Option<(usize, u64, PackFault)>
     ensures inside { IfSome result (λ found. found.0 < length standings.now) }
     ensures some { IfSome result (λ found. slice_index_or standings.now found.0 Standing.Fit
         ≡ Standing.Misfit found.1 found.2) }

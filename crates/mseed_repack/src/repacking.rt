@@ -1,28 +1,32 @@
 //! Packing an archive anew.
-ghost use Rattle.std.specs.Prelude.{◌≡◌, ◌<◌, ◌≤◌, ◌^◌, length, map, All, IfErr, OnOk};
+ghost use Rattle.std.specs.Prelude.{◌≡◌, ◌<◌, ◌≤◌, ◌^◌, length, map, IfErr, OnOk};
 ghost use Rattle.mseed_record.specs.Viewing.{view_of};
 ghost use Rattle.mseed_stream.specs.Device.{BytesRead, nothing_read};
 ghost use Rattle.mseed_select.specs.Selecting.{selection_of};
 ghost use Rattle.mseed_audit.specs.Channels.{added_from};
 ghost use Rattle.mseed_audit.specs.Follows.{IsContinuous};
 ghost use Rattle.mseed_audit.specs.Verdict.{AreVerdicts};
-ghost use Rattle.mseed_repack.specs.private.Archives.{HasRoomForSeries, IsAudited};
-ghost use Rattle.mseed_repack.specs.private.Reading.{samples_written};
-ghost use Rattle.mseed_repack.specs.Repack.{AreContinuous, CanBePacked, CantBePacked, IsArchiveOf, IsFirst};
+ghost use Rattle.mseed_repack.specs.declared.stretching.Cutting.TheVariants.{Whole};
+ghost use Rattle.mseed_repack.specs.private.Archives.{HasRoomForSteps, IsAudited};
+ghost use Rattle.mseed_repack.specs.private.Planning.{AreReady};
+ghost use Rattle.mseed_repack.specs.Repack.{AreContinuous, IsArchiveOf, IsFirst};
 ghost use Rattle.mseed_repack.specs.Repack.{IsRepacking, IsWhole, records_in};
 ghost use Rattle.mseed_repack.specs.Selected.{IsSelectedRepacking};
 
 use crate::archive::Archive;
 use crate::asked::keep_asked;
 use crate::fault::RepackFault;
-use crate::fitting::fit_stretches;
 use crate::judging::judge_records;
-use crate::packing::{WHOLE, pack_channels};
+use crate::packing::pack_channels;
+use crate::plan::Plan;
 use crate::reading::count_steps;
-use crate::room::room_for;
+use crate::refusing::first_misfit;
+use crate::room::blank_steps;
+use crate::standing::{Standing, stand_all};
+use crate::stretching::Cutting;
 use crate::trail::lay_trails;
 use mseed_audit::Verdict;
-use mseed_pack::{Options, PackFault};
+use mseed_pack::Options;
 use mseed_record::{Codes, RecordView};
 use mseed_select::Selector;
 use mseed_stream::{Sink, Source, read_all_in, split_in};
@@ -141,82 +145,72 @@ fn repack_archive<A: Allocator + Copy, W: Sink>(
     ensures { (read : BytesRead) → IsArchiveOf read (map view_of archive.now.views.now) archive.now.channels.now
         → IsRepacking options.now result read (W.written output.old) (W.written output.new) }
 {
-    match room_for(alloc, longest(archive.channels), count_steps(archive.views)) {
-        Ok(mut room) => repack_within(
-            alloc,
+    match blank_steps(alloc, count_steps(archive.views)) {
+        Ok(mut steps) => repack_within(alloc, archive, options, &mut steps, output),
+        Err(_) => Err(RepackFault::Memory),
+    }
+}
+
+/// The same with a list that has room for all leap seconds.
+fn repack_within<A: Allocator + Copy, W: Sink>(
+    alloc: A,
+    archive: &Archive,
+    options: &Options,
+    steps: &mut [(u64, LeapStep)],
+    output: &mut W,
+) -> Result<(), RepackFault>
+    requires places { HasRoomForSteps archive.now (length steps.old) }
+    requires continuous { AreContinuous (map view_of archive.now.views.now) archive.now.channels.now }
+    ensures { (read : BytesRead) → IsArchiveOf read (map view_of archive.now.views.now) archive.now.channels.now
+        → IsRepacking options.now result read (W.written output.old) (W.written output.new) }
+{
+    let mut samples = Vec::new(alloc);
+    let mut plans = Vec::new(alloc);
+    match stand_all(
+        alloc,
+        archive,
+        Cutting::Whole,
+        options,
+        &mut plans,
+        &mut samples,
+        steps,
+    ) {
+        Ok(standings) => repack_standing(
             archive,
+            &standings,
+            &plans,
             options,
-            &mut room.samples,
-            &mut room.steps,
+            &mut samples,
+            steps,
             output,
         ),
         Err(_) => Err(RepackFault::Memory),
     }
 }
 
-/// The same with lists that have room for the samples of a channel and for all leap seconds.
-fn repack_within<A: Allocator + Copy, W: Sink>(
-    alloc: A,
+/// The same by what is found of the channels, and how the series are packed of those that fit.
+fn repack_standing<A: Allocator, W: Sink>(
     archive: &Archive,
+    standings: &[Standing],
+    plans: &[Vec<Plan, A>],
     options: &Options,
     samples: &mut [i32],
     steps: &mut [(u64, LeapStep)],
     output: &mut W,
 ) -> Result<(), RepackFault>
-    requires { HasRoomForSeries archive.now (length samples.old) (length steps.old) }
+    requires audited { IsAudited archive.now }
+    requires continuous { AreContinuous (map view_of archive.now.views.now) archive.now.channels.now }
+    requires ready { AreReady Whole options.now (length samples.old) (length steps.old)
+        (map view_of archive.now.views.now) archive.now.channels.now standings.now
+        (map (λ own. own.items) plans.now) }
     ensures { (read : BytesRead) → IsArchiveOf read (map view_of archive.now.views.now) archive.now.channels.now
         → IsRepacking options.now result read (W.written output.old) (W.written output.new) }
 {
-    if let Err((channel, fault)) = fit_all(archive, options, samples, steps) {
-        return Err(RepackFault::Misfit(channel, fault));
+    if let Some((number, _, fault)) = first_misfit(standings) {
+        return Err(RepackFault::Misfit(archive.channels[number].0, fault));
     }
-    let none: Vec<Vec<usize, A>, A> = Vec::new(alloc);
-    match pack_channels(archive, &none, options, samples, steps, output) {
+    match pack_channels(archive, plans, options, samples, steps, output) {
         Ok(()) => Ok(()),
         Err(_) => Err(RepackFault::Write),
     }
-}
-
-/// The most samples of a channel.
-fn longest(channels: &[(Codes, Verdict)]) -> usize
-    ensures { All (λ c. samples_written c.1 ≤ result) channels.now }
-{
-    let mut most = 0;
-    for channel in channels {
-        most = most.max(samples_written(&channel.1));
-    }
-    most
-}
-
-/// How many samples a verdict says that a channel has.
-fn samples_written(verdict: &Verdict) -> usize
-    ensures { result ≡ samples_written verdict.now }
-{
-    match *verdict {
-        Verdict::Continuous { samples, .. } => samples as usize,
-        Verdict::Broken { .. } => 0,
-    }
-}
-
-/// Refuses the first channel that can't be packed.
-fn fit_all(
-    archive: &Archive,
-    options: &Options,
-    samples: &mut [i32],
-    steps: &mut [(u64, LeapStep)],
-) -> Result<(), (Codes, PackFault)>
-    requires { HasRoomForSeries archive.now (length samples.old) (length steps.old) }
-    ensures ok { OnOk result (All (λ c. CanBePacked options.now (map view_of archive.now.views.now) c.0)
-        archive.now.channels.now) }
-    ensures err { IfErr result (λ misfit. IsFirst (CanBePacked options.now (map view_of archive.now.views.now))
-        (CantBePacked options.now (map view_of archive.now.views.now) misfit.1) misfit.0 archive.now.channels.now) }
-{
-    for number in 0..archive.channels.len() {
-        let trail = archive.trail(number);
-        match fit_stretches(trail, &WHOLE, options, samples, steps) {
-            Ok(()) => {}
-            Err(misfit) => return Err((*trail.codes, misfit.fault)),
-        }
-    }
-    Ok(())
 }

@@ -6,6 +6,7 @@ ghost use Rattle.mseed_audit.specs.Channels.{added_from};
 ghost use Rattle.mseed_audit.specs.Verdict.{AreVerdicts};
 ghost use Rattle.mseed_repack.specs.private.Archives.{HasRoomForSteps, IsAudited};
 ghost use Rattle.mseed_repack.specs.private.Planning.{AreReady};
+ghost use Rattle.mseed_repack.specs.declared.stretching.Cutting.TheVariants.{Stretches};
 ghost use Rattle.mseed_repack.specs.Repack.{IsArchiveOf, IsWhole};
 ghost use Rattle.mseed_repack.specs.ByStretches.{IsRestretching};
 ghost use Rattle.mseed_repack.specs.Selected.{IsSelectedRestretching};
@@ -15,11 +16,13 @@ use crate::archive::Archive;
 use crate::asked::keep_asked;
 use crate::judging::judge_records;
 use crate::packing::pack_channels;
+use crate::plan::Plan;
 use crate::reading::count_steps;
 use crate::refusing::{Left, left_of, refusal_unless, tell_left};
 use crate::room::blank_steps;
 use crate::standing::{Standing, stand_all};
 use crate::stretches_fault::StretchesFault;
+use crate::stretching::Cutting;
 use crate::trail::lay_trails;
 use mseed_audit::Verdict;
 use mseed_pack::Options;
@@ -176,12 +179,20 @@ fn restretch_within<A: Allocator + Copy, W: Sink, E: Sink>(
         (W.written output.old) (W.written output.new) (E.written errors.old) (E.written errors.new) }
 {
     let mut samples = Vec::new(alloc);
-    let mut lengths = Vec::new(alloc);
-    match stand_all(alloc, archive, options, &mut lengths, &mut samples, steps) {
+    let mut plans = Vec::new(alloc);
+    match stand_all(
+        alloc,
+        archive,
+        Cutting::Stretches,
+        options,
+        &mut plans,
+        &mut samples,
+        steps,
+    ) {
         Ok(standings) => restretch_standing(
             archive,
             &standings,
-            &lengths,
+            &plans,
             options,
             leave,
             &mut samples,
@@ -193,11 +204,11 @@ fn restretch_within<A: Allocator + Copy, W: Sink, E: Sink>(
     }
 }
 
-/// The same by what is found of the channels, and how many records each stretch has of those that fit.
+/// The same by what is found of the channels, and how the stretches are packed of those that fit.
 fn restretch_standing<A: Allocator, W: Sink, E: Sink>(
     archive: &Archive,
     standings: &[Standing],
-    lengths: &[Vec<usize, A>],
+    plans: &[Vec<Plan, A>],
     options: &Options,
     leave: bool,
     samples: &mut [i32],
@@ -206,8 +217,9 @@ fn restretch_standing<A: Allocator, W: Sink, E: Sink>(
     errors: &mut E,
 ) -> Result<Left, StretchesFault>
     requires audited { IsAudited archive.now }
-    requires ready { AreReady options.now (length samples.old) (length steps.old) (map view_of archive.now.views.now)
-        archive.now.channels.now standings.now (map (λ own. own.items) lengths.now) }
+    requires ready { AreReady Stretches options.now (length samples.old) (length steps.old)
+        (map view_of archive.now.views.now) archive.now.channels.now standings.now
+        (map (λ own. own.items) plans.now) }
     ensures { (read : BytesRead) → IsArchiveOf read (map view_of archive.now.views.now) archive.now.channels.now
         → IsRestretching options.now leave result read
         (W.written output.old) (W.written output.new) (E.written errors.old) (E.written errors.new) }
@@ -216,7 +228,7 @@ fn restretch_standing<A: Allocator, W: Sink, E: Sink>(
         return Err(fault);
     }
     tell_left(archive.channels, standings, errors);
-    match pack_channels(archive, lengths, options, samples, steps, output) {
+    match pack_channels(archive, plans, options, samples, steps, output) {
         Ok(()) => Ok(left_of(standings)),
         Err(_) => Err(StretchesFault::Write),
     }

@@ -1,32 +1,27 @@
 //! Room for the samples and leap seconds of what is packed anew.
-ghost use Rattle.std.specs.Prelude.{◌≡◌, length, IfOk};
+ghost use Rattle.std.specs.Prelude.{◌≡◌, ◌≤◌, length, IfOk, OnOk};
 
 use mseed_time::LeapStep;
 use std::alloc::{AllocError, Allocator};
 
-/// Lists of so many samples and leap seconds, which are read into them.
-#[derive(Drop)]
-pub(crate) struct Room<A: Allocator> {
-    pub(crate) samples: Vec<i32, A>,
-    pub(crate) steps: Vec<(u64, LeapStep), A>,
-}
-
-/// Room for so many samples, and for so many leap seconds.
+/// Lets a list have room for so many samples, where it has less. What it held is let go of before more is requested.
 ///
 /// # Errors
 ///
-/// `AllocError` where there is no memory for it.
-pub(crate) fn room_for<A: Allocator + Copy>(
+/// `AllocError` where there is no memory for it: the list is empty then.
+pub(crate) fn make_room<A: Allocator + Copy>(
     alloc: A,
-    samples: usize,
-    steps: usize,
-) -> Result<Room<A>, AllocError>
-    ensures samples { IfOk result (λ room. length room.samples.items ≡ samples) }
-    ensures steps { IfOk result (λ room. length room.steps.items ≡ steps) }
+    samples: &mut Vec<i32, A>,
+    count: usize,
+) -> Result<(), AllocError>
+    ensures room { OnOk result (count ≤ length samples.new.items) }
+    ensures grown { OnOk result (length samples.old.items ≤ length samples.new.items) }
 {
-    let samples = vec![in alloc; 0; samples]?;
-    let steps = blank_steps(alloc, steps)?;
-    Ok(Room { samples, steps })
+    if samples.len() < count {
+        *samples = Vec::new(alloc);
+        *samples = vec![in alloc; 0; count]?;
+    }
+    Ok(())
 }
 
 /// So many leap seconds.

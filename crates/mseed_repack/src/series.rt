@@ -1,82 +1,135 @@
 //! The series of some records: how it begins, whether it can be packed, and how it is written.
-ghost use Rattle.std.specs.Prelude.{◌≡◌, ℕ, ℤ, List, length, IfErr, IfOk, IsTrue, OnOk};
+ghost use Rattle.std.specs.Prelude.{◌≡◌, ◌≢◌, ◌≤◌, ℤ, List, length, pos, slice_index_or, All, IfErr, IfOk, IfSome};
+ghost use Rattle.std.specs.Prelude.{IsTrue, Some};
 ghost use Rattle.std.specs.List.{AllByRecursion};
-ghost use Rattle.std.specs.Bool.{OnTrue};
 ghost use Rattle.mseed_record.specs.View.{View};
-ghost use Rattle.mseed_audit.specs.Series.{IsSeriesOf};
+ghost use Rattle.mseed_steim.specs.Spelling.{IsWithin};
+ghost use Rattle.mseed_audit.specs.Series.{AreJoined, IsSeriesOf};
 ghost use Rattle.mseed_pack.specs.Options.{IsSteim};
-ghost use Rattle.mseed_pack.specs.Traces.{trace_of};
-ghost use Rattle.mseed_repack.specs.private.Outline.{says_near, with_samples};
-ghost use Rattle.mseed_repack.specs.private.Reading.{AreOf, CanBeRead, IsSoundWalk};
-ghost use Rattle.mseed_repack.specs.private.Supplying.{AreSteimOf, IsUnpackable};
-ghost use Rattle.mseed_repack.specs.private.Planning.{AreOfAny, IsBegunBy, IsStretchText};
-ghost use Rattle.mseed_repack.specs.Repack.{IsPackedInPart, Wrote};
-ghost use Rattle.mseed_repack.specs.Repack.{StretchFits, StretchMisfits};
+ghost use Rattle.mseed_pack.specs.Traces.{headed, trace_of};
+ghost use Rattle.mseed_repack.specs.private.Outline.{AreHeld, IsKnown, says_near};
+ghost use Rattle.mseed_repack.specs.private.Reading.{AreOf, CanBeRead, IsSoundWalk, samples_of};
+ghost use Rattle.mseed_repack.specs.private.Supplying.{AreUnread, IsUnpackable};
+ghost use Rattle.mseed_repack.specs.private.Planning.{AreOfAny, GoesBy, IsBegunBy, IsFitting, IsStretchText};
+ghost use Rattle.mseed_repack.specs.Repack.{IsPackedInPart, StretchFits, Wrote};
+ghost use Rattle.mseed_repack.specs.declared.plan.Way.TheVariants.{Frames};
+ghost use Rattle.mseed_repack.specs.declared.series.Fitting.TheVariants.{Fits};
 
-use crate::outline::{Nearness, is_held, outline_records};
+use crate::outline::{Nearness, is_held, nearness_before, outline_records};
+use crate::plan::Way;
 use crate::reading::read_records;
+use crate::room::make_room;
 use crate::unpacking::{Unpacking, are_unpackable, first_sample, know_room};
 use crate::walk::Walk;
 use mseed_audit::one_series;
-use mseed_pack::{Encoding, Options, PackFault, Packer, SeriesHead, SeriesView, fit_view};
-use mseed_steim::is_steim;
+use mseed_pack::{
+    Encoding, Options, PackFault, Packer, SeriesHead, SeriesView, fit_head, fit_view,
+};
 use mseed_stream::{Failed, Sink};
 use mseed_stretches::Stretch;
 use mseed_time::LeapStep;
+use std::alloc::{AllocError, Allocator};
 
-/// Whether the series of some records can be packed. Their samples are read only where no less tells.
-pub(crate) fn fit_series<'a, R: Walk<'a>>(
+/// What is found of a series.
+#[derive(Clone, Copy)]
+pub(crate) enum Fitting {
+    /// It can be packed, and goes this way.
+    Fits(Way),
+    /// It can't be packed, for this reason.
+    Misfits(PackFault),
+}
+
+/// Whether the series of some records can be packed, and which way it goes. Its samples are read only where no less
+/// tells. Memory is requested only where the series goes by a list and wants more room than the list of samples has;
+/// where it goes from frames to frames, that list stays as it was.
+///
+/// # Errors
+///
+/// `AllocError` where there is no memory for the list.
+pub(crate) fn fit_series<'a, A: Allocator + Copy, R: Walk<'a>>(
+    alloc: A,
+    records: R,
+    options: &Options,
+    samples: &mut Vec<i32, A>,
+    steps: &mut [(u64, LeapStep)],
+) -> Result<Fitting, AllocError>
+    requires { CanBeRead R.leads R.left records (length steps.old) }
+    ensures fitting { IfOk result (λ fitting.
+        IsFitting options.now (length samples.new.items) (R.left records) fitting) }
+    ensures grown { IfOk result (λ _. length samples.old.items ≤ length samples.new.items) }
+    ensures kept { IfOk result (λ fitting. fitting ≡ Fits Frames → samples.new.items ≡ samples.old.items) }
+{
+    let outline = outline_records(records, nearness_before(options.encoding), steps);
+    let head = head_of(records, outline.samples, &steps[..outline.steps]);
+    if let Err(fault) = fit_head(&head) {
+        return Ok(Fitting::Misfits(fault));
+    }
+    let held = held_way(records, outline.nearness, options.encoding);
+    if let Some(Way::Frames) = held {
+        return Ok(Fitting::Fits(Way::Frames));
+    }
+    make_room(alloc, samples, outline.samples)?;
+    match held {
+        Some(_) => Ok(Fitting::Fits(Way::Listed)),
+        None => Ok(fit_read(records, options, samples, steps)),
+    }
+}
+
+/// Which way a series goes whose samples the encoding surely holds, before they are read. It goes from frames to frames
+/// where its records are Steim, and so is what is written, each sample is near the one before it, and no record has
+/// more differences than there is room for.
+fn held_way<'a, R: Walk<'a>>(records: R, nearness: Nearness, encoding: Encoding) -> Option<Way>
+    requires { R.leads records }
+    ensures held { IfSome result (λ _.
+        (xs : List ℤ) → All (IsWithin 32) xs → IsKnown nearness xs → AreHeld encoding xs) }
+    ensures encoding { result ≡ Some Frames → IsSteim encoding }
+    ensures unpackable { result ≡ Some Frames → AllByRecursion IsUnpackable (R.left records) }
+    ensures near { result ≡ Some Frames → IsTrue (says_near nearness) }
+{
+    if !is_held(nearness, encoding) {
+        return None;
+    }
+    match encoding {
+        Encoding::Steim1 | Encoding::Steim2 => {
+            if are_unpackable(records) {
+                Some(Way::Frames)
+            } else {
+                Some(Way::Listed)
+            }
+        }
+        Encoding::Int16 | Encoding::Int32 => Some(Way::Listed),
+    }
+}
+
+/// Whether a series can be packed, by its samples, for which there is room.
+fn fit_read<'a, R: Walk<'a>>(
     records: R,
     options: &Options,
     samples: &mut [i32],
     steps: &mut [(u64, LeapStep)],
-) -> Result<(), PackFault>
-    requires { CanBeRead R.leads R.left records (length samples.old) (length steps.old) }
-    ensures ok { OnOk result (StretchFits options.now (R.left records)) }
-    ensures err { IfErr result (λ fault. StretchMisfits options.now fault (R.left records)) }
+) -> Fitting
+    requires read { CanBeRead R.leads R.left records (length steps.old) }
+    requires samples_fit { samples_of (R.left records) ≤ length samples.old }
+    ensures fitting { IsFitting options.now (length samples.old) (R.left records) result }
+    ensures listed { result ≢ Fits Frames }
 {
     let stretch = beginning(records);
-    if fits_unread(records, &stretch, options, samples, steps) {
-        return Ok(());
-    }
     let read = read_records(records, samples, steps);
     let series = series_of(&stretch, &samples[..read.samples], &steps[..read.steps]);
-    fit_view(&series, options)
-}
-
-/// Whether it is known of a series before its samples are read that it can be packed: the encoding holds them, and
-/// their instants can be written. The instants are called of a series of as many other samples, whatever they are, in
-/// integers of 32 bits, which hold every sample.
-fn fits_unread<'a, R: Walk<'a>>(
-    records: R,
-    stretch: &Stretch,
-    options: &Options,
-    others: &[i32],
-    steps: &mut [(u64, LeapStep)],
-) -> bool
-    requires begun { IsBegunBy stretch.now (R.left records) }
-    requires read { CanBeRead R.leads R.left records (length others.now) (length steps.old) }
-    ensures { OnTrue result (StretchFits options.now (R.left records)) }
-{
-    let outline = outline_records(records, steps);
-    if !is_held(outline.nearness, options.encoding) {
-        return false;
-    }
-    let series = series_of(stretch, &others[..outline.samples], &steps[..outline.steps]);
-    let integers = Options {
-        exponent: options.exponent,
-        encoding: Encoding::Int32,
-        first_sequence: options.first_sequence,
-    };
-    match fit_view(&series, &integers) {
-        Ok(()) => true,
-        Err(_) => false,
+    match fit_view(&series, options) {
+        Ok(()) => Fitting::Fits(Way::Listed),
+        Err(fault) => Fitting::Misfits(fault),
     }
 }
 
-/// Writes the records of a series that can be packed, and answers how many there are.
+/// Writes the records of a series that can be packed, by the way that it goes, and answers how many there are.
+///
+/// # Errors
+///
+/// `Failed` where the output failed: a part was written.
 pub(crate) fn pack_series<'a, R: Walk<'a>, W: Sink>(
     records: R,
+    way: Way,
     options: &Options,
     samples: &mut [i32],
     steps: &mut [(u64, LeapStep)],
@@ -84,90 +137,32 @@ pub(crate) fn pack_series<'a, R: Walk<'a>, W: Sink>(
     packer: &mut Packer,
     output: &mut W,
 ) -> Result<u64, Failed>
-    requires read { CanBeRead R.leads R.left records (length samples.old) (length steps.old) }
+    requires read { CanBeRead R.leads R.left records (length steps.old) }
+    requires goes { GoesBy options.now.encoding (length samples.old) way (R.left records) }
     requires fits { StretchFits options.now (R.left records) }
     ensures ok { IfOk result (λ count. Wrote (IsStretchText options.now (R.left records) count) 0
         (W.written output.old) (W.written output.new)) }
     ensures err { IfErr result (λ _. Wrote (IsPackedInPart options.now (R.left records)) 1
         (W.written output.old) (W.written output.new)) }
 {
-    if begins_unread(records, options.encoding) {
-        return pack_by_outline(records, options, samples, steps, unpacking, packer, output);
-    }
-    pack_read(records, options, samples, steps, packer, output)
-}
-
-/// Whether the first of some records is Steim, and so is what is written: without that none is looked at further.
-fn begins_unread<'a, R: Walk<'a>>(records: R, encoding: Encoding) -> bool
-    requires { R.leads records }
-{
-    let mut rest = records;
-    match (encoding, rest.next()) {
-        (Encoding::Steim1 | Encoding::Steim2, Some(view)) => is_steim(&view),
-        _ => false,
-    }
-}
-
-/// The same of records that may go from frames to frames, by what is known of them before their samples are read.
-fn pack_by_outline<'a, R: Walk<'a>, W: Sink>(
-    records: R,
-    options: &Options,
-    samples: &mut [i32],
-    steps: &mut [(u64, LeapStep)],
-    unpacking: &mut Unpacking<'a, R>,
-    packer: &mut Packer,
-    output: &mut W,
-) -> Result<u64, Failed>
-    requires read { CanBeRead R.leads R.left records (length samples.old) (length steps.old) }
-    requires fits { StretchFits options.now (R.left records) }
-    ensures ok { IfOk result (λ count. Wrote (IsStretchText options.now (R.left records) count) 0
-        (W.written output.old) (W.written output.new)) }
-    ensures err { IfErr result (λ _. Wrote (IsPackedInPart options.now (R.left records)) 1
-        (W.written output.old) (W.written output.new)) }
-{
-    let outline = outline_records(records, steps);
-    if goes_unread(records, outline.nearness, options.encoding) {
-        let borne = &steps[..outline.steps];
-        return pack_unread(
-            records,
-            outline.samples,
-            borne,
-            options,
-            unpacking,
-            packer,
-            output,
-        );
-    }
-    pack_read(records, options, samples, steps, packer, output)
-}
-
-/// Whether records go from frames to frames: they are Steim, and so is what is written, each sample is near the one
-/// before it, and none has more differences than there is room for.
-fn goes_unread<'a, R: Walk<'a>>(records: R, nearness: Nearness, encoding: Encoding) -> bool
-    requires { R.leads records }
-    ensures encoding { OnTrue result (IsSteim encoding) }
-    ensures unpackable { OnTrue result (AllByRecursion IsUnpackable (R.left records)) }
-    ensures near { OnTrue result (IsTrue (says_near nearness)) }
-{
-    match (encoding, nearness) {
-        (Encoding::Steim1 | Encoding::Steim2, Nearness::Near(_)) => are_unpackable(records),
-        _ => false,
+    match way {
+        Way::Frames => pack_unread(records, options, steps, unpacking, packer, output),
+        Way::Listed => pack_read(records, options, samples, steps, packer, output),
     }
 }
 
 /// The same of records that go from frames to frames: no list is made of their samples.
 fn pack_unread<'a, R: Walk<'a>, W: Sink>(
     records: R,
-    count: usize,
-    steps: &[(u64, LeapStep)],
     options: &Options,
+    steps: &mut [(u64, LeapStep)],
     unpacking: &mut Unpacking<'a, R>,
     packer: &mut Packer,
     output: &mut W,
 ) -> Result<u64, Failed>
-    requires walks { IsSoundWalk R.leads R.left records }
+    requires read { CanBeRead R.leads R.left records (length steps.old) }
     requires steim { IsSteim options.now.encoding }
-    requires are { (key : List ℕ) → AreSteimOf key (R.left records) count steps.now }
+    requires unread { AreUnread (R.left records) }
     requires fits { StretchFits options.now (R.left records) }
     ensures ok { IfOk result (λ count. Wrote (IsStretchText options.now (R.left records) count) 0
         (W.written output.old) (W.written output.new)) }
@@ -175,19 +170,11 @@ fn pack_unread<'a, R: Walk<'a>, W: Sink>(
         (W.written output.old) (W.written output.new)) }
 {
     one_series();
-    let stretch = beginning(records);
-    let first = first_sample(records);
-    let head = SeriesHead {
-        codes: stretch.codes,
-        start: stretch.start,
-        rate: stretch.rate,
-        count,
-        first,
-        steps,
-    };
+    let borne = outline_records(records, Nearness::Unknown, steps);
+    let head = head_of(records, borne.samples, &steps[..borne.steps]);
     know_room(&unpacking.room);
     unpacking.rest = records;
-    unpacking.last = first;
+    unpacking.last = head.first;
     unpacking.at = 0;
     unpacking.end = 0;
     match packer.pack_supplied(&head, options, unpacking, output) {
@@ -196,7 +183,7 @@ fn pack_unread<'a, R: Walk<'a>, W: Sink>(
     }
 }
 
-/// The same by a list of the samples.
+/// The same by a list of the samples, for which there is room.
 fn pack_read<'a, R: Walk<'a>, W: Sink>(
     records: R,
     options: &Options,
@@ -205,7 +192,8 @@ fn pack_read<'a, R: Walk<'a>, W: Sink>(
     packer: &mut Packer,
     output: &mut W,
 ) -> Result<u64, Failed>
-    requires read { CanBeRead R.leads R.left records (length samples.old) (length steps.old) }
+    requires read { CanBeRead R.leads R.left records (length steps.old) }
+    requires samples_fit { samples_of (R.left records) ≤ length samples.old }
     requires fits { StretchFits options.now (R.left records) }
     ensures ok { IfOk result (λ count. Wrote (IsStretchText options.now (R.left records) count) 0
         (W.written output.old) (W.written output.new)) }
@@ -235,6 +223,31 @@ fn beginning<'a, R: Walk<'a>>(records: R) -> Stretch
     }
 }
 
+/// The series of some records without its samples, by how many they have, and by their leap seconds.
+fn head_of<'s, 'a, R: Walk<'a>>(
+    records: R,
+    count: usize,
+    steps: &'s [(u64, LeapStep)],
+) -> SeriesHead<'s>
+    requires { IsSoundWalk R.leads R.left records }
+    // With the samples of the records it is their series.
+    ensures series { (xs : List ℤ) → AreOf result.codes (R.left records) xs steps.now
+        → IsSeriesOf (headed result xs) (R.left records) }
+    ensures first { (xs : List ℤ) → AreJoined (R.left records) xs → slice_index_or xs 0 (pos 0) ≡ result.first }
+    ensures count { result.count ≡ count }
+    ensures steps { result.steps.now ≡ steps.now }
+{
+    let stretch = beginning(records);
+    SeriesHead {
+        codes: stretch.codes,
+        start: stretch.start,
+        rate: stretch.rate,
+        count,
+        first: first_sample(records),
+        steps,
+    }
+}
+
 /// The series that begins so, of these samples and leap seconds.
 fn series_of<'a>(
     stretch: &Stretch,
@@ -243,10 +256,6 @@ fn series_of<'a>(
 ) -> SeriesView<'a>
     ensures series { (vs : List View) → IsBegunBy stretch.now vs → AreOfAny vs samples.now steps.now
         → IsSeriesOf (trace_of result) vs }
-    // Where other samples are those of the records, the series with those.
-    ensures others { (vs : List View) (xs : List ℤ) → IsBegunBy stretch.now vs
-        → AreOf stretch.now.codes vs xs steps.now
-        → IsSeriesOf (with_samples xs (trace_of result)) vs }
     ensures samples { result.samples.now ≡ samples.now }
     ensures steps { result.steps.now ≡ steps.now }
 {

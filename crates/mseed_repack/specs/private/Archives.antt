@@ -1,13 +1,12 @@
 -- An archive, its channels, and where the records of each stand.
-use Rattle.std.specs.Prelude.{◌≡◌, ℕ, ◌≤◌, ◌^◌, List, length, map, drop, slice_index_or, All}
+use Rattle.std.specs.Prelude.{◌≡◌, ℕ, ◌≤◌, ◌^◌, List, length, map, drop, slice_index_or}
 use Rattle.mseed_record.specs.View.{View}
 use Rattle.mseed_record.specs.Viewing.{view_of}
 use Rattle.mseed_audit.specs.Channels.{added_from}
 use Rattle.mseed_audit.specs.Verdict.{AreVerdicts}
-use Rattle.mseed_repack.specs.private.Planning.{IsReadable}
 use Rattle.mseed_repack.specs.private.Reading.{channel_in, steps_of}
 use Rattle.mseed_repack.specs.private.Trails.{AreLaid, AreNexts, IsOfAt}
-use Rattle.mseed_repack.specs.Repack.{AreContinuous, Channel, records_in}
+use Rattle.mseed_repack.specs.Repack.{Channel, records_in}
 use Rattle.mseed_repack.specs.declared.archive.Archive.{Archive}
 use Rattle.mseed_repack.specs.declared.archive.Trail.{Trail}
 
@@ -34,12 +33,6 @@ pub record IsTrailOf (a : Archive) (number : ℕ) (t : Trail) : Type 0 where
   pub codes_are : t.codes.now ≡ channel.0
   pub led : IsLed t
   pub records_are : records_on t ≡ records_in (map view_of a.views.now) channel.0
-
--- each channel is continuous, and there is room to read it
-pub record HasRoomForSeries (a : Archive) (room places : ℕ) : Type 0 where
-  pub audited : IsAudited a
-  pub continuous : AreContinuous (map view_of a.views.now) a.channels.now
-  pub readable : All (λ c. IsReadable room places (records_in (map view_of a.views.now) c.0)) a.channels.now
 
 -- there is room for so many leap seconds
 pub record HasRoomForSteps (a : Archive) (places : ℕ) : Type 0 where

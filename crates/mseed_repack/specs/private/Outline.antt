@@ -4,7 +4,7 @@ use Rattle.std.specs.List.{AllByRecursion}
 use Rattle.mseed_time.specs.declared.outcome.LeapStep.{LeapStep}
 use Rattle.mseed_record.specs.View.{View}
 use Rattle.mseed_steim.specs.Spelling.{IsWithin}
-use Rattle.mseed_audit.specs.Series.{AreSteps, Trace}
+use Rattle.mseed_audit.specs.Series.{AreSteps}
 use Rattle.mseed_pack.specs.Fitting.{IsDifferenceOf, IsSampleOf}
 use Rattle.mseed_pack.specs.Stretches.{differences}
 use Rattle.mseed_pack.specs.declared.options.Encoding.{Encoding}
@@ -49,10 +49,6 @@ is_held nearness Int16 = false
 is_held nearness Int32 = true
 is_held nearness Steim1 = says_near nearness
 is_held nearness Steim2 = says_near nearness
-
--- a series with other samples
-abbrev pub with_samples : List ℤ → Trace → Trace
-with_samples xs s = record s { samples = xs }
 
 -- The samples of these records are so many numbers of 32 bits, of which this is known, and their leap seconds are the
 -- first so many of a list.

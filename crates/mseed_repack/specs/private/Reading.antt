@@ -1,5 +1,5 @@
 -- Records that are read into lists that are there.
-use Rattle.std.specs.Prelude.{◌≢◌, ℕ, ◌+◌, ◌≤◌, ℤ, List, [], ◌∷◌, length}
+use Rattle.std.specs.Prelude.{◌≢◌, ℕ, ◌+◌, ◌≤◌, ◌^◌, ℤ, List, [], ◌∷◌, length}
 use Rattle.std.specs.List.{AllByRecursion, filter}
 use Rattle.mseed_time.specs.declared.outcome.LeapStep.{LeapStep}
 use Rattle.mseed_time.specs.declared.rate.Rate.{Rate}
@@ -9,8 +9,6 @@ use Rattle.mseed_audit.specs.Follows.{IsSound}
 use Rattle.mseed_audit.specs.Judging.{step_in}
 use Rattle.mseed_audit.specs.Series.{HoldsAll, step_at}
 pub use Rattle.mseed_stretches.specs.Stretches.{samples_of}
-use Rattle.mseed_audit.specs.declared.verdict.Verdict.{Verdict}
-use Rattle.mseed_audit.specs.declared.verdict.Verdict.TheVariants.{Continuous, Broken}
 
 -- how many leap seconds a record bears: one, or none
 abbrev pub step_count : View → ℕ
@@ -37,20 +35,14 @@ AreOf key vs samples steps =
       steps = steps;
     })
 
--- how many samples a verdict says that a channel has
-abbrev pub samples_written : Verdict → ℕ
-samples_written (Continuous start rate records samples) = samples
-samples_written (Broken first count) = 0
-
 -- a walk leads to records, of which each is sound
 pub record IsSoundWalk {S : Type 0} (leads : S → Type 0) (left : S → List View) (walk : S) : Type 0 where
   pub led : leads walk
   pub some : left walk ≢ []
   pub sound : AllByRecursion IsSound (left walk)
 
--- and there is room for so many samples, and for so many leap seconds
-pub record CanBeRead {S : Type 0} (leads : S → Type 0) (left : S → List View) (walk : S) (room places : ℕ) : Type
-    0 where
+-- no more than a loop can count, and there is room for so many leap seconds
+pub record CanBeRead {S : Type 0} (leads : S → Type 0) (left : S → List View) (walk : S) (places : ℕ) : Type 0 where
   pub walks : IsSoundWalk leads left walk
-  pub samples_fit : samples_of (left walk) ≤ room
+  pub few : length (left walk) ≤ 2 ^ 40
   pub steps_fit : steps_of (left walk) ≤ places

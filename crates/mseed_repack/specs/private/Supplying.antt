@@ -48,3 +48,8 @@ pub record AreSteimOf (key : List ℕ) (vs : List View) (count : ℕ) (steps : L
   pub near : AreNear samples
   pub count_is : count ≡ length samples
   pub places : AreSteps count steps
+
+-- records that go from frames to frames: each can be unpacked so, and their samples are near one another
+pub record AreUnread (vs : List View) : Type 0 where
+  pub unpackable : AllByRecursion IsUnpackable vs
+  pub near : (xs : List ℤ) → AreJoined vs xs → AreNear xs

@@ -1,40 +1,98 @@
-use Rattle.std.proofs.Common.{◌+◌, ℕ, List, length, drop, take, get_or, arith, refl, sym, subst}
+use Rattle.std.proofs.Common.{◌≡◌, ◌+◌, ◌∷◌, ◌++◌, ◌∙◌, ℕ, List, [], ap, length, drop, take, get_or, arith, refl, sym}
+use Rattle.std.proofs.Common.{subst}
+use Rattle.std.proofs.lemmas.List.{take_all}
 use Rattle.mseed_record.specs.View.{View}
-use Rattle.mseed_repack.specs.private.Planning.{IsReadable, stretches_by}
-use Rattle.mseed_repack.proofs.Planning.{IsFitSo, fit_more, misfit_next, next_each}
-use Rattle.mseed_repack.proofs.Planning.{stretches_next}
+use Rattle.mseed_repack.specs.private.Planning.{EachGoes, IsFitting, IsReadable, counts_of, stretches_by}
+use Rattle.mseed_repack.specs.declared.plan.Plan.{Plan}
+use Rattle.mseed_repack.specs.declared.series.Fitting.{Fitting}
+use Rattle.mseed_repack.proofs.Planning.{IsFitSo, counts_more, fit_all, fit_more, fit_none, misfit_next, next_each}
+use Rattle.mseed_repack.proofs.Planning.{stretches_end, stretches_next}
 use Rattle.mseed_repack.proofs.fitting.fit_stretches.Goals as goal
+
+pub loop-number-init : goal.loop-number-init
+loop-number-init g c = (
+  c.requires.led,
+  fit_none c.args.options.now (length c.args.samples.now.items) c.args.plans.now.items
+      (stretches_by c.args.lengths.now (g.R.Walk.left c.args.records)) c.requires.none,
+  subst (λ (ps : List Plan). counts_of ps ≡ []) (sym c.requires.none) refl,
+  omega arith,
+)
 
 pub fit_series-requires : goal.fit_series-requires
 fit_series-requires g c κs =
     let l = c.loop-number in
     let vs = g.R.Walk.left l.rest in
     let n : ℕ = get_or c.args.lengths.now l.number 0 in
-    let one = next_each (IsReadable (length c.args.samples.now) (length c.args.steps.now))
+    let one = next_each (IsReadable (length c.args.steps.now))
     (stretches_by c.args.lengths.now (g.R.Walk.left c.args.records)) l.invariant.1.done
     (stretches_by (drop l.number c.args.lengths.now) vs) _ (take n vs) c.requires.readable l.invariant.1.parts
     (stretches_next c.args.lengths.now vs l.number c.loop-number-test.true) in (
       (refl, tt),
       record {
         walks = record { led = l.invariant.0; some = one.some; sound = one.sound };
-        samples_fit = omega (arith, one.samples_fit, l.auto.samples);
+        few = one.few;
         steps_fit = omega (arith, one.steps_fit, l.auto.steps);
       },
     )
 
-pub returns-in-Err-clause-err : goal.returns-in-Err-clause-err
-returns-in-Err-clause-err g c =
+pub returns-in-Misfits-clause-found : goal.returns-in-Misfits-clause-found
+returns-in-Misfits-clause-found g c =
     let l = c.loop-number in
-    misfit_next c.in-Err.fault l.invariant.1
-    (stretches_next c.args.lengths.now (g.R.Walk.left l.rest) l.number c.loop-number-test.true) c.in-Err.ensures.err
+    let vs = g.R.Walk.left l.rest in
+    misfit_next c.in-Misfits.fault l.invariant.1
+    (stretches_next c.args.lengths.now vs l.number c.loop-number-test.true)
+    (subst (λ (f : Fitting). IsFitting c.args.options.now (length c.fit_series.new.samples.items)
+    (take (get_or c.args.lengths.now l.number 0) vs) f) c.in-Misfits.is c.in_ok-way.ensures.fitting)
+
+pub returns-then-number-lengths-clause-found : goal.returns-then-number-lengths-clause-found
+returns-then-number-lengths-clause-found g c =
+    let l = c.loop-number in
+    let o = c.args.options.now in
+    let vs = g.R.Walk.left l.rest in
+    let ns = c.args.lengths.now in
+    let n : ℕ = get_or ns l.number 0 in
+    let p : Plan = record { records = n; way = c.in-Fits.way } in
+    let room : ℕ = length c.fit_series.new.samples.items in
+    let fits = subst (λ (f : Fitting). IsFitting o room (take n vs) f) c.in-Fits.is c.in_ok-way.ensures.fitting in
+    let more = fit_more room p l.invariant.1 (stretches_next ns vs l.number c.loop-number-test.true)
+    c.in_ok-way.ensures.grown fits.0 fits.1 in
+    let all = fit_all more (stretches_end ns (drop n vs) (l.number + 1) (omega (arith, c.if-number-lengths.true))) in
+    let items = c.in_ok-push-in-Fits.ensures.items in (
+      all.0,
+      subst (λ (ps : List Plan). EachGoes o.encoding room ps (stretches_by ns (g.R.Walk.left c.args.records)))
+          (sym items) all.1,
+      ap counts_of items ∙ counts_more l.plans.items p ns l.number c.loop-number-test.true l.invariant.2 refl
+          ∙ take_all (l.number + 1) ns (omega (arith, c.if-number-lengths.true)),
+    )
 
 pub loop-number-preserved : goal.loop-number-preserved
 loop-number-preserved g c =
     let l = c.loop-number in
+    let o = c.args.options.now in
+    let vs = g.R.Walk.left l.rest in
     let ns = c.args.lengths.now in
-    let next = fit_more l.invariant.1 (stretches_next ns (g.R.Walk.left l.rest) l.number c.loop-number-test.true)
-    c.in-Ok.ensures.ok in (
+    let n : ℕ = get_or ns l.number 0 in
+    let p : Plan = record { records = n; way = c.in-Fits.way } in
+    let room : ℕ = length c.fit_series.new.samples.items in
+    let fits = subst (λ (f : Fitting). IsFitting o room (take n vs) f) c.in-Fits.is c.in_ok-way.ensures.fitting in
+    let more = fit_more room p l.invariant.1 (stretches_next ns vs l.number c.loop-number-test.true)
+    c.in_ok-way.ensures.grown fits.0 fits.1 in
+    let items = c.in_ok-push-in-Fits.ensures.items in
+    let ss = stretches_by ns (g.R.Walk.left c.args.records) in
+    let grown = l.invariant.3 in (
       c.behind-rest.ensures.leads,
-      subst (λ (vs : List View). IsFitSo c.args.options.now (stretches_by ns (g.R.Walk.left c.args.records))
-          (stretches_by (drop (l.number + 1) ns) vs) (l.number + 1)) (sym c.behind-rest.ensures.left) next,
+      subst (λ (ps : List Plan). IsFitSo o room ps ss
+          (stretches_by (drop (l.number + 1) ns) (g.R.Walk.left c.behind-rest.result)) (l.number + 1)) (sym items)
+          (subst (λ (us : List View). IsFitSo o room (l.plans.items ++ p ∷ []) ss
+          (stretches_by (drop (l.number + 1) ns) us) (l.number + 1)) (sym c.behind-rest.ensures.left) more),
+      ap counts_of items ∙ counts_more l.plans.items p ns l.number c.loop-number-test.true l.invariant.2 refl,
+      omega (arith, grown, c.in_ok-way.ensures.grown),
     )
+
+pub returns-clause-found : goal.returns-clause-found
+returns-clause-found g c =
+    let l = c.loop-number in
+    let ns = c.args.lengths.now in
+    let all = fit_all l.invariant.1 (stretches_end ns (g.R.Walk.left l.rest) l.number
+    (omega (arith, c.loop-number-test.false))) in
+    (all.0, all.1, l.invariant.2 ∙ take_all l.number ns (omega (arith, c.loop-number-test.false)))

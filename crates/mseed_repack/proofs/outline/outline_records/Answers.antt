@@ -1,40 +1,50 @@
-use Rattle.std.proofs.Common.{[], arith}
+use Rattle.std.proofs.Common.{[], length-append, ◌∷◌, arith}
 use Rattle.mseed_record.specs.Viewing.{view_of}
 use Rattle.mseed_audit.specs.Follows.{IsSound}
 use Rattle.mseed_repack.proofs.Outlines.{outline_is, outlined_more, outlined_none}
-use Rattle.mseed_repack.proofs.Walks.{AreOutlinedSo, gone_all, gone_more, gone_none, next_gone, next_of, samples_so_far}
+use Rattle.mseed_repack.proofs.Walks.{AreOutlinedSo, few_so_far, gone_all, gone_more, gone_none, next_gone, next_of}
 use Rattle.mseed_repack.proofs.Walks.{steps_so_far}
 use Rattle.mseed_repack.proofs.outline.outline_records.Goals as goal
 
 pub loop-view-init : goal.loop-view-init
-loop-view-init g c = (c.requires.sound.led, gone_none (λ key. outlined_none key c.args.steps.now))
+loop-view-init g c = (
+  c.requires.read.walks.led,
+  gone_none (omega arith, λ key. outlined_none key c.args.before c.args.steps.now c.requires.none),
+)
 
 pub outline_record-outline-requires-clause-sound : goal.outline_record-outline-requires-clause-sound
 outline_record-outline-requires-clause-sound g c =
-    next_of IsSound (next_gone c.loop-view.invariant.1 c.in-Some.ensures.next) c.requires.sound.sound
+    next_of IsSound (next_gone c.loop-view.invariant.1 c.in-Some.ensures.next) c.requires.read.walks.sound
 
 pub outline_record-outline-requires-clause-few : goal.outline_record-outline-requires-clause-few
 outline_record-outline-requires-clause-few g c =
     let h = next_gone c.loop-view.invariant.1 c.in-Some.ensures.next in
-    omega (arith, samples_so_far h, (h.holds []).read.samples_count, c.requires.few)
+    let most = h.holds.0 in
+    let few = few_so_far h in
+    omega (arith, most, few, c.requires.read.few)
 
 pub outline_record-outline-requires-clause-steps_fit : goal.outline_record-outline-requires-clause-steps_fit
 outline_record-outline-requires-clause-steps_fit g c =
     let h = next_gone c.loop-view.invariant.1 c.in-Some.ensures.next in
-    omega (arith, steps_so_far h, (h.holds []).read.steps_count, c.requires.steps_fit, c.loop-view.auto.steps)
+    omega (arith, steps_so_far h, (h.holds.1 []).read.steps_count, c.requires.read.steps_fit, c.loop-view.auto.steps)
 
 pub loop-view-preserved : goal.loop-view-preserved
 loop-view-preserved g c =
     let l = c.loop-view in
     let h = next_gone l.invariant.1 c.in-Some.ensures.next in
-    let sound = next_of IsSound h c.requires.sound.sound in
+    let sound = next_of IsSound h c.requires.read.walks.sound in
     let e = c.outline_record-outline.ensures in
-    let o = c.outline_record-outline.result in (
+    let o = c.outline_record-outline.result in
+    let most = h.holds.0 in
+    let size = length-append h.gone (view_of c.in-Some.view ∷ []) in (
       c.in-Some.ensures.leads,
-      gone_more {Q = AreOutlinedSo o.samples o.steps o.nearness c.outline_record-outline.new.steps} h (λ key.
-          outlined_more key h.gone (view_of c.in-Some.view) l.outline.samples l.outline.steps o.samples o.steps
-          l.outline.nearness o.nearness sound.samples l.steps c.outline_record-outline.new.steps (h.holds key)
-          sound.whole e.samples e.steps e.steps_count e.nearness),
+      gone_more {Q = AreOutlinedSo o.samples o.steps o.nearness c.outline_record-outline.new.steps} h (
+        omega (arith, most, size, e.most),
+        λ key.
+            outlined_more key h.gone (view_of c.in-Some.view) l.outline.samples l.outline.steps o.samples o.steps
+            l.outline.nearness o.nearness sound.samples l.steps c.outline_record-outline.new.steps (h.holds.1 key)
+            sound.whole e.samples e.steps e.steps_count e.nearness,
+      ),
     )
 
 pub returns-clause-outline : goal.returns-clause-outline
@@ -42,12 +52,12 @@ returns-clause-outline g c =
     let l = c.loop-view in
     let whole = gone_all l.invariant.1 c.in_default.ensures.next.0 in
     λ key. outline_is key (g.R.Walk.left c.args.records) l.outline.samples l.outline.steps l.outline.nearness l.steps
-    (whole key)
+    (whole.1 key)
 
 pub returns-clause-samples : goal.returns-clause-samples
-returns-clause-samples g c = (gone_all c.loop-view.invariant.1 c.in_default.ensures.next.0 []).read.samples_count
+returns-clause-samples g c = ((gone_all c.loop-view.invariant.1 c.in_default.ensures.next.0).1 []).read.samples_count
 
 pub returns-clause-steps_inside : goal.returns-clause-steps_inside
 returns-clause-steps_inside g c =
-    let whole = gone_all c.loop-view.invariant.1 c.in_default.ensures.next.0 [] in
-    omega (arith, whole.read.steps_count, c.requires.steps_fit, c.loop-view.auto.steps)
+    let whole = (gone_all c.loop-view.invariant.1 c.in_default.ensures.next.0).1 [] in
+    omega (arith, whole.read.steps_count, c.requires.read.steps_fit, c.loop-view.auto.steps)

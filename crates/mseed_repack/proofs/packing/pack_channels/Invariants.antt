@@ -7,5 +7,5 @@ use Rattle.mseed_repack.proofs.packing.pack_channels.Given as goal
 abbrev pub invariant-loop-number : goal.invariant-loop-number
 invariant-loop-number g l =
     Wrote (AreTexts (IsTextOn l.options) (take l.number (planned (map view_of l.archive.views.now)
-    l.archive.channels.now (map (λ own. own.items) l.lengths)))) 0 (g.W.Sink.written l.fn.output)
+    l.archive.channels.now (map (λ own. own.items) l.plans)))) 0 (g.W.Sink.written l.fn.output)
     (g.W.Sink.written l.output)

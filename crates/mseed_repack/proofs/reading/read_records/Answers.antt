@@ -8,7 +8,7 @@ use Rattle.mseed_repack.proofs.reading.read_records.Goals as goal
 
 pub loop-view-init : goal.loop-view-init
 loop-view-init g c = (
-  c.requires.walks.led,
+  c.requires.read.walks.led,
   gone_none (λ key. read_none key c.args.samples.now c.args.steps.now),
 )
 
@@ -18,9 +18,9 @@ read_record-read-requires g c =
     let h = next_gone l.invariant.1 c.in-Some.ensures.next in
     let held = h.holds [] in
     record {
-      sound = next_of IsSound h c.requires.walks.sound;
+      sound = next_of IsSound h c.requires.read.walks.sound;
       samples_fit = omega (arith, samples_so_far h, held.samples_count, c.requires.samples_fit, l.auto.samples);
-      steps_fit = omega (arith, steps_so_far h, held.steps_count, c.requires.steps_fit, l.auto.steps);
+      steps_fit = omega (arith, steps_so_far h, held.steps_count, c.requires.read.steps_fit, l.auto.steps);
     }
 
 pub loop-view-preserved : goal.loop-view-preserved
@@ -55,4 +55,4 @@ returns-clause-samples_inside g c =
 pub returns-clause-steps_inside : goal.returns-clause-steps_inside
 returns-clause-steps_inside g c =
     let whole = gone_all c.loop-view.invariant.1 c.in_default.ensures.next.0 [] in
-    omega (arith, whole.steps_count, c.requires.steps_fit, c.loop-view.auto.steps)
+    omega (arith, whole.steps_count, c.requires.read.steps_fit, c.loop-view.auto.steps)

@@ -1,16 +1,74 @@
-use Rattle.mseed_pack.specs.Traces.{trace_of}
-use Rattle.mseed_repack.proofs.Stretched.{fits_as, misfits_as}
+use Rattle.std.proofs.Common.{◌≡◌, ℕ, ℤ, List, ap, arith, drop, length, rules, sym, subst, ◌∙◌, All, IfSome, Option}
+use Rattle.std.proofs.Common.{Some}
+use Rattle.std.proofs.lemmas.List.{take_at}
+use Rattle.mseed_steim.specs.Spelling.{IsWithin}
+use Rattle.mseed_pack.specs.Traces.{headed}
+use Rattle.mseed_repack.specs.private.Outline.{AreHeld, IsKnown}
+use Rattle.mseed_repack.specs.private.Planning.{IsFitting}
+use Rattle.mseed_repack.specs.declared.plan.Way.{Way}
+use Rattle.mseed_repack.specs.declared.plan.Way.TheVariants.{Frames}
+use Rattle.mseed_repack.proofs.Stretched.{head_places, series_held, series_misfits}
+use Rattle.mseed_repack.proofs.Supplied.{unread_by}
 use Rattle.mseed_repack.proofs.series.fit_series.Goals as goal
 
-pub returns-clause-ok : goal.returns-clause-ok
-returns-clause-ok g c =
-    fits_as c.fit_view.result c.args.options.now (g.R.Walk.left c.args.records) (trace_of c.series_of-series.result)
-    (c.series_of-series.ensures.series (g.R.Walk.left c.args.records) c.beginning-stretch.ensures
-    c.read_records-read.ensures.read) c.fit_view.ensures.fits
+pub fit_head-requires : goal.fit_head-requires
+fit_head-requires g c =
+    let head = c.head_of-head.result in
+    let h = c.outline_records-outline.ensures.outline head.codes in
+    record {
+      steps = head_places _ _ _ _ c.head_of-head.ensures.count c.head_of-head.ensures.steps h.places;
+    }
 
-pub returns-clause-err : goal.returns-clause-err
-returns-clause-err g c =
-    misfits_as c.fit_view.result c.args.options.now (g.R.Walk.left c.args.records)
-    (trace_of c.series_of-series.result)
-    (c.series_of-series.ensures.series (g.R.Walk.left c.args.records) c.beginning-stretch.ensures
-    c.read_records-read.ensures.read) c.fit_view.ensures.fault
+pub returns-in-Err-clause-fitting : goal.returns-in-Err-clause-fitting
+returns-in-Err-clause-fitting g c =
+    let head = c.head_of-head.result in
+    let h = c.outline_records-outline.ensures.outline head.codes in
+    series_misfits c.args.options.now (g.R.Walk.left c.args.records) (headed head h.samples) c.in-Err.fault
+    (c.head_of-head.ensures.series h.samples h.are)
+    (c.in-Err.ensures.fault h.samples c.args.options.now (sym (c.head_of-head.ensures.count ∙ h.count_is)))
+
+pub returns-in-Some-Frames-clause-fitting : goal.returns-in-Some-Frames-clause-fitting
+returns-in-Some-Frames-clause-fitting g c =
+    let head = c.head_of-head.result in
+    let encoding = c.args.options.now.encoding in
+    let near = c.outline_records-outline.result.nearness in
+    let h = c.outline_records-outline.ensures.outline head.codes in
+    let is : c.held_way-held.result ≡ Some Frames =
+    c.in-Some-Frames.is
+    ∙ ap (λ (w : Way). Some w) (rw c.in-Some-Frames.is at c.in-Some-Frames.field-0-is) in
+    let held = subst (λ (r : Option Way). IfSome r (λ _. (xs : List ℤ) → All (IsWithin 32) xs → IsKnown near xs
+    → AreHeld encoding xs)) is c.held_way-held.ensures.held in (
+      series_held c.args.options.now (g.R.Walk.left c.args.records) head h.samples
+          (c.head_of-head.ensures.series h.samples h.are) (sym (c.head_of-head.ensures.count ∙ h.count_is))
+          (held h.samples h.within h.known) c.in_default.ensures.fits,
+      (
+        c.held_way-held.ensures.encoding is,
+        unread_by head.start head.rate h c.requires.walks.sound (c.held_way-held.ensures.near is)
+            (c.held_way-held.ensures.unpackable is),
+      ),
+    )
+
+pub returns-in-Some-clause-fitting : goal.returns-in-Some-clause-fitting
+returns-in-Some-clause-fitting g c =
+    let head = c.head_of-head.result in
+    let h = c.outline_records-outline.ensures.outline head.codes in (
+      series_held c.args.options.now (g.R.Walk.left c.args.records) head h.samples
+          (c.head_of-head.ensures.series h.samples h.are) (sym (c.head_of-head.ensures.count ∙ h.count_is))
+          (c.in-Some.ensures.held h.samples h.within h.known) c.in_default.ensures.fits,
+      omega (arith, c.in_ok-make_room.ensures.room, c.outline_records-outline.ensures.samples),
+    )
+
+pub returns-in-None-clause-fitting : goal.returns-in-None-clause-fitting
+returns-in-None-clause-fitting g c =
+    let o = c.args.options.now in
+    let vs = g.R.Walk.left c.args.records in
+    let xs : List ℤ = c.fit_read.new.samples in
+    let size : length xs ≡ c.make_room.new.samples.len = search rules in
+    let same : length c.deref_mut.result.now ≡ length xs = search rules in
+    -- the list is written back whole
+    let whole = take_at xs (drop (length xs) c.make_room.new.samples.items) c.make_room.new.samples.len size in
+    subst (λ (ys : List ℤ). IsFitting o (length ys) vs c.fit_read.result) (sym whole)
+    (subst (λ (n : ℕ). IsFitting o n vs c.fit_read.result) same c.fit_read.ensures.fitting)
+
+pub returns-in-None-clause-kept : goal.returns-in-None-clause-kept
+returns-in-None-clause-kept g c = λ e. absurd (c.fit_read.ensures.listed e)

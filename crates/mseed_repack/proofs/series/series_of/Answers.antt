@@ -4,6 +4,3 @@ use Rattle.mseed_repack.proofs.series.series_of.Goals as goal
 pub returns-clause-series : goal.returns-clause-series
 returns-clause-series c = λ vs is are.
     series_is c.args.stretch.now vs c.args.samples.now c.args.steps.now is (are c.args.stretch.now.codes)
-
-pub returns-clause-others : goal.returns-clause-others
-returns-clause-others c = λ vs xs is are. series_is c.args.stretch.now vs xs c.args.steps.now is are

@@ -1,54 +1,38 @@
-use Rattle.std.proofs.Common.{List, ℕ, length, arith, refl, rules, subst, sym}
-use Rattle.std.specs.List.{AllByRecursion}
-use Rattle.mseed_repack.specs.Repack.{StretchFits}
-use Rattle.mseed_repack.specs.private.Planning.{IsCut, IsFirstMisfit, stretches_by}
-use Rattle.mseed_repack.proofs.Planning.{are_cut, channel_misfits, readable_cut}
+use Rattle.std.proofs.Common.{List, ℕ, length, arith, refl, subst, sym, Option}
+use Rattle.mseed_repack.specs.private.Planning.{AreFitting, IsCutAs, stretches_by}
+use Rattle.mseed_repack.specs.declared.fitting.Misfit.{Misfit}
+use Rattle.mseed_repack.proofs.Planning.{readable_by, ready_fit, some_each}
 use Rattle.mseed_repack.proofs.standing.stand.Goals as goal
 
-pub fit_kept-requires : goal.fit_kept-requires
-fit_kept-requires g c κs =
+pub fit_stretches-requires : goal.fit_stretches-requires
+fit_stretches-requires g c κs =
     let vs = g.R.Walk.left c.args.records in
-    let most = c.in_ok-most.most in (
+    let ns = c.deref.result.now in
+    let cut = subst (λ (ms : List ℕ). IsCutAs c.args.cutting vs (stretches_by ms vs)) (sym c.deref.ensures.value)
+    c.in_ok-cut_records.ensures in (
       (refl, tt),
       (
         c.requires.led,
-        readable_cut most (length c.make_room.new.samples.items) (length c.args.steps.now) c.deref.result.now vs
-            (subst (λ (ns : List ℕ). IsCut most ns vs) (sym c.deref.ensures.value) c.in_ok-most.ensures)
-            (c.are_all_sound.ensures.0 c.if-not-are_all_sound.false) (search rules) c.requires.steps_fit,
+        (
+          readable_by (length c.args.steps.now) ns vs
+              (some_each c.args.cutting vs (stretches_by ns vs) c.requires.some cut)
+              (c.are_all_sound.ensures.0 c.if-not-are_all_sound.false) c.requires.few c.requires.steps_fit,
+          c.requires.none,
+        ),
       ),
     )
 
-pub returns-in-Ok-clause-ready : goal.returns-in-Ok-clause-ready
-returns-in-Ok-clause-ready g c =
+pub returns-in-None-clause-ready : goal.returns-in-None-clause-ready
+returns-in-None-clause-ready g c =
     let vs = g.R.Walk.left c.args.records in
-    let ns = c.cut_stretches.new.lengths.items in
-    let most = c.in_ok-most.most in
+    let ns = c.deref.result.now in
+    let room : ℕ = length c.fit_stretches.new.samples.items in
+    let places : ℕ = length c.fit_stretches.new.steps in
     let sound = c.are_all_sound.ensures.0 c.if-not-are_all_sound.false in
-    let are = are_cut most ns vs c.in_ok-most.ensures in
-    let fit : AllByRecursion (StretchFits c.args.options.now) (stretches_by ns vs) =
-    subst (λ (ms : List ℕ). AllByRecursion (StretchFits c.args.options.now) (stretches_by ms vs)) c.deref.ensures.value
-    c.in-Ok.ensures.ok in
-    record {
-      stands = record { sound = sound; stretches = stretches_by ns vs; are = are; fit = fit };
-      plan = (
-        are,
-        record {
-          readable = readable_cut most (length c.fit_kept.new.samples.items) (length c.fit_kept.new.steps) ns vs
-              c.in_ok-most.ensures sound (search rules) (omega (arith, c.requires.steps_fit, c.fit_kept.auto.steps));
-          fit = fit;
-        },
-      );
-    }
-
-pub returns-in-Err-clause-ready : goal.returns-in-Err-clause-ready
-returns-in-Err-clause-ready g c =
-    let vs = g.R.Walk.left c.args.records in
-    let ns = c.cut_stretches.new.lengths.items in
-    let sound = c.are_all_sound.ensures.0 c.if-not-are_all_sound.false in
-    record {
-      stands = channel_misfits c.args.options.now vs (stretches_by ns vs) c.in-Err.misfit.number c.in-Err.misfit.fault
-          sound (are_cut c.in_ok-most.most ns vs c.in_ok-most.ensures)
-          (subst (λ (ms : List ℕ). IsFirstMisfit c.args.options.now c.in-Err.misfit.number c.in-Err.misfit.fault
-          (stretches_by ms vs)) c.deref.ensures.value c.in-Err.ensures.err);
-      plan = c.clear.ensures.items;
-    }
+    let cut = subst (λ (ms : List ℕ). IsCutAs c.args.cutting vs (stretches_by ms vs)) (sym c.deref.ensures.value)
+    c.in_ok-cut_records.ensures in
+    let found = subst (λ (m : Option Misfit). AreFitting c.args.options.now room ns c.fit_stretches.new.plans.items
+    (stretches_by ns vs) m) c.in-None.is c.in_ok-fit_stretches.ensures.found in
+    ready_fit c.args.cutting c.args.options.now room places ns c.fit_stretches.new.plans.items vs sound cut
+    (readable_by places ns vs (some_each c.args.cutting vs (stretches_by ns vs) c.requires.some cut) sound
+    c.requires.few (omega (arith, c.requires.steps_fit, c.fit_stretches.auto.steps))) found.0 found.1 found.2

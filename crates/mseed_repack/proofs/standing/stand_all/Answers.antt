@@ -6,8 +6,9 @@ use Rattle.mseed_audit.proofs.Behind.{views_are}
 use Rattle.mseed_repack.specs.Repack.{Channel, records_in}
 use Rattle.mseed_repack.specs.private.Archives.{records_on}
 use Rattle.mseed_repack.specs.private.Planning.{AreReady, IsReady}
+use Rattle.mseed_repack.specs.declared.plan.Plan.{Plan}
 use Rattle.mseed_repack.specs.declared.standing.Standing.{Standing}
-use Rattle.mseed_repack.proofs.Archives.{few_trail, of_channel}
+use Rattle.mseed_repack.proofs.Archives.{few_trail, of_channel, some_on}
 use Rattle.mseed_repack.proofs.Planning.{ready_more}
 use Rattle.mseed_repack.proofs.Standings.{sound_by, steps_gathered}
 use Rattle.mseed_repack.proofs.standing.stand_all.Goals as goal
@@ -27,12 +28,15 @@ stand-requires g c κs =
         (
           few_trail a l.number t c.trail.ensures c.requires.places.audited,
           (
-            λ continuous. sound_by views a.channels.now l.number d c.is_continuous-continuous.result (records_on t)
-                c.requires.places.audited.verdicts c.loop-number-test.true c.channel-item.is
-                c.is_continuous-continuous.ensures own continuous,
+            λ whole. some_on a l.number t c.loop-number-test.true c.trail.ensures (c.requires.whole whole),
             (
-              c.new-own.ensures.items,
-              omega (arith, fits, l.auto.steps),
+              λ continuous. sound_by views a.channels.now l.number d c.is_continuous-continuous.result (records_on t)
+                  c.requires.places.audited.verdicts c.loop-number-test.true c.channel-item.is
+                  c.is_continuous-continuous.ensures own continuous,
+              (
+                c.new-own.ensures.items,
+                omega (arith, fits, l.auto.steps),
+              ),
             ),
           ),
         ),
@@ -41,6 +45,7 @@ stand-requires g c κs =
 
 pub loop-number-preserved : goal.loop-number-preserved
 loop-number-preserved g c =
+    let cutting = c.args.cutting in
     let o = c.args.options.now in
     let l = c.loop-number in
     let views : List View = map view_of c.args.archive.now.views.now in
@@ -48,24 +53,27 @@ loop-number-preserved g c =
     let d : Channel = c.channel-item.result in
     let room : ℕ = length c.stand.new.samples.items in
     let places : ℕ = length c.stand.new.steps in
-    let before : List (List ℕ) = map (λ own. own.items) l.lengths.items in
-    let own : List ℕ = c.stand.new.lengths.items in
+    let before : List (List Plan) = map (λ own. own.items) l.plans.items in
+    let own : List Plan = c.stand.new.plans.items in
     let found : List Standing = l.standings.items ++ c.in_ok-standing.standing ∷ [] in
     let all = ap (λ ls. map (λ own. own.items) ls) c.in_ok-push-2.ensures.items in
-    let parts = map-append (λ own. own.items) l.lengths.items (_ ∷ []) in
+    let parts = map-append (λ own. own.items) l.plans.items (_ ∷ []) in
     let same : records_on c.trail.result ≡ records_in views d.0 =
     of_channel c.args.archive.now l.number c.trail.result d c.loop-number-test.true c.channel-item.is c.trail.ensures
     ∙ sym (views_are d.0 views) in
     let next : take l.number cs ++ d ∷ [] ≡ take (l.number + 1) cs =
     ap (λ (e : Channel). take l.number cs ++ e ∷ []) c.channel-item.is
     ∙ sym (take_more cs l.number d c.loop-number-test.true) in
-    subst (λ (ls : List (List ℕ)). AreReady o room places views (take (l.number + 1) cs) c.push.new.self.items ls)
+    subst (λ (ls : List (List Plan)). AreReady cutting o room places views (take (l.number + 1) cs)
+    c.push.new.self.items ls)
     (sym (all ∙ parts))
-    (subst (λ (ss : List Standing). AreReady o room places views (take (l.number + 1) cs) ss (before ++ own ∷ []))
+    (subst (λ (ss : List Standing). AreReady cutting o room places views (take (l.number + 1) cs) ss
+    (before ++ own ∷ []))
     (sym c.in_ok-push.ensures.items)
-    (subst (λ (ds : List Channel). AreReady o room places views ds found (before ++ own ∷ [])) next
-    (ready_more o (length l.samples.items) room (length l.steps) places views (take l.number cs) l.standings.items
+    (subst (λ (ds : List Channel). AreReady cutting o room places views ds found (before ++ own ∷ [])) next
+    (ready_more cutting o (length l.samples.items) room (length l.steps) places views (take l.number cs)
+    l.standings.items
     before d c.in_ok-standing.standing own c.in_ok-standing.ensures.grown (omega (arith, c.stand.auto.steps))
     l.invariant
-    (subst (λ (vs : List View). IsReady o room places vs c.in_ok-standing.standing own) same
+    (subst (λ (vs : List View). IsReady cutting o room places vs c.in_ok-standing.standing own) same
     c.in_ok-standing.ensures.ready))))

@@ -1,7 +1,5 @@
-use native.Mathlib.Nat.{le-max_left, le-max_right}
-use Rattle.std.proofs.Common.{ℕ, ◌≤◌, List, arith, subst, sym, ◌∙◌}
+use Rattle.std.proofs.Common.{ℕ, List, arith, subst, sym, ◌∙◌}
 use Rattle.std.proofs.lemmas.Bool.{false≢true}
-use Rattle.mseed_steim.proofs.Fullest.{max_is}
 use Rattle.mseed_repack.specs.private.Planning.{IsCut}
 use Rattle.mseed_repack.proofs.Cutting.{IsCutSo, cut_first, cut_last, cut_off, cut_on, few_more}
 use Rattle.mseed_repack.proofs.stretching.cut_stretches.Goals as goal
@@ -9,7 +7,7 @@ use Rattle.mseed_repack.proofs.stretching.cut_stretches.Goals as goal
 pub loop-view-init : goal.loop-view-init
 loop-view-init g c = (
   c.in-Some.ensures.leads,
-  subst (λ (ns : List ℕ). IsCutSo 0 ns (g.R.Walk.left c.args.records) (g.R.Walk.left c.next.new.self)
+  subst (λ (ns : List ℕ). IsCutSo ns (g.R.Walk.left c.args.records) (g.R.Walk.left c.next.new.self)
       c.begin-stretch.result) (sym c.requires.none)
       (cut_first c.in-Some.ensures.next c.requires.sound c.begin-stretch.ensures.stretch),
 )
@@ -29,24 +27,17 @@ loop-view-preserved-then-goes_on g c =
 
 pub loop-view-preserved : goal.loop-view-preserved
 loop-view-preserved g c =
-    let l = c.loop-view in
-    let h = l.invariant.1 in
-    let top = max_is l.most l.stretch.samples c.max-most.result c.max-most.ensures in (
+    let h = c.loop-view.invariant.1 in (
       c.in-Some-next.ensures.leads,
-      subst (λ (ns : List ℕ). IsCutSo c.max-most.result ns (g.R.Walk.left c.args.records)
-          (g.R.Walk.left c.next-in-loop-view.new.self) c.begin-stretch-else-goes_on.result)
+      subst (λ (ns : List ℕ). IsCutSo ns (g.R.Walk.left c.args.records) (g.R.Walk.left c.next-in-loop-view.new.self)
+          c.begin-stretch-else-goes_on.result)
           (sym c.in_ok-push.ensures.items)
           (cut_off h c.in-Some-next.ensures.next
-          (λ go. false≢true (sym c.if-goes_on.false ∙ (c.goes_on.ensures h.own h.kept).1 go)) top.0 top.1
+          (λ go. false≢true (sym c.if-goes_on.false ∙ (c.goes_on.ensures h.own h.kept).1 go))
           c.begin-stretch-else-goes_on.ensures.stretch),
     )
 
 pub returns : goal.returns
 returns g c =
-    let l = c.loop-view in
-    let low = subst (λ (n : ℕ). l.most ≤ n) (sym c.max-most-2.ensures) (le-max_left l.most l.stretch.samples) in
-    let high = subst (λ (n : ℕ). l.stretch.samples ≤ n) (sym c.max-most-2.ensures)
-    (le-max_right l.most l.stretch.samples) in
-    subst (λ (ns : List ℕ). IsCut c.max-most-2.result ns (g.R.Walk.left c.args.records))
-    (sym c.in_ok-push-2.ensures.items)
-    (cut_last l.invariant.1 c.in_default.ensures.next.0 low high)
+    subst (λ (ns : List ℕ). IsCut ns (g.R.Walk.left c.args.records)) (sym c.in_ok-push-2.ensures.items)
+    (cut_last c.loop-view.invariant.1 c.in_default.ensures.next.0)

@@ -5,7 +5,7 @@ use Rattle.mseed_repack.proofs.stretching.cut_stretches.Given as goal
 abbrev pub invariant-loop-view : goal.invariant-loop-view
 invariant-loop-view g l =
     g.R.Walk.leads l.rest
-    × IsCutSo l.most l.lengths.items (g.R.Walk.left l.fn.records) (g.R.Walk.left l.rest) l.stretch
+    × IsCutSo l.lengths.items (g.R.Walk.left l.fn.records) (g.R.Walk.left l.rest) l.stretch
 
 abbrev pub decreases-loop-view : goal.decreases-loop-view
 decreases-loop-view g l = length (g.R.Walk.left l.rest)
