@@ -31,7 +31,7 @@ CRATES = {
     "mseed_stretches": (3, "stretches of a channel"),
     "mseed_pack": (2, "packing a series"),
     "mseed_repack": (2, "packing an archive anew"),
-    "slink_wire": (4, "packets, lines, commands"),
+    "slink_wire": (4, "packets, lines, hosts"),
     "slink_feed": (4, "rings, sessions, clients, turns"),
     "slink_links": (4, "one link after another, TCP"),
     "slink_live": (5, "many links at once, as records come"),
@@ -39,6 +39,7 @@ CRATES = {
     "slink_model": (3, "schedules over cut links"),
     "mseed_c": (0, "the calls for C"),
     "mseed_files": (2.75, "files, one after another"),
+    "mseed_input": (3, "files of an input, by name"),
     "mseed_words": (4, "what words request"),
     "mseed": (2, "the command"),
 }
