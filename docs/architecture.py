@@ -1,8 +1,8 @@
 #!/usr/bin/env python3
-"""Draws docs/architecture.svg: the crates by what they stand on, as crates.txt says, and the ways of a record.
+"""Draws docs/architecture.svg: the crates by what they depend on, as crates.txt says, and the paths of a record.
 
     architecture.py           writes the drawing
-    architecture.py --check   compares it with what stands there, and the tables of architecture.md with crates.txt
+    architecture.py --check   compares it with what is there, and the tables of architecture.md with crates.txt
 
 A line is drawn from a crate to each one that it uses, but for those that it reaches through another. A crate's row
 is the length of its longest way down. A crate that no column is given for, boxes that overlap, or a call of a way that
@@ -40,7 +40,7 @@ CRATES = {
     "mseed_c": (0, "the calls for C"),
     "mseed_files": (2.75, "files, one after another"),
     "mseed_input": (3, "files of an input, by name"),
-    "mseed_words": (4, "what words request"),
+    "mseed_words": (4, "what a command line requests"),
     "mseed": (2, "the command"),
 }
 
@@ -139,7 +139,7 @@ def draw_crates(used):
     lines = [line(at[crate][0], at[crate][1] + HEIGHT / 2, at[low][0], at[low][1] - HEIGHT / 2)
              for crate in used for low in nearest(crate, used)]
     boxes = [part for crate in used for part in box(*at[crate], crate, CRATES[crate][1])]
-    head = label(MARGIN, MARGIN + 12, "What each crate stands on", 16, "bold", "start")
+    head = label(MARGIN, MARGIN + 12, "What each crate depends on", 16, "bold", "start")
     return [head, *lines, *boxes], MARGIN + 40 + top * ROW + HEIGHT
 
 
@@ -168,7 +168,7 @@ def drawing():
             f'width="{width:g}" height="{y + MARGIN:g}" font-family="sans-serif">')
     arrow = ('<defs><marker id="arrow" viewBox="0 0 8 8" refX="8" refY="4" markerWidth="8" markerHeight="8" '
              'orient="auto"><path d="M0 0 L8 4 L0 8 z" fill="#555"/></marker></defs>')
-    return "\n".join([head, "<title>The crates, and the ways of a record through them</title>", arrow,
+    return "\n".join([head, "<title>The crates, and the paths of a record through them</title>", arrow,
                       '<rect width="100%" height="100%" fill="white"/>', *crates, *ways, "</svg>", ""])
 
 
@@ -189,7 +189,7 @@ def faults():
     for crate in used:
         yield f"docs/architecture.md doesn't say once who needs {crate} alone", needed.count(crate) != 1
         listed = re.findall(r"`(\w+)`", rows.get(crate, ""))
-        yield (f"docs/architecture.md: {crate} stands on {nearest(crate, used)}, and not on {listed}",
+        yield (f"docs/architecture.md: {crate} depends on {nearest(crate, used)}, and not on {listed}",
                crate not in rows or sorted(listed) != sorted(nearest(crate, used)))
 
 

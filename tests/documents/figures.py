@@ -1,5 +1,5 @@
-"""Figures in the pages that are counted from the tree: wrong bodies, public calls, the lines of each crate; sizes that
-are constants of the code; and what each crate depends on.
+"""Figures in the pages that are counted from the tree: wrong bodies, public calls, the lines of each crate; and sizes
+that are constants of the code.
 
 A figure stands between words by which it is known; where its page has these twice, it has the figure twice. The table
 of crates in docs/developing.md has a row for each crate but those of tests and benchmarks; its functions and lines may
@@ -19,9 +19,6 @@ from driver.proving import prove
 
 TABLE = "docs/developing.md"
 WITHOUT_ROW = ["mseed_tests", "slink_tests", "mseed_bench"]
-LAYERS = "docs/architecture.md"
-LAYER = re.compile(r"^\| `(\w+)` \| [^|]* \| ([^|]*)\| [^|]* \| [^|]* \|$", re.MULTILINE)
-NOT_DRAWN = [*WITHOUT_ROW, "examples"]
 MOST_OFF = 5
 MINUTES = re.compile(r"^(\| `(\w+)` \|(?: [\d,]* ?\|){5}) ([\d.]+) \|$", re.MULTILINE)
 ROW = re.compile(r"^(\| `(\w+)`) \| ([\d,]+) \| ([\d,]*) ?\| ([\d,]*) ?\| ([\d,]*) ?\| (\d*) ?(?=\| [\d.]+ \|$)",
@@ -189,23 +186,6 @@ def judged_figures(sources: Sources) -> Iterator[Judged]:
         found, counted = figure.found_in(text_of(figure.page)), f"{figure.counted(sources):,}"
         yield Judged(f"{figure.page}: {figure.before}..{figure.behind}", found == {counted},
                      f"{counted} are counted, and there stands {found or 'none'}")
-
-
-def depends_on(sources: Sources, crate: str) -> set[str]:
-    """The crates of the repository on which one depends, but for those on which another of them depends."""
-    used = {name for name in sources.crates[crate] if name in sources.crates}
-    return {name for name in used if not any(name in prove.below(other) for other in used)}
-
-
-def judged_layers(sources: Sources, text: str) -> Iterator[Judged]:
-    """What the table of crates in docs/architecture.md says that each depends on."""
-    rows = {row[1]: set(re.findall(r"`(\w+)`", row[2])) for row in LAYER.finditer(text)}
-    wanted = sorted(set(sources.crates) - set(NOT_DRAWN))
-    yield Judged(f"{LAYERS}: the table of crates", sorted(rows) == wanted, f"has {sorted(rows)}, and not {wanted}")
-    for crate, found in rows.items():
-        counted = depends_on(sources, crate)
-        yield Judged(f"{LAYERS}: what {crate} depends on", found == counted,
-                     f"is {sorted(found)}, and by crates.txt {sorted(counted)}")
 
 
 def judged_rows(sources: Sources, text: str) -> Iterator[Judged]:

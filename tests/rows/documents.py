@@ -14,7 +14,7 @@ from typing import Optional, Sequence
 
 from documents.callers import judged_fields, judged_page, libraries, page_of
 from documents.codes import CODES, judged_codes
-from documents.figures import FIGURES, LAYERS, TABLE, judged_figures, judged_layers, judged_rows, recounted
+from documents.figures import FIGURES, TABLE, judged_figures, judged_rows, recounted
 from documents.page import Page
 from documents.quoted import judged_quotations, requoted
 from documents.sources import Sources, text_of
@@ -137,10 +137,6 @@ def self_tests(sources: Sources) -> Cases:
     wrong = [one.name for one in judged_codes(text_of(CODES).replace("| `no memory`, ", "| ")) if not one.is_there]
     yield Fact("a text that is missing among the library's codes is found",
                [f"{CODES}: the code {code}" for code in (3, 4, 5)], wrong)
-    row = "| `mseed_parts` | parts | `mseed_audit` | a | b |"
-    for name, wanted in (("mseed_audit", True), ("mseed_steim", False)):
-        judged = [one.is_there for one in judged_layers(sources, row.replace("mseed_audit", name))][1:]
-        yield Fact(f"mseed_parts depends on {name}, and on no other crate", [wanted], judged)
     yield Fact("minutes that aren't those that were measured", [False],
                [one.is_there for one in judged_rows(sources, MISCOUNTED[-1][0] + " 99.9 |") if "minutes" in one.name])
 
@@ -170,7 +166,7 @@ def quotations() -> Cases:
 def figures(sources: Sources) -> Cases:
     """What the pages count."""
     for judged in (judged_figures(sources), judged_rows(sources, text_of(TABLE)),
-                   judged_layers(sources, text_of(LAYERS)), judged_codes(text_of(CODES))):
+                   judged_codes(text_of(CODES))):
         for name, is_so, why in judged:
             yield Fact(name, "so many", "so many" if is_so else why)
 
