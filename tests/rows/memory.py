@@ -19,8 +19,12 @@ TWO = (SAMPLES / "two_records.mseed").read_bytes()
 # The first of them, and the same of another channel, over and over.
 PAIR = TWO[:128] + TWO[:128].replace(b"BHZ", b"BHN")
 FOUR, MANY = PAIR * 2, PAIR * 5000
+# Records of Steim frames.
+FRAMES = (SAMPLES / "steim2.mseed").read_bytes()
 # More memory than four records need.
 ENOUGH = 16777216
+# The memory for the sample network's records, and less than a list of one channel's samples takes beside them.
+FOR_FRAMES = 300_000
 
 
 def refuses(name: str, row: Row, refusing: str, is_listing: bool = False) -> Generator[Case, None, int]:
@@ -65,16 +69,22 @@ def least(refusing: str) -> Cases:
 
 def bounded(refusing: str) -> Cases:
     """Heaps that suffice. The text of 600 lines of up to 101 bytes takes 65,536: a text has room for the first word of
-    its first line, and doubles. What is kept of 9,000 channels takes no more than an eighth beyond what they need."""
+    its first line, and doubles. What is kept of 9,000 channels takes no more than an eighth beyond what they need.
+    Steim frames that are packed anew as Steim frames take no memory for their samples, which as integers are a list."""
+    frames = (SAMPLES / "network.mseed").read_bytes()
     many = b"".join(record(codes=b"S%04d  %sXX" % (number // 3, (b"BHZ", b"BHN", b"BHE")[number % 3]))
                     for number in range(9000))
     for name, archive, command, heap in (
         ("a listing of 600 records", TWO[:128] * 600, "show", 200_000),
         ("an audit of 9,000 channels", many, "audit", 3_900_000),
+        ("frames packed anew as frames", frames, "repack", FOR_FRAMES),
+        ("frames packed anew as frames by stretches", frames, "repack --stretches", FOR_FRAMES),
     ):
-        row = Row(f"{name} in {heap} bytes", archive, [command], 0)
+        row = Row(f"{name} in {heap} bytes", archive, command.split(), 0)
         whole = replace(row, env=preloaded(refusing, REFUSE=0)).run()
         yield replace(row, out=whole.out, err=whole.err, env=preloaded(refusing, HEAP=heap))
+    yield Row(f"frames packed anew as integers in {FOR_FRAMES} bytes", frames, ["repack", "--encoding", "int32"], 2,
+              b"", NO_MEMORY, env=preloaded(refusing, HEAP=FOR_FRAMES))
 
 
 def rows() -> Cases:
@@ -89,6 +99,8 @@ def rows() -> Cases:
         ("two repack", TWO, "repack", 0),
         ("four repack", FOUR, "repack", 1),
         ("four repack --stretches", FOUR, "repack --stretches", 0),
+        ("frames repack", FRAMES, "repack", 0),
+        ("frames repack --stretches", FRAMES, "repack --stretches", 0),
         ("two repack --length 500", TWO, "repack --length 500", 3),
         ("two show", TWO, "show", 0),
         ("two show --bogus", TWO, "show --bogus", 3),
