@@ -23,12 +23,12 @@ use Rattle.mseed_audit.specs.Audit.{Stands, verdict_of}
 use Rattle.mseed_audit.specs.Channels.{Placed, added_from, is_of, same_key, records_of, views_in}
 use Rattle.mseed_audit.specs.Follows.{IsSound, IsContinuous}
 use Rattle.mseed_audit.specs.Judging.{rate_in, rate_unless, time_fault_of}
-use Rattle.mseed_audit.specs.private.Kept.{IsFirstRate}
+use Rattle.mseed_audit.specs.private.ChannelState.{IsFirstRate}
 use Rattle.mseed_audit.specs.Series.{Trace, AreJoined, steps_from, HoldsAll, IsSeriesOf, IsSeries}
 use Rattle.mseed_audit.specs.Verdict.{IsVerdict}
 use Rattle.mseed_audit.proofs.Behind.{views_are}
 use Rattle.mseed_audit.proofs.Finished.{AreExact}
-use Rattle.mseed_audit.proofs.Kept.{stands_verdict}
+use Rattle.mseed_audit.proofs.ChannelState.{stands_verdict}
 use Rattle.mseed_audit.proofs.Maps.{same_is}
 
 -- a channel of which the verdict says so is continuous

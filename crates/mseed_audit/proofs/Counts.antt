@@ -3,7 +3,7 @@ use Rattle.std.proofs.Common.{ℕ, ◌≤◌, List, arith, sym, subst}
 use Rattle.std.specs.List.{IsAmong}
 use Rattle.std.specs.Map.{values_of}
 use Rattle.mseed_audit.specs.declared.channel.Channel.{Channel}
-use Rattle.mseed_audit.specs.private.Kept.{IsBounded, AreBounded}
+use Rattle.mseed_audit.specs.private.ChannelState.{IsBounded, AreBounded}
 
 pub within_more : (m n : ℕ) (c : Channel) → m ≤ n → IsBounded m c → IsBounded n c
 within_more m n c le h = record { records = omega (arith, h.records, le); samples = h.samples; found = h.found }

@@ -12,7 +12,7 @@ use Rattle.mseed_audit.specs.Follows.{IsContinuous}
 use Rattle.mseed_audit.specs.Verdict.{IsVerdict, IsVerdictAt, IsExactAt, says_continuous, AreVerdicts, AreVerdictsAmong}
 use Rattle.std.proofs.lemmas.Map.Made.{keys_of-map_values, lookup-map_values}
 use Rattle.mseed_audit.specs.Audit.{AreChannels, Held, StandsAt, IsAuditAmong, verdict_of}
-use Rattle.mseed_audit.proofs.Kept.{stands_verdict}
+use Rattle.mseed_audit.proofs.ChannelState.{stands_verdict}
 
 verdict_at : (o : Option Channel) (ps : List Placed) → StandsAt o ps → IsVerdictAt (option_map verdict_of o) ps
 verdict_at None ps s = s

@@ -15,7 +15,7 @@ use Rattle.mseed_audit.specs.Audit.{Stands, StandsAt}
 use Rattle.mseed_audit.specs.Channels.{Placed, same_key, with_record}
 use Rattle.mseed_audit.specs.Judging.{IsFound}
 use Rattle.mseed_audit.specs.Reported.{IsFoundOf, last_of}
-use Rattle.mseed_audit.specs.private.Kept.{AreBounded, IsBounded}
+use Rattle.mseed_audit.specs.private.ChannelState.{AreBounded, IsBounded}
 use Rattle.mseed_audit.specs.Places.{place_of, with_channel}
 use Rattle.mseed_audit.proofs.Lasts.{found_kept}
 use Rattle.mseed_audit.proofs.Rosters.{bounded_at, found_at, place_within, set_bounded, set_stands, with_is}

@@ -14,7 +14,7 @@ use Rattle.mseed_audit.specs.declared.finding.Why.TheVariants.{RateChange}
 use Rattle.mseed_audit.specs.Judging.{time_fault_of, rate_in, rate_unless, known_rate, why_between, why_from, why_after}
 use Rattle.mseed_audit.specs.Judging.{IsFound, after, step_in, why_by}
 use Rattle.mseed_audit.specs.Audit.{IsTail, break_by}
-use Rattle.mseed_audit.specs.private.Kept.{IsTailBefore, break_after}
+use Rattle.mseed_audit.specs.private.ChannelState.{IsTailBefore, break_after}
 
 pub none_unless : {X : Type 0} (x : Option X) → ¬ (IsSome x) → x ≡ None
 none_unless None h = refl

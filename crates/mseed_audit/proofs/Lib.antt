@@ -6,7 +6,7 @@ pub mod Behind
 pub mod Between
 pub mod Continuity
 pub mod Counts
-pub mod Kept
+pub mod ChannelState
 pub mod Finished
 pub mod Found
 pub mod Gathers

@@ -18,7 +18,7 @@ use Rattle.std.proofs.lemmas.Option.{slice_get_read}
 use Rattle.mseed_audit.specs.declared.channel.Channel.{Channel}
 use Rattle.mseed_audit.specs.Channels.{same_key}
 use Rattle.mseed_audit.specs.Places.{ArePlaced, place_of, with_channel}
-use Rattle.mseed_audit.specs.private.Kept.{IsMissed}
+use Rattle.mseed_audit.specs.private.ChannelState.{IsMissed}
 use Rattle.mseed_audit.proofs.ByKey.{kept_insert}
 use Rattle.mseed_audit.proofs.Maps.{same_back}
 use Rattle.mseed_audit.proofs.Apart.{apart_place, apart_push, apart_set}

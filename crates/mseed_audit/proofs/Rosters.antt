@@ -20,7 +20,7 @@ use Rattle.mseed_steim.specs.Reading.{count_of}
 use Rattle.mseed_audit.specs.declared.channel.Channel.{Channel}
 use Rattle.mseed_audit.specs.Audit.{Stands, StandsAt}
 use Rattle.mseed_audit.specs.Channels.{Placed, same_key, with_record}
-use Rattle.mseed_audit.specs.private.Kept.{AreBounded, IsBounded}
+use Rattle.mseed_audit.specs.private.ChannelState.{AreBounded, IsBounded}
 use Rattle.mseed_audit.specs.Places.{ArePlaces, place_of, with_channel}
 use Rattle.mseed_audit.proofs.Counts.{all_within_more}
 use Rattle.mseed_audit.proofs.Maps.{keys_alike, same_back, same_is}

@@ -8,7 +8,7 @@ ghost use Rattle.mseed_record.specs.Viewing.{view_of};
 ghost use Rattle.mseed_audit.specs.declared.assembly.NotContinuous.TheVariants.{Memory};
 ghost use Rattle.mseed_audit.specs.Channels.{Placed, added_from, is_of, records_of, with_record};
 ghost use Rattle.mseed_audit.specs.Audit.{StandsAt};
-ghost use Rattle.mseed_audit.specs.private.Kept.{IsBounded, IsFirstRate};
+ghost use Rattle.mseed_audit.specs.private.ChannelState.{IsBounded, IsFirstRate};
 ghost use Rattle.mseed_audit.specs.Series.{HoldsAll, IsSeries};
 ghost use Rattle.mseed_audit.specs.Follows.{IsSound};
 

@@ -6,11 +6,11 @@ ghost use Rattle.mseed_record.specs.Viewing.{view_of};
 ghost use Rattle.mseed_steim.specs.Reading.{count_of};
 ghost use Rattle.mseed_audit.specs.Audit.{AreChannels};
 ghost use Rattle.mseed_audit.specs.Channels.{Added, Placed, numbered, records_of};
-ghost use Rattle.mseed_audit.specs.private.Kept.{IsLearnt};
+ghost use Rattle.mseed_audit.specs.private.ChannelState.{IsLearnt};
 ghost use Rattle.mseed_audit.specs.Reported.{IsFoundBehind};
 ghost use Rattle.mseed_audit.specs.Verdict.{AreVerdicts, AreVerdictsAmong};
 
-use crate::channel::{Channel, Lead};
+use crate::channel::{Channel, Examined};
 use crate::finding::Why;
 use crate::law::continuous_exactly;
 use crate::roster::Roster;
@@ -36,7 +36,7 @@ pub struct Audit<A: Allocator = Global> {
 
 impl<A: Allocator> Model for Audit<A> {
     ghost use Rattle.mseed_audit.specs.Audit.{Held};
-    ghost use Rattle.mseed_audit.specs.private.Kept.{AreBounded};
+    ghost use Rattle.mseed_audit.specs.private.ChannelState.{AreBounded};
 
     ghost Value = { Held };
 
@@ -129,7 +129,7 @@ impl<A: Allocator + Copy> Audit<A> {
     {
         match self.add_sound(view) {
             Ok(()) => Ok(()),
-            Err(lead) => match self.add_learnt(view, offset, lead) {
+            Err(examined) => match self.add_learnt(view, offset, examined) {
                 Ok(_) => Ok(()),
                 Err(Memory) => Err(Memory),
             },
@@ -142,7 +142,7 @@ impl<A: Allocator + Copy> Audit<A> {
     ///
     /// What was learnt of it, where it wasn't added: the audit is then as it was.
     #[inline(always)]
-    pub(crate) fn add_sound(&mut self, view: &RecordView) -> Result<(), Option<Lead>>
+    pub(crate) fn add_sound(&mut self, view: &RecordView) -> Result<(), Option<Examined>>
         requires { self.old.added < 2 ^ 40 }
         ensures among { OnOk result ((ps : List Placed) (count offset : ℕ) → IsAuditAmong self.old ps count
             → IsAuditAmong self.new (ps ++ record {
@@ -155,7 +155,7 @@ impl<A: Allocator + Copy> Audit<A> {
             → IsFoundBehind ps (view_of view.now) None) }
         ensures number { OnOk result (self.new.added ≡ self.old.added + 1) }
         ensures unchanged { OnErr result (self.new ≡ self.old) }
-        ensures learnt { IfErr result (λ lead. IsLearnt lead (view_of view.now)) }
+        ensures learnt { IfErr result (λ examined. IsLearnt examined (view_of view.now)) }
     {
         self.roster.add_sound(view)?;
         self.added += 1;
@@ -195,10 +195,10 @@ impl<A: Allocator + Copy> Audit<A> {
         &mut self,
         view: &RecordView,
         offset: u64,
-        lead: Option<Lead>,
+        examined: Option<Examined>,
     ) -> Result<Option<Why>, Memory>
         requires few { self.old.added < 2 ^ 40 }
-        requires learnt { IsLearnt lead (view_of view.now) }
+        requires learnt { IsLearnt examined (view_of view.now) }
         ensures among { (ps : List Placed) (count : ℕ) → IsAuditAmong self.old ps count → OnOk result
             (IsAuditAmong self.new (ps ++ record {
               view = view_of view.now;
@@ -214,7 +214,7 @@ impl<A: Allocator + Copy> Audit<A> {
             ⊎ HoldsKey self.old (key_at (view_of view.now).bytes) → IsOk result }
     {
         let number = self.added + 1;
-        let why = self.roster.add(view, number, offset, lead)?;
+        let why = self.roster.add(view, number, offset, examined)?;
         self.added = number;
         Ok(why)
     }

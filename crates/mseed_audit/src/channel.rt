@@ -6,8 +6,8 @@ ghost use Rattle.mseed_record.specs.Viewing.{view_of};
 ghost use Rattle.mseed_steim.specs.Reading.{count_of};
 ghost use Rattle.mseed_audit.specs.Judging.{IsFound, known_rate};
 ghost use Rattle.mseed_audit.specs.Audit.{IsTailOf, count_in, head_in, tail_in, verdict_of};
-ghost use Rattle.mseed_audit.specs.private.Kept.{IsLead, IsLearnt, IsTailBefore, end_in, why_in, with_end};
-ghost use Rattle.mseed_audit.specs.private.Kept.{with_finding};
+ghost use Rattle.mseed_audit.specs.private.ChannelState.{IsExamined, IsLearnt, IsTailBefore, end_in, why_in, with_end};
+ghost use Rattle.mseed_audit.specs.private.ChannelState.{with_finding};
 ghost use Rattle.mseed_audit.specs.Reported.{last_of};
 
 use crate::finding::{Finding, Why};
@@ -66,7 +66,7 @@ pub struct Channel {
 
 /// What was learnt of a record whose time and rate are known.
 #[derive(Clone, Copy)]
-pub(crate) struct Lead {
+pub(crate) struct Examined {
     tail: Tail,
     // What is wrong with its samples, if something is.
     fault: Option<ReadFault>,
@@ -84,7 +84,7 @@ enum Judged {
 impl Channel {
     ghost use Rattle.mseed_audit.specs.Channels.{Placed};
     ghost use Rattle.mseed_audit.specs.Audit.{Stands};
-    ghost use Rattle.mseed_audit.specs.private.Kept.{IsBounded};
+    ghost use Rattle.mseed_audit.specs.private.ChannelState.{IsBounded};
 
     /// A channel of one record, and what is found of it.
     pub(crate) fn begin(view: &RecordView, number: u64, offset: u64) -> (Channel, Option<Why>)
@@ -132,7 +132,7 @@ impl Channel {
     ///
     /// What was learnt of it, where it wasn't added: the channel is then as it was.
     #[inline(always)]
-    pub(crate) fn add_sound(&mut self, view: &RecordView) -> Result<(), Option<Lead>>
+    pub(crate) fn add_sound(&mut self, view: &RecordView) -> Result<(), Option<Examined>>
         requires some { 0 < count_of (view_of view.now) }
         requires bounded { IsBounded (2 ^ 40) self.old }
         ensures stands { OnOk result ((ps : List Placed) (offset number : ℕ) → Stands self.old ps
@@ -141,7 +141,7 @@ impl Channel {
             → IsFound (last_of None ps) (view_of view.now) None) }
         ensures bounded { OnOk result ((n : ℕ) → IsBounded n self.old → IsBounded (n + 1) self.new) }
         ensures unchanged { OnErr result (self.new ≡ self.old) }
-        ensures learnt { IfErr result (λ lead. IsLearnt lead (view_of view.now)) }
+        ensures learnt { IfErr result (λ examined. IsLearnt examined (view_of view.now)) }
     {
         let end = sound_end(self.findings.tail(), view)?;
         self.records += 1;
@@ -156,10 +156,10 @@ impl Channel {
         view: &RecordView,
         number: u64,
         offset: u64,
-        lead: Option<Lead>,
+        examined: Option<Examined>,
     ) -> Option<Why>
         requires some { 0 < count_of (view_of view.now) }
-        requires learnt { IsLearnt lead (view_of view.now) }
+        requires learnt { IsLearnt examined (view_of view.now) }
         requires bounded { IsBounded (2 ^ 40) self.old }
         ensures stands { (ps : List Placed) → Stands self.old ps
             → Stands self.new (ps ++ record { view = view_of view.now; offset = offset; number = number } ∷ []) }
@@ -168,7 +168,7 @@ impl Channel {
     {
         self.records += 1;
         self.samples += u64::from(view.samples());
-        match judge(self.findings.tail(), view, lead) {
+        match judge(self.findings.tail(), view, examined) {
             Judged::Sound(tail) => {
                 self.findings.end_with(tail);
                 None
@@ -279,9 +279,9 @@ impl Judged {
 ///
 /// Why its time or its rate isn't known: no sample is read then.
 #[inline(always)]
-fn look_at(view: &RecordView) -> Result<Lead, Why>
+fn look_at(view: &RecordView) -> Result<Examined, Why>
     requires { 0 < count_of (view_of view.now) }
-    ensures lead { IfOk result (λ lead. IsLead lead (view_of view.now)) }
+    ensures examined { IfOk result (λ examined. IsExamined examined (view_of view.now)) }
     ensures unknown { IfErr result (λ _. known_rate (view_of view.now) ≡ None) }
     ensures why { IfErr result (λ why. (before : Option View) → IsFound before (view_of view.now) (Some why)) }
 {
@@ -293,7 +293,7 @@ fn look_at(view: &RecordView) -> Result<Lead, Why>
         Ok(_) => None,
         Err(fault) => Some(fault),
     };
-    Ok(Lead { tail, fault })
+    Ok(Examined { tail, fault })
 }
 
 /// The end of a record of which nothing is found, by the end of the channel's record before it.
@@ -302,45 +302,45 @@ fn look_at(view: &RecordView) -> Result<Lead, Why>
 ///
 /// What was learnt of the record, where something is found of it.
 #[inline(always)]
-fn sound_end(before: Option<Tail>, view: &RecordView) -> Result<Tail, Option<Lead>>
+fn sound_end(before: Option<Tail>, view: &RecordView) -> Result<Tail, Option<Examined>>
     requires { 0 < count_of (view_of view.now) }
     ensures tail { IfOk result (λ tail. IsTailOf (Some tail) (view_of view.now)) }
     ensures sound { IfOk result (λ tail. (b : Option View) → IsTailBefore before b
         → IsFound b (view_of view.now) None) }
-    ensures learnt { IfErr result (λ lead. IsLearnt lead (view_of view.now)) }
+    ensures learnt { IfErr result (λ examined. IsLearnt examined (view_of view.now)) }
 {
-    let Ok(lead) = look_at(view) else {
+    let Ok(examined) = look_at(view) else {
         return Err(None);
     };
-    match lead.fault {
-        None if lead.tail.follows(before) => Ok(lead.tail),
-        _ => Err(Some(lead)),
+    match examined.fault {
+        None if examined.tail.follows(before) => Ok(examined.tail),
+        _ => Err(Some(examined)),
     }
 }
 
 /// What is found of a record of which this was learnt, by the end of the channel's record before it, and the record's
 /// own end.
 #[inline(always)]
-fn judge(before: Option<Tail>, view: &RecordView, lead: Option<Lead>) -> Judged
+fn judge(before: Option<Tail>, view: &RecordView, examined: Option<Examined>) -> Judged
     requires some { 0 < count_of (view_of view.now) }
-    requires learnt { IsLearnt lead (view_of view.now) }
+    requires learnt { IsLearnt examined (view_of view.now) }
     ensures tail { IsTailOf (end_in result) (view_of view.now) }
     ensures why { (b : Option View) → IsTailBefore before b → IsFound b (view_of view.now) (why_in result) }
 {
-    match lead {
-        Some(lead) => lead.judged(before),
+    match examined {
+        Some(examined) => examined.judged(before),
         None => match look_at(view) {
-            Ok(lead) => lead.judged(before),
+            Ok(examined) => examined.judged(before),
             Err(why) => Judged::Faulty(why, None),
         },
     }
 }
 
-impl Lead {
+impl Examined {
     /// What is found of the record, by the end of the channel's record before it.
     fn judged(&self, before: Option<Tail>) -> Judged
-        ensures tail { (v : View) → IsLead self.now v → IsTailOf (end_in result) v }
-        ensures why { (v : View) (b : Option View) → IsLead self.now v → IsTailBefore before b
+        ensures tail { (v : View) → IsExamined self.now v → IsTailOf (end_in result) v }
+        ensures why { (v : View) (b : Option View) → IsExamined self.now v → IsTailBefore before b
             → IsFound b v (why_in result) }
     {
         let why = match self.fault {

@@ -42,7 +42,7 @@ impl<A: Allocator> Model for ChannelList<A> {
     ghost use Rattle.std.specs.Prelude.{List, ℕ};
     ghost use Rattle.mseed_audit.specs.declared.channel.Channel.{Channel};
     ghost use Rattle.mseed_audit.specs.Places.{ArePlaced};
-    ghost use Rattle.mseed_audit.specs.private.Kept.{IsMissed};
+    ghost use Rattle.mseed_audit.specs.private.ChannelState.{IsMissed};
 
     ghost Value = { List (List ℕ × Channel) };
 

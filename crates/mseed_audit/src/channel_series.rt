@@ -169,7 +169,7 @@ fn first_bad(steps: &[(u64, LeapStep)], size: usize) -> Option<usize>
 {
     let mut before = 0;
     for (index, (place, _)) in steps.iter().enumerate() {
-        if !is_behind(before, *place, size as u64) {
+        if !is_after(before, *place, size as u64) {
             return Some(index);
         }
         before = *place;
@@ -178,7 +178,7 @@ fn first_bad(steps: &[(u64, LeapStep)], size: usize) -> Option<usize>
 }
 
 /// Whether a leap second stands after a place, and at most so many samples before it.
-fn is_behind(before: u64, place: u64, size: u64) -> bool
+fn is_after(before: u64, place: u64, size: u64) -> bool
     ensures { IsTrue result ↔ ((before < place) × (place ≤ size)) }
 {
     before < place && place <= size

@@ -14,11 +14,11 @@ ghost use Rattle.mseed_audit.specs.Channels.{Placed, same_key, with_record};
 ghost use Rattle.mseed_audit.specs.Audit.{Stands, StandsAt, verdict_of};
 ghost use Rattle.mseed_audit.specs.Judging.{IsFound};
 ghost use Rattle.mseed_audit.specs.declared.channel.Channel.{Channel};
-ghost use Rattle.mseed_audit.specs.private.Kept.{AreBounded, IsBounded, IsLearnt};
+ghost use Rattle.mseed_audit.specs.private.ChannelState.{AreBounded, IsBounded, IsLearnt};
 ghost use Rattle.mseed_audit.specs.Reported.{IsFoundOf};
 
 use crate::audits::Memory;
-use crate::channel::{Channel, Lead};
+use crate::channel::{Channel, Examined};
 use crate::channel_list::ChannelList;
 use crate::finding::Why;
 use crate::verdict::Verdict;
@@ -39,7 +39,7 @@ pub(crate) struct Roster<A: Allocator = Global> {
 impl<A: Allocator> Model for Roster<A> {
     ghost use Rattle.std.specs.Prelude.{List, ℕ};
     ghost use Rattle.mseed_audit.specs.declared.channel.Channel.{Channel};
-    ghost use Rattle.mseed_audit.specs.private.Kept.{HasRoom};
+    ghost use Rattle.mseed_audit.specs.private.ChannelState.{HasRoom};
 
     ghost Value = { List (List ℕ × Channel) };
 
@@ -73,7 +73,7 @@ impl<A: Allocator + Copy> Roster<A> {
     ///
     /// What was learnt of it, where it wasn't added: the roster is then as it was.
     #[inline(always)]
-    pub(crate) fn add_sound(&mut self, view: &RecordView) -> Result<(), Option<Lead>>
+    pub(crate) fn add_sound(&mut self, view: &RecordView) -> Result<(), Option<Examined>>
         requires { AreBounded (2 ^ 40) self.old }
         ensures stands { OnOk result ((key : List ℕ) (ps : List Placed) (offset number : ℕ)
             → StandsAt (lookup (same_key key) self.old) ps → StandsAt (lookup (same_key key) self.new)
@@ -83,7 +83,7 @@ impl<A: Allocator + Copy> Roster<A> {
             → IsFoundOf ps (view_of view.now) None) }
         ensures bounded { OnOk result ((n : ℕ) → AreBounded n self.old → AreBounded (n + 1) self.new) }
         ensures unchanged { OnErr result (self.new ≡ self.old) }
-        ensures learnt { IfErr result (λ lead. IsLearnt lead (view_of view.now)) }
+        ensures learnt { IfErr result (λ examined. IsLearnt examined (view_of view.now)) }
     {
         if view.samples() == 0 {
             return Ok(());
@@ -106,10 +106,10 @@ impl<A: Allocator + Copy> Roster<A> {
         view: &RecordView,
         number: u64,
         offset: u64,
-        lead: Option<Lead>,
+        examined: Option<Examined>,
     ) -> Result<Option<Why>, Memory>
         requires bounded { AreBounded (2 ^ 40) self.old }
-        requires learnt { IsLearnt lead (view_of view.now) }
+        requires learnt { IsLearnt examined (view_of view.now) }
         ensures stands { (key : List ℕ) (ps : List Placed) → StandsAt (lookup (same_key key) self.old) ps
             → OnOk result (StandsAt (lookup (same_key key) self.new)
             (with_record key ps (record { view = view_of view.now; offset = offset; number = number }))) }
@@ -129,7 +129,7 @@ impl<A: Allocator + Copy> Roster<A> {
             Some(index) => Ok(
                 self.channels
                     .channel_mut(index)
-                    .add(view, number, offset, lead),
+                    .add(view, number, offset, examined),
             ),
             None => Ok(self.begin(codes, view, number, offset)?),
         }

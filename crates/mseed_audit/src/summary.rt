@@ -314,11 +314,11 @@ fn judge<A: Allocator + Copy, C: Choice, O, P: Report<O>>(
 {
     let answer = choice.answer(view);
     if let Answer::AskedFor = answer {
-        let lead = match audit.add_sound(view) {
+        let examined = match audit.add_sound(view) {
             Ok(()) => return Ok(()),
-            Err(lead) => lead,
+            Err(examined) => examined,
         };
-        let why = audit.add_learnt(view, offset, lead)?;
+        let why = audit.add_learnt(view, offset, examined)?;
         return report.add(view, audit.added(), offset, why);
     }
     audit.pass();

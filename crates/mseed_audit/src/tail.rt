@@ -4,7 +4,7 @@ ghost use Rattle.mseed_record.specs.View.{View};
 ghost use Rattle.mseed_record.specs.Viewing.{view_of};
 ghost use Rattle.mseed_audit.specs.Judging.{known_rate, IsFound};
 ghost use Rattle.mseed_audit.specs.Audit.{IsTail, break_by};
-ghost use Rattle.mseed_audit.specs.private.Kept.{break_after};
+ghost use Rattle.mseed_audit.specs.private.ChannelState.{break_after};
 
 use crate::finding::Why;
 use mseed_record::{Leap, RecordView};

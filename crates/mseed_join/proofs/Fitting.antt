@@ -15,7 +15,7 @@ use Rattle.mseed_audit.specs.declared.channel.Head.{Head}
 use Rattle.mseed_audit.specs.Audit.{Stands, StandsAt, head_in}
 use Rattle.mseed_audit.specs.Channels.{Placed, added_from, records_of}
 use Rattle.mseed_audit.specs.Summary.{Audited}
-use Rattle.mseed_parts.specs.Joining.{channel_behind, channel_joined, moved_channel, moved_findings, moved_head}
+use Rattle.mseed_parts.specs.Joining.{channel_then, channel_joined, moved_channel, moved_findings, moved_head}
 use Rattle.mseed_parts.specs.Parts.{CountFits, CountsFit, FirstFits, Fits, FitsAt, HeadFits, Held, IsJoint, IsPartOf}
 use Rattle.mseed_parts.specs.Parts.{bytes_in as size_of, kept_of}
 use Rattle.mseed_parts.proofs.Moving.{stands_at_moved}
@@ -100,11 +100,11 @@ module _ (a w b : Held) (vs xs : List View) (p : IsPartOf a vs) (q : IsPartOf w 
       (moves.0, (line.records, line.samples, moves.1))
   fits_at key (Some c) (Some o) e f =
       let line = moved_line key o f in
-      let both : kept_of key b.channels ≡ Some (channel_behind c (moved_channel a.records a.bytes o)) =
+      let both : kept_of key b.channels ≡ Some (channel_then c (moved_channel a.records a.bytes o)) =
       j.each key ∙ (λ i. channel_joined (e i) (option_map (moved_channel a.records a.bytes) (f i))) in
-      let joint = joint_line key (channel_behind c (moved_channel a.records a.bytes o)) both in (
+      let joint = joint_line key (channel_then c (moved_channel a.records a.bytes o)) both in (
         (findings_move a.records a.bytes o.findings line.findings).0,
-        counts_of key (channel_behind c (moved_channel a.records a.bytes o)) joint,
+        counts_of key (channel_then c (moved_channel a.records a.bytes o)) joint,
       )
 
   fits_of : Fits a w

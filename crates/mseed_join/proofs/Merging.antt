@@ -14,7 +14,7 @@ use Rattle.std.proofs.lemmas.Map.Keys.{sorted_tail}
 use Rattle.mseed_audit.specs.declared.channel.Channel.{Channel}
 use Rattle.mseed_audit.specs.Channels.{same_key}
 use Rattle.mseed_audit.proofs.Maps.{same_back, same_is, same_itself}
-use Rattle.mseed_parts.specs.Joining.{channel_behind, moved_channel}
+use Rattle.mseed_parts.specs.Joining.{channel_then, moved_channel}
 use Rattle.mseed_parts.specs.Parts.{Held, IsAscending, IsJoint, channels_alone, counts_alone, kept_of, one_channel}
 use Rattle.mseed_parts.proofs.Adding.{Entries, HasAt, held, joined_none, new_joined, there_joined}
 use Rattle.mseed_join.proofs.Readable.{past_head}
@@ -116,10 +116,10 @@ one_more now key c s = by (kept_of key now.channels) refl
           (has_put key m now.channels) (ascending_put key m now.channels s);
     }
     by (Some k) e = record {
-      next = held (with (channel_behind k m)) now.records now.bytes;
+      next = held (with (channel_then k m)) now.records now.bytes;
       joint = there_joined now.channels now.records now.bytes now refl key c k m (sym e) refl (Ok None)
-          (channel_behind k m) (with (channel_behind k m)) (has_put key (channel_behind k m) now.channels)
-          (ascending_put key (channel_behind k m) now.channels s) refl;
+          (channel_then k m) (with (channel_then k m)) (has_put key (channel_then k m) now.channels)
+          (ascending_put key (channel_then k m) now.channels s) refl;
     }
 
 -- ---- all channels

@@ -8,7 +8,7 @@ use Rattle.mseed_audit.specs.declared.channel.Channel.{Channel}
 use Rattle.mseed_join.specs.Lines.{hex_digit, channel_line, HasChannelLine, Line, header, channel, counts, faults}
 use Rattle.mseed_join.specs.Lines.{fault}
 use Rattle.mseed_join.specs.Lines.{text_of_line, IsLine}
-use Rattle.mseed_join.specs.private.Reading.{◌>>=◌, behind_at, channel_at, counts_at, faults_at, fault_at}
+use Rattle.mseed_join.specs.private.Reading.{◌>>=◌, number_after, channel_at, counts_at, faults_at, fault_at}
 use Rattle.mseed_join.proofs.Digits.{some_is}
 use Rattle.mseed_join.proofs.Prefixes.{fault_words, fault_then, fault_of}
 use Rattle.mseed_join.proofs.Backwards.{count_back, channel_back, counts_back, faults_back, fault_back}
@@ -19,7 +19,8 @@ line_at [] = None
 line_at (b ∷ bs) =
     cond (nat_eq b 109) (Some header) (cond (nat_eq b 114) (counts_at (b ∷ bs) >>= λ x. Some (counts x.0 x.1))
     (cond (nat_eq b 102) (cond (nat_eq (get_or bs 4 0) 115) (faults_at (b ∷ bs) >>= λ n. Some (faults n))
-    (behind_at (codes "fault at ") (2 ^ 63 - 1) (b ∷ bs) >>= λ at. fault_at (b ∷ bs) at.0 >>= λ f. Some (fault at.0 f)))
+    (number_after (codes "fault at ") (2 ^ 63 - 1) (b ∷ bs) >>= λ at.
+    fault_at (b ∷ bs) at.0 >>= λ f. Some (fault at.0 f)))
     (channel_at (b ∷ bs) >>= λ x. Some (channel x.0 x.1))))
 
 low : (n : ℕ) → n < 16 → hex_digit n ≤ 70
@@ -50,7 +51,7 @@ line_back (faults (suc n)) l = ap (λ (o : Option ℕ). o >>= λ m. Some (faults
 line_back (fault bytes f) l =
     let rest : List ℕ = codes " " ++ (fault_words f ++ codes "\n") in
     let text : List ℕ = fault_then bytes f in
-    let at : behind_at (codes "fault at ") (2 ^ 63 - 1) text ≡ Some (bytes, rest) =
+    let at : number_after (codes "fault at ") (2 ^ 63 - 1) text ≡ Some (bytes, rest) =
     count_back bytes rest l.bytes_fit refl in
     let read : fault_at text bytes ≡ Some f =
     ap (λ (xs : List ℕ). fault_at xs bytes) (sym (fault_of f bytes l.is)) ∙ fault_back f bytes l in

@@ -38,7 +38,8 @@ use Rattle.mseed_join.specs.Lines.{key_text, leap_text, head_text, tail_text, te
 use Rattle.mseed_join.specs.Lines.{counts_line, faults_line, IsWord, HasHead, HasTail, HasReadFault, HasWhy, HasFinding}
 use Rattle.mseed_join.specs.Lines.{HasFindings, HasChannelLine, HasCountsLine, HasFaultsLine, HasFrameFault}
 use Rattle.mseed_join.specs.Lines.{HasFaultLine, IsFaultBehind}
-use Rattle.mseed_join.specs.private.Reading.{◌>>=◌, else_by, after, word_at, named_at, number_at, behind_at, counted_at}
+use Rattle.mseed_join.specs.private.Reading.{◌>>=◌, else_by, after, word_at, named_at, number_at, number_after}
+use Rattle.mseed_join.specs.private.Reading.{counted_at}
 use Rattle.mseed_join.specs.private.Reading.{ratio_at, start_at, sample_at, leap_at, some_head_at, some_tail_at}
 use Rattle.mseed_join.specs.private.Reading.{or_none_at, head_at, tail_at, time_at, bad_word_at, last_differs_at}
 use Rattle.mseed_join.specs.private.Reading.{read_fault_at, timed_at, why_at, first_at, counted_findings_at}
@@ -107,7 +108,7 @@ record IsBehind (word : List ℕ) (largest : ℕ) (bytes : List ℕ) (x : ℕ ×
   bounded : x.0 ≤ largest
 
 behind_spelled : (word : List ℕ) (largest : ℕ) (bytes : List ℕ) (x : ℕ × List ℕ) → largest < 10 ^ 64
-    → behind_at word largest bytes ≡ Some x → IsBehind word largest bytes x
+    → number_after word largest bytes ≡ Some x → IsBehind word largest bytes x
 behind_spelled word largest bytes x few e =
     bind_then (IsBehind word largest bytes x) (after word bytes) _ x e (λ rest first more.
     let n : IsNumber largest rest x = number_behind largest rest x few more in record {
@@ -117,16 +118,16 @@ behind_spelled word largest bytes x few e =
 
 -- a count after a word, and the steps after it
 count_then : {B : Type 0} (P : Type 0) (word bytes : List ℕ) (f : ℕ × List ℕ → Option B) (y : B)
-    → (behind_at word (2 ^ 63 - 1) bytes >>= f) ≡ Some y
+    → (number_after word (2 ^ 63 - 1) bytes >>= f) ≡ Some y
     → ((x : ℕ × List ℕ) → IsBehind word (2 ^ 63 - 1) bytes x → f x ≡ Some y → P) → P
-count_then P word bytes f y e k = bind_then P (behind_at word (2 ^ 63 - 1) bytes) f y e (λ x is more.
+count_then P word bytes f y e k = bind_then P (number_after word (2 ^ 63 - 1) bytes) f y e (λ x is more.
     k x (behind_spelled word (2 ^ 63 - 1) bytes x (omega arith) is) more)
 
 counted_spelled : {X : Type 0} (text : X → List ℕ) (Fits : X → Type 0) (word : List ℕ) (largest : ℕ) (made : ℕ → X)
     → largest < 10 ^ 64 → ((n : ℕ) → word ++ decimal n ≡ text (made n)) → ((n : ℕ) → n ≤ largest → Fits (made n))
     → (bytes : List ℕ) (y : X × List ℕ) → counted_at word largest made bytes ≡ Some y → IsRead text Fits bytes y
 counted_spelled {X} text Fits word largest made few is fits bytes y e =
-    bind_then (IsRead text Fits bytes y) (behind_at word largest bytes) _ y e (λ n first more.
+    bind_then (IsRead text Fits bytes y) (number_after word largest bytes) _ y e (λ n first more.
     let b : IsBehind word largest bytes n = behind_spelled word largest bytes n few first in
     subst (λ (z : X × List ℕ). IsRead text Fits bytes z) (some_is (made n.0, n.1) y more)
     (b.is ∙ sym (append_assoc word (decimal n.0) n.1) ∙ ap (λ (w : List ℕ). w ++ n.1) (is n.0), fits n.0 b.bounded))
@@ -211,7 +212,7 @@ unfolding some_tail_at
 some_tail_spelled bytes y e =
     let P : Type 0 = IsRead tail_text HasTail bytes y in
     bind_then P (start_at bytes) _ y e (λ start is1 e1.
-    bind_then P (behind_at (codes " ") (2 ^ 16 - 1) start.1) _ y e1 (λ samples is2 e2.
+    bind_then P (number_after (codes " ") (2 ^ 16 - 1) start.1) _ y e1 (λ samples is2 e2.
     bind_then P (after (codes " ") samples.1) _ y e2 (λ r2 is3 e3.
     bind_then P (ratio_at r2) _ y e3 (λ rate is4 e4. bind_then P (after (codes " ") rate.1) _ y e4 (λ r3 is5 e5.
     bind_then P (leap_at r3) _ y e5 (λ leap is6 e6.
@@ -461,7 +462,7 @@ some_faults (suc n) l = faults_leading n
 pub faults_spelled : (bytes : List ℕ) (y : ℕ) → faults_at bytes ≡ Some y → (bytes ≡ faults_line y) × HasFaultsLine y
 unfolding faults_at
 faults_spelled bytes y e =
-    bind_then ((bytes ≡ faults_line y) × HasFaultsLine y) (behind_at (codes "faults ") (2 ^ 63 - 1) bytes) _ y e
+    bind_then ((bytes ≡ faults_line y) × HasFaultsLine y) (number_after (codes "faults ") (2 ^ 63 - 1) bytes) _ y e
     (λ n is more.
     let b : IsBehind (codes "faults ") (2 ^ 63 - 1) bytes n =
     behind_spelled (codes "faults ") (2 ^ 63 - 1) bytes n (omega arith) is in

@@ -26,7 +26,7 @@ use Rattle.mseed_join.specs.ReadParts.{written_of}
 use Rattle.mseed_join.specs.declared.joint.Joint.{Joint}
 use Rattle.mseed_join.specs.declared.joint.Reported.{Reported}
 use Rattle.mseed_join.specs.private.Steps.{May, to, counted_part, with_faults, with_end}
-use Rattle.mseed_join.specs.private.Taking.{IsReadTo, IsTaken, IsPlace, border_by, fault_behind, passed_by}
+use Rattle.mseed_join.specs.private.Taking.{IsReadTo, IsTaken, IsPlace, border_by, fault_after, passed_by}
 use Rattle.mseed_join.specs.Borders.{AreBordersOf, Border}
 use Rattle.mseed_join.proofs.Machine.{Entries}
 use Rattle.mseed_join.proofs.Merging.{JoinsChannel, JoinsCounts, JoinsNone}
@@ -191,7 +191,7 @@ passed_joint over w f h k j e free fit part_same sum end_none =
     (same_part l.before w h (record { part = w.part; faults = w.faults + 1; end = None }) k l.next refl part_same
     (omega (arith, sum, l.next.faults)) (omega (arith, sum, fit)) end_none)
 
-behind_is : (d e b : ℕ) (f : StreamFault) → IsFaultBehind b f → e ≡ d + b → fault_behind e f ≡ moved_fault d f
+behind_is : (d e b : ℕ) (f : StreamFault) → IsFaultBehind b f → e ≡ d + b → fault_after e f ≡ moved_fault d f
 behind_is d e b (Frame offset x) l s = let same : e ≡ d + offset = omega (arith, l.0, s) in ap (λ n. Frame n x) same
 behind_is d e b (Truncated offset have) l s =
     let same : e ≡ d + offset = omega (arith, l.0, s) in ap (λ n. Truncated n have) same
@@ -201,7 +201,7 @@ behind_is d e b Memory l s = refl
 
 pub ended_joint : (over : List Written) (w : Written) (f : StreamFault) (h k : Written)
     → IsJointOf false (over ++ w ∷ []) h → w.end ≡ None → h.end ≡ None → IsFaultBehind w.part.bytes f
-    → k.part ≡ h.part → k.faults ≡ h.faults → k.end ≡ Some (fault_behind h.part.bytes f)
+    → k.part ≡ h.part → k.faults ≡ h.faults → k.end ≡ Some (fault_after h.part.bytes f)
     → IsJointOf false (over ++ with_end w f ∷ []) k
 ended_joint over w f h k j e free is part_same faults_same ends =
     let l : IsLast false over w h = last_is false over w h e free j in

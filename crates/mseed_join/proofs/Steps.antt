@@ -17,7 +17,7 @@ use Rattle.mseed_join.specs.declared.joint.Place.TheVariants.{Start, Channels, W
 use Rattle.mseed_join.specs.declared.joint.Reported.{Reported}
 use Rattle.mseed_join.specs.declared.joint.Reported.TheVariants.{Nothing, Passed}
 use Rattle.mseed_join.specs.private.Steps.{May, to, goes, counted_part, with_faults, with_end}
-use Rattle.mseed_join.specs.private.Taking.{IsReadTo, IsTaken, IsPlace, border_by, fault_behind, passed_by}
+use Rattle.mseed_join.specs.private.Taking.{IsReadTo, IsTaken, IsPlace, border_by, fault_after, passed_by}
 use Rattle.mseed_join.specs.Borders.{border_with}
 use Rattle.mseed_join.proofs.Bordering.{channel_borders, ends_borders, header_borders, skips_borders}
 use Rattle.std.proofs.lemmas.Bool.{false≢true}
@@ -425,7 +425,7 @@ fault_skipped old f e l x lines s r is m =
 
 fault_ends : (past : Bool) (over : List Written) (b : Behind) (l : ℕ) (x : StreamFault) (h k : Written) → past ≡ false
     → IsWhere over b → May b (fault l x) → IsLine (fault l x) → h.end ≡ None → k.part ≡ h.part → k.faults ≡ h.faults
-    → k.end ≡ Some (fault_behind h.part.bytes x)
+    → k.end ≡ Some (fault_after h.part.bytes x)
     → IsJointOf past (over ++ part_behind b) h → IsJointOf past (parts_at (goes over b (fault l x))) k
 fault_ends past over b l x h k p v m is free pa fa e j =
     fault_over past over b l x h k (λ w no_end at i.
@@ -436,7 +436,7 @@ fault_ends past over b l x h k p v m is free pa fa e j =
 -- it ends with this one
 pub fault_kept : {A : Type 0} → (old : Joint A) (so_far : JointPart A) → old.past ≡ false → old.so_far.end ≡ None
     → (x : StreamFault) → so_far.part ≡ old.so_far.part → so_far.faults ≡ old.so_far.faults
-    → so_far.end ≡ Some (fault_behind old.so_far.part.bytes x) → (l : ℕ)
+    → so_far.end ≡ Some (fault_after old.so_far.part.bytes x) → (l : ℕ)
     (lines : List ℕ) (s : Stage) → IsReadTo lines s old → IsLine (fault l x)
     → May s.behind (fault l x) → IsTaken lines (text_of_line (fault l x)) s (to s (fault l x)) Nothing old
     (kept_as old so_far Start)
@@ -489,6 +489,6 @@ fault_refused only old p free x limit l lines s r is m b =
         passed_fit only old.past over (written_of old.so_far) free h.parts h.joint h.is_joint w x h.extends_to.0 p v j
         h.extends_to.1
 
-pub some_behind : (y : StreamFault) (m n : ℕ) (x : StreamFault) → y ≡ fault_behind m x → m ≡ n
-    → Some y ≡ Some (fault_behind n x)
-some_behind y m n x e k = ap (λ (z : StreamFault). Some z) (e ∙ ap (λ (i : ℕ). fault_behind i x) k)
+pub some_behind : (y : StreamFault) (m n : ℕ) (x : StreamFault) → y ≡ fault_after m x → m ≡ n
+    → Some y ≡ Some (fault_after n x)
+some_behind y m n x e k = ap (λ (z : StreamFault). Some z) (e ∙ ap (λ (i : ℕ). fault_after i x) k)

@@ -4,7 +4,7 @@ ghost use Rattle.std.specs.Option.{option_map};
 ghost use Rattle.mseed_join.specs.private.Reading.{ratio_at, start_at, leap_at, some_head_at, head_at, some_tail_at};
 ghost use Rattle.mseed_join.specs.private.Reading.{tail_at};
 
-use crate::numbers::{LIMIT, after, behind_at, integer_at, number_at};
+use crate::numbers::{LIMIT, after, integer_at, number_after, number_at};
 use mseed_audit::{Head, Tail};
 use mseed_record::Leap;
 use mseed_time::{Micros, Ratio};
@@ -62,7 +62,7 @@ fn some_head_at(bytes: &[u8]) -> Option<(Head, &[u8])>
     ensures { option_map (λ x. (x.0, x.1.now)) result ≡ some_head_at bytes.now }
 {
     let (number, rest) = number_at(LIMIT, bytes)?;
-    let (offset, rest) = behind_at(b" ", LIMIT, rest)?;
+    let (offset, rest) = number_after(b" ", LIMIT, rest)?;
     let rest = after(b" ", rest)?;
     let Some((start, rest)) = start_at(rest) else {
         return None;
@@ -106,7 +106,7 @@ fn some_tail_at(bytes: &[u8]) -> Option<(Tail, &[u8])>
     let Some((start, rest)) = start_at(bytes) else {
         return None;
     };
-    let (samples, rest) = behind_at(b" ", 65_535, rest)?;
+    let (samples, rest) = number_after(b" ", 65_535, rest)?;
     let rest = after(b" ", rest)?;
     let Some((rate, rest)) = ratio_at(rest) else {
         return None;

@@ -8,7 +8,7 @@ ghost use Rattle.mseed_join.specs.Lines.{IsLine, Line, header_line};
 ghost use Rattle.mseed_join.specs.Reached.{Stage, start};
 ghost use Rattle.mseed_join.specs.private.Along.{can_end};
 ghost use Rattle.mseed_join.specs.private.Steps.{May};
-ghost use Rattle.mseed_join.specs.private.Taking.{IsBehindKey, IsLineStep, IsReadTo, IsStep, border_by, fault_behind};
+ghost use Rattle.mseed_join.specs.private.Taking.{IsBehindKey, IsLineStep, IsReadTo, IsStep, border_by, fault_after};
 ghost use Rattle.mseed_join.specs.private.Taking.{passed_by};
 
 use crate::lines::{read_channel_line, read_counts_line, read_fault_line, read_faults_line};
@@ -168,7 +168,7 @@ impl<A: Allocator + Copy> Joint<A> {
             → IsLineStep lines s line.now result self.old self.new }
     {
         if let Some((codes, channel)) = read_channel_line(line) {
-            if !is_behind(last, codes) {
+            if !is_after(last, codes) {
                 return Err(LineFault::Bad);
             }
             return self.take_channel(codes, &channel);
@@ -289,7 +289,7 @@ impl<A: Allocator + Copy> Joint<A> {
             None => {}
         }
         if !self.past {
-            self.so_far.end = Some(fault_behind(self.so_far.part.bytes(), &fault));
+            self.so_far.end = Some(fault_after(self.so_far.part.bytes(), &fault));
             return Ok(Reported::Nothing);
         }
         match sum(self.so_far.faults, 1) {
@@ -306,8 +306,8 @@ impl<A: Allocator + Copy> Joint<A> {
 }
 
 /// The fault after so many bytes.
-fn fault_behind(bytes: u64, fault: &StreamFault) -> StreamFault
-    ensures { result ≡ fault_behind bytes fault.now }
+fn fault_after(bytes: u64, fault: &StreamFault) -> StreamFault
+    ensures { result ≡ fault_after bytes fault.now }
 {
     match *fault {
         StreamFault::Frame(_, fault) => StreamFault::Frame(bytes, fault),
@@ -319,7 +319,7 @@ fn fault_behind(bytes: u64, fault: &StreamFault) -> StreamFault
 }
 
 /// Whether a channel's key is after that of the last.
-fn is_behind(last: Option<Codes>, codes: Codes) -> bool
+fn is_after(last: Option<Codes>, codes: Codes) -> bool
     ensures { IsTrue result ↔ IsBehindKey last codes }
 {
     match last {

@@ -250,7 +250,7 @@ impl<A: Allocator> LineReader<A> {
         ensures beside { R.beside source.new ≡ R.beside source.old }
     {
         self.reads += 1;
-        match pull_behind(source, &mut self.buffer, self.end) {
+        match pull_after(source, &mut self.buffer, self.end) {
             Ok(n) => {
                 self.end += n;
                 self.bytes += n as u64;
@@ -322,7 +322,7 @@ fn place_in_lanes(bytes: &[u8], at: usize) -> usize
 }
 
 /// Reads once, into the bytes from `end` on.
-fn pull_behind<R: Source>(source: &mut R, buffer: &mut [u8], end: usize) -> Result<usize, Failed>
+fn pull_after<R: Source>(source: &mut R, buffer: &mut [u8], end: usize) -> Result<usize, Failed>
     requires { end < length buffer.old }
     ensures bound { IfOk result (λ n. end + n ≤ length buffer.old) }
     ensures before { take end buffer.new ≡ take end buffer.old }

@@ -2,7 +2,7 @@
 ghost use Rattle.std.specs.Prelude.{◌≡◌, ◌≢◌, ◌+◌, ◌-◌, ◌*◌, ◌≤◌, ◌<◌, ◌^◌, ℕ, IfSome, IfNone, nat_le, pos, neg_ℤ};
 ghost use Rattle.std.specs.Prelude.{◌≤ℤ◌, drop, get_or, length, true, false};
 ghost use Rattle.std.specs.Option.{option_map};
-ghost use Rattle.mseed_join.specs.private.Reading.{after, behind_at, number_at, integer_at, more_at, is_digit};
+ghost use Rattle.mseed_join.specs.private.Reading.{after, number_after, number_at, integer_at, more_at, is_digit};
 ghost use Rattle.mseed_join.specs.private.Reading.{within};
 
 use std::simd::prelude::*;
@@ -26,12 +26,12 @@ pub(crate) fn after<'a, const N: usize>(word: &[u8; N], bytes: &'a [u8]) -> Opti
 
 /// The number after a word, which is at most so large.
 #[inline(always)]
-pub(crate) fn behind_at<'a, const N: usize>(
+pub(crate) fn number_after<'a, const N: usize>(
     word: &[u8; N],
     largest: u64,
     bytes: &'a [u8],
 ) -> Option<(u64, &'a [u8])>
-    ensures value { option_map (λ x. (x.0, x.1.now)) result ≡ behind_at word.now largest bytes.now }
+    ensures value { option_map (λ x. (x.0, x.1.now)) result ≡ number_after word.now largest bytes.now }
     ensures bounded { IfSome result (λ x. x.0 ≤ largest) }
 {
     let rest = after(word, bytes)?;

@@ -6,7 +6,7 @@ ghost use Rattle.mseed_join.specs.private.Reading.{counts_at, faults_at, fault_a
 
 use crate::fields::{head_at, tail_at};
 use crate::hex::key_at;
-use crate::numbers::{LIMIT, after, behind_at};
+use crate::numbers::{LIMIT, after, number_after};
 use crate::reasons::{stream_fault_at, why_at};
 use mseed_audit::{Channel, Finding, Findings, Head, Tail};
 use mseed_record::Codes;
@@ -17,8 +17,8 @@ use mseed_stream::StreamFault;
 fn first_at(bytes: &[u8]) -> Option<(Finding, &[u8])>
     ensures { option_map (λ x. (x.0, x.1.now)) result ≡ first_at bytes.now }
 {
-    let (number, rest) = behind_at(b" first ", LIMIT, bytes)?;
-    let (offset, rest) = behind_at(b" ", LIMIT, rest)?;
+    let (number, rest) = number_after(b" first ", LIMIT, bytes)?;
+    let (offset, rest) = number_after(b" ", LIMIT, rest)?;
     let rest = after(b" ", rest)?;
     let (why, rest) = why_at(rest)?;
     Some((
@@ -74,7 +74,7 @@ fn findings_at(bytes: &[u8]) -> Option<(Findings, &[u8])>
     let Some((tail, rest)) = tail_at(rest) else {
         return None;
     };
-    let (count, rest) = behind_at(b" findings ", LIMIT, rest)?;
+    let (count, rest) = number_after(b" findings ", LIMIT, rest)?;
     counted_findings_at(count, head, tail, rest)
 }
 
@@ -95,8 +95,8 @@ pub(crate) fn channel_at(line: &[u8]) -> Option<(Codes, Channel)>
     let Some((codes, rest)) = key_at(line) else {
         return None;
     };
-    let (records, rest) = behind_at(b" records ", LIMIT, rest)?;
-    let (samples, rest) = behind_at(b" samples ", LIMIT, rest)?;
+    let (records, rest) = number_after(b" records ", LIMIT, rest)?;
+    let (samples, rest) = number_after(b" samples ", LIMIT, rest)?;
     let Some((findings, rest)) = findings_at(rest) else {
         return None;
     };
@@ -118,8 +118,8 @@ pub(crate) fn channel_at(line: &[u8]) -> Option<(Codes, Channel)>
 pub(crate) fn counts_at(line: &[u8]) -> Option<(u64, u64)>
     ensures { result ≡ counts_at line.now }
 {
-    let (records, rest) = behind_at(b"records ", LIMIT, line)?;
-    let (bytes, rest) = behind_at(b" bytes ", LIMIT, rest)?;
+    let (records, rest) = number_after(b"records ", LIMIT, line)?;
+    let (bytes, rest) = number_after(b" bytes ", LIMIT, rest)?;
     if ends(rest) {
         Some((records, bytes))
     } else {
@@ -132,7 +132,7 @@ pub(crate) fn counts_at(line: &[u8]) -> Option<(u64, u64)>
 pub(crate) fn faults_at(line: &[u8]) -> Option<u64>
     ensures { result ≡ faults_at line.now }
 {
-    let (faults, rest) = behind_at(b"faults ", LIMIT, line)?;
+    let (faults, rest) = number_after(b"faults ", LIMIT, line)?;
     if faults > 0 && ends(rest) {
         Some(faults)
     } else {
@@ -145,7 +145,7 @@ pub(crate) fn faults_at(line: &[u8]) -> Option<u64>
 pub(crate) fn fault_at(line: &[u8], bytes: u64) -> Option<StreamFault>
     ensures { result ≡ fault_at line.now bytes }
 {
-    let (offset, rest) = behind_at(b"fault at ", LIMIT, line)?;
+    let (offset, rest) = number_after(b"fault at ", LIMIT, line)?;
     let rest = after(b" ", rest)?;
     let (fault, rest) = stream_fault_at(bytes, rest)?;
     if offset == bytes && ends(rest) {

@@ -2,9 +2,9 @@
 ghost use Rattle.std.specs.Prelude.{◌≡◌, ◌-◌, ◌^◌};
 ghost use Rattle.std.specs.Option.{option_map};
 ghost use Rattle.mseed_join.specs.private.Reading.{time_at, bad_word_at, last_differs_at, read_fault_at, timed_at};
-ghost use Rattle.mseed_join.specs.private.Reading.{why_at, frame_fault_at, stream_fault_at, sample_at, behind_at};
+ghost use Rattle.mseed_join.specs.private.Reading.{why_at, frame_fault_at, stream_fault_at, sample_at, number_after};
 
-use crate::numbers::{LIMIT, after, behind_at, integer_at, wide_at};
+use crate::numbers::{LIMIT, after, integer_at, number_after, wide_at};
 use mseed_audit::Why;
 use mseed_record::FrameFault;
 use mseed_steim::ReadFault;
@@ -47,8 +47,8 @@ fn sample_at(bytes: &[u8]) -> Option<(i32, &[u8])>
 fn bad_word_at(bytes: &[u8]) -> Option<(ReadFault, &[u8])>
     ensures { option_map (λ x. (x.0, x.1.now)) result ≡ bad_word_at bytes.now }
 {
-    let (frame, rest) = behind_at(b"badword ", LIMIT, bytes)?;
-    let (word, rest) = behind_at(b" ", LIMIT, rest)?;
+    let (frame, rest) = number_after(b"badword ", LIMIT, bytes)?;
+    let (word, rest) = number_after(b" ", LIMIT, rest)?;
     Some((ReadFault::BadWord(frame as usize, word as usize), rest))
 }
 
@@ -77,13 +77,13 @@ fn read_fault_at(bytes: &[u8]) -> Option<(ReadFault, &[u8])>
     if let Some(rest) = after(b"dataoffset", bytes) {
         return Some((ReadFault::DataOffset, rest));
     }
-    if let Some((code, rest)) = behind_at(b"encoding ", 255, bytes) {
+    if let Some((code, rest)) = number_after(b"encoding ", 255, bytes) {
         return Some((ReadFault::Encoding(code as u8), rest));
     }
-    if let Some((found, rest)) = behind_at(b"short ", LIMIT, bytes) {
+    if let Some((found, rest)) = number_after(b"short ", LIMIT, bytes) {
         return Some((ReadFault::Short(found as usize), rest));
     }
-    if let Some((index, rest)) = behind_at(b"overflow ", LIMIT, bytes) {
+    if let Some((index, rest)) = number_after(b"overflow ", LIMIT, bytes) {
         return Some((ReadFault::Overflow(index as usize), rest));
     }
     match bad_word_at(bytes) {
@@ -103,7 +103,7 @@ fn timed_at(bytes: &[u8]) -> Option<(Why, &[u8])>
 
 /// So many microseconds after a word, and the bytes after them.
 fn micros_at<'a, const N: usize>(word: &[u8; N], bytes: &'a [u8]) -> Option<(u128, &'a [u8])>
-    ensures { option_map (λ x. (x.0, x.1.now)) result ≡ behind_at word.now (2 ^ 128 - 1) bytes.now }
+    ensures { option_map (λ x. (x.0, x.1.now)) result ≡ number_after word.now (2 ^ 128 - 1) bytes.now }
 {
     let rest = after(word, bytes)?;
     wide_at(rest)
@@ -153,7 +153,7 @@ fn frame_fault_at(bytes: &[u8]) -> Option<(FrameFault, &[u8])>
     if let Some(rest) = after(b"no1000", bytes) {
         return Some((FrameFault::No1000, rest));
     }
-    if let Some((exponent, rest)) = behind_at(b"length ", 255, bytes) {
+    if let Some((exponent, rest)) = number_after(b"length ", 255, bytes) {
         return Some((FrameFault::Length(exponent as u8), rest));
     }
     if let Some(rest) = after(b"outside", bytes) {
@@ -168,7 +168,7 @@ fn frame_fault_at(bytes: &[u8]) -> Option<(FrameFault, &[u8])>
 pub(crate) fn stream_fault_at(offset: u64, bytes: &[u8]) -> Option<(StreamFault, &[u8])>
     ensures { option_map (λ x. (x.0, x.1.now)) result ≡ stream_fault_at offset bytes.now }
 {
-    if let Some((have, rest)) = behind_at(b"truncated ", LIMIT, bytes) {
+    if let Some((have, rest)) = number_after(b"truncated ", LIMIT, bytes) {
         return Some((StreamFault::Truncated(offset, have as usize), rest));
     }
     if let Some(rest) = after(b"read", bytes) {

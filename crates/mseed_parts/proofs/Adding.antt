@@ -10,7 +10,7 @@ use Rattle.mseed_audit.proofs.Maps.{same_back, same_is}
 use Rattle.mseed_audit.specs.declared.channel.Channel.{Channel}
 use Rattle.mseed_parts.specs.declared.part.JoinFault.{JoinFault}
 use Rattle.mseed_parts.specs.declared.part.JoinFault.TheVariants.{Limit}
-use Rattle.mseed_parts.specs.Joining.{border_of, border_between, moved_channel, channel_behind, channel_joined}
+use Rattle.mseed_parts.specs.Joining.{border_of, border_between, moved_channel, channel_then, channel_joined}
 use Rattle.mseed_audit.specs.Audit.{head_in, tail_in}
 use Rattle.mseed_parts.specs.Parts.{Held, IsAscending, kept_of, IsJoint, one_channel, Moves, CountsFit, FitsAt}
 
@@ -67,7 +67,7 @@ module _ (es : Entries) (records bytes : ℕ) (a : Held) (view : held es records
     (c k m : Channel) (there : Some k ≡ kept_of key es) (is : m ≡ moved_channel records bytes c)
     (r : Result (Option Finding) JoinFault) where
   pub there_joined : (x : Channel) (fs : Entries) → HasAt es key x fs → IsAscending fs
-      → OnOk r (x ≡ channel_behind k m) → OnOk r (IsJoint a (one_channel key c) (held fs records bytes))
+      → OnOk r (x ≡ channel_then k m) → OnOk r (IsJoint a (one_channel key c) (held fs records bytes))
   there_joined x fs has sorted =
       on_ok_weaker r (λ e.
       let now : Some x ≡ channel_joined (kept_of key es) (Some (moved_channel records bytes c)) =
@@ -88,22 +88,22 @@ module _ (es : Entries) (records bytes : ℕ) (a : Held) (view : held es records
   fits_is = ap (λ (o : Option Channel). FitsAt records bytes o (Some c)) there
       ∙ ap (λ (h : Held). FitsAt h.records h.bytes (kept_of key h.channels) (Some c)) view
 
-  pub there_fits : IsOk r ↔ CountsFit (channel_behind k m) → Moves records bytes c
+  pub there_fits : IsOk r ↔ CountsFit (channel_then k m) → Moves records bytes c
       → OnOk r (FitsAt a.records a.bytes (kept_of key a.channels) (Some c))
   there_fits fits moves = by r fits
     where
-      by : (s : Result (Option Finding) JoinFault) → IsOk s ↔ CountsFit (channel_behind k m)
+      by : (s : Result (Option Finding) JoinFault) → IsOk s ↔ CountsFit (channel_then k m)
           → OnOk s (FitsAt a.records a.bytes (kept_of key a.channels) (Some c))
       by (Ok found) f =
           subst (λ (T : Type 0). T) fits_is
-          (moves, subst (λ (n : Channel). CountsFit (channel_behind k n)) is (f.0 refl))
+          (moves, subst (λ (n : Channel). CountsFit (channel_then k n)) is (f.0 refl))
       by (Err e) f = tt
 
-  pub there_limit : IsOk r ↔ CountsFit (channel_behind k m) → IsErrOf r Limit
+  pub there_limit : IsOk r ↔ CountsFit (channel_then k m) → IsErrOf r Limit
       → FitsAt a.records a.bytes (kept_of key a.channels) (Some c) → ⊥
   there_limit fits limit fit =
       let here : FitsAt records bytes (Some k) (Some c) = subst (λ (T : Type 0). T) (sym fits_is) fit in
-      let ok : IsOk r = fits.1 (subst (λ (n : Channel). CountsFit (channel_behind k n)) (sym is) here.1) in
+      let ok : IsOk r = fits.1 (subst (λ (n : Channel). CountsFit (channel_then k n)) (sym is) here.1) in
       no (subst (λ (s : Result (Option Finding) JoinFault). IsOk s) limit ok)
     where
       no : IsOk {T = Option Finding} (Err Limit) → ⊥

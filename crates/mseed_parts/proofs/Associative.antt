@@ -9,7 +9,7 @@ use Rattle.mseed_audit.specs.declared.channel.Findings.TheVariants.{Nothing, Cou
 use Rattle.mseed_audit.specs.declared.channel.Head.{Head}
 use Rattle.mseed_audit.specs.declared.tail.Tail.{Tail}
 use Rattle.mseed_parts.specs.Joining.{moved_head, moved_finding, moved_findings, moved_channel, border_why, found_at}
-use Rattle.mseed_parts.specs.Joining.{border_of, findings_with, findings_behind, channel_behind, channel_joined}
+use Rattle.mseed_parts.specs.Joining.{border_of, findings_with, findings_behind, channel_then, channel_joined}
 use Rattle.mseed_audit.specs.Audit.{head_in, tail_in}
 use Rattle.mseed_parts.specs.Parts.{Held, kept_of, IsJoint}
 use Rattle.mseed_parts.proofs.Behind.{head_with, tail_with}
@@ -78,7 +78,7 @@ findings_moved d e a b =
     ∙ ap (λ (f : Option Finding). findings_with (moved_findings d e a) (moved_findings d e b) f) border
 
 behind_moved : (d e : ℕ) (c o : Channel)
-    → moved_channel d e (channel_behind c o) ≡ channel_behind (moved_channel d e c) (moved_channel d e o)
+    → moved_channel d e (channel_then c o) ≡ channel_then (moved_channel d e c) (moved_channel d e o)
 behind_moved d e c o =
     ap (λ (f : Findings). record { records = c.records + o.records; samples = c.samples + o.samples; findings = f })
     (findings_moved d e c.findings o.findings)
@@ -132,7 +132,7 @@ findings_assoc a b c =
     ∙ ap (λ (h : Option Head). findings_with a (findings_with b c two) (border_of (tail_in a) h))
     (sym (head_with b c two))
 
-behind_assoc : (a b c : Channel) → channel_behind (channel_behind a b) c ≡ channel_behind a (channel_behind b c)
+behind_assoc : (a b c : Channel) → channel_then (channel_then a b) c ≡ channel_then a (channel_then b c)
 behind_assoc a b c =
     let records : a.records + b.records + c.records ≡ a.records + (b.records + c.records) = omega arith in
     let samples : a.samples + b.samples + c.samples ≡ a.samples + (b.samples + c.samples) = omega arith in
@@ -150,15 +150,15 @@ kept_assoc d e f g None None None = refl
 kept_assoc d e f g None None (Some c) = ap (λ (k : Channel). Some k) (channel_twice d e f g c)
 kept_assoc d e f g None (Some b) None = refl
 kept_assoc d e f g None (Some b) (Some c) =
-    ap (λ (k : Channel). Some (channel_behind (moved_channel d e b) k)) (channel_twice d e f g c)
+    ap (λ (k : Channel). Some (channel_then (moved_channel d e b) k)) (channel_twice d e f g c)
     ∙ ap (λ (k : Channel). Some k) (sym (behind_moved d e b (moved_channel f g c)))
 kept_assoc d e f g (Some a) None None = refl
-kept_assoc d e f g (Some a) None (Some c) = ap (λ (k : Channel). Some (channel_behind a k)) (channel_twice d e f g c)
+kept_assoc d e f g (Some a) None (Some c) = ap (λ (k : Channel). Some (channel_then a k)) (channel_twice d e f g c)
 kept_assoc d e f g (Some a) (Some b) None = refl
 kept_assoc d e f g (Some a) (Some b) (Some c) =
-    ap (λ (k : Channel). Some (channel_behind (channel_behind a (moved_channel d e b)) k)) (channel_twice d e f g c)
+    ap (λ (k : Channel). Some (channel_then (channel_then a (moved_channel d e b)) k)) (channel_twice d e f g c)
     ∙ ap (λ (k : Channel). Some k) (behind_assoc a (moved_channel d e b) (moved_channel d e (moved_channel f g c)))
-    ∙ ap (λ (k : Channel). Some (channel_behind a k)) (sym (behind_moved d e b (moved_channel f g c)))
+    ∙ ap (λ (k : Channel). Some (channel_then a k)) (sym (behind_moved d e b (moved_channel f g c)))
 
 pub joint_assoc : (a b c ab bc left right : Held) → IsJoint a b ab → IsJoint ab c left → IsJoint b c bc
     → IsJoint a bc right → left ≡ right

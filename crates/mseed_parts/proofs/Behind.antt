@@ -18,7 +18,7 @@ use Rattle.mseed_audit.specs.declared.channel.Findings.{Findings}
 use Rattle.mseed_audit.specs.declared.channel.Findings.TheVariants.{Nothing, Counted}
 use Rattle.mseed_audit.specs.declared.channel.Head.{Head}
 use Rattle.mseed_audit.specs.declared.tail.Tail.{Tail}
-use Rattle.mseed_parts.specs.Joining.{border_why, found_at, border_of, findings_with, channel_behind}
+use Rattle.mseed_parts.specs.Joining.{border_why, found_at, border_of, findings_with, channel_then}
 use Rattle.mseed_parts.specs.Joining.{channel_joined}
 use Rattle.mseed_audit.specs.Audit.{IsHead, IsHeadOf, IsTail, IsTailOf, head_in, tail_in, AreCounted, Stands, StandsAt}
 
@@ -213,7 +213,7 @@ all_found only c o ps qs s t =
     findings_append None ps qs s.found (option_to_list border ++ t.found) s.are_found further
 
 pub stands_behind : HaveOneFinding → (c o : Channel) (ps qs : List Placed) → Stands c ps → Stands o qs
-    → Stands (channel_behind c o) (ps ++ qs)
+    → Stands (channel_then c o) (ps ++ qs)
 stands_behind only c o ps qs s t =
     let border : Option Finding = border_of (tail_in c.findings) (head_in o.findings) in record {
       records = omega (arith, s.records, t.records, length-append ps qs);

@@ -14,7 +14,7 @@ use Rattle.mseed_audit.specs.declared.channel.Head.{Head}
 use Rattle.mseed_audit.specs.declared.tail.Tail.{Tail}
 use Rattle.mseed_parts.specs.declared.part.JoinFault.{JoinFault}
 use Rattle.mseed_parts.specs.Joining.{moved_head, moved_findings, moved_channel, border_why, found_at, border_of}
-use Rattle.mseed_parts.specs.Joining.{findings_with, channel_behind}
+use Rattle.mseed_parts.specs.Joining.{findings_with, channel_then}
 use Rattle.mseed_audit.specs.Audit.{head_in, tail_in}
 use Rattle.mseed_parts.specs.Parts.{HeadFits, FirstFits, Moves, CountFits, CountsFit, IsWithin, AreWithin}
 use Rattle.mseed_parts.specs.Parts.{kept_of}
@@ -58,7 +58,7 @@ first_with (Counted m first head t) (Counted n next h tail) (Some x) f g k = f
 
 -- a channel with its further records after
 behind_within : (d e : ℕ) (c o : Channel) → IsWithin c → Moves d e o
-    → CountsFit (channel_behind c (moved_channel d e o)) → IsWithin (channel_behind c (moved_channel d e o))
+    → CountsFit (channel_then c (moved_channel d e o)) → IsWithin (channel_then c (moved_channel d e o))
 behind_within d e c o w m f =
     let further : Findings = moved_findings d e o.findings in
     let border : Option Finding = border_of (tail_in c.findings) (head_in further) in
@@ -79,19 +79,19 @@ within_there key es c is all =
 -- a channel that is there, with what is joined to it
 pub after_within : (d e : ℕ) (key : List ℕ) (es : Entries) (c o m after : Channel)
     (r : Result (Option Finding) JoinFault) → Some c ≡ kept_of key es → AreWithin es → Moves d e o
-    → m ≡ moved_channel d e o → IsOk r ↔ CountsFit (channel_behind c m) → OnOk r (after ≡ channel_behind c m)
+    → m ≡ moved_channel d e o → IsOk r ↔ CountsFit (channel_then c m) → OnOk r (after ≡ channel_then c m)
     → OnErr r (after ≡ c) → IsWithin after
 after_within d e key es c o m after r there all moves is fits ok err = by r fits ok err
   where
     before : IsWithin c
     before = within_there key es c there all
 
-    by : (s : Result (Option Finding) JoinFault) → IsOk s ↔ CountsFit (channel_behind c m)
-        → OnOk s (after ≡ channel_behind c m) → OnErr s (after ≡ c) → IsWithin after
+    by : (s : Result (Option Finding) JoinFault) → IsOk s ↔ CountsFit (channel_then c m)
+        → OnOk s (after ≡ channel_then c m) → OnErr s (after ≡ c) → IsWithin after
     by (Ok found) f g h =
         subst (λ (x : Channel). IsWithin x) (sym g)
-        (subst (λ (x : Channel). IsWithin (channel_behind c x)) (sym is)
-        (behind_within d e c o before moves (subst (λ (x : Channel). CountsFit (channel_behind c x)) is (f.0 refl))))
+        (subst (λ (x : Channel). IsWithin (channel_then c x)) (sym is)
+        (behind_within d e c o before moves (subst (λ (x : Channel). CountsFit (channel_then c x)) is (f.0 refl))))
     by (Err fault) f g h = subst (λ (x : Channel). IsWithin x) (sym h) before
 
 -- a new one

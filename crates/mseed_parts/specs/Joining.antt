@@ -55,8 +55,8 @@ abbrev pub findings_behind : Findings → Findings → Findings
 findings_behind a b = findings_with a b (border_of (tail_in a) (head_in b))
 
 -- a channel, and its further records after
-abbrev pub channel_behind : Channel → Channel → Channel
-channel_behind c o = record {
+abbrev pub channel_then : Channel → Channel → Channel
+channel_then c o = record {
   records = c.records + o.records;
   samples = c.samples + o.samples;
   findings = findings_behind c.findings o.findings;
@@ -66,7 +66,7 @@ channel_behind c o = record {
 abbrev pub channel_joined : Option Channel → Option Channel → Option Channel
 channel_joined None o = o
 channel_joined (Some c) None = Some c
-channel_joined (Some c) (Some o) = Some (channel_behind c o)
+channel_joined (Some c) (Some o) = Some (channel_then c o)
 
 -- what is found between a channel and its further records
 abbrev pub border_between : Option Channel → Channel → Option Finding

@@ -13,7 +13,7 @@ use Rattle.mseed_audit.specs.declared.channel.Channel.{Channel}
 use Rattle.mseed_audit.specs.declared.channel.Findings.{Findings}
 use Rattle.mseed_audit.specs.declared.channel.Findings.TheVariants.{Nothing, Counted}
 use Rattle.mseed_audit.specs.declared.channel.Head.{Head}
-use Rattle.mseed_parts.specs.Joining.{moved_channel, channel_behind, channel_joined}
+use Rattle.mseed_parts.specs.Joining.{moved_channel, channel_then, channel_joined}
 use Rattle.mseed_audit.specs.Audit.{head_in, StandsAt}
 
 -- what a clause sees of a part: what is kept of each channel, by its key, and how many records and bytes there are
@@ -95,7 +95,7 @@ AreWithin channels = All (λ c. IsWithin c) (values_of channels)
 abbrev pub FitsAt : ℕ → ℕ → Option Channel → Option Channel → Type 0
 FitsAt d e c None = ⊤
 FitsAt d e None (Some o) = Moves d e o × CountsFit o
-FitsAt d e (Some c) (Some o) = Moves d e o × CountsFit (channel_behind c (moved_channel d e o))
+FitsAt d e (Some c) (Some o) = Moves d e o × CountsFit (channel_then c (moved_channel d e o))
 
 -- no count of what is joined passes it, and no number that goes up, whether it is kept or not
 pub record Fits (a b : Held) : Type 0 where

@@ -3,7 +3,7 @@ ghost use Rattle.std.specs.Prelude.{◌≡◌, ◌↔◌, ◌<◌, ◌+◌, ◌^
 ghost use Rattle.std.specs.Option.{option_map, option_to_list};
 ghost use Rattle.mseed_audit.specs.declared.channel.Findings.TheVariants.{Nothing};
 ghost use Rattle.mseed_parts.specs.Joining.{moved_head, moved_findings, moved_channel};
-ghost use Rattle.mseed_parts.specs.Joining.{border_of, findings_with, channel_behind};
+ghost use Rattle.mseed_parts.specs.Joining.{border_of, findings_with, channel_then};
 ghost use Rattle.mseed_audit.specs.Audit.{head_in, tail_in};
 ghost use Rattle.mseed_audit.specs.declared.tail.Tail.{Tail};
 ghost use Rattle.mseed_parts.specs.Parts.{HeadFits, FirstFits, Moves, CountFits, CountsFit};
@@ -173,11 +173,14 @@ fn size_of(border: Option<Finding>) -> u64
 /// Puts further records after a channel, and answers what is found between the two. Where a count would pass the
 /// limit, the channel is then as it was.
 #[inline(always)]
-pub(crate) fn add_behind(kept: &mut Channel, further: &Channel) -> Result<Option<Finding>, TooLarge>
-    ensures value { OnOk result (kept.new ≡ channel_behind kept.old further.now) }
+pub(crate) fn add_further(
+    kept: &mut Channel,
+    further: &Channel,
+) -> Result<Option<Finding>, TooLarge>
+    ensures value { OnOk result (kept.new ≡ channel_then kept.old further.now) }
     ensures border { IfOk result
         (λ found. found ≡ border_of (tail_in kept.old.findings) (head_in further.now.findings)) }
-    ensures fits { IsOk result ↔ CountsFit (channel_behind kept.old further.now) }
+    ensures fits { IsOk result ↔ CountsFit (channel_then kept.old further.now) }
     ensures unchanged { OnErr result (kept.new ≡ kept.old) }
 {
     let border = border_of(kept.findings.tail(), further.findings.head());

@@ -2,12 +2,12 @@
 ghost use Rattle.std.specs.Prelude.{◌≡◌, ◌++◌, [], List, Some, None, IfOk, IfErr, OnOk, OnErr, IsOk};
 ghost use Rattle.std.specs.Prelude.{◌↔◌, IsErrOf};
 ghost use Rattle.mseed_record.specs.View.{View};
-ghost use Rattle.mseed_parts.specs.Joining.{border_between, border_of, channel_behind, moved_channel};
+ghost use Rattle.mseed_parts.specs.Joining.{border_between, border_of, channel_then, moved_channel};
 ghost use Rattle.mseed_audit.specs.Audit.{head_in, tail_in};
 ghost use Rattle.mseed_parts.specs.Parts.{IsPartOf, IsJoint, Fits, FitsAt, CountsFit, kept_of, one_channel};
 ghost use Rattle.mseed_parts.specs.Parts.{counts_alone, HasNewChannel, IsAscending, IsSmall};
 
-use crate::joining::{add_behind, counts_fit, moved, sum};
+use crate::joining::{add_further, counts_fit, moved, sum};
 use mseed_audit::{Channel, ChannelList, Finding, Memory, one_finding};
 use mseed_record::Codes;
 use std::alloc::{Allocator, Global};
@@ -107,7 +107,7 @@ impl<A: Allocator + Copy> Part<A> {
             return Err(JoinFault::Limit);
         }
         match self.kept.find_or_keep(codes, &further) {
-            Ok(Some(index)) => put_behind(self.kept.channel_mut(index), &further),
+            Ok(Some(index)) => put_further(self.kept.channel_mut(index), &further),
             Ok(None) => Ok(None),
             Err(Memory) => Err(JoinFault::Memory),
         }
@@ -181,15 +181,15 @@ impl<A: Allocator + Copy> Part<A> {
 
 /// Puts further records after a channel, and answers what is found between the two.
 #[inline(always)]
-fn put_behind(kept: &mut Channel, further: &Channel) -> Result<Option<Finding>, JoinFault>
-    ensures value { OnOk result (kept.new ≡ channel_behind kept.old further.now) }
+fn put_further(kept: &mut Channel, further: &Channel) -> Result<Option<Finding>, JoinFault>
+    ensures value { OnOk result (kept.new ≡ channel_then kept.old further.now) }
     ensures border { IfOk result
         (λ found. found ≡ border_of (tail_in kept.old.findings) (head_in further.now.findings)) }
-    ensures fits { IsOk result ↔ CountsFit (channel_behind kept.old further.now) }
+    ensures fits { IsOk result ↔ CountsFit (channel_then kept.old further.now) }
     ensures fault { IfErr result (λ fault. fault ≡ JoinFault.Limit) }
     ensures unchanged { OnErr result (kept.new ≡ kept.old) }
 {
-    match add_behind(kept, further) {
+    match add_further(kept, further) {
         Ok(border) => Ok(border),
         Err(_) => Err(JoinFault::Limit),
     }

@@ -49,14 +49,14 @@ fn fits(field: &[u8], code: &[u8]) -> bool
     match piece_of(field, code) {
         Piece::Whole => true,
         Piece::Fails => false,
-        Piece::Star(behind, left) => fits_behind(behind, left),
+        Piece::Star(behind, left) => fits_after(behind, left),
     }
 }
 
 /// Whether a `*` and the field after it fit a code. Each `*` takes as few characters as the next piece of the field
 /// lets it: whatever fits after a later place of the piece fits after its first one too, with more for the next `*`.
 /// So no `*` is asked again once the next one is reached.
-fn fits_behind(field: &[u8], code: &[u8]) -> bool
+fn fits_after(field: &[u8], code: &[u8]) -> bool
     ensures { result ≡ fits (42 ∷ field.now) code.now }
 {
     let mut behind = field;

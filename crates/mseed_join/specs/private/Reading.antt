@@ -81,11 +81,11 @@ integer_at below above (b ∷ bs) =
     else (number_at above (b ∷ bs) >>= λ n. Some (pos n.0, n.1))
 
 -- the number after a word
-abbrev pub behind_at : List ℕ → ℕ → List ℕ → Option (ℕ × List ℕ)
-behind_at word largest bytes = after word bytes >>= number_at largest
+abbrev pub number_after : List ℕ → ℕ → List ℕ → Option (ℕ × List ℕ)
+number_after word largest bytes = after word bytes >>= number_at largest
 
 abbrev pub counted_at : {X : Type 0} → List ℕ → ℕ → (ℕ → X) → List ℕ → Option (X × List ℕ)
-counted_at word largest made bytes = behind_at word largest bytes >>= λ n. Some (made n.0, n.1)
+counted_at word largest made bytes = number_after word largest bytes >>= λ n. Some (made n.0, n.1)
 
 -- ---- a key
 -- the value of a digit of 0-9A-F
@@ -129,7 +129,7 @@ leap_at bytes = named_at leap_text (NoLeap ∷ Positive ∷ Negative ∷ Both �
 unfoldable pub some_head_at : List ℕ → Option (Head × List ℕ)
 some_head_at bytes = do
   number ← number_at (2 ^ 63 - 1) bytes
-  offset ← behind_at (codes " ") (2 ^ 63 - 1) number.1
+  offset ← number_after (codes " ") (2 ^ 63 - 1) number.1
   rest ← after (codes " ") offset.1
   start ← start_at rest
   rest ← after (codes " ") start.1
@@ -139,7 +139,7 @@ some_head_at bytes = do
 unfoldable pub some_tail_at : List ℕ → Option (Tail × List ℕ)
 some_tail_at bytes = do
   start ← start_at bytes
-  samples ← behind_at (codes " ") (2 ^ 16 - 1) start.1
+  samples ← number_after (codes " ") (2 ^ 16 - 1) start.1
   rest ← after (codes " ") samples.1
   rate ← ratio_at rest
   rest ← after (codes " ") rate.1
@@ -163,8 +163,8 @@ time_at bytes = named_at fault_word (Year ∷ Day ∷ Hour ∷ Minute ∷ Second
 
 abbrev pub bad_word_at : List ℕ → Option (ReadFault × List ℕ)
 bad_word_at bytes = do
-  frame ← behind_at (codes "badword ") (2 ^ 63 - 1) bytes
-  word ← behind_at (codes " ") (2 ^ 63 - 1) frame.1
+  frame ← number_after (codes "badword ") (2 ^ 63 - 1) bytes
+  word ← number_after (codes " ") (2 ^ 63 - 1) frame.1
   Some (BadWord frame.0 word.0, word.1)
 
 abbrev pub last_differs_at : List ℕ → Option (ReadFault × List ℕ)
@@ -201,8 +201,8 @@ why_at bytes =
 
 unfoldable pub first_at : List ℕ → Option (Finding × List ℕ)
 first_at bytes = do
-  number ← behind_at (codes " first ") (2 ^ 63 - 1) bytes
-  offset ← behind_at (codes " ") (2 ^ 63 - 1) number.1
+  number ← number_after (codes " first ") (2 ^ 63 - 1) bytes
+  offset ← number_after (codes " ") (2 ^ 63 - 1) number.1
   rest ← after (codes " ") offset.1
   why ← why_at rest
   Some (record { number = number.0; offset = offset.0; why = why.0 }, why.1)
@@ -221,7 +221,7 @@ findings_at bytes = do
   head ← head_at rest
   rest ← after (codes " tail ") head.1
   tail ← tail_at rest
-  count ← behind_at (codes " findings ") (2 ^ 63 - 1) tail.1
+  count ← number_after (codes " findings ") (2 ^ 63 - 1) tail.1
   counted_findings_at count.0 head.0 tail.0 count.1
 
 -- ---- whole lines
@@ -232,21 +232,21 @@ ends bytes = pointwise nat_eq bytes (codes "\n")
 unfoldable pub channel_at : List ℕ → Option (List ℕ × Channel)
 channel_at bytes = do
   key ← key_at bytes
-  records ← behind_at (codes " records ") (2 ^ 63 - 1) key.1
-  samples ← behind_at (codes " samples ") (2 ^ 63 - 1) records.1
+  records ← number_after (codes " records ") (2 ^ 63 - 1) key.1
+  samples ← number_after (codes " samples ") (2 ^ 63 - 1) records.1
   findings ← findings_at samples.1
   if ends findings.1
       then Some (key.0, record { records = records.0; samples = samples.0; findings = findings.0 }) else None
 
 unfoldable pub counts_at : List ℕ → Option (ℕ × ℕ)
 counts_at bytes = do
-  records ← behind_at (codes "records ") (2 ^ 63 - 1) bytes
-  held ← behind_at (codes " bytes ") (2 ^ 63 - 1) records.1
+  records ← number_after (codes "records ") (2 ^ 63 - 1) bytes
+  held ← number_after (codes " bytes ") (2 ^ 63 - 1) records.1
   if ends held.1 then Some (records.0, held.0) else None
 
 unfoldable pub faults_at : List ℕ → Option ℕ
 faults_at bytes = do
-  faults ← behind_at (codes "faults ") (2 ^ 63 - 1) bytes
+  faults ← number_after (codes "faults ") (2 ^ 63 - 1) bytes
   if nat_lt 0 faults.0 && ends faults.1 then Some faults.0 else None
 
 unfoldable pub frame_fault_at : List ℕ → Option (FrameFault × List ℕ)
@@ -265,7 +265,7 @@ stream_fault_at offset bytes =
 
 unfoldable pub fault_at : List ℕ → ℕ → Option StreamFault
 fault_at bytes offset = do
-  at ← behind_at (codes "fault at ") (2 ^ 63 - 1) bytes
+  at ← number_after (codes "fault at ") (2 ^ 63 - 1) bytes
   rest ← after (codes " ") at.1
   fault ← stream_fault_at offset rest
   if at.0 == offset && ends fault.1 then Some fault.0 else None

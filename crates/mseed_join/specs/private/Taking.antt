@@ -93,9 +93,9 @@ IsLineStep lines s line (Err Bad) old new = Begins old.past (lines ++ line) → 
 IsLineStep lines s line (Err NoMemory) old new = ⊤
 
 -- a fault after so many bytes
-abbrev pub fault_behind : ℕ → StreamFault → StreamFault
-fault_behind e (Frame offset f) = Frame e f
-fault_behind e (Truncated offset have) = Truncated e have
-fault_behind e (Read offset) = Read e
-fault_behind e (Turns offset) = Turns e
-fault_behind e Memory = Memory
+abbrev pub fault_after : ℕ → StreamFault → StreamFault
+fault_after e (Frame offset f) = Frame e f
+fault_after e (Truncated offset have) = Truncated e have
+fault_after e (Read offset) = Read e
+fault_after e (Turns offset) = Turns e
+fault_after e Memory = Memory

@@ -2,7 +2,7 @@ use Rattle.std.proofs.Common.{◌≡◌, ◌≤◌, ◌*◌, ◌^◌, IfSome, ma
 use Rattle.mseed_record.specs.Viewing.{view_of}
 use Rattle.mseed_audit.specs.Channels.{added_from, records_of}
 use Rattle.mseed_audit.specs.Audit.{StandsAt}
-use Rattle.mseed_audit.specs.private.Kept.{IsBounded}
+use Rattle.mseed_audit.specs.private.ChannelState.{IsBounded}
 use Rattle.mseed_audit.proofs.Behind.{end_of}
 use Rattle.mseed_audit.proofs.assembly.channel_of.Given as goal
 

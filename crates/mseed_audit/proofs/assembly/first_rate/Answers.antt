@@ -6,7 +6,7 @@ use Rattle.mseed_record.specs.declared.view.RecordView.{RecordView}
 use Rattle.mseed_record.specs.Viewing.{view_of}
 use Rattle.mseed_audit.specs.Judging.{rate_in}
 use Rattle.mseed_audit.specs.Channels.{is_of}
-use Rattle.mseed_audit.specs.private.Kept.{IsFirstRate}
+use Rattle.mseed_audit.specs.private.ChannelState.{IsFirstRate}
 use Rattle.mseed_audit.proofs.Assembled.{first_there}
 use Rattle.mseed_audit.proofs.Behind.{kept_next}
 use Rattle.mseed_audit.proofs.Judged.{none_unless}

@@ -4,16 +4,16 @@ use Rattle.mseed_record.specs.View.{View}
 use Rattle.mseed_record.specs.Viewing.{view_of}
 use Rattle.mseed_steim.specs.declared.fault.ReadFault.{ReadFault}
 use Rattle.mseed_audit.specs.Judging.{known_rate}
-use Rattle.mseed_audit.specs.private.Kept.{IsReadTo}
+use Rattle.mseed_audit.specs.private.ChannelState.{IsReadTo}
 use Rattle.mseed_audit.proofs.Judged.{after_either, found_whole}
 use Rattle.mseed_audit.proofs.channel.sound_end.Goals as goal
 
 pub returns-in-None-clause-sound : goal.returns-in-None-clause-sound
 returns-in-None-clause-sound c = λ b before.
     let v : View = view_of c.args.view.now in
-    let lead = c.in-Ok.ensures.lead in
-    let next : Ratio = c.in-Ok.lead.tail.rate in
-    let known : known_rate v ≡ Some next = lead.tail.rate in
-    let whole : IsReadTo v None = subst (λ (f : Option ReadFault). IsReadTo v f) c.in-None.is lead.read in
+    let examined = c.in-Ok.ensures.examined in
+    let next : Ratio = c.in-Ok.examined.tail.rate in
+    let known : known_rate v ≡ Some next = examined.tail.rate in
+    let whole : IsReadTo v None = subst (λ (f : Option ReadFault). IsReadTo v f) c.in-None.is examined.read in
     found_whole b v next whole.0 None known whole.1.0 whole.1.1
-    (after_either c.args.before c.in-Ok.lead.tail b v before lead.tail ∙ c.follows.ensures c.if-follows.true)
+    (after_either c.args.before c.in-Ok.examined.tail b v before examined.tail ∙ c.follows.ensures c.if-follows.true)

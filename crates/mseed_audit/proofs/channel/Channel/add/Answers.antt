@@ -1,6 +1,6 @@
 use Rattle.std.proofs.Common.{None, Some, ◌∙◌}
 use Rattle.mseed_record.specs.Viewing.{view_of}
-use Rattle.mseed_audit.proofs.Kept.{found_next, stands_faulty, stands_sound}
+use Rattle.mseed_audit.proofs.ChannelState.{found_next, stands_faulty, stands_sound}
 use Rattle.mseed_audit.proofs.channel.Channel.add.Goals as goal
 
 pub returns-in-Sound-clause-stands : goal.returns-in-Sound-clause-stands

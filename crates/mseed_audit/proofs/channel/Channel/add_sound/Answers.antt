@@ -1,6 +1,6 @@
 use Rattle.std.proofs.Common.{None, ◌∙◌}
 use Rattle.mseed_record.specs.Viewing.{view_of}
-use Rattle.mseed_audit.proofs.Kept.{found_next, stands_sound}
+use Rattle.mseed_audit.proofs.ChannelState.{found_next, stands_sound}
 use Rattle.mseed_audit.proofs.channel.Channel.add_sound.Goals as goal
 
 pub returns-clause-stands : goal.returns-clause-stands

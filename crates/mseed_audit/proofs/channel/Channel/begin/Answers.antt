@@ -6,7 +6,7 @@ use Rattle.mseed_audit.specs.declared.channel.Findings.{Findings}
 use Rattle.mseed_audit.specs.declared.finding.Why.{Why}
 use Rattle.mseed_audit.specs.Audit.{Stands}
 use Rattle.mseed_audit.specs.Channels.{Placed}
-use Rattle.mseed_audit.proofs.Kept.{one_stands}
+use Rattle.mseed_audit.proofs.ChannelState.{one_stands}
 use Rattle.mseed_audit.proofs.channel.Channel.begin.Goals as goal
 use Rattle.mseed_audit.proofs.channel.Channel.begin.Goals.{in-Sound, in-Faulty}
 

@@ -8,7 +8,7 @@ use Rattle.mseed_record.specs.Viewing.{view_of}
 use Rattle.mseed_audit.specs.declared.channel.Channel.{Channel}
 use Rattle.mseed_audit.specs.Channels.{Placed, same_key}
 use Rattle.mseed_audit.specs.Audit.{StandsAt}
-use Rattle.mseed_audit.specs.private.Kept.{AreBounded, IsBounded}
+use Rattle.mseed_audit.specs.private.ChannelState.{AreBounded, IsBounded}
 use Rattle.mseed_audit.proofs.Counts.{within_more}
 use Rattle.mseed_audit.proofs.Found.{found_within, is_there, room_with, there_bounded, there_found, there_more}
 use Rattle.mseed_audit.proofs.Found.{there_stands}

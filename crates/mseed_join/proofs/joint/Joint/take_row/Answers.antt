@@ -3,17 +3,17 @@ use Rattle.std.proofs.lemmas.Bool.{false≢true}
 use Rattle.mseed_join.proofs.Rows.{row_counted, row_refused, row_taken, row_unknown}
 use Rattle.mseed_join.proofs.joint.Joint.take_row.Goals as goal
 
-pub returns-then-not-is_behind : goal.returns-then-not-is_behind
-returns-then-not-is_behind g c = record {
+pub returns-then-not-is_after : goal.returns-then-not-is_after
+returns-then-not-is_after g c = record {
   step = row_refused c.args.self.now c.args.last c.args.line.now _ _ c.requires.place c.in-Some.ensures.read
-      c.in-Some.ensures.fits (λ k. false≢true (sym c.if-not-is_behind.true ∙ c.is_behind.ensures.1 k));
+      c.in-Some.ensures.fits (λ k. false≢true (sym c.if-not-is_after.true ∙ c.is_after.ensures.1 k));
 }
 
 pub returns-in-Some : goal.returns-in-Some
 returns-in-Some g c = record {
   step = row_taken c.args.self.now c.take_channel.new.self c.args.last c.args.line.now _ _ c.take_channel.result
       c.requires.place c.in-Some.ensures.read c.in-Some.ensures.fits
-      (c.is_behind.ensures.0 c.if-not-is_behind.false) c.take_channel.ensures;
+      (c.is_after.ensures.0 c.if-not-is_after.false) c.take_channel.ensures;
 }
 
 pub returns-in_default-read_counts_line : goal.returns-in_default-read_counts_line

@@ -15,13 +15,13 @@ pub returns-in-Ok-clause-more : goal.returns-in-Ok-clause-more
 returns-in-Ok-clause-more g c =
     let i = c.self.inside in
     let n : ℕ = c.in-Ok.n in
-    let now : List ℕ = c.pull_behind.new.buffer in
+    let now : List ℕ = c.pull_after.new.buffer in
     let reported : List ℕ = take n (drop i.end now) in
-    let size : length now ≡ i.buffer.len = c.pull_behind.auto.buffer ∙ c.deref_mut.ensures.len in
+    let size : length now ≡ i.buffer.len = c.pull_after.auto.buffer ∙ c.deref_mut.ensures.len in
     let same : take i.end now ≡ take i.end i.buffer.items = c.in-Ok.ensures.before
     ∙ ap (λ (xs : List ℕ). take i.end xs) c.deref_mut.ensures.value in
     let behind : length (drop i.end now) ≡ length now - i.end = length-drop i.end now in
-    let room : i.end + n ≤ length now = omega (arith, c.in-Ok.ensures.bound, c.pull_behind.auto.buffer) in
+    let room : i.end + n ≤ length now = omega (arith, c.in-Ok.ensures.bound, c.pull_after.auto.buffer) in
     let low : i.begin ≤ i.end = omega (arith, c.self.invariant.1) in
     record {
       more = reported;
@@ -47,9 +47,9 @@ returns-in-Ok-clause-more g c =
 pub returns-in-Err-clause-more : goal.returns-in-Err-clause-more
 returns-in-Err-clause-more g c =
     let i = c.self.inside in
-    let now : List ℕ = c.pull_behind.new.buffer in
+    let now : List ℕ = c.pull_after.new.buffer in
     let old : BytesRead = g.R.Source.read c.args.source.now in
-    let size : length now ≡ i.buffer.len = c.pull_behind.auto.buffer ∙ c.deref_mut.ensures.len in
+    let size : length now ≡ i.buffer.len = c.pull_after.auto.buffer ∙ c.deref_mut.ensures.len in
     let same : take i.end now ≡ take i.end i.buffer.items = c.in-Err.ensures.before
     ∙ ap (λ (xs : List ℕ). take i.end xs) c.deref_mut.ensures.value in
     let low : i.begin ≤ i.end = omega (arith, c.self.invariant.1) in
@@ -75,8 +75,8 @@ unfolding returns-in-Ok-clause-more
 returns-in-Ok-clause-read g c =
     let i = c.self.inside in
     let n : ℕ = c.in-Ok.n in
-    let now : List ℕ = c.pull_behind.new.buffer in
-    let size : length now ≡ i.buffer.len = c.pull_behind.auto.buffer ∙ c.deref_mut.ensures.len in
+    let now : List ℕ = c.pull_after.new.buffer in
+    let size : length now ≡ i.buffer.len = c.pull_after.auto.buffer ∙ c.deref_mut.ensures.len in
     let room = ap (λ (r : LinesRead). r.room) c.self.view_is in
     let some : 0 < length (drop i.end now) =
     omega (arith, length-drop i.end now, size, room, c.requires.room, c.self.invariant.0) in

@@ -33,12 +33,12 @@ invariant_of-self g c =
     let place : Some c.in-Ok-Some.index ≡ place_of (same_key code) es = search rules in
     let at = c.channel_mut.ensures.value in
     let kept = kept_there es now code c.in-Ok-Some.index before stays place at in
-    let after : Channel = c.put_behind.new.kept in
+    let after : Channel = c.put_further.new.kept in
     let within : IsWithin after =
     after_within c.self.inside.records c.self.inside.bytes code (by_key es) _ c.args.channel.now
-    c.in-Ok.further after c.put_behind.result kept (by_key_within es c.self.invariant.0)
-    (c.in-Ok.ensures.fits.0 refl) c.in-Ok.ensures.value c.put_behind.ensures.fits c.put_behind.ensures.value
-    c.put_behind.ensures.unchanged in (
+    c.in-Ok.further after c.put_further.result kept (by_key_within es c.self.invariant.0)
+    (c.in-Ok.ensures.fits.0 refl) c.in-Ok.ensures.value c.put_further.ensures.fits c.put_further.ensures.value
+    c.put_further.ensures.unchanged in (
       with_within es now code c.in-Ok-Some.index before stays place at after c.self.invariant.0 within,
       c.self.invariant.1,
       c.self.invariant.2,
@@ -54,9 +54,9 @@ returns-in-Ok-Some-clause-joined g c =
     let place : Some c.in-Ok-Some.index ≡ place_of (same_key code) es = search rules in
     let at = c.channel_mut.ensures.value in
     let kept = kept_there es now code c.in-Ok-Some.index before stays place at in
-    there_joined (by_key es) _ _ _ c.self.view_is _ _ _ _ kept c.in-Ok.ensures.value _ c.put_behind.new.kept _
-    (has_with es now code c.in-Ok-Some.index before stays place at c.put_behind.new.kept)
-    (by_key_ascends (with_channel now c.in-Ok-Some.index c.put_behind.new.kept)) c.put_behind.ensures.value
+    there_joined (by_key es) _ _ _ c.self.view_is _ _ _ _ kept c.in-Ok.ensures.value _ c.put_further.new.kept _
+    (has_with es now code c.in-Ok-Some.index before stays place at c.put_further.new.kept)
+    (by_key_ascends (with_channel now c.in-Ok-Some.index c.put_further.new.kept)) c.put_further.ensures.value
 
 pub returns-in-Ok-Some-clause-border : goal.returns-in-Ok-Some-clause-border
 returns-in-Ok-Some-clause-border g c =
@@ -68,7 +68,7 @@ returns-in-Ok-Some-clause-border g c =
     let place : Some c.in-Ok-Some.index ≡ place_of (same_key code) es = search rules in
     let at = c.channel_mut.ensures.value in
     let kept = kept_there es now code c.in-Ok-Some.index before stays place at in
-    there_border (by_key es) _ _ _ c.self.view_is _ _ _ _ kept c.in-Ok.ensures.value _ c.put_behind.ensures.border
+    there_border (by_key es) _ _ _ c.self.view_is _ _ _ _ kept c.in-Ok.ensures.value _ c.put_further.ensures.border
 
 pub returns-in-Ok-Some-clause-fits : goal.returns-in-Ok-Some-clause-fits
 returns-in-Ok-Some-clause-fits g c =
@@ -80,7 +80,7 @@ returns-in-Ok-Some-clause-fits g c =
     let place : Some c.in-Ok-Some.index ≡ place_of (same_key code) es = search rules in
     let at = c.channel_mut.ensures.value in
     let kept = kept_there es now code c.in-Ok-Some.index before stays place at in
-    there_fits (by_key es) _ _ _ c.self.view_is _ _ _ _ kept c.in-Ok.ensures.value _ c.put_behind.ensures.fits
+    there_fits (by_key es) _ _ _ c.self.view_is _ _ _ _ kept c.in-Ok.ensures.value _ c.put_further.ensures.fits
     (c.in-Ok.ensures.fits.0 refl)
 
 pub returns-in-Ok-Some-clause-limit : goal.returns-in-Ok-Some-clause-limit
@@ -93,7 +93,7 @@ returns-in-Ok-Some-clause-limit g c =
     let place : Some c.in-Ok-Some.index ≡ place_of (same_key code) es = search rules in
     let at = c.channel_mut.ensures.value in
     let kept = kept_there es now code c.in-Ok-Some.index before stays place at in
-    there_limit (by_key es) _ _ _ c.self.view_is _ _ _ _ kept c.in-Ok.ensures.value _ c.put_behind.ensures.fits
+    there_limit (by_key es) _ _ _ c.self.view_is _ _ _ _ kept c.in-Ok.ensures.value _ c.put_further.ensures.fits
 
 pub returns-in-Ok-Some-clause-unchanged : goal.returns-in-Ok-Some-clause-unchanged
 returns-in-Ok-Some-clause-unchanged g c =
@@ -104,9 +104,9 @@ returns-in-Ok-Some-clause-unchanged g c =
     let stays : now ≡ es = search rules in
     let place : Some c.in-Ok-Some.index ≡ place_of (same_key code) es = search rules in
     let at = c.channel_mut.ensures.value in
-    err_from c.put_behind.result c.put_behind.ensures.unchanged
+    err_from c.put_further.result c.put_further.ensures.unchanged
     (λ same. ap (λ (fs : Entries). held (by_key fs) c.self.inside.records c.self.inside.bytes)
-    (there_unchanged now es es c.in-Ok-Some.index before c.put_behind.new.kept stays refl at same) ∙ c.self.view_is)
+    (there_unchanged now es es c.in-Ok-Some.index before c.put_further.new.kept stays refl at same) ∙ c.self.view_is)
 
 -- where it is new
 pub invariant_of-self-in-Ok-None : goal.invariant_of-self-in-Ok-None

@@ -15,7 +15,7 @@ use Rattle.mseed_steim.specs.declared.fault.ReadFault.{ReadFault}
 use Rattle.mseed_steim.specs.Reading.{IsFault, IsWhole}
 use Rattle.mseed_audit.specs.declared.channel.Judged.{Judged}
 use Rattle.mseed_audit.specs.declared.channel.Judged.TheVariants.{Sound, Faulty}
-use Rattle.mseed_audit.specs.declared.channel.Lead.{Lead}
+use Rattle.mseed_audit.specs.declared.channel.Examined.{Examined}
 use Rattle.mseed_audit.specs.declared.finding.Finding.{Finding}
 use Rattle.mseed_audit.specs.declared.finding.Why.{Why}
 use Rattle.mseed_audit.specs.declared.tail.Tail.{Tail}
@@ -41,14 +41,14 @@ IsReadTo v None = (samples : List ℤ) × IsWhole v samples
 IsReadTo v (Some fault) = IsFault v fault
 
 -- what was learnt of a record whose time and rate are known
-pub record IsLead (lead : Lead) (v : View) : Type 0 where
-  pub tail : IsTail lead.tail v
-  pub read : IsReadTo v lead.fault
+pub record IsExamined (examined : Examined) (v : View) : Type 0 where
+  pub tail : IsTail examined.tail v
+  pub read : IsReadTo v examined.fault
 
 -- the same, where something was learnt
-abbrev pub IsLearnt : Option Lead → View → Type 0
+abbrev pub IsLearnt : Option Examined → View → Type 0
 IsLearnt None v = ⊤
-IsLearnt (Some lead) v = IsLead lead v
+IsLearnt (Some examined) v = IsExamined examined v
 
 -- what is kept of the channel's record before another, where there is one whose time and rate are known
 abbrev pub IsTailBefore : Option Tail → Option View → Type 0

@@ -15,7 +15,7 @@ use Rattle.mseed_audit.specs.Channels.{Placed, sample_count}
 use Rattle.mseed_audit.specs.Judging.{IsFound}
 use Rattle.mseed_audit.specs.Audit.{AreCounted, IsHeadOf, IsTail, IsTailOf, Stands, head_in, tail_in, verdict_by}
 use Rattle.mseed_audit.specs.Audit.{verdict_of}
-use Rattle.mseed_audit.specs.private.Kept.{IsTailBefore, with_end, with_finding}
+use Rattle.mseed_audit.specs.private.ChannelState.{IsTailBefore, with_end, with_finding}
 use Rattle.mseed_audit.specs.Reported.{last_of}
 use Rattle.mseed_audit.specs.Verdict.{finding_at, AreFindings, none, one, IsVerdict}
 use Rattle.mseed_audit.proofs.Lasts.{found_last}

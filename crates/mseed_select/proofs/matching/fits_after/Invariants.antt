@@ -1,6 +1,6 @@
 use Rattle.std.proofs.Common.{◌≡◌, ◌+◌, ◌∷◌, length}
 use Rattle.mseed_select.specs.Pattern.{fits}
-use Rattle.mseed_select.proofs.matching.fits_behind.Given as goal
+use Rattle.mseed_select.proofs.matching.fits_after.Given as goal
 
 abbrev pub invariant-pieces : goal.invariant-pieces
 invariant-pieces l = fits (42 ∷ l.fn.field) l.fn.code ≡ fits (42 ∷ l.behind) l.left
