@@ -10,7 +10,8 @@ use std::alloc::{AllocError, Global};
 /// How many bytes the texts have that stand for the words of a command line.
 pub fn bytes_of_texts(alloc: Global, words: &[Vec<u8>]) -> Result<u64, AllocError> {
     let mut bytes: u64 = 0;
-    for text in texts_of(alloc, words)?.iter() {
+    let texts = texts_of(alloc, words)?;
+    for text in &texts {
         bytes = bytes.saturating_add(text.len() as u64);
     }
     Ok(bytes)
@@ -18,7 +19,7 @@ pub fn bytes_of_texts(alloc: Global, words: &[Vec<u8>]) -> Result<u64, AllocErro
 
 /// Whether the word that a text stands for is one that names standard input.
 pub fn is_standard_input(text: &str, words: &[Vec<u8>]) -> bool {
-    word_of(text, words) == b"-"
+    word_of(text, words) == b"-".as_slice()
 }
 
 /// Reads once of a source, and answers how long the last whole record of what came is.
