@@ -1,18 +1,20 @@
 -- How many differences of a size a word holds, and so how many of the next differences.
 use Rattle.std.proofs.Common.{◌≡◌, ◌↔◌, ℕ, ◌+◌, ◌-◌, ◌*◌, ◌/◌, ◌^◌, ◌<◌, ◌≤◌, List, [], ◌∷◌, length, take}
 use Rattle.std.proofs.Common.{drop, get_or, ℤ, pos, arith, refl, ap, sym, ◌∙◌, subst, ⊎_elim, All, Some, replicate}
-use Rattle.std.proofs.Common.{zero, suc}
+use Rattle.std.proofs.Common.{zero, suc, lit<}
 use Rattle.std.proofs.lemmas.Bool.{cases_lt, lt-ltb, le-ltb}
-use Rattle.std.proofs.lemmas.List.{get_or-take, get_or-drop, length-take-le, length-drop, drop-drop}
+use Rattle.std.proofs.Math.Nat.{pow-le-pow_right}
+use Rattle.std.proofs.lemmas.List.{get_or-take, get_or-drop, length-take-le, length-drop, drop-drop, ext_get_or}
+use Rattle.std.proofs.lemmas.List.{take_rest}
 use Rattle.std.proofs.lemmas.List.Elements.{All-get_or, All-from_get_or}
 use Rattle.mseed_steim.specs.declared.scheme.Scheme.{Scheme}
 use Rattle.mseed_steim.specs.declared.scheme.Scheme.TheVariants.{One, Two}
 use Rattle.mseed_steim.specs.declared.row.Row.{Row}
 use Rattle.mseed_steim.specs.Spelling.{IsWithin}
 use Rattle.mseed_steim.specs.Packing.{CanSpell, IsFullest}
-use Rattle.mseed_steim.specs.private.Rows.{row_with, row_for}
+use Rattle.mseed_steim.specs.private.Rows.{row_with, row_for, IsBestRow}
 use Rattle.mseed_steim.specs.private.Ahead.{size_of, near, near_size, raised, most_one, most_two, most_with, IsMost}
-use Rattle.mseed_steim.specs.private.Ahead.{IsAhead, Tells, taken}
+use Rattle.mseed_steim.specs.private.Ahead.{IsAhead, AreCut, AreSame, IsCut, Tells, taken}
 use Rattle.mseed_steim.proofs.Below.{eight}
 use Rattle.mseed_steim.proofs.Rows.{row_is, spelled_fits}
 use Rattle.mseed_steim.proofs.Sizes.{one_3, two_6}
@@ -234,11 +236,56 @@ zero_at (suc n) zero = refl
 zero_at (suc n) (suc i) = zero_at n i
 
 -- nothing is reported
-pub tells_none : (s : Scheme) (ds : List ℤ) → Tells s ds (replicate 80 0)
-tells_none s ds = (
+pub tells_none : (s : Scheme) (ds cut : List ℤ) → Tells s ds (replicate 80 0) cut
+tells_none s ds cut = (
   λ i h. subst (λ (m : ℕ). IsAhead s (drop i ds) m) (sym (zero_at 80 i)) (λ some. absurd (omega (arith, some))),
   λ i low h. zero_at 80 i,
+  λ i h two some. absurd (omega (arith, some, zero_at 80 i)),
 )
+
+-- those behind a place of which something is reported are cut off
+pub cut_from : (s : Scheme) (ds : List ℤ) (most : List ℕ) (cut : List ℤ) → length cut ≡ 64
+    → ((i : ℕ) → 57 ≤ i → i < 80 → get_or most i 0 ≡ 0) → (s ≡ Two → AreSame 64 ds cut)
+    → (i : ℕ) → i < 80 → IsCut s (get_or most i 0) (drop i ds) (drop i cut)
+cut_from s ds most cut long none same i h two some =
+    let early : i < 57 = ⊎_elim (λ (a : i < 57). a) (λ (b : 57 ≤ i). absurd (omega (arith, some, none i b h)))
+    (cases_lt i 57) in (
+      omega (arith, early, long, length-drop i cut),
+      λ j l within. get_or-drop i cut j (pos 0) ∙ same two (i + j) (omega (arith, early, l))
+          (rw (get_or-drop i ds j (pos 0)) at within) ∙ sym (get_or-drop i ds j (pos 0)),
+    )
+
+-- a row that is the one of which is known ahead
+pub best_ahead : (s : Scheme) (ds : List ℤ) (most : ℕ) (row : Row) → 2 ≤ most → IsAhead s ds most
+    → ((r : Row) → row_for s (taken s most) ≡ Some r → row ≡ r)
+    → IsBestRow s ds (length ds) (Some row) × (row.count ≡ taken s most)
+best_ahead s ds most row some ahead same =
+    let known = ahead some in
+    let reported : row ≡ known.2.0 = same known.2.0 known.2.1.0 in (
+      subst (λ (r : Row). IsBestRow s ds (length ds) (Some r)) (sym reported) known.2.1.1,
+      ap (λ (r : Row). r.count) reported ∙ (row_is s (taken s most) known.2.0 known.2.1.0).1,
+    )
+
+shorter : (w : ℕ) (z : ℤ) → w ≤ 15 → IsWithin w z → IsWithin 16 z
+shorter w z h within =
+    let bits : w - 1 ≤ 15 = omega (arith, h) in
+    let most : 2 ^ (w - 1) ≤ 2 ^ 15 = pow-le-pow_right (lit< tt) bits in
+    let less : size_of z < 2 ^ (w - 1) = (within_by z (size_of z) refl w).1 within in
+    (within_by z (size_of z) refl 16).0 (omega (arith, less, most))
+
+-- as many as the word takes are whole where they are cut off
+pub same_prefix : (w c : ℕ) (ds cut : List ℤ) → w ≤ 15 → c ≤ 7 → c ≤ length ds → All (IsWithin w) (take c ds)
+    → AreCut ds cut → take c cut ≡ take c ds
+same_prefix w c ds cut short few inside range same =
+    let long : length (take c ds) ≡ c = length-take-le c ds inside in
+    let other : length (take c cut) ≡ c = length-take-le c cut (omega (arith, few, same.0)) in
+    ext_get_or (pos 0) (take c cut) (take c ds) (other ∙ sym long) (λ i h.
+    let less : i < c = omega (arith, h, other) in
+    let here : get_or (take c ds) i (pos 0) ≡ get_or ds i (pos 0) = get_or-take c ds i (pos 0) less in
+    let within : IsWithin w (get_or ds i (pos 0)) = subst (λ (z : ℤ). IsWithin w z) here
+    (All-get_or (IsWithin w) (take c ds) i (pos 0) (omega (arith, less, long)) range) in
+    get_or-take c cut i (pos 0) less
+    ∙ same.1 i (omega (arith, less, few)) (shorter w (get_or ds i (pos 0)) short within) ∙ sym here)
 
 -- no word takes more than seven
 pub fullest_few : (s : Scheme) (ds : List ℤ) (code word used : ℕ) → IsFullest s ds code word used → used ≤ 7
@@ -254,9 +301,13 @@ pub rest_of : (ds left : List ℤ) (at : ℕ) → left ≡ drop (length ds - len
     → drop at left ≡ drop (length ds - length left + at) ds
 rest_of ds left at e = ap (λ (xs : List ℤ). drop at xs) e ∙ drop-drop at (length ds - length left) ds
 
+-- the rest of a list whose length is known
+pub rest_long : (n at : ℕ) (xs : List ℤ) → length xs ≡ n → take (n - at) (drop at xs) ≡ drop at xs
+rest_long n at xs long = subst (λ (m : ℕ). take (m - at) (drop at xs) ≡ drop at xs) long (take_rest xs at)
+
 -- where two or more are held, the place is one of which is reported
-pub word_known : (s : Scheme) (ds : List ℤ) (most : List ℕ) (at held : ℕ) → Tells s ds most → at ≤ 64
-    → held ≡ get_or most at 0 → 2 ≤ held → at < 57
-word_known s ds most at held reported to e some = ⊎_elim (λ (h : at < 57). h)
+pub word_known : (s : Scheme) (ds : List ℤ) (most : List ℕ) (cut : List ℤ) (at held : ℕ) → Tells s ds most cut
+    → at ≤ 64 → held ≡ get_or most at 0 → 2 ≤ held → at < 57
+word_known s ds most cut at held reported to e some = ⊎_elim (λ (h : at < 57). h)
     (λ (h : 57 ≤ at). absurd (omega (arith, some, e, reported.1 at h (omega (arith, to)))))
     (cases_lt at 57)

@@ -1,14 +1,18 @@
 -- Differences side by side in a word.
 use Rattle.std.proofs.Common.{◌≡◌, ℕ, zero, suc, ◌+◌, ◌-◌, ◌*◌, ◌/◌, ◌%◌, ◌^◌, ◌<◌, ◌≤◌, List, [], ◌∷◌, ◌++◌, length}
-use Rattle.std.proofs.Common.{take, get_or, ℤ, pos, negsuc, arith, refl, ap, sym, ⊎_elim, if◌then◌else◌, nat_lt, ◌∙◌}
-use Rattle.std.proofs.Common.{length-append, bit_and, bit_or, Fits, w32, of_z, FitsSigned, lit<, zero-add}
+use Rattle.std.proofs.Common.{take, get_or, ℤ, pos, negsuc, arith, refl, ap, sym, subst, ⊎_elim, if◌then◌else◌, nat_lt}
+use Rattle.std.proofs.Common.{◌∙◌, length-append, bit_and, bit_or, Fits, w16, w32, of_z, to_z, FitsSigned, lit<}
+use Rattle.std.proofs.Common.{zero-add}
 use Rattle.std.proofs.Math.Nat.{pow-le-pow_right, mod-eq_of_lt, mul-le-mul_left, add-mul, mul-add, mul_assoc, mul-suc}
 use Rattle.std.proofs.Math.Nat.{mul-zero}
 use Rattle.std.proofs.lemmas.Nat.{one_shl, and_mask, or_shifted, pow_pos, pow-add, shl_whole, shr_below, mod_below}
-use Rattle.std.proofs.lemmas.Nat.{mod_low, div-add-mod'}
+use Rattle.std.proofs.lemmas.Nat.{mod_low, div-add-mod', mul-mod_first, mul-mod_second}
 use Rattle.std.proofs.lemmas.Bool.{cases_lt, lt-ltb, le-ltb}
+use Rattle.std.proofs.lemmas.Int.{to_z-of_z}
 use Rattle.std.proofs.lemmas.List.{take_more, take_all, length-take, length-take-le, get_or-take}
 use Rattle.mseed_steim.specs.Spelling.{residue, positional}
+use Rattle.mseed_steim.specs.private.Ahead.{bits_of}
+use Rattle.mseed_steim.specs.private.Rows.{place_of}
 use Rattle.mseed_steim.proofs.Words.{positional_lt, residue_lt}
 
 -- one more difference
@@ -38,24 +42,54 @@ pub joined_fits : (w : ℕ) (ds : List ℤ) (i word : ℕ) → w * length ds ≤
 joined_fits w ds i word h e = record { fits = rw e (prefix_lt w i 32 ds h) }
 
 -- a number's low bits in two's complement
-low_bits : (w n : ℕ) → w ≤ 32 → n < 2 ^ 31 → (2 ^ 32 - suc n) % 2 ^ w ≡ 2 ^ w - 1 - n % 2 ^ w
-low_bits w n h small =
-    let bits : 32 - w + w ≡ 32 = omega (arith, h) in
-    let whole : 2 ^ (32 - w) * 2 ^ w ≡ 2 ^ 32 = sym (pow-add 2 (32 - w) w) ∙ ap (λ (i : ℕ). 2 ^ i) bits in
-    let high : n / 2 ^ w < 2 ^ (32 - w) = shr_below n (32 - w) w (rw bits (omega (arith, small))) in
+low_bits : (b w n : ℕ) → w ≤ b → n < 2 ^ b → (2 ^ b - suc n) % 2 ^ w ≡ 2 ^ w - 1 - n % 2 ^ w
+low_bits b w n h small =
+    let bits : b - w + w ≡ b = omega (arith, h) in
+    let whole : 2 ^ (b - w) * 2 ^ w ≡ 2 ^ b = sym (pow-add 2 (b - w) w) ∙ ap (λ (i : ℕ). 2 ^ i) bits in
+    let high : n / 2 ^ w < 2 ^ (b - w) = shr_below n (b - w) w (rw bits small) in
     let low : n % 2 ^ w < 2 ^ w = mod_below n (2 ^ w) (pow_pos w) in
-    let left = 2 ^ (32 - w) - 1 - n / 2 ^ w in
-    let all : left + n / 2 ^ w + 1 ≡ 2 ^ (32 - w) = omega (arith, high) in
+    let left = 2 ^ (b - w) - 1 - n / 2 ^ w in
+    let all : left + n / 2 ^ w + 1 ≡ 2 ^ (b - w) = omega (arith, high) in
     let sum : (left + n / 2 ^ w + 1) * 2 ^ w ≡ left * 2 ^ w + n / 2 ^ w * 2 ^ w + 2 ^ w =
     add-mul (left + n / 2 ^ w) 1 (2 ^ w) ∙ (let part = add-mul left (n / 2 ^ w) (2 ^ w) in omega (arith, part)) in
     let total = rw all at sum in
     let cut : n / 2 ^ w * 2 ^ w + n % 2 ^ w ≡ n = div-add-mod' n (2 ^ w) in
-    let other : 2 ^ 32 - suc n ≡ left * 2 ^ w + (2 ^ w - 1 - n % 2 ^ w) = omega (arith, total, whole, cut, low) in
+    let other : 2 ^ b - suc n ≡ left * 2 ^ w + (2 ^ w - 1 - n % 2 ^ w) = omega (arith, total, whole, cut, low) in
     rw other (mod_low left w (2 ^ w - 1 - n % 2 ^ w) (omega (arith, low)))
 
 digit_of : (w : ℕ) (d : ℤ) → w ≤ 32 → FitsSigned w32 d → of_z w32 d % 2 ^ w ≡ residue (2 ^ w) d
 digit_of w (pos n) h f = refl
-digit_of w (negsuc n) h f = low_bits w n h (omega (arith, f.sfits))
+digit_of w (negsuc n) h f = low_bits 32 w n h (omega (arith, f.sfits))
+
+half_digit : (w : ℕ) (d : ℤ) → w ≤ 16 → FitsSigned w16 d → of_z w16 d % 2 ^ w ≡ residue (2 ^ w) d
+half_digit w (pos n) h f = refl
+half_digit w (negsuc n) h f = low_bits 16 w n h (omega (arith, f.sfits))
+
+-- a digit of numbers of 16 bits, in one of 32
+pub digit_in : (w : ℕ) (d m : ℤ) → w ≤ 15 → FitsSigned w16 d → m ≡ pos (2 ^ w - 1)
+    → of_z w32 (to_z w32 (of_z w32 (to_z w16 (bit_and (of_z w16 d) (of_z w16 m))))) ≡ residue (2 ^ w) d
+digit_in w d m h f e =
+    let r = residue (2 ^ w) d in
+    let most : 2 ^ w ≤ 2 ^ 15 = pow-le-pow_right (lit< tt) h in
+    let small : r < 32768 = omega (arith, residue_lt (2 ^ w) d (pow_pos w), most) in
+    let digit : bit_and (of_z w16 d) (of_z w16 m) ≡ r = ap (λ (x : ℤ). bit_and (of_z w16 d) (of_z w16 x)) e
+    ∙ and_mask (of_z w16 d) w ∙ half_digit w d (omega (arith, h)) f in
+    let short : to_z w16 r ≡ pos r = rw (lt-ltb r 32768 small) refl in
+    let long : to_z w32 r ≡ pos r = rw (lt-ltb r 2147483648 (omega (arith, small))) refl in
+    ap (λ (x : ℕ). of_z w32 (to_z w32 (of_z w32 (to_z w16 x)))) digit
+    ∙ ap (λ (x : ℤ). of_z w32 (to_z w32 (of_z w32 x))) short ∙ ap (λ (x : ℤ). of_z w32 x) long
+
+bits_are : (z : ℤ) → of_z w32 z ≡ bits_of z
+bits_are (pos n) = refl
+bits_are (negsuc n) = omega arith
+
+-- the bits of a number of 16, in one of 32
+pub bits_in : (z : ℤ) → FitsSigned w16 z
+    → of_z w32 (to_z w32 (of_z w32 (to_z w16 (of_z w16 z)))) ≡ bits_of z
+bits_in z f =
+    let long : FitsSigned w32 z = record { sfits = omega (arith, f.sfits) } in
+    ap (λ (x : ℤ). of_z w32 (to_z w32 (of_z w32 x))) (to_z-of_z w16 z f)
+    ∙ ap (λ (x : ℤ). of_z w32 x) (to_z-of_z w32 z long) ∙ bits_are z
 
 pub joined_more : (w : ℕ) (ds : List ℤ) (i word digit : ℕ) → 0 < w → w ≤ 32 → w * length ds ≤ 32 → i < length ds
     → word ≡ positional w (take i ds) → FitsSigned w32 (get_or ds i (pos 0)) → digit ≡ of_z w32 (get_or ds i (pos 0))
@@ -87,9 +121,9 @@ placed_none w c ds = omega arith
 
 -- one that is of the word
 placed_more : (w c i : ℕ) (ds : List ℤ) (word digit : ℕ) → 0 < w → w ≤ 32 → w * c ≤ 32 → c ≤ length ds → i < c
-    → Placed w c ds i word → FitsSigned w32 (get_or ds i (pos 0)) → digit ≡ of_z w32 (get_or ds i (pos 0))
-    → Placed w c ds (i + 1) ((word + digit % 2 ^ w * 2 ^ (w * (c - 1 - i)) % 2 ^ 32) % 2 ^ 32)
-placed_more w c i ds word digit p n room inside less e f q =
+    → Placed w c ds i word → digit ≡ residue (2 ^ w) (get_or ds i (pos 0))
+    → Placed w c ds (i + 1) ((word + digit * 2 ^ (w * (c - 1 - i)) % 2 ^ 32) % 2 ^ 32)
+placed_more w c i ds word digit p n room inside less e digit_is =
     let prefix = take c ds in
     let d = get_or ds i (pos 0) in
     let r = residue (2 ^ w) d in
@@ -97,7 +131,6 @@ placed_more w c i ds word digit p n room inside less e f q =
     let rest = w * (c - 1 - i) in
     let long : length prefix ≡ c = length-take-le c ds inside in
     let same : get_or prefix i (pos 0) ≡ d = get_or-take c ds i (pos 0) less in
-    let digit_is : digit % 2 ^ w ≡ r = ap (λ (x : ℕ). x % 2 ^ w) q ∙ digit_of w d n f in
     let low : r < 2 ^ w = residue_lt (2 ^ w) d (pow_pos w) in
     let grown : positional w (take (i + 1) prefix) ≡ before * 2 ^ w + r =
     ap (λ (l : List ℤ). positional w l) (take_more prefix i (pos 0) (omega (arith, long, less))
@@ -141,16 +174,66 @@ placed_over w c i ds word room inside over e =
     let short : positional w prefix < 2 ^ 32 = omega (arith, positional_lt w prefix, most) in
     rw (next, none_left, one, word_is) (omega (arith, short))
 
+placed_step : (w c i : ℕ) (ds : List ℤ) (word digit place : ℕ) → 0 < w → w ≤ 32 → w * c ≤ 32 → c ≤ length ds
+    → Placed w c ds i word → digit ≡ residue (2 ^ w) (get_or ds i (pos 0)) → place ≡ place_of w c i
+    → Placed w c ds (i + 1) ((word + digit * place % 2 ^ 32) % 2 ^ 32)
+placed_step w c i ds word digit place p n room inside e q h = ⊎_elim
+    (λ (less : i < c). rw (h, lt-ltb i c less) (placed_more w c i ds word digit p n room inside less e q))
+    (λ (over : c ≤ i). rw (h, le-ltb i c over, mul-zero digit) (placed_over w c i ds word room inside over e))
+    (cases_lt i c)
+
 pub placed_next : (w c i : ℕ) (ds : List ℤ) (word digit mask place : ℕ) → 0 < w → w ≤ 32 → w * c ≤ 32 → c ≤ length ds
     → Placed w c ds i word → FitsSigned w32 (get_or ds i (pos 0)) → digit ≡ of_z w32 (get_or ds i (pos 0))
     → mask ≡ 2 ^ w - 1 → place ≡ (if nat_lt i c then 2 ^ (w * (c - 1 - i)) else 0)
     → Placed w c ds (i + 1) ((word + bit_and digit mask * place % 2 ^ 32) % 2 ^ 32)
-placed_next w c i ds word digit mask place p n room inside e f q m h = ⊎_elim
-    (λ (less : i < c). rw (m, and_mask, h, lt-ltb i c less)
-    (placed_more w c i ds word digit p n room inside less e f q))
-    (λ (over : c ≤ i). rw (h, le-ltb i c over, mul-zero (bit_and digit mask))
-    (placed_over w c i ds word room inside over e))
-    (cases_lt i c)
+placed_next w c i ds word digit mask place p n room inside e f q m h =
+    placed_step w c i ds word (bit_and digit mask) place p n room inside e
+    (ap (λ (x : ℕ). bit_and digit x) m ∙ and_mask digit w ∙ ap (λ (x : ℕ). x % 2 ^ w) q
+    ∙ digit_of w (get_or ds i (pos 0)) n f) h
+
+-- two products of a pair, by what the pair counts for
+pair_is : (a b u v n p q : ℕ) → u * n % 4294967296 ≡ p → v * n % 4294967296 ≡ q
+    → (b * v % 4294967296 + a * u % 4294967296) % 4294967296 * n % 4294967296
+    ≡ (a * p % 4294967296 + b * q % 4294967296) % 4294967296
+pair_is a b u v n p q e f =
+    let first : a * u * n % 4294967296 ≡ a * p % 4294967296 = ap (λ (x : ℕ). x % 4294967296) (mul_assoc a u n)
+    ∙ sym (mul-mod_second a (u * n) 4294967296) ∙ ap (λ (x : ℕ). a * x % 4294967296) e in
+    let second : b * v * n % 4294967296 ≡ b * q % 4294967296 = ap (λ (x : ℕ). x % 4294967296) (mul_assoc b v n)
+    ∙ sym (mul-mod_second b (v * n) 4294967296) ∙ ap (λ (x : ℕ). b * x % 4294967296) f in
+    let both : (b * v % 4294967296 + a * u % 4294967296) % 4294967296 ≡ (b * v + a * u) % 4294967296 =
+    sum_mod (b * v) (a * u) in
+    let whole : (b * v % 4294967296 + a * u % 4294967296) % 4294967296 * n % 4294967296
+    ≡ (b * v * n + a * u * n) % 4294967296 = ap (λ (x : ℕ). x * n % 4294967296) both
+    ∙ mul-mod_first (b * v + a * u) n 4294967296 ∙ ap (λ (x : ℕ). x % 4294967296) (add-mul (b * v) (a * u) n) in
+    whole ∙ turned (a * u * n) (b * v * n) (a * p) (b * q) first second
+  where
+    sum_mod : (x y : ℕ) → (x % 4294967296 + y % 4294967296) % 4294967296 ≡ (x + y) % 4294967296
+    sum_mod x y = omega arith
+
+    turned : (x y s t : ℕ) → x % 4294967296 ≡ s % 4294967296 → y % 4294967296 ≡ t % 4294967296
+        → (y + x) % 4294967296 ≡ (s % 4294967296 + t % 4294967296) % 4294967296
+    turned x y s t h k = omega (arith, h, k)
+
+sum_next : (word x y t : ℕ) → t ≡ (x % 4294967296 + y % 4294967296) % 4294967296
+    → ((word + x % 4294967296) % 4294967296 + y % 4294967296) % 4294967296 ≡ (word + t) % 4294967296
+sum_next word x y t e = omega (arith, e)
+
+pub placed_pair : (w c i : ℕ) (ds : List ℤ) (word u v n : ℕ) → 0 < w → w ≤ 32 → w * c ≤ 32 → c ≤ length ds
+    → Placed w c ds i word → u * n % 4294967296 ≡ place_of w c i → v * n % 4294967296 ≡ place_of w c (i + 1)
+    → Placed w c ds (i + 2) ((word + (residue (2 ^ w) (get_or ds (i + 1) (pos 0)) * v % 4294967296
+    + residue (2 ^ w) (get_or ds i (pos 0)) * u % 4294967296) % 4294967296 * n % 4294967296) % 4294967296)
+placed_pair w c i ds word u v n p l room inside e a b =
+    let d = residue (2 ^ w) (get_or ds i (pos 0)) in
+    let z = residue (2 ^ w) (get_or ds (i + 1) (pos 0)) in
+    let first = placed_step w c i ds word d (place_of w c i) p l room inside e refl refl in
+    let second = placed_step w c (i + 1) ds _ z (place_of w c (i + 1)) p l room inside first refl refl in
+    let pair = pair_is d z u v n (place_of w c i) (place_of w c (i + 1)) a b in
+    let whole = (word + (z * v % 4294967296 + d * u % 4294967296) % 4294967296 * n % 4294967296) % 4294967296 in
+    let words : ((word + d * place_of w c i % 4294967296) % 4294967296 + z * place_of w c (i + 1) % 4294967296)
+    % 4294967296 ≡ whole = sum_next word (d * place_of w c i) (z * place_of w c (i + 1)) _ pair in
+    let at : i + 1 + 1 ≡ i + 2 = omega arith in
+    let next = subst (λ (x : ℕ). Placed w c ds (i + 1 + 1) x) words second in
+    subst (λ (k : ℕ). Placed w c ds k whole) at next
 
 -- all of them have been joined
 pub placed_all : (w c : ℕ) (ds : List ℤ) (i word : ℕ) → c ≤ i → Placed w c ds i word → word ≡ positional w (take c ds)

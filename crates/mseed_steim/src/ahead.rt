@@ -5,14 +5,15 @@ ghost use Rattle.std.specs.Prelude.{slice_index_or};
 ghost use Rattle.std.specs.Simd.Lanes.{Each1};
 ghost use Rattle.mseed_steim.specs.declared.scheme.Scheme.TheVariants.{One, Two};
 ghost use Rattle.mseed_steim.specs.private.Ahead.{near_size, size_of, raised, most_one, most_two, most_with};
-ghost use Rattle.mseed_steim.specs.private.Ahead.{IsAhead, IsMost, Tells};
+ghost use Rattle.mseed_steim.specs.private.Ahead.{AreSame, IsAhead, IsMost, Tells};
+ghost use Rattle.mseed_steim.specs.Spelling.{IsWithin};
 
 use crate::lanes::{Rows, look_up};
 use crate::scheme::Scheme;
 use std::simd::prelude::*;
 
 /// How many differences are looked at ahead.
-const AHEAD: usize = 64;
+pub(crate) const AHEAD: usize = 64;
 
 /// How many places are reported: for a word eight differences are read.
 pub(crate) const KNOWN: usize = AHEAD - 7;
@@ -22,6 +23,9 @@ pub(crate) const ROOM: usize = AHEAD + 16;
 
 /// By place, the most differences that are held from there on.
 pub(crate) type Most = [u8; ROOM];
+
+/// Differences cut off at 16 bits.
+pub(crate) type Cut = [i16; AHEAD];
 
 /// Half the size of a difference, or 32767 where that is larger.
 #[inline(always)]
@@ -39,7 +43,8 @@ fn half_size(difference: i32) -> u16
 /// A difference, or the nearest to it of the numbers of 16 bits.
 #[inline(always)]
 fn cut_off(difference: i32) -> i16
-    ensures { size_of result ≡ near_size Two difference }
+    ensures near { size_of result ≡ near_size Two difference }
+    ensures same { IsWithin 16 difference → result ≡ difference }
 {
     if difference < -32768 {
         -32768
@@ -72,10 +77,11 @@ fn put_half_sizes(diffs: &[i32], sizes: &mut [u16; AHEAD])
 
 /// So many differences, cut off at 16 bits.
 #[inline(always)]
-fn put_cut(diffs: &[i32], cut: &mut [i16; AHEAD])
+fn put_cut(diffs: &[i32], cut: &mut Cut)
     requires { 64 ≤ length diffs.now }
-    ensures { (i : ℕ) → i < 64
+    ensures near { (i : ℕ) → i < 64
         → size_of (slice_index_or cut.new i (pos 0)) ≡ near_size Two (slice_index_or diffs.now i (pos 0)) }
+    ensures same { AreSame 64 diffs.now cut.new }
 {
     for index in 0..AHEAD {
         cut[index] = cut_off(diffs[index]);
@@ -84,7 +90,7 @@ fn put_cut(diffs: &[i32], cut: &mut [i16; AHEAD])
 
 /// The sizes of so many numbers of 16 bits.
 #[inline(always)]
-fn put_each_size(numbers: &[i16; AHEAD], sizes: &mut [u16; AHEAD])
+fn put_each_size(numbers: &Cut, sizes: &mut [u16; AHEAD])
     ensures { (i : ℕ) → i < 64 → slice_index sizes.new i ≡ size_of (slice_index_or numbers.now i (pos 0)) }
 {
     for index in 0..AHEAD {
@@ -95,16 +101,17 @@ fn put_each_size(numbers: &[i16; AHEAD], sizes: &mut [u16; AHEAD])
 /// The sizes of so many differences, in Steim-1 half of them; 32767 where that is larger. In Steim-2 the differences
 /// are cut off at 16 bits before anything else, in a loop of their own, so that sizes are found eight at once.
 #[inline(always)]
-fn put_sizes(scheme: Scheme, diffs: &[i32], sizes: &mut [u16; AHEAD])
+fn put_sizes(scheme: Scheme, diffs: &[i32], cut: &mut Cut, sizes: &mut [u16; AHEAD])
     requires { 64 ≤ length diffs.now }
-    ensures { (i : ℕ) → i < 64 → slice_index sizes.new i ≡ near_size scheme (slice_index_or diffs.now i (pos 0)) }
+    ensures sizes { (i : ℕ) → i < 64
+        → slice_index sizes.new i ≡ near_size scheme (slice_index_or diffs.now i (pos 0)) }
+    ensures cut { scheme ≡ Two → AreSame 64 diffs.now cut.new }
 {
     match scheme {
         Scheme::One => put_half_sizes(diffs, sizes),
         Scheme::Two => {
-            let mut cut = [0; AHEAD];
-            put_cut(diffs, &mut cut);
-            put_each_size(&cut, sizes);
+            put_cut(diffs, cut);
+            put_each_size(cut, sizes);
         }
     }
 }
@@ -214,13 +221,14 @@ fn bound(held: &mut Most)
 }
 
 /// The most differences that are held from each of the first 57 places on; nothing is reported of others.
-fn look_ahead(scheme: Scheme, diffs: &[i32], most: &mut Most)
+fn look_ahead(scheme: Scheme, diffs: &[i32], most: &mut Most, cut: &mut Cut)
     requires { 64 ≤ length diffs.now }
     ensures ahead { (i : ℕ) → i < 80 → IsAhead scheme (drop i diffs.now) (slice_index most.new i) }
     ensures none { (i : ℕ) → 57 ≤ i → i < 80 → slice_index most.new i ≡ 0 }
+    ensures cut { scheme ≡ Two → AreSame 64 diffs.now cut.new }
 {
     let mut sizes = [0; AHEAD];
-    put_sizes(scheme, diffs, &mut sizes);
+    put_sizes(scheme, diffs, cut, &mut sizes);
     put_most(scheme, &sizes, most);
     bound(most);
     for index in KNOWN..ROOM {
@@ -229,13 +237,14 @@ fn look_ahead(scheme: Scheme, diffs: &[i32], most: &mut Most)
 }
 
 /// The most differences that are held from each of the first 57 places on; less than two where nothing is known of
-/// them: at others, and where fewer than 64 differences are left.
-pub(crate) fn look(scheme: Scheme, diffs: &[i32], most: &mut Most)
-    ensures { Tells scheme diffs.now most.new }
+/// them: at others, and where fewer than 64 differences are left. In Steim-2 those of which anything is known are cut
+/// off at 16 bits besides.
+pub(crate) fn look(scheme: Scheme, diffs: &[i32], most: &mut Most, cut: &mut Cut)
+    ensures { Tells scheme diffs.now most.new cut.new }
 {
     if diffs.len() < AHEAD {
         *most = [0; ROOM];
         return;
     }
-    look_ahead(scheme, diffs, most);
+    look_ahead(scheme, diffs, most, cut);
 }

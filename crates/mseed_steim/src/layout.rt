@@ -1,36 +1,70 @@
 //! How the rows of the table lay their differences out in a word, and words of them that are joined at once.
 
-ghost use Rattle.std.specs.Prelude.{◌≡◌, ◌*◌, ◌+◌, ◌<◌, ◌≤◌, ◌^◌, Some, length, take};
-ghost use Rattle.mseed_steim.specs.private.Ahead.{IsLayout, IsAhead, taken};
+ghost use Rattle.std.specs.Prelude.{◌≡◌, ◌*◌, ◌+◌, ◌%◌, ◌^◌, ◌<◌, ◌≤◌, List, ℤ, Some, length, pos, slice_index_or};
+ghost use Rattle.std.specs.Prelude.{take};
+ghost use Rattle.mseed_steim.specs.private.Ahead.{AreCut, IsAhead, IsCut, IsLayoutOne, IsLayoutTwo, bits_of, taken};
 ghost use Rattle.mseed_steim.specs.Packing.{IsFullest};
 ghost use Rattle.mseed_steim.specs.private.Rows.{row_for};
-ghost use Rattle.mseed_steim.specs.Spelling.{positional};
+ghost use Rattle.mseed_steim.specs.Spelling.{positional, residue};
 ghost use Rattle.mseed_steim.specs.declared.row.Row.{Row};
+ghost use Rattle.mseed_steim.specs.declared.scheme.Scheme.TheVariants.{One, Two};
 
 use crate::row::Row;
 use crate::scheme::Scheme;
 use crate::unpack::{LANES, lanes_of};
 
-/// How the differences of a row are joined.
-struct Layout {
+/// How the differences of a row of Steim-1 are joined.
+struct LayoutOne {
     /// The bits of one difference, in each lane.
     masks: [u32; LANES],
     /// What each difference counts for; nothing behind the last.
     places: [u32; LANES],
     row: Row,
-    /// The dnib where it stands in a word.
-    head: u32,
     /// Makes it 128 bytes, so that a row is found by a shift, and begins it at a multiple of 16, so that the lanes are
     /// read where they are used.
     spare: [u128; 2],
 }
 
-/// The layout of a row: its code, its dnib, how many differences it has and of how many bits, and the rest.
-macro_rules! layout {
-    ($code:literal, $dnib:literal, $count:literal of $width:literal, $mask:literal, $head:literal, $places:expr) => {
-        Layout {
+/// How the differences of a row of Steim-2 are joined, two and two of them, where each has 15 bits at the most.
+struct LayoutTwo {
+    /// The bits of one difference, in each lane.
+    masks: [i16; LANES],
+    /// What each difference counts for in its pair.
+    weights: [i16; LANES],
+    /// What each pair counts for. That and the weights are such that a difference behind the last counts for nothing.
+    counts: [u32; LANES / 2],
+    row: Row,
+    /// The dnib where it stands in a word.
+    head: u32,
+    /// As in the other.
+    spare: [u128; 3],
+}
+
+/// The layout of a row of Steim-1: its code, how many differences it has and of how many bits, and the rest.
+macro_rules! layout_one {
+    ($code:literal, $count:literal of $width:literal, $mask:literal, $places:expr) => {
+        LayoutOne {
             masks: [$mask; LANES],
             places: $places,
+            row: Row {
+                code: $code,
+                dnib: 0,
+                count: $count,
+                width: $width,
+            },
+            spare: [0; 2],
+        }
+    };
+}
+
+/// The layout of a row of Steim-2: its code, its dnib, how many differences it has and of how many bits, and the rest.
+macro_rules! layout_two {
+    ($code:literal, $dnib:literal, $count:literal of $width:literal, $mask:literal, $head:literal, $weights:expr,
+        $counts:expr) => {
+        LayoutTwo {
+            masks: [$mask; LANES],
+            weights: $weights,
+            counts: $counts,
             row: Row {
                 code: $code,
                 dnib: $dnib,
@@ -38,86 +72,158 @@ macro_rules! layout {
                 width: $width,
             },
             head: $head,
-            spare: [0; 2],
+            spare: [0; 3],
         }
     };
 }
 
 /// Where no word holds so many.
-const NO_LAYOUT: Layout = layout!(0, 0, 0 of 0, 0, 0, [0, 0, 0, 0, 0, 0, 0, 0]);
+const NO_LAYOUT_ONE: LayoutOne = layout_one!(0, 0 of 0, 0, [0, 0, 0, 0, 0, 0, 0, 0]);
 
-/// The layouts of Steim-2, by how many differences of the next are held by the words that hold each.
-static LAYOUTS_TWO: [Layout; LANES] = [
-    NO_LAYOUT,
-    layout!(2, 1, 1 of 30, 0x3FFF_FFFF, 0x4000_0000, [1, 0, 0, 0, 0, 0, 0, 0]),
-    layout!(2, 2, 2 of 15, 0x7FFF, 0x8000_0000, [0x8000, 1, 0, 0, 0, 0, 0, 0]),
-    layout!(2, 3, 3 of 10, 0x3FF, 0xC000_0000, [0x10_0000, 0x400, 1, 0, 0, 0, 0, 0]),
-    layout!(1, 0, 4 of 8, 0xFF, 0, [0x100_0000, 0x1_0000, 0x100, 1, 0, 0, 0, 0]),
-    layout!(3, 0, 5 of 6, 0x3F, 0, [0x100_0000, 0x4_0000, 0x1000, 0x40, 1, 0, 0, 0]),
-    layout!(3, 1, 6 of 5, 0x1F, 0x4000_0000, [0x200_0000, 0x10_0000, 0x8000, 0x400, 0x20, 1, 0, 0]),
-    layout!(3, 2, 7 of 4, 0xF, 0x8000_0000, [0x100_0000, 0x10_0000, 0x1_0000, 0x1000, 0x100, 0x10, 1, 0]),
+/// The same; and where a word holds one, which may have more than 15 bits.
+const NO_LAYOUT_TWO: LayoutTwo =
+    layout_two!(0, 0, 0 of 0, 0, 0, [0, 0, 0, 0, 0, 0, 0, 0], [0, 0, 0, 0]);
+
+/// The layouts of Steim-2, by how many differences of the next are held by the words that hold each. Of two, the first
+/// counts for 2^15, which a weight can't be: both weights are less than 0, and the pair counts for -1.
+static LAYOUTS_TWO: [LayoutTwo; LANES] = [
+    NO_LAYOUT_TWO,
+    NO_LAYOUT_TWO,
+    layout_two!(2, 2, 2 of 15, 0x7FFF, 0x8000_0000, [-0x8000, -1, 0, 0, 0, 0, 0, 0], [0xFFFF_FFFF, 0, 0, 0]),
+    layout_two!(2, 3, 3 of 10, 0x3FF, 0xC000_0000, [0x400, 1, 1, 0, 0, 0, 0, 0], [0x400, 1, 0, 0]),
+    layout_two!(1, 0, 4 of 8, 0xFF, 0, [0x100, 1, 0x100, 1, 0, 0, 0, 0], [0x1_0000, 1, 0, 0]),
+    layout_two!(3, 0, 5 of 6, 0x3F, 0, [0x40, 1, 0x40, 1, 1, 0, 0, 0], [0x4_0000, 0x40, 1, 0]),
+    layout_two!(3, 1, 6 of 5, 0x1F, 0x4000_0000, [0x20, 1, 0x20, 1, 0x20, 1, 0, 0], [0x10_0000, 0x400, 1, 0]),
+    layout_two!(3, 2, 7 of 4, 0xF, 0x8000_0000, [0x10, 1, 0x10, 1, 0x10, 1, 1, 0], [0x10_0000, 0x1000, 0x10, 1]),
 ];
 
 /// The same of Steim-1, which has words of 1, 2 and 4: of three it takes two.
-static LAYOUTS_ONE: [Layout; LANES] = [
-    NO_LAYOUT,
-    layout!(3, 0, 1 of 32, 0xFFFF_FFFF, 0, [1, 0, 0, 0, 0, 0, 0, 0]),
-    layout!(2, 0, 2 of 16, 0xFFFF, 0, [0x1_0000, 1, 0, 0, 0, 0, 0, 0]),
-    layout!(2, 0, 2 of 16, 0xFFFF, 0, [0x1_0000, 1, 0, 0, 0, 0, 0, 0]),
-    layout!(1, 0, 4 of 8, 0xFF, 0, [0x100_0000, 0x1_0000, 0x100, 1, 0, 0, 0, 0]),
-    NO_LAYOUT,
-    NO_LAYOUT,
-    NO_LAYOUT,
+static LAYOUTS_ONE: [LayoutOne; LANES] = [
+    NO_LAYOUT_ONE,
+    layout_one!(3, 1 of 32, 0xFFFF_FFFF, [1, 0, 0, 0, 0, 0, 0, 0]),
+    layout_one!(2, 2 of 16, 0xFFFF, [0x1_0000, 1, 0, 0, 0, 0, 0, 0]),
+    layout_one!(2, 2 of 16, 0xFFFF, [0x1_0000, 1, 0, 0, 0, 0, 0, 0]),
+    layout_one!(1, 4 of 8, 0xFF, [0x100_0000, 0x1_0000, 0x100, 1, 0, 0, 0, 0]),
+    NO_LAYOUT_ONE,
+    NO_LAYOUT_ONE,
+    NO_LAYOUT_ONE,
 ];
 
-/// The layout of a word by the most differences that are held.
+/// The layout of a word of Steim-1 by the most differences that are held.
 #[inline(always)]
-fn layout_of(scheme: Scheme, most: usize) -> &'static Layout
+fn layout_one(most: usize) -> &'static LayoutOne
     requires { most < 8 }
-    ensures { (r : Row) → row_for scheme (taken scheme most) ≡ Some r
-        → (result.now.row ≡ r) × IsLayout scheme result.now }
+    ensures { (r : Row) → row_for One (taken One most) ≡ Some r → (result.now.row ≡ r) × IsLayoutOne result.now }
 {
-    match scheme {
-        Scheme::One => &LAYOUTS_ONE[most],
-        Scheme::Two => &LAYOUTS_TWO[most],
-    }
+    &LAYOUTS_ONE[most]
 }
 
-/// The first differences of eight or more, as many as a row has. There is no branch on how many, which the processor
-/// could but guess: as many are joined as any word holds, be they of this one or not.
+/// The same of Steim-2, where two or more are held.
 #[inline(always)]
-fn join(scheme: Scheme, layout: &Layout, diffs: &[i32]) -> u32
+fn layout_two(most: usize) -> &'static LayoutTwo
+    requires some { 2 ≤ most }
+    requires few { most < 8 }
+    ensures layout { IsLayoutTwo result.now }
+    ensures row { (r : Row) → row_for Two most ≡ Some r → result.now.row ≡ r }
+{
+    &LAYOUTS_TWO[most]
+}
+
+/// The first differences of eight or more, as many as a row of Steim-1 has. There is no branch on how many, which the
+/// processor could but guess: as many are joined as any word holds, be they of this one or not.
+#[inline(always)]
+fn join_one(layout: &LayoutOne, diffs: &[i32]) -> u32
     requires eight { 8 ≤ length diffs.now }
-    requires layout { IsLayout scheme layout.now }
+    requires layout { IsLayoutOne layout.now }
     ensures { result ≡ positional layout.now.row.width (take layout.now.row.count diffs.now) }
 {
     let mut word = 0u32;
-    for index in 0..lanes_of(scheme) {
+    for index in 0..lanes_of(Scheme::One) {
         let digit = diffs[index].cast_unsigned() & layout.masks[index];
         word = word.wrapping_add(digit.wrapping_mul(layout.places[index]));
     }
     word
 }
 
-/// The fullest word, where it is known ahead: its code, its bits and how many differences it takes.
+/// What a difference counts for in its pair.
 #[inline(always)]
-pub(crate) fn word_ahead(scheme: Scheme, most: usize, diffs: &[i32]) -> (u8, u32, usize)
-    requires some { 2 ≤ most }
-    requires ahead { IsAhead scheme diffs.now most }
-    ensures { IsFullest scheme diffs.now result.0 result.1 result.2 }
+fn weighed(layout: &LayoutTwo, cut: &[i16], index: usize) -> u32
+    requires layout { IsLayoutTwo layout.now }
+    requires lane { index < 8 }
+    requires inside { index < length cut.now }
+    ensures { result ≡ residue (2 ^ layout.now.row.width) (slice_index_or cut.now index (pos 0))
+        * bits_of (slice_index_or layout.now.weights index (pos 0)) % 2 ^ 32 }
 {
-    let layout = layout_of(scheme, most);
-    let word = layout.head | join(scheme, layout, diffs);
-    (layout.row.code, word, taken(scheme, most))
+    let digit = i32::from(cut[index] & layout.masks[index]).cast_unsigned();
+    digit.wrapping_mul(i32::from(layout.weights[index]).cast_unsigned())
 }
 
-/// How many of so many that are held a word takes: Steim-1 has no word of three.
+/// The first of eight or more numbers of 16 bits, as many as a row of Steim-2 has.
 #[inline(always)]
-fn taken(scheme: Scheme, most: usize) -> usize
-    ensures { result ≡ taken scheme most }
+fn join_two(layout: &LayoutTwo, cut: &[i16]) -> u32
+    requires eight { 8 ≤ length cut.now }
+    requires layout { IsLayoutTwo layout.now }
+    ensures { result ≡ positional layout.now.row.width (take layout.now.row.count cut.now) }
+{
+    let mut word = 0u32;
+    for pair in 0..LANES / 2 {
+        // In this order LLVM has one instruction for both products and their sum.
+        let second = weighed(layout, cut, 2 * pair + 1);
+        let first = weighed(layout, cut, 2 * pair);
+        let both = second.wrapping_add(first);
+        word = word.wrapping_add(both.wrapping_mul(layout.counts[pair]));
+    }
+    word
+}
+
+/// The fullest word of Steim-1, where it is known ahead: its code, its bits and how many differences it takes.
+#[inline(always)]
+fn word_one(most: usize, diffs: &[i32]) -> (u8, u32, usize)
+    requires some { 2 ≤ most }
+    requires ahead { IsAhead One diffs.now most }
+    ensures { IsFullest One diffs.now result.0 result.1 result.2 }
+{
+    let layout = layout_one(most);
+    (layout.row.code, join_one(layout, diffs), taken_one(most))
+}
+
+/// How many of so many that are held a word of Steim-1 takes: there is none of three.
+#[inline(always)]
+fn taken_one(most: usize) -> usize
+    ensures { result ≡ taken One most }
+{
+    if most == 3 { 2 } else { most }
+}
+
+/// The same of Steim-2, by the differences cut off at 16 bits.
+#[inline(always)]
+fn word_two(most: usize, cut: &[i16]) -> (u8, u32, usize)
+    requires some { 2 ≤ most }
+    requires few { most < 8 }
+    requires eight { 8 ≤ length cut.now }
+    ensures { (ds : List ℤ) → IsAhead Two ds most → AreCut ds cut.now
+        → IsFullest Two ds result.0 result.1 result.2 }
+{
+    let layout = layout_two(most);
+    let word = layout.head | join_two(layout, cut);
+    (layout.row.code, word, most)
+}
+
+/// The fullest word, where it is known ahead; in Steim-2 by the differences cut off at 16 bits.
+#[inline(always)]
+pub(crate) fn word_ahead(
+    scheme: Scheme,
+    most: usize,
+    diffs: &[i32],
+    cut: &[i16],
+) -> (u8, u32, usize)
+    requires some { 2 ≤ most }
+    requires ahead { IsAhead scheme diffs.now most }
+    requires cut { IsCut scheme most diffs.now cut.now }
+    ensures { IsFullest scheme diffs.now result.0 result.1 result.2 }
 {
     match scheme {
-        Scheme::One if most == 3 => 2,
-        _ => most,
+        Scheme::One => word_one(most, diffs),
+        Scheme::Two => word_two(most, cut),
     }
 }

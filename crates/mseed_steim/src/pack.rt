@@ -5,14 +5,14 @@ ghost use Rattle.std.specs.Prelude.{Err, IfOk};
 ghost use Rattle.std.specs.Prelude.{MatchResult, length, take, drop};
 ghost use Rattle.std.specs.List.{AllByRecursion};
 ghost use Rattle.mseed_steim.specs.declared.scheme.Scheme.TheVariants.{Two};
-ghost use Rattle.mseed_steim.specs.private.Ahead.{IsAhead};
+ghost use Rattle.mseed_steim.specs.private.Ahead.{IsAhead, IsCut};
 ghost use Rattle.mseed_steim.specs.private.Packed.{IsRunPacked};
 ghost use Rattle.mseed_steim.specs.Frames.{code_at, data_words, word_at, word_count};
 ghost use Rattle.mseed_steim.specs.Packing.{IsEmptyWord, IsFarthest, IsFewest, IsFirstTooLarge, IsFullest};
 ghost use Rattle.mseed_steim.specs.Packing.{IsTooLargeAt, LeavesRoom, PacksRun};
 ghost use Rattle.mseed_steim.specs.Runs.{SpellsRun};
 
-use crate::ahead::{KNOWN, ROOM, look};
+use crate::ahead::{AHEAD, KNOWN, ROOM, look};
 use crate::data_words::{FRAME, WORD};
 use crate::layout::word_ahead;
 use crate::row::{fullest_row, word_of};
@@ -61,15 +61,21 @@ pub fn pack_word(scheme: Scheme, diffs: &[i32]) -> Result<(u8, u32, usize), TooL
 
 /// The same word, by the most differences that are held, where two or more are known to be.
 #[inline(always)]
-fn next_word(scheme: Scheme, most: usize, diffs: &[i32]) -> Result<(u8, u32, usize), TooLarge>
+fn next_word(
+    scheme: Scheme,
+    most: usize,
+    diffs: &[i32],
+    cut: &[i16],
+) -> Result<(u8, u32, usize), TooLarge>
     requires some { 0 < length diffs.now }
     requires ahead { IsAhead scheme diffs.now most }
+    requires cut { IsCut scheme most diffs.now cut.now }
     ensures fullest { IfOk result (λ word. IsFullest scheme diffs.now word.0 word.1 word.2) }
     ensures refused { MatchResult result (λ _. ¬ (IsTooLargeAt scheme diffs.now 0))
         (λ _. IsTooLargeAt scheme diffs.now 0) }
 {
     if 2 <= most {
-        return Ok(word_ahead(scheme, most, diffs));
+        return Ok(word_ahead(scheme, most, diffs, cut));
     }
     pack_word(scheme, diffs)
 }
@@ -115,7 +121,8 @@ fn pack_run(scheme: Scheme, diffs: &[i32], frames: &mut [u8]) -> Result<Packed, 
     let mut left = diffs;
     let mut at = 0;
     let mut most = [0; ROOM];
-    look(scheme, left, &mut most);
+    let mut cut = [0; AHEAD];
+    look(scheme, left, &mut most, &mut cut);
     while index < frames.len() / WORD {
         if index == head + FRAME {
             write_word(frames, head, codes);
@@ -132,11 +139,11 @@ fn pack_run(scheme: Scheme, diffs: &[i32], frames: &mut [u8]) -> Result<Packed, 
             if KNOWN <= at {
                 left = &left[at..];
                 at = 0;
-                look(scheme, left, &mut most);
+                look(scheme, left, &mut most, &mut cut);
                 continue;
             }
         }
-        let Ok((code, word, count)) = next_word(scheme, held, &left[at..]) else {
+        let Ok((code, word, count)) = next_word(scheme, held, &left[at..], &cut[at..]) else {
             let index = diffs.len() - left.len() + at;
             return Err(TooLargeAt { index });
         };

@@ -1,9 +1,11 @@
 -- How many differences words hold, by the sizes of single differences.
-use Rattle.std.specs.Prelude.{◌≡◌, ◌↔◌, ℕ, ◌+◌, ◌*◌, ◌/◌, ◌^◌, ◌<◌, ◌≤◌, ◌==◌, nat_lt, if◌then◌else◌, List, length}
-use Rattle.std.specs.Prelude.{drop, ℤ, pos, negsuc, slice_index_or, Some}
+use Rattle.std.specs.Prelude.{◌≡◌, ◌↔◌, ℕ, ◌+◌, ◌-◌, ◌*◌, ◌/◌, ◌%◌, ◌^◌, ◌<◌, ◌≤◌, ◌==◌, nat_lt, if◌then◌else◌}
+use Rattle.std.specs.Prelude.{List, length, drop, ℤ, pos, negsuc, slice_index_or, Some}
 use Rattle.mseed_steim.specs.declared.row.Row.{Row}
-use Rattle.mseed_steim.specs.declared.layout.Layout.{Layout}
-use Rattle.mseed_steim.specs.private.Rows.{row_for, AreMasks, ArePlaces, IsBestRow}
+use Rattle.mseed_steim.specs.declared.layout.LayoutOne.{LayoutOne}
+use Rattle.mseed_steim.specs.declared.layout.LayoutTwo.{LayoutTwo}
+use Rattle.mseed_steim.specs.Spelling.{IsWithin}
+use Rattle.mseed_steim.specs.private.Rows.{row_for, place_of, AreMasks, ArePlaces, IsBestRow}
 use Rattle.mseed_steim.specs.declared.scheme.Scheme.{Scheme}
 use Rattle.mseed_steim.specs.declared.scheme.Scheme.TheVariants.{One, Two}
 
@@ -52,15 +54,44 @@ IsAhead scheme ds most =
     2 ≤ most → (most ≤ 7) × (8 ≤ length ds)
     × ((row : Row) × ((row_for scheme (taken scheme most) ≡ Some row) × IsBestRow scheme ds (length ds) (Some row)))
 
--- a row's bits of one difference, its dnib where it stands in a word, and what its differences count for
-abbrev pub IsLayout : Scheme → Layout → Type 0
-IsLayout scheme layout =
-    (row_for scheme layout.row.count ≡ Some layout.row) × AreMasks layout.row.width layout.masks
-    × (layout.head ≡ layout.row.dnib * 2 ^ 30)
+-- a row's bits of one difference, and what its differences count for
+abbrev pub IsLayoutOne : LayoutOne → Type 0
+IsLayoutOne layout =
+    (row_for One layout.row.count ≡ Some layout.row) × (layout.row.dnib ≡ 0) × AreMasks layout.row.width layout.masks
     × ArePlaces layout.row.width layout.row.count layout.places
 
+-- a number's bits, of 32
+abbrev pub bits_of : ℤ → ℕ
+bits_of (pos n) = n
+bits_of (negsuc n) = 4294967295 - n
+
+-- A row's bits of one difference, 15 at the most, and its dnib where it stands in a word; by a weight and by what its
+-- pair counts for, each difference counts for what it does where they are side by side.
+pub record IsLayoutTwo (layout : LayoutTwo) : Type 0 where
+  pub row : row_for Two layout.row.count ≡ Some layout.row
+  pub short : layout.row.width ≤ 15
+  pub masks : (i : ℕ) → i < 8 → slice_index_or layout.masks i (pos 0) ≡ pos (2 ^ layout.row.width - 1)
+  pub head : layout.head ≡ layout.row.dnib * 2 ^ 30
+  pub places : (i : ℕ) → i < 8
+      → bits_of (slice_index_or layout.weights i (pos 0)) * slice_index_or layout.counts (i / 2) 0 % 2 ^ 32
+      ≡ place_of layout.row.width layout.row.count i
+
+-- the first n are those of the differences, where these have 16 bits at the most
+abbrev pub AreSame : ℕ → List ℤ → List ℤ → Type 0
+AreSame n ds cut = (i : ℕ) → i < n → IsWithin 16 (slice_index_or ds i (pos 0))
+    → slice_index_or cut i (pos 0) ≡ slice_index_or ds i (pos 0)
+
+-- there are eight, as far as they have 16 bits at the most
+abbrev pub AreCut : List ℤ → List ℤ → Type 0
+AreCut ds cut = (8 ≤ length cut) × AreSame 8 ds cut
+
+-- so there are where, in Steim-2, two or more are held
+abbrev pub IsCut : Scheme → ℕ → List ℤ → List ℤ → Type 0
+IsCut scheme most ds cut = scheme ≡ Two → 2 ≤ most → AreCut ds cut
+
 -- What was found from each of the first places on is so of the differences, and nothing is reported of the last places.
-abbrev pub Tells : Scheme → List ℤ → List ℕ → Type 0
-Tells scheme ds most =
+abbrev pub Tells : Scheme → List ℤ → List ℕ → List ℤ → Type 0
+Tells scheme ds most cut =
     ((i : ℕ) → i < 80 → IsAhead scheme (drop i ds) (slice_index_or most i 0))
     × ((i : ℕ) → 57 ≤ i → i < 80 → slice_index_or most i 0 ≡ 0)
+    × ((i : ℕ) → i < 80 → IsCut scheme (slice_index_or most i 0) (drop i ds) (drop i cut))

@@ -43,10 +43,12 @@ IsBestRow scheme ds high (Some row) =
     (row_for scheme row.count ≡ Some row) × (row.count ≤ high) × All (IsWithin row.width) (take row.count ds)
     × NoneSpelled scheme ds row.count high
 
--- what each difference of a word counts for where it holds so many of a width, the last one for 1; nothing behind them
+-- what a difference of a word counts for where it holds so many of a width, the last one for 1; nothing behind them
+abbrev pub place_of : ℕ → ℕ → ℕ → ℕ
+place_of width count i = if nat_lt i count then 2 ^ (width * (count - 1 - i)) else 0
+
 abbrev pub ArePlaces : ℕ → ℕ → List ℕ → Type 0
-ArePlaces width count places = (i : ℕ) → i < 8
-    → slice_index_or places i 0 ≡ (if nat_lt i count then 2 ^ (width * (count - 1 - i)) else 0)
+ArePlaces width count places = (i : ℕ) → i < 8 → slice_index_or places i 0 ≡ place_of width count i
 
 -- the bits of one difference of a width, in each lane
 abbrev pub AreMasks : ℕ → List ℕ → Type 0

@@ -1,10 +1,11 @@
-use Rattle.std.proofs.Common.{◌≡◌, ◌<◌, ◌≤◌, ◌∙◌, ℕ, arith, rules, ap, sym, get_or, pos, length, ⊎_elim}
+use Rattle.std.proofs.Common.{◌≡◌, ◌<◌, ◌≤◌, ◌∙◌, ℕ, arith, rules, ap, sym, subst, get_or, pos, length, ⊎_elim}
 use Rattle.std.proofs.Common.{FitsSigned, w16, w32}
 use Rattle.std.proofs.lemmas.Bool.{cases_lt}
 use Rattle.std.proofs.lemmas.Grind.{get_or-set_at}
 use Rattle.std.proofs.lemmas.Int.{to_z-of_z}
 use Rattle.std.proofs.lemmas.List.{get_or-set_other}
 use Rattle.mseed_steim.specs.declared.scheme.Scheme.TheVariants.{Two}
+use Rattle.mseed_steim.specs.Spelling.{IsWithin}
 use Rattle.mseed_steim.specs.private.Ahead.{near_size, size_of}
 use Rattle.mseed_steim.proofs.ahead.put_cut.Goals as goal
 
@@ -18,9 +19,20 @@ loop-index-preserved c =
     let fits : FitsSigned w16 value = search rules in
     let held : FitsSigned w32 (get_or diffs index (pos 0)) = search rules in
     let said : size_of value ≡ near_size Two (get_or diffs index (pos 0)) =
-    rw (to_z-of_z w32 (get_or diffs index (pos 0)) held) at c.cut_off.ensures in
+    rw (to_z-of_z w32 (get_or diffs index (pos 0)) held) at c.cut_off.ensures.near in
+    let kept : IsWithin 16 (get_or diffs index (pos 0)) → value ≡ get_or diffs index (pos 0) =
+    rw (to_z-of_z w32 (get_or diffs index (pos 0)) held) at c.cut_off.ensures.same in
     rw (to_z-of_z w16 value fits) (record {
       room = search rules;
+      same = λ i h within. ⊎_elim
+          (λ (less : i < index). get_or-set_other cut index i value (pos 0) (λ e. omega (arith, e, less))
+          ∙ c.loop-index.invariant.same i less within)
+          (λ (more : index ≤ i).
+          let at : i ≡ index = omega (arith, h, more) in
+          get_or-set_at cut index i value (pos 0) at (omega (arith, long, c.loop-index-test.true))
+          ∙ kept (subst (λ (n : ℕ). IsWithin 16 (get_or diffs n (pos 0))) at within)
+          ∙ sym (ap (λ (n : ℕ). get_or diffs n (pos 0)) at))
+          (cases_lt i index);
       done = λ i h. ⊎_elim
           (λ (less : i < index). ap size_of (get_or-set_other cut index i value (pos 0) (λ e. omega (arith, e, less)))
           ∙ c.loop-index.invariant.done i less)

@@ -1,10 +1,11 @@
 use Rattle.std.proofs.Common.{◌≡◌, ◌<◌, ℕ, get_or, length, pos}
 use Rattle.mseed_steim.specs.declared.scheme.Scheme.TheVariants.{Two}
-use Rattle.mseed_steim.specs.private.Ahead.{near_size, size_of}
+use Rattle.mseed_steim.specs.private.Ahead.{AreSame, near_size, size_of}
 use Rattle.mseed_steim.proofs.ahead.put_cut.Given as goal
 
 abbrev pub invariant-loop-index : goal.invariant-loop-index
 invariant-loop-index l = record {
   room : length l.cut ≡ 64;
+  same : AreSame l.index l.diffs l.cut;
   done : (i : ℕ) → i < l.index → size_of (get_or l.cut i (pos 0)) ≡ near_size Two (get_or l.diffs i (pos 0));
 }

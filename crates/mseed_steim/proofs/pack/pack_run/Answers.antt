@@ -1,14 +1,14 @@
 use Rattle.std.proofs.Common.{◌≡◌, ◌≢◌, ◌⊎◌, ℕ, ℤ, ◌+◌, ◌-◌, ◌*◌, ◌/◌, ◌%◌, ◌<◌, ◌≤◌, ◌∙◌, List, arith, ap, sym, subst}
-use Rattle.std.proofs.Common.{inl, inr, drop, length, take, refl}
+use Rattle.std.proofs.Common.{inl, inr, drop, length, rules, take, refl}
 use Rattle.std.proofs.lemmas.List.{take_rest, length-drop}
 use Rattle.mseed_steim.specs.declared.pack.Packed.{Packed}
 use Rattle.mseed_steim.specs.Frames.{word_count}
 use Rattle.mseed_steim.specs.Packing.{IsFullest, IsTooLargeAt, IsFirstTooLarge, LeavesRoom}
-use Rattle.mseed_steim.specs.private.Ahead.{IsAhead}
+use Rattle.mseed_steim.specs.private.Ahead.{IsAhead, IsCut}
 use Rattle.mseed_steim.proofs.Packs.{refused_packed}
 use Rattle.mseed_steim.proofs.Rows.{spelled_code}
 use Rattle.mseed_steim.proofs.Filling.{Filling, filled, filling_refused}
-use Rattle.mseed_steim.proofs.Held.{fullest_few, rest_of, word_known}
+use Rattle.mseed_steim.proofs.Held.{fullest_few, rest_long, rest_of, word_known}
 use Rattle.mseed_steim.proofs.Coding.{Pushing, pushing_none, pushing_past, pushing_more, pushed}
 use Rattle.mseed_steim.proofs.pack.pack_run.Goals.{else-held-lt2, else-loop-index-test}
 use Rattle.mseed_steim.proofs.pack.pack_run.Goals.{then-held-lt2+else-at-left+else-at-ge-KNOWN}
@@ -62,6 +62,19 @@ next_word-requires-clause-ahead c =
     subst (λ (xs : List ℤ). IsAhead c.args.scheme xs c.from-held.result) (sym (take_rest left c.loop-index.at))
     (subst (λ (m : ℕ). IsAhead c.args.scheme (drop c.loop-index.at left) m) (sym c.from-held.ensures)
     (c.loop-index.invariant.tells.0 c.loop-index.at (omega (arith, c.loop-index.invariant.to))))
+
+pub next_word-requires-clause-cut : goal.next_word-requires-clause-cut
+next_word-requires-clause-cut c =
+    let left = c.loop-index.left.now in
+    let cut = c.loop-index.cut in
+    let at = c.loop-index.at in
+    let held = c.from-held.result in
+    let long : length cut ≡ 64 = search rules in
+    subst (λ (xs : List ℤ). IsCut c.args.scheme held (take (length left - at) (drop at left)) xs)
+    (sym (rest_long 64 at cut long))
+    (subst (λ (xs : List ℤ). IsCut c.args.scheme held xs (drop at cut)) (sym (take_rest left at))
+    (subst (λ (m : ℕ). IsCut c.args.scheme m (drop at left) (drop at cut)) (sym c.from-held.ensures)
+    (c.loop-index.invariant.tells.2 at (omega (arith, c.loop-index.invariant.to)))))
 
 pub returns-in_default : goal.returns-in_default
 returns-in_default c =
@@ -119,8 +132,9 @@ loop-index-preserved c =
     let few = fullest_few s (drop at left) c.in-Ok.code c.in-Ok.word c.in-Ok.count here in
     let known : at < 57 = elim c.if-held-lt2.branch [
       | then-held-lt2+else-at-left+else-at-ge-KNOWN w ↦ omega (arith, w.if-at-ge-KNOWN.false)
-      | else-held-lt2 w ↦ word_known s left c.loop-index.most at c.from-held.result c.loop-index.invariant.tells
-          c.loop-index.invariant.to c.from-held.ensures (omega (arith, w.if-held-lt2.false))
+      | else-held-lt2 w ↦ word_known s left c.loop-index.most c.loop-index.cut at c.from-held.result
+          c.loop-index.invariant.tells c.loop-index.invariant.to c.from-held.ensures
+          (omega (arith, w.if-held-lt2.false))
     ] in
     let next : used + c.in-Ok.count ≡ length ds - length left + (at + c.in-Ok.count) = omega arith in
     record {

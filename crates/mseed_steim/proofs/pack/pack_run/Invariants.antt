@@ -7,7 +7,7 @@ abbrev pub invariant-loop-index : goal.invariant-loop-index
 invariant-loop-index l = record {
   pushing : Pushing l.scheme l.diffs l.frames l.head l.codes l.index (length l.diffs - length l.left + l.at);
   left : l.left ≡ drop (length l.diffs - length l.left) l.diffs;
-  tells : Tells l.scheme l.left l.most;
+  tells : Tells l.scheme l.left l.most l.cut;
   to : l.at ≤ 64;
   inside : l.index ≤ length l.frames / 4;
   frame : l.head + 16 ≤ length l.frames / 4;
