@@ -32,6 +32,7 @@ WIDTHS = {
     "WIDE": [8, 8, 10, 10, 10, 15, 15, 4],
     "LARGE": [8, 8, 8, 8, 16, 16, 8, 32],
     "LIMITS": [7, 8, 9, 15, 16, 17, 0, 32],
+    "HALVES": [16, 15, 17, 15, 16, 10, 15, 29],
     **{f"[{width}; 8]": [width] * 8 for width in (0, 4, 5, 6, 8, 10, 15, 16, 29, 30, 32)},
 }
 
@@ -44,6 +45,7 @@ SERIES = [
     *[("One", f"[{width}; 8]", 0) for width in (0, 8, 16, 32)],
     ("One", "LARGE", 0),
     *[("One", "LIMITS", mask) for mask in (3, 31)],
+    *[("Two", "HALVES", mask) for mask in (0, 7)],
 ]
 
 LONGEST = 7056

@@ -29,11 +29,14 @@ const LARGE: [u32; 8] = [8, 8, 8, 8, 16, 16, 8, 32];
 /// One bit less and one more than some of these, and none.
 const LIMITS: [u32; 8] = [7, 8, 9, 15, 16, 17, 0, 32];
 
+/// 16 bits, at which differences are cut off before they are joined, and widths about that.
+const HALVES: [u32; 8] = [16, 15, 17, 15, 16, 10, 15, 29];
+
 /// A scheme, the widths of differences in bits, of which each is as likely, a mask under which a random number is 0
 /// where the width may change, and the hash of all that is packed.
 type Series = (Scheme, [u32; 8], u64, u64);
 
-static SERIES: [Series; 23] = [
+static SERIES: [Series; 25] = [
     (Scheme::Two, [0; 8], 0, 0x40DD_4497_E2B0_1F02),
     (Scheme::Two, [4; 8], 0, 0xC316_0D04_4F3B_A1F7),
     (Scheme::Two, [5; 8], 0, 0xBBBF_0D92_C6B3_6438),
@@ -57,6 +60,8 @@ static SERIES: [Series; 23] = [
     (Scheme::One, LARGE, 0, 0x9CB6_1F03_AD23_6B01),
     (Scheme::One, LIMITS, 3, 0xED3C_9451_64C2_CEE3),
     (Scheme::One, LIMITS, 31, 0x132B_23A0_A820_226B),
+    (Scheme::Two, HALVES, 0, 0xC514_354C_4970_75E8),
+    (Scheme::Two, HALVES, 7, 0x031E_32B6_AE08_144E),
 ];
 
 /// The next random number (splitmix64).
