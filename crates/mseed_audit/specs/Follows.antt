@@ -8,7 +8,7 @@ use Rattle.mseed_record.specs.View.{View, start_of, leap_of}
 use Rattle.mseed_steim.specs.Reading.{count_of, IsReading, IsWhole}
 use Rattle.mseed_audit.specs.Judging.{known_rate, step_in}
 
--- the times and rates of both are known, the rates are the same, the record before tells which leap second it
+-- the times and rates of both are known, the rates are the same, the record before says which leap second it
 -- carries, and the next one begins within half a sample period of its end
 pub record FollowsAt (rate next : Ratio) (b v : View) : Type 0 where
   pub before_is : known_rate b ≡ Some rate
