@@ -28,6 +28,7 @@ layouts_two none = eight (λ k. 2 ≤ k → InTwo none k)
       row = refl;
       short = omega arith;
       masks = eight _ refl refl refl refl refl refl refl refl;
+      code = refl;
       head = refl;
       places = eight _ refl refl refl refl refl refl refl refl;
     }))
@@ -35,6 +36,7 @@ layouts_two none = eight (λ k. 2 ≤ k → InTwo none k)
       row = refl;
       short = omega arith;
       masks = eight _ refl refl refl refl refl refl refl refl;
+      code = refl;
       head = refl;
       places = eight _ refl refl refl refl refl refl refl refl;
     }))
@@ -42,6 +44,7 @@ layouts_two none = eight (λ k. 2 ≤ k → InTwo none k)
       row = refl;
       short = omega arith;
       masks = eight _ refl refl refl refl refl refl refl refl;
+      code = refl;
       head = refl;
       places = eight _ refl refl refl refl refl refl refl refl;
     }))
@@ -49,6 +52,7 @@ layouts_two none = eight (λ k. 2 ≤ k → InTwo none k)
       row = refl;
       short = omega arith;
       masks = eight _ refl refl refl refl refl refl refl refl;
+      code = refl;
       head = refl;
       places = eight _ refl refl refl refl refl refl refl refl;
     }))
@@ -56,6 +60,7 @@ layouts_two none = eight (λ k. 2 ≤ k → InTwo none k)
       row = refl;
       short = omega arith;
       masks = eight _ refl refl refl refl refl refl refl refl;
+      code = refl;
       head = refl;
       places = eight _ refl refl refl refl refl refl refl refl;
     }))
@@ -63,6 +68,7 @@ layouts_two none = eight (λ k. 2 ≤ k → InTwo none k)
       row = refl;
       short = omega arith;
       masks = eight _ refl refl refl refl refl refl refl refl;
+      code = refl;
       head = refl;
       places = eight _ refl refl refl refl refl refl refl refl;
     }))

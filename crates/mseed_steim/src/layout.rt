@@ -34,6 +34,8 @@ struct LayoutTwo {
     /// What each pair counts for. That and the weights are such that a difference behind the last counts for nothing.
     counts: [u32; LANES / 2],
     row: Row,
+    /// The code, as wide as those of a frame.
+    code: u32,
     /// The dnib where it stands in a word.
     head: u32,
     /// As in the other.
@@ -71,6 +73,7 @@ macro_rules! layout_two {
                 count: $count,
                 width: $width,
             },
+            code: $code,
             head: $head,
             spare: [0; 3],
         }
@@ -178,13 +181,14 @@ fn join_two(layout: &LayoutTwo, cut: &[i16]) -> u32
 
 /// The fullest word of Steim-1, where it is known ahead: its code, its bits and how many differences it takes.
 #[inline(always)]
-fn word_one(most: usize, diffs: &[i32]) -> (u8, u32, usize)
+fn word_one(most: usize, diffs: &[i32]) -> (u32, u32, usize)
     requires some { 2 ≤ most }
     requires ahead { IsAhead One diffs.now most }
     ensures { IsFullest One diffs.now result.0 result.1 result.2 }
 {
     let layout = layout_one(most);
-    (layout.row.code, join_one(layout, diffs), taken_one(most))
+    let code = u32::from(layout.row.code);
+    (code, join_one(layout, diffs), taken_one(most))
 }
 
 /// How many of so many that are held a word of Steim-1 takes: there is none of three.
@@ -197,7 +201,7 @@ fn taken_one(most: usize) -> usize
 
 /// The same of Steim-2, by the differences cut off at 16 bits.
 #[inline(always)]
-fn word_two(most: usize, cut: &[i16]) -> (u8, u32, usize)
+fn word_two(most: usize, cut: &[i16]) -> (u32, u32, usize)
     requires some { 2 ≤ most }
     requires few { most < 8 }
     requires eight { 8 ≤ length cut.now }
@@ -206,7 +210,7 @@ fn word_two(most: usize, cut: &[i16]) -> (u8, u32, usize)
 {
     let layout = layout_two(most);
     let word = layout.head | join_two(layout, cut);
-    (layout.row.code, word, most)
+    (layout.code, word, most)
 }
 
 /// The fullest word, where it is known ahead; in Steim-2 by the differences cut off at 16 bits.
@@ -216,7 +220,7 @@ pub(crate) fn word_ahead(
     most: usize,
     diffs: &[i32],
     cut: &[i16],
-) -> (u8, u32, usize)
+) -> (u32, u32, usize)
     requires some { 2 ≤ most }
     requires ahead { IsAhead scheme diffs.now most }
     requires cut { IsCut scheme most diffs.now cut.now }

@@ -66,7 +66,7 @@ fn next_word(
     most: usize,
     diffs: &[i32],
     cut: &[i16],
-) -> Result<(u8, u32, usize), TooLarge>
+) -> Result<(u32, u32, usize), TooLarge>
     requires some { 0 < length diffs.now }
     requires ahead { IsAhead scheme diffs.now most }
     requires cut { IsCut scheme most diffs.now cut.now }
@@ -77,7 +77,10 @@ fn next_word(
     if 2 <= most {
         return Ok(word_ahead(scheme, most, diffs, cut));
     }
-    pack_word(scheme, diffs)
+    match pack_word(scheme, diffs) {
+        Ok((code, word, count)) => Ok((u32::from(code), word, count)),
+        Err(fault) => Err(fault),
+    }
 }
 
 /// Writes the bits of a word of the frames.
@@ -90,10 +93,10 @@ fn write_word(frames: &mut [u8], index: usize, word: u32)
 
 /// A frame's codes so far, and one more behind them.
 #[inline(always)]
-fn with_code(codes: u32, code: u8) -> u32
+fn with_code(codes: u32, code: u32) -> u32
     ensures { result ≡ (codes * 4 % 2 ^ 32 + code) % 2 ^ 32 }
 {
-    codes.wrapping_mul(4).wrapping_add(u32::from(code))
+    codes.wrapping_mul(4).wrapping_add(code)
 }
 
 /// The codes of the data words of a frame up to one where they stand: none of the others.
@@ -123,33 +126,35 @@ fn pack_run(scheme: Scheme, diffs: &[i32], frames: &mut [u8]) -> Result<Packed, 
     let mut most = [0; ROOM];
     let mut cut = [0; AHEAD];
     look(scheme, left, &mut most, &mut cut);
-    while index < frames.len() / WORD {
-        if index == head + FRAME {
-            write_word(frames, head, codes);
-            head = index;
-            codes = 0;
+    'filling: loop {
+        while index < head + FRAME {
+            let held = usize::from(most[at]);
+            if held < 2 {
+                if at == left.len() {
+                    break 'filling;
+                }
+                if KNOWN <= at {
+                    left = &left[at..];
+                    at = 0;
+                    look(scheme, left, &mut most, &mut cut);
+                    continue;
+                }
+            }
+            let Ok((code, word, count)) = next_word(scheme, held, &left[at..], &cut[at..]) else {
+                let index = diffs.len() - left.len() + at;
+                return Err(TooLargeAt { index });
+            };
+            write_word(frames, index, word);
+            codes = with_code(codes, code);
+            at += count;
             index += 1;
-            continue;
         }
-        let held = usize::from(most[at]);
-        if held < 2 {
-            if at == left.len() {
-                break;
-            }
-            if KNOWN <= at {
-                left = &left[at..];
-                at = 0;
-                look(scheme, left, &mut most, &mut cut);
-                continue;
-            }
+        if index == frames.len() / WORD {
+            break;
         }
-        let Ok((code, word, count)) = next_word(scheme, held, &left[at..], &cut[at..]) else {
-            let index = diffs.len() - left.len() + at;
-            return Err(TooLargeAt { index });
-        };
-        write_word(frames, index, word);
-        codes = with_code(codes, code);
-        at += count;
+        write_word(frames, head, codes);
+        head = index;
+        codes = 0;
         index += 1;
     }
     write_word(frames, head, codes_to(codes, index));

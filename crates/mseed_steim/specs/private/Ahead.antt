@@ -65,12 +65,13 @@ abbrev pub bits_of : ℤ → ℕ
 bits_of (pos n) = n
 bits_of (negsuc n) = 4294967295 - n
 
--- A row's bits of one difference, 15 at the most, and its dnib where it stands in a word; by a weight and by what its
--- pair counts for, each difference counts for what it does where they are side by side.
+-- A row's bits of one difference, 15 at the most, its code, and its dnib where it stands in a word; by a weight and by
+-- what its pair counts for, each difference counts for what it does where they are side by side.
 pub record IsLayoutTwo (layout : LayoutTwo) : Type 0 where
   pub row : row_for Two layout.row.count ≡ Some layout.row
   pub short : layout.row.width ≤ 15
   pub masks : (i : ℕ) → i < 8 → slice_index_or layout.masks i (pos 0) ≡ pos (2 ^ layout.row.width - 1)
+  pub code : layout.code ≡ layout.row.code
   pub head : layout.head ≡ layout.row.dnib * 2 ^ 30
   pub places : (i : ℕ) → i < 8
       → bits_of (slice_index_or layout.weights i (pos 0)) * slice_index_or layout.counts (i / 2) 0 % 2 ^ 32

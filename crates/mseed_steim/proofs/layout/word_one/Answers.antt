@@ -16,5 +16,6 @@ returns c =
     let plain : row.dnib ≡ 0 = (c.layout_one-layout.ensures known.2.0 known.2.1.0).1.1 in
     let word : c.join_one.result ≡ row.dnib * 2 ^ 30 + positional row.width (take row.count ds) =
     omega (arith, c.join_one.ensures, plain) in
-    subst (λ (n : ℕ). IsFullest One ds row.code c.join_one.result n) (best.1 ∙ sym c.taken_one.ensures)
-    (is_fullest One ds row c.join_one.result best.0.0 best.0.1 best.0.2 best.0.3 word)
+    subst (λ (n : ℕ). IsFullest One ds c.from-code.result c.join_one.result n) (best.1 ∙ sym c.taken_one.ensures)
+    (subst (λ (n : ℕ). IsFullest One ds n c.join_one.result row.count) (sym c.from-code.ensures)
+    (is_fullest One ds row c.join_one.result best.0.0 best.0.1 best.0.2 best.0.3 word))

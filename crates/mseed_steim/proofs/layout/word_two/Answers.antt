@@ -1,4 +1,4 @@
-use Rattle.std.proofs.Common.{◌≡◌, ◌+◌, ◌*◌, ◌%◌, ◌^◌, ◌∙◌, ℕ, ℤ, List, arith, ap, take, length, subst, bit_or}
+use Rattle.std.proofs.Common.{◌≡◌, ◌+◌, ◌*◌, ◌%◌, ◌^◌, ◌∙◌, ℕ, ℤ, List, arith, ap, take, length, subst, bit_or, sym}
 use Rattle.std.proofs.lemmas.List.{length-take-le}
 use Rattle.mseed_steim.specs.declared.scheme.Scheme.TheVariants.{Two}
 use Rattle.mseed_steim.specs.Packing.{IsFullest}
@@ -27,5 +27,6 @@ returns c = λ ds ahead cut.
     ∙ ap (λ (xs : List ℤ). positional layout.row.width xs) same in
     let word : bit_or layout.head c.join_two.result ≡ layout.row.dnib * 2 ^ 30 + positional layout.row.width prefix =
     rw (head, joint) joined in
-    subst (λ (n : ℕ). IsFullest Two ds layout.row.code (bit_or layout.head c.join_two.result) n) best.1
-    (is_fullest Two ds layout.row (bit_or layout.head c.join_two.result) best.0.0 best.0.1 best.0.2 best.0.3 word)
+    subst (λ (n : ℕ). IsFullest Two ds layout.code (bit_or layout.head c.join_two.result) n) best.1
+    (subst (λ (n : ℕ). IsFullest Two ds n (bit_or layout.head c.join_two.result) layout.row.count) (sym reported.code)
+    (is_fullest Two ds layout.row (bit_or layout.head c.join_two.result) best.0.0 best.0.1 best.0.2 best.0.3 word))

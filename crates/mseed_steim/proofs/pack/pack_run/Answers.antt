@@ -10,13 +10,13 @@ use Rattle.mseed_steim.proofs.Rows.{spelled_code}
 use Rattle.mseed_steim.proofs.Filling.{Filling, filled, filling_refused}
 use Rattle.mseed_steim.proofs.Held.{fullest_few, rest_long, rest_of, word_known}
 use Rattle.mseed_steim.proofs.Coding.{Pushing, pushing_none, pushing_past, pushing_more, pushed}
-use Rattle.mseed_steim.proofs.pack.pack_run.Goals.{else-held-lt2, else-loop-index-test}
+use Rattle.mseed_steim.proofs.pack.pack_run.Goals.{else-held-lt2, else-loop-index-test+then-index-frames}
 use Rattle.mseed_steim.proofs.pack.pack_run.Goals.{then-held-lt2+else-at-left+else-at-ge-KNOWN}
-use Rattle.mseed_steim.proofs.pack.pack_run.Goals.{then-loop-index-test+else-index-head+then-held-lt2+then-at-left}
+use Rattle.mseed_steim.proofs.pack.pack_run.Goals.{then-loop-index-test+then-held-lt2+then-at-left}
 use Rattle.mseed_steim.proofs.pack.pack_run.Goals as goal
 
-pub loop-index-init : goal.loop-index-init
-loop-index-init c =
+pub filling-init : goal.filling-init
+filling-init c =
     let ds = c.args.diffs.now in
     let none : length ds - length ds ≡ 0 = omega arith in
     let zero : 0 ≡ length ds - length ds + 0 = omega arith in
@@ -26,35 +26,83 @@ loop-index-init c =
       left = rw none refl;
       tells = c.look.ensures;
       to = omega arith;
-      inside = omega (arith, c.fill.ensures.len, c.requires.some, c.requires.whole);
       frame = omega (arith, c.fill.ensures.len, c.requires.some, c.requires.whole);
     }
 
-pub loop-index-preserved-then-index-head : goal.loop-index-preserved-then-index-head
-loop-index-preserved-then-index-head c =
-    let coding = c.loop-index.invariant.pushing.coding in
-    let at = coding.at in
-    let end : c.loop-index.index ≡ c.loop-index.head + 16 = c.if-index-head.true in
-    let first : c.loop-index.index % 16 ≡ 0 = omega (arith, at, end) in
+pub loop-index-preserved-then-at-ge-KNOWN : goal.loop-index-preserved-then-at-ge-KNOWN
+loop-index-preserved-then-at-ge-KNOWN c =
+    let s = c.args.scheme in
+    let ds = c.args.diffs.now in
+    let left = c.loop-index.left.now in
+    let at = c.loop-index.at in
+    let rest : take (length left - at) (drop at left) ≡ drop at left = take_rest left at in
+    let inside = c.loop-index.invariant.pushing.coding.filling.inside in
+    let long : length (take (length left - at) (drop at left)) ≡ length left - at =
+    ap (λ (xs : List ℤ). length xs) rest ∙ length-drop at left in
+    let whole : length left ≡ length ds - (length ds - length left) =
+    ap (λ (xs : List ℤ). length xs) c.loop-index.invariant.left ∙ length-drop (length ds - length left) ds in
+    let used : length ds - length left + at ≡ length ds - length (take (length left - at) (drop at left)) =
+    omega (arith, long, whole, inside) in
+    let next : length ds - length left + at ≡ length ds - length (take (length left - at) (drop at left)) + 0 =
+    omega (arith, used) in
     record {
-      pushing = pushing_past c.args.scheme c.args.diffs.now c.loop-index.frames c.write_word.new.frames
-          c.loop-index.head c.loop-index.codes c.loop-index.index
-          (length c.args.diffs.now - length c.loop-index.left.now + c.loop-index.at) first c.write_word.ensures
+      pushing = subst (λ (n : ℕ).
+          Pushing s ds c.loop-index.frames c.filling.head c.loop-index.codes c.loop-index.index n) next
           c.loop-index.invariant.pushing;
+      left = rest ∙ rest_of ds left at c.loop-index.invariant.left ∙ ap (λ (n : ℕ). drop n ds) used;
+      tells = c.look-then-at-ge-KNOWN.ensures;
+      to = omega arith;
+      frame = c.loop-index.invariant.frame;
+    }
+
+pub filling-preserved : goal.filling-preserved
+filling-preserved c =
+    let coding = c.loop-index.invariant.pushing.coding in
+    let begin = coding.at in
+    let from = coding.filling.from in
+    let end : c.loop-index.index ≡ c.filling.head + 16 = omega (arith, begin, from, c.loop-index-test.false) in
+    let first : c.loop-index.index % 16 ≡ 0 = omega (arith, begin, from, end) in
+    let more : c.loop-index.index ≢ length c.loop-index.frames / 4 = c.if-index-frames.false in
+    record {
+      pushing = pushing_past c.args.scheme c.args.diffs.now c.loop-index.frames c.write_word-in-filling.new.frames
+          c.filling.head c.loop-index.codes c.loop-index.index
+          (length c.args.diffs.now - length c.loop-index.left.now + c.loop-index.at) first
+          c.write_word-in-filling.ensures c.loop-index.invariant.pushing;
       left = c.loop-index.invariant.left;
       tells = c.loop-index.invariant.tells;
       to = c.loop-index.invariant.to;
-      inside = omega (arith, c.loop-index-test.true, c.write_word.auto.frames);
       frame = omega (
         arith,
-        c.loop-index-test.true,
         first,
-        c.write_word.auto.frames,
+        end,
+        more,
+        c.loop-index.invariant.frame,
+        c.write_word-in-filling.auto.frames,
         c.loop-index.auto.frames,
+        c.filling.auto.frames,
         c.fill.ensures.len,
         c.requires.whole,
       );
     }
+
+pub next_word-requires-clause-some : goal.next_word-requires-clause-some
+next_word-requires-clause-some c =
+    let ds = c.args.diffs.now in
+    let left = c.loop-index.left.now in
+    let at = c.loop-index.at in
+    let inside = c.loop-index.invariant.pushing.coding.filling.inside in
+    let long : length (take (length left - at) (drop at left)) ≡ length left - at =
+    ap (λ (xs : List ℤ). length xs) (take_rest left at) ∙ length-drop at left in
+    let whole : length left ≡ length ds - (length ds - length left) =
+    ap (λ (xs : List ℤ). length xs) c.loop-index.invariant.left ∙ length-drop (length ds - length left) ds in
+    let some : at < length left = elim c.if-held-lt2.branch [
+      | then-held-lt2+else-at-left+else-at-ge-KNOWN w ↦ let more : at ≢ length left = w.if-at-left.false in
+          omega (arith, more, whole, inside)
+      | else-held-lt2 w ↦ let known = c.loop-index.invariant.tells.0 at (omega (arith, c.loop-index.invariant.to))
+          (omega (arith, w.if-held-lt2.false, c.from-held.ensures)) in
+          omega (arith, known.1, length-drop at left)
+    ] in
+    omega (arith, long, some)
 
 pub next_word-requires-clause-ahead : goal.next_word-requires-clause-ahead
 next_word-requires-clause-ahead c =
@@ -91,7 +139,7 @@ returns-in_default c =
     let same : length coding.whole ≡ length c.loop-index.frames = coding.long in
     let begin = coding.at in
     let from = coding.filling.from in
-    let plain : c.loop-index.index % 16 ≢ 0 = λ e. c.if-index-head.false (omega (arith, e, begin, from)) in
+    let plain : c.loop-index.index % 16 ≢ 0 = λ e. absurd (omega (arith, e, begin, from, c.loop-index-test.true)) in
     let both : IsFirstTooLarge s ds used × LeavesRoom _ _ _ =
     filling_refused s ds coding.whole c.loop-index.frames c.loop-index.index used
     (c.loop-index.index - 3 - (c.loop-index.index - 1) / 16) coding.filling
@@ -126,9 +174,9 @@ loop-index-preserved c =
     let coding = c.loop-index.invariant.pushing.coding in
     let begin = coding.at in
     let from = coding.filling.from in
-    let plain : c.loop-index.index % 16 ≢ 0 = λ e. c.if-index-head.false (omega (arith, e, begin, from)) in
-    let room : 4 * (c.loop-index.index + 1) ≤ length c.write_word-in-loop-index.new.frames =
-    omega (arith, c.write_word-in-loop-index.auto.frames, c.loop-index-test.true) in
+    let plain : c.loop-index.index % 16 ≢ 0 = λ e. absurd (omega (arith, e, begin, from, c.loop-index-test.true)) in
+    let room : 4 * (c.loop-index.index + 1) ≤ length c.write_word.new.frames =
+    omega (arith, c.write_word.auto.frames, c.loop-index-test.true, c.loop-index.invariant.frame) in
     let few = fullest_few s (drop at left) c.in-Ok.code c.in-Ok.word c.in-Ok.count here in
     let known : at < 57 = elim c.if-held-lt2.branch [
       | then-held-lt2+else-at-left+else-at-ge-KNOWN w ↦ omega (arith, w.if-at-ge-KNOWN.false)
@@ -138,17 +186,16 @@ loop-index-preserved c =
     ] in
     let next : used + c.in-Ok.count ≡ length ds - length left + (at + c.in-Ok.count) = omega arith in
     record {
-      pushing = subst (λ (n : ℕ). Pushing s ds c.write_word-in-loop-index.new.frames c.loop-index.head
+      pushing = subst (λ (n : ℕ). Pushing s ds c.write_word.new.frames c.filling.head
           c.with_code-codes.result (c.loop-index.index + 1) n) next
-          (pushing_more s ds c.loop-index.frames c.write_word-in-loop-index.new.frames c.loop-index.head
+          (pushing_more s ds c.loop-index.frames c.write_word.new.frames c.filling.head
           c.loop-index.codes c.loop-index.index used c.in-Ok.code c.in-Ok.word c.in-Ok.count c.with_code-codes.result
-          plain room small c.loop-index.invariant.pushing full c.write_word-in-loop-index.ensures
+          plain room small c.loop-index.invariant.pushing full c.write_word.ensures
           c.with_code-codes.ensures);
       left = c.loop-index.invariant.left;
       tells = c.loop-index.invariant.tells;
       to = omega (arith, known, few);
-      inside = omega (arith, c.loop-index-test.true, c.write_word-in-loop-index.auto.frames);
-      frame = omega (arith, c.loop-index.invariant.frame, c.write_word-in-loop-index.auto.frames);
+      frame = omega (arith, c.loop-index.invariant.frame, c.write_word.auto.frames);
     }
 
 pub returns : goal.returns
@@ -159,7 +206,7 @@ returns c =
     let used = length ds - length left + c.loop-index.at in
     let words = c.loop-index.index - 3 - (c.loop-index.index - 1) / 16 in
     let filling : Filling s ds c.write_word-2.new.frames c.loop-index.index used words =
-    pushed s ds c.loop-index.frames c.write_word-2.new.frames c.loop-index.head c.loop-index.codes c.loop-index.index
+    pushed s ds c.loop-index.frames c.write_word-2.new.frames c.filling.head c.loop-index.codes c.loop-index.index
     used c.codes_to.result c.loop-index.invariant.pushing c.codes_to.ensures c.write_word-2.ensures in
     let count : word_count c.write_word-2.new.frames ≡ length c.loop-index.frames / 4 =
     omega (arith, c.write_word-2.auto.frames) in
@@ -167,11 +214,15 @@ returns c =
     ap (λ (xs : List ℤ). length xs) c.loop-index.invariant.left ∙ length-drop (length ds - length left) ds in
     let end : (used ≡ length ds) ⊎ (c.loop-index.index ≡ word_count c.write_word-2.new.frames) =
     elim c.loop-index-test.branch [
-      | else-loop-index-test w ↦ inr (omega (arith, count, w.loop-index-test.false, c.loop-index.invariant.inside))
-      | then-loop-index-test+else-index-head+then-held-lt2+then-at-left w ↦ inl (omega (arith, long, w.if-at-left.true))
+      | else-loop-index-test+then-index-frames w ↦ inr (omega (arith, count, w.if-index-frames.true))
+      | then-loop-index-test+then-held-lt2+then-at-left w ↦ inl (omega (arith, long, w.if-at-left.true))
     ] in
+    let begin = c.loop-index.invariant.pushing.coding.at in
+    let from = c.loop-index.invariant.pushing.coding.filling.from in
+    let inside : c.loop-index.index ≤ length c.loop-index.frames / 4 =
+    omega (arith, begin, from, c.loop-index.invariant.frame) in
     let done = filled s ds c.write_word-2.new.frames c.loop-index.index used words filling
-    (omega (arith, count, c.loop-index.invariant.inside)) end in record {
+    (omega (arith, count, inside)) end in record {
       packed = done.packed;
       spelled = done.spelled;
       inside = done.inside;

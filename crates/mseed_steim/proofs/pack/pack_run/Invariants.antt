@@ -3,13 +3,24 @@ use Rattle.mseed_steim.specs.private.Ahead.{Tells}
 use Rattle.mseed_steim.proofs.Coding.{Pushing}
 use Rattle.mseed_steim.proofs.pack.pack_run.Given as goal
 
+abbrev pub invariant-filling : goal.invariant-filling
+invariant-filling l = record {
+  pushing : Pushing l.scheme l.diffs l.frames l.head l.codes l.index (length l.diffs - length l.left + l.at);
+  left : l.left ≡ drop (length l.diffs - length l.left) l.diffs;
+  tells : Tells l.scheme l.left l.most l.cut;
+  to : l.at ≤ 64;
+  frame : l.head + 16 ≤ length l.frames / 4;
+}
+
+abbrev pub decreases-filling : goal.decreases-filling
+decreases-filling l = length l.frames - l.head
+
 abbrev pub invariant-loop-index : goal.invariant-loop-index
 invariant-loop-index l = record {
   pushing : Pushing l.scheme l.diffs l.frames l.head l.codes l.index (length l.diffs - length l.left + l.at);
   left : l.left ≡ drop (length l.diffs - length l.left) l.diffs;
   tells : Tells l.scheme l.left l.most l.cut;
   to : l.at ≤ 64;
-  inside : l.index ≤ length l.frames / 4;
   frame : l.head + 16 ≤ length l.frames / 4;
 }
 
