@@ -1,28 +1,26 @@
-use Rattle.std.proofs.Common.{◌≡◌, ◌≤◌, ◌+◌, ◌-◌, ◌*◌, ◌/◌, if◌then◌else◌, drop, length, nat_lt}
+use Rattle.std.proofs.Common.{◌≡◌, ℕ, ℤ, List, ◌≤◌, ◌+◌, ◌-◌, ◌*◌, ◌/◌, if◌then◌else◌, drop, length, nat_lt}
+use Rattle.mseed_steim.specs.declared.scheme.Scheme.{Scheme}
 use Rattle.mseed_steim.specs.private.Ahead.{Tells}
 use Rattle.mseed_steim.proofs.Coding.{Pushing}
 use Rattle.mseed_steim.proofs.pack.pack_run.Given as goal
 
+-- what holds before each word and each frame
+pub record Begun (s : Scheme) (ds : List ℤ) (frames : List ℕ) (head codes index : ℕ) (rest : List ℤ) (at : ℕ)
+    (most : List ℕ) (cut : List ℤ) : Type 0 where
+  pub pushing : Pushing s ds frames head codes index (length ds - length rest + at)
+  pub left : rest ≡ drop (length ds - length rest) ds
+  pub tells : Tells s rest most cut
+  pub to : at ≤ 64
+  pub frame : head + 16 ≤ length frames / 4
+
 abbrev pub invariant-filling : goal.invariant-filling
-invariant-filling l = record {
-  pushing : Pushing l.scheme l.diffs l.frames l.head l.codes l.index (length l.diffs - length l.left + l.at);
-  left : l.left ≡ drop (length l.diffs - length l.left) l.diffs;
-  tells : Tells l.scheme l.left l.most l.cut;
-  to : l.at ≤ 64;
-  frame : l.head + 16 ≤ length l.frames / 4;
-}
+invariant-filling l = Begun l.scheme l.diffs l.frames l.head l.codes l.index l.left l.at l.most l.cut
 
 abbrev pub decreases-filling : goal.decreases-filling
 decreases-filling l = length l.frames - l.head
 
 abbrev pub invariant-loop-index : goal.invariant-loop-index
-invariant-loop-index l = record {
-  pushing : Pushing l.scheme l.diffs l.frames l.head l.codes l.index (length l.diffs - length l.left + l.at);
-  left : l.left ≡ drop (length l.diffs - length l.left) l.diffs;
-  tells : Tells l.scheme l.left l.most l.cut;
-  to : l.at ≤ 64;
-  frame : l.head + 16 ≤ length l.frames / 4;
-}
+invariant-loop-index l = Begun l.scheme l.diffs l.frames l.head l.codes l.index l.left l.at l.most l.cut
 
 -- a word is filled, or what lies ahead is looked at behind the last place that is known
 abbrev pub decreases-loop-index : goal.decreases-loop-index
