@@ -1,10 +1,10 @@
 -- Samples that are near one another, by the words or integers that say them.
 use Rattle.std.proofs.Common.{◌≡◌, ◌≢◌, ℕ, zero, suc, ◌+◌, ◌-◌, ◌*◌, ◌/◌, ◌%◌, ◌^◌, ◌<◌, ◌≤◌, List, [], ◌∷◌, ◌++◌}
 use Rattle.std.proofs.Common.{length, map, not, eqb, get_or, refl, sym, ap, ◌∙◌, subst, arith, ℤ, ◌-ℤ◌, Option, Some}
-use Rattle.std.proofs.Common.{None, All, cond, to_z, w32, Bool, ⊎_elim, false, bit_and}
+use Rattle.std.proofs.Common.{None, All, cond, of_z, to_z, w32, FitsSigned, ⊎_elim, false, bit_and, pos, negsuc}
 use Rattle.std.specs.Int.{bit_at}
 use Rattle.std.specs.List.{AllByRecursion, filter, range_with_len}
-use Rattle.std.specs.Prelude.{IsTrue, ◌↔◌}
+use Rattle.std.specs.Prelude.{◌↔◌, max}
 use Rattle.std.proofs.lemmas.Bool.{cases_lt, cond_both, eqb-true, false≢true}
 use Rattle.std.proofs.Math.Nat.{div-div-eq-div-mul, mul_comm}
 use Rattle.std.proofs.lemmas.Int.{ints}
@@ -28,6 +28,7 @@ use Rattle.mseed_steim.specs.Reading.{HoldsIn, IsWhole, count_of}
 use Rattle.mseed_steim.specs.Runs.{SpellsRun}
 use Rattle.mseed_steim.specs.Samples.{Adds, AreSums, BeginsWith, IsPayloadReading, StartsAndAdds}
 use Rattle.mseed_steim.specs.Spelling.{IsGroup, IsWithin, Spells, empty, residue}
+use Rattle.mseed_steim.proofs.Widths.{within_by}
 use Rattle.mseed_steim.proofs.Below.{sixteen}
 use Rattle.mseed_steim.proofs.Given.{word_small}
 use Rattle.mseed_steim.proofs.Integers.{number_lt, signed_is}
@@ -239,16 +240,22 @@ pub near_whole : (v : View) (form : Form) (p : List ℕ) (n : ℕ) → HoldsIn v
     → ((s : List ℤ) → IsPayloadReading form v.payload_order p n s → AreNear s) → (s : List ℤ) → IsWhole v s → AreNear s
 near_whole v form p n held count near s whole = near s (rw (held.4, count) (same_payload v form s held.1 whole.0))
 
--- what holds of all places up to one more
-pub all_and_next : (P : ℕ → Type 0) (flag : Bool) (n : ℕ) → IsTrue flag ↔ ((i : ℕ) → i < n → P i) → P n → IsTrue flag
-    ↔ ((i : ℕ) → i < n + 1 → P i)
-all_and_next P flag n all next = (
-  λ e i less. ⊎_elim
-      (λ (before : i < n). all.0 e i before)
-      (λ (here : n ≤ i). let same : n ≡ i = omega (arith, here, less) in subst P same next)
-      (cases_lt i n),
-  λ h. all.1 (λ i less. h i (omega (arith, less))),
-)
+-- a number with 2^28 added, modulo 2^32, is less than 2^29 where the number has 29 bits at the most
+pub above_is : (z : ℤ) → FitsSigned w32 z → ((of_z w32 z + 268435456) % 4294967296 < 536870912) ↔ IsWithin 29 z
+above_is (pos n) f = let w = within_by (pos n) n refl 29 in
+    (λ h. w.0 (omega (arith, h, f.sfits)), λ h. let l = w.1 h in omega (arith, l))
+above_is (negsuc n) f = let w = within_by (negsuc n) n refl 29 in
+    (λ h. w.0 (omega (arith, h, f.sfits)), λ h. let l = w.1 h in omega (arith, l, f.sfits))
 
-pub not_all : (P : ℕ → Type 0) (n : ℕ) → ¬ (P n) → IsTrue false ↔ ((i : ℕ) → i < n + 1 → P i)
-not_all P n fails = (λ e. absurd (false≢true e), λ h. absurd (fails (h n (omega arith))))
+-- what holds of all places up to one more, by the greatest of what they have
+pub all_below_next : (P : ℕ → Type 0) (a b most n limit : ℕ) → most ≡ max a b
+    → (a < limit) ↔ ((i : ℕ) → i < n → P i) → (b < limit) ↔ P n → (most < limit) ↔ ((i : ℕ) → i < n + 1 → P i)
+all_below_next P a b most n limit e all next = (
+  λ h i less. ⊎_elim
+      (λ (before : i < n). all.0 (omega (arith, e, h)) i before)
+      (λ (here : n ≤ i). let same : n ≡ i = omega (arith, here, less) in subst P same (next.0 (omega (arith, e, h))))
+      (cases_lt i n),
+  λ h. let before = all.1 (λ i less. h i (omega (arith, less))) in
+      let last = next.1 (h n (omega arith)) in
+      omega (arith, e, before, last),
+)

@@ -93,20 +93,21 @@ fn are_short(payload: &[u8], order: Order, samples: usize) -> bool
     if payload.len() / WORD < samples {
         return false;
     }
-    let mut short = true;
+    let mut highest = 0u32;
     for index in 0..samples {
-        if !is_short(integer_at(payload, Width::Four, order, WORD * index)) {
-            short = false;
-        }
+        let number = integer_at(payload, Width::Four, order, WORD * index);
+        highest = highest.max(above_least(number));
     }
-    short
+    highest < 0x2000_0000
 }
 
-/// Whether a number has 29 bits at the most.
-fn is_short(number: i32) -> bool
-    ensures { IsTrue result ↔ IsWithin 29 number }
+/// How far a number lies above the least of 29 bits, modulo 2^32: less than 2^29 where it has 29 bits at the most, and
+/// nowhere else.
+#[inline(always)]
+fn above_least(number: i32) -> u32
+    ensures { (result < 2 ^ 29) ↔ IsWithin 29 number }
 {
-    -0x1000_0000 <= number && number < 0x1000_0000
+    number.wrapping_add(0x1000_0000).cast_unsigned()
 }
 
 /// Whether no Steim-1 word of the whole frames holds a difference of more than 30 bits.
