@@ -1,6 +1,6 @@
 -- The input brings bytes, or ends.
 use Rattle.std.proofs.Common.{◌≡◌, ◌≢◌, ℕ, ◌+◌, ◌*◌, ◌^◌, ◌<◌, ◌≤◌, ◌∙◌, ap, subst, refl, sym, arith, Bool, true, false}
-use Rattle.std.proofs.Common.{List, [], ◌∷◌, ◌++◌, length, append-nil, get_or, take, None, Ok, Err}
+use Rattle.std.proofs.Common.{List, [], ◌∷◌, ◌++◌, length, append-nil, get_or, take, None, Ok, Err, IfErr, Result}
 use Rattle.std.proofs.lemmas.List.{length-map}
 use Rattle.mseed_stream.specs.declared.fault.StreamFault.TheVariants as faults
 use Rattle.slink_feed.specs.Window.{Window}
@@ -14,12 +14,31 @@ use Rattle.slink_live.specs.Served.{IntakeState, IsServing, IsSound, ServerState
 use Rattle.slink_live.specs.Turns.{Closes}
 use Rattle.slink_live.specs.private.Cutting.{Cuts, CutsOff}
 use Rattle.slink_live.specs.private.Granting.{StaysBut}
-use Rattle.slink_live.specs.private.Keeping.{AnswersFault, KeepsServing, Tends, TendsAnew, TendsBut}
+use Rattle.slink_live.specs.private.Keeping.{AnswersFault, EndsInput, KeepsServing, Tends, TendsAnew, TendsBut}
 use Rattle.slink_live.proofs.Fed.{below_more, places_fed}
 use Rattle.slink_live.proofs.Cuts.{cut_below, cut_few, cut_fits, cuts_on, short_none}
-use Rattle.slink_live.proofs.Settling.{input_ends, input_tends}
-use Rattle.slink_live.proofs.Slots.{closes_input, input_append, story_elsewhere}
-use Rattle.slink_live.proofs.Steps.{ended, sound_in}
+use Rattle.slink_live.proofs.Settling.{input_ends, input_tends, tends_end, tends_same}
+use Rattle.slink_live.proofs.Slots.{closes_input, closes_none, input_append, story_elsewhere}
+use Rattle.slink_live.proofs.Steps.{answers_end, ended, sound_in}
+
+-- The input is read no more, and what is wrong with it is answered.
+pub ends_input : {s t : ServerState} {log last : List Happening} {r : Result (Unit {0}) InputFault}
+    → KeepsServing (ended s) t log last → Closes log last → TendsAnew (ended s) t log last
+    → IfErr r (λ e. (start : List Window) → IsServing start s log → IsInputFault (places_of start) (input_of last) e)
+    → EndsInput s t log last r
+ends_input keeps closes tends fault = record {
+  answers = answers_end keeps fault;
+  closes = closes;
+  tends = tends_end tends;
+}
+
+-- It was read no more before.
+pub nothing_ends : (s : ServerState) (log : List Happening) → IsSound s → EndsInput s s log log (Ok tt)
+nothing_ends s log sound = record {
+  answers = record { sound = sound; serving = λ start v. v; fault = tt; ended = tt; kept = λ e. e };
+  closes = closes_none log log refl;
+  tends = tends_same s log log refl;
+}
 
 -- the server, once the input brought bytes
 abbrev pub with_intake : ServerState → IntakeState → ServerState

@@ -14,7 +14,7 @@ ghost use Rattle.slink_live.specs.Served.{AreEmpty, GoesOn, IsBelow, IsFinished,
 ghost use Rattle.slink_live.specs.Served.{StaysUnread};
 ghost use Rattle.slink_live.specs.private.Calling.{IfRested};
 ghost use Rattle.slink_live.specs.Turns.{Closes, HasTurns, IsCalled, Opens, ReadsFrom, ReadsInput, WritesTo};
-ghost use Rattle.slink_live.specs.private.Keeping.{AnswersFault, KeepsServing, Settles, Tends, TendsAll};
+ghost use Rattle.slink_live.specs.private.Keeping.{AnswersFault, EndsInput, KeepsServing, Settles, Tends, TendsAll};
 ghost use Rattle.slink_live.specs.private.Keeping.{TendsAnew, TendsBut};
 
 use crate::intake::Intake;
@@ -189,9 +189,7 @@ impl Server {
     #[tactic(auto, using(crate::proofs::Steps::ended_sound, crate::proofs::Steps::few_records))]
     fn on_end<R: Ready>(&mut self, ready: &mut R) -> Result<(), InputFault>
         requires { IsSound self.old }
-        ensures answers { AnswersFault self.old self.new (R.log ready.old) (R.log ready.new) result }
-        ensures closes { Closes (R.log ready.old) (R.log ready.new) }
-        ensures tends { Tends self.old self.new (R.log ready.old) (R.log ready.new) }
+        ensures { EndsInput self.old self.new (R.log ready.old) (R.log ready.new) result }
     {
         if self.has_ended {
             return Ok(());
@@ -205,9 +203,7 @@ impl Server {
     #[tactic(auto, using(crate::proofs::Steps::ended_sound, crate::proofs::Steps::few_records))]
     fn on_failure<R: Ready>(&mut self, ready: &mut R) -> Result<(), InputFault>
         requires { IsSound self.old }
-        ensures answers { AnswersFault self.old self.new (R.log ready.old) (R.log ready.new) result }
-        ensures closes { Closes (R.log ready.old) (R.log ready.new) }
-        ensures tends { Tends self.old self.new (R.log ready.old) (R.log ready.new) }
+        ensures { EndsInput self.old self.new (R.log ready.old) (R.log ready.new) result }
     {
         if self.has_ended {
             return Ok(());
@@ -221,9 +217,7 @@ impl Server {
     #[tactic(auto, using(crate::proofs::Steps::ended_sound, crate::proofs::Steps::few_records))]
     fn give_up<R: Ready>(&mut self, ready: &mut R) -> InputFault
         requires { IsSound self.old }
-        ensures answers { AnswersFault self.old self.new (R.log ready.old) (R.log ready.new) (Err result) }
-        ensures closes { Closes (R.log ready.old) (R.log ready.new) }
-        ensures tends { Tends self.old self.new (R.log ready.old) (R.log ready.new) }
+        ensures { EndsInput self.old self.new (R.log ready.old) (R.log ready.new) (Err result) }
     {
         let fault = self.intake.last_turn();
         self.end(ready);

@@ -7,6 +7,7 @@ use Rattle.slink_live.specs.Awake.{Goes, IsAwake, IsAwakeIn, IsClosedRightly, Is
 use Rattle.slink_live.specs.Happening.{Happening, input_of}
 use Rattle.slink_live.specs.Input.{IsInputFault}
 use Rattle.slink_live.specs.Served.{IsServing, IsSound, ServerState}
+use Rattle.slink_live.specs.Turns.{Closes}
 use Rattle.slink_live.specs.declared.places.Places.{Places}
 use Rattle.slink_live.specs.private.Granting.{LeavesOut}
 
@@ -77,3 +78,10 @@ pub record TendsBut (places : Places) (old new : ServerState) (before after : Li
       → ((k : ℕ) → LeavesOut places (get_or old.links k None) → IsAwakeIn old before k) → IsAwake new after
   pub closed : (start : List Window) → IsServing start old before → IsTold old before
       → Goes (IsClosedRightly start) before after
+
+-- The input is read no more: what is wrong with it is answered, where something is, and no link sleeps.
+pub record EndsInput (old new : ServerState) (before after : List Happening) (result : Result (Unit {0}) InputFault)
+    : Type 0 where
+  pub answers : AnswersFault old new before after result
+  pub closes : Closes before after
+  pub tends : Tends old new before after
