@@ -64,7 +64,7 @@ pub fn push_to_feed(feed: &mut Feed, bytes: &[u8; 512]) -> bool {
     true
 }
 
-/// The number that a record gets in the first ring whose place it bears.
+/// The number that a record gets in the first ring whose place it carries.
 pub fn number_to_be(feed: &Feed, bytes: &[u8; 512]) -> Option<u64> {
     let k = feed.bearer(bytes)?;
     Some(feed.ring(k).next())
@@ -214,7 +214,7 @@ pub fn fetch_turns<S: Duplex, W: Sink, E: Sink>(
     Ok(true)
 }
 
-/// Tells how to go on behind a record that wasn't written whole.
+/// Tells how to go on after a record that wasn't written whole.
 pub fn tell_where_to_go_on<E: Sink>(reporter: &Reporter, client: &Client, errors: &mut E) {
     reporter.report_next(client, true, errors);
 }

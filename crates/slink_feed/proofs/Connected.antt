@@ -24,7 +24,7 @@ use Rattle.slink_feed.specs.Attending.{Attends, IsServeFault, RepliesToAll, at_r
 use Rattle.slink_feed.specs.Attending.{is_closed, replies}
 use Rattle.slink_feed.specs.Connection.{FailsInTurn, SendsStretches, ShowPushed, TakesTurns, bytes_sent, fails_later}
 use Rattle.slink_feed.specs.Connection.{fails_now, no_turn, turn_taken}
-use Rattle.slink_feed.specs.Rounds.{Attending, Gives, SendsAll, all_sent, place_behind}
+use Rattle.slink_feed.specs.Rounds.{Attending, Gives, SendsAll, all_sent, place_after}
 use Rattle.slink_feed.specs.Running.{HasStream, Stands, StandsFor}
 use Rattle.slink_feed.specs.Sending.{AreCalled, AreShown, Called, IsReadFrom, packet_in, packets_of}
 use Rattle.slink_feed.specs.Serving.{Answers, IsAnswer, Serves, Standing, Takes, none_served, piece_served}
@@ -65,7 +65,7 @@ on_given : (feed : List Window) (k last : ℕ) (s u : State) (given : List Sent)
     → IsOn s.phase → IsOn u.phase
 on_given feed k last s u [] gives on = subst (λ (t : State). IsOn t.phase) (sym gives.1) on
 on_given feed k last s u (a ∷ more) gives on =
-    on_given feed (place_behind feed k) last (sent feed s k).0 u more gives.1 (on_sent feed s k on)
+    on_given feed (place_after feed k) last (sent feed s k).0 u more gives.1 (on_sent feed s k on)
 
 -- a closed session stays
 pub shut_given : (feed : List Window) (k last : ℕ) (s u : State) (given : List Sent) → Gives feed k s given last u
@@ -73,7 +73,7 @@ pub shut_given : (feed : List Window) (k last : ℕ) (s u : State) (given : List
 shut_given feed k last s u [] gives shut = gives.1
 shut_given feed k last s u (a ∷ more) gives shut =
     let same : (sent feed s k).0 ≡ s = ap (λ (p : Phase). (sent_in p feed s k).0) shut in
-    shut_given feed (place_behind feed k) last (sent feed s k).0 u more gives.1 (ap (λ (t : State). t.phase) same
+    shut_given feed (place_after feed k) last (sent feed s k).0 u more gives.1 (ap (λ (t : State). t.phase) same
     ∙ shut) ∙ same
 
 -- No packet of a place without a grant is sent, and it has none afterwards.
@@ -145,19 +145,19 @@ read_first s t (a ∷ more) read are = (are.0, read_further s t are.0 read are.1
 -- what a round asks for
 abbrev asks : List Window → ℕ → List Sent → List Called
 asks feed k [] = []
-asks feed k (a ∷ more) = record { feed = feed; place = k; answer = a } ∷ asks feed (place_behind feed k) more
+asks feed k (a ∷ more) = record { feed = feed; place = k; answer = a } ∷ asks feed (place_after feed k) more
 
 asks_then : (feed : List Window) (k last : ℕ) (s u v : State) (given : List Sent) (rest : List Called)
     → Gives feed k s given last u → IsReadFrom u v → AreCalled v rest → AreCalled s (asks feed k given ++ rest)
 asks_then feed k last s u v [] rest gives read are =
     read_first s v rest (subst (λ (x : State). IsReadFrom x v) gives.1 read) are
 asks_then feed k last s u v (a ∷ more) rest gives read are =
-    (s, inl refl, gives.0, asks_then feed (place_behind feed k) last (sent feed s k).0 u v more rest gives.1 read are)
+    (s, inl refl, gives.0, asks_then feed (place_after feed k) last (sent feed s k).0 u v more rest gives.1 read are)
 
 asks_bytes : (feed : List Window) (k : ℕ) (given : List Sent) (rest : List Called)
     → bytes_sent (asks feed k given ++ rest) ≡ all_sent given ++ bytes_sent rest
 asks_bytes feed k [] rest = refl
-asks_bytes feed k (a ∷ more) rest = ap (λ b. sent_bytes a ++ b) (asks_bytes feed (place_behind feed k) more rest)
+asks_bytes feed k (a ∷ more) rest = ap (λ b. sent_bytes a ++ b) (asks_bytes feed (place_after feed k) more rest)
     ∙ sym (append_assoc (sent_bytes a) (all_sent more) (bytes_sent rest))
 
 asks_shown : (feed : List Window) (k j first : ℕ) (pushed : List (List ℕ)) (given : List Sent) (rest : List Called)
@@ -165,7 +165,7 @@ asks_shown : (feed : List Window) (k j first : ℕ) (pushed : List (List ℕ)) (
     → AreShown k first pushed rest → AreShown k first pushed (asks feed j given ++ rest)
 asks_shown feed k j first pushed [] rest shown are = are
 asks_shown feed k j first pushed (a ∷ more) rest shown are =
-    (shown, asks_shown feed k (place_behind feed j) first pushed more rest shown are)
+    (shown, asks_shown feed k (place_after feed j) first pushed more rest shown are)
 
 -- What was sent in turns.
 record Wrote (feeds : List (List Window)) (s : State) (bytes : List ℕ) : Type 0 where
@@ -427,8 +427,8 @@ before_given feed k last s u (a ∷ more) is gives =
     let same : (sent feed s k).0 ≡ s = ap (λ (x : State × Sent). x.0) one in
     let waits : a ≡ sents.Wait = sym gives.0 ∙ ap (λ (x : State × Sent). x.1) one in
     let rest : (u ≡ s) × (all_sent more ≡ []) =
-    before_given feed (place_behind feed k) last s u more is
-    (subst (λ (t : State). Gives feed (place_behind feed k) t more last u) same gives.1) in
+    before_given feed (place_after feed k) last s u more is
+    (subst (λ (t : State). Gives feed (place_after feed k) t more last u) same gives.1) in
     (rest.0, ap (λ b. sent_bytes b ++ all_sent more) waits ∙ rest.1)
 
 pub before_sent : (feed : List Window) (old new : Attending) → IsBefore old.session.state.phase → SendsAll feed old new

@@ -21,7 +21,7 @@ use Rattle.slink_feed.specs.Dialogue.{ahead_of, is_ahead, is_taken}
 use Rattle.slink_feed.specs.Dialogue.{ended, read_at, if_wanted, is_borne, next_at, next_set, says, says_number}
 use Rattle.slink_feed.specs.Dialogue.{says_place, to_answer, to_place, reported, want_at, with_next}
 use Rattle.slink_feed.specs.Holding.{AreRising, GoBy, IsNext, Rise, Turn, connects, brings, numbers_in, numbers_of}
-use Rattle.slink_feed.specs.Holding.{talk_behind, turned}
+use Rattle.slink_feed.specs.Holding.{talk_after, turned}
 
 -- what comes of a step for a place: nothing is reported of it; or a record, of the number that it wants, if any
 pub data Moved (k : ℕ) (t : Talk) (x : Talk × Event) : Type 0 where
@@ -246,12 +246,12 @@ go_on_more holes None last n ns is rest = rest
 go_on_more holes (Some want) last n ns is rest = (is, rest)
 
 pub numbers_go_on : (k : ℕ) (t : Talk) (turns : List Turn)
-    → GoBy t.holes (next_at t.wants k) (numbers_of k t turns) (next_at (talk_behind t turns).wants k)
+    → GoBy t.holes (next_at t.wants k) (numbers_of k t turns) (next_at (talk_after t turns).wants k)
 numbers_go_on k t [] = refl
 numbers_go_on k t (turn ∷ turns) =
     let u : Talk = (turned t turn).0 in
     let holes : Bool = t.holes in
-    let last : Option ℕ = next_at (talk_behind u turns).wants k in
+    let last : Option ℕ = next_at (talk_after u turns).wants k in
     let rest : GoBy holes (next_at u.wants k) (numbers_of k u turns) last =
     subst (λ (h : Bool). GoBy h (next_at u.wants k) (numbers_of k u turns) last) (kept_turn t turn)
     (numbers_go_on k u turns) in

@@ -18,7 +18,7 @@ use Rattle.slink_feed.specs.declared.turn.Turn.{Turn}
 use Rattle.slink_feed.specs.Attending.{Attends, FailsToReply, GoesOn, IsServeFault, RepliesToAll, at_read, at_reply}
 use Rattle.slink_feed.specs.Attending.{at_send, is_at_end, is_closed, replies}
 use Rattle.slink_feed.specs.Connection.{AreAlike, EmittedAlike}
-use Rattle.slink_feed.specs.Rounds.{Attending, FailsToSend, Gives, HasWaited, SendsAll, all_sent, place_behind}
+use Rattle.slink_feed.specs.Rounds.{Attending, FailsToSend, Gives, HasWaited, SendsAll, all_sent, place_after}
 use Rattle.slink_feed.specs.Running.{Stands, StandsFor}
 use Rattle.slink_feed.specs.Serving.{Serves, Standing}
 use Rattle.slink_feed.specs.Session.{State, all_done, at_next, grant_at, packet_at, sent, sent_bytes, sent_in, sent_of}
@@ -84,15 +84,15 @@ still_in Streaming s k = still_of s k (grant_at s.grants k)
 still_in Closed s k = (refl, refl)
 
 -- All further asks leave it so.
-module _ (feed : List Window) (s : State) (P : ℕ → Type 0) (next : (k : ℕ) → P k → P (place_behind feed k))
+module _ (feed : List Window) (s : State) (P : ℕ → Type 0) (next : (k : ℕ) → P k → P (place_after feed k))
     (still : (k : ℕ) → P k → Still feed s k) where
   still_given : (k last : ℕ) (u : State) (given : List Sent) → P k → Gives feed k s given last u
       → (u ≡ s) × (all_sent given ≡ [])
   still_given k last u [] p gives = (gives.1, refl)
   still_given k last u (a ∷ more) p gives =
       let rest : (u ≡ s) × (all_sent more ≡ []) =
-      still_given (place_behind feed k) last u more (next k p)
-      (subst (λ (t : State). Gives feed (place_behind feed k) t more last u) (still k p).0 gives.1) in
+      still_given (place_after feed k) last u more (next k p)
+      (subst (λ (t : State). Gives feed (place_after feed k) t more last u) (still k p).0 gives.1) in
       (rest.0, ap (λ b. b ++ all_sent more) (ap sent_bytes (sym gives.0) ∙ (still k p).1) ∙ rest.1)
 
 gives_split : (feed : List Window) (k last : ℕ) (s v : State) (some more : List Sent)
@@ -100,30 +100,30 @@ gives_split : (feed : List Window) (k last : ℕ) (s v : State) (some more : Lis
     × Gives feed p u more last v
 gives_split feed k last s v [] more gives = (k, s, (refl, refl), gives)
 gives_split feed k last s v (a ∷ some) more gives =
-    let rest : (p : ℕ) × (u : State) × Gives feed (place_behind feed k) (sent feed s k).0 some p u
+    let rest : (p : ℕ) × (u : State) × Gives feed (place_after feed k) (sent feed s k).0 some p u
     × Gives feed p u more last v =
-    gives_split feed (place_behind feed k) last (sent feed s k).0 v some more gives.1 in
+    gives_split feed (place_after feed k) last (sent feed s k).0 v some more gives.1 in
     (rest.0, rest.1, (gives.0, rest.2), rest.3)
 
 within_given : (feed : List Window) (k last : ℕ) (s u : State) (given : List Sent) → k < length feed
     → Gives feed k s given last u → last < length feed
 within_given feed k last s u [] lt gives = omega (arith, lt, gives.0)
 within_given feed k last s u (a ∷ more) lt gives =
-    within_given feed (place_behind feed k) last (sent feed s k).0 u more (place_within feed k lt) gives.1
+    within_given feed (place_after feed k) last (sent feed s k).0 u more (place_within feed k lt) gives.1
 
 -- A round in which each place has nothing to give.
 module _ (feed : List Window) where
   waits_next : (m p last : ℕ) (u v : State) → Gives feed p u (replicate (suc m) sents.Wait) last v
-      → Gives feed (place_behind feed p) u (replicate m sents.Wait) last v
+      → Gives feed (place_after feed p) u (replicate m sents.Wait) last v
   waits_next m p last u v gives =
-      subst (λ (t : State). Gives feed (place_behind feed p) t (replicate m sents.Wait) last v)
+      subst (λ (t : State). Gives feed (place_after feed p) t (replicate m sents.Wait) last v)
       (idle_in u.phase feed u p gives.0) gives.1
 
   waits_stay : (m p last : ℕ) (u v : State) → Gives feed p u (replicate m sents.Wait) last v → v ≡ u
   waits_stay zero p last u v gives = gives.1
-  waits_stay (suc m) p last u v gives = waits_stay m (place_behind feed p) last u v (waits_next m p last u v gives)
+  waits_stay (suc m) p last u v gives = waits_stay m (place_after feed p) last u v (waits_next m p last u v gives)
 
-  behind_is : (p : ℕ) → p + 1 < length feed → place_behind feed p ≡ p + 1
+  behind_is : (p : ℕ) → p + 1 < length feed → place_after feed p ≡ p + 1
   behind_is p lt = elim (eqb_tells (p + 1) (length feed)) [
     | inl same ↦ absurd (omega (arith, lt, same.1))
     | inr other ↦ ap (λ b. if b then 0 else p + 1) other.0
@@ -145,7 +145,7 @@ module _ (feed : List Window) where
   waits_below zero p last k u v gives below lt far = absurd (omega (arith, below, lt, far))
   waits_below (suc m) p last k u v gives below lt far = elim (eqb_tells (p + 1) (length feed)) [
     | inl same ↦
-        let first : place_behind feed p ≡ 0 = ap (λ b. if b then 0 else p + 1) same.0 in
+        let first : place_after feed p ≡ 0 = ap (λ b. if b then 0 else p + 1) same.0 in
         waits_above m 0 last k u v (subst (λ j. Gives feed j u (replicate m sents.Wait) last v) first
         (waits_next m p last u v gives)) (omega arith) (omega (arith, below, lt)) (omega (arith, far, same.1))
     | inr other ↦
@@ -216,7 +216,7 @@ one_run feed k p q s u v (a ∷ more) [] x y =
     )
 one_run feed k p q s u v (a ∷ more) (b ∷ others) x y =
     let first : a ≡ b = sym x.0 ∙ y.0 in
-    elim (one_run feed (place_behind feed k) p q (sent feed s k).0 u v more others x.1 y.1) [
+    elim (one_run feed (place_after feed k) p q (sent feed s k).0 u v more others x.1 y.1) [
       | inl far ↦ inl (far.0, ap (λ z. z ∷ others) (sym first) ∙ ap (λ zs. a ∷ zs) far.1, far.2)
       | inr far ↦ inr (far.0, ap (λ z. z ∷ more) first ∙ ap (λ zs. b ∷ zs) far.1, far.2)
     ]

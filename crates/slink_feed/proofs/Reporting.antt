@@ -13,7 +13,7 @@ use Rattle.slink_feed.specs.Delivered.{Numbered}
 use Rattle.slink_feed.specs.Dialogue.{Talk, read}
 use Rattle.slink_feed.specs.Fetching.{Fetching, line_written, record_reported}
 use Rattle.slink_feed.specs.Listening.{Brings, Listening, begun, telling, whole}
-use Rattle.slink_feed.specs.private.Delivery.{FailsToHear, Hears, IsDelivered, IsUndelivered}
+use Rattle.slink_feed.specs.private.Delivery.{FailsToTakeNext, TakesNext, IsDelivered, IsUndelivered}
 use Rattle.slink_feed.specs.Reports.{AreHandedOver, Kept, Reports, TakesRecords, ReportsRecords, all, but_last, kept}
 use Rattle.slink_feed.specs.Reporter.{Account, AreReported, Telling, lines_at, lines_of, none, one, telling_behind}
 use Rattle.slink_feed.specs.Reporter.{telling_past}
@@ -236,7 +236,7 @@ reports_more first now new bytes event a b c p fine brings emitted telling lines
 -- what is received of bytes
 pub reports_received : (first : Talk) (bytes : List ℕ) (used : ℕ) (before after : Counts) (now new : Fetching)
     (a b c : Kept) → now.output ≡ b.output → new.output ≡ c.output → Reports first now.client.talk a b
-    → b.output.failures ≡ a.output.failures → Hears bytes used before after now new b c
+    → b.output.failures ≡ a.output.failures → TakesNext bytes used before after now new b c
     → Reports first new.client.talk a c
 reports_received first bytes used before after now new a b c from to p fine received =
     let done : TakesRecords (record_in received.event) now.output new.output =
@@ -249,7 +249,7 @@ reports_received first bytes used before after now new a b c from to p fine rece
 
 pub reports_cut : (first : Talk) (bytes : List ℕ) (fault : LinkFault) (before : Counts) (now new : Fetching)
     (a b c : Kept) → now.output ≡ b.output → new.output ≡ c.output → Reports first now.client.talk a b
-    → b.output.failures ≡ a.output.failures → FailsToHear fault bytes before now new b c
+    → b.output.failures ≡ a.output.failures → FailsToTakeNext fault bytes before now new b c
     → Reports first new.client.talk a c
 reports_cut first bytes fault before now new a b c from to p fine received =
     let done : TakesRecords (record_in received.event) now.output new.output =

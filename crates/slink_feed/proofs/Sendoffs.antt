@@ -12,10 +12,10 @@ use Rattle.slink_feed.specs.declared.session.Sent.TheVariants as sents
 use Rattle.slink_feed.specs.declared.turn.LinkFault.{LinkFault}
 use Rattle.slink_feed.specs.declared.turn.LinkFault.TheVariants as faults
 use Rattle.slink_feed.specs.Attending.{RepliesToAll}
-use Rattle.slink_feed.specs.private.Replying.{HasFailed, HasGiven, HasSent, IsReplyFault, IsWritten, IsSayFault}
+use Rattle.slink_feed.specs.private.Replying.{HasFailed, HasGiven, HasSent, IsReplyFault, IsWritten, IsWriteFault}
 use Rattle.slink_feed.specs.private.Replying.{IsSendFault, IsUnwritten}
 use Rattle.slink_feed.specs.private.Replying.{waits_after}
-use Rattle.slink_feed.specs.Rounds.{Attending, FailsToSend, Gives, HasWaited, all_sent, place_behind}
+use Rattle.slink_feed.specs.Rounds.{Attending, FailsToSend, Gives, HasWaited, all_sent, place_after}
 use Rattle.slink_feed.specs.Serving.{Serves, Standing, Takes, none_served, piece_served}
 use Rattle.slink_feed.specs.Session.{AreReached, State, sent, sent_bytes}
 use Rattle.slink_feed.specs.Turns.{Emitted}
@@ -49,13 +49,13 @@ nothing_sent feed s = record {
 
 gives_more : (feed : List Window) (k last : ℕ) (s t : State) (given : List Sent) (x : State × Sent)
     → sent feed t last ≡ x → Gives feed k s given last t
-    → Gives feed k s (given ++ x.1 ∷ []) (place_behind feed last) x.0
+    → Gives feed k s (given ++ x.1 ∷ []) (place_after feed last) x.0
 gives_more feed k last s t [] x is gives =
     let same : sent feed s k ≡ x = ap (λ n. sent feed s n) (sym gives.0)
     ∙ (ap (λ (u : State). sent feed u last) (sym gives.1) ∙ is) in
-    (ap (λ (p : State × Sent). p.1) same, (ap (place_behind feed) gives.0, ap (λ (p : State × Sent). p.0) (sym same)))
+    (ap (λ (p : State × Sent). p.1) same, (ap (place_after feed) gives.0, ap (λ (p : State × Sent). p.0) (sym same)))
 gives_more feed k last s t (a ∷ more) x is gives =
-    (gives.0, gives_more feed (place_behind feed k) last (sent feed s k).0 t more x is gives.1)
+    (gives.0, gives_more feed (place_after feed k) last (sent feed s k).0 t more x is gives.1)
 
 all_more : (given : List Sent) (a : Sent) → all_sent (given ++ a ∷ []) ≡ all_sent given ++ sent_bytes a
 all_more [] a = append-nil (sent_bytes a)
@@ -88,10 +88,10 @@ waits_within sents.Done n most lt = omega arith
 waits_within sents.Overrun n most lt = omega arith
 waits_within sents.Closed n most lt = omega arith
 
-pub place_within : (feed : List Window) (k : ℕ) → k < length feed → place_behind feed k < length feed
+pub place_within : (feed : List Window) (k : ℕ) → k < length feed → place_after feed k < length feed
 place_within feed k lt = elim (eqb_tells (k + 1) (length feed)) [
-  | inl same ↦ let e : place_behind feed k ≡ 0 = ap (λ b. if b then 0 else k + 1) same.0 in omega (arith, e, lt)
-  | inr other ↦ let e : place_behind feed k ≡ k + 1 = ap (λ b. if b then 0 else k + 1) other.0 in
+  | inl same ↦ let e : place_after feed k ≡ 0 = ap (λ b. if b then 0 else k + 1) same.0 in omega (arith, e, lt)
+  | inr other ↦ let e : place_after feed k ≡ k + 1 = ap (λ b. if b then 0 else k + 1) other.0 in
       omega (arith, e, lt, other.1)
 ]
 
@@ -112,13 +112,13 @@ module _ (feed : List Window) (old now new : Attending) (k waits_now written : �
   given : List Sent
   given = so_far.given ++ x.1 ∷ []
 
-  gives : Gives feed 0 old.session.state (so_far.given ++ x.1 ∷ []) (place_behind feed k) new.session.state
-  gives = subst (λ (s : State). Gives feed 0 old.session.state (so_far.given ++ x.1 ∷ []) (place_behind feed k) s)
+  gives : Gives feed 0 old.session.state (so_far.given ++ x.1 ∷ []) (place_after feed k) new.session.state
+  gives = subst (λ (s : State). Gives feed 0 old.session.state (so_far.given ++ x.1 ∷ []) (place_after feed k) s)
       (sym state) (gives_more feed 0 k old.session.state now.session.state so_far.given x is so_far.gives)
 
   pub one_sent : (after : ℕ) → Moves feed now.session.state x → waits_now < length feed → k < length feed
       → length (sent_bytes x.1) ≤ 520 → IsWritten now.written new.written (sent_bytes x.1) written after
-      → SentSoFar feed old new (place_behind feed k) (waits_after x.1 waits_now) after
+      → SentSoFar feed old new (place_after feed k) (waits_after x.1 waits_now) after
   one_sent after moved lt within short done = record {
     given = so_far.given ++ x.1 ∷ [];
     gives = gives;
@@ -147,7 +147,7 @@ module _ (feed : List Window) (old now new : Attending) (k waits_now written : �
       record {
         given = so_far.given;
         last = x.1;
-        place = place_behind feed k;
+        place = place_after feed k;
         gives = gives;
         held = held ∙ so_far.held;
         written = prefix_further old.written now.written new.written (all_sent so_far.given) (sent_bytes x.1)
@@ -156,7 +156,7 @@ module _ (feed : List Window) (old now new : Attending) (k waits_now written : �
         behind = omega (arith, counted);
       }
 
-  pub not_sent : (fault : LinkFault) → IsSayFault fault now.written new.written (sent_bytes x.1) written
+  pub not_sent : (fault : LinkFault) → IsWriteFault fault now.written new.written (sent_bytes x.1) written
       → IsSendFault fault feed old new
   not_sent faults.Read cut = absurd cut
   not_sent (faults.Write after) cut = unsent after cut
@@ -313,7 +313,7 @@ module _ (feed : List Window) (old now new : Attending) (bytes : List ℕ) (star
     );
   }
 
-  pub not_replied : (fault : LinkFault) → IsSayFault fault now.written new.written (reply_bytes reply) written
+  pub not_replied : (fault : LinkFault) → IsWriteFault fault now.written new.written (reply_bytes reply) written
       → IsReplyFault fault feed old new bytes before
   not_replied faults.Read cut = absurd cut
   not_replied (faults.Write after) cut = unreplied after cut

@@ -29,9 +29,9 @@ abbrev pub numbers_of : ℕ → Talk → List Turn → List ℕ
 numbers_of k t [] = []
 numbers_of k t (turn ∷ turns) = numbers_in k (turned t turn).1 ++ numbers_of k (turned t turn).0 turns
 
-abbrev pub talk_behind : Talk → List Turn → Talk
-talk_behind t [] = t
-talk_behind t (turn ∷ turns) = talk_behind (turned t turn).0 turns
+abbrev pub talk_after : Talk → List Turn → Talk
+talk_after t [] = t
+talk_after t (turn ∷ turns) = talk_after (turned t turn).0 turns
 
 -- A number is taken where one is wanted: it is that one; or, past holes, it is ahead of it by less than half of all
 -- numbers.

@@ -10,15 +10,15 @@ use Rattle.slink_feed.specs.Turns.{Emitted, EmittedPrefix}
 use Rattle.slink_feed.specs.Window.{Window}
 
 -- the place after another; after the last place the first one
-abbrev pub place_behind : List Window → ℕ → ℕ
-place_behind feed k = if k + 1 == length feed then 0 else k + 1
+abbrev pub place_after : List Window → ℕ → ℕ
+place_after feed k = if k + 1 == length feed then 0 else k + 1
 
 -- Called for a packet of this place, then of the one after it, and so on, a session gives these. It comes to the other
 -- place and state.
 abbrev pub Gives : List Window → ℕ → State → List Sent → ℕ → State → Type 0
 Gives feed k s [] last new = (last ≡ k) × (new ≡ s)
 Gives feed k s (a ∷ more) last new =
-    ((sent feed s k).1 ≡ a) × Gives feed (place_behind feed k) (sent feed s k).0 more last new
+    ((sent feed s k).1 ≡ a) × Gives feed (place_after feed k) (sent feed s k).0 more last new
 
 -- the bytes of all that is given
 abbrev pub all_sent : List Sent → List ℕ

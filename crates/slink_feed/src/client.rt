@@ -96,7 +96,7 @@ impl Client {
         ensures reads { Reads self.new.talk [] [] self.new }
     {
         self.kept.clear();
-        self.dialogue.say_place(0)
+        self.dialogue.request_place(0)
     }
 
     /// Takes bytes of the link up to the first event, or all.

@@ -238,7 +238,7 @@ impl Dialogue {
     }
 
     /// Returns the line of a request, and waits for what comes of it.
-    fn say(&mut self, stage: Stage, request: Request) -> Bytes
+    fn request_line(&mut self, stage: Stage, request: Request) -> Bytes
         requires request { IsSpelled request }
         requires stage { IsStage stage }
         ensures { says self.old stage request ≡ (self.new, Event.Say result) }
@@ -248,17 +248,17 @@ impl Dialogue {
     }
 
     /// Returns the STATION line of the place at an index; after the last place, the END line.
-    pub(crate) fn say_place(&mut self, k: usize) -> Bytes
+    pub(crate) fn request_place(&mut self, k: usize) -> Bytes
         ensures { says_place k self.old ≡ (self.new, Event.Say result) }
     {
         match self.want(k) {
-            Some(wanted) => self.say(Stage::Station(k), Request::Station(wanted.place)),
-            None => self.say(Stage::Packets, Request::End),
+            Some(wanted) => self.request_line(Stage::Station(k), Request::Station(wanted.place)),
+            None => self.request_line(Stage::Packets, Request::End),
         }
     }
 
     /// Returns the DATA or FETCH line of a place.
-    fn say_number(&mut self, k: usize) -> Bytes
+    fn request_number(&mut self, k: usize) -> Bytes
         requires { k < 16 }
         ensures { says_number k self.old ≡ (self.new, Event.Say result) }
     {
@@ -267,7 +267,7 @@ impl Dialogue {
             Mode::Data => Request::Data(number),
             Mode::Fetch => Request::Fetch(number),
         };
-        self.say(Stage::Number(k), request)
+        self.request_line(Stage::Number(k), request)
     }
 
     /// Takes a reply, by its line without CR LF, and returns the event that it makes.
@@ -290,7 +290,7 @@ impl Dialogue {
         ensures reported { result ≢ Event.None }
     {
         match answer {
-            Answer::Granted => Event::Say(self.say_number(k)),
+            Answer::Granted => Event::Say(self.request_number(k)),
             Answer::Refusal => self.end(Ending::Refused(k)),
             Answer::Neither => self.end(Ending::Garbage),
         }
@@ -303,7 +303,7 @@ impl Dialogue {
         ensures reported { result ≢ Event.None }
     {
         match answer {
-            Answer::Granted => Event::Say(self.say_place(k + 1)),
+            Answer::Granted => Event::Say(self.request_place(k + 1)),
             Answer::Refusal => self.end(Ending::Refused(k)),
             Answer::Neither => self.end(Ending::Garbage),
         }

@@ -3,7 +3,8 @@ ghost use Rattle.std.specs.Prelude.{◌≡◌, ◌≤◌, ◌<◌, ◌^◌, IfEr
 ghost use Rattle.mseed_stream.specs.Device.{BytesWritten};
 ghost use Rattle.slink_feed.specs.declared.dialogue.Event.{Event};
 ghost use Rattle.slink_feed.specs.Fetching.{Delivers, FailsAt, Notes, TakesTurn, fetching};
-ghost use Rattle.slink_feed.specs.private.Delivery.{FailsToHear, Hears, IsDelivered, IsReportedOf, IsUndelivered};
+ghost use Rattle.slink_feed.specs.private.Delivery.{FailsToTakeNext, IsDelivered, IsReportedOf, IsUndelivered};
+ghost use Rattle.slink_feed.specs.private.Delivery.{TakesNext};
 ghost use Rattle.slink_feed.specs.Listening.{IsLinked};
 ghost use Rattle.slink_feed.specs.Reports.{ReportsRecords, TakesReportingTurn, kept};
 ghost use Rattle.slink_feed.specs.Reporter.{AreReported, lines_of, telling_behind};
@@ -131,7 +132,7 @@ fn read<L: Sink, W: Sink, E: Sink>(
         if !client.is_linked() {
             break;
         }
-        let incoming = hear(
+        let incoming = take_next(
             client,
             &bytes[offset..],
             link,
@@ -155,7 +156,7 @@ pub(crate) struct Received {
 
 /// Takes bytes of a link up to the first event, or all, and delivers the line or the record of that event. The record
 /// of a packet that is there whole goes to the output from where it stands.
-fn hear<L: Sink, W: Sink, E: Sink>(
+fn take_next<L: Sink, W: Sink, E: Sink>(
     client: &mut Client,
     bytes: &[u8],
     link: &mut L,
@@ -168,12 +169,12 @@ fn hear<L: Sink, W: Sink, E: Sink>(
     requires some { 0 < length bytes.now }
     requires written { counts.written ≤ 2 ^ 32 }
     requires output { counts.output ≤ 2 ^ 32 }
-    ensures ok { IfOk result (λ incoming. Hears bytes.now incoming.used counts incoming.counts
+    ensures ok { IfOk result (λ incoming. TakesNext bytes.now incoming.used counts incoming.counts
         (fetching client.old (L.written link.old) (W.written output.old))
         (fetching client.new (L.written link.new) (W.written output.new))
         (kept (W.written output.old) (E.written errors.old) reporter.old.telling)
         (kept (W.written output.new) (E.written errors.new) reporter.new.telling)) }
-    ensures fault { IfErr result (λ fault. FailsToHear fault bytes.now counts
+    ensures fault { IfErr result (λ fault. FailsToTakeNext fault bytes.now counts
         (fetching client.old (L.written link.old) (W.written output.old))
         (fetching client.new (L.written link.new) (W.written output.new))
         (kept (W.written output.old) (E.written errors.old) reporter.old.telling)
@@ -182,8 +183,8 @@ fn hear<L: Sink, W: Sink, E: Sink>(
     ensures beside { L.beside link.new ≡ L.beside link.old }
 {
     match client.take_record(bytes) {
-        Some((place, number, record)) => {
-            let counts = deliver_record(place, number, record, output, errors, reporter, counts)?;
+        Some((index, number, record)) => {
+            let counts = deliver_record(index, number, record, output, errors, reporter, counts)?;
             Ok(Received {
                 used: PACKET,
                 counts,
@@ -231,8 +232,8 @@ fn deliver<L: Sink, W: Sink, E: Sink>(
             }),
             Err(count) => Err(LinkFault::Write(counts.written + count)),
         },
-        Event::Record(place, number, record) => {
-            deliver_record(*place, *number, record, output, errors, reporter, counts)
+        Event::Record(index, number, record) => {
+            deliver_record(*index, *number, record, output, errors, reporter, counts)
         }
         Event::None | Event::End | Event::Refused(_) | Event::Gap { .. } => Ok(counts),
         Event::Garbage | Event::Foreign => Ok(counts),
@@ -241,7 +242,7 @@ fn deliver<L: Sink, W: Sink, E: Sink>(
 
 /// Reports a record, and writes it to the output.
 fn deliver_record<W: Sink, E: Sink>(
-    place: usize,
+    index: usize,
     number: u32,
     bytes: &[u8; 512],
     output: &mut W,
@@ -252,16 +253,16 @@ fn deliver_record<W: Sink, E: Sink>(
     requires written { counts.written ≤ 2 ^ 32 }
     requires output { counts.output ≤ 2 ^ 32 }
     // Whatever the link accepted, it stays so.
-    ensures ok { (link : BytesWritten) → IfOk result (λ after. IsDelivered (Event.Record place number bytes.now) counts
+    ensures ok { (link : BytesWritten) → IfOk result (λ after. IsDelivered (Event.Record index number bytes.now) counts
         after link link (W.written output.old) (W.written output.new)) }
     ensures fault { (link : BytesWritten) → IfErr result (λ fault. IsUndelivered fault
-        (Event.Record place number bytes.now) counts link link (W.written output.old) (W.written output.new)) }
+        (Event.Record index number bytes.now) counts link link (W.written output.old) (W.written output.new)) }
     ensures received { Notes reporter.old.received reporter.new.received (W.written output.old) (W.written output.new) }
-    ensures reported { IsReportedOf (Event.Record place number bytes.now)
+    ensures reported { IsReportedOf (Event.Record index number bytes.now)
         (kept (W.written output.old) (E.written errors.old) reporter.old.telling)
         (kept (W.written output.new) (E.written errors.new) reporter.new.telling) }
 {
-    reporter.note(place, number, errors);
+    reporter.note(index, number, errors);
     match write_all_of(output, bytes) {
         Ok(()) => {
             reporter.receive();

@@ -10,7 +10,7 @@ ghost use Rattle.slink_feed.specs.Delivered.{record_events};
 ghost use Rattle.slink_feed.specs.Dialogue.{Talk, next_at};
 ghost use Rattle.slink_feed.specs.declared.grant.Mode.{Mode};
 ghost use Rattle.slink_feed.specs.Grant.{grant_of};
-ghost use Rattle.slink_feed.specs.Holding.{AreRising, GoOn, Turn, numbers_of, talk_behind};
+ghost use Rattle.slink_feed.specs.Holding.{AreRising, GoOn, Turn, numbers_of, talk_after};
 ghost use Rattle.slink_feed.specs.Listening.{Listening, Reads};
 ghost use Rattle.slink_feed.specs.Sending.{AreCalled, AreShown, Called, IsReadFrom, IsStretch, packets_from};
 ghost use Rattle.slink_feed.specs.Sending.{packets_of};
@@ -31,7 +31,7 @@ pub fn one_reading()
 /// A client that asks for the record after its last one, and lacks fewer than 2^24 of those that were pushed, is
 /// granted this number exactly where its record is still in the ring or is the next one; else it is granted none, and
 /// no other.
-pub fn granted_behind_the_last()
+pub fn granted_after_the_last()
     ensures there { (mode : Mode) (w : Window) (number : ℕ)
         → length w.records ≤ 1000000 → number ≤ w.next → oldest_of w ≤ number
         → grant_of mode (Some (number % 2 ^ 24)) w ≡ Some number }
@@ -56,7 +56,7 @@ pub fn a_stretch_is_sent()
 /// before the next that it wants.
 pub fn each_record_once()
     ensures { (k : ℕ) (t : Talk) (turns : List Turn) → t.holes ≡ false
-        → GoOn (next_at t.wants k) (numbers_of k t turns) (next_at (talk_behind t turns).wants k) }
+        → GoOn (next_at t.wants k) (numbers_of k t turns) (next_at (talk_after t turns).wants k) }
 {}
 
 /// A client, also one that goes past holes, reports each record at most once and in rising order, over any links and

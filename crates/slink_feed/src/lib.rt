@@ -27,7 +27,7 @@ pub use fetching::{Room, fetch_turn, fetch_turn_in, fetch_turn_reporting};
 pub use grant::{Grant, Mode};
 pub use input::InputFault;
 pub use law::{
-    a_stretch_is_sent, a_stretch_is_wanted, each_record_once, granted_behind_the_last,
+    a_stretch_is_sent, a_stretch_is_wanted, each_record_once, granted_after_the_last,
     no_record_twice, one_reading, whole_packets_are_reported,
 };
 pub use reported::wants_move_by_records;

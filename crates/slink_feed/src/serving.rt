@@ -2,10 +2,10 @@
 ghost use Rattle.std.specs.Prelude.{◌≡◌, ◌≢◌, ◌≤◌, ◌<◌, IfErr, IfOk, OnOk, length};
 ghost use Rattle.slink_feed.specs.declared.session.Phase.{Phase};
 ghost use Rattle.slink_feed.specs.Attending.{Attends, IsServeFault, RepliesToAll, attending};
-ghost use Rattle.slink_feed.specs.private.Replying.{FailsToGive, HasGiven, HasSent, IsReplyFault, IsSayFault};
+ghost use Rattle.slink_feed.specs.private.Replying.{FailsToGive, HasGiven, HasSent, IsReplyFault, IsWriteFault};
 ghost use Rattle.slink_feed.specs.private.Replying.{IsSendFault, IsWritten};
 ghost use Rattle.slink_feed.specs.private.Replying.{waits_after};
-ghost use Rattle.slink_feed.specs.Rounds.{Attending, place_behind};
+ghost use Rattle.slink_feed.specs.Rounds.{Attending, place_after};
 ghost use Rattle.slink_feed.specs.Running.{Stands};
 ghost use Rattle.slink_feed.specs.Session.{Fits, sent_without};
 
@@ -152,11 +152,11 @@ fn give<A: Allocator, L: Sink>(
     match session.next_record(feed, k) {
         Ok((number, bytes)) => {
             Packet::put(room, number, bytes);
-            let written = say(link, room, before)?;
+            let written = write_after(link, room, before)?;
             Ok(Given { written, waits: 0 })
         }
         Err(unsent) => {
-            let after = say(link, unsent.bytes(), before)?;
+            let after = write_after(link, unsent.bytes(), before)?;
             Ok(Given {
                 written: after,
                 waits: count_waits(unsent, waits),
@@ -179,7 +179,7 @@ fn count_waits(unsent: Unsent, waits: usize) -> usize
 /// The index of the place after another; after the last place the first one.
 fn next_place<A: Allocator>(feed: &Feed<A>, k: usize) -> usize
     requires { k < length feed.now }
-    ensures { result ≡ place_behind feed.now k }
+    ensures { result ≡ place_after feed.now k }
 {
     let count = feed.len();
     if k + 1 == count { 0 } else { k + 1 }
@@ -209,19 +209,19 @@ fn reply_to_all<A: Allocator, L: Sink>(
     let mut written = before;
     while start < bytes.len() {
         let (used, reply) = session.take(feed, &bytes[start..]);
-        written = say(link, reply.bytes(), written)?;
+        written = write_after(link, reply.bytes(), written)?;
         start += used;
     }
     Ok(())
 }
 
 /// Writes bytes after so many others, and returns how many there are with these.
-fn say<L: Sink>(link: &mut L, bytes: &[u8], before: usize) -> Result<usize, LinkFault>
+fn write_after<L: Sink>(link: &mut L, bytes: &[u8], before: usize) -> Result<usize, LinkFault>
     requires room { before ≤ 2199023255552 }
     requires few { length bytes.now ≤ 520 }
     ensures ok { IfOk result (λ after. IsWritten (L.written link.old) (L.written link.new) bytes.now before after) }
     ensures fault { IfErr result
-        (λ fault. IsSayFault fault (L.written link.old) (L.written link.new) bytes.now before) }
+        (λ fault. IsWriteFault fault (L.written link.old) (L.written link.new) bytes.now before) }
     ensures beside { L.beside link.new ≡ L.beside link.old }
 {
     match write_all_of(link, bytes) {

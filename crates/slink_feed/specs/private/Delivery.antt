@@ -52,14 +52,15 @@ pub record IsReportedOf (event : Event) (old new : Kept) : Type 0 where
   pub lines : AreReported (lines_of old.telling (record_in event)) old.errors new.errors
 
 -- Of these bytes so many were taken, and what they come to was reported and delivered.
-pub record Hears (bytes : List ℕ) (used : ℕ) (before after : Counts) (old new : Fetching) (was is : Kept) : Type 0 where
+pub record TakesNext (bytes : List ℕ) (used : ℕ) (before after : Counts) (old new : Fetching) (was is : Kept) : Type
+    0 where
   pub event : Event
   pub comes : ComesTo event used bytes old.client new.client
   pub reported : IsReportedOf event was is
   pub done : IsDelivered event before after old.written new.written old.output new.output
 
 -- It was reported, and a device failed at it.
-pub record FailsToHear (fault : LinkFault) (bytes : List ℕ) (before : Counts) (old new : Fetching)
+pub record FailsToTakeNext (fault : LinkFault) (bytes : List ℕ) (before : Counts) (old new : Fetching)
     (was is : Kept) : Type 0 where
   pub event : Event
   pub used : ℕ

@@ -23,10 +23,10 @@ pub record IsUnwritten (old new : BytesWritten) (bytes : List ℕ) (before after
   pub written : EmittedPrefix old new bytes more
   pub count : after ≡ before + more
 
-abbrev pub IsSayFault : LinkFault → BytesWritten → BytesWritten → List ℕ → ℕ → Type 0
-IsSayFault faults.Read old new bytes before = ⊥
-IsSayFault (faults.Write after) old new bytes before = IsUnwritten old new bytes before after
-IsSayFault (faults.Output after) old new bytes before = ⊥
+abbrev pub IsWriteFault : LinkFault → BytesWritten → BytesWritten → List ℕ → ℕ → Type 0
+IsWriteFault faults.Read old new bytes before = ⊥
+IsWriteFault (faults.Write after) old new bytes before = IsUnwritten old new bytes before after
+IsWriteFault (faults.Output after) old new bytes before = ⊥
 
 -- how often there was nothing to give, one after another
 abbrev pub waits_after : Sent → ℕ → ℕ
@@ -53,7 +53,7 @@ pub record FailsToGive (fault : LinkFault) (feed : List Window) (k : ℕ) (old n
   pub answer : Sent
   pub is : sent feed old.session.state k ≡ (new.session.state, answer)
   pub held : new.session.held ≡ old.session.held
-  pub cut : IsSayFault fault old.written new.written (sent_bytes answer) before
+  pub cut : IsWriteFault fault old.written new.written (sent_bytes answer) before
 
 -- All that is due was sent, which was so many bytes.
 pub record HasSent (feed : List Window) (old new : Attending) (count : ℕ) : Type 0 where

@@ -27,7 +27,7 @@ returns-in_err-incoming-clause-fault g c =
 pub returns-in_err-incoming-clause-told : goal.returns-in_err-incoming-clause-told
 returns-in_err-incoming-clause-told g c = record {
   received = notes_both _ _ _ _ _ _ c.loop-offset.invariant.so_far.output.failures
-      c.loop-offset.invariant.told.received c.hear.ensures.received;
+      c.loop-offset.invariant.told.received c.take_next.ensures.received;
   reports = reports_cut _ _ c.in_err-incoming.field-0.0 c.loop-offset.counts _ _ _ _ _ refl refl
       c.loop-offset.invariant.told.reports c.loop-offset.invariant.so_far.output.failures
       c.in_err-incoming.ensures.fault;
@@ -42,12 +42,12 @@ loop-offset-preserved g c = record {
       c.in_ok-incoming.incoming.counts c.in_ok-incoming.ensures.ok.done;
   told = record {
     received = notes_both _ _ _ _ _ _ c.loop-offset.invariant.so_far.output.failures
-        c.loop-offset.invariant.told.received c.hear.ensures.received;
+        c.loop-offset.invariant.told.received c.take_next.ensures.received;
     reports = reports_received _ _ c.in_ok-incoming.incoming.used c.loop-offset.counts
         c.in_ok-incoming.incoming.counts _ _ _ _ _ refl refl c.loop-offset.invariant.told.reports
         c.loop-offset.invariant.so_far.output.failures c.in_ok-incoming.ensures.ok;
   };
-  beside = c.hear.ensures.beside ∙ c.loop-offset.invariant.beside;
+  beside = c.take_next.ensures.beside ∙ c.loop-offset.invariant.beside;
 }
 
 pub returns-after-loop-offset-clause-ok : goal.returns-after-loop-offset-clause-ok

@@ -2,7 +2,7 @@ use Rattle.std.proofs.Common.{◌≡◌, ◌-◌, ◌∙◌, arith, refl, subst,
 use Rattle.std.proofs.lemmas.Result.{err_from_is_err_and}
 use Rattle.slink_wire.specs.Reply.{reply_bytes}
 use Rattle.slink_feed.specs.Attending.{attending}
-use Rattle.slink_feed.specs.private.Replying.{IsReplyFault, IsWritten, IsSayFault}
+use Rattle.slink_feed.specs.private.Replying.{IsReplyFault, IsWritten, IsWriteFault}
 use Rattle.slink_feed.specs.Rounds.{Attending}
 use Rattle.slink_feed.proofs.Deliveries.{piece_length}
 use Rattle.slink_feed.proofs.Sendoffs.{not_replied, nothing_replied, one_replied, passed_on}
@@ -20,13 +20,14 @@ pub loop-start-preserved : goal.loop-start-preserved
 loop-start-preserved g c =
     let old : Attending = attending c.args.session.now (g.L.Sink.written c.args.link.now) in
     let now : Attending = attending c.loop-start.session (g.L.Sink.written c.loop-start.link) in
-    let new : Attending = attending c.take-used.new.self (g.L.Sink.written c.say.new.link) in
+    let new : Attending = attending c.take-used.new.self (g.L.Sink.written c.write_after.new.link) in
     let long : length (take (length c.args.bytes.now - c.loop-start.start) (drop c.loop-start.start c.args.bytes.now))
     ≡ length c.args.bytes.now - c.loop-start.start = piece_length c.args.bytes.now c.loop-start.start in
-    let done : IsWritten (g.L.Sink.written c.loop-start.link) (g.L.Sink.written c.say.new.link)
+    let done : IsWritten (g.L.Sink.written c.loop-start.link) (g.L.Sink.written c.write_after.new.link)
     (reply_bytes c.take-used.result.1) c.loop-start.written c.in_ok-written.written =
-    subst (λ (bytes : List ℕ). IsWritten (g.L.Sink.written c.loop-start.link) (g.L.Sink.written c.say.new.link) bytes
-    c.loop-start.written c.in_ok-written.written) c.bytes.ensures c.in_ok-written.ensures.ok in
+    subst (λ (bytes : List ℕ). IsWritten (g.L.Sink.written c.loop-start.link)
+    (g.L.Sink.written c.write_after.new.link) bytes c.loop-start.written c.in_ok-written.written) c.bytes.ensures
+    c.in_ok-written.ensures.ok in
     record {
       so_far = one_replied c.args.feed.now old now new c.args.bytes.now c.loop-start.start c.args.before
           c.loop-start.written c.take-used.result.0 c.take-used.result.1 c.loop-start.invariant.so_far
@@ -40,19 +41,20 @@ loop-start-preserved g c =
           (omega (arith, long, c.take-used.ensures.bound)) done;
       fits = c.take-used.ensures.fits;
       stands = c.take-used.ensures.stands;
-      beside = c.say.ensures.beside ∙ c.loop-start.invariant.beside;
+      beside = c.write_after.ensures.beside ∙ c.loop-start.invariant.beside;
     }
 
 pub returns-in_err-written-clause-fault : goal.returns-in_err-written-clause-fault
 returns-in_err-written-clause-fault g c =
     let old : Attending = attending c.args.session.now (g.L.Sink.written c.args.link.now) in
     let now : Attending = attending c.loop-start.session (g.L.Sink.written c.loop-start.link) in
-    let new : Attending = attending c.take-used.new.self (g.L.Sink.written c.say.new.link) in
-    let cut : IsSayFault c.in_err-written.field-0.0 (g.L.Sink.written c.loop-start.link)
-    (g.L.Sink.written c.say.new.link)
+    let new : Attending = attending c.take-used.new.self (g.L.Sink.written c.write_after.new.link) in
+    let cut : IsWriteFault c.in_err-written.field-0.0 (g.L.Sink.written c.loop-start.link)
+    (g.L.Sink.written c.write_after.new.link)
     (reply_bytes c.take-used.result.1) c.loop-start.written =
-    subst (λ (bytes : List ℕ). IsSayFault c.in_err-written.field-0.0 (g.L.Sink.written c.loop-start.link)
-    (g.L.Sink.written c.say.new.link) bytes c.loop-start.written) c.bytes.ensures c.in_err-written.ensures.fault in
+    subst (λ (bytes : List ℕ). IsWriteFault c.in_err-written.field-0.0 (g.L.Sink.written c.loop-start.link)
+    (g.L.Sink.written c.write_after.new.link) bytes c.loop-start.written) c.bytes.ensures
+    c.in_err-written.ensures.fault in
     let fails : IsReplyFault c.in_err-written.field-0.0 c.args.feed.now old new c.args.bytes.now c.args.before =
     not_replied c.args.feed.now old now new c.args.bytes.now c.loop-start.start c.args.before c.loop-start.written
     c.take-used.result.0 c.take-used.result.1 c.loop-start.invariant.so_far

@@ -3,7 +3,7 @@ use Rattle.std.proofs.Common.{◌≤◌, ◌<◌, ◌+◌, ◌-◌, ◌*◌, ◌
 use Rattle.std.proofs.lemmas.Result.{err_from_is_err_and}
 use Rattle.slink_feed.specs.Attending.{attending}
 use Rattle.slink_feed.specs.private.Replying.{FailsToGive, HasGiven, IsSendFault, waits_after}
-use Rattle.slink_feed.specs.Rounds.{Attending, place_behind}
+use Rattle.slink_feed.specs.Rounds.{Attending, place_after}
 use Rattle.slink_feed.proofs.Dues.{Moves, due}
 use Rattle.slink_feed.proofs.Sendoffs.{SentSoFar, few_written, has_moved, has_sent, less_left, not_sent, nothing_sent}
 use Rattle.slink_feed.proofs.Sendoffs.{one_sent, passed_on}
@@ -59,20 +59,20 @@ loop-waits-preserved g c =
     let moves : Moves c.args.feed.now c.loop-waits.session.state (c.give.new.session.state, given.answer) =
     has_moved c.args.feed.now c.loop-waits.k now new c.loop-waits.written c.in_ok-given.given.written
     c.loop-waits.waits c.in_ok-given.given.waits c.if-is_closed.ensures.no c.loop-waits.invariant.fits.1 given in
-    let so_far : SentSoFar c.args.feed.now old new (place_behind c.args.feed.now c.loop-waits.k)
+    let so_far : SentSoFar c.args.feed.now old new (place_after c.args.feed.now c.loop-waits.k)
     (waits_after given.answer c.loop-waits.waits) c.in_ok-given.given.written =
     one_sent c.args.feed.now old now new c.loop-waits.k c.loop-waits.waits c.loop-waits.written
     c.loop-waits.invariant.so_far (c.give.new.session.state, given.answer) given.is refl given.held
     c.in_ok-given.given.written moves lt within given.short given.written in
     let most : length c.args.feed.now ≤ 16 = omega (arith, c.len.ensures.value, c.len.ensures.most) in
     let few : c.in_ok-given.given.written ≤ 1099511627776 =
-    few_written c.args.feed.now old new (place_behind c.args.feed.now c.loop-waits.k)
+    few_written c.args.feed.now old new (place_after c.args.feed.now c.loop-waits.k)
     (waits_after given.answer c.loop-waits.waits) c.in_ok-given.given.written most so_far in
     record {
       so_far = subst (λ (k : ℕ). SentSoFar c.args.feed.now old new k c.in_ok-given.given.waits
           c.in_ok-given.given.written)
           (sym c.next_place-k.ensures)
-          (subst (λ (n : ℕ). SentSoFar c.args.feed.now old new (place_behind c.args.feed.now c.loop-waits.k) n
+          (subst (λ (n : ℕ). SentSoFar c.args.feed.now old new (place_after c.args.feed.now c.loop-waits.k) n
           c.in_ok-given.given.written) (sym given.waited_is) so_far);
       few = omega (arith, few);
       fits = c.give.ensures.fits;

@@ -3,11 +3,11 @@ use Rattle.std.proofs.lemmas.Result.{err_from_is_err_and}
 use Rattle.slink_feed.specs.declared.dialogue.Event.TheVariants as events
 use Rattle.slink_feed.proofs.Deliveries.{comes_to}
 use Rattle.slink_feed.proofs.Sendoffs.{passed_on}
-use Rattle.slink_feed.proofs.fetching.hear.Goals as goal
+use Rattle.slink_feed.proofs.fetching.take_next.Goals as goal
 
 pub returns-in_ok-counts-in-Some-clause-ok : goal.returns-in_ok-counts-in-Some-clause-ok
 returns-in_ok-counts-in-Some-clause-ok g c = record {
-  event = events.Record c.in-Some.place c.in-Some.number c.in-Some.record.now;
+  event = events.Record c.in-Some.index c.in-Some.number c.in-Some.record.now;
   comes = record { brings = c.in-Some.ensures.brings; some = omega arith; bound = c.in-Some.ensures.long };
   reported = c.deliver_record.ensures.reported;
   done = c.in_ok-counts-in-Some.ensures.ok (g.L.Sink.written c.args.link.now);
@@ -18,7 +18,7 @@ returns-in_err-counts-in-Some-clause-fault g c =
     passed_on c.from_residual.result c.in_err-counts-in-Some.field-0.0 _
     (err_from_is_err_and c.from_residual.result c.from_residual.ensures.1)
     (record {
-      event = events.Record c.in-Some.place c.in-Some.number c.in-Some.record.now;
+      event = events.Record c.in-Some.index c.in-Some.number c.in-Some.record.now;
       used = 520;
       comes = record { brings = c.in-Some.ensures.brings; some = omega arith; bound = c.in-Some.ensures.long };
       reported = c.deliver_record.ensures.reported;

@@ -1,5 +1,5 @@
 use Rattle.slink_feed.proofs.Behind.{granted_lost, granted_there}
-use Rattle.slink_feed.proofs.law.granted_behind_the_last.Goals as goal
+use Rattle.slink_feed.proofs.law.granted_after_the_last.Goals as goal
 
 pub returns-clause-there : goal.returns-clause-there
 returns-clause-there c = λ mode w number few at_most there. granted_there mode w number few at_most there
