@@ -19,7 +19,7 @@ pub fn server_of(alloc: Global, ring: Ring) -> Result<Server, AllocError>
     Server::new(alloc, feed, 64)
 }
 
-/// Serves until all is over, also behind what is wrong with the input, which is answered.
+/// Serves until all is over, also after what is wrong with the input, which is answered.
 pub fn serve_to_the_end<R: Ready>(server: &mut Server, ready: &mut R) -> Result<(), InputFault>
     requires { IsSound server.old }
     ensures { (start : List Window) → IsServing start server.old (R.log ready.old)

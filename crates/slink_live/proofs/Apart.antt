@@ -9,7 +9,7 @@ use Rattle.slink_feed.specs.Session.{sent_in, sent_of}
 use Rattle.slink_feed.specs.Window.{Window, record_at}
 use Rattle.slink_live.specs.declared.places.Places.{Places}
 use Rattle.slink_live.specs.declared.ready.Interest.{Interest}
-use Rattle.slink_live.specs.Awake.{AreSame, IsClosable, IsLost, IsSettled, Sleeps, has_all, is_lost, is_over, waits}
+use Rattle.slink_live.specs.Awake.{AreSame, IsClosable, IsLost, IsSettled, Sleeps, has_all, is_lost, must_close, waits}
 use Rattle.slink_live.specs.Awake.{writes}
 use Rattle.slink_live.specs.Served.{LinkState}
 use Rattle.slink_live.specs.private.Granting.{LeavesOut, StaysBut}
@@ -99,7 +99,7 @@ was_lost old new s alike lost = record {
 module _ (old new : List Window) (l : LinkState) (long : length new ≡ length old)
     (alike : l.session.state.phase ≡ Phases.Streaming → AreAlike old new l.session.state.grants) where
   was_closable : (has_ended : Bool) → IsClosable new has_ended l → IsClosable old has_ended l
-  was_closable has_ended (is_over over) = is_over over
+  was_closable has_ended (must_close over) = must_close over
   was_closable has_ended (is_lost lost) = is_lost (was_lost old new l.session.state alike lost)
   was_closable has_ended (has_all ended all) = has_all ended (record {
     streams = all.streams;

@@ -29,7 +29,7 @@ abbrev pub AreSame : Grants → List Window → List Window → Type 0
 AreSame grants old new = (k : ℕ) (g : Grant) → grant_at grants k ≡ Some g → slice_get new k ≡ slice_get old k
 
 -- Its session is over, and nothing is pending.
-pub record IsOver (l : LinkState) : Type 0 where
+pub record MustClose (l : LinkState) : Type 0 where
   pub closed : l.session.state.phase ≡ Closed
   pub none : l.pending ≡ []
 
@@ -41,7 +41,7 @@ pub record HasAll (feed : List Window) (l : LinkState) : Type 0 where
 
 -- Why a link is closed, but for that the device reports that it is gone. One that still shakes hands is not.
 pub data IsClosable (feed : List Window) (has_ended : Bool) (l : LinkState) : Type 0 where
-  is_over : IsOver l → IsClosable feed has_ended l
+  must_close : MustClose l → IsClosable feed has_ended l
   is_lost : IsLost feed l.session.state → IsClosable feed has_ended l
   has_all : has_ended ≡ true → HasAll feed l → IsClosable feed has_ended l
 

@@ -7,7 +7,7 @@ ghost use Rattle.slink_feed.specs.declared.session.Sent.{Sent};
 ghost use Rattle.slink_feed.specs.Serving.{Serves};
 ghost use Rattle.slink_feed.specs.Session.{Fits, IsAtNext, IsWaiting, all_done, sent};
 ghost use Rattle.slink_feed.specs.Window.{Window};
-ghost use Rattle.slink_live.specs.Awake.{HasLeft, HasRoom, IsClosable, IsFilled, IsLost, IsOver};
+ghost use Rattle.slink_live.specs.Awake.{HasLeft, HasRoom, IsClosable, IsFilled, IsLost, MustClose};
 ghost use Rattle.slink_live.specs.Story.{Asks, IsEarlier, IsNew};
 ghost use Rattle.slink_live.specs.private.Calling.{Gives, IsRested};
 ghost use Rattle.slink_live.specs.private.Granting.{AreDue, Covers, Has};
@@ -96,8 +96,8 @@ impl Link {
 
     /// Whether its session is closed, and nothing is pending.
     fn must_close(&self) -> bool
-        ensures yes { OnTrue result (IsOver self.now) }
-        ensures no { OnFalse result (¬ (IsOver self.now)) }
+        ensures yes { OnTrue result (MustClose self.now) }
+        ensures no { OnFalse result (¬ (MustClose self.now)) }
     {
         self.session.is_closed() && self.pending.is_empty()
     }
@@ -258,7 +258,7 @@ impl Link {
             if !self.has_room() {
                 return;
             }
-            match self.turn(due) {
+            match self.next_due(due) {
                 Some(k) => due = self.ask_due(feed, k, due),
                 None => return self.end(feed),
             }
@@ -294,7 +294,7 @@ impl Link {
     }
 
     /// The index of the place that is asked next, of those that have a record due.
-    fn turn(&self, due: Places) -> Option<usize>
+    fn next_due(&self, due: Places) -> Option<usize>
         ensures some { IfSome result (Has due) }
         ensures first { IfSome result (λ k. (j : ℕ) → IsEarlier self.now.ring j k → ¬ (Has due j)) }
         ensures none { IfNone result ((j : ℕ) → ¬ (Has due j)) }

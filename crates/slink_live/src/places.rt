@@ -12,7 +12,7 @@ pub(crate) struct Places {
     bits: u16,
 }
 
-/// The place of the lowest bit, where one is set.
+/// The index of the lowest bit, where one is set.
 fn lowest(bits: u32) -> Option<usize>
     ensures some { IfSome result (λ k. (bit_at bits k ≡ 1) × ((j : ℕ) → j < k → bit_at bits j ≡ 0)) }
     ensures few { IfSome result (λ k. k < 32) }
@@ -25,8 +25,8 @@ fn lowest(bits: u32) -> Option<usize>
     }
 }
 
-/// The bits from a place on, moved to the front.
-fn behind(bits: u32, from: usize) -> u32
+/// The bits from an index on, moved to the front.
+fn bits_from(bits: u32, from: usize) -> u32
     ensures value { result ≡ bits / 2 ^ from }
     ensures none { 32 ≤ from → result ≡ 0 }
 {
@@ -34,14 +34,14 @@ fn behind(bits: u32, from: usize) -> u32
 }
 
 impl Places {
-    /// None.
+    /// No places.
     pub(crate) fn none() -> Places
         ensures { (k : ℕ) → ¬ (Has result k) }
     {
         Places { bits: 0 }
     }
 
-    /// These, and the place at an index.
+    /// Returns these places, and with them the one at an index.
     pub(crate) fn with(self, k: usize) -> Places
         requires { k < 16 }
         ensures here { Has result k }
@@ -52,7 +52,7 @@ impl Places {
         }
     }
 
-    /// These, but the place at an index.
+    /// Returns these places without the one at an index.
     pub(crate) fn without(self, k: usize) -> Places
         requires { k < 16 }
         ensures less { (j : ℕ) → Has result j → Has self j × (j ≢ k) }
@@ -63,21 +63,21 @@ impl Places {
         }
     }
 
-    /// The first of them in a round from a place on.
+    /// Returns the index of the first of these places, in a round that begins at an index.
     pub(crate) fn first_from(self, from: usize) -> Option<usize>
         ensures some { IfSome result (Has self) }
         ensures first { IfSome result (λ k. (j : ℕ) → IsEarlier from j k → ¬ (Has self j)) }
         ensures none { IfNone result ((j : ℕ) → ¬ (Has self j)) }
     {
         let bits = u32::from(self.bits);
-        let rest = behind(bits, from);
+        let rest = bits_from(bits, from);
         match lowest(rest) {
             Some(k) => Some(from + k),
             None => lowest(bits),
         }
     }
 
-    /// Whether one of these is one of others.
+    /// Returns whether one of these places is one of others.
     pub(crate) fn meets(self, others: Places) -> bool
         ensures { OnFalse result ((k : ℕ) → Has self k → ¬ (Has others k)) }
     {

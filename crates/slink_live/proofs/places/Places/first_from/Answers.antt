@@ -12,28 +12,28 @@ pub overflow_add-result : goal.overflow_add-result
 overflow_add-result c =
     omega (
       arith,
-      few_behind c.behind-rest.result c.args.from c.in-Some.k c.behind-rest.ensures.none c.in-Some.ensures.some.0,
+      few_behind c.bits_from-rest.result c.args.from c.in-Some.k c.bits_from-rest.ensures.none c.in-Some.ensures.some.0,
       c.in-Some.ensures.few,
     )
 
 pub returns-in-Some-clause-some : goal.returns-in-Some-clause-some
 returns-in-Some-clause-some c =
-    let rest : c.behind-rest.result ≡ c.args.self.bits / 2 ^ c.args.from =
-    c.behind-rest.ensures.value ∙ ap (λ n. n / 2 ^ c.args.from) c.from-bits.ensures in
+    let rest : c.bits_from-rest.result ≡ c.args.self.bits / 2 ^ c.args.from =
+    c.bits_from-rest.ensures.value ∙ ap (λ n. n / 2 ^ c.args.from) c.from-bits.ensures in
     has_behind c.args.self.bits c.args.from c.in-Some.k
     (subst (λ n. bit_at n c.in-Some.k ≡ 1) rest c.in-Some.ensures.some.0)
 
 pub returns-in-Some-clause-first : goal.returns-in-Some-clause-first
 returns-in-Some-clause-first c =
-    let rest : c.behind-rest.result ≡ c.args.self.bits / 2 ^ c.args.from =
-    c.behind-rest.ensures.value ∙ ap (λ n. n / 2 ^ c.args.from) c.from-bits.ensures in
+    let rest : c.bits_from-rest.result ≡ c.args.self.bits / 2 ^ c.args.from =
+    c.bits_from-rest.ensures.value ∙ ap (λ n. n / 2 ^ c.args.from) c.from-bits.ensures in
     first_behind c.args.self.bits c.args.from c.in-Some.k
     (subst (λ n. (i : ℕ) → i < c.in-Some.k → bit_at n i ≡ 0) rest c.in-Some.ensures.some.1)
 
 pub returns-in-None-clause-first : goal.returns-in-None-clause-first
 returns-in-None-clause-first c =
-    let rest : c.behind-rest.result ≡ c.args.self.bits / 2 ^ c.args.from =
-    c.behind-rest.ensures.value ∙ ap (λ n. n / 2 ^ c.args.from) c.from-bits.ensures in
+    let rest : c.bits_from-rest.result ≡ c.args.self.bits / 2 ^ c.args.from =
+    c.bits_from-rest.ensures.value ∙ ap (λ n. n / 2 ^ c.args.from) c.from-bits.ensures in
     if_some c.lowest-in-None.result
     (λ k. (bit_at c.from-bits.result k ≡ 1) × ((j : ℕ) → j < k → bit_at c.from-bits.result j ≡ 0))
     (λ k. (j : ℕ) → IsEarlier c.args.from j k → ¬ (bit_at c.args.self.bits j ≡ 1))

@@ -1,6 +1,6 @@
 use Rattle.std.proofs.Common.{◌^◌, ◌<◌, ◌≤◌, arith, sym}
 use Rattle.std.proofs.Math.Nat.{div-eq_of_lt, pow-le-pow_right}
-use Rattle.slink_live.proofs.places.behind.Goals as goal
+use Rattle.slink_live.proofs.places.bits_from.Goals as goal
 
 pub returns-else-from-lt32-clause-value : goal.returns-else-from-lt32-clause-value
 returns-else-from-lt32-clause-value c =
