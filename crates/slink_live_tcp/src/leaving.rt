@@ -52,7 +52,7 @@ impl Leaving {
 #[derive(Drop)]
 pub(crate) struct Departures {
     streams: Vec<Option<Leaving>>,
-    // The token of the first place.
+    // The token of the first stream.
     first: usize,
     count: usize,
 }
@@ -77,16 +77,16 @@ impl Departures {
 
     /// Writes nothing more on a stream that is registered, and takes it. Without room for it, it is let go of at once.
     pub(crate) fn add(&mut self, mut stream: TcpStream, registry: &Registry, since: Instant) {
-        let Some(place) = self.free() else {
+        let Some(index) = self.free() else {
             return;
         };
-        let token = Token(self.first.saturating_add(place));
+        let token = Token(self.first.saturating_add(index));
         if stream.shutdown(Shutdown::Write).is_ok()
             && registry
                 .reregister(&mut stream, token, Interest::READABLE)
                 .is_ok()
         {
-            self.streams[place] = Some(Leaving {
+            self.streams[index] = Some(Leaving {
                 stream,
                 since,
                 may_read: true,
@@ -95,13 +95,13 @@ impl Departures {
         }
     }
 
-    /// A free place.
+    /// Returns the index of a free entry, if there is one.
     fn free(&self) -> Option<usize>
-        ensures { IfSome result (λ place. place < length self.now.streams.items) }
+        ensures { IfSome result (λ index. index < length self.now.streams.items) }
     {
-        for place in 0..self.streams.len() {
-            if self.streams[place].is_none() {
-                return Some(place);
+        for index in 0..self.streams.len() {
+            if self.streams[index].is_none() {
+                return Some(index);
             }
         }
         None
@@ -109,8 +109,8 @@ impl Departures {
 
     /// An event says that the stream with a token may have bytes, or be at its end.
     pub(crate) fn may(&mut self, token: usize) {
-        let place = token.saturating_sub(self.first);
-        if let Some(Some(leaving)) = self.streams.get_mut(place) {
+        let index = token.saturating_sub(self.first);
+        if let Some(Some(leaving)) = self.streams.get_mut(index) {
             leaving.may_read = true;
         }
     }
@@ -121,14 +121,14 @@ impl Departures {
     }
 
     /// Reads what still comes, and lets go of those that are done.
-    pub(crate) fn settle(&mut self, now: Instant) {
-        for place in 0..self.streams.len() {
-            let stays = match &mut self.streams[place] {
+    pub(crate) fn drain(&mut self, now: Instant) {
+        for index in 0..self.streams.len() {
+            let stays = match &mut self.streams[index] {
                 Some(leaving) => leaving.stays(now),
                 None => true,
             };
             if !stays {
-                self.streams[place] = None;
+                self.streams[index] = None;
                 self.count = self.count.saturating_sub(1);
             }
         }

@@ -1,18 +1,18 @@
-//! The places of a round at which there may be something to do.
+//! The tokens of a round with which there may be something to do.
 
 use std::alloc::{AllocError, Global};
 
-/// So many places have their bits in one word.
+/// So many tokens have their bits in one word.
 const WORD: usize = 64;
 
-/// A set of places, so that a link that waits costs a round no time.
+/// A set of tokens, so that a link that waits costs a round no time.
 #[derive(Drop)]
 pub(crate) struct Round {
     words: Vec<u64>,
 }
 
 impl Round {
-    /// Room for so many places, of which none is there.
+    /// An empty set, with room for so many tokens.
     ///
     /// # Errors
     ///
@@ -25,31 +25,31 @@ impl Round {
         Ok(Round { words })
     }
 
-    /// There may be something to do at a place.
-    pub(crate) fn add(&mut self, place: usize) {
-        if let Some(word) = self.words.get_mut(place / WORD) {
-            *word |= 1 << (place % WORD);
+    /// Notes that there may be something to do with a token.
+    pub(crate) fn add(&mut self, token: usize) {
+        if let Some(word) = self.words.get_mut(token / WORD) {
+            *word |= 1 << (token % WORD);
         }
     }
 
-    /// There is nothing to do at a place.
-    pub(crate) fn remove(&mut self, place: usize) {
-        if let Some(word) = self.words.get_mut(place / WORD) {
-            *word &= !(1 << (place % WORD));
+    /// Notes that there is nothing to do with a token.
+    pub(crate) fn remove(&mut self, token: usize) {
+        if let Some(word) = self.words.get_mut(token / WORD) {
+            *word &= !(1 << (token % WORD));
         }
     }
 
-    /// The first place from one on at which there may be something to do.
+    /// Returns the first token from this one on with which there may be something to do.
     pub(crate) fn next(&self, from: usize) -> Option<usize> {
         let first = from / WORD;
-        for index in first..self.words.len() {
-            let mut bits = self.words[index];
-            if index == first {
+        for token in first..self.words.len() {
+            let mut bits = self.words[token];
+            if token == first {
                 bits &= u64::MAX << (from % WORD);
             }
             if bits != 0 {
                 let low = bits.trailing_zeros() as usize;
-                return Some(index.saturating_mul(WORD).saturating_add(low));
+                return Some(token.saturating_mul(WORD).saturating_add(low));
             }
         }
         None

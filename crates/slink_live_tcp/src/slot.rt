@@ -32,13 +32,13 @@ struct Line {
     waits_since: Option<Instant>,
 }
 
-/// A place for a link.
+/// A slot for a link.
 #[derive(Drop)]
 pub(crate) struct Slot {
     line: Option<Line>,
 }
 
-/// What a slot has to tell.
+/// What can be done with the link in a slot.
 #[derive(Clone, Copy, Debug, PartialEq, Eq)]
 pub(crate) enum News {
     /// Nothing can be done.
@@ -162,7 +162,7 @@ impl Line {
 }
 
 impl Slot {
-    /// A place without a link.
+    /// A slot without a link.
     pub(crate) fn new() -> Slot {
         Slot { line: None }
     }
@@ -197,7 +197,7 @@ impl Slot {
         }
     }
 
-    /// What an event says.
+    /// Notes what an event reports of the link.
     pub(crate) fn may(&mut self, reads: bool, writes: bool) {
         if let Some(line) = &mut self.line {
             line.may_read = line.may_read || reads;

@@ -55,7 +55,7 @@ pub struct Tcp<'a, C: Clock, I: Drop> {
     slots: Vec<Slot>,
     departures: Departures,
     round: Round,
-    // The next place of the round, and whether the round found something.
+    // The next token of the round, and whether the round found something.
     cursor: usize,
     is_busy: bool,
     looked_at: Option<Instant>,
@@ -63,7 +63,7 @@ pub struct Tcp<'a, C: Clock, I: Drop> {
     log: Log,
 }
 
-/// So many places for links.
+/// So many slots for links.
 fn slots(alloc: Global, count: usize) -> io::Result<Vec<Slot>> {
     let mut slots = Vec::new(alloc);
     for slot in 0..count {
@@ -80,7 +80,7 @@ fn door_at<N: Net>(host: &N, address: SocketAddr, poll: &Poll) -> io::Result<Doo
     Ok(Door::new(listener))
 }
 
-/// A round in which the input and the listener have their turn.
+/// A round with the tokens of the input and of the listener.
 fn first_round(alloc: Global, count: usize) -> io::Result<Round> {
     let mut round = Round::new(alloc, count)?;
     round.add(INPUT);
@@ -88,7 +88,7 @@ fn first_round(alloc: Global, count: usize) -> io::Result<Round> {
     Ok(round)
 }
 
-/// Places for so many links, for those of them that leave, and a round in which all have their turn.
+/// Slots for so many links, room for those of them that leave, and a round with room for the tokens of all.
 fn places(alloc: Global, clients: usize) -> io::Result<(Vec<Slot>, Departures, Round)> {
     let end = FIRST.saturating_add(clients);
     let slots = slots(alloc, clients)?;
@@ -192,34 +192,34 @@ impl<C: Clock, I: Read + AsRawFd + Drop> Tcp<'_, C, I> {
         ensures some { IfSome result (λ event. event ≡ Event.Nothing → ⊥) }
     {
         for turn in 0..u64::MAX {
-            let place = self.round.next(self.cursor)?;
-            self.cursor = place.saturating_add(1);
-            let event = self.at(place);
+            let token = self.round.next(self.cursor)?;
+            self.cursor = token.saturating_add(1);
+            let event = self.at(token);
             if event.is_some() {
                 self.is_busy = true;
                 return event;
             }
-            self.round.remove(place);
+            self.round.remove(token);
         }
         None
     }
 
-    /// What can be done at a place of the round: the input, the listener, a slot.
-    fn at(&mut self, place: usize) -> Option<Event>
+    /// Returns what can be done with a token of the round: that of the input, of the listener or of a slot.
+    fn at(&mut self, token: usize) -> Option<Event>
         ensures log { self.new.log ≡ self.old.log }
         ensures some { IfSome result (λ event. event ≡ Event.Nothing → ⊥) }
     {
-        if place == INPUT {
+        if token == INPUT {
             return self.input.news();
         }
-        if place == LISTENER {
+        if token == LISTENER {
             return if self.door.is_dialled() {
                 Some(Event::Dialled)
             } else {
                 None
             };
         }
-        let slot = place - FIRST;
+        let slot = token - FIRST;
         match self.slots.get(slot)?.news() {
             News::None => None,
             News::Readable => Some(Event::Readable(slot)),
@@ -262,19 +262,19 @@ impl<C: Clock, I: Read + AsRawFd + Drop> Tcp<'_, C, I> {
         ensures { self.new.log ≡ self.old.log }
     {
         for event in self.events.iter() {
-            let Token(place) = event.token();
-            if place == INPUT {
+            let Token(token) = event.token();
+            if token == INPUT {
                 self.input.may();
-            } else if place == LISTENER {
+            } else if token == LISTENER {
                 self.door.may();
-            } else if place - FIRST < self.slots.len() {
+            } else if token - FIRST < self.slots.len() {
                 let reads = event.is_readable() || event.is_read_closed() || event.is_error();
                 let writes = event.is_writable() || event.is_write_closed();
-                self.slots[place - FIRST].may(reads, writes);
+                self.slots[token - FIRST].may(reads, writes);
             } else {
-                self.departures.may(place);
+                self.departures.may(token);
             }
-            self.round.add(place);
+            self.round.add(token);
         }
     }
 
@@ -291,7 +291,7 @@ impl<C: Clock, I: Read + AsRawFd + Drop> Tcp<'_, C, I> {
         }
         let now = Instant::now(self.clock)?;
         if !self.departures.is_empty() {
-            self.departures.settle(now);
+            self.departures.drain(now);
         }
         if self.is_due(now) {
             self.looked_at = Some(now);
@@ -333,18 +333,18 @@ impl<C: Clock, I: Read + AsRawFd + Drop> Tcp<'_, C, I> {
         let Some(mut stream) = self.door.accept() else {
             return false;
         };
-        let place = slot.saturating_add(FIRST);
+        let token = slot.saturating_add(FIRST);
         let both = mio::Interest::READABLE | mio::Interest::WRITABLE;
         if self
             .poll
             .registry()
-            .register(&mut stream, Token(place), both)
+            .register(&mut stream, Token(token), both)
             .is_err()
         {
             return false;
         }
         self.slots[slot].open(stream);
-        self.round.add(place);
+        self.round.add(token);
         true
     }
 
