@@ -70,13 +70,11 @@ pub fn number_to_be(feed: &Feed, bytes: &[u8; 512]) -> Option<u64> {
     Some(feed.ring(k).next())
 }
 
-/// Takes a record of an input, which has this number, into the ring of its place, and returns the number that the ring
-/// gives to it.
-pub fn take_from_input(feed: &mut Feed, bytes: &[u8], number: u64) -> Result<u64, InputFault>
+/// Takes a record of an input, which has this number, into the ring of its place, and returns that ring's index.
+pub fn take_from_input(feed: &mut Feed, bytes: &[u8], number: u64) -> Result<usize, InputFault>
     requires { (k : ℕ) (w : Window) → slice_get feed.old k ≡ Some w → w.next < 2 ^ 40 }
 {
-    let k = feed.take_record(bytes, number)?;
-    Ok(feed.ring(k).next() - 1)
+    feed.take_record(bytes, number)
 }
 
 /// What a new session answers to the first line.
