@@ -17,7 +17,7 @@ use Rattle.slink_feed.specs.declared.dialogue.Stage.TheVariants.{Station, Number
 use Rattle.slink_feed.specs.declared.dialogue.Wanted.{Wanted}
 use Rattle.slink_feed.specs.declared.session.Phase.{Phase}
 use Rattle.slink_feed.specs.declared.session.Phase.TheVariants.{Granted, Chosen, Closed}
-use Rattle.slink_model.specs.Counted.{Gained, behind, events_upon, on_item, part, talk_upon, wholes, with_event}
+use Rattle.slink_model.specs.Counted.{Gained, undelivered, events_upon, on_item, part, talk_upon, wholes, with_event}
 use Rattle.slink_model.specs.Counted.{with_events}
 use Rattle.slink_feed.specs.Cutting.{IsBegun, IsWhole}
 use Rattle.slink_feed.specs.Dialogue.{Talk, Wants, Reply, Packet, End, at_packet, bearer, ended, read, read_at}
@@ -197,7 +197,7 @@ module _ (places : Places) (differ : Differ places) (codes_are : (k : ℕ) (p : 
 
   -- so many bytes are read
   pub streamed_prefix : (items : List Item) (grants : Grants) (phase : Phase) (t : Talk) (d : ℕ)
-      → Streams grants phase t items → Prefix grants phase t (wholes d items) (behind d items) (part d items)
+      → Streams grants phase t items → Prefix grants phase t (wholes d items) (undelivered d items) (part d items)
   streamed_prefix [] grants phase t d s = record {
     are = tt;
     is_begun = λ _. begun_none t.stage;
@@ -211,7 +211,7 @@ module _ (places : Places) (differ : Differ places) (codes_are : (k : ℕ) (p : 
   streamed_prefix (Carried k n r ∷ rest) grants phase t d s =
       let size : ℕ = length (item_bytes (Carried k n r)) in
       whole_or (Carried k n r) rest d (λ ws bs p. Prefix grants phase t ws bs p)
-      (λ fits. packet_prefix grants phase t k n r rest s (wholes (d - size) rest) (behind (d - size) rest)
+      (λ fits. packet_prefix grants phase t k n r rest s (wholes (d - size) rest) (undelivered (d - size) rest)
       (part (d - size) rest)
       (streamed_prefix rest grants phase (reported k (n % 2 ^ 24) r t).0 (d - size)
       (packet_next grants phase t k n r rest s)))
@@ -290,7 +290,7 @@ module _ (places : Places) (differ : Differ places) (codes_are : (k : ℕ) (p : 
 
     one_or : (i : Item) (d : ℕ) → IsLinked t.stage → IsWhole t.stage (item_bytes i) (whole_of i)
         → Outcome s taken way t (i ∷ []) [] 0 → Left s taken t way (i ∷ [])
-        → Outcome s taken way t (wholes d (i ∷ [])) (behind d (i ∷ [])) (part d (i ∷ []))
+        → Outcome s taken way t (wholes d (i ∷ [])) (undelivered d (i ∷ [])) (part d (i ∷ []))
     one_or i d linked whole done left =
         whole_or i [] d (λ ws bs p. Outcome s taken way t ws bs p) (λ fits. done)
         (λ lt. nothing_read (i ∷ []) d (part_begun t.stage i [] d whole lt) linked left)
@@ -329,7 +329,7 @@ module _ (places : Places) (differ : Differ places) (codes_are : (k : ℕ) (p : 
         (ends : EndsIn s.phase items)
         (shakes : Shakes t s.phase taken way items) where
       abbrev Result : List Item → Type 0
-      Result is = Outcome s taken way t (wholes d is) (behind d is) (part d is)
+      Result is = Outcome s taken way t (wholes d is) (undelivered d is) (part d is)
 
       left : Left s taken t way items
       left = record { borne = borne; suited = suited; shakes = shakes; ends = ends }
@@ -384,7 +384,7 @@ module _ (places : Places) (differ : Differ places) (codes_are : (k : ℕ) (p : 
           (subst (Left s taken t way) one left))
       by_shakes (asks_end k stage phase asks none) = empty none (there Packets stage tt)
       by_shakes (streams stage later sent written) =
-          let prefix : Prefix s.grants s.phase t (wholes d items) (behind d items) (part d items) =
+          let prefix : Prefix s.grants s.phase t (wholes d items) (undelivered d items) (part d items) =
           streamed_prefix items s.grants s.phase t d
           (record { stage = stage; called = called; borne = borne; suited = suited; sent = sent; ends = ends }) in
           record {
@@ -393,11 +393,12 @@ module _ (places : Places) (differ : Differ places) (codes_are : (k : ℕ) (p : 
             same = prefix.same;
             unwritten = λ _ f g. prefix.unwritten f g;
             after = λ f g same linked.
-                let u : Streams s.grants s.phase (talk_after t (map brought_of (wholes d items))) (behind d items) =
+                let u : Streams s.grants s.phase (talk_after t (map brought_of (wholes d items)))
+                (undelivered d items) =
                 prefix.after linked in
                 let same_way : (with_events f (events_of t (map brought_of (wholes d items))) g).to_server ≡ way =
                 prefix.unwritten f g ∙ same in
-                subst (λ b. Left s taken (talk_after t (map brought_of (wholes d items))) b (behind d items))
+                subst (λ b. Left s taken (talk_after t (map brought_of (wholes d items))) b (undelivered d items))
                 (sym same_way) (record {
                   borne = u.borne;
                   suited = u.suited;

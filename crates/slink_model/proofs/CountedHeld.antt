@@ -21,7 +21,7 @@ use Rattle.slink_model.specs.declared.world.Setup.{Setup}
 use Rattle.slink_model.specs.declared.world.Step.{Step}
 use Rattle.slink_model.specs.declared.world.Step.TheVariants.{Append, Connect, ToServer, ToClient, Send, Cut}
 use Rattle.slink_model.specs.Counted.{AreItems, AreStreamed, Counted, CountedLink, Gained, IsStreamed, answer_at}
-use Rattle.slink_model.specs.Counted.{behind, counted_after, counted_opening, counted_step, events_upon}
+use Rattle.slink_model.specs.Counted.{undelivered, counted_after, counted_opening, counted_step, events_upon}
 use Rattle.slink_model.specs.Counted.{gained_by, read_by, if_come, items_sent, news, on_item, part, sent_by, served_by}
 use Rattle.slink_model.specs.Counted.{taken_by, talk_upon, waits, wholes, windows_of, with_event, with_events}
 use Rattle.slink_model.specs.Spared.{AreAskable}
@@ -60,7 +60,7 @@ wholes_more (x ∷ xs) ys d le = elim (leb_tells (length (item_bytes x)) d) [
 ]
 
 -- what is whole where more bytes come
-wholes_on : (is : List Item) (d n : ℕ) → wholes (d + n) is ≡ wholes d is ++ wholes (part d is + n) (behind d is)
+wholes_on : (is : List Item) (d n : ℕ) → wholes (d + n) is ≡ wholes d is ++ wholes (part d is + n) (undelivered d is)
 wholes_on [] d n = refl
 wholes_on (i ∷ is) d n = elim (leb_tells (length (item_bytes i)) d) [
   | inl fits ↦ elim (leb_tells (length (item_bytes i)) (d + n)) [
@@ -70,12 +70,12 @@ wholes_on (i ∷ is) d n = elim (leb_tells (length (item_bytes i)) d) [
         ∙ (ap (λ ws. i ∷ ws) (wholes_on is (d - length (item_bytes i)) n)
         ∙ ap (λ t. (if t then i ∷ wholes (d - length (item_bytes i)) is else [])
         ++ wholes ((if t then part (d - length (item_bytes i)) is else d) + n)
-        (if t then behind (d - length (item_bytes i)) is else i ∷ is)) (sym fits.0)))
+        (if t then undelivered (d - length (item_bytes i)) is else i ∷ is)) (sym fits.0)))
     | inr less ↦ absurd (omega (arith, fits.1, less.1))
   ]
   | inr short ↦ ap (λ t. (if t then i ∷ wholes (d - length (item_bytes i)) is else [])
       ++ wholes ((if t then part (d - length (item_bytes i)) is else d) + n)
-      (if t then behind (d - length (item_bytes i)) is else i ∷ is)) (sym short.0)
+      (if t then undelivered (d - length (item_bytes i)) is else i ∷ is)) (sym short.0)
 ]
 
 wholes_all : (is : List Item) (d : ℕ) → length (way_bytes is) ≤ d → wholes d is ≡ is
@@ -87,7 +87,7 @@ wholes_all (i ∷ is) d le =
     (λ lt. absurd (omega (arith, le, lt, length-append (item_bytes i) (way_bytes is))))
 
 wholes_after : (is : List Item) (d n : ℕ)
-    → wholes (min (d + n) (length (way_bytes is))) is ≡ wholes d is ++ wholes (part d is + n) (behind d is)
+    → wholes (min (d + n) (length (way_bytes is))) is ≡ wholes d is ++ wholes (part d is + n) (undelivered d is)
 wholes_after is d n = elim (leb_tells (d + n) (length (way_bytes is))) [
   | inl few ↦ ap (λ m. wholes m is) (let e : min (d + n) (length (way_bytes is)) ≡ d + n = omega (arith, few.1) in e)
       ∙ wholes_on is d n
@@ -246,10 +246,10 @@ module _ (places : Places) (f : Numbers) (t : Talk) (g : Gained) (e : ℕ) (its 
       (ap (λ (s : Stage). (with_event f (on_item s Refused t).1 g).held) stage) (λ j. refl) refl
   brings phase taken way (asks_end k stage at asks none) = nothing none
   brings phase taken way (streams stage later sends written) = λ linked.
-      let split : its ≡ wholes e its ++ behind e its = wholes_behind its e in
+      let split : its ≡ wholes e its ++ undelivered e its = wholes_behind its e in
       held_packets places f (wholes e its) t g stage
-      (sent_prefix (wholes e its) (behind e its) (subst AreSent split sends))
-      (borne_prefix places (wholes e its) (behind e its) (subst (AreBorne places) split borne)) wide linked
+      (sent_prefix (wholes e its) (undelivered e its) (subst AreSent split sends))
+      (borne_prefix places (wholes e its) (undelivered e its) (subst (AreBorne places) split borne)) wide linked
 
 -- While more is taken of a link, the client holds what it held before, and the records of what is whole.
 abbrev pub Held : Lists → Talk → Lists → Option CountedLink → Type 0
@@ -293,7 +293,7 @@ read_held old places n c None wide f h same = same
 read_held old places n c (Some l) wide f h same = λ linked. elim (linked_or c.talk.stage) [
   | inl there ↦
       let facts : LinkFacts places c.talk l = f there in
-      let its : List Item = behind l.delivered l.sent in
+      let its : List Item = undelivered l.delivered l.sent in
       let e : ℕ = part l.delivered l.sent + n in
       let g : Gained = record { held = c.held; start = c.start; to_server = l.written } in
       let more : HoldsMore c.held (wholes e its) (gained_by n c l).held =

@@ -11,7 +11,7 @@ use Rattle.slink_feed.specs.declared.dialogue.Event.{Event}
 use Rattle.slink_feed.specs.declared.dialogue.Event.TheVariants as events
 use Rattle.slink_feed.specs.declared.dialogue.Stage.{Stage}
 use Rattle.slink_feed.specs.declared.dialogue.Stage.TheVariants.{Unlinked, Station, Number, Packets, Ended}
-use Rattle.slink_model.specs.Counted.{CountedLink, Gained, behind, delivered_by, events_upon, news, on_item, part}
+use Rattle.slink_model.specs.Counted.{CountedLink, Gained, undelivered, delivered_by, events_upon, news, on_item, part}
 use Rattle.slink_model.specs.Counted.{talk_upon, wholes, with_event, with_events}
 use Rattle.slink_feed.specs.Cutting.{IsBegun}
 use Rattle.slink_feed.specs.Dialogue.{Talk}
@@ -75,7 +75,7 @@ module _ (places : Places) (differ : Differ places) (codes : (k : ℕ) (p : Fiel
     (tie : Counts places w.client c l) (h : IsRead n w v l m) (keeps : IsBegun w.client.talk.stage w.client.kept)
     (called : AreCalled places w.client.talk.wants) where
   abbrev its : List Item
-  its = behind c.delivered c.sent
+  its = undelivered c.delivered c.sent
 
   abbrev p : ℕ
   p = part c.delivered c.sent
@@ -117,7 +117,7 @@ module _ (places : Places) (differ : Differ places) (codes : (k : ℕ) (p : Fiel
   made : v.client.talk ≡ talk_upon w.client.talk (news n c)
       → gained (taking v m) ≡ with_events l.first_sent (events_upon w.client.talk (news n c)) (gained (taking w l))
       → (IsLinked v.client.talk.stage
-      → Pinned places v.client l.session.state before m.to_server m.to_client (behind e its))
+      → Pinned places v.client l.session.state before m.to_server m.to_client (undelivered e its))
       → (¬ (IsLinked v.client.talk.stage) → Open l.session.state.phase → IsAnswered before m.to_server)
       → (l.session.state.phase ≡ Closed → length m.to_server ≤ 1) → ReadCounts
   made talk g pinned quiet few =
@@ -141,9 +141,9 @@ module _ (places : Places) (differ : Differ places) (codes : (k : ℕ) (p : Fiel
               (subst (IsHeld l.session.held) (sym prefix)
               (tie.held (subst (λ (s : State). Open s.phase) state_is awake)));
           linked = λ there. subst (λ (s : State). Pinned places v.client s (take c.taken gains.to_server) m.to_server
-              m.to_client (behind (delivered_by n c) c.sent)) (sym state_is)
+              m.to_client (undelivered (delivered_by n c) c.sent)) (sym state_is)
               (pinned_as places v.client l.session.state before (take c.taken gains.to_server) m.to_server m.to_server
-              m.to_client m.to_client (behind e its) (behind (delivered_by n c) c.sent)
+              m.to_client m.to_client (undelivered e its) (undelivered (delivered_by n c) c.sent)
               (sym prefix) refl refl (sym (left_after c.sent c.delivered n tie.delivered_few)) (pinned there));
           quiet = λ over awake. subst (λ b. IsAnswered b m.to_server) (sym prefix)
               (quiet over (subst (λ (s : State). Open s.phase) state_is awake));
@@ -157,9 +157,9 @@ module _ (places : Places) (differ : Differ places) (codes : (k : ℕ) (p : Fiel
       let pin : Pinned places w.client l.session.state before l.to_server l.to_client its = tie.linked there in
       let all : List ℕ = way_bytes its in
       let bs : List Brought = map brought_of (news n c) in
-      let rest : List ℕ = take (part e its) (way_bytes (behind e its)) in
+      let rest : List ℕ = take (part e its) (way_bytes (undelivered e its)) in
       let out : Outcome places differ codes l.session.state before l.to_server w.client.talk (wholes e its)
-      (behind e its) (part e its)
+      (undelivered e its) (part e its)
       = read_outcome places differ codes l.session.state before l.to_server w.client.talk its e called pin.flows.borne
       pin.flows.suited pin.ends pin.shakes in
       let x : ReadAllOf l.first_sent (taking w l) (take n l.to_client) (taking v m) =
@@ -181,19 +181,19 @@ module _ (places : Places) (differ : Differ places) (codes : (k : ℕ) (p : Fiel
       ≡ m.to_server = sym (ap (λ (y : Gained). y.to_server) g) in
       made (talk ∙ out.same.0) (g ∙ out.same.1 l.first_sent (gained (taking w l)))
       (λ on.
-      let left : Left places differ codes l.session.state before v.client.talk m.to_server (behind e its) =
-      subst (λ (t : Talk). Left places differ codes l.session.state before t m.to_server (behind e its)) (sym talk)
-      (subst (λ b. Left places differ codes l.session.state before (talk_after w.client.talk bs) b (behind e its))
+      let left : Left places differ codes l.session.state before v.client.talk m.to_server (undelivered e its) =
+      subst (λ (t : Talk). Left places differ codes l.session.state before t m.to_server (undelivered e its)) (sym talk)
+      (subst (λ b. Left places differ codes l.session.state before (talk_after w.client.talk bs) b (undelivered e its))
       server (out.after l.first_sent (gained (taking w l)) refl
       (subst (λ (t : Talk). IsLinked t.stage) talk on))) in
       let kept_now : v.client.kept ≡ rest = sym (append-nil v.client.kept)
       ∙ (ap (λ b. v.client.kept ++ b) (sym (x.all on)) ∙ one.1) in
-      let way_now : m.to_client ≡ drop (part e its) (way_bytes (behind e its)) =
+      let way_now : m.to_client ≡ drop (part e its) (way_bytes (undelivered e its)) =
       h.left ∙ (ap (drop n) way ∙ (drop-drop n p all ∙ drop_behind its e)) in
       record {
         flows = record {
           flow = ap (λ b. b ++ m.to_client) kept_now
-              ∙ (ap (λ b. rest ++ b) way_now ∙ take-append-drop (part e its) (way_bytes (behind e its)));
+              ∙ (ap (λ b. rest ++ b) way_now ∙ take-append-drop (part e its) (way_bytes (undelivered e its)));
           borne = left.borne;
           suited = left.suited;
         };

@@ -11,7 +11,7 @@ use Rattle.slink_feed.specs.declared.session.Phase.{Phase}
 use Rattle.slink_feed.specs.declared.session.Phase.TheVariants.{Fresh, Chosen, Granted, Streaming, Closed}
 use Rattle.slink_feed.specs.declared.session.Sent.{Sent}
 use Rattle.slink_feed.specs.declared.session.Sent.TheVariants as sents
-use Rattle.slink_model.specs.Counted.{CountedLink, behind, carried_at, items_sent, sent_by}
+use Rattle.slink_model.specs.Counted.{CountedLink, undelivered, carried_at, items_sent, sent_by}
 use Rattle.slink_feed.specs.Dialogue.{next_at}
 use Rattle.slink_feed.specs.Listening.{Listening}
 use Rattle.slink_feed.specs.Session.{IsBefore, State, all_done, at, at_next, grant_at, packet_at, sent, sent_bytes}
@@ -49,7 +49,7 @@ module _ (places : Places) (client : Listening) (feed : List Window) (ringed : A
   before = take c.taken c.written
 
   abbrev its : List Item
-  its = behind c.delivered c.sent
+  its = undelivered c.delivered c.sent
 
   -- what is sent, with what the session comes to
   record Goes (x : State × Sent) (ys : List Item) : Type 0 where
@@ -227,7 +227,7 @@ module _ (places : Places) (client : Listening) (feed : List Window) (ringed : A
         held = λ a. counts.held (go.awake a);
         linked = λ there. pinned_as places client x.0 before before l.to_server l.to_server
             (l.to_client ++ sent_bytes x.1) (l.to_client ++ sent_bytes x.1) (its ++ ys)
-            (behind c.delivered (c.sent ++ ys))
+            (undelivered c.delivered (c.sent ++ ys))
             refl refl refl (sym (behind_more c.sent ys c.delivered counts.delivered_few))
             (go.pinned (counts.linked there));
         quiet = λ over a. counts.quiet over (go.awake a);

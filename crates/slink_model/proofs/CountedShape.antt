@@ -10,7 +10,7 @@ use Rattle.slink_feed.specs.declared.session.Phase.{Phase}
 use Rattle.slink_model.specs.declared.world.Setup.{Setup}
 use Rattle.slink_model.specs.declared.world.Step.{Step}
 use Rattle.slink_model.specs.declared.world.Step.TheVariants.{Append, Connect, ToServer, ToClient, Send, Cut}
-use Rattle.slink_model.specs.Counted.{AreItems, ArePackets, AreStreamed, Counted, CountedLink, answer_at, behind}
+use Rattle.slink_model.specs.Counted.{AreItems, ArePackets, AreStreamed, Counted, CountedLink, answer_at, undelivered}
 use Rattle.slink_model.specs.Counted.{counted_step, delivered_by, read_by, if_come, items_sent, new_link, news}
 use Rattle.slink_model.specs.Counted.{on_item, part, sent_by, served_by, taken_by, talk_upon, waits, wholes, windows_of}
 use Rattle.slink_feed.specs.Dialogue.{Talk, to_place, want_at}
@@ -48,18 +48,18 @@ pub record Shape (places : Places) (stage : Stage) (sent : List Item) (d : ℕ) 
   pub packets : List Item
   pub sent_is : sent ≡ replicate (replies_at places stage) Accepted ++ packets
   pub done : 4 * replies_at places stage ≤ d
-  pub still : AwaitsReply stage → packets ≡ behind d sent
+  pub still : AwaitsReply stage → packets ≡ undelivered d sent
   pub within : IsWithin places stage
-  pub are : stage ≡ Packets → (prefix : List Item) × (packets ≡ prefix ++ behind d sent) × ArePackets prefix
+  pub are : stage ≡ Packets → (prefix : List Item) × (packets ≡ prefix ++ undelivered d sent) × ArePackets prefix
 
 -- what is known of a link of which more is taken
 pub record LinkFacts (places : Places) (talk : Talk) (c : CountedLink) : Type 0 where
   pub phase : Phase
   pub taken : List ℕ
   pub way : List ℕ
-  pub shakes : Shakes talk phase taken way (behind c.delivered c.sent)
-  pub borne : AreBorne places (behind c.delivered c.sent)
-  pub ends : EndsIn phase (behind c.delivered c.sent)
+  pub shakes : Shakes talk phase taken way (undelivered c.delivered c.sent)
+  pub borne : AreBorne places (undelivered c.delivered c.sent)
+  pub ends : EndsIn phase (undelivered c.delivered c.sent)
   pub few : c.delivered ≤ length (way_bytes c.sent)
 
 abbrev pub AreFacts : Places → Talk → Option CountedLink → Type 0
@@ -74,7 +74,7 @@ AreShaped places talk (Some c) = IsLinked talk.stage → Shape places talk.stage
 shape_more : (places : Places) (talk : Talk) (sent ys : List Item) (d : ℕ) → d ≤ length (way_bytes sent)
     → Shape places talk.stage sent d → Shape places talk.stage (sent ++ ys) d
 shape_more places talk sent ys d few h =
-    let b : behind d (sent ++ ys) ≡ behind d sent ++ ys = behind_more sent ys d few in
+    let b : undelivered d (sent ++ ys) ≡ undelivered d sent ++ ys = behind_more sent ys d few in
     record {
       packets = h.packets ++ ys;
       sent_is = ap (λ (x : List Item). x ++ ys) h.sent_is
@@ -85,7 +85,7 @@ shape_more places talk sent ys d few h =
       are = λ p. (
         (h.are p).0,
         ap (λ (x : List Item). x ++ ys) (h.are p).1
-            ∙ (append_assoc (h.are p).0 (behind d sent) ys ∙ ap (λ (x : List Item). (h.are p).0 ++ x) (sym b)),
+            ∙ (append_assoc (h.are p).0 (undelivered d sent) ys ∙ ap (λ (x : List Item). (h.are p).0 ++ x) (sym b)),
         (h.are p).2,
       );
     }
@@ -104,7 +104,7 @@ replies_more zero = refl
 replies_more (suc m) = ap (λ is. Accepted ∷ is) (replies_more m)
     ∙ ap (λ k. replicate k Accepted ++ []) (let e : suc (m + 1) ≡ suc m + 1 = omega arith in e)
 
-all_there : (m d : ℕ) → behind d (replicate m Accepted ++ []) ≡ [] → 4 * m ≤ d
+all_there : (m d : ℕ) → undelivered d (replicate m Accepted ++ []) ≡ [] → 4 * m ≤ d
 all_there zero d none = omega arith
 all_there (suc m) d none = whole_or Accepted (replicate m Accepted ++ []) d (λ ws bs p. bs ≡ [] → 4 * suc m ≤ d)
     (λ fits none. let more : 4 * m ≤ d - 4 = all_there m (d - 4) none in omega (arith, more, fits))
@@ -137,7 +137,7 @@ read_packets places (i ∷ is) t p sent borne linked =
     one_read Finished sent borne there = absurd there
 
 -- the items that are whole, and the others
-pub wholes_behind : (is : List Item) (d : ℕ) → is ≡ wholes d is ++ behind d is
+pub wholes_behind : (is : List Item) (d : ℕ) → is ≡ wholes d is ++ undelivered d is
 wholes_behind [] d = refl
 wholes_behind (i ∷ is) d =
     whole_or i is d (λ ws bs p. i ∷ is ≡ ws ++ bs)
@@ -162,7 +162,7 @@ packets_more (Finished ∷ xs) ys a b = absurd a
 module _ (places : Places) (talk : Talk) (called : AreCalled places talk.wants) (n : ℕ) (l : CountedLink)
     (f : LinkFacts places talk l) (h : Shape places talk.stage l.sent l.delivered) where
   abbrev its : List Item
-  its = behind l.delivered l.sent
+  its = undelivered l.delivered l.sent
 
   abbrev e : ℕ
   e = part l.delivered l.sent + n
@@ -170,10 +170,10 @@ module _ (places : Places) (talk : Talk) (called : AreCalled places talk.wants) 
   abbrev d : ℕ
   d = delivered_by n l
 
-  left : behind d l.sent ≡ behind e its
+  left : undelivered d l.sent ≡ undelivered e its
   left = left_after l.sent l.delivered n f.few
 
-  stays : (new : Stage) → new ≡ talk.stage → behind d l.sent ≡ its → Shape places new l.sent d
+  stays : (new : Stage) → new ≡ talk.stage → undelivered d l.sent ≡ its → Shape places new l.sent d
   stays new same rest = subst (λ (s : Stage). Shape places s l.sent d) (sym same) (record {
     packets = h.packets;
     sent_is = h.sent_is;
@@ -184,7 +184,7 @@ module _ (places : Places) (talk : Talk) (called : AreCalled places talk.wants) 
   })
 
   reply_read : (new : Stage) → its ≡ Accepted ∷ [] → AwaitsReply talk.stage
-      → replies_at places new ≡ replies_at places talk.stage + 1 → IsWithin places new → behind d l.sent ≡ []
+      → replies_at places new ≡ replies_at places talk.stage + 1 → IsWithin places new → undelivered d l.sent ≡ []
       → Shape places new l.sent d
   reply_read new one awaits more within none =
       let m : ℕ = replies_at places talk.stage in
@@ -194,20 +194,20 @@ module _ (places : Places) (talk : Talk) (called : AreCalled places talk.wants) 
       record {
         packets = [];
         sent_is = is;
-        done = all_there (replies_at places new) d (ap (behind d) (sym is) ∙ none);
+        done = all_there (replies_at places new) d (ap (undelivered d) (sym is) ∙ none);
         still = λ _. sym none;
         within = within;
         are = λ _. ([], sym none, tt);
       }
 
-  packets_read : talk.stage ≡ Packets → AreSent its → behind d l.sent ≡ behind e its
+  packets_read : talk.stage ≡ Packets → AreSent its → undelivered d l.sent ≡ undelivered e its
       → IsLinked (talk_upon talk (wholes e its)).stage → Shape places (talk_upon talk (wholes e its)).stage l.sent d
   packets_read p sent same linked =
       let ws : List Item = wholes e its in
-      let split : its ≡ ws ++ behind d l.sent = wholes_behind its e ∙ ap (λ (x : List Item). ws ++ x) (sym same) in
+      let split : its ≡ ws ++ undelivered d l.sent = wholes_behind its e ∙ ap (λ (x : List Item). ws ++ x) (sym same) in
       let read : ArePackets ws × ((talk_upon talk ws).stage ≡ Packets) =
-      read_packets places ws talk p (sent_prefix ws (behind d l.sent) (subst AreSent split sent))
-      (borne_prefix places ws (behind d l.sent) (subst (AreBorne places) split f.borne)) linked in
+      read_packets places ws talk p (sent_prefix ws (undelivered d l.sent) (subst AreSent split sent))
+      (borne_prefix places ws (undelivered d l.sent) (subst (AreBorne places) split f.borne)) linked in
       let prefix : List Item = (h.are p).0 in
       subst (λ (s : Stage). Shape places s l.sent d) (p ∙ sym read.1) (record {
         packets = h.packets;
@@ -217,26 +217,28 @@ module _ (places : Places) (talk : Talk) (called : AreCalled places talk.wants) 
         within = h.within;
         are = λ _. (
           prefix ++ ws,
-          (h.are p).1 ∙ (ap (λ (x : List Item). prefix ++ x) split ∙ sym (append_assoc prefix ws (behind d l.sent))),
+          (h.are p).1 ∙ (ap (λ (x : List Item). prefix ++ x) split
+              ∙ sym (append_assoc prefix ws (undelivered d l.sent))),
           packets_more prefix ws (h.are p).2 read.0,
         );
       })
 
   abbrev Result : List Item → Type 0
-  Result is = behind d l.sent ≡ behind e is → IsLinked (talk_upon talk (wholes e is)).stage
+  Result is = undelivered d l.sent ≡ undelivered e is → IsLinked (talk_upon talk (wholes e is)).stage
       → Shape places (talk_upon talk (wholes e is)).stage l.sent d
 
   nothing : its ≡ [] → Result its
   nothing none = subst Result (sym none) (λ same linked. stays talk.stage refl (same ∙ sym none))
 
-  one_item : (i : Item) → its ≡ i ∷ [] → (behind d l.sent ≡ [] → IsLinked (on_item talk.stage i talk).0.stage
+  one_item : (i : Item) → its ≡ i ∷ [] → (undelivered d l.sent ≡ [] → IsLinked (on_item talk.stage i talk).0.stage
       → Shape places (on_item talk.stage i talk).0.stage l.sent d) → Result its
-  one_item i one next = subst Result (sym one) (whole_or i [] e (λ ws bs p. behind d l.sent ≡ bs
+  one_item i one next = subst Result (sym one) (whole_or i [] e (λ ws bs p. undelivered d l.sent ≡ bs
       → IsLinked (talk_upon talk ws).stage → Shape places (talk_upon talk ws).stage l.sent d)
       (λ fits same linked. next same linked) (λ lt same linked. stays talk.stage refl (same ∙ sym one)))
 
   after_number : (k : ℕ) (o : Option Wanted) → its ≡ Accepted ∷ [] → talk.stage ≡ Number k
-      → want_at talk.wants (k + 1) ≡ o → behind d l.sent ≡ [] → Shape places (to_place o (k + 1) talk).0.stage l.sent d
+      → want_at talk.wants (k + 1) ≡ o → undelivered d l.sent ≡ []
+      → Shape places (to_place o (k + 1) talk).0.stage l.sent d
   after_number k None one stage want none =
       let lt : k < length places = subst (IsWithin places) stage h.within in
       let last : length places ≤ k + 1 = past (within_or) in
@@ -377,7 +379,7 @@ streamed_of places talk (Some l) f h = λ p.
     let linked : IsLinked talk.stage = subst IsLinked (sym p) tt in
     let x : Shape places talk.stage l.sent l.delivered = h linked in
     let y : LinkFacts places talk l = f linked in
-    let its : List Item = behind l.delivered l.sent in
+    let its : List Item = undelivered l.delivered l.sent in
     let count : replies_at places talk.stage ≡ 2 * length places = ap (replies_at places) p in
     record {
       packets = x.packets;

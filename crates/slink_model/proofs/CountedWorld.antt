@@ -11,7 +11,7 @@ use Rattle.slink_feed.specs.declared.session.Phase.TheVariants.{Fresh, Closed}
 use Rattle.slink_model.specs.declared.world.Setup.{Setup}
 use Rattle.slink_model.specs.declared.world.Step.{Step}
 use Rattle.slink_model.specs.declared.world.Step.TheVariants.{Append, Connect, ToServer, ToClient, Send, Cut}
-use Rattle.slink_model.specs.Counted.{AreCountedLinks, AreStreamed, behind, Counted, CountedLink, IsCounted}
+use Rattle.slink_model.specs.Counted.{AreCountedLinks, AreStreamed, undelivered, Counted, CountedLink, IsCounted}
 use Rattle.slink_model.specs.Counted.{IsCountedLink, counted_after, counted_opening, counted_step, read_by, new_link}
 use Rattle.slink_model.specs.Counted.{news, sent_by, served_by, talk_upon, shown_all, shown_of}
 use Rattle.slink_feed.specs.Dialogue.{Talk, to_place}
@@ -245,7 +245,7 @@ module _ (setup : Setup) (differ : Differ setup.places.items) (codes : (k : ℕ)
   facts_beside client (Some c) None k = absurd k
   facts_beside client (Some c) (Some l) k = λ linked.
       let pin : Pinned places client l.session.state (take c.taken c.written) l.to_server l.to_client
-      (behind c.delivered c.sent) = k.linked linked in
+      (undelivered c.delivered c.sent) = k.linked linked in
       record {
         phase = l.session.state.phase;
         taken = take c.taken c.written;

@@ -8,7 +8,7 @@ use Rattle.std.proofs.lemmas.List.{append_cancel_right, drop-drop, drop_min, tak
 use Rattle.slink_feed.specs.Dialogue.{Whole, Reply, Packet, End, Garbage}
 use Rattle.slink_feed.specs.Listening.{Brought, bytes_of}
 use Rattle.slink_model.specs.Ties.{Item, Accepted, Refused, Greeted, Carried, Finished, item_bytes, way_bytes}
-use Rattle.slink_model.specs.Counted.{behind, part, wholes}
+use Rattle.slink_model.specs.Counted.{undelivered, part, wholes}
 
 -- what a client reads in an item
 abbrev pub whole_of : Item → Whole
@@ -38,16 +38,16 @@ item_some Finished = omega arith
 -- by whether an item is whole
 pub whole_or : (i : Item) (is : List Item) (d : ℕ) (P : List Item → List Item → ℕ → Type 0)
     → (length (item_bytes i) ≤ d
-    → P (i ∷ wholes (d - length (item_bytes i)) is) (behind (d - length (item_bytes i)) is)
+    → P (i ∷ wholes (d - length (item_bytes i)) is) (undelivered (d - length (item_bytes i)) is)
     (part (d - length (item_bytes i)) is))
-    → (d < length (item_bytes i) → P [] (i ∷ is) d) → P (wholes d (i ∷ is)) (behind d (i ∷ is)) (part d (i ∷ is))
+    → (d < length (item_bytes i) → P [] (i ∷ is) d) → P (wholes d (i ∷ is)) (undelivered d (i ∷ is)) (part d (i ∷ is))
 whole_or i is d P fit lack = elim (leb_tells (length (item_bytes i)) d) [
   | inl fits ↦ subst (λ t. P (if t then i ∷ wholes (d - length (item_bytes i)) is else [])
-      (if t then behind (d - length (item_bytes i)) is else i ∷ is)
+      (if t then undelivered (d - length (item_bytes i)) is else i ∷ is)
       (if t then part (d - length (item_bytes i)) is else d))
       (sym fits.0) (fit fits.1)
   | inr short ↦ subst (λ t. P (if t then i ∷ wholes (d - length (item_bytes i)) is else [])
-      (if t then behind (d - length (item_bytes i)) is else i ∷ is)
+      (if t then undelivered (d - length (item_bytes i)) is else i ∷ is)
       (if t then part (d - length (item_bytes i)) is else d))
       (sym short.0) (lack short.1)
 ]
@@ -61,7 +61,7 @@ taken_past xs ys d le = ap (λ n. take n (xs ++ ys)) (let e : d ≡ length xs + 
     ∙ take-append-add xs ys (d - length xs)
 
 -- what isn't delivered
-pub drop_behind : (is : List Item) (d : ℕ) → drop d (way_bytes is) ≡ drop (part d is) (way_bytes (behind d is))
+pub drop_behind : (is : List Item) (d : ℕ) → drop d (way_bytes is) ≡ drop (part d is) (way_bytes (undelivered d is))
 drop_behind [] zero = refl
 drop_behind [] (suc d) = refl
 drop_behind (i ∷ is) d = whole_or i is d (λ ws bs p. drop d (way_bytes (i ∷ is)) ≡ drop p (way_bytes bs))
@@ -69,7 +69,7 @@ drop_behind (i ∷ is) d = whole_or i is d (λ ws bs p. drop d (way_bytes (i ∷
 
 -- what is
 pub take_wholes : (is : List Item) (d : ℕ)
-    → take d (way_bytes is) ≡ bytes_of (map brought_of (wholes d is)) ++ take (part d is) (way_bytes (behind d is))
+    → take d (way_bytes is) ≡ bytes_of (map brought_of (wholes d is)) ++ take (part d is) (way_bytes (undelivered d is))
 take_wholes [] zero = refl
 take_wholes [] (suc d) = refl
 take_wholes (i ∷ is) d =
@@ -77,24 +77,25 @@ take_wholes (i ∷ is) d =
     (λ le. taken_past (item_bytes i) (way_bytes is) d le
     ∙ (ap (λ b. item_bytes i ++ b) (take_wholes is (d - length (item_bytes i)))
     ∙ sym (append_assoc (item_bytes i) (bytes_of (map brought_of (wholes (d - length (item_bytes i)) is)))
-    (take (part (d - length (item_bytes i)) is) (way_bytes (behind (d - length (item_bytes i)) is))))))
+    (take (part (d - length (item_bytes i)) is) (way_bytes (undelivered (d - length (item_bytes i)) is))))))
     (λ lt. refl)
 
 -- what goes after stays after
-pub behind_more : (xs ys : List Item) (d : ℕ) → d ≤ length (way_bytes xs) → behind d (xs ++ ys) ≡ behind d xs ++ ys
+pub behind_more : (xs ys : List Item) (d : ℕ) → d ≤ length (way_bytes xs)
+    → undelivered d (xs ++ ys) ≡ undelivered d xs ++ ys
 behind_more [] [] d le = refl
 behind_more [] (y ∷ ys) d le =
     whole_or y ys d (λ ws bs p. bs ≡ y ∷ ys) (λ fits. absurd (omega (arith, le, fits, item_some y))) (λ lt. refl)
 behind_more (x ∷ xs) ys d le = elim (leb_tells (length (item_bytes x)) d) [
-  | inl fits ↦ ap (λ t. if t then behind (d - length (item_bytes x)) (xs ++ ys) else x ∷ (xs ++ ys)) fits.0
+  | inl fits ↦ ap (λ t. if t then undelivered (d - length (item_bytes x)) (xs ++ ys) else x ∷ (xs ++ ys)) fits.0
       ∙ (behind_more xs ys (d - length (item_bytes x))
       (omega (arith, le, fits.1, length-append (item_bytes x) (way_bytes xs)))
-      ∙ ap (λ t. (if t then behind (d - length (item_bytes x)) xs else x ∷ xs) ++ ys) (sym fits.0))
-  | inr short ↦ ap (λ t. if t then behind (d - length (item_bytes x)) (xs ++ ys) else x ∷ (xs ++ ys)) short.0
-      ∙ ap (λ t. (if t then behind (d - length (item_bytes x)) xs else x ∷ xs) ++ ys) (sym short.0)
+      ∙ ap (λ t. (if t then undelivered (d - length (item_bytes x)) xs else x ∷ xs) ++ ys) (sym fits.0))
+  | inr short ↦ ap (λ t. if t then undelivered (d - length (item_bytes x)) (xs ++ ys) else x ∷ (xs ++ ys)) short.0
+      ∙ ap (λ t. (if t then undelivered (d - length (item_bytes x)) xs else x ∷ xs) ++ ys) (sym short.0)
 ]
 
-pub behind_all : (is : List Item) (d : ℕ) → length (way_bytes is) ≤ d → behind d is ≡ []
+pub behind_all : (is : List Item) (d : ℕ) → length (way_bytes is) ≤ d → undelivered d is ≡ []
 behind_all [] d le = refl
 behind_all (i ∷ is) d le =
     whole_or i is d (λ ws bs p. bs ≡ [])
@@ -103,36 +104,37 @@ behind_all (i ∷ is) d le =
     (λ lt. absurd (omega (arith, le, lt, length-append (item_bytes i) (way_bytes is))))
 
 -- what is left of what was left
-pub behind_on : (is : List Item) (d n : ℕ) → behind (d + n) is ≡ behind (part d is + n) (behind d is)
+pub behind_on : (is : List Item) (d n : ℕ) → undelivered (d + n) is ≡ undelivered (part d is + n) (undelivered d is)
 behind_on [] d n = refl
 behind_on (i ∷ is) d n = elim (leb_tells (length (item_bytes i)) d) [
   | inl fits ↦ elim (leb_tells (length (item_bytes i)) (d + n)) [
-    | inl more ↦ ap (λ t. if t then behind (d + n - length (item_bytes i)) is else i ∷ is) more.0
-        ∙ (ap (λ m. behind m is) (let e : d + n - length (item_bytes i) ≡ (d - length (item_bytes i)) + n = omega
+    | inl more ↦ ap (λ t. if t then undelivered (d + n - length (item_bytes i)) is else i ∷ is) more.0
+        ∙ (ap (λ m. undelivered m is) (let e : d + n - length (item_bytes i) ≡ (d - length (item_bytes i)) + n = omega
         (arith, fits.1) in e)
         ∙ (behind_on is (d - length (item_bytes i)) n
-        ∙ ap (λ t. behind ((if t then part (d - length (item_bytes i)) is else d) + n)
-        (if t then behind (d - length (item_bytes i)) is else i ∷ is)) (sym fits.0)))
+        ∙ ap (λ t. undelivered ((if t then part (d - length (item_bytes i)) is else d) + n)
+        (if t then undelivered (d - length (item_bytes i)) is else i ∷ is)) (sym fits.0)))
     | inr less ↦ absurd (omega (arith, fits.1, less.1))
   ]
-  | inr short ↦ ap (λ t. behind ((if t then part (d - length (item_bytes i)) is else d) + n)
-      (if t then behind (d - length (item_bytes i)) is else i ∷ is)) (sym short.0)
+  | inr short ↦ ap (λ t. undelivered ((if t then part (d - length (item_bytes i)) is else d) + n)
+      (if t then undelivered (d - length (item_bytes i)) is else i ∷ is)) (sym short.0)
 ]
 
 -- and where there are no more bytes
 pub left_after : (is : List Item) (d n : ℕ) → d ≤ length (way_bytes is)
-    → behind (min (d + n) (length (way_bytes is))) is ≡ behind (part d is + n) (behind d is)
+    → undelivered (min (d + n) (length (way_bytes is))) is ≡ undelivered (part d is + n) (undelivered d is)
 left_after is d n le = elim (leb_tells (d + n) (length (way_bytes is))) [
-  | inl few ↦ ap (λ m. behind m is) (let e : min (d + n) (length (way_bytes is)) ≡ d + n = omega (arith, few.1) in e)
+  | inl few ↦ ap (λ m. undelivered m is)
+      (let e : min (d + n) (length (way_bytes is)) ≡ d + n = omega (arith, few.1) in e)
       ∙ behind_on is d n
   | inr many ↦ behind_all is (min (d + n) (length (way_bytes is))) (omega (arith, many.1))
       ∙ (sym (behind_all is (d + n) (omega (arith, many.1))) ∙ behind_on is d n)
 ]
 
 -- what is kept of a stream that goes on with what isn't delivered
-pub kept_part : (kept : List ℕ) (is : List Item) (d : ℕ) → kept ++ drop d (way_bytes is) ≡ way_bytes (behind d is)
-    → kept ≡ take (part d is) (way_bytes (behind d is))
+pub kept_part : (kept : List ℕ) (is : List Item) (d : ℕ) → kept ++ drop d (way_bytes is) ≡ way_bytes (undelivered d is)
+    → kept ≡ take (part d is) (way_bytes (undelivered d is))
 kept_part kept is d flow =
-    let w : List ℕ = way_bytes (behind d is) in
+    let w : List ℕ = way_bytes (undelivered d is) in
     append_cancel_right kept (take (part d is) w) (drop (part d is) w) (ap (λ b. kept ++ b) (sym (drop_behind is d))
     ∙ (flow ∙ sym (take-append-drop (part d is) w)))

@@ -20,7 +20,7 @@ use Rattle.slink_feed.specs.declared.grant.Grant.{Grant}
 use Rattle.slink_feed.specs.declared.grant.Mode.{Mode}
 use Rattle.slink_feed.specs.declared.session.Phase.{Phase}
 use Rattle.slink_feed.specs.declared.session.Phase.TheVariants.{Chosen, Granted, Streaming, Closed}
-use Rattle.slink_model.specs.Counted.{CountedLink, answer_at, behind, if_come, replied as counted_reply, served_by}
+use Rattle.slink_model.specs.Counted.{CountedLink, answer_at, undelivered, if_come, replied as counted_reply, served_by}
 use Rattle.slink_model.specs.Counted.{taken_by, waits}
 use Rattle.slink_feed.specs.Dialogue.{next_at, numbered}
 use Rattle.slink_feed.specs.Grant.{grant_of}
@@ -72,7 +72,7 @@ pub record Counts (places : Places) (client : Listening) (c : CountedLink) (l : 
   pub held : Open l.session.state.phase → IsHeld l.session.held (take c.taken c.written)
   pub linked : IsLinked client.talk.stage
       → Pinned places client l.session.state (take c.taken c.written) l.to_server l.to_client
-      (behind c.delivered c.sent)
+      (undelivered c.delivered c.sent)
   pub quiet : ¬ (IsLinked client.talk.stage) → Open l.session.state.phase
       → IsAnswered (take c.taken c.written) l.to_server
   pub over : l.session.state.phase ≡ Closed → length l.to_server ≤ 1
@@ -182,7 +182,7 @@ module _ (places : Places) (differ : Differ places) (codes : (k : ℕ) (p : Fiel
     before = take c.taken c.written
 
     abbrev items : List Item
-    items = behind c.delivered c.sent
+    items = undelivered c.delivered c.sent
 
     cut : l.to_server ≡ bytes ++ rest
     cut = sym (take-append-drop n l.to_server)
@@ -231,7 +231,7 @@ module _ (places : Places) (differ : Differ places) (codes : (k : ℕ) (p : Fiel
           linked = λ there. pinned_as places client m.session.state (before ++ bytes) (take (taken_by n c) c.written)
               rest
               m.to_server (l.to_client ++ reply_bytes reply) m.to_client (items ++ items_of reply)
-              (behind c.delivered (c.sent ++ items_of reply))
+              (undelivered c.delivered (c.sent ++ items_of reply))
               (sym take_now) (sym served.left) (sym sent)
               (sym (behind_more c.sent (items_of reply) c.delivered counts.delivered_few)) (pinned there);
           quiet = λ over awake. subst (λ b. IsAnswered b m.to_server) (sym take_now)

@@ -123,9 +123,9 @@ abbrev pub wholes : ℕ → List Item → List Item
 wholes d [] = []
 wholes d (i ∷ is) = if nat_le (length (item_bytes i)) d then i ∷ wholes (d - length (item_bytes i)) is else []
 
-abbrev pub behind : ℕ → List Item → List Item
-behind d [] = []
-behind d (i ∷ is) = if nat_le (length (item_bytes i)) d then behind (d - length (item_bytes i)) is else i ∷ is
+abbrev pub undelivered : ℕ → List Item → List Item
+undelivered d [] = []
+undelivered d (i ∷ is) = if nat_le (length (item_bytes i)) d then undelivered (d - length (item_bytes i)) is else i ∷ is
 
 abbrev pub part : ℕ → List Item → ℕ
 part d [] = 0
@@ -174,7 +174,7 @@ with_events f (e ∷ es) g = with_events f es (with_event f e g)
 
 -- what is whole once so many bytes more come to the client
 abbrev pub news : ℕ → CountedLink → List Item
-news n l = wholes (part l.delivered l.sent + n) (behind l.delivered l.sent)
+news n l = wholes (part l.delivered l.sent + n) (undelivered l.delivered l.sent)
 
 abbrev pub delivered_by : ℕ → CountedLink → ℕ
 delivered_by n l = min (l.delivered + n) (length (way_bytes l.sent))
@@ -237,7 +237,7 @@ pub record IsCountedLink (talk : Talk) (kept : List ℕ) (c : CountedLink) (l : 
   pub first_sent : l.first_sent ≡ c.first_sent
   pub to_server : l.to_server ≡ drop c.taken c.written
   pub to_client : l.to_client ≡ drop c.delivered (way_bytes c.sent)
-  pub kept_is : IsLinked talk.stage → kept ≡ take (part c.delivered c.sent) (way_bytes (behind c.delivered c.sent))
+  pub kept_is : IsLinked talk.stage → kept ≡ take (part c.delivered c.sent) (way_bytes (undelivered c.delivered c.sent))
   pub taken_few : c.taken ≤ length c.written
   pub delivered_few : c.delivered ≤ length (way_bytes c.sent)
 

@@ -4,7 +4,7 @@
 #![tactic(auto)]
 
 mod carry;
-mod kept;
+mod memory_sink;
 mod relaying;
 mod schedule;
 mod stretch;
@@ -13,8 +13,8 @@ mod world;
 pub use relaying::{RelayFault, relay};
 pub use schedule::run_schedule;
 pub use stretch::{
-    answers_the_number_wanted, carries_a_stretch, counts_whole_packets, goes_on_behind_the_last,
+    answers_the_number_wanted, carries_a_stretch, counts_whole_packets, goes_on_after_the_last,
     holds_one_slice, holds_whole_packets, is_the_counted_world, one_world, pushes_what_is_appended,
-    resumes_behind_the_last, spares_the_client, streams_behind_the_replies,
+    resumes_after_the_last, spares_the_client, streams_after_the_replies,
 };
 pub use world::{Link, Memory, Setup, Step, World};

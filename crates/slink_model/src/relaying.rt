@@ -10,7 +10,7 @@ ghost use Rattle.slink_model.specs.private.Relaying.{FailsToPackAll, IsAmong, Is
 ghost use Rattle.slink_model.specs.declared.world.Step.{Step};
 ghost use Rattle.slink_model.specs.declared.relaying.RelayFault.{RelayFault};
 
-use crate::kept::Kept;
+use crate::memory_sink::MemorySink;
 use crate::schedule::run_schedule;
 use crate::stretch::pushes_what_is_appended;
 use crate::world::{Setup, Step};
@@ -58,7 +58,7 @@ fn packed(alloc: Global, series: &Series, options: &Options) -> Result<Vec<u8>, 
     ensures ok { IfOk result (λ bytes. IsPackedAs series.now options.now bytes.items) }
     ensures err { IfErr result (FailsToPackAll series.now options.now) }
 {
-    let mut kept = Kept::new(alloc);
+    let mut kept = MemorySink::new(alloc);
     match pack(series, options, &mut kept) {
         Ok(_) => Ok(kept.bytes),
         // A sink in memory fails only for want of it.

@@ -31,7 +31,7 @@ pub fn holds_one_slice()
 /// is granted the record after the last one held exactly where that is still in the window or is the next one; else it
 /// is refused.
 #[tactic(auto, using(crate::proofs::Resumed::resume_granted))]
-pub fn resumes_behind_the_last()
+pub fn resumes_after_the_last()
     ensures resumes { (setup : Setup) (steps : List Step) (now : WorldState) (run : AllHappen (opening setup) steps now)
         → IsSchedule setup steps → LackFew setup.first (opening setup) steps now run → Resumes now }
 {}
@@ -85,7 +85,7 @@ pub fn one_world()
 /// After any steps of a schedule, while a client takes from its link, and where something is held of a place, the first
 /// packet of it that is on its way is that of the record after the last one held.
 #[tactic(auto, using(crate::proofs::Going::goes_on_after))]
-pub fn goes_on_behind_the_last()
+pub fn goes_on_after_the_last()
     ensures next { (setup : Setup) (steps : List Step) (now : WorldState) (run : AllHappen (opening setup) steps now)
         → IsSchedule setup steps → AreAskable setup.places.items → LackFew setup.first (opening setup) steps now run
         → (l : LinkState) → now.link ≡ Some l → IsLinked now.client.talk.stage → GoesOn setup.places.items now l }
@@ -121,7 +121,7 @@ pub fn counts_whole_packets()
 /// After any steps of a schedule, while a client awaits packets, what its link was sent are two replies to each place,
 /// which have come to it, after them packets of whole records, and after the last of these the end, once or not yet.
 #[tactic(auto, using(crate::proofs::CountedWorld::counted_streamed))]
-pub fn streams_behind_the_replies()
+pub fn streams_after_the_replies()
     ensures streams { (setup : Setup) (steps : List Step) (now : WorldState) → AllHappen (opening setup) steps now
         → IsSchedule setup steps → AreAskable setup.places.items
         → AreStreamed (length setup.places.items) (counted_after setup (counted_opening setup) steps).talk

@@ -4,29 +4,29 @@ use std::alloc::Allocator;
 
 /// What was written, kept in memory. A write fails where memory was refused.
 #[derive(Drop)]
-pub struct Kept<A: Allocator> {
+pub struct MemorySink<A: Allocator> {
     /// All bytes that were written, in order.
     pub bytes: Vec<u8, A>,
     pub(crate) calls: Tally,
 }
 
-impl<A: Allocator> Kept<A> {
+impl<A: Allocator> MemorySink<A> {
     ghost use Rattle.slink_model.specs.private.Keeping.{written_by};
     ghost use Rattle.mseed_stream.specs.Device.{nothing_written};
     ghost use Rattle.std.specs.Prelude.{◌≡◌};
 
     /// Nothing yet.
-    pub fn new(alloc: A) -> Kept<A>
+    pub fn new(alloc: A) -> MemorySink<A>
         ensures { written_by result ≡ nothing_written }
     {
-        Kept {
+        MemorySink {
             bytes: Vec::new(alloc),
             calls: Tally::new(),
         }
     }
 }
 
-impl<A: Allocator> Sink for Kept<A> {
+impl<A: Allocator> Sink for MemorySink<A> {
     ghost use Rattle.slink_model.specs.private.Keeping.{written_by};
 
     ghost written = { written_by };
