@@ -4,9 +4,9 @@ use Rattle.std.proofs.Common.{◌∷◌, ◌++◌, length, map, replicate, take,
 use Rattle.std.proofs.Common.{Option, Some, None, IfSome}
 use Rattle.std.proofs.lemmas.List.{length-map, map_more, set_at}
 use Rattle.std.specs.Option.{option_and_then}
-use Rattle.slink_wire.specs.Place.{Fields}
+use Rattle.slink_wire.specs.Place.{AreNumbers, Fields}
 use Rattle.slink_feed.specs.declared.dialogue.Wanted.{Wanted}
-use Rattle.slink_feed.specs.Dialogue.{AreNumbers, AreShort, Wants, next_at, want_at, wanted_of, wants_of}
+use Rattle.slink_feed.specs.Dialogue.{AreShort, Wants, next_at, want_at, wanted_of, wants_of}
 
 -- one place more is written
 pub wanted_more : (places : List (Fields × Option ℕ)) (k : ℕ) (p : Fields × Option ℕ) → k < length places

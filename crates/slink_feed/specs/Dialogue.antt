@@ -1,7 +1,7 @@
 -- The requests that a client sends over a link, and what it makes of the replies and packets that the link brings.
 use Rattle.std.specs.Prelude.{◌≡◌, ℕ, Bool, false, ◌+◌, ◌-◌, ◌%◌, ◌^◌, ◌<◌, ◌==◌, ◌&&◌, ◌||◌, nat_lt, List, ◌++◌}
 use Rattle.std.specs.Prelude.{length, map}
-use Rattle.std.specs.Prelude.{replicate, bytes_eq, codes, Option, Some, None, IfSome, All, nat_eq, unwrap_or, position}
+use Rattle.std.specs.Prelude.{replicate, bytes_eq, codes, Option, Some, None, nat_eq, unwrap_or, position}
 use Rattle.std.specs.Prelude.{slice_get, slice_range, slice_set, if◌then◌else◌}
 use Rattle.std.specs.List.{starts_with}
 use Rattle.std.specs.Option.{option_and_then}
@@ -31,10 +31,6 @@ wanted_of p = Some (record { place = p.0; next = p.1 })
 
 abbrev pub wants_of : List (Fields × Option ℕ) → Wants
 wants_of places = map wanted_of places ++ replicate (16 - length places) None
-
--- Numbers count modulo 2^24.
-abbrev pub AreNumbers : List (Fields × Option ℕ) → Type 0
-AreNumbers places = All (λ p. IfSome p.1 (λ n. n < 2 ^ 24)) places
 
 -- the place at an index, and the number that it wants next
 abbrev pub want_at : Wants → ℕ → Option Wanted

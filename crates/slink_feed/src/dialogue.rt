@@ -1,7 +1,8 @@
 //! The requests that a client sends over a link, and what it makes of the replies and packets of the server.
 ghost use Rattle.std.specs.Prelude.{◌≡◌, ◌≢◌, ◌+◌, ◌%◌, ◌^◌, ◌<◌, ◌≤◌, IfNone, IfSome, length};
 ghost use Rattle.slink_wire.specs.Request.{IsSpelled};
-ghost use Rattle.slink_feed.specs.Dialogue.{AreNumbers, IsStage, Reply, answer_of, at_packet, bearer, ended, event_of};
+ghost use Rattle.slink_wire.specs.Place.{AreNumbers};
+ghost use Rattle.slink_feed.specs.Dialogue.{IsStage, Reply, answer_of, at_packet, bearer, ended, event_of};
 ghost use Rattle.slink_feed.specs.Dialogue.{is_ahead, is_taken};
 ghost use Rattle.slink_feed.specs.Dialogue.{read, if_wanted, is_borne, next_at, says, says_number, says_place};
 ghost use Rattle.slink_feed.specs.Dialogue.{to_answer, want_at, wants_of, with_next};

@@ -1,8 +1,7 @@
 -- A series that is packed, sent through a schedule, and put together from what the client holds.
 use Rattle.std.specs.Prelude.{◌≡◌, ◌≢◌, ◌<◌, ◌^◌, ℕ, All, List, [], ◌∷◌, ◌++◌, length, Option, Some, None, Result, Ok}
 use Rattle.std.specs.Prelude.{Err, slice_index_or, slice_range}
-use Rattle.slink_wire.specs.Place.{Fields}
-use Rattle.slink_feed.specs.Dialogue.{AreNumbers}
+use Rattle.slink_wire.specs.Place.{AreNumbers, Fields}
 use Rattle.slink_feed.specs.Fault.{IsCapacity}
 use Rattle.slink_model.specs.declared.world.Setup.{Setup}
 use Rattle.slink_model.specs.declared.world.Step.{Step}

@@ -1,11 +1,10 @@
 -- What is never reported of a client over the links of a schedule.
 use Rattle.std.specs.Prelude.{◌≡◌, ℕ, ◌<◌, List, length, Option, Some, slice_get}
-use Rattle.slink_wire.specs.Place.{Fields, IsField}
+use Rattle.slink_wire.specs.Place.{AreNumbers, Fields, IsField}
 use Rattle.slink_feed.specs.declared.dialogue.Ending.{Ending}
 use Rattle.slink_feed.specs.declared.dialogue.Ending.TheVariants.{End, Refused, Gap, Garbage, Foreign}
 use Rattle.slink_feed.specs.declared.dialogue.Stage.{Stage}
 use Rattle.slink_feed.specs.declared.dialogue.Stage.TheVariants.{Unlinked, Station, Number, Packets, Ended}
-use Rattle.slink_feed.specs.Dialogue.{AreNumbers}
 
 -- A link ends where all that was requested was sent, or where a place is refused: not by the packet of another record
 -- than the one that is wanted, nor by that of a record of none of the places, nor by bytes that are no reply, packet or

@@ -1,9 +1,8 @@
 //! Schedules: pushes, deliveries, cuts and reconnections in any order.
 ghost use Rattle.std.specs.Prelude.{◌≡◌, ◌^◌, ◌<◌, ◌≤◌, ℕ, [], All, IfOk, None, Some, length, map};
-ghost use Rattle.slink_wire.specs.Place.{IsField};
+ghost use Rattle.slink_wire.specs.Place.{AreNumbers, IsField};
 ghost use Rattle.slink_model.specs.Calling.{AreAnswered};
 ghost use Rattle.slink_model.specs.Counted.{IsCounted, counted_after, counted_opening};
-ghost use Rattle.slink_feed.specs.Dialogue.{AreNumbers};
 ghost use Rattle.slink_feed.specs.Fault.{IsCapacity};
 ghost use Rattle.slink_model.specs.Going.{GoesOn};
 ghost use Rattle.slink_feed.specs.Listening.{IsLinked};
