@@ -5,7 +5,7 @@ ghost use Rattle.mseed_stream.specs.Device.{nothing_read};
 
 use mseed_stream::{
     Buffered, Counted, Cutter, Exchanges, Failed, Sink, Source, StreamFault, Tally, read_all,
-    read_all_in, split, split_in, tell, write_all_of, write_beyond,
+    read_all_in, report, split, split_in, write_all_of, write_beyond,
 };
 use std::alloc::{Allocator, Global};
 use std::io::{self, BufReader};
@@ -42,9 +42,9 @@ pub fn line_in_memory(alloc: Global) -> Result<Vec<u8>, usize> {
 }
 
 /// Writes a line as far as the device takes it, and says how much memory it accepted.
-pub fn tell_line(alloc: Global) -> usize {
+pub fn report_line(alloc: Global) -> usize {
     let mut sink = Counted::new(Vec::new(alloc));
-    tell(&mut sink, b"a line\n");
+    report(&mut sink, b"a line\n");
     sink.get_ref().len()
 }
 

@@ -25,7 +25,7 @@ use mseed_input::tell_no_memory;
 use mseed_join::{Form, audit_part, audit_part_each, join, join_each};
 use mseed_pack::Options;
 use mseed_select::Selector;
-use mseed_stream::{Sink, Source, tell};
+use mseed_stream::{Sink, Source, report};
 use mseed_words::{Command, Joining, Packing, Refusal, Request};
 use slink_links::FAULT;
 use std::alloc::{Allocator, Global};
@@ -161,7 +161,7 @@ pub fn write_failed<E: Sink>(errors: &mut E) -> u8
     ensures status { result ≡ 2 }
     ensures reported { Tells write_failed (E.written errors.old) (E.written errors.new) }
 {
-    tell(errors, b"mseed: write failed\n");
+    report(errors, b"mseed: write failed\n");
     FAULT
 }
 
@@ -171,7 +171,7 @@ fn refuse<E: Sink>(errors: &mut E, refusal: &Refusal) -> u8
 {
     match refusal {
         Refusal::Text(text) => {
-            tell(errors, text.as_bytes());
+            report(errors, text.as_bytes());
             BAD_COMMAND
         }
         Refusal::NoRequest => refuse_words(errors),
@@ -184,7 +184,7 @@ pub fn refuse_words<E: Sink>(errors: &mut E) -> u8
     ensures status { result ≡ 3 }
     ensures reported { Tells bad_value (E.written errors.old) (E.written errors.new) }
 {
-    tell(errors, b"mseed: bad value\n");
+    report(errors, b"mseed: bad value\n");
     BAD_COMMAND
 }
 

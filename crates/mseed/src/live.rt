@@ -13,7 +13,7 @@ ghost use Rattle.mseed.specs.Live.{EndsWith, HasEnded, HasServed, HasServedTcp};
 use crate::command::refuse_memory;
 use crate::filling::open_feed;
 use crate::refusal::refuse_to_serve;
-use mseed_stream::{Sink, tell};
+use mseed_stream::{Sink, report};
 use mseed_words::LiveServing;
 use slink_links::{DONE, FAULT};
 use slink_live::{Ready, Server};
@@ -148,6 +148,6 @@ fn link_failed<E: Sink>(errors: &mut E) -> u8
     ensures status { result ≡ 2 }
     ensures reported { Tells (codes "mseed: link failed\n") (E.written errors.old) (E.written errors.new) }
 {
-    tell(errors, b"mseed: link failed\n");
+    report(errors, b"mseed: link failed\n");
     FAULT
 }

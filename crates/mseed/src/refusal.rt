@@ -16,7 +16,7 @@ use mseed_join::JoinsFault;
 use mseed_pack::PackFault;
 use mseed_record::Codes;
 use mseed_repack::{RepackFault, StretchesFault, tell_broken, tell_misfit};
-use mseed_stream::{Sink, StreamFault, tell};
+use mseed_stream::{Sink, StreamFault, report};
 use mseed_text::Line;
 use slink_feed::InputFault;
 use slink_links::FAULT;
@@ -102,7 +102,7 @@ fn tell_miscount<E: Sink>(errors: &mut E, parts: u64, expected: u64) -> u8
     line.put(b" parts, not ");
     line.put_count(expected);
     line.put(b"\n");
-    tell(errors, line.as_slice());
+    report(errors, line.as_slice());
     FAULT
 }
 
@@ -114,7 +114,7 @@ pub fn tell_fault<E: Sink>(errors: &mut E, fault: &StreamFault) -> u8
     let mut line = Line::new();
     line.put(b"mseed: ");
     line.put_fault_line(fault);
-    tell(errors, line.as_slice());
+    report(errors, line.as_slice());
     FAULT
 }
 
@@ -137,7 +137,7 @@ fn tell_of_channel<E: Sink>(errors: &mut E, channel: &Codes, words: &[u8])
     line.put(b"mseed: ");
     line.put_name(channel);
     line.put(words);
-    tell(errors, line.as_slice());
+    report(errors, line.as_slice());
 }
 
 /// Why a channel can't be packed, by the number of the reason.
@@ -172,6 +172,6 @@ pub fn tell_number<'a, E: Sink>(
     line.put(before);
     line.put_count(number);
     line.put(behind);
-    tell(errors, line.as_slice());
+    report(errors, line.as_slice());
     FAULT
 }

@@ -6,7 +6,7 @@ ghost use Rattle.mseed_stream.specs.Telling.{Tells};
 
 use crate::blame::Blame;
 use mseed_files::{Chain, Open, Place};
-use mseed_stream::{Sink, tell};
+use mseed_stream::{Sink, report};
 use mseed_text::Line;
 use std::alloc::{AllocError, Global};
 
@@ -145,7 +145,7 @@ pub fn tell_unreadable<E: Sink>(alloc: Global, errors: &mut E, word: &[u8])
 pub fn tell_no_memory<E: Sink>(errors: &mut E)
     ensures { Tells no_memory (E.written errors.old) (E.written errors.new) }
 {
-    tell(errors, b"mseed: no memory\n");
+    report(errors, b"mseed: no memory\n");
 }
 
 /// Says that a fault lies in the file that a word names, after so many bytes of it.
@@ -165,7 +165,7 @@ fn tell_named<E: Sink>(alloc: Global, errors: &mut E, before: &[u8], word: &[u8]
         (E.written errors.new) }
 {
     match named_line(alloc, before, word, behind) {
-        Ok(line) => tell(errors, &line),
+        Ok(line) => report(errors, &line),
         Err(AllocError) => tell_no_memory(errors),
     }
 }

@@ -10,7 +10,7 @@ ghost use Rattle.mseed_join.specs.private.Taking.{passed_by};
 use crate::joint::{JointPart, Reported};
 use crate::reader::{PartsFault, Reader};
 use mseed_audit::Memory;
-use mseed_stream::{Sink, Source, StreamFault, tell};
+use mseed_stream::{Sink, Source, StreamFault, report};
 use mseed_text::Line;
 use std::alloc::Allocator;
 
@@ -72,5 +72,5 @@ fn tell_fault<E: Sink>(errors: &mut E, part: u64, fault: &StreamFault)
     line.put_count(part);
     line.put(b" ");
     line.put_fault_line(fault);
-    tell(errors, line.as_slice());
+    report(errors, line.as_slice());
 }

@@ -9,7 +9,7 @@ ghost use Rattle.mseed_repack.specs.Selected.{without_time_lines};
 
 use mseed_record::RecordView;
 use mseed_select::{Answer, Selector};
-use mseed_stream::{Sink, tell};
+use mseed_stream::{Sink, report};
 use mseed_text::Line;
 use std::alloc::Allocator;
 
@@ -51,6 +51,6 @@ pub fn tell_without_time<E: Sink>(count: u64, errors: &mut E)
         line.put(b"mseed: ");
         line.put_count(count);
         line.put(b" records without a time\n");
-        tell(errors, line.as_slice());
+        report(errors, line.as_slice());
     }
 }

@@ -15,7 +15,7 @@ use crate::stretches_fault::StretchesFault;
 use mseed_audit::Verdict;
 use mseed_pack::PackFault;
 use mseed_record::Codes;
-use mseed_stream::{Sink, tell};
+use mseed_stream::{Sink, report};
 use mseed_text::Line;
 
 /// What was left out, the worst of it.
@@ -131,7 +131,7 @@ pub fn tell_broken<E: Sink>(channel: &Codes, errors: &mut E)
     line.put(b"mseed: ");
     line.put_name(channel);
     line.put(b" is broken\n");
-    tell(errors, line.as_slice());
+    report(errors, line.as_slice());
 }
 
 /// Says of a channel which of its stretches can't be packed, and why.
@@ -146,7 +146,7 @@ pub fn tell_misfit<E: Sink>(channel: &Codes, stretch: u64, fault: PackFault, err
     line.put(b" stretch ");
     line.put_count(stretch);
     line.put(b"\n");
-    tell(errors, line.as_slice());
+    report(errors, line.as_slice());
 }
 
 /// The place of a reason among those why a series can't be packed.

@@ -8,7 +8,7 @@
 //!
 //! A [`Cutter`] hands out the records of what a source tells, one by one, and [`split`] those of a
 //! slice. [`read_all`] and [`write_all_of`] are the plain loops over devices, [`write_beyond`] writes
-//! a text that is gathered some at a time, and [`tell`] writes a line as far as the device takes it.
+//! a text that is gathered some at a time, and [`report`] writes a line as far as the device takes it.
 #![tactic(auto)]
 
 mod buffered;
@@ -18,9 +18,9 @@ mod device;
 mod exchanges;
 mod fault;
 mod law;
+mod reporting;
 mod slices;
 mod tally;
-mod telling;
 mod whole;
 
 pub use buffered::Buffered;
@@ -30,7 +30,7 @@ pub use device::{Duplex, Failed, Sink, Source};
 pub use exchanges::Exchanges;
 pub use fault::StreamFault;
 pub use law::one_input;
+pub use reporting::report;
 pub use slices::{split, split_in};
 pub use tally::Tally;
-pub use telling::tell;
 pub use whole::{read_all, read_all_in, write_all_of, write_beyond};

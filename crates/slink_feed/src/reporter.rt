@@ -13,7 +13,7 @@ use crate::client::Client;
 use crate::dialogue::Wanted;
 use crate::ring::SPAN;
 use arrayvec::ArrayVec;
-use mseed_stream::{Sink, tell};
+use mseed_stream::{Sink, report};
 use slink_wire::{Place, six_digits};
 use std::marker::Model;
 
@@ -138,7 +138,7 @@ fn report_if_other<E: Sink>(place: &Place, want: Option<u32>, got: u32, errors: 
     match want {
         Some(want) => {
             if want != got {
-                tell(errors, hole_line(place, want, got).as_slice());
+                report(errors, hole_line(place, want, got).as_slice());
             }
         }
         None => {}
@@ -162,7 +162,7 @@ fn report_first<E: Sink>(is_first: bool, want: &Option<Wanted>, number: u32, err
     match want {
         Some(wanted) => {
             if is_first {
-                tell(errors, first_line(&wanted.place, number).as_slice());
+                report(errors, first_line(&wanted.place, number).as_slice());
             }
         }
         None => {}
@@ -292,6 +292,6 @@ impl Reporter {
     {
         let wants = self.wants_left(client, failed);
         let all = &wants[..];
-        tell(errors, next_line(&all[0], &all[1..]).as_slice());
+        report(errors, next_line(&all[0], &all[1..]).as_slice());
     }
 }

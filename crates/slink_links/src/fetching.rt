@@ -17,7 +17,7 @@ use crate::pause::{Pause, wait_behind};
 use crate::serving::TURNS;
 use crate::settle::Settle;
 use crate::status::{DONE, FAULT};
-use mseed_stream::{Counted, Sink, tell, write_all_of};
+use mseed_stream::{Counted, Sink, report, write_all_of};
 use slink_feed::{Client, Event, LinkFault, Reporter, Room, Turn, fetch_turn_in};
 use std::io::sink;
 
@@ -107,10 +107,10 @@ fn report_end<E: Sink>(end: FetchEnd, errors: &mut E)
 {
     match end {
         FetchEnd::Done => {}
-        FetchEnd::Refused => tell(errors, b"mseed: refused\n"),
-        FetchEnd::BadFeed => tell(errors, b"mseed: bad feed\n"),
-        FetchEnd::WriteFailed => tell(errors, b"mseed: write failed\n"),
-        FetchEnd::LinkFailed => tell(errors, b"mseed: link failed\n"),
+        FetchEnd::Refused => report(errors, b"mseed: refused\n"),
+        FetchEnd::BadFeed => report(errors, b"mseed: bad feed\n"),
+        FetchEnd::WriteFailed => report(errors, b"mseed: write failed\n"),
+        FetchEnd::LinkFailed => report(errors, b"mseed: link failed\n"),
     }
 }
 

@@ -6,7 +6,7 @@ ghost use Rattle.slink_links.specs.Served.{HasServed, HasServedEach, IsServed};
 use crate::accept::Accept;
 use crate::settle::Settle;
 use crate::status::{DONE, FAULT};
-use mseed_stream::{Sink, tell};
+use mseed_stream::{Sink, report};
 use slink_feed::{Feed, LinkFault, Session, Turn, serve_turn};
 use std::alloc::Allocator;
 
@@ -36,7 +36,7 @@ pub fn serve_all<B: Allocator, A: Accept, E: Sink>(
     if serve_connections(feed, connections, acceptor) {
         return DONE;
     }
-    tell(errors, b"mseed: link failed\n");
+    report(errors, b"mseed: link failed\n");
     FAULT
 }
 

@@ -18,7 +18,7 @@ use crate::plan::{FetchPlan, ServePlan};
 use crate::planned::{fetch_planned, serve_planned};
 use crate::settle::Settle;
 use crate::status::FAULT;
-use mseed_stream::{Counted, Exchanges, Sink, Tally, tell};
+use mseed_stream::{Counted, Exchanges, Sink, Tally, report};
 use slink_wire::{Address, Host, Name, Timeout};
 use std::alloc::Allocator;
 use std::io;
@@ -326,7 +326,7 @@ pub fn serve<N: Net + Clock, A: Allocator, E: Sink>(
     match Listening::bind(host, plan.address, plan.port, plan.timeout) {
         Ok(mut listening) => serve_planned(plan, &mut listening, errors),
         Err(_) => {
-            tell(errors, b"mseed: link failed\n");
+            report(errors, b"mseed: link failed\n");
             FAULT
         }
     }

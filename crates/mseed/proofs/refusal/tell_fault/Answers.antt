@@ -6,5 +6,5 @@ pub returns-clause-reported : goal.returns-clause-reported
 returns-clause-reported g c =
     let a1 = rw c.new-line.ensures at c.put.ensures.text in
     let a2 = rw a1 at c.put_fault_line.ensures.text in
-    subst (λ (line : List ℕ). Tells line (g.E.Sink.written c.args.errors.now) (g.E.Sink.written c.tell.new.errors))
-    (c.as_slice.ensures ∙ a2) c.tell.ensures
+    subst (λ (line : List ℕ). Tells line (g.E.Sink.written c.args.errors.now) (g.E.Sink.written c.report.new.errors))
+    (c.as_slice.ensures ∙ a2) c.report.ensures

@@ -11,6 +11,7 @@ returns-then-count-gt0 g c =
     let a1 = rw c.new-line.ensures at c.put.ensures.text in
     let a2 = rw a1 at c.put_count.ensures.text in
     let a3 = rw a2 at c.put-then-count-gt0.ensures.text in
-    some_lack c.args.count (g.E.Sink.written c.args.errors.now) (g.E.Sink.written c.tell.new.errors) c.if-count-gt0.true
-    (subst (λ (line : List ℕ). Tells line (g.E.Sink.written c.args.errors.now) (g.E.Sink.written c.tell.new.errors))
-    (c.as_slice.ensures ∙ a3) c.tell.ensures)
+    some_lack c.args.count (g.E.Sink.written c.args.errors.now) (g.E.Sink.written c.report.new.errors)
+    c.if-count-gt0.true
+    (subst (λ (line : List ℕ). Tells line (g.E.Sink.written c.args.errors.now) (g.E.Sink.written c.report.new.errors))
+    (c.as_slice.ensures ∙ a3) c.report.ensures)

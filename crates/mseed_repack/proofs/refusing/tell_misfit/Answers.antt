@@ -11,5 +11,5 @@ returns g c =
     let a5 = rw a4 at c.put-3.ensures.text in
     let a6 = rw a5 at c.put_count-2.ensures.text in
     let a7 = rw a6 at c.put-4.ensures.text in
-    subst (λ (line : List ℕ). Tells line (g.E.Sink.written c.args.errors.now) (g.E.Sink.written c.tell.new.errors))
-    (c.as_slice.ensures ∙ a7) c.tell.ensures
+    subst (λ (line : List ℕ). Tells line (g.E.Sink.written c.args.errors.now) (g.E.Sink.written c.report.new.errors))
+    (c.as_slice.ensures ∙ a7) c.report.ensures

@@ -23,7 +23,7 @@ returns g c = record {
       c.serve_connections.ensures.failed c.if-serve_connections.false,
     )),
   );
-  reported = something_failed refl c.tell.ensures;
+  reported = something_failed refl c.report.ensures;
   out = c.serve_connections.ensures.out;
   served = c.serve_connections.ensures.served;
 }

@@ -15,6 +15,6 @@ returns g c =
     ap (λ (o : Option Wanted). next_line o (take (length wants - 1) (drop 1 wants))) first
     ∙ ap (λ (ws : Wants). next_line (want_at wants 0) ws) (behind_first wants) in
     subst (λ (ws : Wants). Tells (next_line_of ws) (g.E.Sink.written c.args.errors.now)
-    (g.E.Sink.written c.tell.new.errors)) c.wants_left-wants.ensures
-    (subst (λ (l : List ℕ). Tells l (g.E.Sink.written c.args.errors.now) (g.E.Sink.written c.tell.new.errors))
-    (c.as_slice.ensures.value ∙ (c.next_line.ensures ∙ line)) c.tell.ensures)
+    (g.E.Sink.written c.report.new.errors)) c.wants_left-wants.ensures
+    (subst (λ (l : List ℕ). Tells l (g.E.Sink.written c.args.errors.now) (g.E.Sink.written c.report.new.errors))
+    (c.as_slice.ensures.value ∙ (c.next_line.ensures ∙ line)) c.report.ensures)

@@ -1,5 +1,5 @@
 use Rattle.mseed_stream.proofs.Written.{reported}
-use Rattle.mseed_stream.proofs.telling.tell.Goals as goal
+use Rattle.mseed_stream.proofs.reporting.report.Goals as goal
 
 pub returns : goal.returns
 returns g c =
