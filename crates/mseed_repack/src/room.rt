@@ -1,5 +1,5 @@
 //! Room for the samples and leap seconds of what is packed anew.
-ghost use Rattle.std.specs.Prelude.{◌≡◌, ◌≤◌, length, IfOk, OnOk};
+ghost use Rattle.std.specs.Prelude.{◌≡◌, ◌<◌, ◌≤◌, length, IfOk, OnOk};
 
 use mseed_time::LeapStep;
 use std::alloc::{AllocError, Allocator};
@@ -16,6 +16,9 @@ pub(crate) fn make_room<A: Allocator + Copy>(
 ) -> Result<(), AllocError>
     ensures room { OnOk result (count ≤ length samples.new.items) }
     ensures grown { OnOk result (length samples.old.items ≤ length samples.new.items) }
+    // It grows to no more than is asked for.
+    ensures exact { OnOk result (length samples.old.items < length samples.new.items
+        → length samples.new.items ≡ count) }
 {
     if samples.len() < count {
         *samples = Vec::new(alloc);

@@ -1,5 +1,5 @@
 //! The series of some records: how it begins, whether it can be packed, and how it is written.
-ghost use Rattle.std.specs.Prelude.{◌≡◌, ◌≢◌, ◌≤◌, ℤ, List, length, pos, slice_index_or, All, IfErr, IfOk, IfSome};
+ghost use Rattle.std.specs.Prelude.{◌≡◌, ◌≢◌, ◌<◌, ◌≤◌, ℤ, List, length, pos, slice_index_or, All, IfErr, IfOk, IfSome};
 ghost use Rattle.std.specs.Prelude.{IsTrue, Some};
 ghost use Rattle.std.specs.List.{AllByRecursion};
 ghost use Rattle.mseed_record.specs.View.{View};
@@ -58,6 +58,9 @@ pub(crate) fn fit_series<'a, A: Allocator + Copy, R: Walk<'a>>(
         IsFitting options.now (length samples.new.items) (R.left records) fitting) }
     ensures grown { IfOk result (λ _. length samples.old.items ≤ length samples.new.items) }
     ensures kept { IfOk result (λ fitting. fitting ≡ Fits Frames → samples.new.items ≡ samples.old.items) }
+    // The list grows to no more than this series has.
+    ensures exact { IfOk result (λ _. length samples.old.items < length samples.new.items
+        → length samples.new.items ≡ samples_of (R.left records)) }
 {
     let outline = outline_records(records, nearness_before(options.encoding), steps);
     let head = head_of(records, outline.samples, &steps[..outline.steps]);

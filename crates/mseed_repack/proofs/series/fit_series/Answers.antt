@@ -1,5 +1,5 @@
-use Rattle.std.proofs.Common.{◌≡◌, ℕ, ℤ, List, ap, arith, drop, length, rules, sym, subst, ◌∙◌, All, IfSome, Option}
-use Rattle.std.proofs.Common.{Some}
+use Rattle.std.proofs.Common.{◌≡◌, ◌<◌, ℕ, ℤ, List, ap, arith, drop, length, rules, sym, subst, ◌∙◌, All, IfSome}
+use Rattle.std.proofs.Common.{Option, Some}
 use Rattle.std.proofs.lemmas.List.{take_at}
 use Rattle.mseed_steim.specs.Spelling.{IsWithin}
 use Rattle.mseed_pack.specs.Traces.{headed}
@@ -72,3 +72,19 @@ returns-in-None-clause-fitting g c =
 
 pub returns-in-None-clause-kept : goal.returns-in-None-clause-kept
 returns-in-None-clause-kept g c = λ e. absurd (c.fit_read.ensures.listed e)
+
+pub returns-in-Some-clause-exact : goal.returns-in-Some-clause-exact
+returns-in-Some-clause-exact g c = λ grew.
+    omega (arith, c.in_ok-make_room.ensures.exact grew, c.outline_records-outline.ensures.samples)
+
+pub returns-in-None-clause-exact : goal.returns-in-None-clause-exact
+returns-in-None-clause-exact g c = λ grew.
+    let xs : List ℤ = c.fit_read.new.samples in
+    let v : ℕ = length c.make_room.new.samples.items in
+    let size : length xs ≡ c.make_room.new.samples.len = search rules in
+    let same : length c.deref_mut.result.now ≡ length xs = search rules in
+    let room : length c.deref_mut.result.now ≡ v = ap (λ (ys : List ℤ). length ys) c.deref_mut.ensures.value in
+    let whole = take_at xs (drop (length xs) c.make_room.new.samples.items) c.make_room.new.samples.len size in
+    let back = ap (λ (ys : List ℤ). length ys) whole in
+    let more : length c.args.samples.now.items < v = omega (arith, grew, back, same, room) in
+    omega (arith, c.in_ok-make_room.ensures.exact more, c.outline_records-outline.ensures.samples, back, same, room)
