@@ -1,16 +1,16 @@
 //! Samples as Steim frames.
 ghost use Rattle.std.specs.Prelude.{◌≡◌, ℕ, ℤ, List, ◌+◌, ◌-◌, ◌*◌, ◌/◌, ◌%◌, ◌<◌, ◌≤◌, ◌==◌, if◌then◌else◌, length};
-ghost use Rattle.std.specs.Prelude.{min, pos, slice_index_or};
+ghost use Rattle.std.specs.Prelude.{min, pos, slice_index_or, IfSome};
 ghost use Rattle.mseed_steim.specs.Frames.{word_at};
 ghost use Rattle.mseed_pack.specs.private.Filling.{AreFrames, AreLeft, AreSet, AreTaken, GoesOn, Holds, HoldsInFrames};
-ghost use Rattle.mseed_pack.specs.private.Filling.{Begins, Runs, width_of};
+ghost use Rattle.mseed_pack.specs.private.Filling.{AreRunEnds, Begins, Runs, width_of};
 
 use crate::options::Encoding;
 use crate::payload::{Filled, Filler, Left};
 use crate::supply::Supply;
 use crate::window::Window;
 use byteorder::{BigEndian, ByteOrder};
-use mseed_steim::{Scheme, pack_words};
+use mseed_steim::{Ends, Scheme, pack_words};
 
 /// Bytes of a word.
 const WORD: usize = 4;
@@ -61,34 +61,36 @@ impl<S: Supply> Filler<S> for Frames {
         payload: &mut [u8],
     ) -> Filled {
         match encoding {
-            Encoding::Steim1 => fill_frames(Scheme::One, left, self, supply, payload),
-            Encoding::Steim2 => fill_frames(Scheme::Two, left, self, supply, payload),
+            Encoding::Steim1 => fill_frames(Scheme::One, left, None, self, supply, payload),
+            Encoding::Steim2 => fill_frames(Scheme::Two, left, None, self, supply, payload),
             Encoding::Int16 | Encoding::Int32 => unreachable!(),
         }
     }
 }
 
 /// Packs the samples from one on, as many as there is room for, into Steim frames. Their differences are taken through
-/// the window.
+/// the window. Where a list of all samples is at hand, the first and the last of those that were packed are read in it.
 pub(crate) fn fill_frames<S: Supply>(
     scheme: Scheme,
     left: Left,
+    list: Option<&[i32]>,
     frames: &mut Frames,
     supply: &mut S,
     payload: &mut [u8],
 ) -> Filled
     requires frames { AreFrames payload.old }
     requires left { (samples : List ℤ) × (GoesOn S.supplies frames.old supply.old (width_of scheme) samples left.first
-        × AreLeft samples left) }
+        × AreLeft samples left × IfSome list (λ all. all.now ≡ samples)) }
     ensures filled { (samples : List ℤ) → GoesOn S.supplies frames.old supply.old (width_of scheme) samples left.first
-        → AreLeft samples left → HoldsInFrames scheme samples left result payload.new
+        → AreLeft samples left → IfSome list.entry (λ all. all.now ≡ samples)
+        → HoldsInFrames scheme samples left result payload.new
         × GoesOn S.supplies frames.new supply.new (width_of scheme) samples (left.first + result.samples) }
     ensures taken { AreTaken left result }
     ensures beside { S.beside supply.new ≡ S.beside supply.old }
 {
     let count = (left.end - left.first).min(MOST * (payload.len() / WORD));
     frames.window.hold(supply, left.first, count);
-    pack_held(scheme, left, count, frames, payload)
+    pack_held(scheme, left, count, list, frames, payload)
 }
 
 /// The same of what the window holds, which is so many of the samples that are left: all, or as many as there is room
@@ -97,14 +99,16 @@ fn pack_held(
     scheme: Scheme,
     left: Left,
     count: usize,
+    list: Option<&[i32]>,
     frames: &mut Frames,
     payload: &mut [u8],
 ) -> Filled
     requires frames { AreFrames payload.old }
-    requires held { (samples : List ℤ) × Holds frames.old (width_of scheme) samples left count }
+    requires held { (samples : List ℤ) × (Holds frames.old (width_of scheme) samples left count
+        × IfSome list (λ all. all.now ≡ samples)) }
     requires count { count ≡ min (left.end - left.first) (7 * (length payload.old / 4)) }
     ensures filled { (samples : List ℤ) → Holds frames.old (width_of scheme) samples left count
-        → HoldsInFrames scheme samples left result payload.new
+        → IfSome list.entry (λ all. all.now ≡ samples) → HoldsInFrames scheme samples left result payload.new
         × (frames.new.before ≡ slice_index_or samples (left.first + result.samples - 1) (pos 0)) }
     ensures taken { AreTaken left result }
     ensures few { result.samples ≤ count }
@@ -114,7 +118,9 @@ fn pack_held(
     let diffs = &frames.window.differences[at..at + count];
     match pack_words(scheme, diffs, payload) {
         Ok(packed) => {
-            frames.before = put_ends(frames.before, &diffs[..packed.used], payload);
+            let ends = find_ends(list, left.first, frames.before, &diffs[..packed.used]);
+            put_constants(payload, ends.first, ends.last);
+            frames.before = ends.last;
             Filled {
                 samples: packed.used,
                 frames: frames_of(packed.words),
@@ -133,21 +139,45 @@ fn frames_of(words: usize) -> u8
     ((words + 16) / 15) as u8
 }
 
-/// Writes the first and the last of the samples with these differences, the first of which is that from the sample
-/// before, into the frames in which they are packed. Answers the last.
-fn put_ends(before: i32, diffs: &[i32], payload: &mut [u8]) -> i32
+/// The first and the last of the samples with these differences, the first of which is that from the sample before.
+/// Where a list of all samples is at hand, they are read in it, so many behind its beginning.
+fn find_ends(list: Option<&[i32]>, place: usize, before: i32, diffs: &[i32]) -> Ends
     requires some { 0 < length diffs.now }
-    requires long { 64 ≤ length payload.old }
+    requires run { (samples : List ℤ)
+        × (Begins samples place before diffs.now × IfSome list (λ all. all.now ≡ samples)) }
+    ensures { (samples : List ℤ) → Begins samples place before diffs.now → IfSome list.entry (λ all. all.now ≡ samples)
+        → AreRunEnds result samples place (length diffs.now) }
+{
+    match list {
+        Some(samples) => ends_in(samples, place, diffs.len()),
+        None => add_ends(before, diffs),
+    }
+}
+
+/// The first and the last of so many samples, from one on.
+fn ends_in(samples: &[i32], place: usize, count: usize) -> Ends
+    requires some { 0 < count }
+    requires inside { place + count ≤ length samples.now }
+    ensures { AreRunEnds result samples.now place count }
+{
+    Ends {
+        first: samples[place],
+        last: samples[place + count - 1],
+    }
+}
+
+/// The first and the last of the samples with these differences, by adding them up.
+fn add_ends(before: i32, diffs: &[i32]) -> Ends
+    requires some { 0 < length diffs.now }
     requires run { (samples : List ℤ) × ((place : ℕ) × Begins samples place before diffs.now) }
     ensures { (samples : List ℤ) (place : ℕ) → Begins samples place before diffs.now
-        → AreSet payload.old payload.new (slice_index_or samples place (pos 0))
-        (slice_index_or samples (place + length diffs.now - 1) (pos 0))
-        × (result ≡ slice_index_or samples (place + length diffs.now - 1) (pos 0)) }
+        → AreRunEnds result samples place (length diffs.now) }
 {
     let first = before + diffs[0];
-    let last = last_behind(first, &diffs[1..]);
-    put_constants(payload, first, last);
-    last
+    Ends {
+        first,
+        last: last_behind(first, &diffs[1..]),
+    }
 }
 
 /// The last of the samples behind one, by their differences; that one, where there is none.

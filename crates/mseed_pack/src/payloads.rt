@@ -1,5 +1,7 @@
 //! The samples of a list, in payloads of any encoding.
-ghost use Rattle.std.specs.Prelude.{◌≡◌};
+ghost use Rattle.std.specs.Prelude.{◌≡◌, ◌+◌, ℤ, List};
+ghost use Rattle.mseed_pack.specs.private.Filling.{AreFrames, AreLeft, AreTaken, GoesOn, HoldsInFrames, IsListed};
+ghost use Rattle.mseed_pack.specs.private.Filling.{width_of};
 
 use crate::frames::{Frames, fill_frames};
 use crate::integers::{Width, fill_integers};
@@ -47,8 +49,27 @@ impl<'a> Filler<Listed<'a>> for Payloads {
         match encoding {
             Encoding::Int16 => fill_integers(Width::Two, list.samples, left, payload),
             Encoding::Int32 => fill_integers(Width::Four, list.samples, left, payload),
-            Encoding::Steim1 => fill_frames(Scheme::One, left, &mut self.frames, list, payload),
-            Encoding::Steim2 => fill_frames(Scheme::Two, left, &mut self.frames, list, payload),
+            Encoding::Steim1 => fill_listed(Scheme::One, left, &mut self.frames, list, payload),
+            Encoding::Steim2 => fill_listed(Scheme::Two, left, &mut self.frames, list, payload),
         }
     }
+}
+
+/// Packs the samples of a list from one on, as many as there is room for, into Steim frames.
+fn fill_listed(
+    scheme: Scheme,
+    left: Left,
+    frames: &mut Frames,
+    list: &mut Listed<'_>,
+    payload: &mut [u8],
+) -> Filled
+    requires frames { AreFrames payload.old }
+    requires left { (samples : List ℤ) × (GoesOn IsListed frames.old list.old (width_of scheme) samples left.first
+        × AreLeft samples left) }
+    ensures filled { (samples : List ℤ) → GoesOn IsListed frames.old list.old (width_of scheme) samples left.first
+        → AreLeft samples left → HoldsInFrames scheme samples left result payload.new
+        × GoesOn IsListed frames.new list.new (width_of scheme) samples (left.first + result.samples) }
+    ensures taken { AreTaken left result }
+{
+    fill_frames(scheme, left, Some(list.samples), frames, list, payload)
 }

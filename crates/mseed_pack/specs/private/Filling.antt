@@ -15,6 +15,7 @@ use Rattle.mseed_pack.specs.declared.window.Window.{Window}
 use Rattle.mseed_pack.specs.Packing.{HoldsFrames, HoldsSamples}
 use Rattle.mseed_pack.specs.Stretches.{differences}
 use Rattle.mseed_pack.specs.declared.integers.Width.TheVariants.{Two as Short, Four as Long}
+use Rattle.mseed_steim.specs.declared.fault.Ends.{Ends}
 use Rattle.mseed_steim.specs.declared.scheme.Scheme.{Scheme}
 use Rattle.mseed_steim.specs.declared.scheme.Scheme.TheVariants.{One, Two}
 use Rattle.mseed_steim.specs.Frames.{code_at, data_words, first_constant, last_constant}
@@ -148,3 +149,8 @@ pub record Begins (samples : List ℤ) (place : ℕ) (before : ℤ) (diffs : Lis
   pub before_is : before ≡ slice_index_or samples (place - 1) (pos 0)
   pub each : (k : ℕ) → k < length diffs
       → slice_index_or diffs k (pos 0) ≡ slice_index_or (differences samples) (place + k) (pos 0)
+
+-- the first and the last of so many samples from a place on
+pub record AreRunEnds (ends : Ends) (samples : List ℤ) (place count : ℕ) : Type 0 where
+  pub first_is : ends.first ≡ slice_index_or samples place (pos 0)
+  pub last_is : ends.last ≡ slice_index_or samples (place + count - 1) (pos 0)

@@ -24,19 +24,22 @@ pack_held-requires-clause-held g c =
     let inside = left.inside in
     let drawn = c.hold.ensures.drawn xs goes.draws (omega (arith, c.min-count.ensures, some, inside)) in (
       xs,
-      record {
-        held = drawn.0.held;
-        low = drawn.0.low;
-        high = drawn.1;
-        before = goes.before;
-        fit = goes.fit;
-        differences_fit = goes.differences_fit;
-        are_left = left;
-      },
+      (
+        record {
+          held = drawn.0.held;
+          low = drawn.0.low;
+          high = drawn.1;
+          before = goes.before;
+          fit = goes.fit;
+          differences_fit = goes.differences_fit;
+          are_left = left;
+        },
+        c.requires.left.1.2,
+      ),
     )
 
 pub returns-clause-filled : goal.returns-clause-filled
-returns-clause-filled g c = λ xs goes left.
+returns-clause-filled g c = λ xs goes left listed.
     let first = c.args.left.first in
     let n = c.pack_held.result.samples in
     let some = left.some in
@@ -51,7 +54,7 @@ returns-clause-filled g c = λ xs goes left.
       fit = goes.fit;
       differences_fit = goes.differences_fit;
       are_left = left;
-    }) in (
+    }) listed in (
       filled.0,
       record {
         draws = subst (λ (w : Window). Draws g.S.Supply.supplies xs c.hold.new.supply w (first + n))

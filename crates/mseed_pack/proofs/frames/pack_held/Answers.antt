@@ -1,4 +1,4 @@
-use Rattle.std.proofs.Common.{◌≡◌, ◌+◌, ◌-◌, ℕ, pos, refl, rules, arith, length, get_or, sym, subst}
+use Rattle.std.proofs.Common.{◌≡◌, ◌+◌, ◌-◌, ℕ, ℤ, pos, refl, rules, arith, length, get_or, sym, subst}
 use Rattle.std.proofs.Common.{ap, ◌∙◌, w32, to_z, of_z}
 use Rattle.std.specs.Prelude.{slice_range}
 use Rattle.std.proofs.lemmas.Int.{to_z-of_z}
@@ -13,7 +13,7 @@ use Rattle.mseed_pack.proofs.frames.pack_held.Goals as goal
 pub unreachable-requires : goal.unreachable-requires
 unreachable-requires c =
     let xs = c.requires.held.0 in
-    let h = c.requires.held.1 in
+    let h = c.requires.held.1.0 in
     let l = c.args.left in
     let n = c.args.count in
     let w = c.args.frames.now.window in
@@ -26,10 +26,10 @@ unreachable-requires c =
     (slice_range w.differences (l.first - w.first) (l.first - w.first + n)) drawn
     (omega (arith, c.requires.count, some, inside)) h.differences_fit large.0.0
 
-pub put_ends-frames-requires : goal.put_ends-frames-requires
-put_ends-frames-requires c =
+pub find_ends-ends-requires : goal.find_ends-ends-requires
+find_ends-ends-requires c =
     let xs = c.requires.held.0 in
-    let h = c.requires.held.1 in
+    let h = c.requires.held.1.0 in
     let l = c.args.left in
     let w = c.args.frames.now.window in
     let used = c.in-Ok.packed.used in
@@ -42,12 +42,15 @@ put_ends-frames-requires c =
     (search rules) in
     let begins = begins_held xs w (to_z w32 (of_z w32 c.args.frames.now.before)) l.first c.args.count used h.held h.low
     h.high (search rules) (before ∙ h.before) h.fit (used_most _ _ _ _ _ _ _ _ fills) in
-    let size : length c.pack_words.new.frames ≡ length c.args.payload.now = search rules in
     record {
       some = omega (arith, begins.0, some.0);
-      long = omega (arith, size, c.requires.frames.long);
-      run = (xs, (l.first, begins.1));
+      run = (xs, (begins.1, c.requires.held.1.1));
     }
+
+pub put_constants-requires : goal.put_constants-requires
+put_constants-requires c =
+    let size : length c.pack_words.new.frames ≡ length c.args.payload.now = search rules in
+    omega (arith, size, c.requires.frames.long)
 
 pub frames_of-requires : goal.frames_of-requires
 frames_of-requires c =
@@ -57,14 +60,14 @@ frames_of-requires c =
     omega (arith, inside, most, size, c.requires.frames.short)
 
 pub returns-clause-filled : goal.returns-clause-filled
-returns-clause-filled c = λ xs h.
+returns-clause-filled c = λ xs h listed.
     let s = c.args.scheme in
     let l = c.args.left in
     let w = c.args.frames.now.window in
     let used = c.in-Ok.packed.used in
     let words = c.in-Ok.packed.words in
     let old = c.pack_words.new.frames in
-    let new = c.put_ends-frames.new.payload in
+    let new = c.put_constants.new.frames in
     let fills = fills_from s xs l w c.args.count used words c.args.payload.now old h.are_left c.requires.frames h.held
     h.low h.high (search rules) c.requires.count (search rules) c.in-Ok.ensures.packed c.in-Ok.ensures.inside
     c.in-Ok.ensures.whole c.in-Ok.ensures.behind c.in-Ok.ensures.codes in
@@ -72,20 +75,25 @@ returns-clause-filled c = λ xs h.
     (search rules) in
     let begins = begins_held xs w (to_z w32 (of_z w32 c.args.frames.now.before)) l.first c.args.count used h.held h.low
     h.high (search rules) (before ∙ h.before) h.fit (used_most _ _ _ _ _ _ _ _ fills) in
-    let put = c.put_ends-frames.ensures xs l.first begins.1 in
+    let ends = c.find_ends-ends.ensures xs begins.1 listed in
+    let last = ends.last_is ∙ ap (λ (m : ℕ). get_or xs (l.first + m - 1) (pos 0)) begins.0 in
+    let r = c.find_ends-ends.result in
+    let first_held : to_z w32 (of_z w32 r.first) ≡ r.first = to_z-of_z w32 r.first (search rules) in
+    let last_held : to_z w32 (of_z w32 r.last) ≡ r.last = to_z-of_z w32 r.last (search rules) in
     let set : AreSet old new (get_or xs l.first (pos 0)) (get_or xs (l.first + used - 1) (pos 0)) =
-    subst (λ (m : ℕ). AreSet old new (get_or xs l.first (pos 0)) (get_or xs (l.first + m - 1) (pos 0))) begins.0
-    put.0 in (
+    subst (λ (z : ℤ). AreSet old new (get_or xs l.first (pos 0)) z) (last_held ∙ last)
+    (subst (λ (z : ℤ). AreSet old new z (to_z w32 (of_z w32 r.last))) (first_held ∙ ends.first_is)
+    c.put_constants.ensures) in (
       subst (λ (m : ℕ). HoldsFrames s (slice_range (differences xs) l.first l.end)
           (slice_range xs l.first (l.first + used)) m new) (sym c.frames_of.ensures)
           (holds s xs l.first l.end c.args.count used words old new fills (search rules) set),
-      to_z-of_z w32 _ (search rules) ∙ put.1 ∙ ap (λ (m : ℕ). get_or xs (l.first + m - 1) (pos 0)) begins.0,
+      to_z-of_z w32 _ (search rules) ∙ last,
     )
 
 pub returns-clause-taken : goal.returns-clause-taken
 returns-clause-taken c =
     let xs = c.requires.held.0 in
-    let h = c.requires.held.1 in
+    let h = c.requires.held.1.0 in
     let l = c.args.left in
     let fills = fills_from c.args.scheme xs l c.args.frames.now.window c.args.count c.in-Ok.packed.used
     c.in-Ok.packed.words c.args.payload.now c.pack_words.new.frames h.are_left c.requires.frames h.held h.low h.high

@@ -53,19 +53,19 @@ returns-in-Int32-clause-filled c = λ xs stands left.
 pub returns-in-Steim1-clause-filled : goal.returns-in-Steim1-clause-filled
 returns-in-Steim1-clause-filled c = λ xs stands left.
     let l = c.args.left in
-    let r = c.fill_frames.result in
+    let r = c.fill_listed.result in
     let goes = subst (λ (e : Encoding). StandsInList c.args.self.now c.args.list.now e xs l.first) c.in-Steim1.is
     stands in
-    subst (λ (e : Encoding). IsFilled e xs l r c.fill_frames.new.payload
-    × StandsInList (record { frames = c.fill_frames.new.frames }) c.fill_frames.new.supply e xs (l.first + r.samples))
-    (sym c.in-Steim1.is) (c.fill_frames.ensures.filled xs goes left)
+    subst (λ (e : Encoding). IsFilled e xs l r c.fill_listed.new.payload
+    × StandsInList (record { frames = c.fill_listed.new.frames }) c.fill_listed.new.list e xs (l.first + r.samples))
+    (sym c.in-Steim1.is) (c.fill_listed.ensures.filled xs goes left)
 
 pub returns-in-Steim2-clause-filled : goal.returns-in-Steim2-clause-filled
 returns-in-Steim2-clause-filled c = λ xs stands left.
     let l = c.args.left in
-    let r = c.fill_frames-in-Steim2.result in
+    let r = c.fill_listed-in-Steim2.result in
     let goes = subst (λ (e : Encoding). StandsInList c.args.self.now c.args.list.now e xs l.first) c.in-Steim2.is
     stands in
-    subst (λ (e : Encoding). IsFilled e xs l r c.fill_frames-in-Steim2.new.payload
-    × StandsInList (record { frames = c.fill_frames-in-Steim2.new.frames }) c.fill_frames-in-Steim2.new.supply e xs
-    (l.first + r.samples)) (sym c.in-Steim2.is) (c.fill_frames-in-Steim2.ensures.filled xs goes left)
+    subst (λ (e : Encoding). IsFilled e xs l r c.fill_listed-in-Steim2.new.payload
+    × StandsInList (record { frames = c.fill_listed-in-Steim2.new.frames }) c.fill_listed-in-Steim2.new.list e xs
+    (l.first + r.samples)) (sym c.in-Steim2.is) (c.fill_listed-in-Steim2.ensures.filled xs goes left)

@@ -3,9 +3,9 @@ use Rattle.std.proofs.Common.{ap}
 use Rattle.std.proofs.Common.{◌∙◌, rules, arith, FitsSigned, w32, to_z, of_z}
 use Rattle.std.proofs.lemmas.Int.{to_z-of_z}
 use Rattle.std.proofs.lemmas.List.{length-drop, take_rest}
-use Rattle.mseed_pack.specs.private.Filling.{AreSet, Begins, Runs}
+use Rattle.mseed_pack.specs.private.Filling.{Begins, Runs}
 use Rattle.mseed_pack.proofs.Running.{first_fits, first_of, others_run}
-use Rattle.mseed_pack.proofs.frames.put_ends.Goals as goal
+use Rattle.mseed_pack.proofs.frames.add_ends.Goals as goal
 
 -- the sample before and the first difference, as they are held in 32 bits
 sum_is : (before d : ℤ) → FitsSigned w32 before → FitsSigned w32 d
@@ -38,8 +38,8 @@ run_of xs place before ds begins some one two =
     +ℤ to_z w32 (of_z w32 (get_or ds 0 (pos 0)))))) l) (sym (take_rest ds 1))
     (others_run xs place before _ ds begins some (first_is xs place before ds begins some one two))
 
-pub last_behind-last-requires : goal.last_behind-last-requires
-last_behind-last-requires c = (
+pub last_behind-requires : goal.last_behind-requires
+last_behind-requires c = (
   c.requires.run.0,
   (
     c.requires.run.1.0,
@@ -57,14 +57,11 @@ returns c = λ xs place begins.
     let first = first_is xs place c.args.before ds begins some c.ranges.before two in
     let size : length (take (length ds - 1) (drop 1 ds)) ≡ length ds - 1 =
     ap (λ (l : List ℤ). length l) (take_rest ds 1) ∙ length-drop 1 ds in
-    let last : c.last_behind-last.result ≡ get_or xs n (pos 0) =
-    c.last_behind-last.ensures xs place (run_of xs place c.args.before ds begins some c.ranges.before two)
+    let last : c.last_behind.result ≡ get_or xs n (pos 0) =
+    c.last_behind.ensures xs place (run_of xs place c.args.before ds begins some c.ranges.before two)
     ∙ ap (λ (m : ℕ). get_or xs m (pos 0))
     (let e : place + length (take (length ds - 1) (drop 1 ds)) ≡ n = omega (arith, size, some) in e) in
-    let held : to_z w32 (of_z w32 c.last_behind-last.result) ≡ get_or xs n (pos 0) =
-    to_z-of_z w32 c.last_behind-last.result (search rules) ∙ last in (
-      subst (λ (z : ℤ). AreSet c.args.payload.now c.put_constants.new.frames (get_or xs place (pos 0)) z) held
-          (subst (λ (z : ℤ). AreSet c.args.payload.now c.put_constants.new.frames z
-          (to_z w32 (of_z w32 c.last_behind-last.result))) first c.put_constants.ensures),
-      held,
-    )
+    record {
+      first_is = first;
+      last_is = to_z-of_z w32 c.last_behind.result (search rules) ∙ last;
+    }
