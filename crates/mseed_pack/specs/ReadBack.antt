@@ -10,6 +10,9 @@ use Rattle.mseed_audit.specs.Channels.{added_from, is_of, records_of, views_in}
 use Rattle.mseed_audit.specs.Follows.{IsContinuous}
 use Rattle.mseed_audit.specs.Series.{Trace, AreJoined, IsSeriesOf}
 use Rattle.mseed_pack.specs.Clock.{instant_at}
+use Rattle.mseed_pack.specs.Fitting.{Fits}
+use Rattle.mseed_pack.specs.Packing.{IsPacking}
+use Rattle.mseed_pack.specs.declared.options.Options.{Options}
 
 -- these are views of these records, in their order
 pub record AreViewsOf (records : List (List ℕ)) (views : List View) : Type 0 where
@@ -25,6 +28,10 @@ pub record ReadsAs (s : Trace) (records : List (List ℕ)) : Type 0 where
   pub channel : AllByRecursion (λ (v : View). IsTrue (is_of s.codes v)) views
   pub continuous : IsContinuous views
   pub series : IsSeriesOf s views
+
+-- whatever records a series is packed into, where it fits, read back as the series
+abbrev pub EachReadsBack : Trace → Options → Type 0
+EachReadsBack s o = (records : List (List ℕ)) → Fits s o → IsPacking s o records → ReadsAs s records
 
 -- a series, and the records that it is packed into
 pub record Packed : Type 0 where

@@ -1,14 +1,11 @@
 //! Packing a series.
-ghost use Rattle.std.specs.Prelude.{◌≡◌, ◌^◌, ◌<◌, ◌≤◌, IfErr, IfOk, List, length, ℕ, ℤ};
-ghost use Rattle.std.specs.List.{AllByRecursion};
+ghost use Rattle.std.specs.Prelude.{◌≡◌, ◌^◌, ◌<◌, ◌≤◌, IfErr, IfOk, List, length, ℤ};
 ghost use Rattle.mseed_stream.specs.Calls.{WritesOn};
 ghost use Rattle.mseed_audit.specs.Series.{AreSteps};
 ghost use Rattle.mseed_pack.specs.Fitting.{Fits};
-ghost use Rattle.mseed_pack.specs.FewestWords.{HasFewestWords};
+ghost use Rattle.mseed_pack.specs.FewestWords.{EachHasFewestWords};
 ghost use Rattle.mseed_pack.specs.Outcome.{IsOutcome, IsTrace, EmittedAll, EmittedPrefix};
-ghost use Rattle.mseed_pack.specs.Packing.{IsPacking};
-ghost use Rattle.mseed_pack.specs.ReadBack.{ReadsAs};
-ghost use Rattle.mseed_pack.specs.declared.options.Encoding.TheVariants.{Steim2};
+ghost use Rattle.mseed_pack.specs.ReadBack.{EachReadsBack};
 ghost use Rattle.mseed_pack.specs.Options.{IsSteim};
 ghost use Rattle.mseed_pack.specs.Supplies.{SuppliesFitting};
 ghost use Rattle.mseed_pack.specs.Traces.{headed, trace_of};
@@ -51,12 +48,10 @@ pub fn pack<A: Allocator + Copy, W: Sink>(
         (W.beside sink.old) (W.beside sink.new) }
 
     // What a series that fits is packed into reads back as the series: a continuous channel.
-    ensures reads_back { (records : List (List ℕ)) → Fits series.now options.now
-        → IsPacking series.now options.now records → ReadsAs series.now records }
+    ensures reads_back { EachReadsBack series.now options.now }
 
     // In Steim-2 no fewer words hold the differences of any of its records.
-    ensures fewest { (records : List (List ℕ)) (packing : IsPacking series.now options.now records)
-        → options.now.encoding ≡ Steim2 → AllByRecursion (HasFewestWords series.now) packing.pieces }
+    ensures fewest { EachHasFewestWords series.now options.now }
 {
     let view = SeriesView::of(series);
     pack_view(&view, options, sink)
@@ -81,12 +76,10 @@ pub fn pack_view<W: Sink>(
         (W.beside sink.old) (W.beside sink.new) }
 
     // What a series that fits is packed into reads back as the series: a continuous channel.
-    ensures reads_back { (records : List (List ℕ)) → Fits (trace_of series.now) options.now
-        → IsPacking (trace_of series.now) options.now records → ReadsAs (trace_of series.now) records }
+    ensures reads_back { EachReadsBack (trace_of series.now) options.now }
 
     // In Steim-2 no fewer words hold the differences of any of its records.
-    ensures fewest { (records : List (List ℕ)) (packing : IsPacking (trace_of series.now) options.now records)
-        → options.now.encoding ≡ Steim2 → AllByRecursion (HasFewestWords (trace_of series.now)) packing.pieces }
+    ensures fewest { EachHasFewestWords (trace_of series.now) options.now }
 {
     reads_back();
     fewest_words();
