@@ -75,7 +75,7 @@ HoldsSamples Int32 left = HoldsIntegers 4 (length left)
 HoldsSamples Steim1 left = HoldsFrames One left
 HoldsSamples Steim2 left = HoldsFrames Two left
 
--- A record: some samples, none behind the next leap second, as many as there is room for; the header's 64 bytes, and
+-- A record: some samples, none after the next leap second, as many as there is room for; the header's 64 bytes, and
 -- the payload.
 pub record IsPacked (s : Trace) (o : Options) (p : Piece) : Type 0 where
   pub some : 0 < length p.samples
