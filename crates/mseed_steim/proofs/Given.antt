@@ -50,7 +50,7 @@ items_given s [] h = all [] refl refl
 items_given s (w ∷ ws) h = by_word s w ws (differences_of s w.code w.bits) h.0 refl (items_given s ws h.1)
 
 -- what words give with what a first one spells
-all_after : (s : Scheme) (ws : List DataWord) (ds : List ℤ) → AllByRecursion IsWord ws → SpellsRun s ws ds
+pub all_after : (s : Scheme) (ws : List DataWord) (ds : List ℤ) → AllByRecursion IsWord ws → SpellsRun s ws ds
     → (more : List DataWord) → items_of s (ws ++ more) ≡ map Ok ds ++ items_of s more
 unfolding items_of
 all_after s [] ds h run more = rw run refl
@@ -64,7 +64,7 @@ all_after s (w ∷ ws) ds h run more =
     ap (λ (zs : List ℤ). map {B = Result ℤ BadWordAt} Ok zs) run.1.1.0 ∙ map-append Ok first rest in
     rw (found, later, joined) (sym (append_assoc (map Ok first) (map Ok rest) (items_of s more)))
 
-prefix_words : (before after : List DataWord) → AllByRecursion IsWord (before ++ after) → AllByRecursion IsWord before
+pub prefix_words : (before after : List DataWord) → AllByRecursion IsWord (before ++ after) → AllByRecursion IsWord before
 prefix_words [] after h = tt
 prefix_words (w ∷ ws) after h = (h.0, prefix_words ws after h.1)
 

@@ -54,3 +54,4 @@ pub mod Classes
 pub mod Below
 pub mod Summed
 pub mod Needed
+pub mod Placed

@@ -10,7 +10,7 @@ use Rattle.mseed_steim.specs.private.Digits.{differences_of}
 use Rattle.mseed_steim.specs.Frames.{DataWord, data_word, data_words, words_from, word_count}
 use Rattle.mseed_steim.specs.Runs.{place_of}
 use Rattle.mseed_steim.specs.private.Items.{with_items, items_of}
-use Rattle.mseed_steim.specs.private.Unpacked.{first_in}
+use Rattle.mseed_steim.specs.private.Unpacked.{data_in, first_in}
 
 -- none
 pub words_none : (p : List ℕ) (k : ℕ) → words_from p k 0 ≡ []
@@ -138,6 +138,19 @@ skip_codes p k (suc n) e =
     let less : suc n - 1 ≡ n = omega arith in
     rw less (words_skip p k n e)
 
+-- the words of a frame from one on, and those of the later frames from word 1 on
+frame_from : (p : List ℕ) (i from : ℕ) → from ≤ 16 → i < length p / 64
+    → words_from p (16 * i + from) (word_count p - (16 * i + from))
+    ≡ words_from p (16 * i + from) (16 - from) ++ words_from p (16 * (i + 1) + 1) (word_count p - (16 * (i + 1) + 1))
+frame_from p i from few inside =
+    let count : 16 - from + (word_count p - 16 * (i + 1)) ≡ word_count p - (16 * i + from) =
+    omega (arith, inside, few) in
+    let place : 16 * i + from + (16 - from) ≡ 16 * (i + 1) = omega (arith, few) in
+    let less : word_count p - 16 * (i + 1) - 1 ≡ word_count p - (16 * (i + 1) + 1) = omega arith in
+    let cut = rw (count, place) at (words_cut p (16 * i + from) (16 - from) (word_count p - 16 * (i + 1))) in
+    let skip = rw less at (skip_codes p (16 * (i + 1)) (word_count p - 16 * (i + 1)) (omega arith)) in
+    cut ∙ ap (λ (ws : List DataWord). words_from p (16 * i + from) (16 - from) ++ ws) skip
+
 pub frame_behind : (p : List ℕ) (i : ℕ) → i < length p / 64
     → words_from p (16 * i + first_in i) (word_count p - (16 * i + first_in i))
     ≡ words_from p (16 * i + first_in i) (16 - first_in i)
@@ -145,11 +158,18 @@ pub frame_behind : (p : List ℕ) (i : ℕ) → i < length p / 64
 frame_behind p i inside =
     let few = first_few i in
     let next : first_in (i + 1) ≡ 1 = ap first_in (add-one i) in
-    let count : 16 - first_in i + (word_count p - 16 * (i + 1)) ≡ word_count p - (16 * i + first_in i) =
-    omega (arith, inside, few) in
-    let place : 16 * i + first_in i + (16 - first_in i) ≡ 16 * (i + 1) = omega (arith, few) in
-    let less : word_count p - 16 * (i + 1) - 1 ≡ word_count p - (16 * (i + 1) + 1) = omega arith in
-    let cut = rw (count, place) at
-    (words_cut p (16 * i + first_in i) (16 - first_in i) (word_count p - 16 * (i + 1))) in
-    let skip = rw less at (skip_codes p (16 * (i + 1)) (word_count p - 16 * (i + 1)) (omega arith)) in
-    rw next (cut ∙ ap (λ (ws : List DataWord). words_from p (16 * i + first_in i) (16 - first_in i) ++ ws) skip)
+    rw next (frame_from p i (first_in i) (omega (arith, few)) inside)
+
+-- the data words of a frame, and those of the later ones
+data_few : (i : ℕ) → data_in i ≤ 3
+data_few zero = omega arith
+data_few (suc i) = omega arith
+
+pub data_behind : (p : List ℕ) (i : ℕ) → i < length p / 64
+    → words_from p (16 * i + data_in i) (word_count p - (16 * i + data_in i))
+    ≡ words_from p (16 * i + data_in i) (16 - data_in i)
+    ++ words_from p (16 * (i + 1) + data_in (i + 1)) (word_count p - (16 * (i + 1) + data_in (i + 1)))
+data_behind p i inside =
+    let few = data_few i in
+    let next : data_in (i + 1) ≡ 1 = ap data_in (add-one i) in
+    rw next (frame_from p i (data_in i) (omega (arith, few)) inside)

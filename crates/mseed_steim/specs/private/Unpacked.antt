@@ -64,3 +64,8 @@ pub record AreNarrow (scheme : Scheme) (begin frame : List ℕ) (differences : L
 abbrev pub first_in : ℕ → ℕ
 first_in zero = 4
 first_in (suc frame) = 1
+
+-- the first data word of a frame
+abbrev pub data_in : ℕ → ℕ
+data_in zero = 3
+data_in (suc frame) = 1

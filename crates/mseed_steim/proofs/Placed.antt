@@ -1,0 +1,166 @@
+-- Differences of frames that are unpacked in their places, and the steps that they are.
+use Rattle.std.proofs.Common.{◌≡◌, ℕ, ◌+◌, ◌-◌, ◌*◌, ◌/◌, ◌<◌, ◌≤◌, List, [], ◌∷◌, ◌++◌, map, take, drop, length}
+use Rattle.std.proofs.Common.{ℤ, ◌+ℤ◌, ◌-ℤ◌, arith, refl, ap, sym, ◌∙◌, subst, append_assoc, Result, Ok}
+use Rattle.std.proofs.Common.{Option, Some, None, IfSome, get_or, min}
+use Rattle.std.proofs.Math.ListN.{set}
+use Rattle.std.proofs.Math.Seq.{take-append-add, take-length}
+use Rattle.std.proofs.lemmas.Int.{ints}
+use Rattle.std.proofs.lemmas.List.{length-take-le, map-append, take-append-drop, take-append-le, take-take}
+use borrow.Rule.Slice.PartMut.{post_of, put_mid}
+use Rattle.mseed_record.specs.View.{View}
+use Rattle.mseed_steim.specs.declared.differences.BadWordAt.{BadWordAt}
+use Rattle.mseed_steim.specs.declared.form.Form.TheVariants.{Frames}
+use Rattle.mseed_steim.specs.declared.scheme.Scheme.{Scheme}
+use Rattle.mseed_steim.specs.Frames.{DataWord, data_words, first_constant, words_from, word_count}
+use Rattle.mseed_steim.specs.Reading.{count_of, HoldsIn, IsWhole}
+use Rattle.mseed_steim.specs.Samples.{Adds, AreSums, StartsAndAdds, differences_from, steps_of}
+use Rattle.mseed_steim.specs.private.Items.{items_of}
+use Rattle.mseed_steim.specs.private.Lanes.{Begins}
+use Rattle.mseed_steim.specs.private.Unpacked.{AreNarrow, AreUnpacked, data_in}
+use Rattle.mseed_steim.proofs.Given.{IsWord, all_after, prefix_words, words_small}
+use Rattle.mseed_steim.proofs.Laws.{same_payload}
+use Rattle.mseed_steim.proofs.Walking.{data_behind}
+use Rattle.std.specs.List.{AllByRecursion}
+
+-- the data words of a payload from a frame on
+abbrev pub left_from : List ℕ → ℕ → List DataWord
+left_from p i = words_from p (16 * i + data_in i) (word_count p - (16 * i + data_in i))
+
+-- the first of a frame's differences stand there, as many as there are places
+abbrev pub Put : Scheme → List ℕ → List ℕ → ℕ → List ℤ → ℕ → Type 0
+Put s begin frame places out k =
+    (ds : List ℤ) × (AreUnpacked s begin frame ds (length ds) × (k ≡ min (length ds) places)
+    × (take k out ≡ take k ds))
+
+pub put_of : (s : Scheme) (begin frame : List ℕ) (room out : List ℤ) (count k places : ℕ)
+    → AreNarrow s begin frame (take count room) count → count ≤ length room → k ≡ min count places
+    → take k out ≡ take k (take count room) → Put s begin frame places out k
+put_of s begin frame room out count k places narrow inside least put =
+    let long : length (take count room) ≡ count = length-take-le count room inside in
+    let unpacked : AreUnpacked s begin frame (take count room) (length (take count room)) =
+    record { few = omega (arith, long, narrow.unpacked.few); items = narrow.unpacked.items } in
+    (take count room, (unpacked, rw long least, put))
+
+pub put_in_place : (s : Scheme) (begin frame : List ℕ) (r : Option ℕ) (out : List ℤ) (places : ℕ)
+    → length out ≡ places → 128 ≤ places → IfSome r (λ count. AreNarrow s begin frame (take count out) count)
+    → IfSome r (λ count. Put s begin frame places out count)
+put_in_place s begin frame None out places e room h = tt
+put_in_place s begin frame (Some count) out places e room h =
+    let few : count ≤ 120 = h.unpacked.few in
+    put_of s begin frame out out count count places h (omega (arith, e, room, few)) (omega (arith, few, room))
+    (sym (take-take count count out (omega arith)))
+
+-- what is put behind what there is
+pub put_next : (k rest m : ℕ) (out after : List ℤ) → k ≤ length out → m ≤ length after
+    → take (k + m) (put_mid k rest out after) ≡ take k out ++ take m after
+put_next k rest m out after inside filled =
+    let behind : List ℤ = post_of k rest out in
+    let first : length (take k out) ≡ k = length-take-le k out inside in
+    let at : k + m ≡ length (take k out) + m = omega (arith, first) in
+    ap (λ (n : ℕ). take n (take k out ++ (after ++ behind))) at
+    ∙ take-append-add (take k out) (after ++ behind) m
+    ∙ ap (λ (ys : List ℤ). take k out ++ ys) (take-append-le m after behind filled)
+
+-- a frame's differences, behind those of the frames before it
+pub next_items : (s : Scheme) (p begin frame : List ℕ) (i count : ℕ) (done ds : List ℤ) → i < length p / 64
+    → Begins begin (data_in i) → frame ≡ take 64 (drop (64 * i) p) → AreUnpacked s begin frame ds count
+    → items_of s (data_words p) ≡ map Ok done ++ items_of s (left_from p i)
+    → items_of s (data_words p) ≡ map Ok (done ++ ds) ++ items_of s (left_from p (i + 1))
+next_items s p begin frame i count done ds inside begins e unpacked same =
+    let rest : List (Result ℤ BadWordAt) = items_of s (left_from p (i + 1)) in
+    same ∙ ap (λ (ws : List DataWord). map Ok done ++ items_of s ws) (data_behind p i inside)
+    ∙ ap (λ (items : List (Result ℤ BadWordAt)). map Ok done ++ items)
+    (unpacked.items p i (data_in i) (left_from p (i + 1)) begins e)
+    ∙ sym (append_assoc (map Ok done) (map Ok ds) rest)
+    ∙ ap (λ (items : List (Result ℤ BadWordAt)). items ++ rest) (sym (map-append Ok done ds))
+
+-- the first of some differences
+pub first_items : (items rest : List (Result ℤ BadWordAt)) (done ds : List ℤ) (k : ℕ)
+    → items ≡ map Ok (done ++ ds) ++ rest → items ≡ map Ok (done ++ take k ds) ++ (map Ok (drop k ds) ++ rest)
+first_items items rest done ds k e =
+    let cut : done ++ ds ≡ (done ++ take k ds) ++ drop k ds =
+    ap (λ (ys : List ℤ). done ++ ys) (sym (take-append-drop k ds)) ∙ sym (append_assoc done (take k ds) (drop k ds)) in
+    e ∙ ap (λ (ys : List ℤ). map Ok ys ++ rest) cut
+    ∙ ap (λ (ys : List (Result ℤ BadWordAt)). ys ++ rest) (map-append Ok (done ++ take k ds) (drop k ds))
+    ∙ append_assoc (map Ok (done ++ take k ds)) (map Ok (drop k ds)) rest
+
+-- samples that differences add up to are that far apart
+adds_steps : (x : ℤ) (ds es : List ℤ) (a b : List (Result ℤ BadWordAt)) (ss : List ℤ) → map Ok ds ++ a ≡ map Ok es ++ b
+    → length es ≡ length ss → Adds x ds ss → es ≡ differences_from x ss
+adds_steps x ds [] a b [] e l h = refl
+adds_steps x ds [] a b (s ∷ ss) e l h = absurd (omega arith)
+adds_steps x ds (z ∷ es) a b [] e l h = absurd (omega arith)
+adds_steps x [] (z ∷ es) a b (s ∷ ss) e l h = absurd h
+adds_steps x (d ∷ ds) (z ∷ es) a b (s ∷ ss) e l h =
+    let one : d ≡ z = cc in
+    let rest : map Ok ds ++ a ≡ map Ok es ++ b = cc in
+    let sum : s ≡ x +ℤ d = h.0 in
+    let step : z ≡ s -ℤ x = omega (arith, ints, sum, one) in
+    let later : es ≡ differences_from s ss = adds_steps s ds es a b ss rest (omega arith) h.1 in
+    cc
+
+starts_steps : (x : ℤ) (ds es : List ℤ) (a b : List (Result ℤ BadWordAt)) (ss : List ℤ)
+    → map Ok ds ++ a ≡ map Ok es ++ b → length es ≡ length ss → 0 < length ss → StartsAndAdds x ds ss
+    → set es 0 x ≡ steps_of ss
+starts_steps x ds es a b [] e l some h = absurd (omega arith)
+starts_steps x ds [] a b (s ∷ ss) e l some h = absurd (omega arith)
+starts_steps x [] (z ∷ es) a b (s ∷ ss) e l some h = absurd h
+starts_steps x (d ∷ ds) (z ∷ es) a b (s ∷ ss) e l some h =
+    let rest : map Ok ds ++ a ≡ map Ok es ++ b = cc in
+    let first : s ≡ x = h.0 in
+    let later : es ≡ differences_from x ss = adds_steps x ds es a b ss rest (omega arith) h.1 in
+    rw first (ap (λ (ys : List ℤ). x ∷ ys) later)
+
+-- where as many differences are unpacked as there are samples, these samples' steps are they, behind the constant
+pub payload_steps : (s : Scheme) (p : List ℕ) (out : List ℤ) (first : ℤ) (more : List (Result ℤ BadWordAt))
+    (ss : List ℤ) → ((i : ℕ) → get_or p i 0 < 256) → 0 < length out → first ≡ first_constant p
+    → items_of s (data_words p) ≡ map Ok out ++ more → AreSums s p (length out) ss → set out 0 first ≡ steps_of ss
+payload_steps s p out first more ss octets some constant unpacked sums =
+    let small : AllByRecursion IsWord (sums.prefix ++ sums.rest) =
+    subst (λ (ws : List DataWord). AllByRecursion IsWord ws) sums.cut (words_small p octets 3 (word_count p - 3)) in
+    let spelled = all_after s sums.prefix sums.differences (prefix_words sums.prefix sums.rest small) sums.spelled
+    sums.rest in
+    let same = sym spelled ∙ ap (λ (ws : List DataWord). items_of s ws) (sym sums.cut) ∙ unpacked in
+    let long : length ss ≡ length out = sums.count in
+    starts_steps first sums.differences out (items_of s sums.rest) more ss same (sym long) (omega (arith, long, some))
+    (subst (λ (x : ℤ). StartsAndAdds x sums.differences ss) (sym constant) sums.sums)
+
+-- the samples of a record are sums of its payload
+pub record_sums : (v : View) (s : Scheme) (p : List ℕ) (n : ℕ) (ss : List ℤ) → HoldsIn v (Frames s) p
+    → n ≡ count_of v → IsWhole v ss → AreSums s p n ss
+record_sums v s p n ss holds places whole =
+    let read = same_payload v (Frames s) ss holds.1 whole.0 in
+    rw (holds.4, places) read.1
+
+-- a frame's differences, put behind those before them
+pub put_on : (s : Scheme) (p begin frame : List ℕ) (i met rest count places : ℕ) (out after : List ℤ)
+    → i < length p / 64 → Begins begin (data_in i) → frame ≡ take 64 (drop (64 * i) p)
+    → Put s begin frame places after count → length after ≡ places → met + places ≡ length out
+    → items_of s (data_words p) ≡ map Ok (take met out) ++ items_of s (left_from p i)
+    → (more : List (Result ℤ BadWordAt))
+    × (items_of s (data_words p) ≡ map Ok (take (met + count) (put_mid met rest out after)) ++ more)
+put_on s p begin frame i met rest count places out after inside begins e put all room same =
+    let ds : List ℤ = put.0 in
+    let behind : List (Result ℤ BadWordAt) = items_of s (left_from p (i + 1)) in
+    let least : count ≤ places = omega (arith, put.1.1) in
+    let there : take (met + count) (put_mid met rest out after) ≡ take met out ++ take count ds =
+    put_next met rest count out after (omega (arith, room)) (omega (arith, all, least))
+    ∙ ap (λ (ys : List ℤ). take met out ++ ys) put.1.2 in
+    let next = next_items s p begin frame i (length ds) (take met out) ds inside begins e put.1.0 same in
+    (map Ok (drop count ds) ++ behind, rw there (first_items _ behind (take met out) ds count next))
+
+-- and where there are more places, the later frames' differences come behind it
+pub goes_on : (s : Scheme) (p begin frame : List ℕ) (i met rest count places : ℕ) (out after : List ℤ)
+    → i < length p / 64 → Begins begin (data_in i) → frame ≡ take 64 (drop (64 * i) p)
+    → Put s begin frame places after count → length after ≡ places → met + places ≡ length out → count < places
+    → items_of s (data_words p) ≡ map Ok (take met out) ++ items_of s (left_from p i)
+    → items_of s (data_words p)
+    ≡ map Ok (take (met + count) (put_mid met rest out after)) ++ items_of s (left_from p (i + 1))
+goes_on s p begin frame i met rest count places out after inside begins e put all room more same =
+    let ds : List ℤ = put.0 in
+    let whole : count ≡ length ds = omega (arith, put.1.1, more) in
+    let there : take (met + count) (put_mid met rest out after) ≡ take met out ++ ds =
+    put_next met rest count out after (omega (arith, room)) (omega (arith, all, more))
+    ∙ ap (λ (ys : List ℤ). take met out ++ ys)
+    (put.1.2 ∙ ap (λ (k : ℕ). take k ds) whole ∙ take-length ds) in
+    rw there (next_items s p begin frame i (length ds) (take met out) ds inside begins e put.1.0 same)

@@ -1,0 +1,135 @@
+//! What is read of a record that is known to have a reading: differences alone, of which none is added up.
+
+ghost use Rattle.std.specs.Prelude.{◌≡◌, ◌+◌, ◌*◌, ◌<◌, ◌≤◌, ◌++◌, ℕ, List, ℤ, Result, Ok, IfSome, IsTrue};
+ghost use Rattle.std.specs.Prelude.{length, map, min, take};
+ghost use Rattle.std.specs.Bool.{OnTrue};
+ghost use Rattle.mseed_record.specs.Viewing.{view_of};
+ghost use Rattle.mseed_steim.specs.declared.differences.BadWordAt.{BadWordAt};
+ghost use Rattle.mseed_steim.specs.Frames.{data_words};
+ghost use Rattle.mseed_steim.specs.Reading.{count_of, IsSteim, IsWhole};
+ghost use Rattle.mseed_steim.specs.Samples.{AreSums, steps_of};
+ghost use Rattle.mseed_steim.specs.private.Items.{items_of};
+ghost use Rattle.mseed_steim.specs.private.Lanes.{Begins};
+ghost use Rattle.mseed_steim.specs.private.Unpacked.{AreUnpacked, data_in};
+
+use crate::check::{constants_of, payload_of};
+use crate::form::Form;
+use crate::frame::{FROM_1, FROM_3};
+use crate::lanes::Rows;
+use crate::read::fill_differences;
+use crate::scheme::Scheme;
+use crate::unpack::{PLACES, Room, unpack_frame};
+use mseed_record::RecordView;
+
+/// The bits of the codes of the data words: of the first frame, and of a later one.
+static DATA: [Rows; 2] = [FROM_3, FROM_1];
+
+/// Those of a frame.
+#[inline(always)]
+fn data_in(frame: usize) -> Rows
+    ensures { Begins result (data_in frame) }
+{
+    DATA[frame.min(1)]
+}
+
+/// The differences of a frame, put in their places, as far as there are places: how many were put. None where a word is
+/// bad or has a difference of 30 or 32 bits.
+#[inline(always)]
+fn unpack_some(
+    scheme: Scheme,
+    frame: &[u8; 64],
+    begin: Rows,
+    room: &mut Room,
+    out: &mut [i32],
+) -> Option<usize>
+    requires begins { (from : ℕ) × Begins begin from }
+    ensures places { length out.new ≡ length out.old }
+    ensures unpacked { IfSome result (λ count. (ds : List ℤ) × (AreUnpacked scheme begin frame.now ds (length ds)
+        × (count ≡ min (length ds) (length out.old)) × (take count out.new ≡ take count ds))) }
+{
+    if out.len() >= PLACES {
+        return unpack_frame(scheme, frame, begin, out);
+    }
+    let count = unpack_frame(scheme, frame, begin, room)?;
+    let some = count.min(out.len());
+    out[..some].copy_from_slice(&room[..some]);
+    Some(some)
+}
+
+/// Unpacks the first differences of a payload's frames, as many as there are places. False where a word of those frames
+/// is bad or has a difference of 30 or 32 bits, or where there are too few.
+fn unpack_narrow(scheme: Scheme, payload: &[u8], out: &mut [i32]) -> bool
+    requires some { 0 < length out.old }
+    ensures places { length out.new ≡ length out.old }
+    ensures unpacked { OnTrue result ((more : List (Result ℤ BadWordAt))
+        × (items_of scheme (data_words payload.now) ≡ map Ok out.new ++ more)) }
+{
+    let (frames, _) = payload.as_chunks::<64>();
+    let mut room = [0; PLACES];
+    let mut met = 0;
+    for index in 0..frames.len() {
+        let begin = data_in(index);
+        let Some(count) = unpack_some(scheme, &frames[index], begin, &mut room, &mut out[met..])
+        else {
+            return false;
+        };
+        met += count;
+        if met == out.len() {
+            return true;
+        }
+    }
+    false
+}
+
+/// Fills in the steps of as many samples as there are places, where no difference of their frames has 30 or 32 bits;
+/// else the answer is false.
+#[inline(always)]
+fn fill_narrow(scheme: Scheme, payload: &[u8], out: &mut [i32]) -> bool
+    requires some { 0 < length out.old }
+    ensures places { length out.new ≡ length out.old }
+    ensures steps { OnTrue result ((s : List ℤ)
+        → AreSums scheme payload.now (length out.old) s → out.new ≡ steps_of s) }
+{
+    let Some(constants) = constants_of(payload) else {
+        return false;
+    };
+    if !unpack_narrow(scheme, payload, out) {
+        return false;
+    }
+    out[0] = constants.first;
+    true
+}
+
+/// The same of a record.
+#[inline(always)]
+fn fill_known(view: &RecordView<'_>, out: &mut [i32]) -> bool
+    requires some { 0 < count_of (view_of view.now) }
+    requires places { length out.old ≡ count_of (view_of view.now) }
+    ensures places { length out.new ≡ length out.old }
+    ensures steps { OnTrue result ((s : List ℤ) → IsWhole (view_of view.now) s → out.new ≡ steps_of s) }
+{
+    match payload_of(view) {
+        Ok((Form::Frames(scheme), payload)) => fill_narrow(scheme, payload, out),
+        _ => false,
+    }
+}
+
+/// Fills in the steps of a record's samples, as [`fill_differences`] does: the first sample, and of each one behind it
+/// its difference from the one before. The record is one of Steim frames and is known to have a reading that ends on
+/// its constants, so that nothing is added up or checked again; there are as many places as it has samples.
+#[inline(never)]
+pub fn unpack_differences(view: &RecordView<'_>, out: &mut [i32])
+    requires whole { (s : List ℤ) × IsWhole (view_of view.now) s }
+    requires steim { IsSteim (view_of view.now) }
+    requires places { length out.old ≡ count_of (view_of view.now) }
+    ensures { (s : List ℤ) → IsWhole (view_of view.now) s → out.new ≡ steps_of s }
+{
+    if fill_known(view, out) {
+        return;
+    }
+    match fill_differences(view, out) {
+        Ok(()) => {}
+        // It has a reading.
+        Err(_) => unreachable!(),
+    }
+}
