@@ -15,7 +15,7 @@ ghost use Rattle.mseed_repack.specs.private.Supplying.{IsSupplied, IsUnpackable}
 use crate::walk::Walk;
 use mseed_pack::Supply;
 use mseed_record::RecordView;
-use mseed_steim::{ends_of, fill_differences, is_steim};
+use mseed_steim::{ends_of, is_steim, unpack_differences};
 use std::marker::PhantomData;
 
 /// The most differences of a record that is unpacked: as many as 1008 words hold, seven each.
@@ -145,11 +145,7 @@ fn unpack(view: &RecordView<'_>, before: i32, out: &mut [i32]) -> i32
     ensures differences { (s : List ℤ) → IsWhole (view_of view.now) s → out.new ≡ differences_from before s }
     ensures last { (s : List ℤ) → IsWhole (view_of view.now) s → last_behind before s ≡ result }
 {
-    match fill_differences(view, out) {
-        Ok(()) => {}
-        // A sound record has a reading.
-        Err(_) => unreachable!(),
-    }
+    unpack_differences(view, out);
     out[0] = difference_of(out[0], before);
     ends_of(view).last
 }
