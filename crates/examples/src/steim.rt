@@ -1,13 +1,13 @@
 //! Calls of `mseed_steim`.
-ghost use Rattle.std.specs.Prelude.{◌<◌, ℤ, List, length};
+ghost use Rattle.std.specs.Prelude.{◌≡◌, ◌<◌, ℤ, List, length};
 ghost use Rattle.mseed_record.specs.Viewing.{view_of};
-ghost use Rattle.mseed_steim.specs.Reading.{IsWhole};
+ghost use Rattle.mseed_steim.specs.Reading.{IsSteim, IsWhole, count_of};
 
 use mseed_record::RecordView;
 use mseed_steim::{
     BadWord, BadWordAt, Differences, ReadFault, Scheme, TooLarge, TooLargeAt, check_samples,
     ends_of, fill_differences, fill_samples, is_steim, is_surely_near, least_words, pack_word,
-    pack_words, read_samples, unpack_word, widen_bytes,
+    pack_words, read_samples, unpack_differences, unpack_word, widen_bytes,
 };
 use std::alloc::Allocator;
 
@@ -63,6 +63,15 @@ pub fn first_of_checked(view: &RecordView) -> i32
     requires { (s : List ℤ) × IsWhole (view_of view.now) s }
 {
     ends_of(view).first
+}
+
+/// Fills in the steps of a record of Steim frames that was checked, in as many places as it has samples.
+pub fn steps_of_checked(view: &RecordView, steps: &mut [i32])
+    requires whole { (s : List ℤ) × IsWhole (view_of view.now) s }
+    requires steim { IsSteim (view_of view.now) }
+    requires places { length steps.old ≡ count_of (view_of view.now) }
+{
+    unpack_differences(view, steps);
 }
 
 /// Whether Steim-2 holds a record's samples, as far as that shows before they are read.
