@@ -1,13 +1,14 @@
 //! Records of 256 bytes, made of the parts that their samples hang on.
 
-ghost use Rattle.std.specs.Prelude.{◌<◌};
+ghost use Rattle.std.specs.Prelude.{◌≡◌, ◌<◌, List, ℤ, length};
 ghost use Rattle.mseed_record.specs.Viewing.{view_of};
-ghost use Rattle.mseed_steim.specs.Reading.{count_of};
+ghost use Rattle.mseed_steim.specs.Reading.{IsSteim, IsWhole, count_of};
 
 use crate::records::{FIRST, put};
 use mseed_record::RecordView;
 use mseed_steim::{
-    Ends, ReadFault, check_samples, ends_of, fill_differences, fill_samples, is_steim, read_samples,
+    Ends, ReadFault, check_samples, ends_of, fill_differences, fill_samples, is_steim,
+    read_samples, unpack_differences,
 };
 use std::alloc::Global;
 
@@ -119,11 +120,25 @@ fn is_stepped(
     }
     match fill_differences(view, &mut places[..count]) {
         Ok(()) => match wanted {
-            Ok(samples) => are_steps(&places[..count], samples),
+            Ok(samples) => {
+                are_steps(&places[..count], samples)
+                    && are_unpacked(view, &mut places[..count], samples)
+            }
             Err(_) => false,
         },
         Err(fault) => wanted == Err(fault),
     }
+}
+
+/// Whether the steps of these samples are unpacked of a record that is known to have a reading.
+fn are_unpacked(view: &RecordView<'_>, places: &mut [i32], samples: &[i32]) -> bool
+    requires whole { (s : List ℤ) × IsWhole (view_of view.now) s }
+    requires steim { IsSteim (view_of view.now) }
+    requires places { length places.old ≡ count_of (view_of view.now) }
+{
+    places.fill(0);
+    unpack_differences(view, places);
+    are_steps(places, samples)
 }
 
 /// Whether these samples are checked and filled in, in these places, of a record that has some, and their steps too, or
