@@ -74,7 +74,7 @@ def by_standing() -> Cases:
             yield Fact(f"repack beside a join of which {done} of 100 functions are checked", wanted,
                        build.standing("mseed_repack", False))
             yield Fact(f"a small one beside it, with {done} checked", prove.Standing.SMALL,
-                       build.standing("mseed_files", False))
+                       build.standing("mseed_show", False))
 
 
 @contextlib.contextmanager
