@@ -16,7 +16,7 @@ use Rattle.mseed_steim.specs.Reading.{count_of, HoldsIn, IsWhole}
 use Rattle.mseed_steim.specs.Samples.{Adds, AreSums, StartsAndAdds, differences_from, steps_of}
 use Rattle.mseed_steim.specs.private.Items.{items_of}
 use Rattle.mseed_steim.specs.private.Lanes.{Begins}
-use Rattle.mseed_steim.specs.private.Unpacked.{AreNarrow, AreUnpacked, data_in}
+use Rattle.mseed_steim.specs.private.Unpacked.{AreUnpacked, data_in}
 use Rattle.mseed_steim.proofs.Given.{IsWord, all_after, prefix_words, words_small}
 use Rattle.mseed_steim.proofs.Laws.{same_payload}
 use Rattle.mseed_steim.proofs.Walking.{data_behind}
@@ -33,20 +33,20 @@ Put s begin frame places out k =
     × (take k out ≡ take k ds))
 
 pub put_of : (s : Scheme) (begin frame : List ℕ) (room out : List ℤ) (count k places : ℕ)
-    → AreNarrow s begin frame (take count room) count → count ≤ length room → k ≡ min count places
+    → AreUnpacked s begin frame (take count room) count → count ≤ length room → k ≡ min count places
     → take k out ≡ take k (take count room) → Put s begin frame places out k
-put_of s begin frame room out count k places narrow inside least put =
+put_of s begin frame room out count k places all inside least put =
     let long : length (take count room) ≡ count = length-take-le count room inside in
     let unpacked : AreUnpacked s begin frame (take count room) (length (take count room)) =
-    record { few = omega (arith, long, narrow.unpacked.few); items = narrow.unpacked.items } in
+    record { few = omega (arith, long, all.few); items = all.items } in
     (take count room, (unpacked, rw long least, put))
 
 pub put_in_place : (s : Scheme) (begin frame : List ℕ) (r : Option ℕ) (out : List ℤ) (places : ℕ)
-    → length out ≡ places → 128 ≤ places → IfSome r (λ count. AreNarrow s begin frame (take count out) count)
+    → length out ≡ places → 128 ≤ places → IfSome r (λ count. AreUnpacked s begin frame (take count out) count)
     → IfSome r (λ count. Put s begin frame places out count)
 put_in_place s begin frame None out places e room h = tt
 put_in_place s begin frame (Some count) out places e room h =
-    let few : count ≤ 120 = h.unpacked.few in
+    let few : count ≤ 120 = h.few in
     put_of s begin frame out out count count places h (omega (arith, e, room, few)) (omega (arith, few, room))
     (sym (take-take count count out (omega arith)))
 

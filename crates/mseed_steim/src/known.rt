@@ -18,7 +18,7 @@ use crate::frame::{FROM_1, FROM_3};
 use crate::lanes::Rows;
 use crate::read::fill_differences;
 use crate::scheme::Scheme;
-use crate::unpack::{PLACES, Room, unpack_frame};
+use crate::unpack::{PLACES, Room, unpack_frame, unpack_wide};
 use mseed_record::RecordView;
 
 /// The bits of the codes of the data words: of the first frame, and of a later one.
@@ -32,8 +32,27 @@ fn data_in(frame: usize) -> Rows
     DATA[frame.min(1)]
 }
 
+/// The differences of a frame's words, in their order, and the lanes behind the last of them: how many there are. None
+/// where a word is bad.
+#[inline(always)]
+fn unpack_any(
+    scheme: Scheme,
+    frame: &[u8; 64],
+    begin: Rows,
+    differences: &mut [i32],
+) -> Option<usize>
+    requires begins { (from : ℕ) × Begins begin from }
+    requires room { 120 ≤ length differences.old }
+    ensures { IfSome result (λ count. AreUnpacked scheme begin frame.now (take count differences.new) count) }
+{
+    match unpack_frame(scheme, frame, begin, differences) {
+        Some(count) => Some(count),
+        None => unpack_wide(scheme, frame, begin, differences),
+    }
+}
+
 /// The differences of a frame, put in their places, as far as there are places: how many were put. None where a word is
-/// bad or has a difference of 30 or 32 bits.
+/// bad.
 #[inline(always)]
 fn unpack_some(
     scheme: Scheme,
@@ -48,17 +67,17 @@ fn unpack_some(
         × (count ≡ min (length ds) (length out.old)) × (take count out.new ≡ take count ds))) }
 {
     if out.len() >= PLACES {
-        return unpack_frame(scheme, frame, begin, out);
+        return unpack_any(scheme, frame, begin, out);
     }
-    let count = unpack_frame(scheme, frame, begin, room)?;
+    let count = unpack_any(scheme, frame, begin, room)?;
     let some = count.min(out.len());
     out[..some].copy_from_slice(&room[..some]);
     Some(some)
 }
 
 /// Unpacks the first differences of a payload's frames, as many as there are places. False where a word of those frames
-/// is bad or has a difference of 30 or 32 bits, or where there are too few.
-fn unpack_narrow(scheme: Scheme, payload: &[u8], out: &mut [i32]) -> bool
+/// is bad or there are too few.
+fn unpack_frames(scheme: Scheme, payload: &[u8], out: &mut [i32]) -> bool
     requires some { 0 < length out.old }
     ensures places { length out.new ≡ length out.old }
     ensures unpacked { OnTrue result ((more : List (Result ℤ BadWordAt))
@@ -81,10 +100,10 @@ fn unpack_narrow(scheme: Scheme, payload: &[u8], out: &mut [i32]) -> bool
     false
 }
 
-/// Fills in the steps of as many samples as there are places, where no difference of their frames has 30 or 32 bits;
-/// else the answer is false.
+/// Fills in the steps of as many samples as there are places, where no word of their frames is bad; else the answer is
+/// false.
 #[inline(always)]
-fn fill_narrow(scheme: Scheme, payload: &[u8], out: &mut [i32]) -> bool
+fn fill_payload(scheme: Scheme, payload: &[u8], out: &mut [i32]) -> bool
     requires some { 0 < length out.old }
     ensures places { length out.new ≡ length out.old }
     ensures steps { OnTrue result ((s : List ℤ)
@@ -93,7 +112,7 @@ fn fill_narrow(scheme: Scheme, payload: &[u8], out: &mut [i32]) -> bool
     let Some(constants) = constants_of(payload) else {
         return false;
     };
-    if !unpack_narrow(scheme, payload, out) {
+    if !unpack_frames(scheme, payload, out) {
         return false;
     }
     out[0] = constants.first;
@@ -109,7 +128,7 @@ fn fill_known(view: &RecordView<'_>, out: &mut [i32]) -> bool
     ensures steps { OnTrue result ((s : List ℤ) → IsWhole (view_of view.now) s → out.new ≡ steps_of s) }
 {
     match payload_of(view) {
-        Ok((Form::Frames(scheme), payload)) => fill_narrow(scheme, payload, out),
+        Ok((Form::Frames(scheme), payload)) => fill_payload(scheme, payload, out),
         _ => false,
     }
 }

@@ -5,20 +5,20 @@ use Rattle.mseed_steim.proofs.known.unpack_some.Goals as goal
 
 pub returns-then-out-ge-PLACES-clause-unpacked : goal.returns-then-out-ge-PLACES-clause-unpacked
 returns-then-out-ge-PLACES-clause-unpacked c =
-    put_in_place c.args.scheme c.args.begin c.args.frame.now c.unpack_frame.result c.unpack_frame.new.differences
-    (length c.args.out.now) c.unpack_frame.auto.differences (omega arith) c.unpack_frame.ensures
+    put_in_place c.args.scheme c.args.begin c.args.frame.now c.unpack_any.result c.unpack_any.new.differences
+    (length c.args.out.now) c.unpack_any.auto.differences (omega arith) c.unpack_any.ensures
 
 pub returns-clause-unpacked : goal.returns-clause-unpacked
 returns-clause-unpacked c =
-    let room = c.unpack_frame-2.new.differences in
+    let room = c.unpack_any-2.new.differences in
     let count : ℕ = c.in_ok-count.count in
     let k : ℕ = c.min-some.result in
-    let narrow = c.in_ok-count.ensures in
+    let found = c.in_ok-count.ensures in
     let all : length room ≡ 128 = search rules in
     let least : k ≤ count = omega (arith, c.min-some.ensures) in
-    let long : length (take k room) ≡ k = length-take-le k room (omega (arith, all, least, narrow.unpacked.few)) in
+    let long : length (take k room) ≡ k = length-take-le k room (omega (arith, all, least, found.few)) in
     let after = c.copy_from_slice.new.self in
     let same : after ≡ take k room = c.copy_from_slice.ensures.after in
-    put_of c.args.scheme c.args.begin c.args.frame.now room _ count k (length c.args.out.now) narrow
-    (omega (arith, all, narrow.unpacked.few)) c.min-some.ensures
+    put_of c.args.scheme c.args.begin c.args.frame.now room _ count k (length c.args.out.now) found
+    (omega (arith, all, found.few)) c.min-some.ensures
     (take_at after (drop k c.args.out.now) k (rw same long) ∙ same ∙ sym (take-take k count room least))

@@ -2,7 +2,7 @@ use Rattle.std.proofs.Common.{◌≡◌, ◌<◌, ◌++◌, map, take, length, O
 use Rattle.mseed_steim.specs.Frames.{data_words}
 use Rattle.mseed_steim.specs.private.Items.{items_of}
 use Rattle.mseed_steim.proofs.Placed.{left_from}
-use Rattle.mseed_steim.proofs.known.unpack_narrow.Given as goal
+use Rattle.mseed_steim.proofs.known.unpack_frames.Given as goal
 
 abbrev pub invariant-loop-index : goal.invariant-loop-index
 invariant-loop-index l = record {

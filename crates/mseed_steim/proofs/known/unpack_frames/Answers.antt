@@ -6,7 +6,7 @@ use borrow.Rule.Slice.PartMut.{put_mid}
 use Rattle.mseed_steim.specs.declared.differences.BadWordAt.{BadWordAt}
 use Rattle.mseed_steim.proofs.Placed.{goes_on, put_on}
 use Rattle.mseed_steim.proofs.Walking.{frame_at}
-use Rattle.mseed_steim.proofs.known.unpack_narrow.Goals as goal
+use Rattle.mseed_steim.proofs.known.unpack_frames.Goals as goal
 
 pub returns-then-met-out-clause-unpacked : goal.returns-then-met-out-clause-unpacked
 returns-then-met-out-clause-unpacked c =
