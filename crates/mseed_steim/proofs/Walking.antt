@@ -161,7 +161,7 @@ frame_behind p i inside =
     rw next (frame_from p i (first_in i) (omega (arith, few)) inside)
 
 -- the data words of a frame, and those of the later ones
-data_few : (i : ℕ) → data_in i ≤ 3
+pub data_few : (i : ℕ) → data_in i ≤ 3
 data_few zero = omega arith
 data_few (suc i) = omega arith
 

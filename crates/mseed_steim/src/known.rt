@@ -1,23 +1,27 @@
 //! What is read of a record that is known to have a reading: differences alone, of which none is added up.
 
-ghost use Rattle.std.specs.Prelude.{◌≡◌, ◌+◌, ◌*◌, ◌<◌, ◌≤◌, ◌++◌, ℕ, List, ℤ, Result, Ok, IfSome, IsTrue};
+ghost use Rattle.std.specs.Prelude.{◌≡◌, ◌+◌, ◌-◌, ◌*◌, ◌<◌, ◌≤◌, ◌++◌, ℕ, List, [], ℤ, Result, Ok, IfSome, IsTrue};
 ghost use Rattle.std.specs.Prelude.{length, map, min, take};
 ghost use Rattle.std.specs.Bool.{OnTrue};
 ghost use Rattle.mseed_record.specs.Viewing.{view_of};
 ghost use Rattle.mseed_steim.specs.declared.differences.BadWordAt.{BadWordAt};
-ghost use Rattle.mseed_steim.specs.Frames.{data_words};
+ghost use Rattle.mseed_steim.specs.Frames.{DataWord, data_words, words_from};
 ghost use Rattle.mseed_steim.specs.Reading.{count_of, IsSteim, IsWhole};
 ghost use Rattle.mseed_steim.specs.Samples.{AreSums, steps_of};
+ghost use Rattle.mseed_steim.specs.private.Digits.{digits};
 ghost use Rattle.mseed_steim.specs.private.Items.{items_of};
 ghost use Rattle.mseed_steim.specs.private.Lanes.{Begins};
 ghost use Rattle.mseed_steim.specs.private.Unpacked.{AreUnpacked, data_in};
 
 use crate::check::{constants_of, payload_of};
+use crate::data_words::{FRAME, Words};
 use crate::form::Form;
 use crate::frame::{FROM_1, FROM_3};
+use crate::group::{Group, group_of};
 use crate::lanes::Rows;
 use crate::read::fill_differences;
 use crate::scheme::Scheme;
+use crate::sum::next_difference;
 use crate::unpack::{PLACES, Room, unpack_frame, unpack_wide};
 use mseed_record::RecordView;
 
@@ -26,10 +30,17 @@ static DATA: [Rows; 2] = [FROM_3, FROM_1];
 
 /// Those of a frame.
 #[inline(always)]
-fn data_in(frame: usize) -> Rows
+fn begin_in(frame: usize) -> Rows
     ensures { Begins result (data_in frame) }
 {
     DATA[frame.min(1)]
+}
+
+/// The first data word of a frame.
+fn data_in(frame: usize) -> usize
+    ensures { result ≡ data_in frame }
+{
+    if frame == 0 { 3 } else { 1 }
 }
 
 /// The differences of a frame's words, in their order, and the lanes behind the last of them: how many there are. None
@@ -75,8 +86,62 @@ fn unpack_some(
     Some(some)
 }
 
-/// Unpacks the first differences of a payload's frames, as many as there are places. False where a word of those frames
-/// is bad or there are too few.
+/// The differences of a group, put behind so many, as far as there are places: how many there are then.
+fn unpack_group(word: u32, group: Group, met: usize, out: &mut [i32]) -> usize
+    requires met { met ≤ length out.old }
+    ensures places { length out.new ≡ length out.old }
+    ensures met { result ≤ length out.old }
+    ensures put { (left : List ℤ) × ((take met out.old ++ digits group.width word group.count
+        ≡ take result out.new ++ left) × (result < length out.old → left ≡ [])) }
+{
+    let mut met = met;
+    for i in 0..group.count {
+        if met == out.len() {
+            return met;
+        }
+        out[met] = next_difference(word, group, i);
+        met += 1;
+    }
+    met
+}
+
+/// The differences of some words, put behind so many, as far as there are places: whether they fill these before a bad
+/// word comes.
+fn unpack_each(scheme: Scheme, words: Words<'_>, met: usize, out: &mut [i32]) -> bool
+    requires left { met < length out.old }
+    ensures places { length out.new ≡ length out.old }
+    ensures put { OnTrue result ((rest : List DataWord) → (more : List (Result ℤ BadWordAt))
+        × (map Ok (take met out.old) ++ items_of scheme (words.entry ++ rest) ≡ map Ok out.new ++ more)) }
+{
+    let mut met = met;
+    for word in words {
+        let Some(group) = group_of(scheme, word.code, word.bits) else {
+            return false;
+        };
+        met = unpack_group(word.bits, group, met, out);
+        if met == out.len() {
+            return true;
+        }
+    }
+    false
+}
+
+/// The same of a frame with a bad word: in a record that has a reading it stands behind the last sample.
+#[cold]
+fn unpack_rest(scheme: Scheme, payload: &[u8], index: usize, met: usize, out: &mut [i32]) -> bool
+    requires inside { 64 * (index + 1) ≤ length payload.now }
+    requires left { met < length out.old }
+    ensures places { length out.new ≡ length out.old }
+    ensures put { OnTrue result ((rest : List DataWord) → (more : List (Result ℤ BadWordAt))
+        × (map Ok (take met out.old) ++ items_of scheme
+        (words_from payload.now (16 * index + data_in index) (16 - data_in index) ++ rest) ≡ map Ok out.new ++ more)) }
+{
+    let words = Words::between(payload, FRAME * index + data_in(index), FRAME * (index + 1));
+    unpack_each(scheme, words, met, out)
+}
+
+/// Unpacks the first differences of a payload's frames, as many as there are places. False where a bad word comes
+/// before that, or there are too few.
 fn unpack_frames(scheme: Scheme, payload: &[u8], out: &mut [i32]) -> bool
     requires some { 0 < length out.old }
     ensures places { length out.new ≡ length out.old }
@@ -87,10 +152,10 @@ fn unpack_frames(scheme: Scheme, payload: &[u8], out: &mut [i32]) -> bool
     let mut room = [0; PLACES];
     let mut met = 0;
     for index in 0..frames.len() {
-        let begin = data_in(index);
+        let begin = begin_in(index);
         let Some(count) = unpack_some(scheme, &frames[index], begin, &mut room, &mut out[met..])
         else {
-            return false;
+            return unpack_rest(scheme, payload, index, met, out);
         };
         met += count;
         if met == out.len() {
@@ -100,8 +165,7 @@ fn unpack_frames(scheme: Scheme, payload: &[u8], out: &mut [i32]) -> bool
     false
 }
 
-/// Fills in the steps of as many samples as there are places, where no word of their frames is bad; else the answer is
-/// false.
+/// Fills in the steps of as many samples as there are places, where no bad word comes before; else the answer is false.
 #[inline(always)]
 fn fill_payload(scheme: Scheme, payload: &[u8], out: &mut [i32]) -> bool
     requires some { 0 < length out.old }
@@ -146,9 +210,9 @@ pub fn unpack_differences(view: &RecordView<'_>, out: &mut [i32])
     if fill_known(view, out) {
         return;
     }
+    // A record that has a reading fills its places above. No contract says so, but here there would be no error either.
     match fill_differences(view, out) {
         Ok(()) => {}
-        // It has a reading.
         Err(_) => unreachable!(),
     }
 }

@@ -4,7 +4,8 @@ use Rattle.std.proofs.Math.Seq.{take-length}
 use Rattle.std.proofs.lemmas.Simd.{length-chunk}
 use borrow.Rule.Slice.PartMut.{put_mid}
 use Rattle.mseed_steim.specs.declared.differences.BadWordAt.{BadWordAt}
-use Rattle.mseed_steim.proofs.Placed.{goes_on, put_on}
+use Rattle.mseed_steim.proofs.Placed.{goes_on, put_on, rest_put}
+use Rattle.mseed_steim.proofs.Summed.{put_front}
 use Rattle.mseed_steim.proofs.Walking.{frame_at}
 use Rattle.mseed_steim.proofs.known.unpack_frames.Goals as goal
 
@@ -18,7 +19,7 @@ returns-then-met-out-clause-unpacked c =
     let room = length-chunk met (length out - met) out (omega arith) in
     let after : List ℤ = put_mid met (length out - met) out c.unpack_some.new.out in
     let found = put_on c.args.scheme p _ _ i met (length out - met) c.in-Some.count _ out c.unpack_some.new.out inside
-    c.data_in-begin.ensures (rw c.as_chunks.ensures.front (frame_at (length p / 64) p i inside))
+    c.begin_in-begin.ensures (rw c.as_chunks.ensures.front (frame_at (length p / 64) p i inside))
     c.in-Some.ensures.unpacked
     c.unpack_some.ensures.places (omega (arith, room)) c.loop-index.invariant.same in
     let whole : take (met + c.in-Some.count) after ≡ after =
@@ -41,7 +42,15 @@ loop-index-preserved c =
       places = search rules;
       left = omega (arith, left, all);
       same = goes_on c.args.scheme p _ _ i met (length out - met) c.in-Some.count _ out c.unpack_some.new.out inside
-          c.data_in-begin.ensures (rw c.as_chunks.ensures.front (frame_at (length p / 64) p i inside))
+          c.begin_in-begin.ensures (rw c.as_chunks.ensures.front (frame_at (length p / 64) p i inside))
           c.in-Some.ensures.unpacked c.unpack_some.ensures.places (omega (arith, room)) (omega (arith, room, left))
           c.loop-index.invariant.same;
     }
+
+pub returns-in_default-clause-unpacked : goal.returns-in_default-clause-unpacked
+returns-in_default-clause-unpacked c =
+    let inside : c.loop-index.index < length c.args.payload.now / 64 = omega arith in
+    rest_put c.unpack_rest.result c.args.scheme c.args.payload.now c.loop-index.index c.loop-index.met c.loop-index.out
+    _ c.unpack_rest.new.out inside
+    (put_front c.loop-index.met (length c.loop-index.out - c.loop-index.met) c.loop-index.out c.unpack_some.new.out
+    (omega arith)) c.loop-index.invariant.same c.unpack_rest.ensures.put
