@@ -64,7 +64,8 @@ all_after s (w ∷ ws) ds h run more =
     ap (λ (zs : List ℤ). map {B = Result ℤ BadWordAt} Ok zs) run.1.1.0 ∙ map-append Ok first rest in
     rw (found, later, joined) (sym (append_assoc (map Ok first) (map Ok rest) (items_of s more)))
 
-pub prefix_words : (before after : List DataWord) → AllByRecursion IsWord (before ++ after) → AllByRecursion IsWord before
+pub prefix_words : (before after : List DataWord) → AllByRecursion IsWord (before ++ after)
+  → AllByRecursion IsWord before
 prefix_words [] after h = tt
 prefix_words (w ∷ ws) after h = (h.0, prefix_words ws after h.1)
 

@@ -30,7 +30,8 @@ returns-clause-differences c = λ s whole.
     ≡ get_or c.unpack_differences.new.out 0 (pos 0) = to_z-of_z w32 _ (search rules) in
     let last : to_z w32 (of_z w32 c.args.before) ≡ c.args.before = to_z-of_z w32 _ (search rules) in
     ap (λ z. set c.unpack_differences.new.out 0 z) (to_z-of_z w32 c.difference_of.result (search rules))
-    ∙ first_set c.args.before c.difference_of.result c.unpack_differences.new.out s some (c.unpack_differences.ensures s whole)
+    ∙ first_set c.args.before c.difference_of.result c.unpack_differences.new.out s some
+    (c.unpack_differences.ensures s whole)
     (rw (first, last) at c.difference_of.ensures)
 
 pub returns-clause-last : goal.returns-clause-last
