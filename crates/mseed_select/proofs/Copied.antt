@@ -1,30 +1,31 @@
--- The records that are asked for, as they are gathered and written.
+-- The records that are asked for, as what is written of them is gathered and written.
 use Rattle.std.proofs.Common.{◌≡◌, ℕ, ◌+◌, ◌++◌, List, [], ◌∷◌, length, refl, sym, ap, ◌∙◌, subst}
-use Rattle.std.proofs.Common.{append_assoc, append-nil, arith, Bool, true, false, cond, Result, Ok, Err}
+use Rattle.std.proofs.Common.{append_assoc, append-nil, arith, inl, inr, Bool, true, false, cond, Result, Ok, Err}
 use Rattle.std.proofs.lemmas.List.{length-append}
 use Rattle.std.proofs.lemmas.List.Elements.{filter-append}
 use Rattle.std.proofs.lemmas.List.Folds.{concat-append}
 use Rattle.std.proofs.lemmas.List.Sums.{sum_by-append}
-use Rattle.std.proofs.Math.Seq.{take-length}
 use Rattle.std.specs.List.{concat, count_by, filter}
 use Rattle.std.specs.Result.{IsErrAnd}
 use Rattle.mseed_record.specs.View.{View}
 use Rattle.mseed_stream.specs.Device.{BytesRead, BytesWritten}
-use Rattle.mseed_stream.proofs.Gathered.{all_written, first_of, part_of}
+use Rattle.mseed_stream.specs.Gathered.{AreGathered, EmittedPart, IsCutOff}
+use Rattle.mseed_stream.proofs.Gathered.{all_behind, cut_part, gathered_all, gathered_also, gathered_first, gathered_on}
+use Rattle.mseed_stream.proofs.Gathered.{part_of}
 use Rattle.mseed_stream.specs.Standing.{Standing}
 use Rattle.mseed_stream.specs.Walk.{AreViews, bytes_in}
-use Rattle.mseed_select.specs.Select.{EmittedFirst, EmittedPart, EndsShort, IsSelected, selected_bytes}
+use Rattle.mseed_select.specs.Counting.{counts_of, one_if}
+use Rattle.mseed_select.specs.Formatted.{IsFormatted, Texts, asked_text, texts_of, whole_text}
+use Rattle.mseed_select.specs.Halves.{Placed, placed_from}
+use Rattle.mseed_select.specs.Select.{selected_bytes}
 use Rattle.mseed_select.specs.Selection.{Selection, answer_of, asks_for, is_asked, is_without_time, lacks_time}
 use Rattle.mseed_select.specs.declared.answer.Answer.{Answer}
 use Rattle.mseed_select.specs.declared.copying.Step.{Step}
-use Rattle.mseed_select.specs.declared.copying.Step.TheVariants.{Judged, Ended}
 use Rattle.mseed_select.specs.declared.counts.Counts.{Counts}
 use Rattle.mseed_select.specs.declared.fault.SelectFault.{SelectFault}
 use Rattle.mseed_select.specs.declared.fault.SelectFault.TheVariants.{Write, Memory}
 use Rattle.mseed_select.specs.declared.selected.Selected.{Selected}
-use Rattle.mseed_select.specs.private.Copying.{AreGathered, HasCopied, IsCopying, IsGatheredAlso, IsNext}
-use Rattle.mseed_select.specs.private.Copying.{IsPrefixWritten, bytes_by}
-use Rattle.mseed_select.specs.Counting.{counts_of, one_if}
+use Rattle.mseed_select.specs.private.Copying.{HasCopied, IsCopying, IsHeld, IsNext, bytes_by, text_by}
 
 -- ---- one more record
 map_bytes : (xs ys : List View) → bytes_in (xs ++ ys) ≡ bytes_in xs ++ bytes_in ys
@@ -82,101 +83,145 @@ counts_more s views v old new answer before answered e =
     (count_by (lacks_time s) views + one_if (lacks_time s v)) (length-append views (v ∷ []))
     (count_more (asks_for s) views v) (count_more (lacks_time s) views v))
 
--- ---- what comes next
--- all that was gathered was written, and then some gathered
-also_written : (old new : BytesWritten) (text added more : List ℕ) → new.bytes ≡ old.bytes ++ text
-    → new.failures ≡ old.failures → added ≡ more → IsGatheredAlso old new text added more
-also_written old new text added more bytes fine e = record {
-  bytes = record { taken = text; bytes = bytes; joined = ap (λ (xs : List ℕ). text ++ xs) e };
-  fine = fine;
+-- ---- the text of one more
+texts_append : (t : Texts) (ps qs : List Placed) → texts_of t (ps ++ qs) ≡ texts_of t ps ++ texts_of t qs
+texts_append t [] qs = refl
+texts_append t (p ∷ ps) qs = ap (λ (xs : List ℕ). t.of_record p.offset p.view ++ xs) (texts_append t ps qs)
+    ∙ sym (append_assoc (t.of_record p.offset p.view) (texts_of t ps) (texts_of t qs))
+
+placed_more : (offset : ℕ) (views : List View) (v : View) (n : ℕ) → n ≡ offset + length (concat (bytes_in views))
+    → placed_from offset (views ++ v ∷ []) ≡ placed_from offset views ++ record { offset = n; view = v } ∷ []
+placed_more offset [] v n e =
+    let same : offset ≡ n = omega (arith, e) in
+    ap (λ (m : ℕ). placed_from m (v ∷ [])) same
+placed_more offset (w ∷ views) v n e =
+    let rest : List ℕ = concat (bytes_in views) in
+    let size : length (w.bytes ++ rest) ≡ length w.bytes + length rest = length-append w.bytes rest in
+    let later : n ≡ (offset + length w.bytes) + length rest = omega (arith, e, size) in
+    let here : Placed = record { offset = offset; view = w } in
+    ap (λ (ps : List Placed). here ∷ ps) (placed_more (offset + length w.bytes) views v n later)
+
+one_text : (t : Texts) (b : Bool) (p : Placed)
+    → texts_of t (cond b (p ∷ []) []) ≡ cond b (t.of_record p.offset p.view) []
+one_text t true p = append-nil (t.of_record p.offset p.view)
+one_text t false p = refl
+
+-- it comes after that of the others, where it is asked for
+pub text_more : (t : Texts) (s : Selection) (bytes : List ℕ) (offset : ℕ) (views : List View) (v : View)
+    → AreViews bytes offset views → asked_text t s (views ++ v ∷ []) ≡ asked_text t s views ++ text_by t s offset v
+text_more t s bytes offset views v shown =
+    let test : Placed → Bool = λ p. asks_for s p.view in
+    let here : Placed = record { offset = offset; view = v } in
+    let all = placed_more 0 views v offset (omega (arith, shown.offset_is)) in
+    ap (λ (ps : List Placed). texts_of t (filter test ps)) all
+    ∙ ap (texts_of t) (filter-append test (placed_from 0 views) (here ∷ []))
+    ∙ texts_append t (filter test (placed_from 0 views)) (filter test (here ∷ []))
+    ∙ ap (λ (xs : List ℕ). asked_text t s views ++ xs) (one_text t (asks_for s v) here)
+
+-- ---- what is held of them
+-- some more was added of the next record
+pub held_more : (t : Texts) (s : Selection) (bytes : List ℕ) (offset : ℕ) (first now : BytesWritten)
+    (text added : List ℕ) (views : List View) (v : View) → AreViews bytes offset views
+    → added ≡ text ++ text_by t s offset v → IsHeld t s first now text views
+    → IsHeld t s first now added (views ++ v ∷ [])
+held_more t s bytes offset first now text added views v shown e held = record {
+  gathered = gathered_also first now now text added (asked_text t s views) (text_by t s offset v)
+      (asked_text t s (views ++ v ∷ [])) held.gathered
+      (subst (λ (xs : List ℕ). AreGathered now now added xs) e (gathered_all now added))
+      (text_more t s bytes offset views v shown);
+  fine = held.fine;
 }
 
--- what comes next, once all that was gathered was written
-pub next_written : (s : Selection) (r : Result Step SelectFault) (views : List View) (offset : ℕ)
-    (before after : BytesRead) (c : Standing) (old new : BytesWritten) (text rest added : List ℕ)
-    → AreGathered old new rest text → rest ≡ [] → new.failures ≡ old.failures
-    → IsNext s r views offset before after c (λ more. added ≡ more) (λ fault. fault ≡ Memory)
-    → IsNext s r views offset before after c (λ more. IsGatheredAlso old new text added more)
-    (λ fault. IsPrefixWritten fault old new text)
-next_written s (Ok (Judged answer)) views offset before after c old new text rest added written none fine next =
-    record {
-      view = next.view;
-      handed = next.handed;
-      called = next.called;
-      answered = next.answered;
-      bytes = also_written old new text added (bytes_by s next.view) (all_written old new text rest written none) fine
-          next.bytes;
-    }
-next_written s (Ok (Ended end)) views offset before after c old new text rest added written none fine next =
-    (next.0, also_written old new text added [] (all_written old new text rest written none) fine next.1)
-next_written s (Err fault) views offset before after c old new text rest added written none fine next =
-    let all : EmittedFirst old new text = (
-      length text,
-      all_written old new text rest written none
-          ∙ ap (λ (xs : List ℕ). old.bytes ++ xs) (sym (take-length text)),
-    ) in
-    let memory : IsPrefixWritten Memory old new text = (fine, all) in
-    (subst (λ (f : SelectFault). IsPrefixWritten f old new text) (sym next.0) memory, next.1)
-
--- no memory for a record, before anything was written
-pub next_err : (s : Selection) (r : Result Step SelectFault) (Q : SelectFault → Type 0) (views : List View) (offset : ℕ)
-    (before h : BytesRead) (c : Standing) (w : BytesWritten) (text added : List ℕ) → AreViews h.bytes offset views
-    → IsErrAnd r Q → ((e : SelectFault) → Q e → e ≡ Memory)
-    → IsNext s r views offset before h c (λ more. IsGatheredAlso w w text added more)
-    (λ fault. IsPrefixWritten fault w w text)
-next_err s (Ok step) Q views offset before h c w text added shown is q = absurd is
-next_err s (Err e) Q views offset before h c w text added shown is q =
-    let none : IsPrefixWritten Memory w w text = (refl, (0, sym (append-nil w.bytes))) in
-    (subst (λ (f : SelectFault). IsPrefixWritten f w w text) (sym (q e is)) none, shown)
+-- some of it was written
+pub held_on : (t : Texts) (s : Selection) (first old new : BytesWritten) (text rest : List ℕ) (views : List View)
+    → IsHeld t s first old text views → AreGathered old new rest text → new.failures ≡ old.failures
+    → IsHeld t s first new rest views
+held_on t s first old new text rest views held written fine = record {
+  gathered = gathered_on first old new text rest (asked_text t s views) held.gathered written;
+  fine = fine ∙ held.fine;
+}
 
 -- ---- how it ends
-short : (Emitted : List ℕ → Type 0) (s : Selection) (h : BytesRead) (offset : ℕ) (views : List View)
-    → AreViews h.bytes offset views → Emitted (selected_bytes s views) → EndsShort Emitted s h
-short Emitted s h offset views shown w = (offset, (views, record { shown = shown; prefix = w }))
-
--- a fault before which a prefix of the records' bytes was written
-pub cut_short : (s : Selection) (fault : SelectFault) (h : BytesRead) (first old new : BytesWritten) (text : List ℕ)
-    (offset : ℕ) (views : List View) → AreViews h.bytes offset views → old.failures ≡ first.failures
-    → AreGathered first old text (selected_bytes s views) → IsPrefixWritten fault old new text
-    → IsSelected s (Err fault) h first new
-cut_short s Write h first old new text offset views shown same before written = (
-  omega (arith, same, written.0),
-  short (EmittedPart first new) s h offset views shown
-      (part_of first old new text (selected_bytes s views) before written.1),
-)
-cut_short s Memory h first old new text offset views shown same before written = (
-  written.0 ∙ same,
-  short (EmittedFirst first new) s h offset views shown
-      (first_of first old new text (selected_bytes s views) before written.1),
-)
-
-pub copied_err : (s : Selection) (r : Result Selected SelectFault) (Q : SelectFault → Type 0) (fault : SelectFault)
-    (h : BytesRead) (old new : BytesWritten) (text : List ℕ) → IsErrAnd r Q → ((e : SelectFault) → Q e → e ≡ fault)
-    → IsSelected s (Err fault) h old new → IsCopying s r h old new text
-copied_err s (Ok x) Q fault h old new text is q shown = absurd is
-copied_err s (Err e) Q fault h old new text is q shown =
-    subst (λ (x : SelectFault). IsSelected s (Err x) h old new) (sym (q e is)) shown
-
--- all of it was written
-pub selected_all : (s : Selection) (found : Selected) (h : BytesRead) (first old new : BytesWritten) (text : List ℕ)
-    (views : List View) → HasCopied s found h first old text views → new.bytes ≡ old.bytes ++ text
-    → new.failures ≡ old.failures → IsSelected s (Ok found) h first new
-selected_all s found h first old new text views copied bytes fine =
-    let before = copied.bytes in (
+-- no memory for more
+pub cut_short : (t : Texts) (s : Selection) (h : BytesRead) (offset : ℕ) (first now : BytesWritten) (text : List ℕ)
+    (views : List View) → AreViews h.bytes offset views → IsHeld t s first now text views
+    → IsFormatted t s (Err Memory) h first now
+cut_short t s h offset first now text views shown held = (
+  held.fine,
+  (
+    offset,
+    (
       views,
       record {
-        all = copied.all;
-        bytes = bytes ∙ ap (λ (xs : List ℕ). xs ++ text) before.bytes
-            ∙ append_assoc first.bytes before.taken text
-            ∙ ap (λ (xs : List ℕ). first.bytes ++ xs) before.joined;
-        fine = fine ∙ copied.fine;
-        counted = copied.counted;
+        shown = shown;
+        prefix = inl (gathered_first first now text (asked_text t s views) held.gathered);
       },
+    ),
+  ),
+)
+
+-- the output failed
+pub cut_off : (t : Texts) (s : Selection) (h : BytesRead) (offset : ℕ) (first old new : BytesWritten)
+    (text : List ℕ) (taken : ℕ) (views : List View) → AreViews h.bytes offset views → IsHeld t s first old text views
+    → IsCutOff taken text old new → IsFormatted t s (Err Write) h first new
+cut_off t s h offset first old new text taken views shown held cut =
+    let part : EmittedPart first new (asked_text t s views) =
+    part_of first old new text (asked_text t s views) held.gathered (taken, (cut.part, cut.text)) in (
+      omega (arith, held.fine, cut.failed),
+      (offset, (views, record { shown = shown; prefix = inl part })),
     )
 
+pub next_err : (t : Texts) (s : Selection) (r : Result Step SelectFault) (views : List View) (offset : ℕ)
+    (before h : BytesRead) (c : Standing) (first now : BytesWritten) (text added : List ℕ)
+    → IsErrAnd r (λ e. e ≡ Memory) → AreViews h.bytes offset views → IsHeld t s first now text views
+    → IsNext t s r views before h c first now added
+next_err t s (Ok step) views offset before h c first now text added is shown held = absurd is
+next_err t s (Err e) views offset before h c first now text added is shown held =
+    subst (λ (x : SelectFault). IsFormatted t s (Err x) h first now) (sym is)
+    (cut_short t s h offset first now text views shown held)
+
+pub copied_err : (t : Texts) (s : Selection) (r : Result Selected SelectFault) (Q : SelectFault → Type 0)
+    (fault : SelectFault) (h : BytesRead) (old new : BytesWritten) (text : List ℕ) → IsErrAnd r Q
+    → ((e : SelectFault) → Q e → e ≡ fault) → IsFormatted t s (Err fault) h old new → IsCopying t s r h old new text
+copied_err t s (Ok x) Q fault h old new text is q shown = absurd is
+copied_err t s (Err e) Q fault h old new text is q shown =
+    subst (λ (x : SelectFault). IsFormatted t s (Err x) h old new) (sym (q e is)) shown
+
+-- no memory for the end
+pub end_err : (t : Texts) (s : Selection) (r : Result Selected SelectFault) (found : Selected) (h : BytesRead)
+    (first new : BytesWritten) (text : List ℕ) (views : List View) → IsErrAnd r (λ e. e ≡ Memory)
+    → HasCopied t s found h first new text views → IsFormatted t s r h first new
+end_err t s (Ok x) found h first new text views is copied = absurd is
+end_err t s (Err e) found h first new text views is copied =
+    subst (λ (x : SelectFault). IsFormatted t s (Err x) h first new) (sym is)
+    (cut_short t s h copied.is_found.all.offset first new text views copied.is_found.all.records copied.held)
+
+-- all of it was written
+pub written_all : (t : Texts) (s : Selection) (found : Selected) (h : BytesRead) (first old new : BytesWritten)
+    (text whole : List ℕ) (views : List View) → HasCopied t s found h first old text views
+    → whole ≡ text ++ t.at_end found → new.bytes ≡ old.bytes ++ whole → new.failures ≡ old.failures
+    → IsFormatted t s (Ok found) h first new
+written_all t s found h first old new text whole views copied e bytes fine = (
+  views,
+  record {
+    is_found = copied.is_found;
+    text = all_behind first old new text (asked_text t s views) (t.at_end found) copied.held.gathered
+        (bytes ∙ ap (λ (xs : List ℕ). old.bytes ++ xs) e);
+    fine = fine ∙ copied.held.fine;
+  },
+)
+
 -- a prefix of what was left was written
-pub selected_short : (s : Selection) (fault : SelectFault) (found : Selected) (h : BytesRead)
-    (first old new : BytesWritten) (text : List ℕ) (views : List View) → HasCopied s found h first old text views
-    → IsPrefixWritten fault old new text → IsSelected s (Err fault) h first new
-selected_short s fault found h first old new text views copied written =
-    cut_short s fault h first old new text copied.all.offset views copied.all.records copied.fine copied.bytes written
+pub written_short : (t : Texts) (s : Selection) (found : Selected) (h : BytesRead) (first old new : BytesWritten)
+    (text whole : List ℕ) (taken : ℕ) (views : List View) → HasCopied t s found h first old text views
+    → whole ≡ text ++ t.at_end found → IsCutOff taken whole old new → IsFormatted t s (Err Write) h first new
+written_short t s found h first old new text whole taken views copied e cut =
+    let part : EmittedPart first new (whole_text t s views found) =
+    cut_part first old new taken text (asked_text t s views) (t.at_end found) copied.held.gathered
+    (subst (λ (xs : List ℕ). IsCutOff taken xs old new) e cut) in (
+      omega (arith, copied.held.fine, cut.failed),
+      (
+        copied.is_found.all.offset,
+        (views, record { shown = copied.is_found.all.records; prefix = inr (found, (copied.is_found, part)) }),
+      ),
+    )

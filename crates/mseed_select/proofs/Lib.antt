@@ -1,4 +1,5 @@
 pub mod Copied
+pub mod Verbatim
 pub mod Fitting
 pub mod Pieces
 pub mod Cuts

@@ -5,4 +5,5 @@ pub mod Counting
 pub mod Selecting
 pub mod Select
 pub mod Halves
+pub mod Formatted
 pub mod private

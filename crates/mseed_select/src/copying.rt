@@ -1,19 +1,21 @@
-//! The records of an input that are asked for, as they are.
+//! The records of an input that are asked for, as they are written.
 ghost use Rattle.std.specs.Prelude.{◌≡◌, ◌≤◌, ◌++◌, List, [], IfErr, IfOk, OnOk, length};
 ghost use Rattle.mseed_record.specs.View.{View};
 ghost use Rattle.mseed_record.specs.Viewing.{view_of};
 ghost use Rattle.mseed_stream.specs.Cutting.{IsAlong};
-ghost use Rattle.mseed_stream.specs.Device.{nothing_read};
+ghost use Rattle.mseed_stream.specs.Device.{BytesWritten, nothing_read};
 ghost use Rattle.mseed_stream.specs.Walk.{HasHandedOut};
+ghost use Rattle.mseed_select.specs.Formatted.{IsFormatted};
 ghost use Rattle.mseed_select.specs.Select.{IsSelected};
 ghost use Rattle.mseed_select.specs.Selecting.{selection_of};
 ghost use Rattle.mseed_select.specs.Selection.{answer_of};
-ghost use Rattle.mseed_select.specs.private.Copying.{AreGathered, IsPrefixWritten, IsGatheredAlso, IsCopying, IsNext};
-ghost use Rattle.mseed_select.specs.private.Copying.{bytes_by};
+ghost use Rattle.mseed_select.specs.private.Copying.{IsCopying, IsHeld, IsNext, text_by};
 
 use crate::answer::Answer;
+use crate::choice::Choice;
 use crate::counts::Counts;
 use crate::fault::SelectFault;
+use crate::format::{Format, Verbatim};
 use crate::selected::Selected;
 use crate::selector::Selector;
 use mseed_record::RecordView;
@@ -26,7 +28,7 @@ const GATHERED: usize = 1 << 16;
 /// What comes next of an input.
 #[derive(Clone, Copy)]
 pub(crate) enum Step {
-    /// A record, whose bytes were added where it is asked for.
+    /// A record, whose text was added where it is asked for.
     Judged(Answer),
     /// Its end, by the fault, if by one.
     Ended(Option<StreamFault>),
@@ -51,87 +53,114 @@ pub fn select<A: Allocator + Copy, R: Source, W: Sink>(
     ensures selected { IsSelected (selection_of selector.now) result (R.read input.new) (W.written output.old)
         (W.written output.new) }
 {
-    let mut bytes = Vec::new(alloc);
-    let selected = copy(alloc, selector, input, output, &mut bytes)?;
-    match write_all_of(output, &bytes) {
-        Ok(()) => Ok(selected),
+    write_selected(alloc, selector, &Verbatim, input, output)
+}
+
+/// Writes the records of the input that are asked for, each in a format, and then its end, and answers how many records
+/// there were, and with what fault the input ended, if with any. What they hold isn't judged. They are written as
+/// records come, some at a time, and before the input is called where it holds no whole record; a record before a fault
+/// is written. The input is one of which nothing was read yet.
+///
+/// # Errors
+///
+/// `Write` where the output failed, `Memory` where an allocation was refused. A prefix of the text was written then.
+pub fn write_selected<A: Allocator + Copy, C: Choice, F: Format<A>, R: Source, W: Sink>(
+    alloc: A,
+    choice: &C,
+    format: &F,
+    input: &mut R,
+    output: &mut W,
+) -> Result<Selected, SelectFault>
+    requires unread { R.read input.old ≡ nothing_read }
+    ensures written { IsFormatted (F.texts format.now) (C.selection choice.now) result (R.read input.new)
+        (W.written output.old) (W.written output.new) }
+{
+    let mut text = Vec::new(alloc);
+    let found = copy(alloc, choice, format, input, output, &mut text)?;
+    format.push_end(&found, &mut text)?;
+    match write_all_of(output, &text) {
+        Ok(()) => Ok(found),
         Err(_) => Err(SelectFault::Write),
     }
 }
 
-/// Copies the records that are asked for, up to the end. The last of them are left in `bytes`.
-fn copy<A: Allocator + Copy, R: Source, W: Sink>(
+/// Copies the records that are asked for, up to the input's end. The last of what is written of them is left in `text`.
+fn copy<A: Allocator + Copy, C: Choice, F: Format<A>, R: Source, W: Sink>(
     alloc: A,
-    selector: &Selector<'_>,
+    choice: &C,
+    format: &F,
     input: &mut R,
     output: &mut W,
-    bytes: &mut Vec<u8, A>,
+    text: &mut Vec<u8, A>,
 ) -> Result<Selected, SelectFault>
     requires read { R.read input.old ≡ nothing_read }
-    requires bytes { bytes.old.items ≡ [] }
-    ensures { IsCopying (selection_of selector.now) result (R.read input.new) (W.written output.old)
-        (W.written output.new) bytes.new.items }
+    requires text { text.old.items ≡ [] }
+    ensures { IsCopying (F.texts format.now) (C.selection choice.now) result (R.read input.new) (W.written output.old)
+        (W.written output.new) text.new.items }
 {
     let mut cutter = Cutter::new(alloc);
     let mut counts = Counts::none();
     'records: loop {
-        match push_next(&mut cutter, selector, input, output, bytes)? {
+        match push_next(&mut cutter, choice, format, input, output, text)? {
             Step::Judged(answer) => counts.add(answer),
             Step::Ended(end) => return Ok(counts.selected(end)),
         }
-        match write_beyond(output, bytes, GATHERED) {
+        match write_beyond(output, text, GATHERED) {
             Ok(()) => {}
             Err(_) => return Err(SelectFault::Write),
         }
     }
 }
 
-/// Adds the next record where it is asked for, or answers how the input ends. A record that isn't asked for isn't
-/// copied where the input holds it whole. Where it holds none, the bytes that are gathered are written before it is
-/// called.
-fn push_next<A: Allocator, R: Source, W: Sink>(
+/// Adds what is written of the next record, where it is asked for, or answers how the input ends. A record that the
+/// input holds whole isn't copied. Where it holds none, what is gathered is written before it is called.
+fn push_next<A: Allocator, C: Choice, F: Format<A>, R: Source, W: Sink>(
     cutter: &mut Cutter<A>,
-    selector: &Selector<'_>,
+    choice: &C,
+    format: &F,
     input: &mut R,
     output: &mut W,
-    bytes: &mut Vec<u8, A>,
+    text: &mut Vec<u8, A>,
 ) -> Result<Step, SelectFault>
     requires { IsAlong (R.read input.old) cutter.old }
-    ensures { (views : List View) → HasHandedOut (R.read input.old) cutter.old views
-        → IsNext (selection_of selector.now) result views cutter.old.offset (R.read input.old) (R.read input.new)
-        cutter.new
-        (λ more. IsGatheredAlso (W.written output.old) (W.written output.new) bytes.old.items bytes.new.items more)
-        (λ fault. IsPrefixWritten fault (W.written output.old) (W.written output.new) bytes.old.items) }
+    ensures { (first : BytesWritten) (views : List View) → HasHandedOut (R.read input.old) cutter.old views
+        → IsHeld (F.texts format.now) (C.selection choice.now) first (W.written output.old) text.old.items views
+        → IsNext (F.texts format.now) (C.selection choice.now) result views (R.read input.old) (R.read input.new)
+        cutter.new first (W.written output.new) text.new.items }
 {
+    let offset = cutter.offset();
     if let Some(view) = cutter.peek(input) {
-        let answer = push_record(selector, &view, bytes)?;
+        let answer = push_record(choice, format, offset, &view, text)?;
         let size = view.bytes().len();
         cutter.pass(input, size);
         return Ok(Step::Judged(answer));
     }
-    match write_beyond(output, bytes, 0) {
-        Ok(()) => ask_next(cutter, selector, input, bytes),
+    match write_beyond(output, text, 0) {
+        Ok(()) => ask_next(cutter, choice, format, input, text),
         Err(_) => Err(SelectFault::Write),
     }
 }
 
-/// Asks the input for the next record and adds it where it is asked for, or answers how the input ends. All that was
-/// gathered before it is written.
-fn ask_next<A: Allocator, R: Source>(
+/// Asks the input for the next record and adds what is written of it, where it is asked for, or answers how the input
+/// ends. All that was gathered before it is written.
+fn ask_next<A: Allocator, C: Choice, F: Format<A>, R: Source>(
     cutter: &mut Cutter<A>,
-    selector: &Selector<'_>,
+    choice: &C,
+    format: &F,
     input: &mut R,
-    bytes: &mut Vec<u8, A>,
+    text: &mut Vec<u8, A>,
 ) -> Result<Step, SelectFault>
     requires along { IsAlong (R.read input.old) cutter.old }
-    requires written { bytes.old.items ≡ [] }
-    ensures { (views : List View) → HasHandedOut (R.read input.old) cutter.old views
-        → IsNext (selection_of selector.now) result views cutter.old.offset (R.read input.old) (R.read input.new)
-        cutter.new (λ more. bytes.new.items ≡ more) (λ fault. fault ≡ SelectFault.Memory) }
+    requires written { text.old.items ≡ [] }
+    ensures { (first now : BytesWritten) (views : List View) → HasHandedOut (R.read input.old) cutter.old views
+        → IsHeld (F.texts format.now) (C.selection choice.now) first now text.old.items views
+        → IsNext (F.texts format.now) (C.selection choice.now) result views (R.read input.old) (R.read input.new)
+        cutter.new first now text.new.items }
 {
+    let offset = cutter.offset();
     match cutter.next(input) {
         Ok(Some(view)) => {
-            let answer = push_record(selector, &view, bytes)?;
+            let answer = push_record(choice, format, offset, &view, text)?;
             Ok(Step::Judged(answer))
         }
         Ok(None) => Ok(Step::Ended(None)),
@@ -140,24 +169,26 @@ fn ask_next<A: Allocator, R: Source>(
     }
 }
 
-/// Adds a record where it is asked for, and answers whether it is.
+/// Adds what is written of a record, where it is asked for, and answers whether it is.
 ///
 /// # Errors
 ///
-/// `AllocError` where an allocation was refused. Nothing was added then.
+/// `AllocError` where an allocation was refused.
 #[inline(always)]
-fn push_record<A: Allocator>(
-    selector: &Selector<'_>,
+fn push_record<A: Allocator, C: Choice, F: Format<A>>(
+    choice: &C,
+    format: &F,
+    offset: u64,
     view: &RecordView,
-    bytes: &mut Vec<u8, A>,
+    text: &mut Vec<u8, A>,
 ) -> Result<Answer, AllocError>
-    ensures ok { OnOk result (bytes.new.items ≡ bytes.old.items ++ bytes_by (selection_of selector.now)
-        (view_of view.now)) }
-    ensures answer { IfOk result (λ a. a ≡ answer_of (selection_of selector.now) (view_of view.now)) }
+    ensures ok { OnOk result (text.new.items ≡ text.old.items ++ text_by (F.texts format.now) (C.selection choice.now)
+        offset (view_of view.now)) }
+    ensures answer { IfOk result (λ a. a ≡ answer_of (C.selection choice.now) (view_of view.now)) }
 {
-    let answer = selector.asks_for(view);
+    let answer = choice.answer(view);
     if let Answer::AskedFor = answer {
-        bytes.extend_from_slice(view.bytes())?;
+        format.push_record(offset, view, text)?;
     }
     Ok(answer)
 }

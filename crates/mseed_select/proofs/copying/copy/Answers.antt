@@ -1,90 +1,64 @@
-use Rattle.std.proofs.Common.{◌++◌, ◌∷◌, [], ◌∙◌, ℕ, ◌≤◌, List, ap, arith, subst, sym, Ok, Err}
-use Rattle.std.proofs.lemmas.List.{append-nil}
+use Rattle.std.proofs.Common.{◌++◌, ◌∷◌, [], List, ap, arith, subst, sym, Ok}
 use Rattle.std.proofs.lemmas.List.Sums.{count_by-le-length}
 use Rattle.mseed_record.specs.View.{View}
-use Rattle.mseed_stream.specs.Device.{BytesRead, BytesWritten}
-use Rattle.mseed_select.specs.Select.{IsSelected, selected_bytes}
-use Rattle.mseed_select.specs.Selecting.{selection_of}
+use Rattle.mseed_stream.specs.Device.{BytesWritten}
 use Rattle.mseed_select.specs.Selection.{Selection, asks_for, lacks_time}
 use Rattle.mseed_select.specs.declared.counts.Counts.{Counts}
-use Rattle.mseed_select.specs.declared.fault.SelectFault.{SelectFault}
-use Rattle.mseed_select.specs.declared.fault.SelectFault.TheVariants.{Write}
 use Rattle.mseed_select.specs.declared.selected.Selected.{Selected}
-use Rattle.mseed_select.specs.private.Copying.{AreGathered, IsCopying, bytes_by}
-use Rattle.mseed_stream.proofs.Gathered.{gathered_also, gathered_on}
-use Rattle.mseed_select.proofs.Copied.{bytes_more, copied_err, counts_more, cut_short}
+use Rattle.mseed_select.specs.private.Copying.{IsCopying}
+use Rattle.mseed_select.proofs.Copied.{copied_err, counts_more, cut_off, held_on}
 use Rattle.mseed_select.proofs.copying.copy.Goals as goal
 
 pub returns-in_err-answer : goal.returns-in_err-answer
 returns-in_err-answer g c =
-    let s : Selection = selection_of c.args.selector.now in
-    let views : List View = c.records.invariant.3.0 in
-    let before = c.records.invariant.3.1 in
+    let s : Selection = g.C.Choice.selection c.args.choice.now in
     let first : BytesWritten = g.W.Sink.written c.args.output.now in
-    let old : BytesWritten = g.W.Sink.written c.records.output in
-    let new : BytesWritten = g.W.Sink.written c.push_next.new.output in
-    let fault : SelectFault = c.in_err-answer.field-0.0 in
-    let next = c.in_err-answer.ensures views before.0 in
-    let read : BytesRead = g.R.Source.read c.push_next.new.input in
-    let short : IsSelected s (Err fault) read first new = cut_short s fault read first old new c.records.bytes.items
-    c.records.cutter.offset views next.1 c.records.invariant.2 before.1 next.0 in
-    copied_err s c.from_residual.result _ fault read first new c.push_next.new.bytes.items c.from_residual.ensures.1
-    (λ e q. q) short
+    let views : List View = c.records.invariant.1.0 in
+    let before = c.records.invariant.1.1 in
+    copied_err (g.F.Format.texts c.args.format.now) s c.from_residual.result _ c.in_err-answer.field-0.0
+    (g.R.Source.read c.push_next.new.input) first (g.W.Sink.written c.push_next.new.output)
+    c.push_next.new.text.items c.from_residual.ensures.1 (λ e q. q)
+    (c.in_err-answer.ensures first views before.0 before.1)
 
 pub returns-in-Ended : goal.returns-in-Ended
 returns-in-Ended g c =
-    let s : Selection = selection_of c.args.selector.now in
-    let views : List View = c.records.invariant.3.0 in
-    let before = c.records.invariant.3.1 in
-    let next = rw c.in-Ended.is at c.in_ok-answer.ensures views before.0 in
+    let s : Selection = g.C.Choice.selection c.args.choice.now in
     let first : BytesWritten = g.W.Sink.written c.args.output.now in
-    let old : BytesWritten = g.W.Sink.written c.records.output in
-    let new : BytesWritten = g.W.Sink.written c.push_next.new.output in
-    let read : BytesRead = g.R.Source.read c.push_next.new.input in
-    let all : List ℕ = selected_bytes s views in
-    subst (λ (found : Selected). IsCopying s (Ok found) read first new c.push_next.new.bytes.items)
+    let views : List View = c.records.invariant.1.0 in
+    let before = c.records.invariant.1.1 in
+    let next = rw c.in-Ended.is at c.in_ok-answer.ensures first views before.0 before.1 in
+    subst (λ (found : Selected). IsCopying (g.F.Format.texts c.args.format.now) s (Ok found)
+    (g.R.Source.read c.push_next.new.input) first (g.W.Sink.written c.push_next.new.output) c.push_next.new.text.items)
     (sym c.selected.ensures) (
       views,
       record {
-        all = next.0;
-        bytes = gathered_also first old new c.records.bytes.items c.push_next.new.bytes.items all [] all before.1
-            next.1.bytes (sym (append-nil all));
-        fine = next.1.fine ∙ c.records.invariant.2;
-        counted = record {
-          records = ap (λ (k : Counts). k.records) before.2;
-          written = ap (λ (k : Counts). k.asked_for) before.2;
-          without_time = ap (λ (k : Counts). k.without_time) before.2;
+        is_found = record {
+          all = next.0;
+          counted = record {
+            records = ap (λ (k : Counts). k.records) before.2;
+            written = ap (λ (k : Counts). k.asked_for) before.2;
+            without_time = ap (λ (k : Counts). k.without_time) before.2;
+          };
         };
+        held = next.1;
       },
     )
 
 pub records-preserved : goal.records-preserved
 records-preserved g c =
-    let s : Selection = selection_of c.args.selector.now in
-    let views : List View = c.records.invariant.3.0 in
-    let before = c.records.invariant.3.1 in
-    let more = rw c.in-Judged.is at c.in_ok-answer.ensures views before.0 in
+    let s : Selection = g.C.Choice.selection c.args.choice.now in
     let first : BytesWritten = g.W.Sink.written c.args.output.now in
-    let old : BytesWritten = g.W.Sink.written c.records.output in
-    let added : BytesWritten = g.W.Sink.written c.push_next.new.output in
-    let new : BytesWritten = g.W.Sink.written c.write_beyond.new.sink in
-    let all : List View = views ++ more.view ∷ [] in
-    let bytes = gathered_also first old added c.records.bytes.items c.push_next.new.bytes.items
-    (selected_bytes s views) (bytes_by s more.view) (selected_bytes s all) before.1 more.bytes.bytes
-    (bytes_more s views more.view) in
-    let written = gathered_on first added new c.push_next.new.bytes.items c.write_beyond.new.text.items
-    (selected_bytes s all) bytes c.in-Ok.ensures.ok in
-    let records = ap (λ (k : Counts). k.records) c.add.ensures in
-    let called : c.add.new.self.records ≤ (g.R.Source.read c.push_next.new.input).calls =
-    omega (arith, records, c.records.invariant.1, more.called) in (
+    let views : List View = c.records.invariant.1.0 in
+    let before = c.records.invariant.1.1 in
+    let more = rw c.in-Judged.is at c.in_ok-answer.ensures first views before.0 before.1 in (
       more.handed.along,
-      called,
-      c.in-Ok.ensures.fine ∙ more.bytes.fine ∙ c.records.invariant.2,
       (
-        all,
+        views ++ more.view ∷ [],
         (
           more.handed,
-          written,
+          held_on (g.F.Format.texts c.args.format.now) s first (g.W.Sink.written c.push_next.new.output)
+              (g.W.Sink.written c.write_beyond.new.sink) c.push_next.new.text.items c.write_beyond.new.text.items _
+              more.held c.in-Ok.ensures.ok c.in-Ok.ensures.fine,
           counts_more s views more.view c.records.counts c.add.new.self c.in-Judged.answer before.2 more.answered
               c.add.ensures,
         ),
@@ -93,30 +67,29 @@ records-preserved g c =
 
 pub returns-in-Err : goal.returns-in-Err
 returns-in-Err g c =
-    let s : Selection = selection_of c.args.selector.now in
-    let views : List View = c.records.invariant.3.0 in
-    let before = c.records.invariant.3.1 in
-    let more = rw c.in-Judged.is at c.in_ok-answer.ensures views before.0 in
-    let read : BytesRead = g.R.Source.read c.push_next.new.input in
+    let s : Selection = g.C.Choice.selection c.args.choice.now in
     let first : BytesWritten = g.W.Sink.written c.args.output.now in
-    let old : BytesWritten = g.W.Sink.written c.records.output in
-    let added : BytesWritten = g.W.Sink.written c.push_next.new.output in
-    let new : BytesWritten = g.W.Sink.written c.write_beyond.new.sink in
-    let all : List View = views ++ more.view ∷ [] in
-    let bytes : AreGathered first added c.push_next.new.bytes.items (selected_bytes s all) =
-    gathered_also first old added c.records.bytes.items c.push_next.new.bytes.items (selected_bytes s views)
-    (bytes_by s more.view) (selected_bytes s all) before.1 more.bytes.bytes (bytes_more s views more.view) in
-    let cut = c.in-Err.ensures.err in
-    cut_short s Write read first added new c.push_next.new.bytes.items c.push_next.new.cutter.offset all
-    more.handed.records (more.bytes.fine ∙ c.records.invariant.2) bytes
-    (cut.failed, (c.in-Err.field-0, (cut.part, cut.text)))
+    let views : List View = c.records.invariant.1.0 in
+    let before = c.records.invariant.1.1 in
+    let more = rw c.in-Judged.is at c.in_ok-answer.ensures first views before.0 before.1 in
+    cut_off (g.F.Format.texts c.args.format.now) s (g.R.Source.read c.push_next.new.input) c.push_next.new.cutter.offset
+    first (g.W.Sink.written c.push_next.new.output) (g.W.Sink.written c.write_beyond.new.sink)
+    c.push_next.new.text.items c.in-Err.field-0 (views ++ more.view ∷ []) more.handed.records more.held
+    c.in-Err.ensures.err
+
+pub records-smaller : goal.records-smaller
+records-smaller g c =
+    let first : BytesWritten = g.W.Sink.written c.args.output.now in
+    let views : List View = c.records.invariant.1.0 in
+    let before = c.records.invariant.1.1 in
+    let more = rw c.in-Judged.is at c.in_ok-answer.ensures first views before.0 before.1 in
+    omega (arith, more.called, c.records.invariant.0.read.reads, c.records.invariant.0.read.few_reads)
 
 pub add-requires : goal.add-requires
 add-requires g c =
-    let s : Selection = selection_of c.args.selector.now in
-    let views : List View = c.records.invariant.3.0 in
-    let before = c.records.invariant.3.1 in
-    let more = rw c.in-Judged.is at c.in_ok-answer.ensures views before.0 in
+    let s : Selection = g.C.Choice.selection c.args.choice.now in
+    let views : List View = c.records.invariant.1.0 in
+    let before = c.records.invariant.1.1 in
     let records = ap (λ (k : Counts). k.records) before.2 in
     let asked_for = ap (λ (k : Counts). k.asked_for) before.2 in
     let without_time = ap (λ (k : Counts). k.without_time) before.2 in record {

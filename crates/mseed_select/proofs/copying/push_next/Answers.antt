@@ -1,20 +1,15 @@
-use Rattle.std.proofs.Common.{◌≡◌, ◌∙◌, ℕ, List, length, take, refl, sym, ap, arith, subst}
+use Rattle.std.proofs.Common.{◌≡◌, ◌∙◌, List, ℕ, length, take, sym, ap, arith}
 use Rattle.mseed_record.specs.View.{View}
 use Rattle.mseed_record.specs.Viewing.{view_of}
 use Rattle.mseed_stream.specs.Device.{BytesRead, BytesWritten}
-use Rattle.mseed_select.specs.Selecting.{selection_of}
-use Rattle.mseed_select.specs.Selection.{Selection}
-use Rattle.mseed_select.specs.private.Copying.{AreGathered}
-use Rattle.mseed_stream.proofs.Gathered.{gathered_all, none_left}
-use Rattle.mseed_select.proofs.Copied.{next_err, next_written}
+use Rattle.mseed_stream.proofs.Gathered.{none_left}
+use Rattle.mseed_select.proofs.Copied.{cut_off, held_more, held_on, next_err}
 use Rattle.mseed_select.proofs.copying.push_next.Goals as goal
 
 pub returns-in-Some : goal.returns-in-Some
-returns-in-Some g c = λ views before.
+returns-in-Some g c = λ first views before held.
     let view : View = view_of c.in-Some.view in
     let lent : List ℕ = g.R.Source.lent c.args.input.now in
-    let written : BytesWritten = g.W.Sink.written c.args.output.now in
-    let added : List ℕ = c.push_record.new.bytes.items in
     let is = c.in-Some.ensures.record in
     let same : view.bytes ≡ take (length c.bytes-size.result.now) lent =
     is.1 ∙ ap (λ (xs : List ℕ). take (length xs) lent) (sym c.bytes-size.ensures.value) in
@@ -23,35 +18,32 @@ returns-in-Some g c = λ views before.
       handed = c.pass.ensures.handed views view before is.0 same;
       called = omega (arith, ap (λ (h : BytesRead). h.calls) c.pass.ensures.reported);
       answered = c.in_ok-answer.ensures.answer;
-      bytes = record {
-        bytes = subst (λ (xs : List ℕ). AreGathered written written added xs) c.in_ok-answer.ensures.ok
-            (gathered_all written added);
-        fine = refl;
-      };
+      held = held_more (g.F.Format.texts c.args.format.now) (g.C.Choice.selection c.args.choice.now) _
+          c.args.cutter.now.offset first (g.W.Sink.written c.args.output.now) c.args.text.now.items _ views view
+          before.records (rw c.offset-offset.ensures at c.in_ok-answer.ensures.ok) held;
     }
 
 pub returns-in_err-answer : goal.returns-in_err-answer
-returns-in_err-answer g c = λ views before.
-    let s : Selection = selection_of c.args.selector.now in
-    next_err s c.from_residual.result _ views c.args.cutter.now.offset (g.R.Source.read c.args.input.now)
-    (g.R.Source.read c.args.input.now) c.args.cutter.now
-    (g.W.Sink.written c.args.output.now) c.args.bytes.now.items c.push_record.new.bytes.items before.records
-    c.from_residual.ensures.1 (λ e q. q)
+returns-in_err-answer g c = λ first views before held.
+    next_err (g.F.Format.texts c.args.format.now) (g.C.Choice.selection c.args.choice.now) c.from_residual.result views
+    c.args.cutter.now.offset (g.R.Source.read c.args.input.now) (g.R.Source.read c.args.input.now) c.args.cutter.now
+    first (g.W.Sink.written c.args.output.now) c.args.text.now.items c.push_record.new.text.items
+    c.from_residual.ensures.1 before.records held
 
 pub ask_next-requires-clause-written : goal.ask_next-requires-clause-written
 ask_next-requires-clause-written g c = none_left c.write_beyond.new.text.items c.in-Ok.ensures.most
 
 pub returns-in-Ok : goal.returns-in-Ok
-returns-in-Ok g c = λ views before.
-    let s : Selection = selection_of c.args.selector.now in
-    let rest : List ℕ = c.write_beyond.new.text.items in
-    next_written s c.ask_next.result views c.args.cutter.now.offset (g.R.Source.read c.args.input.now)
-    (g.R.Source.read c.ask_next.new.input) c.ask_next.new.cutter
-    (g.W.Sink.written c.args.output.now) (g.W.Sink.written c.write_beyond.new.sink) c.args.bytes.now.items rest
-    c.ask_next.new.bytes.items
-    c.in-Ok.ensures.ok (none_left rest c.in-Ok.ensures.most)
-    c.in-Ok.ensures.fine (c.ask_next.ensures views before)
+returns-in-Ok g c = λ first views before held.
+    let new : BytesWritten = g.W.Sink.written c.write_beyond.new.sink in
+    c.ask_next.ensures first new views before
+    (held_on (g.F.Format.texts c.args.format.now) (g.C.Choice.selection c.args.choice.now) first
+    (g.W.Sink.written c.args.output.now) new c.args.text.now.items c.write_beyond.new.text.items views held
+    c.in-Ok.ensures.ok c.in-Ok.ensures.fine)
 
 pub returns-in-Err : goal.returns-in-Err
-returns-in-Err g c = λ views before.
-    let cut = c.in-Err.ensures.err in ((cut.failed, (c.in-Err.field-0, (cut.part, cut.text))), before.records)
+returns-in-Err g c = λ first views before held.
+    cut_off (g.F.Format.texts c.args.format.now) (g.C.Choice.selection c.args.choice.now)
+    (g.R.Source.read c.args.input.now) c.args.cutter.now.offset first (g.W.Sink.written c.args.output.now)
+    (g.W.Sink.written c.write_beyond.new.sink) c.args.text.now.items c.in-Err.field-0 views before.records held
+    c.in-Err.ensures.err
