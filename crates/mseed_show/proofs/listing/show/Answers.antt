@@ -3,7 +3,7 @@ use Rattle.mseed_record.specs.View.{View}
 use Rattle.mseed_stream.specs.Device.{BytesRead, BytesWritten}
 use Rattle.mseed_select.specs.Halves.{Placed}
 use Rattle.mseed_show.specs.Show.{IsListed, IsShowFault}
-use Rattle.mseed_show.proofs.Gathered.{asked_all}
+use Rattle.mseed_show.proofs.Listed.{asked_all}
 use Rattle.mseed_show.proofs.listing.show.Goals as goal
 
 pub returns-in-Ok : goal.returns-in-Ok

@@ -1,54 +1,43 @@
-use Rattle.std.proofs.Common.{◌∙◌, ap}
-use Rattle.mseed_select.specs.declared.counts.Counts.{Counts}
-use Rattle.mseed_stream.specs.Device.{BytesWritten}
-use Rattle.mseed_show.specs.declared.fault.ShowFault.TheVariants.{Memory, Write}
-use Rattle.mseed_show.proofs.Gathered.{end_short, listed, memory_short, shown_err}
+use Rattle.std.proofs.Common.{Err}
+use Rattle.mseed_stream.specs.Device.{BytesRead, BytesWritten}
+use Rattle.mseed_select.specs.Formatted.{IsFormatted}
+use Rattle.mseed_select.specs.Selection.{Selection}
+use Rattle.mseed_select.specs.declared.fault.SelectFault.TheVariants as faults
+use Rattle.mseed_show.specs.Show.{EmittedFirst, EmittedPart}
+use Rattle.mseed_show.specs.private.Texts.{listing_texts}
+use Rattle.mseed_show.proofs.Listed.{listed, short}
 use Rattle.mseed_show.proofs.listing.show_selected.Goals as goal
-
-pub returns : goal.returns
-returns g c =
-    let write = c.in-Err.ensures in
-    let gathered = c.in_ok-counts.ensures in record {
-      shown = end_short (g.C.Choice.selection c.args.choice.now) Write c.in_ok-counts.counts c.in_ok-counts.end _
-          (g.W.Sink.written c.args.output.now) _ (g.W.Sink.written c.write_all_of.new.sink) _ _ gathered.0 gathered.1
-          c.in_ok-push_end.ensures.ok (
-            write.failed,
-            (
-              c.in-Err.field-0,
-              (
-                rw c.deref.ensures.value at write.within,
-                rw c.deref.ensures.value at write.err,
-              ),
-            ),
-          );
-    }
-
-pub returns-in_err-push_end : goal.returns-in_err-push_end
-returns-in_err-push_end g c =
-    let gathered = c.in_ok-counts.ensures in
-    let first : BytesWritten = g.W.Sink.written c.args.output.now in
-    let new : BytesWritten = g.W.Sink.written c.list.new.output in
-    let ends = memory_short
-    (g.C.Choice.selection c.args.choice.now) c.in_ok-counts.counts c.in_ok-counts.end _ first new _ gathered.0
-    gathered.1 in record {
-      shown = shown_err (g.C.Choice.selection c.args.choice.now) c.from_residual-in_err-push_end.result _ Memory _
-          first new
-          c.from_residual-in_err-push_end.ensures.1 (λ e q. q ∙ c.in_err-push_end.ensures.err) ends;
-    }
 
 pub returns-in-Ok : goal.returns-in-Ok
 returns-in-Ok g c =
-    let gathered = c.in_ok-counts.ensures in
-    let first : BytesWritten = g.W.Sink.written c.args.output.now in
-    let old : BytesWritten = g.W.Sink.written c.list.new.output in
-    let new : BytesWritten = g.W.Sink.written c.write_all_of.new.sink in record {
+    let w = c.in-Ok.ensures.written in record {
       shown = (
-        gathered.0,
+        w.0,
         (
-          listed (g.C.Choice.selection c.args.choice.now) c.in_ok-counts.counts c.in_ok-counts.end _ first old new _ _
-              gathered.0 gathered.1
-              c.in_ok-push_end.ensures.ok (rw c.deref.ensures.value at c.in-Ok.ensures.ok) c.in-Ok.ensures.fine,
-          ap (λ (k : Counts). k.without_time) gathered.1.counted,
+          listed (g.C.Choice.selection c.args.choice.now) c.in-Ok.found _ _ _ w.0 w.1,
+          w.1.is_found.counted.without_time,
         ),
       );
+    }
+
+pub returns-in-Err-Write : goal.returns-in-Err-Write
+returns-in-Err-Write g c =
+    let s : Selection = g.C.Choice.selection c.args.choice.now in
+    let read : BytesRead = g.R.Source.read c.write_selected.new.input in
+    let old : BytesWritten = g.W.Sink.written c.args.output.now in
+    let new : BytesWritten = g.W.Sink.written c.write_selected.new.output in
+    let w : IsFormatted listing_texts s (Err faults.Write) read old new =
+    rw c.in-Err-Write.field-0-is at c.in-Err-Write.ensures.written in record {
+      shown = (w.0, short (EmittedPart old new) s read w.1);
+    }
+
+pub returns-in-Err-Memory : goal.returns-in-Err-Memory
+returns-in-Err-Memory g c =
+    let s : Selection = g.C.Choice.selection c.args.choice.now in
+    let read : BytesRead = g.R.Source.read c.write_selected.new.input in
+    let old : BytesWritten = g.W.Sink.written c.args.output.now in
+    let new : BytesWritten = g.W.Sink.written c.write_selected.new.output in
+    let w : IsFormatted listing_texts s (Err faults.Memory) read old new =
+    rw c.in-Err-Memory.field-0-is at c.in-Err-Memory.ensures.written in record {
+      shown = (w.0, short (EmittedFirst old new) s read w.1);
     }
