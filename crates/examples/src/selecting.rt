@@ -4,12 +4,12 @@ ghost use Rattle.mseed_stream.specs.Device.{nothing_read};
 
 use mseed_record::RecordView;
 use mseed_select::{
-    Answer, BadTime, BadWindow, Choice, Counts, Patterns, SelectFault, Selected, Selector,
-    read_time, select,
+    All, Answer, BadTime, BadWindow, Choice, Counts, Format, Patterns, SelectFault, Selected,
+    Selector, read_time, select, write_selected,
 };
 use mseed_stream::{Counted, Sink, Source};
 use mseed_time::Micros;
-use std::alloc::Global;
+use std::alloc::{AllocError, Global};
 
 /// Whether a text is patterns of channels, such as `XX_STA__BH?,IU_ANMO_00_*`.
 pub fn are_patterns(text: &[u8]) -> bool {
@@ -61,4 +61,35 @@ pub fn without_time<R: Source, W: Sink>(
 {
     let selected: Selected = select(alloc, selector, source, sink)?;
     Ok(selected.without_time)
+}
+
+/// Writes all records of a source in a format, and answers how many there were.
+pub fn written_in<F: Format<Global>, R: Source, W: Sink>(
+    alloc: Global,
+    format: &F,
+    source: &mut R,
+    sink: &mut W,
+) -> Result<u64, SelectFault>
+    requires { R.read source.old ≡ nothing_read }
+{
+    let selected = write_selected(alloc, &All, format, source, sink)?;
+    Ok(selected.written)
+}
+
+/// What a format writes of an archive of one record.
+pub fn text_of_one<F: Format<Global>>(
+    alloc: Global,
+    format: &F,
+    view: &RecordView,
+) -> Result<Vec<u8>, AllocError> {
+    let mut text = Vec::new(alloc);
+    format.push_record(0, view, &mut text)?;
+    let found = Selected {
+        records: 1,
+        written: 1,
+        without_time: 0,
+        end: None,
+    };
+    format.push_end(&found, &mut text)?;
+    Ok(text)
 }
