@@ -65,7 +65,7 @@ all_after s (w ∷ ws) ds h run more =
     rw (found, later, joined) (sym (append_assoc (map Ok first) (map Ok rest) (items_of s more)))
 
 pub prefix_words : (before after : List DataWord) → AllByRecursion IsWord (before ++ after)
-  → AllByRecursion IsWord before
+    → AllByRecursion IsWord before
 prefix_words [] after h = tt
 prefix_words (w ∷ ws) after h = (h.0, prefix_words ws after h.1)
 
