@@ -110,12 +110,14 @@ def whole(folder: Path) -> Cases:
 
 
 def kills(folder: Path) -> Cases:
-    """Runs that are killed at random moments, by what they have written or by time, and go on."""
+    """Runs that are killed at random moments, by what they have written or by time, and go on. What a run writes before
+    it is killed is random from where it began, so that each gets further, on a fast machine too."""
     source, records = Random(SEED), [record_of(STA, index) for index in range(100000)]
     archive, out = b"".join(records), folder / "killed"
     server = Server(archive, [STA], "--capacity", len(records), "--connections", 1000000)
     given, ends, sizes = words(out, server.port, [STA]), [], []
-    for moment in sorted(source.randrange(len(archive)) for _ in range(KILLS)):
+    for _ in range(KILLS):
+        moment = size_of(out) + source.randrange(1, len(archive) // KILLS)
         run = started(given)
         if source.random() < 0.4:
             time.sleep(source.random() * 0.2)
@@ -128,7 +130,7 @@ def kills(folder: Path) -> Cases:
                     archive.startswith(out.read_bytes() if out.exists() else b""), sizes[-1])
     yield holds("runs were killed", ends.count(-signal.SIGKILL) > KILLS // 2, ends)
     within = {size for size in sizes if 0 < size < len(archive)}
-    yield holds("they were killed here and there", len(within) > KILLS // 3, sizes)
+    yield holds("they were killed here and there", len(within) > KILLS // 5, sizes)
     yield Fact("a run that was killed is gone on with", (0, [], ""), outcome(tool("fetch_on", *given)))
     yield holds("the same bytes are held", out.read_bytes() == archive, size_of(out))
     yield holds("serve goes on", server.is_going())
