@@ -85,7 +85,7 @@ def pack(trace: Trace, *, length: int = 512, encoding: str = "steim2", sequence:
     if leap is not None and leap[1] not in (1, -1):
         raise ValueError("a leap second is 1 or -1")
     if leap is not None and not 0 < leap[0] <= len(trace.samples):
-        raise ValueError("a leap second stands behind some of the samples")
+        raise ValueError(f"a leap second has 1 to {len(trace.samples)} samples before it, not {leap[0]}")
     if not 0 <= whole("sequence", sequence) <= 999_999:
         raise ValueError("a sequence number is 0 to 999,999")
     if trace.start_ns % 1000:

@@ -49,7 +49,7 @@ def select(archive: Archive, *, channels: Union[str, Iterable[str], None] = None
     if code == BAD_TIME:
         raise ValueError("a time is in the years 1800 to 2199")
     if code == BAD_WINDOW:
-        raise ValueError("the end isn't behind the start")
+        raise ValueError("the end isn't after the start")
     if code != OK:
         why = fault_of(code, found.needed, len(data) - found.offset) if code in WORDS else "unknown"
         raise RecordError(found.records + 1, found.offset, why)

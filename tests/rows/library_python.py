@@ -60,7 +60,7 @@ True True
 no patterns of channels: XX_STA_BHZ
 no patterns of channels: there is none
 no time: 2024-02-30
-the end isn't behind the start
+the end isn't after the start
 2 True truncated
 [('XX.STA..BHZ', '2024-01-01T00:00:00.800000+00:00', 16, 1)] 0
 3 True
@@ -101,7 +101,7 @@ for change in ({"length": 100}, {"encoding": "steim3"}, {"sequence": 10**6}, {"l
     try:
         mseed.pack(made, **change)
     except ValueError as error:
-        print(type(error).__name__)
+        print(error)
 for samples, encoding in (([], "int32"), ([0, 40000], "int16"), ([0, 2**30], "steim2")):
     far = mseed.make(samples, network="XX", station="STA", channel="BHZ", start_ns=0, rate=1)
     try:
@@ -130,10 +130,10 @@ mseed part 1
 57 28672 truncated 312
 XX.STA..BHZ 1 -10 0.1 20000000000
 128 XX.STA..BHZ 1000000000000000000 [1, 2, 3] True
-ValueError
-ValueError
-ValueError
-ValueError
+no record has 100 bytes
+no encoding steim3: it is one of int16, int32, steim1, steim2
+a sequence number is 0 to 999,999
+a leap second has 1 to 3 samples before it, not 4
 does not fit 1 None
 does not fit 4 1
 does not fit 5 1

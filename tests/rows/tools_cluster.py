@@ -127,7 +127,7 @@ def killed(cluster: Cluster, sound: Path, files: Sequence[Path], state: Path) ->
     came = cluster.run(*words, env={"KILLED": "1"})
     made = made_in(parts)
     yield holds("a task that was killed is reported",
-                came.status == 2 and not came.out and b"parts lack" in came.err, came)
+                came.status == 2 and not came.out and b"parts are missing" in came.err, came)
     yield holds("some parts were made", 5 < len(made) < len(files), len(made))
     wanted = program(["audit"], b"".join(path.read_bytes() for path in files))
     yield Fact("the run started anew", wanted, cluster.run(*words))
@@ -205,7 +205,7 @@ def killed_and_unread(cluster: Cluster, files: Sequence[Path]) -> Cases:
     came = cluster.run(*words, env={"KILLED": "2"})
     lack = len(paths) - len(made_in(parts))
     yield holds(f"{name}: a task that was killed, and a file that can't be read",
-                lack and came.status == 2 and not came.out and f"{name}: {lack} parts lack".encode() in came.err, came)
+                lack and came.status == 2 and not came.out and f"{name}: {lack} parts are missing".encode() in came.err, came)
     wanted = program(["join", "--past-faults"], parts_of(paths))
     yield Fact(f"{name}: the run started anew says of the file", wanted, cluster.run(*words))
     yield holds(f"{name}: it says which part that is",
@@ -329,7 +329,7 @@ os.execv({str(PROGRAM)!r}, [{str(PROGRAM)!r}, *sys.argv[1:]])
     words = ["-j", "2", "--parts", str(parts), "--list", str(listed)]
     came = cluster.run(*words, env={"MSEED": str(path)})
     yield holds("Dask: workers that were killed", came.status == 2 and not came.out
-                and re.fullmatch(rb"dask_audit: \d+ parts lack: Dask: .*killed.*; \S+/dask.log says more\n", came.err),
+                and re.fullmatch(rb"dask_audit: \d+ parts are missing: Dask: .*killed.*; \S+/dask.log says more\n", came.err),
                 came)
     yield holds("Dask: what it reports is beside the parts", (parts / "dask.log").stat().st_size > 0)
     wanted = program(["join", "--past-faults"], parts_of([*files, bad]))

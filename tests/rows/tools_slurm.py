@@ -84,7 +84,7 @@ def of_killed(cluster: Cluster, sound: Path, wanted: Result) -> Cases:
     made = made_in(parts)
     # The other task has made its five parts, or has been stopped too: not all are there.
     yield holds("Slurm: a task that was killed is reported",
-                came.status == 2 and not came.out and b"parts lack" in came.err, came)
+                came.status == 2 and not came.out and b"parts are missing" in came.err, came)
     yield holds("Slurm: some parts were made", BEGUN - 1 <= len(made) < 10, len(made))
     slow.held.unlink()
     before = len(slow.requested())

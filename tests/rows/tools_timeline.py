@@ -141,6 +141,8 @@ def windows(folder: Path) -> Cases:
     for given in (["--from", "2017-01-02", "--until", "2017-002"], ["--from", "yesterday"], ["--until", "2017-1-2"],
                   ["--from", "2017-02-30"], ["--from", "2017-366"], ["--from", "2017-01-02T24"], ["--until", ""]):
         yield Fact(f"timeline {' '.join(given)}", 3, tool("timeline", *given, root).status)
+    yield Fact("timeline: why no window", b"timeline: --until is not after --from\n",
+               tool("timeline", "--from", "2017-01-02", "--until", "2017-002", root).err)
 
 
 def short(minutes: int = 34, days: int = 31) -> Cases:
