@@ -25,8 +25,8 @@ class _Parser(argparse.ArgumentParser):
         sys.exit(BAD_WORDS)
 
 
-def _given(words: Optional[List[str]]) -> argparse.Namespace:
-    """What the words ask for."""
+def _given(arguments: Optional[List[str]]) -> argparse.Namespace:
+    """What the arguments ask for."""
     parser = _Parser(prog=NAME, description=__doc__, epilog="statuses: 0; 1, some channel is broken, or some record "
                      "can't be read; 2, a fault, or a file that can't be read or written; 3, a bad command line")
     commands = parser.add_subparsers(dest="command", required=True)
@@ -39,12 +39,12 @@ def _given(words: Optional[List[str]]) -> argparse.Namespace:
                        help="writes the archive's part, which `mseed join` reads")
     lister = commands.add_parser("read", help="lists the traces of an archive, and on standard error what is skipped")
     lister.add_argument("file", metavar="FILE")
-    return parser.parse_args(words)
+    return parser.parse_args(arguments)
 
 
-def main(words: Optional[List[str]] = None) -> int:
+def main(arguments: Optional[List[str]] = None) -> int:
     """Carries out a command line, and returns the status."""
-    given = _given(words)
+    given = _given(arguments)
     if given.command == "audit":
         text, status, _ = audited(given.call, bytes_of(given.file))
         sys.stdout.write(text)

@@ -88,7 +88,7 @@ class Cutter:
         cut, at = Cut(self.offset, [], 0, self.count), 0
         while True:
             if self._open is not None:
-                at, is_framed = self._framed_behind(data, at, is_last, self._open.offset - cut.base)
+                at, is_framed = self._framed_after(data, at, is_last, self._open.offset - cut.base)
                 if not is_framed and not is_last:
                     break
                 self._open.length = cut.base + at - self._open.offset
@@ -113,7 +113,7 @@ class Cutter:
             self.count, at = self.count + self._progress.rows, self._progress.offset
         return code, at
 
-    def _framed_behind(self, data: bytes, at: int, is_last: bool, fault: int) -> Tuple[int, bool]:
+    def _framed_after(self, data: bytes, at: int, is_last: bool, fault: int) -> Tuple[int, bool]:
         """Where a record is framed next, from a place on but after that of a fault, and whether one is; else up to
         where none is."""
         place, size, one = at + -(self.offset + at) % STEP, FEW, (Row * 1)()
@@ -186,8 +186,8 @@ class Window:
         """The rows as runs."""
         firsts = self._changes
         if self.found:
-            behind = {index + 1 for index in self.found if self.is_left_out(index) and index + 1 < self.count}
-            firsts = sorted({*firsts, *self.found, *behind})
+            after = {index + 1 for index in self.found if self.is_left_out(index) and index + 1 < self.count}
+            firsts = sorted({*firsts, *self.found, *after})
         places = [*self._firsts_at(firsts), self.samples]
         sizes = [end - begin for begin, end in zip(places, places[1:])]
         return Runs(firsts, [*firsts[1:], self.count], places, sizes, self._keys_at(firsts))

@@ -1,4 +1,4 @@
-"""Gaps and overlaps, with the samples before and behind them."""
+"""Gaps and overlaps, with the samples before and after them."""
 
 from __future__ import annotations
 

@@ -1,4 +1,4 @@
-"""What the commands share: their words, and how they end."""
+"""What the commands share: their arguments, and how they end."""
 
 from __future__ import annotations
 
@@ -11,7 +11,7 @@ from typing import Any, Callable, NoReturn, Optional, Sequence
 from mseed_tools.program import ToolError
 from mseed_tools.texts import instant_in
 
-FAULT, BAD_WORDS = 2, 3
+FAULT, BAD_ARGUMENTS = 2, 3
 
 
 def a_count(word: str, most: int = 1024) -> int:
@@ -38,13 +38,13 @@ class Parser(argparse.ArgumentParser):
 
     def parse_args(self, args: Optional[Sequence[str]] = None,  # type: ignore[override]
                    namespace: Any = None) -> argparse.Namespace:
-        """The words, in whatever order options and others stand."""
+        """The arguments, in whatever order options and others stand."""
         return self.parse_intermixed_args(args, namespace)
 
     def error(self, message: str) -> NoReturn:
-        """Words that mean nothing."""
+        """Arguments that mean nothing."""
         print(f"{self.prog}: {message}", file=sys.stderr)
-        sys.exit(BAD_WORDS)
+        sys.exit(BAD_ARGUMENTS)
 
     def add_tree_options(self) -> None:
         """The options of tools that read a tree."""
@@ -60,7 +60,7 @@ def write(text: str) -> None:
 
 
 def run(main: Callable[[], int]) -> int:
-    """Runs a command, and tells what it can't go on after."""
+    """Runs a command, and reports what it can't go on after."""
     # Whoever reads the output may have enough, and whoever waits may not.
     if signal.getsignal(signal.SIGINT) != signal.SIG_IGN:
         signal.signal(signal.SIGINT, signal.SIG_DFL)

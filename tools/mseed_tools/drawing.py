@@ -12,7 +12,7 @@ from mseed_tools.stretches import Mark, Row
 from mseed_tools.texts import EPOCH, SECOND, time_of
 
 WIDTH, ROW, BAR, HEAD, EDGE = 1120, 18, 10, 74, 18
-# Behind so many rows the words of the axis come again, in a row of their own.
+# After so many rows the labels of the axis come again, in a row of their own.
 RUN = 40
 # Letters of the names and of the title are so wide.
 LETTER, BOLD = 7.0, 8.5
@@ -20,7 +20,7 @@ LETTER, BOLD = 7.0, 8.5
 MARKS = {"gap": (0.0, BAR, 4.0), "overlap": (-4.0, 8.0, 6.0), "finding": (BAR - 6.0, 9.0, 4.0)}
 ZOOM = "narrow marks are drawn wider; zoom by --from and --until"
 DAY = 86400
-# How far apart ticks may stand, in seconds, and behind these in months.
+# How far apart ticks may stand, in seconds, and above these in months.
 STEPS = [1, 2, 5, 10, 30, 60, 120, 300, 600, 1800, 3600, 7200, 10800, 21600, 43200, DAY, 2 * DAY, 5 * DAY, 10 * DAY]
 MONTHS = [1, 3, 6, 12, 24, 60, 120, 240, 600]
 COLOURS = {"continuous": "#2f7d4f", "broken": "#4a78a8", "undecoded": "#9a9a9a", "gap": "#d03a2b",
@@ -60,7 +60,7 @@ def month_after(day: datetime.datetime, months: int) -> Optional[datetime.dateti
 
 
 def ticks(begin: int, end: int, most: int) -> list[tuple[int, str]]:
-    """Instants between two, at most about so many, at round times, each with its words."""
+    """Instants between two, at most about so many, at round times, each with its label."""
     length = (end - begin) / SECOND
     step = next((step for step in STEPS if length / step <= most), None)
     if step is not None:
@@ -79,7 +79,7 @@ def ticks(begin: int, end: int, most: int) -> list[tuple[int, str]]:
 
 
 def words_of(instant: int, step: int) -> str:
-    """A tick's words: the day where the tick stands at midnight, else the time."""
+    """A tick's label: the day where the tick stands at midnight, else the time."""
     time = time_of(instant)
     if instant % (DAY * SECOND) == 0:
         return time[:10]
@@ -102,7 +102,7 @@ def merged(spans: Sequence[tuple[float, float]], closer: float) -> Iterator[tupl
 
 
 def box(kind: str, left: float, top: float, width: float, height: float, text: str, count: int) -> str:
-    """A rectangle with its words, that are shown where somebody points at it."""
+    """A rectangle with a text that is shown where somebody points at it."""
     return (f'<rect class="{kind}" data-count="{count}" x="{left:.2f}" y="{top:.2f}" width="{width:.2f}" '
             f'height="{height:.2f}" fill="{COLOURS[kind]}"><title>{escape(text)}</title></rect>')
 
@@ -149,10 +149,10 @@ def wide(left: float, right: float, least: float) -> tuple[float, float]:
 
 def legend(left: float, top: float) -> Iterator[str]:
     """What the colours mean."""
-    for kind, words in LEGEND:
+    for kind, text in LEGEND:
         yield f'<rect x="{left:.1f}" y="{top - 9:.1f}" width="12" height="10" fill="{COLOURS[kind]}"/>'
-        yield f'<text class="legend" x="{left + 17:.1f}" y="{top:.1f}">{words}</text>'
-        left += 17 + LETTER * len(words) + 24
+        yield f'<text class="legend" x="{left + 17:.1f}" y="{top:.1f}">{text}</text>'
+        left += 17 + LETTER * len(text) + 24
 
 
 def top_of(number: int) -> int:
@@ -161,18 +161,18 @@ def top_of(number: int) -> int:
 
 
 def axis(scale: Scale, count: int) -> Iterator[str]:
-    """The ticks of so many rows, with their words above each run of rows and, where there are some, below the last."""
+    """The ticks of so many rows, with their labels above each run of rows and, where there are some, below the last."""
     heads = [top_of(number) for number in range(0, max(count, 1), RUN)]
     bottom = top_of(count - 1) + ROW if count else HEAD
     below = [bottom + ROW] if count > RUN else []
-    for instant, words in ticks(scale.begin, scale.end, int((scale.right - scale.left) / 90)):
+    for instant, label in ticks(scale.begin, scale.end, int((scale.right - scale.left) / 90)):
         at = scale.at(instant)
         yield f'<line class="grid" x1="{at:.2f}" x2="{at:.2f}" y1="{HEAD}" y2="{bottom}"/>'
         # Words at the right edge stay within the drawing.
-        place = min(at, WIDTH - 4 - LETTER * len(words) / 2)
+        place = min(at, WIDTH - 4 - LETTER * len(label) / 2)
         for number, top in enumerate([*heads, *below]):
             kind = "tick again" if number else "tick"
-            yield f'<text class="{kind}" x="{place:.2f}" y="{top - 5}" text-anchor="middle">{words}</text>'
+            yield f'<text class="{kind}" x="{place:.2f}" y="{top - 5}" text-anchor="middle">{label}</text>'
 
 
 def scale_of(rows: Sequence[Row], left: float, window: Window) -> Scale:

@@ -9,7 +9,7 @@ import subprocess
 import time
 from typing import NamedTuple, Optional, Sequence
 
-from mseed_tools.command import BAD_WORDS
+from mseed_tools.command import BAD_ARGUMENTS
 from mseed_tools.held import LENGTH, Held
 from mseed_tools.program import Program, ToolError
 
@@ -24,14 +24,14 @@ REFUSALS = 10
 
 
 class Wanted(NamedTuple):
-    """What is requested: the words of the link, the places, and where a place begins of which nothing is held."""
+    """What is requested: the options of the link, the places, and where a place begins of which nothing is held."""
 
     link: list[str]
     places: list[str]
     begin: dict[str, str]
 
-    def words(self, held: Held) -> list[str]:
-        """The words of a run that goes on behind what is held."""
+    def arguments(self, held: Held) -> list[str]:
+        """The arguments of a run that goes on after what is held."""
         return ["fetch", "--tell-next", *self.link, *self.next(held)]
 
     def next(self, held: Held) -> list[str]:
@@ -56,15 +56,15 @@ class Ended(NamedTuple):
 
 
 class Run:
-    """One run. What it tells on standard error it tells before the records that this is about."""
+    """One run. What it reports on standard error it reports before the records that this is about."""
 
-    def __init__(self, program: Program, words: Sequence[str], held: Held):
+    def __init__(self, program: Program, arguments: Sequence[str], held: Held):
         self.held, self.text, self.rest, self.is_new = held, "", b"", False
         self.reported: list[str] = []
         self.next: Optional[dict[str, Optional[int]]] = None
         try:
-            self.process = subprocess.Popen([program.path, *words], stdin=subprocess.DEVNULL, stdout=subprocess.PIPE,
-                                            stderr=subprocess.PIPE, bufsize=0)
+            self.process = subprocess.Popen([program.path, *arguments], stdin=subprocess.DEVNULL,
+                                            stdout=subprocess.PIPE, stderr=subprocess.PIPE, bufsize=0)
         except OSError as error:
             raise ToolError(f"{program.path}: {error.strerror}") from error
         out, err = self.process.stdout, self.process.stderr
@@ -126,7 +126,7 @@ class Run:
             self.reported.append(line)
 
     def take(self, content: bytes) -> None:
-        """Appends what is whole, behind its numbers."""
+        """Appends what is whole, after its numbers."""
         content = self.rest + content
         whole = len(content) // LENGTH * LENGTH
         self.rest = content[whole:]
@@ -149,12 +149,12 @@ def fetched(program: Program, wanted: Wanted, held: Held, tries: int) -> Ended:
     have brought nothing. Gives how the last run ended."""
     failed = refused = 0
     while True:
-        run = Run(program, wanted.words(held), held).ended()
+        run = Run(program, wanted.arguments(held), held).ended()
         if run.is_new:
             failed = refused = 0
         failed += 1
         refused = refused + 1 if run.reported == "mseed: refused" else 0
-        is_over = run.status in (0, BAD_WORDS) or run.reported == "mseed: bad feed"
+        is_over = run.status in (0, BAD_ARGUMENTS) or run.reported == "mseed: bad feed"
         if is_over or failed >= tries or refused >= REFUSALS:
             return run
         time.sleep(min(LONGEST, SHORTEST * 2 ** min(failed - 1, 16)))

@@ -59,7 +59,7 @@ class Jobs:
                 raise ToolError(f"{error}; {self.cancelled()}") from error
 
     def stop(self, number: int, _: object) -> None:
-        """Ends the run; while a job is submitted, behind that, so that its number is known. Who asks twice waits for
+        """Ends the run; while a job is submitted, after that, so that its number is known. Who asks twice waits for
         nothing."""
         is_first, self.signal = self.signal is None, number
         if not self.is_submitting or not is_first:
@@ -70,12 +70,12 @@ class Jobs:
         if self.signal is not None:
             raise ToolError(f"stopped by {signal.Signals(self.signal).name}")
 
-    def submit(self, more: Sequence[str], words: Sequence[str]) -> Job:
-        """Submits a job that runs the tool with some words. Raises ToolError where `sbatch` refuses."""
-        command = " ".join(shlex.quote(word) for word in [sys.executable, self.tool, *words])
+    def submit(self, more: Sequence[str], arguments: Sequence[str]) -> Job:
+        """Submits a job that runs the tool with some arguments. Raises ToolError where `sbatch` refuses."""
+        command = " ".join(shlex.quote(word) for word in [sys.executable, self.tool, *arguments])
         call = ["sbatch", "--parsable", *self.options, *more, "--wrap", f"exec {command}"]
         self.is_submitting = True
-        # What is written to a terminal is written at once: behind the number `sbatch --wait` waits.
+        # What is written to a terminal is written at once: after the number `sbatch --wait` waits.
         out, far = os.openpty()
         err = scratch()
         try:
@@ -128,9 +128,9 @@ def number_in(terminal: int) -> Optional[re.Match[str]]:
                 return found
 
 
-def watch(job: Job, parts: Sequence[Part], lacking: Sequence[Part]) -> None:
+def watch(job: Job, parts: Sequence[Part], missing: Sequence[Part]) -> None:
     """Waits for a job, and shows how far the parts are, on a terminal."""
-    sizes = {os.path.basename(part.path): part.size() for part in lacking}
+    sizes = {os.path.basename(part.path): part.size() for part in missing}
     bar = Bar(sum(part.size() for part in parts))
     bar.add(bar.total - sum(sizes.values()), is_new=False)
     try:

@@ -1,4 +1,4 @@
-"""Readings that are joined: what stands in each channel over files one behind another."""
+"""Readings that are joined: what stands in each channel over files one after another."""
 
 from __future__ import annotations
 
@@ -68,7 +68,7 @@ class Border(NamedTuple):
 
 
 class Files:
-    """Files with what was read of them, one behind another, whose records are listed when they are wanted."""
+    """Files with what was read of them, one after another, whose records are listed when they are wanted."""
 
     def __init__(self, program: Program, paths: Sequence[str], readings: Sequence[Reading]):
         self.program, self.paths, self.readings = program, paths, readings
@@ -110,7 +110,7 @@ class Files:
 
 
 def joined_by(program: Program, parts: Sequence[bytes], is_part: bool = False) -> Done:
-    """What the program says of parts, one behind another, of which it expects as many as there are; or their joint
+    """What the program says of parts, one after another, of which it expects as many as there are; or their joint
     part. Raises ToolError where that isn't there."""
     done = program.run(["join", *["--part"] * is_part, "--past-faults", *expecting(len(parts))], b"".join(parts))
     if is_part and not done.out.startswith(BEGIN):
@@ -119,7 +119,7 @@ def joined_by(program: Program, parts: Sequence[bytes], is_part: bool = False) -
 
 
 def expecting(count: int) -> list[str]:
-    """The words by which a join says so where it reads not so many parts; none for no part, which it can't expect."""
+    """The options by which a join refuses another number of parts than this; none for no part, which it can't expect."""
     return ["--expect", str(count)] if count else []
 
 
@@ -156,15 +156,15 @@ def met(pieces: Sequence[Piece]) -> list[Border]:
 def found_between(program: Program, borders: Sequence[Border]) -> list[FoundAt]:
     """The findings at borders, each in its file. The program judges all in one run: each is a channel of its own, whose
     two sides are the records of two parts."""
-    before, behind = [], []
+    before, after = [], []
     for number, border in enumerate(borders):
         start, rate = border.head["start"], border.head["rate"]
         begins = f"{number:024X} records 1 samples 1 head 1 0 {start} {rate}"
         before.append(f"{begins} tail {border.tail} findings 0\n")
-        behind.append(f"{begins} tail {start} 1 {rate} none findings 0\n")
+        after.append(f"{begins} tail {start} 1 {rate} none findings 0\n")
     counts = f"records {len(borders)} bytes 0\n"
     done = program.run(["join", *expecting(2)],
-                       "".join([BEGIN, *before, counts, BEGIN, *behind, counts]).encode("ascii"))
+                       "".join([BEGIN, *before, counts, BEGIN, *after, counts]).encode("ascii"))
     judged = done.out.splitlines()[:-1]
     if len(judged) != len(borders):
         raise ToolError(f"{program.path} join: status {done.status}, {done.err[-200:].strip()}")

@@ -44,8 +44,8 @@ class Part(NamedTuple):
 
 
 def sources_in(paths: Sequence[str], lists: Sequence[str]) -> list[str]:
-    """The files that words name: files, the trees of folders, and files that list others, a line each. Folders of a
-    tree that can't be read come behind its files, as files that can't be."""
+    """The files that arguments name: files, the trees of folders, and files that list others, a line each. Folders of a
+    tree that can't be read come after its files, as files that can't be."""
     sources = []
     for path in paths:
         if os.path.isdir(path):
@@ -104,11 +104,11 @@ def prepared(folder: str, sources: Sequence[str], program: Program) -> list[Part
         if kind.startswith("part") and not (kind == "part" and number.isdigit() and int(number) in kept):
             os.unlink(os.path.join(folder, name))
     write_whole(os.path.join(folder, LIST), json.dumps({"program": identity, "files": listed}).encode("ascii"))
-    lacking = [part for part in parts_of(folder) if not part.is_made()]
-    for part in lacking:
+    missing = [part for part in parts_of(folder) if not part.is_made()]
+    for part in missing:
         with contextlib.suppress(FileNotFoundError):
             os.unlink(part.path)
-    return lacking
+    return missing
 
 
 @contextlib.contextmanager
@@ -142,7 +142,7 @@ def run_of(parts: Sequence[Part], number: int, count: int) -> Sequence[Part]:
 
 
 def joined(program: Program, parts: Sequence[Part], is_part: bool = False) -> Done:
-    """What the program says of all parts, one behind another. Raises ToolError where one wasn't made."""
+    """What the program says of all parts, one after another. Raises ToolError where one wasn't made."""
     texts = [part.text() for part in parts]
     for part, text in zip(parts, texts):
         if not text:

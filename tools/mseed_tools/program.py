@@ -52,7 +52,7 @@ class Program:
         self.path = path
         self.own = threading.local()
 
-    def run(self, words: Sequence[str], source: Union[int, bytes] = b"") -> Done:
+    def run(self, arguments: Sequence[str], source: Union[int, bytes] = b"") -> Done:
         """One run over these bytes, or from where a descriptor stands. Raises ToolError where it was killed or its
         memory or output failed."""
         if not hasattr(self.own, "files"):
@@ -64,7 +64,7 @@ class Program:
         descriptors = [source if isinstance(source, int) else given.fileno(), out.fileno(), err.fileno()]
         actions = [(os.POSIX_SPAWN_DUP2, descriptor, number) for number, descriptor in enumerate(descriptors)]
         try:
-            process = os.posix_spawn(self.path, [self.path, *words], os.environ, file_actions=actions)
+            process = os.posix_spawn(self.path, [self.path, *arguments], os.environ, file_actions=actions)
         except OSError as error:
             raise ToolError(f"{self.path}: {error.strerror}") from error
         status = os.waitstatus_to_exitcode(os.waitpid(process, 0)[1])
@@ -75,7 +75,7 @@ class Program:
         done = Done(status, *texts)
         if status < 0 or status > 2 or done.err in ("mseed: no memory\n", "mseed: write failed\n"):
             first, _, _ = done.err.strip().partition("\n")
-            raise ToolError(f"{self.path} {' '.join(words)}: status {status}, {first}")
+            raise ToolError(f"{self.path} {' '.join(arguments)}: status {status}, {first}")
         return done
 
     def identity(self) -> str:

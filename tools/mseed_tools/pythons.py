@@ -1,4 +1,4 @@
-"""A package that this Python may lack, where another one has it."""
+"""A package that this Python may not have, where another one has it."""
 
 from __future__ import annotations
 
@@ -17,7 +17,7 @@ NAME = re.compile(r"python3?|python3\.\d+")
 DEBIAN = "/usr/bin/python3"
 # Set for a Python that was found, so that none is looked for in turn.
 FOUND = "MSEED_TOOLS_PYTHON"
-# The folder of the words that are run counts for nothing: what lies there is no package.
+# The folder of the program that is run counts for nothing: what lies there is no package.
 PROBE = "import sys; sys.path.pop(0); assert sys.version_info >= (3, 9); import "
 LIMIT = 60
 
@@ -44,7 +44,7 @@ def has(python: str, package: str) -> bool:
 @contextlib.contextmanager
 def aside(path: str) -> Iterator[None]:
     """Lets what a package writes on standard error, here and in the processes that it starts, go into a file, from here
-    on up to the end of this process; behind the block, what this program writes there goes where it did."""
+    on up to the end of this process; after the block, what this program writes there goes where it did."""
     own = os.dup(sys.stderr.fileno())
     file = os.open(path, os.O_WRONLY | os.O_CREAT | os.O_TRUNC | os.O_APPEND, 0o666)
     os.dup2(file, 2)
@@ -58,7 +58,7 @@ def aside(path: str) -> Iterator[None]:
 
 
 def go_on_with(package: str, wanted: str) -> None:
-    """Goes on where this Python has a package; else runs the same words by one that has it. Raises ToolError where
+    """Goes on where this Python has a package; else runs the same command by one that has it. Raises ToolError where
     there is none, and names those that were asked."""
     with contextlib.suppress(ImportError), aside(os.devnull):
         importlib.import_module(package)

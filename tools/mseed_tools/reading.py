@@ -78,9 +78,9 @@ def may_begin(chunk: bytes, at: int) -> bool:
         and all(byte in NUMBERS for byte in chunk[at : at + 6])
 
 
-def next_candidate(file: int, behind: int, size: int) -> int:
+def next_candidate(file: int, after: int, size: int) -> int:
     """The next multiple of 64 bytes where a record may begin; the file's end where there is none."""
-    at = (behind // STEP + 1) * STEP
+    at = (after // STEP + 1) * STEP
     while at + 8 <= size:
         chunk = os.pread(file, CHUNK, at)
         for place in range(0, len(chunk) - 7, STEP):
@@ -93,7 +93,7 @@ def next_candidate(file: int, behind: int, size: int) -> int:
 
 
 def read_pieces(program: Program, file: int, size: int) -> tuple[list[Piece], list[Fault]]:
-    """Reads a file from its beginning, and on behind what is no record."""
+    """Reads a file from its beginning, and on after what is no record."""
     pieces: list[Piece] = []
     faults: list[Fault] = []
     at = 0
@@ -101,18 +101,18 @@ def read_pieces(program: Program, file: int, size: int) -> tuple[list[Piece], li
     while ended is None or at < size:
         os.lseek(file, at, os.SEEK_SET)
         piece = piece_of(at, *parted(program.run(["audit", "--part", "--each"], file).out))
-        behind = at
+        after = at
         if ended is None or piece.part.records:
             if ended is not None:
                 faults.append(Fault(*ended, at - ended[0]))
             pieces.append(piece)
-            behind = at + piece.part.bytes
+            after = at + piece.part.bytes
             if piece.part.fault is None:
                 return pieces, faults
-            ended = behind, piece.part.fault
+            ended = after, piece.part.fault
             if piece.part.fault in ("read", "turns"):
                 return pieces, [*faults, Fault(*ended, 0)]
-        at = next_candidate(file, behind, size)
+        at = next_candidate(file, after, size)
     return pieces, [*faults, Fault(*ended, size - ended[0])]
 
 

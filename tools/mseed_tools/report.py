@@ -31,7 +31,7 @@ class ChannelReport(NamedTuple):
     channel: Optional[Channel]
 
     def missing(self) -> list[tuple[str, str]]:
-        """The days that lack, as runs. Logs are written when there is something to say: none of theirs does."""
+        """The days that are missing, as runs. Logs are written when there is something to say: none of theirs does."""
         if self.channel is None or not self.channel.is_decoded:
             return []
         return days_in_words(missing_between({self.files[file].day for file in self.channel.files}))

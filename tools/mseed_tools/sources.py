@@ -1,4 +1,4 @@
-"""What the tools over channels read: files one behind another, or the channels of a tree."""
+"""What the tools over channels read: files one after another, or the channels of a tree."""
 
 from __future__ import annotations
 
@@ -37,11 +37,11 @@ class Source(NamedTuple):
         return bool(lines)
 
 
-def sources_of(words: Parser, given: argparse.Namespace) -> list[Source]:
-    """What the paths of the words name."""
+def sources_of(parser: Parser, given: argparse.Namespace) -> list[Source]:
+    """What the paths of the arguments name."""
     folders = [path for path in given.paths if os.path.isdir(path)]
     if folders and len(given.paths) > 1:
-        words.error("a folder stands alone")
+        parser.error("a folder stands alone")
     program = find()
     if folders:
         root = folders[0]
@@ -54,7 +54,7 @@ def sources_of(words: Parser, given: argparse.Namespace) -> list[Source]:
         paths = [os.path.join(root, path) for path in tree.unread]
         return [*sources, Source(Files(program, paths, [unread("read") for _ in paths]), [])]
     if given.state:
-        words.error("--state goes with a folder")
+        parser.error("--state goes with a folder")
     for path in given.paths:
         if not os.path.exists(path):
             raise ToolError(f"{path}: no such file")

@@ -9,7 +9,7 @@ from typing import Iterator, NamedTuple, Optional
 
 SECOND = 10**6
 EPOCH = datetime.datetime(1970, 1, 1)
-# A leap second that a record has behind it, as it moves the record's end.
+# A leap second that a record has after it, as it moves the record's end.
 STEPS = {"none": 0, "positive": -SECOND, "negative": SECOND, "both": 0}
 BEGIN = "mseed part 1\n"
 
@@ -58,7 +58,7 @@ class Part(NamedTuple):
 
 
 class Found(NamedTuple):
-    """A record with a finding, as a line tells it."""
+    """A record with a finding, as a line reports it."""
 
     offset: int
     name: str
