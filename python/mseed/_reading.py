@@ -38,7 +38,7 @@ def read(archive: Archive, *, skip: bool = False, channels: Union[str, Iterable[
 
     archive: a path, bytes, or a binary file that is open.
     skip: records that can't be read, and bytes that begin none, are left out and listed in `skipped`; without it the
-    first of them is raised as a RecordError. Behind a record that is left out a new trace begins. Behind bytes that
+    first of them is raised as a RecordError. After a record that is left out a new trace begins. After bytes that
     begin none, reading goes on at the next multiple of 64 bytes at which a record is framed, and so does a trace whose
     next record meets its last one.
     channels, start, end: the records that `mseed.select` writes alone, as if no others were there: whole records, of

@@ -10,7 +10,7 @@ from mseed._auditing import Finding, findings_in
 from mseed._library import LIBRARY, NO_ROW, TRUNCATED, Progress, Row, fault_of
 from mseed._memory import Samples, address_in, address_of, numpy, room_for
 
-# Behind bytes that begin no record, one is looked for at each multiple of so many bytes from the archive's beginning.
+# After bytes that begin no record, one is looked for at each multiple of so many bytes from the archive's beginning.
 STEP = 64
 # How the first eight bytes of a record look, and the seventh alone, which few others are.
 HEAD, QUALITY = re.compile(rb"[0-9 \0]{6}[DRQM][ \0]"), re.compile(rb"[DRQM]")

@@ -27,16 +27,16 @@ FUNCTION = re.compile(r"^ *(?:pub(?:\(crate\))? )?(?:const )?(?:extern \"C\" )?f
 
 
 class Figure(NamedTuple):
-    """A figure of a page: the words before and behind it, and what it counts."""
+    """A figure of a page: the words before and after it, and what it counts."""
 
     page: str
     before: str
-    behind: str
+    after: str
     counted: Callable[[Sources], int]
 
     def pattern(self) -> re.Pattern[str]:
         """The words with the figure between them."""
-        return re.compile(f"(?<={re.escape(self.before)})[0-9][0-9,]*(?={re.escape(self.behind)})")
+        return re.compile(f"(?<={re.escape(self.before)})[0-9][0-9,]*(?={re.escape(self.after)})")
 
     def found_in(self, text: str) -> set[str]:
         """What stands between the words in a page: the figure."""
@@ -119,9 +119,9 @@ def constant_of(path: str, name: str) -> int:
     return number_of(first) << number_of(second) if sign == "<<" else number_of(first) * number_of(second)
 
 
-def size(page: str, before: str, behind: str, path: str, name: str) -> Figure:
+def size(page: str, before: str, after: str, path: str, name: str) -> Figure:
     """A size that a page gives, which is a constant of a file of the crates."""
-    return Figure(page, before, behind, lambda _: constant_of(f"crates/{path}", name))
+    return Figure(page, before, after, lambda _: constant_of(f"crates/{path}", name))
 
 
 FIGURES = [
@@ -184,7 +184,7 @@ def judged_figures(sources: Sources) -> Iterator[Judged]:
     """Each figure, and whether it is the one that is counted."""
     for figure in FIGURES:
         found, counted = figure.found_in(text_of(figure.page)), f"{figure.counted(sources):,}"
-        yield Judged(f"{figure.page}: {figure.before}..{figure.behind}", found == {counted},
+        yield Judged(f"{figure.page}: {figure.before}..{figure.after}", found == {counted},
                      f"{counted} are counted, and there stands {found or 'none'}")
 
 

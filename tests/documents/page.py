@@ -3,10 +3,10 @@
 What is judged is each text in backticks outside of blocks, and each link:
 
 - `Type::call`, `call`, `Type` and `Definition` are public names of the crates. They are in the crate that begins the
-  row of their table, or that stands behind them as in `call` of `crate`; and in the file that stands behind them in
+  row of their table, or that stands after them as in `call` of `crate`; and in the file that stands after them in
   parentheses, or to which they link.
 - A clause is an `ensures` of a call that stands before it: in `A` and `B`, clause `c`, one of both. Where none stands
-  before it, its call stands earlier in the section. In a column of calls its clauses stand behind it in parentheses.
+  before it, its call stands earlier in the section. In a column of calls its clauses stand after it in parentheses.
 - In a table whose columns are a promise, a call, a definition and what fails, no cell is empty, each call stands in the
   file to which it links, each definition in one of `specs`, and what fails is a law, an edit, a test or a row file.
 - What stands in a column of notation is no name.
@@ -36,7 +36,7 @@ FOR_NAMES = ["contract", "carried by", "call", "definition"]
 QUOTED = re.compile(r"`([^`]+)`")
 LINK = re.compile(r"\[([^\]]*)\]\(([^)#]+)(#[^)]*)?\)")
 CLAUSES = re.compile(r"\b[Cc]lauses? ((?:`\w+`(?:, and |, | and )?)+)")
-# Behind the path of a call: its clauses.
+# After the path of a call: its clauses.
 LISTED = re.compile(r" \(`[^`]+`\) \(((?:`\w+`(?:, )?)+)\)")
 FILE = re.compile(r"\.(md|py|sh|rt|antt|edit|c|h|1|mseed|svg|txt)$")
 # The line of a toolchain. Those of one logic prove the same.
@@ -140,10 +140,10 @@ class Page:
             else:
                 return
 
-    def read_clauses(self, names: list[str], behind: str, group: Group) -> None:
+    def read_clauses(self, names: list[str], after: str, group: Group) -> None:
         """Each is one of the group's calls', or of the section's where there is no group; and each call of a group
         that ends with `and` has one."""
-        of = re.match(r" ?of `(\w+::\w+)`", behind)
+        of = re.match(r" ?of `(\w+::\w+)`", after)
         if of:
             found = [named for named in self.sources.find(of.group(1)) if named.clauses is not None]
             group = [(of.group(1), found, False)]
@@ -157,16 +157,16 @@ class Page:
                 has_one = any(name in call.clauses for name in names for call in found)
                 self.judge(f"`{of}`", has_one, "none of the clauses " + ", ".join(names))
 
-    def read_name(self, name: str, behind: str, group: Group, crate: Optional[str]) -> list[Named]:
+    def read_name(self, name: str, after: str, group: Group, crate: Optional[str]) -> list[Named]:
         """Judges a name that is no clause. The calls that have it."""
-        of = re.match(r" of (?:the crate )?`(\w+)`", behind)
+        of = re.match(r" of (?:the crate )?`(\w+)`", after)
         if of and of.group(1) in self.sources.crates:
             crate = of.group(1)
-        path = re.match(r" \(`([^`]+)`\)", behind)
+        path = re.match(r" \(`([^`]+)`\)", after)
         path = path.group(1) if path and FILE.search(path.group(1)) else None
         name = re.sub(r"\([a-z, ]*\)$", "", name)
         found = self.sources.find(name, crate) if re.fullmatch(r"\w+(::\w+)?", name) else []
-        # `next` behind `Cutter::new` is one of the same type, where there is such.
+        # `next` after `Cutter::new` is one of the same type, where there is such.
         owners = {owner for _, calls, _ in group[-1:] for call in calls for owner in call.owners}
         found = [named for named in found if owners & set(named.owners)] or found
         if path:

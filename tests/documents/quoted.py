@@ -29,7 +29,7 @@ def is_in(paragraph: str, kind: str, code: str) -> bool:
 
 
 def codes_of(name: str, above: str) -> list[str]:
-    """The files to which a page links behind the last heading above a block."""
+    """The files to which a page links after the last heading above a block."""
     section = above[max(0, above.rfind("\n#")) :]
     return [text_of(os.path.normpath(os.path.join(os.path.dirname(name), path))) for path in CODE.findall(section)]
 

@@ -17,7 +17,7 @@ from driver.rows import Cases, Fact
 
 
 def examples(text: str) -> Iterator[tuple[str, str]]:
-    """The commands of a document, the lines `$ ..` of its blocks marked `console`, each with the lines behind it. One
+    """The commands of a document, the lines `$ ..` of its blocks marked `console`, each with the lines after it. One
     that ends in `|`, `&&` or a backslash goes on in the next line. Those of `make` are left out: they stand for the
     gate itself."""
     for block in re.findall(r"^```console\n(.*?)^```", text, re.MULTILINE | re.DOTALL):

@@ -129,7 +129,7 @@ def fetch(places: Sequence[Station], port: int, *options: object, wants: Sequenc
 
 
 class Cut(NamedTuple):
-    """Where a link is cut: behind how many bytes to the server and to the client, each None for never; and whether it
+    """Where a link is cut: after how many bytes to the server and to the client, each None for never; and whether it
     is reset."""
 
     to_server: Optional[int] = None
@@ -156,7 +156,7 @@ def carry(near: socket.socket, far: socket.socket, cut: Cut) -> bool:
 
 class Proxy:
     """Takes connection after connection, carries each to the port that `upstream()` gives, and cuts it by the next of
-    `cuts`. Behind the last of them nothing is cut. `carried` is how many connections there were."""
+    `cuts`. After the last of them nothing is cut. `carried` is how many connections there were."""
 
     def __init__(self, upstream: Callable[[], int], cuts: Iterable[Cut]):
         self.upstream, self.cuts, self.carried = upstream, iter(cuts), 0

@@ -2,7 +2,7 @@
 figures of bench/instructions.txt.
 
 The figures are those of one toolchain, which the first line names, with the kind of machine and the C library; a line
-behind it is the words of a command, `<`, its input's name in models/workloads.py, and the figure. So that a count is
+after it is the words of a command, `<`, its input's name in models/workloads.py, and the figure. So that a count is
 the same in every run, and on every machine, the program's path and its environment have always the same length, and the
 C library copies as on any machine of the kind: where it copies by one instruction, that is counted for each byte.
 """

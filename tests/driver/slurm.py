@@ -1,4 +1,4 @@
-"""A Slurm of one node on this machine, which is brought up for some rows and taken down behind them: a controller, a
+"""A Slurm of one node on this machine, which is brought up for some rows and taken down after them: a controller, a
 node, and the daemon by which they know each other, each with files and ports of its own. Nothing of the system's own
 Slurm, if there is one, is touched, and no rights are needed."""
 

@@ -94,7 +94,7 @@ def place(station: str, channel: str, day: tuple[int, int, int], folder: Optiona
 
 
 def with_blockette_100(codes: bytes, day: tuple[int, int, int]) -> list[bytes]:
-    """The records of a day, of which the first has a blockette 100 behind its 900 samples."""
+    """The records of a day, of which the first has a blockette 100 after its 900 samples."""
     records = integers(codes, day, 900)
     marked = changed(records[0], [(58, struct.pack(">H", 4000)), (4000, struct.pack(">HHf", 100, 0, 1.0))])
     return [marked, *records[1:]]

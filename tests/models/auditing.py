@@ -166,7 +166,7 @@ def record_of(bytes: bytes) -> Record:
 
 
 class Tail(NamedTuple):
-    """What counts of a record for the one behind it: its start, samples and rate, and its leap flags as a number."""
+    """What counts of a record for the one after it: its start, samples and rate, and its leap flags as a number."""
 
     start: int
     samples: int
@@ -181,7 +181,7 @@ def tail_of(record: Record) -> Optional[Tail]:
 
 
 def border_fault(tail: Tail, now: int, here: tuple[int, int]) -> Optional[str]:
-    """What is wrong with a record of this start and rate behind one with this tail."""
+    """What is wrong with a record of this start and rate after one with this tail."""
     rate = tail.rate
     if rate[0] * here[1] != here[0] * rate[1]:
         return "ratechange"
@@ -201,7 +201,7 @@ def join_fault(before: Record, record: Record) -> Optional[str]:
 
 
 def finding(before: Optional[Record], record: Record) -> Optional[str]:
-    """What is wrong with a record behind the one before it, if anything: the first that applies."""
+    """What is wrong with a record after the one before it, if anything: the first that applies."""
     start = record.start()
     if isinstance(start, str):
         return f"time {start}"

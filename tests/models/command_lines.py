@@ -1,7 +1,7 @@
 """Command lines of the feed, good and damaged, cut at random, and the commands that they are, by the grammar of
 docs/protocol.md written as regular expressions. They are the stream of a test of slink_wire.
 
-`python3 -m models.command_lines`, in the folder tests, prints them as a file of that crate; a number behind it asks for
+`python3 -m models.command_lines`, in the folder tests, prints them as a file of that crate; a number after it asks for
 so many lines.
 """
 
@@ -59,7 +59,7 @@ OTHERS = [b"ABCDEF", b"NET", b"1234567", b"12g", b"-1", b"S*A", b"STA"]
 
 
 def arguments(source: random.Random, keyword: bytes) -> list[bytes]:
-    """Words behind a keyword, mostly such as it takes."""
+    """Words after a keyword, mostly such as it takes."""
     if source.random() < 0.2:
         return [source.choice(OTHERS) for _ in range(source.choice([1, 2, 3]))]
     if keyword == b"STATION":

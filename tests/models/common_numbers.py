@@ -25,8 +25,8 @@ class Numbered:
         for index, record in enumerate(self.records):
             number = self.first + index
             for place, start in requested:
-                behind = 0 if start is None else (start - self.first) % SPAN
-                if place.bears(record) and index >= behind:
+                after = 0 if start is None else (start - self.first) % SPAN
+                if place.bears(record) and index >= after:
                     sent += b"SL%06X" % (number % SPAN) + record
         return sent
 

@@ -68,7 +68,7 @@ def signed(number: int, width: int) -> int:
 
 
 def difference(width: int, random: int) -> int:
-    """A difference of so many bits: often at a limit, and where 30 bits hold that, at times just behind one."""
+    """A difference of so many bits: often at a limit, and where 30 bits hold that, at times just after one."""
     if width == 0:
         return 0
     half, case = 2 ** (width - 1), random % 64
@@ -117,7 +117,7 @@ def frames(scheme: str, diffs: Sequence[int], size: int) -> Iterator[bytes]:
 
 
 def hashed(number: int, text: bytes) -> int:
-    """The hash of some bytes behind those of a hash (FNV-1a)."""
+    """The hash of some bytes after those of a hash (FNV-1a)."""
     for byte in text:
         number = (number ^ byte) * 0x100_0000_01B3 % MODULUS
     return number

@@ -193,7 +193,7 @@ def kept_in(line: str) -> tuple[bytes, Kept]:
 
 
 class Joiner:
-    """Reads the lines of parts, one behind another."""
+    """Reads the lines of parts, one after another."""
 
     def __init__(self, past_faults: bool):
         self.past_faults = past_faults
@@ -201,7 +201,7 @@ class Joiner:
         self.borders: list[str] = []
         self.reported: list[str] = []
         self.parts = 0
-        self.state, self.key, self.own_bytes, self.is_counted = "behind", b"", 0, True
+        self.state, self.key, self.own_bytes, self.is_counted = "after", b"", 0, True
 
     def read(self, line: str) -> None:
         """Takes the next line. Raises Bad where it isn't by the grammar or a sum is too large."""
@@ -233,7 +233,7 @@ class Joiner:
         self.state = "counts"
 
     def join(self, key: bytes, kept: Kept) -> None:
-        """Joins a channel behind what there is of it."""
+        """Joins a channel after what there is of it."""
         joint, head, first = self.joint, kept.head, kept.first
         head = head and Head(added(joint.records, head.number), added(joint.bytes, head.offset), *head[2:])
         first = first and First(added(joint.records, first.number), added(joint.bytes, first.offset), first.why)
@@ -252,7 +252,7 @@ class Joiner:
                                 f"{border.why}")
 
     def read_faults(self, line: str) -> None:
-        """How many faults lie behind."""
+        """How many faults were passed."""
         found = FAULTS.fullmatch(line)
         need(found and 0 < int(found[1]) <= LARGEST)
         if self.is_counted:
@@ -263,7 +263,7 @@ class Joiner:
         """The fault by which the part ends."""
         found = FAULT.fullmatch(line)
         need(found and int(found[1]) == self.own_bytes and has_bounds(found[2]))
-        self.state = "behind"
+        self.state = "after"
         if self.past_faults:
             self.joint.faults = added(self.joint.faults, 1)
             self.reported.append(f"mseed: part {self.parts} {line}")
@@ -273,7 +273,7 @@ class Joiner:
 
 def join(text: bytes, part: bool = False, each: bool = False, past_faults: bool = False, fails: bool = False,
          expect: Optional[int] = None) -> tuple[int, bytes, bytes]:
-    """What `join` does over parts, one behind another, of which so many may be expected: its status, its output and its
+    """What `join` does over parts, one after another, of which so many may be expected: its status, its output and its
     standard error. Where the reader `fails`, this text is all that it brought."""
     joiner = Joiner(past_faults)
     *lines, rest = text.decode("latin-1").split("\n")

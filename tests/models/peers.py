@@ -13,7 +13,7 @@ from models.seedlink import REPLIES, Client, Ring, Session
 
 
 def serve_link(link: socket.socket, feed: list[Ring]) -> None:
-    """Serves one connection to its end. What the client sends behind that is read too, so that the link isn't reset."""
+    """Serves one connection to its end. What the client sends after that is read too, so that the link isn't reset."""
     session = Session(feed)
     while brought := link.recv(512):
         link.sendall(b"".join(REPLIES[name] for name in session.take(brought)))

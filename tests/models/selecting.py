@@ -77,7 +77,7 @@ class Selection(NamedTuple):
         return start, end
 
     def is_good(self) -> bool:
-        """Whether the words mean something, and the window's end is behind its begin."""
+        """Whether the words mean something, and the window's end is after its begin."""
         if self.channels is not None and patterns_of(self.channels) is None:
             return False
         start, end = self.bounds()
@@ -182,7 +182,7 @@ def place_of(offset: int, sizes: Sequence[int]) -> tuple[int, int]:
         if offset < size:
             return at, offset
         offset -= size
-    raise ValueError("behind the last file")
+    raise ValueError("after the last file")
 
 
 def fault_place(archive: bytes, sizes: Sequence[int]) -> Optional[tuple[int, int]]:

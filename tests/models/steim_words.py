@@ -56,7 +56,7 @@ def words() -> Iterator[tuple[str, int, int]]:
 
 
 def row(scheme: str, code: int, word: int) -> str:
-    """A row of the test: the number of differences, 8 for a bad word, and the differences, with zeros behind them."""
+    """A row of the test: the number of differences, 8 for a bad word, and the differences, with zeros after them."""
     found = differences(scheme, code, word)
     count = 8 if found is None else len(found)
     padded = [*(found or []), *[0] * 7][:7]

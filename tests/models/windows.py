@@ -79,7 +79,7 @@ def record_for(source: Random, codes: bytes, rate: tuple[int, int], start: int) 
 
 
 def bounds_near(source: Random, records: list[Record]) -> int:
-    """An instant at the first or the last sample of a record, or a microsecond before or behind it."""
+    """An instant at the first or the last sample of a record, or a microsecond before or after it."""
     known = [one for one in records if not isinstance(one.start(), str)]
     if not known or source.randrange(12) == 0:
         return instant_of(source.choice(BEGINS))

@@ -56,7 +56,7 @@ def moved(record: bytes, start: int, codes: bytes = CODES, rate: int = RATE) -> 
     return changed(record, [(8, codes + time), (32, struct.pack(">h", rate)), (61, struct.pack("b", at["micros"]))])
 
 
-def one_behind_another(records: Sequence[bytes], count: int, codes: Sequence[bytes] = (CODES,)) -> list[bytes]:
+def one_after_another(records: Sequence[bytes], count: int, codes: Sequence[bytes] = (CODES,)) -> list[bytes]:
     """So many records, over and over, of these channels in turn, each of which is continuous."""
     made: list[bytes] = []
     samples = 0
@@ -70,7 +70,7 @@ def one_behind_another(records: Sequence[bytes], count: int, codes: Sequence[byt
 
 def one_channel() -> list[bytes]:
     """One channel of Steim-2 in 512 bytes."""
-    return one_behind_another(recorded(), 3000)
+    return one_after_another(recorded(), 3000)
 
 
 def unequal_rates() -> list[bytes]:
@@ -91,14 +91,14 @@ def unequal_rates() -> list[bytes]:
 
 def steim_1_long() -> list[bytes]:
     """The channels of a data logger in turn, in 4,096 bytes of Steim-1."""
-    return one_behind_another(recorded(12, 10), 480, LOGGER)
+    return one_after_another(recorded(12, 10), 480, LOGGER)
 
 
 def integers_in_turn() -> list[bytes]:
     """The channels of a data logger in turn, as integers in 512 bytes."""
     held = [record(codes=CODES, samples=112, factor=RATE, exponent=9, data=integers(noise()[at : at + 112]))
             for at in range(0, SAMPLES - 111, 112)]
-    return one_behind_another(held, 3000, LOGGER)
+    return one_after_another(held, 3000, LOGGER)
 
 
 def out_of_order() -> list[bytes]:
@@ -127,11 +127,11 @@ def few_samples() -> list[bytes]:
     for one in recorded():
         made.append(changed(one, [(30, struct.pack(">H", 3)), (72, integers([noise()[at + 2]]))]))
         at += count_in(one)
-    return one_behind_another(made, 3000)
+    return one_after_another(made, 3000)
 
 
 def empty_first_frame() -> list[bytes]:
-    """One channel, of which each record has its differences in the second frame and behind."""
+    """One channel, of which each record has its differences in the second frame and after."""
     made, at = [], 0
     differences = [0] + [later - one for one, later in zip(noise(), noise()[1:])]
     while at < SAMPLES - 700:
@@ -139,13 +139,13 @@ def empty_first_frame() -> list[bytes]:
         frames, _ = frames_of([(0, "0" * 32)] * 13 + words, noise()[at], noise()[at + count - 1], 7)
         made.append(record(codes=CODES, samples=count, factor=RATE, encoding=11, exponent=9, frames=7, data=frames))
         at += count
-    return one_behind_another(made, 3000)
+    return one_after_another(made, 3000)
 
 
 def many_channels() -> list[bytes]:
     """4,000 channels in turn, three records of 128 bytes each."""
     codes = [key[2:7] + key[7:] + key[:2] for key in map(key_of, range(4000))]
-    return one_behind_another([record(factor=RATE)], 12000, codes)
+    return one_after_another([record(factor=RATE)], 12000, codes)
 
 
 def key_of(channel: int) -> bytes:

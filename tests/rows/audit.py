@@ -156,7 +156,7 @@ def findings() -> Cases:
     yield from audits("four samples of a frame", 0, frame(steim, 4), continuous(BHZ, 1, 4), "records 1 channels 1\n")
     yield from finds_of_one("five of four samples", frame(steim, 5), "short 4")
     yield from finds_of_one("a word that means nothing", frame(bad_word, 5, encoding=11), "badword 0 4")
-    yield from audits("such a word behind the samples", 0, frame(bad_word, 4, encoding=11), continuous(BHZ, 1, 4),
+    yield from audits("such a word after the samples", 0, frame(bad_word, 4, encoding=11), continuous(BHZ, 1, 4),
                       "records 1 channels 1\n")
     yield from finds_of_one("a sum past 32 bits", frame("01000000 7FFFFFFF 7FFFFFFF 00010000", 2), "overflow 1")
     yield from finds("no time before all else",
@@ -183,10 +183,10 @@ def corrections_and_rates() -> Cases:
     yield from finds("late by less than a microsecond", record(**fast) + record(micros=6, **fast), "gap 0")
     yield from finds("early by less than a microsecond", record(**fast) + record(micros=5, **fast), "overlap 0")
     yield from finds("two findings", FIRST + LATE + third, "gap 25001", 2, 2, 3)
-    yield from finds("behind a record without a time", FIRST + next_record(year=2023, day=366) + record(hour=9),
+    yield from finds("after a record without a time", FIRST + next_record(year=2023, day=366) + record(hour=9),
                      "time day", 1, 2, 3)
-    yield from finds("behind a record that is not read", FIRST + next_record(encoding=4) + third, "encoding 4", 1, 2, 3)
-    yield from finds("late behind one", FIRST + next_record(encoding=4) + record(second=1, fraction=6250, micros=1),
+    yield from finds("after a record that is not read", FIRST + next_record(encoding=4) + third, "encoding 4", 1, 2, 3)
+    yield from finds("late after one", FIRST + next_record(encoding=4) + record(second=1, fraction=6250, micros=1),
                      "encoding 4", 2, 2, 3)
     yield from audits("a silent record between", 0, FIRST + record(samples=0, hour=9, factor=40, activity=48) + NEXT,
                       continuous(BHZ, 2, 32), "records 3 channels 1\n")
@@ -202,7 +202,7 @@ def leap_seconds() -> Cases:
     """Records over a leap second, by the flags of the first."""
     text = continuous(BHZ, 2, 32, "2016-12-31T23:59:50.000000", "1/1") + "records 2 channels 1\n"
     yield from audits("over a leap second", 0, over_new_year(16, 5), text)
-    yield from finds("a second late behind one", over_new_year(16, 6), "gap 1000000")
+    yield from finds("a second late after one", over_new_year(16, 6), "gap 1000000")
     yield from finds("no word of one", over_new_year(0, 5), "overlap 1000000")
     yield from finds("both leap flags", over_new_year(48, 5), "leap")
     yield from audits("over a leap second that is left out", 0, over_new_year(32, 7), text)
@@ -271,7 +271,7 @@ def words() -> Cases:
         ("an option of another command", "audit", "--port", "18000"),
         ("an option and no command", "--length=512"),
         ("a capital letter", "Audit"),
-        ("a space behind", "audit "),
+        ("a space after", "audit "),
         ("an empty word", ""),
         ("a word that is not UTF-8", b"audit\xff"),
     ]

@@ -1,4 +1,4 @@
-"""Archives that are audited, listed and packed over an input that fails behind so many bytes, and onto an output and a
+"""Archives that are audited, listed and packed over an input that fails after so many bytes, and onto an output and a
 standard error that do, whether they move all bytes of a call or one or two."""
 
 from __future__ import annotations
@@ -38,7 +38,7 @@ def fails_to_read(failing: str, size: int, words: Sequence[str], out: str, err: 
     """So many bytes are all that the input brings, at once or one after another."""
     for piece in (1, WHOLE):
         if piece > 1 or size in (0, 1, 47, 48, 63, 64, 127, 128, 200, 255, 256):
-            yield Row(f"{' '.join(words)} over an input that fails behind {size} bytes, {piece} at once", TWO, words, 2,
+            yield Row(f"{' '.join(words)} over an input that fails after {size} bytes, {piece} at once", TWO, words, 2,
                       out.encode(), err.encode(), env=preloaded(failing, READ_ROOM=size, PIECE=piece))
 
 

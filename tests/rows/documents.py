@@ -54,7 +54,7 @@ WRONG = [
     "| promise | call | definition | fails |\n|---|---|---|---|\n"
     "| a | b | [`ratio_of`](crates/mseed_time/specs/Join.antt) | law |",
     "| promise | call | definition | fails |\n|---|---|---|---|\n| a | | c | law |",
-    "Behind a line of text:\n\n| call |\n|---|\n| `truncated` |",
+    "After a line of text:\n\n| call |\n|---|\n| `truncated` |",
     "| promise | call | definition | fails |\n|---|---|---|---|\n| a | b | c | nothing |",
     "| promise | call | definition | fails |\n|---|---|---|---|\n"
     "| a | b | c | [`another_name`](crates/mseed_time/must-fail/half_excluded.edit) |",
@@ -125,7 +125,7 @@ def self_tests(sources: Sources) -> Cases:
             yield Fact(f"and `{old.strip()}` is quoted anew", page, requoted(QUOTING, page.replace(old, new)))
     for figure in FIGURES:
         wrong = figure.pattern().sub("7", text_of(figure.page))
-        yield Fact(f"a wrong figure in {figure.page} behind `{figure.before}` is found, and counted anew",
+        yield Fact(f"a wrong figure in {figure.page} after `{figure.before}` is found, and counted anew",
                    ({"7"}, {f"{figure.counted(sources):,}"}),
                    (figure.found_in(wrong), figure.found_in(recounted(sources, figure.page, wrong))))
     for row, wanted in MISCOUNTED:

@@ -56,12 +56,12 @@ def cut_by(name: str, places: Sequence[Place], records: Sequence[bytes], cuts: S
 
 
 def every_byte() -> Cases:
-    """Two replies, two packets, and the first bytes of a third are cut behind each single byte, either way."""
+    """Two replies, two packets, and the first bytes of a third are cut after each single byte, either way."""
     records = records_at_random(1, [STA], 8)
     to_client = [Cut(to_client=count) for count in range(8 + 2 * 520 + 8)]
-    yield from cut_by("cut behind each byte to the client", [STA], records, to_client, 2)
+    yield from cut_by("cut after each byte to the client", [STA], records, to_client, 2)
     to_server = [Cut(to_server=count) for count in range(len("STATION STA XX..FETCH..END..") + 1)]
-    yield from cut_by("cut behind each byte to the server", [STA], records, to_server, 2)
+    yield from cut_by("cut after each byte to the server", [STA], records, to_server, 2)
 
 
 def any_cut() -> Cases:
@@ -127,7 +127,7 @@ def killed_at_a_port() -> Cases:
 
 
 def from_a_number() -> Cases:
-    """A client that was cut off is started anew from the number behind what it has."""
+    """A client that was cut off is started anew from the number after what it has."""
     source = random.Random(8)
     records = records_at_random(9, [STA], 500)
     server = Server(b"".join(records), [STA], "--first", "FFFFF0", "--connections", 1000)
@@ -141,7 +141,7 @@ def from_a_number() -> Cases:
         if status == 2:
             yield Fact("a client that is cut off writes so", b"mseed: link failed\n", errors)
             yield Fact("a client that is cut off has whole records", 0, len(came) % 512)
-    yield holds("started anew behind what it has: each record once", output == b"".join(records), len(output))
+    yield holds("started anew after what it has: each record once", output == b"".join(records), len(output))
     yield Fact(f"it was started {runs} times", 0, status)
     proxy.close()
     server.kill()

@@ -72,11 +72,11 @@ def ended_unread(port: int) -> tuple[int, bytes]:
 
 
 def streams(failing: str) -> Cases:
-    """The input of `serve`, and the output of `fetch`, fail behind so many bytes."""
+    """The input of `serve`, and the output of `fetch`, fail after so many bytes."""
     for room in [*range(0, len(ARCHIVE), 61), 511, 512, 513, len(ARCHIVE) - 1, len(ARCHIVE)]:
         server = Server(ARCHIVE, PLACES, env=preloaded(failing, READ_ROOM=room))
         line = f"mseed: fault at {room // 512 * 512} read\n".encode()
-        yield Fact(f"serve of an input that fails behind {room} bytes", (2, b"", line), server.end())
+        yield Fact(f"serve of an input that fails after {room} bytes", (2, b"", line), server.end())
     port = serving([feed_of([STA], 10, 0, RECORDS[::2])] * 100)
     output = b"".join(RECORDS[::2])
     for room in [*range(0, len(output), 47), 511, 512, 513, 1023, 1024, 1025, len(output) - 1]:
@@ -160,7 +160,7 @@ def pieces(failing: str) -> Cases:
         env = preloaded(failing, LINK_PIECE=size)
         server = Server(ARCHIVE, PLACES, env=env)
         yield Fact(f"links of {size} bytes at a time", (0, True, b""), fetched(server.port, env))
-        yield Fact(f"serve behind links of {size} bytes at a time", ENDED, server.end())
+        yield Fact(f"serve after links of {size} bytes at a time", ENDED, server.end())
 
 
 def rows() -> Cases:

@@ -125,7 +125,7 @@ def words() -> Cases:
               b"", BAD_VALUE)
     speaker = Speaker([[OK * 2 + b"SL000007" + record_of(STA, 0) + b"END"]])
     requested = fetch_words([STA], speaker.port, HOLES, "--tell-next", wants=[5])
-    yield Row("an output that takes nothing behind a hole", b"", requested, 2, b"",
+    yield Row("an output that takes nothing after a hole", b"", requested, 2, b"",
               b"mseed: hole XX_STA 000005 000007\nmseed: first XX_STA:000007\nmseed: write failed\n"
               b"mseed: next --network XX --station STA --from 000007\n", out_to="/dev/full")
 

@@ -423,7 +423,7 @@ def closed_streams() -> Cases:
         yield Fact(f"serve --live with {closed} closed", Ended(2, b"", outcome), live.end())
 
 
-# What may be wrong behind three records, and the line that says so.
+# What may be wrong after three records, and the line that says so.
 WRONG = [
     ("within a record", recorded(1)[0][:100], b"mseed: fault at 1536 truncated 100\n"),
     ("with bytes that begin no record", b"x" * 64 + recorded(1)[0], b"mseed: fault at 1536 notdata\n"),
@@ -432,7 +432,7 @@ WRONG = [
 
 
 def bad_inputs() -> Cases:
-    """What is wrong with the input is the line and the status; what was before it is served, and nothing behind it."""
+    """What is wrong with the input is the line and the status; what was before it is served, and nothing after it."""
     records = recorded(3)
     for name, tail, line in WRONG:
         live = Live("--timeout", 60)
@@ -457,7 +457,7 @@ def told_at_once() -> Cases:
     yield holds("it takes all that came before", held_of(taken(slow, PACKET * (MANY + 1))) == numbered(records))
     slow.close()
     yield Fact("the server ends once it has", Ended(2, b"", line), live.end())
-    yield Fact("who comes behind the end isn't served", b"", taken(late, 1))
+    yield Fact("who comes after the end isn't served", b"", taken(late, 1))
 
 
 def failing() -> Cases:
@@ -472,7 +472,7 @@ def failing() -> Cases:
         live = Live(env=preloaded(fails, READ_ROOM=room))
         live.feed(b"".join(recorded(3)) + b"x")
         line = b"mseed: fault at %d read\n" % (room // 512 * 512)
-        yield Fact(f"serve --live of an input that fails behind {room} bytes", Ended(2, b"", line), live.end())
+        yield Fact(f"serve --live of an input that fails after {room} bytes", Ended(2, b"", line), live.end())
 
 
 def words() -> Iterator[Row]:

@@ -1,5 +1,5 @@
 """`fetch --tell-next`: what is written before the first record of each station and at the end, by hand; and going on
-behind it, after a kill by the first number and the count, and after a cut by the words of the last line."""
+after it, after a kill by the first number and the count, and after a cut by the words of the last line."""
 
 from __future__ import annotations
 

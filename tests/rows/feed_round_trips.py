@@ -69,7 +69,7 @@ def three_places() -> Cases:
     status, output, errors = fetch([OTHER, STA], server.port)
     wanted = by_place([OTHER, STA], records)
     yield holds("two of three stations", status == 0 and by_place([OTHER, STA], split(output)) == wanted, errors)
-    yield Fact("serve ends behind two of three stations", ENDED, server.end())
+    yield Fact("serve ends after two of three stations", ENDED, server.end())
 
 
 def numbers() -> Cases:
@@ -83,7 +83,7 @@ def numbers() -> Cases:
         server = Server(b"".join(records), [STA], *first)
         run = fetch([STA], server.port, "--from", number, "--tries", 5)
         yield Fact(f"from {number}, which isn't there", (2, b"", REFUSED), run)
-        yield Fact(f"serve goes on behind {number}", ENDED, server.end())
+        yield Fact(f"serve goes on after {number}", ENDED, server.end())
 
 
 def words() -> Cases:
@@ -97,7 +97,7 @@ def words() -> Cases:
     wanted = [each[1 - k % 2 :] for k, each in enumerate(by_place(places, records))]
     came = by_place(places, split(output))
     yield holds("each second of sixteen stations from a number", status == 0 and came == wanted, errors)
-    yield Fact("serve ends behind them", ENDED, server.end())
+    yield Fact("serve ends after them", ENDED, server.end())
     records = records_at_random(6, [STB], 3)
     port = free_port()
     serve = ["--first", "abcDEF", "serve", "--network", "XX", f"--port={port}", "--station", "STB"]
@@ -121,7 +121,7 @@ def python() -> Cases:
     yield holds("a client of Python that has some", by_place([STB, STA], came) == [wanted[0][8:], wanted[1][19:]])
     again = fetch_link(client, server.port)
     yield Fact("a client of Python that has all", (("End",), []), (again[-1], records_in(again)))
-    yield Fact("serve ends behind clients of Python", ENDED, server.end())
+    yield Fact("serve ends after clients of Python", ENDED, server.end())
     status, output, errors = fetch(places, serving([feed_of(places, 2000, 0xFFFFF0, records)]))
     is_whole = by_place(places, split(output)) == by_place(places, records)
     yield holds("a server of Python", status == 0 and is_whole, errors)

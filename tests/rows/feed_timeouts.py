@@ -127,8 +127,8 @@ def silent_clients() -> Cases:
     with ThreadPoolExecutor(len(CLIENTS)) as pool:
         ends = list(pool.map(run, [deeds for _, deeds in CLIENTS]))
     for (name, _), (brought, ended) in zip(CLIENTS, ends):
-        yield Fact(f"a client behind one that {name}", FETCHED, brought)
-        yield Fact(f"serve behind a client that {name}", FAILED, ended)
+        yield Fact(f"a client after one that {name}", FETCHED, brought)
+        yield Fact(f"serve after a client that {name}", FAILED, ended)
 
 
 def full_link() -> Cases:
@@ -138,7 +138,7 @@ def full_link() -> Cases:
     with dialled(server.port) as link:
         link.sendall(REQUEST)
         ended = server.end()
-    yield Fact("serve behind a client that reads nothing", FAILED, ended)
+    yield Fact("serve after a client that reads nothing", FAILED, ended)
 
 
 def streaming() -> Cases:
@@ -157,7 +157,7 @@ def streaming() -> Cases:
         link.settimeout(LIMIT)
         link.sendall(b"BYE\r\n")
         yield Fact("a client that streamed", b"", link.recv(1))
-    yield Fact("serve behind a client that streamed", FINE, server.end())
+    yield Fact("serve after a client that streamed", FINE, server.end())
 
 
 def restarted() -> Cases:
@@ -190,7 +190,7 @@ def addresses() -> Cases:
     yield Fact("serve at 127.0.0.2", FINE, server.end())
     server = Server(ARCHIVE, [STA])
     yield Fact("fetch from localhost", ALL, fetch([STA], server.port, "--address", "localhost"))
-    yield Fact("serve behind a client by name", FINE, server.end())
+    yield Fact("serve after a client by name", FINE, server.end())
     yield Fact("fetch from nowhere", FAILED, fetch([STA], free_port(), "--address", "nowhere.invalid", "--tries", 2))
     server = Server(ARCHIVE, [STA], "--address", "203.0.113.1", is_awaited=False)
     yield Fact("serve at another machine's address", FAILED, server.end())

@@ -1,4 +1,4 @@
-"""Words behind a command name files, whose bytes, one behind another, are its input."""
+"""Words after a command name files, whose bytes, one after another, are its input."""
 
 from __future__ import annotations
 
@@ -52,7 +52,7 @@ def named(folder: Path) -> Cases:
     halves = written(folder, list(pieces(ARCHIVE, [128])))
     for command in COMMANDS:
         ended = whole[tuple(command)]
-        for name, words in [("one file", [str(TWO)]), ("two files", halves), ("behind --", ["--", str(TWO)])]:
+        for name, words in [("one file", [str(TWO)]), ("two files", halves), ("after --", ["--", str(TWO)])]:
             yield Row(f"{command} of {name}", b"", [*command, *words], *ended[:3])
         yield Row(f"{command} of a file and standard input", ARCHIVE[128:], [*command, halves[0], "-"], *ended[:3])
         yield Row(f"{command} of standard input and a file", ARCHIVE[:128], [*command, "-", halves[1]], *ended[:3])
@@ -164,16 +164,16 @@ FAULTS: list[tuple[str, list[bytes], int, int]] = [
     ("the middle one ends within a record", [record(), record()[:127], record()], 1, 0),
     ("it reaches over two", [record() + LONG[:300], record()[:100], b"", record() * 4], 0, 128),
     ("the first ends within a header", [record() + record()[:46], record()], 0, 128),
-    # Behind a record that ends with its file, the fault is told of that record.
-    ("a file of junk behind a sound one", [record() * 3, JUNK], 0, 256),
+    # After a record that ends with its file, the fault is told of that record.
+    ("a file of junk after a sound one", [record() * 3, JUNK], 0, 256),
     ("a file of junk between sound ones", [record(), record() * 2, JUNK, record()], 1, 128),
-    ("a file of junk behind an empty one", [record(), b"", JUNK], 0, 0),
+    ("a file of junk after an empty one", [record(), b"", JUNK], 0, 0),
     # A record that is cut off at the end is told itself.
     ("the last ends within a record", [record() * 2, record() + record()[:100]], 1, 128),
     ("the last ends within its one record", [record() * 2, record()[:100]], 1, 0),
     ("the last ends within a header", [record(), record()[:20]], 1, 0),
     ("one file that ends within a record", [record() + record()[:100]], 0, 128),
-    ("empty ones behind", [record(), record()[:100], b"", b""], 1, 0),
+    ("empty ones after", [record(), record()[:100], b"", b""], 1, 0),
     ("one record in three files", [record(), LONG[:50], LONG[50:60], LONG[60:500]], 1, 0),
     # But for one that reaches over from another file, since that one is at fault.
     ("a long record takes a piece", [LONG[:500], b"y" * 12 + b"0000"], 0, 0),
@@ -248,7 +248,7 @@ def bad_parts(folder: Path) -> Cases:
     lines = part.splitlines(keepends=True)
     for name, contents, line, file, offset in [
         ("a word in the first", [b"x\n", part], 1, 0, 0),
-        ("a word behind the first", [part, b"x\n" + part], len(lines) + 1, 1, 0),
+        ("a word after the first", [part, b"x\n" + part], len(lines) + 1, 1, 0),
         ("a word within the second", [part, lines[0] + b"x\n", part], len(lines) + 2, 1, len(lines[0])),
         ("a word within a piece", [part, lines[0][:5], lines[0][5:] + b"x\n", part], len(lines) + 2, 2,
          len(lines[0]) - 5),
@@ -256,7 +256,7 @@ def bad_parts(folder: Path) -> Cases:
          len(part)),
         ("a part without its end", [part, part[: -len(lines[-1])]], 2 * len(lines), 1, len(part) - len(lines[-1])),
         ("a line without its end", [part, part[:-1]], 2 * len(lines), 1, len(part) - len(lines[-1])),
-        ("an empty file behind a part without its end", [part, lines[0], b""], len(lines) + 2, 2, 0),
+        ("an empty file after a part without its end", [part, lines[0], b""], len(lines) + 2, 2, 0),
     ]:
         names = written(folder, contents)
         told = b"mseed: bad part at line %d\n" % line + fault_in(names[file], offset)
@@ -271,7 +271,7 @@ def bad_parts(folder: Path) -> Cases:
 
 
 def failed_reads(folder: Path) -> Cases:
-    """A file that fails in its turn is told last; behind a failed write or want of memory nothing is."""
+    """A file that fails in its turn is told last; after a failed write or want of memory nothing is."""
     good = written(folder, [ARCHIVE])[0]
     failing = "/proc/self/mem"
     told = cannot_read(failing.encode())

@@ -126,7 +126,7 @@ def resets(stream: bytes) -> Callable[[socket.socket], object]:
 
 
 ALL_OF_IT = b"STATION STA XX\r\nFETCH\r\nEND\r\n"
-# How a client behaves, and how the server ends behind it, where that is certain.
+# How a client behaves, and how the server ends after it, where that is certain.
 RUDE_CLIENTS: list[tuple[str, Callable[[socket.socket], object], Optional[Ended]]] = [
     ("sends nothing", sends(b""), FINE),
     ("sends half a line", sends(b"STATION ST"), FINE),
@@ -153,7 +153,7 @@ def rude_clients() -> Cases:
         yield Fact(f"a client that {name}, then a good one", [True, True], good)
         ended = server.end()
         fits = ended == wanted or wanted is None and ended in (FINE, FAILED)
-        yield holds(f"serve behind a client that {name}", fits, ended)
+        yield holds(f"serve after a client that {name}", fits, ended)
 
 
 def full_link() -> Cases:
@@ -164,7 +164,7 @@ def full_link() -> Cases:
         link.sendall(ALL_OF_IT)
         link.recv(1)
     yield holds("a client that leaves a full link, then a good one", is_good(server.port, records))
-    yield Fact("serve behind a full link", FAILED, server.end())
+    yield Fact("serve after a full link", FAILED, server.end())
 
 
 def rude_servers() -> Cases:
@@ -186,7 +186,7 @@ def rude_servers() -> Cases:
         ("sends nothing", [b"", b"", b""], failed, b"", 3),
         ("sends nothing at first", [b"", b"OK\r\n", good], fine, own, 3),
         ("breaks off in a packet", [good[:500], good], fine, own, 2),
-        ("sends more behind the end", [good + b"SL000002" + own], fine, own, 1),
+        ("sends more after the end", [good + b"SL000002" + own], fine, own, 1),
     ]:
         speaker = Speaker([[stream] for stream in streams])
         run = fetch([STA], speaker.port, "--tries", 3, wants=[1])

@@ -9,7 +9,7 @@ from driver.rows import Cases, Row, both
 from driver.texts import BAD_VALUE, About
 from rows.parts import BHZ, KEY, LATER, OF_BOTH, OF_FIRST, OF_LATE, OVERLAP, START, part
 
-# The keys of two more channels, one before and one behind.
+# The keys of two more channels, one before and one after.
 BHN_KEY, LAST_KEY = "58585354412020202042484E", "58585354412020202042485B"
 BHN = "XX_STA__BHN"
 NONE = "continuous 2024-01-01T00:00:00.000000 rate 20/1"
@@ -27,7 +27,7 @@ def channel(key: str = KEY, records: int = 1, samples: int = 16, head: str = f"1
 
 
 def counts(records: int, bytes: int) -> str:
-    """The line behind the channels."""
+    """The line after the channels."""
     return f"records {records} bytes {bytes}"
 
 
@@ -68,7 +68,7 @@ def worked() -> Cases:
         yield from joins(f"nothing in place {place}", 1, parts, text, joint)
     yield from joins("nothing around the joint part", 1, [NOTHING, joint, NOTHING], text, joint)
     two = part(channel(records=2, samples=32, tail=f"{START + 800000} 16 20/1 none"), counts(2, 256))
-    yield from joins("one record behind another", 0, [FIRST, NEXT], TWO, two)
+    yield from joins("one record after another", 0, [FIRST, NEXT], TWO, two)
     yield from joins("the other way", 1, [NEXT, FIRST],
                      f"{BHZ} broken findings 1 first record 2 offset 128 overlap 1600000\nrecords 2 channels 1\n")
     yield Row("all of the input is read", f"{FIRST}{LATE}".encode(), ["join"], 1, text.encode(), left=0)
@@ -76,9 +76,9 @@ def worked() -> Cases:
     yield Row("the sample with a gap, audited", sample, ["audit"], 1, text.encode())
 
 
-def border(name: str, before: str, behind: str, why: str = "", first: str = NONE) -> Iterator[Row]:
+def border(name: str, before: str, after: str, why: str = "", first: str = NONE) -> Iterator[Row]:
     """What is found of the border between two channels of one record, if anything."""
-    parts = [part(before, ONE), part(behind, ONE)]
+    parts = [part(before, ONE), part(after, ONE)]
     if why:
         yield from joins(name, 1, parts,
                          f"{BHZ} broken findings 1 first record 2 offset 128 {why}\nrecords 2 channels 1\n")
@@ -152,7 +152,7 @@ def firsts() -> Cases:
                      f"{BHZ} broken findings 2 first record 1 offset 0 encoding 4\nrecords 2 channels 1\n",
                      part(channel(records=2, samples=32, head="none", tail=f"{LATER} 16 20/1 none",
                                   findings="2 first 1 0 encoding 4"), counts(2, 256)))
-    yield from joins("a tail without a time behind one with a time", 1, [FIRST, part(TIMELESS, ONE), LATE],
+    yield from joins("a tail without a time after one with a time", 1, [FIRST, part(TIMELESS, ONE), LATE],
                      f"{BHZ} broken findings 1 first record 2 offset 128 time day\nrecords 3 channels 1\n",
                      part(channel(records=3, samples=48, tail=f"{LATER} 16 20/1 none",
                                   findings="1 first 2 128 time day"), counts(3, 384)))
@@ -160,18 +160,18 @@ def firsts() -> Cases:
                      f"{BHZ} broken findings 1 first record 2 offset 128 time day\nrecords 2 channels 1\n",
                      part(channel(records=2, samples=32, tail="none", findings="1 first 2 128 time day"),
                           counts(2, 256)))
-    # The border comes before what is found within the second part, and behind what is found within the first.
+    # The border comes before what is found within the second part, and after what is found within the first.
     within = part(channel(records=3, samples=48, head=f"1 0 {LATER} 20/1", tail=f"{START + 9 * SECOND} 16 20/1 none",
                           findings="2 first 2 128 norate"), counts(3, 384))
     yield from joins("a border before other findings", 1, [FIRST, within],
                      f"{BHZ} broken findings 3 first record 2 offset 128 gap 25001\nrecords 4 channels 1\n",
                      part(channel(records=4, samples=64, tail=f"{START + 9 * SECOND} 16 20/1 none",
                                   findings="3 first 2 128 gap 25001"), counts(4, 512)))
-    yield from joins("a border behind other findings", 1, [within, FIRST],
+    yield from joins("a border after other findings", 1, [within, FIRST],
                      f"{BHZ} broken findings 3 first record 2 offset 128 norate\nrecords 4 channels 1\n",
                      part(channel(records=4, samples=64, head=f"1 0 {LATER} 20/1",
                                   findings="3 first 2 128 norate"), counts(4, 512)))
-    yield from joins("a finding behind a sound border", 1,
+    yield from joins("a finding after a sound border", 1,
                      [FIRST, within.replace(str(LATER), str(START + 800000))],
                      f"{BHZ} broken findings 2 first record 3 offset 256 norate\nrecords 4 channels 1\n")
     year = part(channel(head="none", tail="none", findings="1 first 1 0 time year"), ONE)
@@ -216,28 +216,28 @@ def channels() -> Cases:
 
 
 def faults() -> Cases:
-    """Parts behind one that ends by a fault are read, and not counted."""
+    """Parts after one that ends by a fault are read, and not counted."""
     cut = part(OF_FIRST, ONE, "fault at 128 truncated 10")
     text = f"{BHZ} {NONE} records 1 samples 16\nrecords 1 channels 1\nfault at 128 truncated 10\n"
     yield from joins("a fault", 2, [cut], text, cut)
-    yield from joins("a part behind a fault", 2, [cut, LATE], text, cut)
-    yield from joins("a fault behind a fault", 2, [cut, part(OF_LATE, ONE, "fault at 128 notdata"), LATE], text, cut)
+    yield from joins("a part after a fault", 2, [cut, LATE], text, cut)
+    yield from joins("a fault after a fault", 2, [cut, part(OF_LATE, ONE, "fault at 128 notdata"), LATE], text, cut)
     joint = part(OF_BOTH, counts(2, 256), "fault at 256 length 6")
     faulty = part(OF_LATE, ONE, "fault at 128 length 6")
     text = f"{FOUND}records 2 channels 1\nfault at 256 length 6\n"
     yield from joins("a gap and a fault", 2, [FIRST, faulty], text, joint)
-    yield from joins("a gap and a fault, and a part behind", 2, [FIRST, faulty, FIRST], text, joint)
+    yield from joins("a gap and a fault, and a part after", 2, [FIRST, faulty, FIRST], text, joint)
     yield from joins("a fault and no record", 2, [FIRST, part(counts(0, 0), "fault at 0 read"), LATE],
                      f"{BHZ} {NONE} records 1 samples 16\nrecords 1 channels 1\nfault at 128 read\n",
                      part(OF_FIRST, ONE, "fault at 128 read"))
-    # Faults that lie behind are summed; those of a part that isn't counted aren't.
+    # Faults that were passed are summed; those of a part that isn't counted aren't.
     some = part(OF_FIRST, ONE, "faults 3")
-    yield from joins("faults that lie behind", 2, [some, NEXT],
+    yield from joins("faults that were passed", 2, [some, NEXT],
                      f"{BHZ} {NONE} records 2 samples 32\nrecords 2 channels 1\nfaults 3\n",
                      part(channel(records=2, samples=32, tail=f"{START + 800000} 16 20/1 none"), counts(2, 256),
                           "faults 3"))
     all_of = [some, part(begins(START + 800000), ONE, "faults 40", "fault at 128 order"), some]
-    yield from joins("faults that lie behind, and one", 2, all_of,
+    yield from joins("faults that were passed, and one", 2, all_of,
                      f"{BHZ} {NONE} records 2 samples 32\nrecords 2 channels 1\nfaults 43\nfault at 256 order\n",
                      part(channel(records=2, samples=32, tail=f"{START + 800000} 16 20/1 none"), counts(2, 256),
                           "faults 43", "fault at 256 order"))
@@ -280,7 +280,7 @@ BHN_FIRST, BHN_LATE = OF_FIRST.replace(KEY, BHN_KEY), OF_LATE.replace(KEY, BHN_K
 BHN_BORDER, BHZ_BORDER = (f"256 {name} record 3 start 2024-01-01T00:00:00.825001 gap 25001\n" for name in (BHN, BHZ))
 
 
-def bad_behind_borders() -> Cases:
+def bad_after_borders() -> Cases:
     """Of a text with a bad line nothing is written, or with `--each` the lines of the borders before it; and the faults
     before it are all that is reported."""
     first, two = part(BHN_FIRST, OF_FIRST, counts(2, 256)), counts(2, 256)
@@ -297,7 +297,7 @@ def bad_behind_borders() -> Cases:
         ("the counts", part(BHN_LATE, OF_LATE, "records 2 bytes -1"), 8, all_of),
         ("the faults", part(BHN_LATE, OF_LATE, two, "faults 0"), 9, all_of),
         ("a fault", part(BHN_LATE, OF_LATE, two, "faults 1", "fault at 256 nodata"), 10, all_of),
-        ("a line behind", part(BHN_LATE, OF_LATE, two, "fault at 256 order") + "end\n", 10, all_of),
+        ("a line after", part(BHN_LATE, OF_LATE, two, "fault at 256 order") + "end\n", 10, all_of),
     ):
         text, error = (first + second).encode(), f"mseed: bad part at line {line}\n"
         for words in (["--past-faults"], ["--part"], [], ["--each"], ["--each", "--past-faults"]):
@@ -327,8 +327,8 @@ def each_border() -> Cases:
                      f"{BHN} broken findings 1 first record 3 offset 256 gap 25001\n"
                      f"{BHZ} broken findings 1 first record 3 offset 256 gap 25001\nrecords 4 channels 2\n")
     # The channels ascend within a part, wherever their records lie.
-    behind = part(BHN_LATE.replace("head 1 0", "head 2 128"), OF_LATE, counts(2, 256))
-    yield from tells("the second channel first", 1, [first, behind],
+    after = part(BHN_LATE.replace("head 1 0", "head 2 128"), OF_LATE, counts(2, 256))
+    yield from tells("the second channel first", 1, [first, after],
                      BHN_BORDER.replace("256 XX_STA__BHN record 3", "384 XX_STA__BHN record 4") + BHZ_BORDER,
                      f"{BHN} broken findings 1 first record 4 offset 384 gap 25001\n"
                      f"{BHZ} broken findings 1 first record 3 offset 256 gap 25001\nrecords 4 channels 2\n")
@@ -361,13 +361,13 @@ def each_border() -> Cases:
                      "records 2 channels 1\n")
 
 
-def each_behind_faults() -> Cases:
-    """Borders behind a part that ends by a fault: none, but with `--past-faults`."""
+def each_after_faults() -> Cases:
+    """Borders after a part that ends by a fault: none, but with `--past-faults`."""
     cut = "fault at 128 truncated 10"
     faulty, one = part(OF_FIRST, ONE, cut), f"128 {BHZ} record 2 start 2024-01-01T00:00:00.825001 gap 25001\n"
-    yield from tells("a part behind a fault", 2, [faulty, LATE], "",
+    yield from tells("a part after a fault", 2, [faulty, LATE], "",
                      f"{BHZ} {NONE} records 1 samples 16\nrecords 1 channels 1\n{cut}\n")
-    yield from tells("a gap and a fault behind it", 2, [FIRST, part(OF_LATE, ONE, cut), FIRST], one,
+    yield from tells("a gap and a fault after it", 2, [FIRST, part(OF_LATE, ONE, cut), FIRST], one,
                      f"{FOUND}records 2 channels 1\nfault at 256 truncated 10\n")
     past = ["--past-faults"]
     yield from tells("no fault", 1, [FIRST, LATE], one, f"{FOUND}records 2 channels 1\n", more=past)
@@ -384,7 +384,7 @@ Written = Tuple[List[str], str, str]
 def expecting(parts: Sequence[str], more: Sequence[str], status: int, written: Sequence[Written],
               errors: str = "") -> Iterator[Row]:
     """With `--expect` the parts are counted. Where they are as many, all is as without it; where they aren't, nothing
-    is written but the lines of the borders, and both numbers are told behind the faults."""
+    is written but the lines of the borders, and both numbers are told after the faults."""
     count, text = len(parts), "".join(parts).encode()
     for expected in sorted({1, count - 1, count, count + 1, 10 * count, MOST_PARTS} - {-1, 0}):
         refused = "" if expected == count else f"mseed: {count} parts, not {expected}\n"
@@ -412,7 +412,7 @@ def counted() -> Cases:
     yield from expecting([FIRST, LATE], past, 1, gapped)
     yield from expecting([FIRST, NOTHING, LATE], [], 1, gapped)
     yield from expecting([joint], [], 1, of(f"{FOUND}records 2 channels 1\n", joint))
-    # Behind a fault parts are counted, though nothing in them is.
+    # After a fault parts are counted, though nothing in them is.
     ended = of(f"{BHZ} {NONE} records 1 samples 16\nrecords 1 channels 1\n{cut}\n", faulty)
     yield from expecting([faulty], [], 2, ended)
     yield from expecting([faulty, LATE], [], 2, ended)
@@ -434,17 +434,17 @@ def overlaps(count: int) -> tuple[str, str, str]:
             part(joint, counts(count, 128 * count)), borders)
 
 
-def counted_behind_others() -> Cases:
+def counted_after_others() -> Cases:
     """A bad line comes before the number of parts, and a number is read as those of lengths are."""
     for words in ([], ["--part"], ["--each"], ["--past-faults"], ["--each", "--past-faults"]):
         borders = f"128 {BHZ} {GAP}".encode() if "--each" in words else b""
-        for name, behind, error in (("a bad line", "none\n", "bad part at line 7"),
+        for name, after, error in (("a bad line", "none\n", "bad part at line 7"),
                                     ("no counts", "mseed part 1\n", "bad part at line 8"),
                                     ("no end of a line", "mseed part 1", "bad part at line 7"),
                                     ("a sum that passes", part(counts(2**63 - 1, 0)), "bad part at line 8"),
                                     ("a part more", NOTHING, "3 parts, not 5")):
             yield Row(f"{name}, and other parts than expected: join {' '.join(words)}",
-                      f"{FIRST}{LATE}{behind}".encode(), ["join", *words, "--expect", "5"], 2, borders,
+                      f"{FIRST}{LATE}{after}".encode(), ["join", *words, "--expect", "5"], 2, borders,
                       f"mseed: {error}\n".encode())
     text = f"{FIRST}{LATE}".encode()
     for number in ("2", "02", "000000002"):
@@ -488,6 +488,6 @@ def words() -> Cases:
 
 def rows() -> Cases:
     """All of them."""
-    for some in (worked, borders, far_borders, firsts, channels, faults, past_faults, bad_behind_borders, each_border,
-                 each_behind_faults, counted, counted_behind_others, words):
+    for some in (worked, borders, far_borders, firsts, channels, faults, past_faults, bad_after_borders, each_border,
+                 each_after_faults, counted, counted_after_others, words):
         yield from some()

@@ -1,4 +1,4 @@
-"""Archives at random that are cut between records, and others that end by faults, one behind another: their parts,
+"""Archives at random that are cut between records, and others that end by faults, one after another: their parts,
 joined in order and by way of other joint parts, give what an audit gives of the whole."""
 
 from __future__ import annotations
@@ -40,7 +40,7 @@ def counts_of(part: bytes) -> tuple[int, int]:
 
 
 def gone_up(lines: bytes, records: int, bytes: int) -> list[bytes]:
-    """The lines of findings behind so many records and bytes."""
+    """The lines of findings after so many records and bytes."""
     def risen(line: re.Match[bytes]) -> bytes:
         return b"%d %s record %d " % (int(line[1]) + bytes, line[2], int(line[3]) + records)
 
@@ -54,7 +54,7 @@ def by_offset(line: bytes) -> int:
 
 
 def merged(texts: Sequence[bytes], parts: Sequence[bytes], borders: bytes) -> bytes:
-    """The lines of findings before each of these parts, behind the records of the parts before, and those of the
+    """The lines of findings before each of these parts, after the records of the parts before, and those of the
     borders, by their offsets."""
     lines, records, size = borders.splitlines(keepends=True), 0, 0
     for text, part in zip(texts, parts):
@@ -64,7 +64,7 @@ def merged(texts: Sequence[bytes], parts: Sequence[bytes], borders: bytes) -> by
 
 
 def in_groups(source: Random, parts: Sequence[bytes]) -> list[bytes]:
-    """The parts one behind another, in up to four groups, some of which may be empty."""
+    """The parts one after another, in up to four groups, some of which may be empty."""
     places = sorted(source.randrange(len(parts) + 1) for _ in range(source.randrange(4)))
     return [b"".join(parts[begin:end]) for begin, end in zip([0, *places], [*places, len(parts)])]
 
@@ -96,7 +96,7 @@ def cut_archive(seed: int) -> Seen:
 
 
 def with_faults(text: bytes, faults: int) -> bytes:
-    """The text of an audit behind so many faults."""
+    """The text of an audit after so many faults."""
     return text + (b"faults %d\n" % faults if faults else b"")
 
 

@@ -1,4 +1,4 @@
-"""Parts that are joined over an input that fails behind so many bytes, and onto an output and a standard error that do;
+"""Parts that are joined over an input that fails after so many bytes, and onto an output and a standard error that do;
 with each allocation refused in turn; and 100,000 parts of one channel in the memory of a few."""
 
 from __future__ import annotations
@@ -32,7 +32,7 @@ JOINT = part(OF_BOTH, counts(2, 256))
 CUT = "fault at 128 truncated 10"
 FAULTY = part(OF_FIRST, ONE, CUT) + part(OF_LATE, ONE, CUT)
 REPORTED = [f"mseed: part {number} {CUT}\n" for number in (1, 2)]
-# Behind a bad line nothing matters.
+# After a bad line nothing matters.
 BAD = GAPPED + part("none") + GAPPED
 
 # The most memory that any number of parts of one channel may take, in KiB.
@@ -44,7 +44,7 @@ def reads(failing: str, text: str, words: Sequence[str], size: int, out: str, er
     """So many bytes are all that the input brings, at once and one after another."""
     for piece in (1, WHOLE):
         if piece > 1 or size % 7 == 0:
-            yield Row(f"{' '.join(words)} over an input that fails behind {size} of {len(text)} bytes, {piece} at once",
+            yield Row(f"{' '.join(words)} over an input that fails after {size} of {len(text)} bytes, {piece} at once",
                       text.encode(), words, 2, out.encode(), err.encode(),
                       env=preloaded(failing, READ_ROOM=size, PIECE=piece))
 
@@ -145,7 +145,7 @@ def closed() -> Cases:
 
 
 def same_channel(count: int) -> str:
-    """So many parts of one channel, each 0.2 seconds behind the end of the one before."""
+    """So many parts of one channel, each 0.2 seconds after the end of the one before."""
     return "".join(part(begins(START + SECOND * index), ONE) for index in range(count))
 
 
@@ -169,7 +169,7 @@ def refusals(refusing: str) -> Cases:
 
 
 def tells(refusing: str, name: str, row: Row) -> Cases:
-    """A run of status 2 in any case, with each allocation refused in turn, alone and with all behind it: it tells some
+    """A run of status 2 in any case, with each allocation refused in turn, alone and with all after it: it tells some
     of the faults before it ends for want of memory, and writes nothing."""
     whole = Result(2, row.out, row.err)
     ends = [Result(2, b"", "".join(REPORTED[:count]).encode() + NO_MEMORY) for count in range(len(REPORTED) + 1)]

@@ -25,14 +25,14 @@ def text_of(lines: Sequence[str]) -> str:
 
 
 def bad(name: str, text: str, line: int) -> Iterator[Row]:
-    """A text of which this line is bad: by itself with each of the options in turn, and behind other parts. A fault
+    """A text of which this line is bad: by itself with each of the options in turn, and after other parts. A fault
     before it, which is of the first part, is reported."""
     before = [f"mseed: part 1 {one}\n" for one in text.split("\n")[: line - 1] if one.startswith("fault at ")]
     for words in OPTIONS[:3]:
         reported = "".join(before) if "--past-faults" in words else ""
         yield Row(f"{name}: join {' '.join(words)}", text.encode(), ["join", *words], 2, b"",
                   f"{reported}mseed: bad part at line {line}\n".encode())
-    yield Row(f"{name}, behind other parts", (IN_FRONT + text).encode(), ["join"], 2, b"",
+    yield Row(f"{name}, after other parts", (IN_FRONT + text).encode(), ["join"], 2, b"",
               f"mseed: bad part at line {line + 6}\n".encode())
 
 
@@ -54,17 +54,17 @@ def lines_that_lack() -> Cases:
         ("two first lines", [begin, *LINES], 2),
         ("channels out of order", [begin, bhz, bhn, records], 3),
         ("a channel twice", [begin, bhn, bhn, records], 3),
-        ("a channel behind the counts", [begin, bhn, records, bhz], 4),
+        ("a channel after the counts", [begin, bhn, records, bhz], 4),
         ("counts twice", [begin, bhn, bhz, records, records], 5),
         ("faults twice", [*LINES[:5], faults], 6),
         ("the fault before the faults", [*LINES[:4], fault, faults], 6),
         ("the fault twice", [*LINES, fault], 7),
-        ("a part without a first line behind another", [*LINES, bhn, records], 7),
+        ("a part without a first line after another", [*LINES, bhn, records], 7),
         ("an empty line", [""], 1),
         ("an empty line before it", ["", *LINES], 1),
         ("an empty line within", [begin, "", *LINES[1:]], 2),
-        ("an empty line behind the counts", [*LINES[:4], ""], 5),
-        ("an empty line behind", [*LINES, ""], 7),
+        ("an empty line after the counts", [*LINES[:4], ""], 5),
+        ("an empty line after", [*LINES, ""], 7),
         ("the text of an audit", ["records 0 channels 0"], 1),
         ("a finding before the part", ["0 XX_STA__BHZ record 1 start 2024-01-01T00:00:00.000000 norate", *LINES], 1),
     ):
@@ -269,7 +269,7 @@ def findings() -> Cases:
 
 def goes_up() -> Cases:
     """Numbers and offsets of the second part go up, and may not pass, whether or not the joint part keeps them: nothing
-    of them is kept behind a channel that has a head and a finding already."""
+    of them is kept after a channel that has a head and a finding already."""
     many = LARGEST - 16
     lines = [channel(head=f"17 16 {START} 20/1"), channel(head="none", findings="1 first 17 16 norate")]
     up = [channel(head=f"{LARGEST} {LARGEST} {START} 20/1"),
@@ -305,9 +305,9 @@ def counts_and_faults() -> Cases:
     yield from holds_all("one fault that ends all", [many, part(nothing, fault)], 2, nothing, f"faults {LARGEST}",
                          fault)
     reported = f"mseed: part 1 {fault}\n"
-    yield from passes("faults behind one that was reported", [part(nothing, fault), many], 6, ["--past-faults"],
+    yield from passes("faults after one that was reported", [part(nothing, fault), many], 6, ["--past-faults"],
                       reported)
-    # Behind a fault.
+    # After a fault.
     prefix = part(channel(records=LARGEST), counts(LARGEST, LARGEST), f"faults {LARGEST}", f"fault at {LARGEST} read")
     yield from holds_all("what isn't counted", [prefix, LATE, part(*LINES[1:])], 2, *prefix.splitlines()[1:])
     yield from passes("what isn't counted, and a bad line", [prefix, LATE, part("none")], 10)

@@ -100,7 +100,7 @@ def part_for(source: Random) -> str:
 def kinds_of(each: Result) -> list[str]:
     """What came of some parts of which each border was reported."""
     if b"bad part" in each.err:
-        return ["refused", "refused behind a border"] if each.out else ["refused"]
+        return ["refused", "refused after a border"] if each.out else ["refused"]
     if b" parts, not " in each.err:
         return ["miscounted", "miscounted with a border"] if each.out else ["miscounted"]
     return ["accepted", "accepted with a fault"] if each.status == 2 else ["accepted"]

@@ -177,11 +177,11 @@ def written(built: Path, folder: Path) -> Cases:
     other = folder / "other"
     os.link(target, other)
     link.symlink_to("target")
-    yield Fact("behind a link", "1\n", written_by(link))
+    yield Fact("at the target of a link", "1\n", written_by(link))
     yield Fact("its target is replaced, with the mode that it had", (True, 128, 0o640, b"old"),
                (link.is_symlink(), target.stat().st_size, target.stat().st_mode & 0o777, other.read_bytes()))
     far.symlink_to(folder / "new")
-    yield Fact("behind a link to nothing", ("1\n", True, 128),
+    yield Fact("at the target of a link to nothing", ("1\n", True, 128),
                (written_by(far), far.is_symlink(), (folder / "new").stat().st_size))
     for device, expected in ((Path("/dev/null"), "1\n"), (Path("/dev/full"), "No space left on device /dev/full\n")):
         named = folder / device.name

@@ -1,4 +1,4 @@
-"""The package for Python reads on behind bytes that begin no record, and reads archives in pieces: by hand, in little
+"""The package for Python reads on after bytes that begin no record, and reads archives in pieces: by hand, in little
 memory, and by two threads at once. Archives at random are those of library_python.py."""
 
 from __future__ import annotations
@@ -123,7 +123,7 @@ after = resource.getrusage(resource.RUSAGE_SELF).ru_maxrss
 print(samples == 9 * len(SAMPLES) * made.turn, {goes_on for _, goes_on in last.values()}, (after - before) // 1024)
 """
 
-# Two archives, of one channel or of nine by turns, read one behind the other and by two threads at once: the least time
+# Two archives, of one channel or of nine by turns, read one after the other and by two threads at once: the least time
 # of each, until the threads are quicker by a seventh, or for half a minute. Other work on the machine comes second, if
 # that may be; else most tries tell nothing where there is much of it.
 THREADS = """
@@ -179,30 +179,30 @@ def trace(first: int, end: int, number: int) -> tuple[int, int, int, int]:
 def damages() -> list[tuple[str, bytes, list[tuple], list[tuple]]]:
     """Archives with damage, their traces, and what is left out of them: number, offset, length, reason and name."""
     whole, zeros = archive(), bytes(LENGTH)
-    front, behind, middle = b"".join(whole[:MIDDLE]), b"".join(whole[MIDDLE + 1 :]), whole[MIDDLE]
+    front, after, middle = b"".join(whole[:MIDDLE]), b"".join(whole[MIDDLE + 1 :]), whole[MIDDLE]
     one = [trace(0, RECORDS, 1)]
     two = [trace(0, MIDDLE, 1), trace(MIDDLE + 1, RECORDS, MIDDLE + 1)]
-    # Its first blockette is of type 0, and names none behind it.
+    # Its first blockette is of type 0, and names none after it.
     headless = middle[:48] + zeros[:8] + middle[56:]
     # A sample of 4 bytes is lacking.
     short = middle[:30] + (EACH + 50).to_bytes(2, "big") + middle[32:]
     return [
-        ("512 zero bytes in the middle", front + zeros + behind, two, [(MIDDLE + 1, AT, LENGTH, "notdata", "")]),
-        ("512 zero bytes more", front + zeros + middle + behind, one, [(MIDDLE + 1, AT, LENGTH, "notdata", "")]),
-        ("64 bytes more", front + b"x" * 64 + middle + behind, one, [(MIDDLE + 1, AT, 64, "notdata", "")]),
-        ("a record without blockettes", front + headless + behind, two, [(MIDDLE + 1, AT, LENGTH, "no1000", "")]),
+        ("512 zero bytes in the middle", front + zeros + after, two, [(MIDDLE + 1, AT, LENGTH, "notdata", "")]),
+        ("512 zero bytes more", front + zeros + middle + after, one, [(MIDDLE + 1, AT, LENGTH, "notdata", "")]),
+        ("64 bytes more", front + b"x" * 64 + middle + after, one, [(MIDDLE + 1, AT, 64, "notdata", "")]),
+        ("a record without blockettes", front + headless + after, two, [(MIDDLE + 1, AT, LENGTH, "no1000", "")]),
         ("zero bytes at the beginning", zeros + b"".join(whole), one, [(1, 0, LENGTH, "notdata", "")]),
         ("a record that is cut off at the end", b"".join(whole)[:-100], [trace(0, RECORDS - 1, 1)],
          [(RECORDS, (RECORDS - 1) * LENGTH, LENGTH - 100, "truncated 412", "")]),
-        ("a byte more, behind which no record stands at a multiple of 64", front + b"x" + middle + behind,
+        ("a byte more, after which no record stands at a multiple of 64", front + b"x" + middle + after,
          [trace(0, MIDDLE, 1)], [(MIDDLE + 1, AT, (RECORDS - MIDDLE) * LENGTH + 1, "notdata", "")]),
-        ("63 bytes more behind it, and the rest is found", front + b"x" + middle + bytes(63) + behind, two,
+        ("63 bytes more after it, and the rest is found", front + b"x" + middle + bytes(63) + after, two,
          [(MIDDLE + 1, AT, LENGTH + 64, "notdata", "")]),
-        ("a record with fewer samples than it says", front + short + behind,
+        ("a record with fewer samples than it says", front + short + after,
          [trace(0, MIDDLE, 1), trace(MIDDLE + 1, RECORDS, MIDDLE + 2)],
          [(MIDDLE + 1, AT, LENGTH, "short 112", "XX_STA__BHZ")]),
         ("no record at all", b"x" * 1000, [], [(1, 0, 1000, "notdata", "")]),
-        ("two damages", zeros[:128] + front + zeros + behind[:-10],
+        ("two damages", zeros[:128] + front + zeros + after[:-10],
          [two[0], trace(MIDDLE + 1, RECORDS - 1, MIDDLE + 1)],
          [(1, 0, 128, "notdata", ""), (MIDDLE + 1, AT + 128, LENGTH, "notdata", ""),
           (RECORDS - 1, (RECORDS - 1) * LENGTH + 128, LENGTH - 10, f"truncated {LENGTH - 10}", "")]),
@@ -210,7 +210,7 @@ def damages() -> list[tuple[str, bytes, list[tuple], list[tuple]]]:
 
 
 def reads_on(built: Path, folder: Path, numpy: bool) -> Cases:
-    """Behind what is no record, and behind a record that can't be read, by `read` and in pieces."""
+    """After what is no record, and after a record that can't be read, by `read` and in pieces."""
     manner = "with NumPy" if numpy else "without NumPy"
     for name, content, traces, left_out in damages():
         path = folder / "damaged.mseed"
@@ -231,7 +231,7 @@ def as_gaps_does(folder: Path) -> Cases:
 
 
 def recipe(built: Path) -> Cases:
-    """The cookbook's recipe prints what the second program reads of the records before the junk and behind it."""
+    """The cookbook's recipe prints what the second program reads of the records before the junk and after it."""
     text = (ROOT / "docs" / "cookbook.md").read_text(encoding="utf-8")
     blocks = re.findall(r"^```python\n(.*?)^```", text, re.MULTILINE | re.DOTALL)
     code = next(block for block in blocks if "iterate" in block)
@@ -273,5 +273,5 @@ def rows() -> Cases:
         for channels in (1, 9):
             words = ["-c", THREADS, str(folder / "first"), str(folder / "second"), str(channels)]
             ended = python(built, words, numpy=has_numpy())
-            yield holds(f"two threads read two archives of {channels} channels quicker than one behind the other",
+            yield holds(f"two threads read two archives of {channels} channels quicker than one after the other",
                         ended.returncode == 0 and float(ended.stdout) < 1, ended.stdout + ended.stderr)

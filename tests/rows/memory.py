@@ -1,4 +1,4 @@
-"""Each of the program's allocations refused in turn, alone and with all behind it: each such run writes
+"""Each of the program's allocations refused in turn, alone and with all after it: each such run writes
 `mseed: no memory` to its standard error and ends with status 2. An audit writes nothing then, and a listing a prefix of
 its text. An audit of many records allocates as often as one of four, and no more. Heaps that are bounded suffice.
 """

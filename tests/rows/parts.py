@@ -28,14 +28,14 @@ OF_FIRST = f"{KEY} records 1 samples 16 head 1 0 {START} 20/1 tail {START} 16 20
 OF_LATE = OF_FIRST.replace(str(START), str(LATER))
 OF_BOTH = (f"{KEY} records 2 samples 32 head 1 0 {START} 20/1 tail {LATER} 16 20/1 none findings 1 "
            "first 2 128 gap 25001")
-# The rate whose period is the longest, 2^30 seconds, and two records of it, the second a second behind the first.
+# The rate whose period is the longest, 2^30 seconds, and two records of it, the second a second after the first.
 SLOWEST = {"factor": -32768, "multiplier": -32768, "samples": 8590, "encoding": 1, "exponent": 15, "data": bytes(17180)}
 SLOW = record(**SLOWEST) + record(second=1, **SLOWEST)
 OVERLAP = "overlap 9223442268159000000"
 
 
 def part(*lines: str) -> str:
-    """The text of a part with these lines behind its first."""
+    """The text of a part with these lines after its first."""
     return "".join(f"{line}\n" for line in ("mseed part 1", *lines))
 
 
@@ -87,10 +87,10 @@ def channels() -> Cases:
                     of_one("1 0 -2209203548364800 20/1", "-2209203548364800 16 20/1 none", "0"), whole)
     yield from cuts("a rate that isn't reduced", 0, record(factor=-20, multiplier=40),
                     of_one(f"1 0 {START} 40/20", f"{START} 16 40/20 none", "0"), whole)
-    yield from cuts("a good record behind a bad one", 1, record(encoding=4) + next_record(),
+    yield from cuts("a good record after a bad one", 1, record(encoding=4) + next_record(),
                     f"{KEY} records 2 samples 32 head none tail {START + 800000} 16 20/1 none "
                     "findings 1 first 1 0 encoding 4", "records 2 bytes 256")
-    yield from cuts("a bad record behind a good one", 1, FIRST + record(hour=24),
+    yield from cuts("a bad record after a good one", 1, FIRST + record(hour=24),
                     f"{KEY} records 2 samples 32 head {one} tail none findings 1 first 2 128 time hour",
                     "records 2 bytes 256")
     yield from cuts("two channels between records without samples, and a fault", 2,
@@ -106,7 +106,7 @@ def channels() -> Cases:
 
 
 def records_at_random(source: Random) -> list[bytes]:
-    """The records of a few channels, those of one in the order of a series, or of one series behind another, some of
+    """The records of a few channels, those of one in the order of a series, or of one series after another, some of
     them lost and others with both leap flags; and between them some that have no samples."""
     lists, is_sound = [], source.randrange(3) == 0
     for number in range(source.choice([1, 2, 3, 12])):

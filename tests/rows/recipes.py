@@ -91,7 +91,7 @@ class Place:
         return words
 
     def run(self, recipe: Recipe, is_killed: bool = False, half: str = "", down: str = "") -> Came:
-        """Runs it in bash, its first job killed, at once or behind half of its text, or machines down."""
+        """Runs it in bash, its first job killed, at once or after half of its text, or machines down."""
         kill = self.folder / "kill"
         if is_killed:
             kill.mkdir()

@@ -23,7 +23,7 @@ def packs(name: str, archive: bytes, packed: bytes, *words: str) -> Row:
 
 
 def zeros(count: int, **changes) -> bytes:
-    """A record of so many zeros in Steim-2: their words of seven stand in the first frame, and in those behind it."""
+    """A record of so many zeros in Steim-2: their words of seven stand in the first frame, and in those after it."""
     words = -(-count // 7)
     data = b""
     for held in [min(words, 13)] + [min(words - at, 15) for at in range(13, words, 15)]:
@@ -52,7 +52,7 @@ def steim_words() -> Cases:
     last = record(samples=1, second=36, fraction=500, sequence=2, encoding=11, exponent=9, frames=1,
                   data=payload("02000000 00000000 00000000 40000000"))
     yield packs("722 zeros", zeros(361) + zeros(361, second=18, fraction=500), zeros(721, frames=7) + last)
-    # differences 300 1 1 1 1 behind a word of seven zeros, and behind two of four
+    # differences 300 1 1 1 1 after a word of seven zeros, and after two of four
     from_300 = [300, 301, 302, 303, 304]
     yield packs("differences 300 1 1 1 1 in Steim-2", record(samples=12, data=integers([0] * 7 + from_300)),
                 record(samples=12, encoding=11, frames=1, data=payload(
@@ -72,7 +72,7 @@ def times() -> Cases:
                 + record(data=integers(range(16, 32)), sequence=2, second=5, fraction=3333, micros=33, **third)
                 + record(samples=1, data=integers([32]), sequence=3, second=10, fraction=6667, micros=-34, **third),
                 *SHORT_INTEGERS)
-    # a leap second behind the tenth of 32 samples
+    # a leap second after the tenth of 32 samples
     before = {"year": 2016, "day": 366, "hour": 23, "minute": 59, "factor": 1}
     first = record(samples=10, second=50, activity=16, data=integers(range(10)), **before)
     leap = first + record(samples=22, second=59, exponent=8, data=integers(range(10, 32)), **before)

@@ -88,11 +88,11 @@ def leap_seconds() -> Cases:
     """A leap second within a stretch stays where it is."""
     before = {"year": 2016, "day": 366, "hour": 23, "minute": 59, "factor": 1}
     first = record(samples=10, second=50, activity=16, data=integers(range(10)), **before)
-    behind = record(samples=6, second=59, data=integers(range(10, 16)), **before)
-    yield from packs("a leap second", first + behind, first + record(
+    after = record(samples=6, second=59, data=integers(range(10, 16)), **before)
+    yield from packs("a leap second", first + after, first + record(
         samples=6, second=59, sequence=2, data=integers(range(10, 16)), **before), *SHORT)
     yield from packs("a leap second that nothing says", record(samples=10, second=50, data=integers(range(10)), **before)
-                     + behind, record(samples=10, second=50, data=integers(range(10)), **before)
+                     + after, record(samples=10, second=50, data=integers(range(10)), **before)
                      + record(samples=6, second=59, sequence=2, data=integers(range(10, 16)), **before), *SHORT)
 
 

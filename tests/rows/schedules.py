@@ -40,7 +40,7 @@ def schedules() -> Cases:
         run = rt(crate, ["try", "--seconds", "600", "--steps", "1"], b"".join(bytes for bytes, _ in rows + at_random))
     worlds = run.stdout.decode(errors="replace").splitlines(keepends=True)
     for number, (_, world) in enumerate(rows, 1):
-        yield Fact(f"the world of two stations behind row {number}", world, "".join(worlds[number - 1 : number]))
+        yield Fact(f"the world of two stations after row {number}", world, "".join(worlds[number - 1 : number]))
     wrong = [(seed, world, came) for seed, ((_, world), came) in enumerate(zip(at_random, worlds[len(rows) :]))
              if world != came]
     yield Fact(f"the worlds of {COUNT} schedules at random, by their seeds", [], wrong[:3])

@@ -117,16 +117,16 @@ def bounds() -> Cases:
     """Records that a bound parts: by the header's rate and number of samples, exactly, and no leap second put in."""
     hour = [record(factor=-3600, multiplier=1, samples=2, data=integers([1, 2]))]
     yield from selected("an hour a sample, at the last", hour, ["--from", "2024-01-01T01"], hour)
-    yield from selected("an hour a sample, behind", hour, ["--from", "2024-01-01T01:00:00.000001"], [])
-    third = [record(factor=3, multiplier=1, samples=2)]  # the second sample a third of a second behind the first
+    yield from selected("an hour a sample, after", hour, ["--from", "2024-01-01T01:00:00.000001"], [])
+    third = [record(factor=3, multiplier=1, samples=2)]  # the second sample a third of a second after the first
     yield from selected("a third of a second, before", third, ["--from", "2024-01-01T00:00:00.333333"], third)
-    yield from selected("a third of a second, behind", third, ["--from", "2024-01-01T00:00:00.333334"], [])
+    yield from selected("a third of a second, after", third, ["--from", "2024-01-01T00:00:00.333334"], [])
     single = [record(samples=1)]
     yield from selected("one sample", single, ["--from", FIRST], single)
-    yield from selected("one sample, behind", single, ["--from", "2024-01-01T00:00:00.000001"], [])
+    yield from selected("one sample, after", single, ["--from", "2024-01-01T00:00:00.000001"], [])
     for name, bare in [("no samples", record(samples=0)), ("no rate", record(factor=0))]:
         yield from selected(f"{name}, at its start", [bare], ["--from", FIRST], [bare])
-        yield from selected(f"{name}, behind", [bare], ["--from", "2024-01-01T00:00:00.000001"], [])
+        yield from selected(f"{name}, after", [bare], ["--from", "2024-01-01T00:00:00.000001"], [])
         yield from selected(f"{name}, until", [bare], ["--until", "2024-01-01T00:00:00.000001"], [bare])
     leap = [record(activity=16)]
     yield from selected("a leap second isn't put in", leap, ["--from", "2024-01-01T00:00:00.750001"], [])
@@ -161,7 +161,7 @@ def faults() -> Cases:
                              ("a header", record()[:10], b"truncated 10")]:
         line = b"mseed: fault at 256 " + fault + b"\n"
         for words, kept in [([], two), (["--channels", "*_STB_*_*"], two[128:]), (["--from", "2030-001"], b"")]:
-            yield from both(Row(f"{name} behind {words}", two + end, ["select", *words], 2, kept, line))
+            yield from both(Row(f"{name} after {words}", two + end, ["select", *words], 2, kept, line))
     bad = changed(record(), [(24, bytes([24]))])
     yield from both(Row("a record without a time, and junk", bad + b"x" * 48, ["select", "--from", "2000-001"], 2, b"",
                         untimed(1) + b"mseed: fault at 128 notdata\n"))
@@ -210,7 +210,7 @@ def of_files(folder: Path) -> Cases:
     words = ["select", "--channels", "IU_*_*_*"]
     expected = b"".join(IU)
     yield Row("three files", b"", [*words, *names], 0, expected)
-    yield Row("options behind the files", b"", ["select", *names, *words[1:]], 0, expected)
+    yield Row("options after the files", b"", ["select", *names, *words[1:]], 0, expected)
     yield Row("standard input among them", ARCHIVE[100:], [*words, names[0], "-"], 0, expected)
     for bad in (folder / "none", folder):
         yield Row(f"{bad}", ARCHIVE, [*words, names[0], str(bad)], 2, b"", f"mseed: cannot read {bad}\n".encode(),

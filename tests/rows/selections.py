@@ -46,27 +46,27 @@ def selects(name: str, words: Sequence[str], out: bytes, err: bytes = b"", archi
 
 
 def windows() -> Cases:
-    """A microsecond before a bound, at it, and behind it."""
+    """A microsecond before a bound, at it, and after it."""
     yield from selects("all", [], TWO)
     yield from selects("nothing of nothing", [], b"", archive=b"")
     for name, words, out in [
             ("at the last sample of the first", [f"--from={DAY}T00:00:00.75"], TWO),
-            ("behind it", [f"--from={DAY}T00:00:00.750001"], SECOND),
+            ("after it", [f"--from={DAY}T00:00:00.750001"], SECOND),
             ("before it", [f"--from={DAY}T00:00:00.749999"], TWO),
             ("at the last sample of all", [f"--from={DAY}T00:00:01.55"], SECOND),
-            ("behind it", [f"--from={DAY}T00:00:01.550001"], b""),
+            ("after it", [f"--from={DAY}T00:00:01.550001"], b""),
             ("at the first sample of the second", [f"--until={DAY}T00:00:00.8"], FIRST),
-            ("behind it", [f"--until={DAY}T00:00:00.800001"], TWO),
+            ("after it", [f"--until={DAY}T00:00:00.800001"], TWO),
             ("before it", [f"--until={DAY}T00:00:00.799999"], FIRST),
             ("at the first sample of all", [f"--until={DAY}"], b""),
-            ("behind it", [f"--until={DAY}T00:00:00.000001"], FIRST),
+            ("after it", [f"--until={DAY}T00:00:00.000001"], FIRST),
             ("in between", [f"--from={DAY}T00:00:00.75", f"--until={DAY}T00:00:00.8"], FIRST),
             ("a window without a sample", [f"--from={DAY}T00:00:00.76", f"--until={DAY}T00:00:00.79"], b""),
             ("a window between two samples", [f"--from={DAY}T00:00:00.01", f"--until={DAY}T00:00:00.02"], FIRST),
             ("the day", [f"--from={DAY}", "--until=2024-01-02"], TWO),
             ("the day of the year", ["--from=2024-001", "--until=2024-002"], TWO),
             ("second 60 is the next minute's first", ["--from=2023-12-31T23:59:60.75"], TWO),
-            ("a microsecond behind", ["--from=2023-12-31T23:59:60.750001Z"], SECOND),
+            ("a microsecond after", ["--from=2023-12-31T23:59:60.750001Z"], SECOND),
             ("second 60 in any minute", ["--from=2023-12-31T11:22:60", "--until=2023-12-31T23:59:60.000001Z"], FIRST),
             ("day 366 of the year before the next", ["--from=2024-366"], b""),
             ("an hour", [f"--until={DAY}T00Z"], b"")]:
@@ -75,20 +75,20 @@ def windows() -> Cases:
 
 def headers() -> Cases:
     """A record stands by its header alone."""
-    at, behind = [f"--from={DAY}"], [f"--from={DAY}T00:00:00.000001"]
+    at, after = [f"--from={DAY}"], [f"--from={DAY}T00:00:00.000001"]
     for name, changes in [("no samples", {"samples": 0}), ("no rate", {"factor": 0}), ("one sample", {"samples": 1})]:
         yield from selects(f"{name}, at its start", at, record(**changes), archive=record(**changes))
-        yield from selects(f"{name}, behind it", behind, b"", archive=record(**changes))
+        yield from selects(f"{name}, after it", after, b"", archive=record(**changes))
     hourly = record(factor=-3600, samples=3)
     yield from selects("three samples an hour apart", [f"--from={DAY}T02"], hourly, archive=hourly)
-    yield from selects("behind them", [f"--from={DAY}T02:00:00.000001"], b"", archive=hourly)
+    yield from selects("after them", [f"--from={DAY}T02:00:00.000001"], b"", archive=hourly)
     leap = record(factor=1, activity=16)
     yield from selects("no leap second is put in", [f"--from={DAY}T00:00:15"], leap, archive=leap)
-    yield from selects("behind the last sample before one", [f"--from={DAY}T00:00:15.000001"], b"", archive=leap)
+    yield from selects("after the last sample before one", [f"--from={DAY}T00:00:15.000001"], b"", archive=leap)
     # Two samples at 3 a second: the second is at 333,333 and a third microseconds.
     third = record(factor=3, samples=2)
     yield from selects("within the last microsecond", [f"--from={DAY}T00:00:00.333333"], third, archive=third)
-    yield from selects("behind it", [f"--from={DAY}T00:00:00.333334"], b"", archive=third)
+    yield from selects("after it", [f"--from={DAY}T00:00:00.333334"], b"", archive=third)
     bad = record(data=b"\xff" * 64, encoding=99)
     yield from selects("what it holds isn't judged", [f"--until={DAY}T01"], bad, archive=bad)
     untimed = b"mseed: %d records without a time\n"
@@ -159,7 +159,7 @@ def words(taking: Sequence[str]) -> Cases:
                           left=len(TWO))
         for window in (["--from=2024-01-02", "--until=2024-01-01"], ["--from=2024-001", "--until=2024-01-01T00:00"],
                        ["--from=2023-12-31T23:59:60", "--until=2024-01-01"]):
-            yield Row(f"{command} {window}: until isn't behind from", TWO, [*command, *window], 3, b"", BAD_VALUE)
+            yield Row(f"{command} {window}: until isn't after from", TWO, [*command, *window], 3, b"", BAD_VALUE)
         yield Row(f"{command} --channels twice", TWO, [*command, "--channels=*_*_*_*", "--channels=*_*_*_*"], 3, b"",
                   About("--channels"))
         yield Row(f"{command} a bad value before a file that isn't there", TWO, [*command, "--from=1", "none"], 3, b"",

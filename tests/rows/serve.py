@@ -48,7 +48,7 @@ REFUSED: list[tuple[str, str, bytes, Sequence[str]]] = [
     ("small letters", "record 1 is not of this feed", of("sta", "XX"), []),
     ("a station filled with NULs", "record 1 is not of this feed", record(codes=b"STA\0\0  BHZXX", exponent=9), []),
     ("a network with a NUL", "record 1 is not of this feed", record(codes=b"STA    BHZX\0", exponent=9), []),
-    ("a record of another place behind many", "record 1200 is not of this feed", STA * 1199 + STB, []),
+    ("a record of another place after many", "record 1200 is not of this feed", STA * 1199 + STB, []),
     ("a second place that is not requested", "record 2 is not of this feed", BOTH, []),
     ("a third place", "record 3 is not of this feed", STA + STA + OTHER + STA, ["XX_STB"]),
     ("an end within a record", "fault at 512 truncated 300", CUT, []),
@@ -62,13 +62,13 @@ REFUSED: list[tuple[str, str, bytes, Sequence[str]]] = [
 
 
 def inputs_that_fail(words: Sequence[str]) -> Cases:
-    """An input that fails behind so many bytes: the last whole record's end is named."""
+    """An input that fails after so many bytes: the last whole record's end is named."""
     failing = library("failing_devices")
     if failing is None:
         yield Skipped("serve over an input that fails", COMPILER)
         return
     for size in (0, 1, 511, 512, 513, 1023, 1024):
-        yield Row(f"an input that fails behind {size} bytes", STA * 1200, words, 2, b"",
+        yield Row(f"an input that fails after {size} bytes", STA * 1200, words, 2, b"",
                   f"mseed: fault at {size // 512 * 512} read\n".encode(), env=preloaded(failing, READ_ROOM=size))
 
 

@@ -39,7 +39,7 @@ def transcript(name: str, talk: Callable[[socket.socket], Cases]) -> Cases:
         packets = received_up_to(link, 65536)
     wanted = b"SL000001" + RECORDS[1] + b"SL000002" + RECORDS[2] + b"END"
     yield Fact(f"the packets of a transcript {name}", wanted, packets)
-    yield Fact(f"serve behind a transcript {name}", ENDED, server.end())
+    yield Fact(f"serve after a transcript {name}", ENDED, server.end())
 
 
 def replies(link: socket.socket, name: object, wanted: bytes) -> Fact:
@@ -61,7 +61,7 @@ def sent_in_bytes(link: socket.socket) -> Cases:
 
 
 def sent_in_lines(link: socket.socket) -> Cases:
-    """Line by line, each behind the reply to the one before it."""
+    """Line by line, each after the reply to the one before it."""
     for line, reply in zip(LINES, REPLIES):
         send(link, line)
         yield replies(link, line, reply)
@@ -119,8 +119,8 @@ def last_byte(lines: bytes, answer: bytes, last: bytes, wanted: bytes) -> Cases:
         link.sendall(b"\n")
         rest, is_reset = rest_of(link)
     yield holds(f"what was sent before {name}", answered + rest == wanted, (len(answered), len(rest), len(wanted)))
-    yield holds(f"the link's end behind {name}", not is_reset)
-    yield Fact(f"serve behind {name}", ENDED, server.end())
+    yield holds(f"the link's end after {name}", not is_reset)
+    yield Fact(f"serve after {name}", ENDED, server.end())
 
 
 def unread() -> Cases:
@@ -132,7 +132,7 @@ def unread() -> Cases:
         rest, is_reset = rest_of(link)
     yield holds("what was sent to a client that sends more", rest == FETCHED, (len(rest), len(FETCHED)))
     yield holds("the end of a link that brings more", not is_reset)
-    yield Fact("serve behind a client that sends more", ENDED, server.end())
+    yield Fact("serve after a client that sends more", ENDED, server.end())
 
 
 def held(name: str, pause: Optional[float]) -> Cases:
@@ -153,8 +153,8 @@ def held(name: str, pause: Optional[float]) -> Cases:
                 pass
             except ConnectionError:
                 pause = None
-    yield holds(f"a client behind one that {name}", brought == FETCHED, len(brought))
-    yield Fact(f"serve behind a client that {name}", ENDED, server.end())
+    yield holds(f"a client after one that {name}", brought == FETCHED, len(brought))
+    yield Fact(f"serve after a client that {name}", ENDED, server.end())
 
 
 def rows() -> Cases:

@@ -22,7 +22,7 @@ def chained(blockettes: bytes, **changes) -> bytes:
 
 
 def lists(name: str, archive: bytes, *lines: str, fault: str = "") -> Cases:
-    """The lines of the records, whose count is written behind them; and the fault, if any."""
+    """The lines of the records, whose count is written after them; and the fault, if any."""
     text = "".join(lines) + f"records {len(lines)}\n" + (f"fault at {fault}\n" if fault else "")
     yield from both(Row(name, archive, ["show"], 2 if fault else 0, text.encode()))
 

@@ -69,7 +69,7 @@ def one_by_one() -> Cases:
 
 
 def with_half() -> Cases:
-    """Many records at once, and half a one behind them."""
+    """Many records at once, and half a one after them."""
     listing, count = Listing(), 300
     lines = b"".join(line_of(SIZE * index, "00.000000") for index in range(count))
     listing.send(record() * count + record()[: SIZE // 2])

@@ -1,5 +1,5 @@
 """`tools/slurm` and `tools/dask_audit`: over a sound tree the text and status of the program's audit of its files, one
-behind another; over the tree with whatever goes wrong (driver/tools.py), those of a join of all parts; what is said
+after another; over the tree with whatever goes wrong (driver/tools.py), those of a join of all parts; what is said
 where a task was killed, a file can't be read, or a part is lost; and how a run is stopped.
 
 Slurm is a stand-in (sources/local_sbatch.py); tools_slurm has a real one. Dask is a stand-in too (sources/dask), and
@@ -203,9 +203,10 @@ def killed_and_unread(cluster: Cluster, files: Sequence[Path]) -> Cases:
     listed.write_text("".join(f"{path}\n" for path in paths), encoding="utf-8")
     words = ["--parts", str(parts), "--list", str(listed), *(["--tasks", "2"] if name == "slurm" else [])]
     came = cluster.run(*words, env={"KILLED": "2"})
-    lack = len(paths) - len(made_in(parts))
+    missing = len(paths) - len(made_in(parts))
+    line = f"{name}: {missing} parts are missing".encode()
     yield holds(f"{name}: a task that was killed, and a file that can't be read",
-                lack and came.status == 2 and not came.out and f"{name}: {lack} parts are missing".encode() in came.err, came)
+                missing and came.status == 2 and not came.out and line in came.err, came)
     wanted = program(["join", "--past-faults"], parts_of(paths))
     yield Fact(f"{name}: the run started anew says of the file", wanted, cluster.run(*words))
     yield holds(f"{name}: it says which part that is",
@@ -242,9 +243,9 @@ def stopped(cluster: Cluster, sound: Path, files: Sequence[Path], state: Path) -
                    if (state / "cancelled").exists() else "")
         began = log.stat().st_size
         time.sleep(1)
-        yield holds(f"slurm: behind {name} nothing is made", log.stat().st_size == began and len(made_in(parts)) < 10,
+        yield holds(f"slurm: after {name} nothing is made", log.stat().st_size == began and len(made_in(parts)) < 10,
                     (began, log.stat().st_size))
-        yield Fact(f"slurm: a run behind {name}", wanted, cluster.run("--parts", str(parts), str(sound)))
+        yield Fact(f"slurm: a run after {name}", wanted, cluster.run("--parts", str(parts), str(sound)))
 
 
 def kept_on(cluster: Cluster, sound: Path, files: Sequence[Path], state: Path) -> Cases:
@@ -328,9 +329,9 @@ os.execv({str(PROGRAM)!r}, [{str(PROGRAM)!r}, *sys.argv[1:]])
     path.chmod(0o755)
     words = ["-j", "2", "--parts", str(parts), "--list", str(listed)]
     came = cluster.run(*words, env={"MSEED": str(path)})
-    yield holds("Dask: workers that were killed", came.status == 2 and not came.out
-                and re.fullmatch(rb"dask_audit: \d+ parts are missing: Dask: .*killed.*; \S+/dask.log says more\n", came.err),
-                came)
+    line = rb"dask_audit: \d+ parts are missing: Dask: .*killed.*; \S+/dask.log says more\n"
+    yield holds("Dask: workers that were killed",
+                came.status == 2 and not came.out and re.fullmatch(line, came.err), came)
     yield holds("Dask: what it reports is beside the parts", (parts / "dask.log").stat().st_size > 0)
     wanted = program(["join", "--past-faults"], parts_of([*files, bad]))
     yield Fact("Dask: the run started anew", wanted, cluster.run(*words))

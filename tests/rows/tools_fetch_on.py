@@ -92,11 +92,11 @@ def whole(folder: Path) -> Cases:
     server = Server(b"".join(records), PLACES, *options)
     for begun in (b"", b"0", record_of(STA, 5)[:511]):
         out.write_bytes(held + begun)
-        yield Fact(f"a feed is gone on with behind {len(begun)} bytes", (0, [], ""),
+        yield Fact(f"a feed is gone on with after {len(begun)} bytes", (0, [], ""),
                    outcome(tool("fetch_on", *words(out, server.port))))
         now = out.read_bytes()
-        yield holds(f"what was held stays, behind {len(begun)} bytes", now.startswith(held), len(now))
-        yield holds(f"what lacked is held, behind {len(begun)} bytes", is_each_once(PLACES, records, now), len(now))
+        yield holds(f"what was held stays, after {len(begun)} bytes", now.startswith(held), len(now))
+        yield holds(f"what lacked is held, after {len(begun)} bytes", is_each_once(PLACES, records, now), len(now))
     one, ours = folder / "from", [record for record in records if STB.bears(record)]
     given = ["--from", f"{(first + 30) % 2**24:X}"]
     yield Fact("a feed from a number on", (0, [], ""),
@@ -190,7 +190,7 @@ def packets(records: Sequence[bytes], numbers: Sequence[int]) -> bytes:
 
 
 def holes(folder: Path) -> Cases:
-    """A server whose numbers leave some out, and whose first link is cut behind a hole."""
+    """A server whose numbers leave some out, and whose first link is cut after a hole."""
     numbers, records = [5, 7, 8, 12, 13, 40, 41], [record_of(STA, index) for index in range(7)]
     out = folder / "holes"
     speaker = Speaker([[GRANTED + packets(records[:4], numbers[:4])],

@@ -60,16 +60,16 @@ def of_tree(root: Path) -> Cases:
 
 
 def of_files() -> Cases:
-    """Samples: one file, and two one behind another, which are one archive."""
+    """Samples: one file, and two one after another, which are one archive."""
     gap = ["XX_KILN__BHZ", "2024-05-14T03:23:53.200000", "2024-05-14T03:25:05.350000", "72.100000", "1442"]
     one, two = str(SAMPLES / "network_gap.mseed"), str(SAMPLES / "two_records.mseed")
     yield Fact("a sample with a gap", (0, [HEADS, gap]), (lambda came: (came.status, in_csv(came.out)))(
         tool("gaps", "--csv", one)))
-    # Two records of 16 samples at 20 a second end 1.6 s behind where they began.
+    # Two records of 16 samples at 20 a second end 1.6 s after where they began.
     twice = ["XX_STA__BHZ", "2024-01-01T00:00:01.550000", "2024-01-01T00:00:00.000000", "-1.600000", "-32"]
     yield Fact("a sample twice and another one", (0, [HEADS, twice, gap]),
                (lambda came: (came.status, in_csv(came.out)))(tool("gaps", "--csv", two, two, one)))
-    yield Fact("files before and behind an option", (0, [HEADS, twice, gap]),
+    yield Fact("files before and after an option", (0, [HEADS, twice, gap]),
                (lambda came: (came.status, in_csv(came.out)))(tool("gaps", two, two, "--csv", one)))
     yield Fact("a sample without a gap", (0, ["source  last sample  next sample  delta  samples"], ""),
                outcome(tool("gaps", two)))

@@ -177,7 +177,7 @@ class counting:
 
 
 def records_in(content: bytes) -> Iterator[tuple[int, int, Record]]:
-    """The records of a file with their numbers and offsets, on behind what is none."""
+    """The records of a file with their numbers and offsets, on after what is none."""
     offset = number = 0
     while offset < len(content):
         answer, value = scan(content[offset : offset + 2**20 + 1])
@@ -258,7 +258,7 @@ def trees_at_random(folder: Path, count: int) -> Cases:
 
 
 def as_audited(seed: int, files: dict[str, bytes], keys: list[bytes], status: int, came: list[str]) -> Cases:
-    """A tree without faults is what the program says of its files one behind another."""
+    """A tree without faults is what the program says of its files one after another."""
     for key in keys:
         whole = b"".join(content for path, content in sorted(files.items()) if key[2:7].decode() in path)
         audit = subprocess.run([str(PROGRAM), "audit"], input=whole, stdout=subprocess.PIPE, check=False)

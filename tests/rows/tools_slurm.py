@@ -1,6 +1,6 @@
 """`tools/slurm` on a Slurm of one node that is brought up here (driver/slurm.py): over a sound tree the text and status
-of the program's audit of its files, one behind another; over the tree with whatever goes wrong (driver/tools.py), those
-of a join of all parts; a task that is killed in the middle, behind which a run started anew makes what lacks; and a run
+of the program's audit of its files, one after another; over the tree with whatever goes wrong (driver/tools.py), those
+of a join of all parts; a task that is killed in the middle, after which a run started anew makes what lacks; and a run
 that is stopped, which takes its jobs back."""
 
 from __future__ import annotations

@@ -127,7 +127,7 @@ def windows(folder: Path) -> Cases:
     words = words_of(came.out)
     yield Fact("a window: its times", (["2017-01-02T06:00:00 to 2017-01-02T12:00:00 UTC"], []),
                (words["when"], words["zoom"]))
-    # 36,050 seconds behind midnight the gap of 721 begins.
+    # 36,050 seconds after midnight the gap of 721 begins.
     for until, parts in (("2016-365T10:00:50", []), ("2016-12-30T10:12:51", [Part("gap", LEFT, 5 * DAY, 1)])):
         begin = "2016-12-30T10:00:49.5" if not parts else "2016-12-30T10:00:50"
         drawn = parts_of(tool("timeline", "--from", begin, "--until", until, root).out)
@@ -202,7 +202,7 @@ def many() -> Cases:
         yield holds(f"the words of the axis of {count} channels are apart",
                     len(ticks) >= 3 and all(b - a >= 50 for a, b in zip(ticks, ticks[1:])), ticks)
         again = [one for one in picture.iter(f"{SPACE}text") if one.get("class") == "tick again"]
-        # Behind each forty rows, and below the last ones.
+        # After each forty rows, and below the last ones.
         yield Fact(f"the words of the axis of {count} channels come again", len(ticks) * (13 if count == 500 else 0),
                    len(again))
     long = ElementTree.fromstring(drawing("an archive " * 20, list(made_up(1))))

@@ -56,7 +56,7 @@ def of_either(command: str) -> Iterator[Row]:
         yield bad(f"{command}: place '{place}'", *feed, place)
     yield bad(f"{command}: the first place again", *feed, "XX_STA")
     yield bad(f"{command}: a further place again", *feed, "XX_STB", "XX_STC", "XX_STB")
-    yield bad(f"{command}: a bad place behind good ones", *feed, "XX_STB", "XX_STC", "XX")
+    yield bad(f"{command}: a bad place after good ones", *feed, "XX_STB", "XX_STC", "XX")
     yield bad(f"{command}: a sixteenth further place", *feed, *SIXTEEN, "XX_P16")
     yield taken(f"{command}: fifteen further places", *feed, *SIXTEEN)
     yield taken(f"{command}: the same station of another network, and in small letters", *feed, "YY_STA", "xx_STA",

@@ -1,6 +1,6 @@
 /* Put before the C library (LD_PRELOAD), it fails one call that opens, takes or dials a link, reads from one or writes
    to one: the one whose number, from 1, LINK_FAILS gives. The call that closes one side of a link, and those on that
-   link behind it, are counted apart, by CLOSING_FAILS; where one of these is failed, the file is made that CLOSING_SEEN
+   link after it, are counted apart, by CLOSING_FAILS; where one of these is failed, the file is made that CLOSING_SEEN
    names. A read or a write brings at most as many bytes as LINK_PIECE gives, where it is there. */
 #define _GNU_SOURCE
 #include <dlfcn.h>

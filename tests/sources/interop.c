@@ -158,7 +158,7 @@ compare_record (const MSRecord *msr, const Channel *channel, int64_t n, int enco
   return NULL;
 }
 
-/* What differs in the archive from the channels, one behind another; nothing where none does. */
+/* What differs in the archive from the channels, one after another; nothing where none does. */
 static const char *
 compare (const char *path, int encoding, int length)
 {

@@ -55,7 +55,7 @@ class Expected:
 
 def cut_on(archive: bytes) -> Tuple[List[Tuple[int, Record]], List[Tuple[int, int, str, int]]]:
     """The records with their offsets, and the bytes that begin none, each with the number of the next record, their
-    offset, why, and how many they are: behind them reading goes on at the next multiple of 64 that a record begins."""
+    offset, why, and how many they are: after them reading goes on at the next multiple of 64 that a record begins."""
     records, holes, at, hole = [], [], 0, None
     while at < len(archive):
         answer, value = scan(archive[at : at + 2**20 + 1])

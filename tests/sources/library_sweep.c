@@ -76,7 +76,7 @@ is_pattern (const void *bytes, size_t size)
 typedef uint32_t (*teller) (const uint8_t *, size_t, uint8_t *, size_t, mseed_totals *);
 static const teller TELLERS[] = { mseed_audit, mseed_audit_each, mseed_part };
 
-/* A room of a text holds the first bytes of the whole, and the pattern behind them. */
+/* A room of a text holds the first bytes of the whole, and the pattern after them. */
 static void
 check_room (teller tell, const uint8_t *archive, size_t size, const uint8_t *whole, const mseed_totals *totals,
             uint32_t status, size_t room, int at_end)
@@ -122,7 +122,7 @@ static uint32_t all_code;
 /* The places that reading all of them takes: a record whose samples can't be read wants places for them, too. */
 static size_t all_room;
 
-/* The rows and samples of so many places are the first of all, and the pattern stands behind the rows. */
+/* The rows and samples of so many places are the first of all, and the pattern stands after the rows. */
 static void
 check_places (const uint8_t *archive, size_t size, size_t nrows, size_t room, int at_end)
 {
@@ -138,7 +138,7 @@ check_places (const uint8_t *archive, size_t size, size_t nrows, size_t room, in
   if (memcmp (samples, all_samples, answer->filled * sizeof *samples) != 0)
     fail ("other samples", room);
   if (!is_pattern (rows + answer->rows, (nrows - answer->rows) * sizeof *rows))
-    fail ("a row behind the last", nrows);
+    fail ("a row after the last", nrows);
   if (nrows >= all.rows && room >= all_room && (code != all_code || answer->offset != all.offset))
     if (!(code == MSEED_NO_ROW && nrows == all.rows))
       fail ("another code", nrows);
@@ -148,7 +148,7 @@ check_places (const uint8_t *archive, size_t size, size_t nrows, size_t room, in
     fail ("places are left", room);
 }
 
-/* One record behind another, with a place for one row, is the same as all at once; so are the rows alone. */
+/* One record after another, with a place for one row, is the same as all at once; so are the rows alone. */
 static void
 check_steps (const uint8_t *archive, size_t size, int at_end)
 {
@@ -235,7 +235,7 @@ check_records (const uint8_t *archive, size_t size, int all_rooms, int at_end)
 /* ---- packing */
 static uint8_t whole_packing[1 << 19];
 
-/* A room of a packing holds the first bytes of the whole, and the pattern behind them. */
+/* A room of a packing holds the first bytes of the whole, and the pattern after them. */
 static void
 check_packing_room (const mseed_heading *heading, const int32_t *samples, size_t count, size_t size, size_t room,
                     int at_end)

@@ -1,7 +1,7 @@
 #!/usr/bin/env python3
 """A stand-in for Slurm's `sbatch`, and under that name for its `scancel`.
 
-The tasks of an array run here, one after another, while `sbatch` has ended; the job that waits for them runs behind
+The tasks of an array run here, one after another, while `sbatch` has ended; the job that waits for them runs after
 them, and not at all where one failed. Of an array the task that $KILLED names is killed when it has made a part. As
 Slurm's does, `sbatch --wait` hands out the number of its job when it ends, unless it writes to a terminal.
 """
@@ -65,10 +65,10 @@ def array(count: int, command: str) -> int:
     os._exit(0)
 
 
-def last(command: str, is_behind: bool) -> int:
-    """Submits a job that runs behind the array, if it does, and waits for it."""
+def last(command: str, is_after: bool) -> int:
+    """Submits a job that runs after the array, if it does, and waits for it."""
     print(LAST)
-    while is_behind and not (STATE / "done").exists():
+    while is_after and not (STATE / "done").exists():
         if (STATE / "failed").exists():
             return 1
         time.sleep(0.01)

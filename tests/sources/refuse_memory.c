@@ -1,5 +1,5 @@
 /* Put before the C library (LD_PRELOAD), it refuses requests for memory: the one whose number, from 1, REFUSE gives;
-   that one and all behind it where REFUSE_FROM gives it; and each that would have more bytes held than HEAP gives. */
+   that one and all after it where REFUSE_FROM gives it; and each that would have more bytes held than HEAP gives. */
 #define _GNU_SOURCE
 #include <dlfcn.h>
 #include <errno.h>

@@ -1,5 +1,5 @@
 """A stand-in for Dask's `distributed`, which does each thing at once, in this process. Of the calls of a map the one
-that $KILLED names, from 1, and those behind it aren't done: it is as if their worker was killed each time."""
+that $KILLED names, from 1, and those after it aren't done: it is as if their worker was killed each time."""
 
 from __future__ import annotations
 
