@@ -14,7 +14,7 @@
 # make drawing          draws docs/architecture.svg from crates.txt, and docs/timeline.svg by tools/timeline
 # make help             these lines
 # make interop          what libmseed packs, packed anew and read by libmseed (wants libmseed-dev)
-# make bench            the program and the library side by side with libmseed (wants libmseed-dev and valgrind)
+# make bench            the program and the library side by side with libmseed (wants libmseed-dev, valgrind, python3-numpy)
 # make feed-bench       serve and fetch side by side with a pair of C programs, and what many clients cost
 # make tools-bench      tools/sds over a tree of 1 GB, beside reading its bytes alone
 
@@ -133,6 +133,7 @@ interop: build
 bench: build lib
 	@python3 bench/bench.py $(MSEED) --write
 	@python3 bench/library.py --write
+	@python3 bench/parts.py $(MSEED) --write
 
 feed-bench: build
 	@python3 bench/feed.py $(MSEED) --write

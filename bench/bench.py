@@ -1,14 +1,15 @@
 #!/usr/bin/env python3
 """Measures mseed side by side with libmseed over archives made here.
 
-    bench.py MSEED [--rounds 11] [--megabytes 100] [--commands audit show repack] [--archives NAME ..]
+    bench.py MSEED [--rounds 5] [--megabytes 100] [--commands audit show repack] [--archives NAME ..]
              [--count] [--write]
 
 Each program does the same work over the same archive in turn, round after round, so that load from
 elsewhere falls on all alike; every other round goes in reverse. What counts is user and system time. The
 ratio, libmseed / mseed, is above 1 where mseed is faster; it is the median of the rounds' ratios. With
 --count the instructions of one run are counted too, by valgrind over eight megabytes: a record, or of repack a sample.
-With --write they are counted, and what was measured is written into the tables of docs/performance.md.
+With --write they are counted, so is what select takes, with nothing beside it, and what was measured is written into
+the tables of docs/performance.md.
 
 Wants a C compiler and Debian's libmseed-dev; --count and --write want valgrind. What it builds and the archives go to
 a temporary folder.
@@ -76,11 +77,29 @@ def instructions(call, archive):
     return int(re.search(r"I +refs: +([\d,]+)", reported).group(1).replace(",", ""))
 
 
+def channels_of(mseed, archive):
+    """The lines of an archive's continuous channels, in words: the name first, the number of samples last."""
+    text = subprocess.run([mseed, "audit", archive], stdout=subprocess.PIPE, check=True, text=True).stdout
+    return [line.split() for line in text.splitlines() if " continuous " in line]
+
+
 def samples_in(mseed, archive):
     """How many samples an archive has whose channels are continuous."""
-    with open(archive, "rb") as source:
-        text = subprocess.run([mseed, "audit"], stdin=source, stdout=subprocess.PIPE, check=True, text=True).stdout
-    return sum(int(line.split()[-1]) for line in text.splitlines() if " continuous " in line)
+    return sum(int(words[-1]) for words in channels_of(mseed, archive))
+
+
+def selections(mseed, options):
+    """The rows of the table of select, over an archive that is named: what is asked for, and what that takes."""
+    archives = [make_archive(ARCHIVES[0], megabytes) for megabytes in (options.megabytes, 8)]
+    sizes = [os.path.getsize(archive) for archive in archives]
+    channel = channels_of(mseed, archives[0])[0][0]
+    for name, asked in (("nothing, by `--channels ___`", ["--channels", "___"]),
+                        ("nothing, by `--until 2000-01-01`", ["--until", "2000-01-01"]),
+                        ("one channel of twelve", ["--channels", channel]), ("everything", [])):
+        large, small = ([mseed, "select", *asked, archive] for archive in archives)
+        cost = statistics.median(measure(large, os.devnull)[0] for _ in range(options.rounds))
+        counted = instructions(small, os.devnull) / (sizes[1] / 512)
+        yield [name, f"{cost:.3f}", f"{sizes[0] / cost / 1e9:.1f}", f"{counted:,.0f}"]
 
 
 class Row:
@@ -140,10 +159,17 @@ def write_tables(rows):
         write(name, table(heads, [row.cells() for row in rows if row.command in commands]))
 
 
+def write_selections(mseed, options):
+    """The table of select."""
+    rows = list(selections(mseed, options))
+    print("\n".join("  ".join(row) for row in rows), flush=True)
+    write("select", table(["what is asked for", "seconds", "GB/s", "instructions a record"], rows))
+
+
 def main():
     words = argparse.ArgumentParser(description=__doc__, formatter_class=argparse.RawDescriptionHelpFormatter)
     words.add_argument("mseed")
-    words.add_argument("--rounds", type=int, default=11)
+    words.add_argument("--rounds", type=int, default=5)
     words.add_argument("--megabytes", type=int, default=100)
     words.add_argument("--commands", nargs="+", default=["audit", "show", "repack"])
     words.add_argument("--archives", nargs="+", default=ARCHIVES)
@@ -167,6 +193,7 @@ def main():
             rows.append(row)
     if options.write:
         write_tables(rows)
+        write_selections(os.path.abspath(options.mseed), options)
 
 
 if __name__ == "__main__":

@@ -1,12 +1,13 @@
 #!/usr/bin/env python3
 """Measures the audit of one archive by one core and by several, and how fast parts are joined.
 
-    parts.py MSEED [--cores 4] [--megabytes 1000] [--rounds 5]
+    parts.py MSEED [--cores 4] [--megabytes 1000] [--rounds 5] [--write]
 
 The archive is what a data logger writes: twelve channels of 100 Hz in Steim-2, in records of 512 bytes. It is audited
 whole; by bench/audit_by_cores.sh, which cuts it by `dd`; and as so many files as there are cores, by `xargs -P`. Each
 time is that of the whole work, with the join, from its beginning to its end: the median of the rounds, in which the
-ways go in turn. All of them write the same. Then parts of 10,000 channels each are joined.
+ways go in turn. All of them write the same. Then parts of 10,000 channels each are joined. With --write what was
+measured is written into the tables of docs/performance.md.
 """
 
 import argparse
@@ -23,6 +24,7 @@ sys.path.insert(0, os.path.join(os.path.dirname(HERE), "tests"))
 
 from models.packing import SECOND, btime  # noqa: E402
 from models.workloads import LOGGER, RATE, START, count_in, recorded  # noqa: E402
+from tables import table, write  # noqa: E402
 
 SCRIPT = os.path.join(HERE, "audit_by_cores.sh")
 LENGTH = 512
@@ -112,12 +114,24 @@ def line(way, cost, path, more=""):
     return f"{way:28} {cost:7.3f} s {os.path.getsize(path) / cost / 1e6:7.0f} MB/s{more}"
 
 
+def write_tables(costs, cores, megabytes, joined):
+    """The ways by which an archive of so many megabytes is audited, and the join of 100 MB."""
+    named = {"whole, one core": "`audit`, one core",
+             f"whole, by dd, {cores} cores": f"one archive, cut by `dd` (`bench/audit_by_cores.sh`), {cores} cores",
+             f"{cores} files, {cores} cores": f"{cores} files, by `xargs -P {cores}`, {cores} cores"}
+    one = costs["whole, one core"]
+    rows = [[name, f"{costs[way]:.2f}", f"{one / costs[way]:.1f}"] for way, name in named.items()]
+    write("parts", table([f"audit of {megabytes:,} MB", "seconds", "times one core"], rows))
+    write("join", table(["`mseed join` of 100 MB of parts", "MB/s"], [[f"{joined:.2f} s", f"{100 / joined:.0f}"]]))
+
+
 def main():
     words = argparse.ArgumentParser(description=__doc__, formatter_class=argparse.RawDescriptionHelpFormatter)
     words.add_argument("mseed")
     words.add_argument("--cores", type=int, default=4)
     words.add_argument("--megabytes", type=int, default=1000)
     words.add_argument("--rounds", type=int, default=5)
+    words.add_argument("--write", action="store_true")
     options = words.parse_args()
     mseed = os.path.abspath(options.mseed)
     with tempfile.TemporaryDirectory() as folder:
@@ -131,6 +145,8 @@ def main():
         make_parts(parts, 100)
         joined = statistics.median(seconds([mseed, "join"], parts)[0] for _ in range(options.rounds))
         print(line("join, 10,000 channels a part", joined, parts))
+    if options.write:
+        write_tables(costs, options.cores, options.megabytes, joined)
 
 
 if __name__ == "__main__":
