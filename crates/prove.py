@@ -49,8 +49,8 @@ MOST, PROCESSES = 4, 8
 BYTES_A_MINUTE, MEMORY = 150_000, 2.5
 # What no second process makes shorter, of a crate's proof; and how much more memory several processes take than one.
 ALONE, SHARED = 0.2, 1.3
-# So many minutes make a crate large: it gets a further process also where it isn't on the longest way.
-LARGE = 3
+# The share of the longest way from which on another one is near it: a crate there gets more than one process.
+NEAR = 7 / 8
 # Where the system says what this process and those beside it in its group may use.
 GROUP = Path("/sys/fs/cgroup")
 # The status of `rt` where the system killed a proof, most likely for memory.
@@ -75,10 +75,10 @@ class Work(NamedTuple):
 
 
 class Standing(enum.Enum):
-    """How a crate stands among those that run beside it: none does; it is on the longest way; or elsewhere, by its
-    minutes."""
+    """How a crate stands among those that run beside it: none does; its way up is the longest one, near that, or far
+    from it."""
 
-    ALONE, LONGEST, LARGE, SMALL = range(4)
+    ALONE, LONGEST, NEAR, FAR = range(4)
 
 
 @functools.lru_cache(maxsize=None)
@@ -126,10 +126,10 @@ def minutes_left(left: dict[str, float], on: dict[str, set[str]], cores: int) ->
 
 
 def processes(cores: int, standing: Standing) -> int:
-    """How many processes prove a crate: more on the longest way, and few elsewhere, since each takes processor time of
-    its own besides what it shares."""
-    most = {Standing.ALONE: cores, Standing.LONGEST: cores - 1, Standing.LARGE: cores // 2,
-            Standing.SMALL: cores // 2 - 1}[standing]
+    """How many processes prove a crate: more on the longest way, and few far from it, since each takes processor time
+    of its own besides what it shares."""
+    most = {Standing.ALONE: cores, Standing.LONGEST: cores - 1, Standing.NEAR: cores // 2,
+            Standing.FAR: cores // 2 - 1}[standing]
     return min(max(most, 1), PROCESSES)
 
 
@@ -257,9 +257,10 @@ class Build:
         if is_alone:
             return Standing.ALONE
         ways = [self.ways[at] - self.costs[at].minutes + self.left_of(at) for at in self.running]
-        if self.ways[crate] >= max(ways, default=0):
+        longest = max(ways, default=0)
+        if self.ways[crate] >= longest:
             return Standing.LONGEST
-        return Standing.LARGE if self.costs[crate].minutes >= LARGE else Standing.SMALL
+        return Standing.NEAR if self.ways[crate] >= NEAR * longest else Standing.FAR
 
     def minutes(self) -> int:
         """About so many minutes are left."""

@@ -36,7 +36,7 @@ def reckoned() -> Cases:
         yield Fact(f"what is left of {left} on {cores} cores", wanted, round(prove.minutes_left(left, on, cores), 3))
     for cores, wanted in [(1, [1, 1, 1, 1]), (2, [2, 1, 1, 1]), (4, [4, 3, 2, 1]), (8, [8, 7, 4, 3]),
                           (64, [8, 8, 8, 8])]:
-        yield Fact(f"the processes of a crate alone, on the longest way, large and small, on {cores} cores", wanted,
+        yield Fact(f"the processes of a crate alone, on the longest way, near it and far from it, on {cores} cores", wanted,
                    [prove.processes(cores, standing) for standing in prove.Standing])
     yield from by_standing()
     yield from by_memory()
@@ -68,13 +68,13 @@ def by_standing() -> Cases:
     build.costs = {crate: prove.Cost(minutes.get(crate, 2.0), 1) for crate in build.on}
     build.ways = prove.ways(build.on, build.costs)
     yield Fact("alone", prove.Standing.ALONE, build.standing("mseed_text", True))
-    for done, wanted in [(0, prove.Standing.LARGE), (30, prove.Standing.LARGE), (60, prove.Standing.LONGEST)]:
+    far, near, longest = prove.Standing.FAR, prove.Standing.NEAR, prove.Standing.LONGEST
+    for done, repack, show in [(0, far, far), (30, near, far), (60, longest, near)]:
         build.running = {"mseed_join": prove.Work(0, None, True)}
         with looked_up("mseed_join", done):
-            yield Fact(f"repack beside a join of which {done} of 100 functions are checked", wanted,
+            yield Fact(f"repack beside a join of which {done} of 100 functions are checked", repack,
                        build.standing("mseed_repack", False))
-            yield Fact(f"a small one beside it, with {done} checked", prove.Standing.SMALL,
-                       build.standing("mseed_show", False))
+            yield Fact(f"the list beside it, with {done} checked", show, build.standing("mseed_show", False))
 
 
 @contextlib.contextmanager
