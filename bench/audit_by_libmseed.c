@@ -177,7 +177,7 @@ print_name (const char *k)
   }
 }
 
-/* Judges record after record, and tells where the input ended otherwise. */
+/* Judges record after record, and reports where the input ended otherwise. */
 static void
 judge_all (char *fault, size_t room)
 {

@@ -3,7 +3,7 @@
  *   feed_loop serve PORT            reads records of 512 bytes from standard input, and writes each as a packet to all
  *                                   links that stand; what they say is answered by two lines OK
  *   feed_loop time PORT LINKS N     dials so many links, asks each for records, writes N records to standard output,
- *                                   which is the server's input, and tells on standard error how long after its last
+ *                                   which is the server's input, and reports on standard error how long after its last
  *                                   byte a record was at a link: the median and the 99th of 100, in milliseconds
  *
  * The first record of the input of `time` is the one that is written, again and again.

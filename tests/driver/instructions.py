@@ -22,7 +22,7 @@ from models.workloads import INPUTS
 
 FIGURES = ROOT / "bench" / "instructions.txt"
 VALGRIND = "valgrind"
-# More hundredths of a figure fail, and fewer are told.
+# More hundredths of a figure fail, and fewer are reported.
 MOST, FEWEST = 102, 98
 # What is counted over each input, and the inputs of which a channel is broken.
 AUDITED, PACKED = ["audit", "audit --each", "audit --part", "show"], ["repack", "repack --stretches"]
@@ -125,8 +125,8 @@ def judged(figure: int, count: int) -> str:
     return limit_of(figure) if 100 * count <= MOST * figure else f"{count:,}, which are {count / figure:.3f} of it"
 
 
-def told(name: str, figure: int, count: int) -> Optional[str]:
-    """What is told of a command that takes fewer instructions than its figure by more than a little."""
+def reported(name: str, figure: int, count: int) -> Optional[str]:
+    """What is reported of a command that takes fewer instructions than its figure by more than a little."""
     if 100 * count >= FEWEST * figure:
         return None
     return f"{name}: {count:,} instructions, {count / figure:.3f} of the figure: bench/instructions.py --write"

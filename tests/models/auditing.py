@@ -291,7 +291,7 @@ def start_of(start: Union[int, str]) -> str:
 
 
 def audit(archive: bytes, each: bool = False) -> tuple[bytes, int]:
-    """The text and the exit status of the audit of an archive, or of one that tells each finding."""
+    """The text and the exit status of the audit of an archive, or of one that reports each finding."""
     records, end, fault = cut(archive)
     return audited(numbered(records), end, fault, each)
 

@@ -142,7 +142,7 @@ def select(archive: bytes, selection: Selection = Selection()) -> Ended:
 
 
 def audit(archive: bytes, selection: Selection = Selection(), each: bool = False) -> Ended:
-    """Their audit, or one that tells each finding."""
+    """Their audit, or one that reports each finding."""
     found = chosen(archive, selection)
     text, status = audited(found.records, found.end, found.fault, each)
     return text, found.errors(), status

@@ -30,7 +30,7 @@ def cut_up(output: bytes) -> list[bytes]:
 
 
 def hole_lines(place: Place, want: Optional[int], first: int, records: Sequence[bytes]) -> list[bytes]:
-    """The lines that tell of the holes before the records of a station, in order."""
+    """The lines that report the holes before the records of a station, in order."""
     lines = []
     for index, record in enumerate(records):
         if place.bears(record):

@@ -138,7 +138,7 @@ def going_on() -> Cases:
         runs += 1
         last = errors.decode().splitlines()[-1]
         prefix = "mseed: next "
-        yield holds(f"run {runs} tells the words to go on", last.startswith(prefix), last)
+        yield holds(f"run {runs} reports the options to go on with", last.startswith(prefix), last)
         words = ["fetch", "--port", str(proxy.port), TELL, *last[len(prefix) :].split(" ")]
     proxy.close()
     server.kill()

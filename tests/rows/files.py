@@ -25,7 +25,7 @@ NOBODY = 65534
 
 
 def cannot_read(word: bytes) -> bytes:
-    """The line of a file that can't be read: what isn't a printable character of ASCII is told as `?`."""
+    """The line of a file that can't be read: what isn't a printable character of ASCII is reported as `?`."""
     return b"mseed: cannot read " + bytes(b if 32 <= b <= 126 else ord("?") for b in word) + b"\n"
 
 
@@ -68,7 +68,7 @@ def named(folder: Path) -> Cases:
 
 
 def refused(folder: Path) -> Cases:
-    """Words that name nothing that can be read: nothing is done then, and the first of them is told."""
+    """Words that name nothing that can be read: nothing is done then, and the first of them is reported."""
     good, none, directory = str(TWO), str(folder / "none"), str(folder)
     for command in (["audit"], ["join"], ["show"], ["repack"]):
         for words, word in [([none], none), ([good, none], none), ([good, directory, none], directory)]:
@@ -100,7 +100,7 @@ def output(folder: Path) -> Cases:
 
 
 def unreadable(folder: Path) -> Cases:
-    """A file that may not be read, told before anything is read."""
+    """A file that may not be read, reported before anything is read."""
     if os.geteuid() != 0:
         return
     path = folder / "locked"
@@ -151,24 +151,24 @@ def fault_in(word: str, offset: int) -> bytes:
 
 JUNK = b"x" * 60
 LONG = record(exponent=9)
-# Files that end with a fault, and of which file and place it is told.
+# Files that end with a fault, and of which file and place it is reported.
 FAULTS: list[tuple[str, list[bytes], int, int]] = [
     ("junk at the end of the first", [record() + JUNK, next_record(), record()], 0, 128),
     ("junk at the end of the middle one", [record(), next_record() + JUNK, record()], 1, 128),
     ("junk at the end of the last", [record(), next_record(), record() + JUNK], 2, 128),
     ("junk at the begin of the first", [JUNK + record(), record()], 0, 0),
     ("junk between records", [record(), record() + JUNK + record() * 3], 1, 128),
-    # A file that ends within a record takes the next one's bytes: it is told of that record.
+    # A file that ends within a record takes the next one's bytes: it is reported of that record.
     ("the first ends within a record", [record() + record()[:100], record()], 0, 128),
     ("the first ends within its one record", [record()[:100], record()], 0, 0),
     ("the middle one ends within a record", [record(), record()[:127], record()], 1, 0),
     ("it reaches over two", [record() + LONG[:300], record()[:100], b"", record() * 4], 0, 128),
     ("the first ends within a header", [record() + record()[:46], record()], 0, 128),
-    # After a record that ends with its file, the fault is told of that record.
+    # After a record that ends with its file, the fault is reported of that record.
     ("a file of junk after a sound one", [record() * 3, JUNK], 0, 256),
     ("a file of junk between sound ones", [record(), record() * 2, JUNK, record()], 1, 128),
     ("a file of junk after an empty one", [record(), b"", JUNK], 0, 0),
-    # A record that is cut off at the end is told itself.
+    # A record that is cut off at the end is reported itself.
     ("the last ends within a record", [record() * 2, record() + record()[:100]], 1, 128),
     ("the last ends within its one record", [record() * 2, record()[:100]], 1, 0),
     ("the last ends within a header", [record(), record()[:20]], 1, 0),
@@ -181,19 +181,19 @@ FAULTS: list[tuple[str, list[bytes], int, int]] = [
 
 
 def faults(folder: Path) -> Cases:
-    """A fault of the input is told last, of the file in which it lies."""
+    """A fault of the input is reported last, of the file in which it lies."""
     for name, contents, file, offset in FAULTS:
         names = written(folder, contents)
-        told = fault_in(names[file], offset)
+        reported = fault_in(names[file], offset)
         for command in (*COMMANDS, ["select"]):
             ended = Row("", b"".join(contents), command, 2).run()
-            yield Row(f"{command}, {name}", b"", [*command, *names], 2, ended.out, ended.err + told)
+            yield Row(f"{command}, {name}", b"", [*command, *names], 2, ended.out, ended.err + reported)
             if command == ["show"]:
                 yield Row(f"{command}, {name}, a full device", b"", [*command, *names], 2, b"", WRITE_FAILED,
                           out_to="/dev/full")
         ended = Row("", b"".join(contents), ["audit"], 2).run()
         yield Row(f"standard input, {name}", contents[0], ["audit", "-", *names[1:]], 2, ended.out,
-                  fault_in("-", offset) if file == 0 else told)
+                  fault_in("-", offset) if file == 0 else reported)
         script = '"$0" show ' + " ".join(f'<(cat "${index + 1}")' for index in range(len(names)))
         ran = subprocess.run(["bash", "-c", script, PROGRAM, *names], capture_output=True, timeout=LIMIT, check=False,
                              stdin=subprocess.DEVNULL)
@@ -231,7 +231,7 @@ def pieces_with_faults(folder: Path) -> Cases:
 
 
 def told_place(sizes: Sequence[int], fault: int, is_cut: bool, last: Optional[int]) -> tuple[int, int]:
-    """The file of which a fault is told, and the place in it, by the sizes of the files."""
+    """The file of which a fault is reported, and the place in it, by the sizes of the files."""
     def place(offset: int) -> tuple[int, int]:
         bounds = [sum(sizes[:index]) for index in range(len(sizes))]
         file = max(index for index, bound in enumerate(bounds) if bound <= offset and (bound < sum(sizes) or not bound))
@@ -243,7 +243,7 @@ def told_place(sizes: Sequence[int], fault: int, is_cut: bool, last: Optional[in
 
 
 def bad_parts(folder: Path) -> Cases:
-    """A bad part is told of the file in which its line begins; where the text ends within a part, of the last."""
+    """A bad part is reported of the file in which its line begins; where the text ends within a part, of the last."""
     part = Row("", ARCHIVE, ["audit", "--part"], 0).run().out
     lines = part.splitlines(keepends=True)
     for name, contents, line, file, offset in [
@@ -259,10 +259,10 @@ def bad_parts(folder: Path) -> Cases:
         ("an empty file after a part without its end", [part, lines[0], b""], len(lines) + 2, 2, 0),
     ]:
         names = written(folder, contents)
-        told = b"mseed: bad part at line %d\n" % line + fault_in(names[file], offset)
+        reported = b"mseed: bad part at line %d\n" % line + fault_in(names[file], offset)
         for command in (["join"], ["join", "--part"], ["join", "--each"], ["join", "--expect", "9"]):
             ended = Row("", b"".join(contents), command, 2).run()
-            yield Row(f"{command}, {name}", b"", [*command, *names], 2, ended.out, told)
+            yield Row(f"{command}, {name}", b"", [*command, *names], 2, ended.out, reported)
     faulty = Row("", ARCHIVE + JUNK, ["audit", "--part"], 2).run().out
     names = written(folder, [part, faulty])
     ended = Row("", part + faulty, ["join"], 2).run()
@@ -271,15 +271,15 @@ def bad_parts(folder: Path) -> Cases:
 
 
 def failed_reads(folder: Path) -> Cases:
-    """A file that fails in its turn is told last; after a failed write or want of memory nothing is."""
+    """A file that fails in its turn is reported last; after a failed write or want of memory nothing is."""
     good = written(folder, [ARCHIVE])[0]
     failing = "/proc/self/mem"
-    told = cannot_read(failing.encode())
+    reported = cannot_read(failing.encode())
     fault = b"mseed: fault at %d read\n" % len(ARCHIVE)
-    yield Row("audit", b"", ["audit", good, failing], 2, Row("", ARCHIVE, ["audit"], 0).run().out + fault[7:], told)
-    yield Row("show", b"", ["show", good, failing], 2, Row("", ARCHIVE, ["show"], 0).run().out + fault[7:], told)
-    yield Row("select", b"", ["select", good, failing], 2, ARCHIVE, fault + told)
-    yield Row("repack", b"", ["repack", good, failing], 2, b"", fault + told)
+    yield Row("audit", b"", ["audit", good, failing], 2, Row("", ARCHIVE, ["audit"], 0).run().out + fault[7:], reported)
+    yield Row("show", b"", ["show", good, failing], 2, Row("", ARCHIVE, ["show"], 0).run().out + fault[7:], reported)
+    yield Row("select", b"", ["select", good, failing], 2, ARCHIVE, fault + reported)
+    yield Row("repack", b"", ["repack", good, failing], 2, b"", fault + reported)
     for command in (["audit"], ["show"], ["select"]):
         yield Row(f"{command}, a full device", b"", [*command, good, failing], 2, b"", WRITE_FAILED, out_to="/dev/full")
 

@@ -15,7 +15,7 @@ BHN = "XX_STA__BHN"
 NONE = "continuous 2024-01-01T00:00:00.000000 rate 20/1"
 SECOND = 10**6
 FIRST_INSTANT, LAST_INSTANT = -5364662400000000, 7258118399999999
-# The most parts that can be expected, and what the border of the sample with a gap in two is told by.
+# The most parts that can be expected, and what the border of the sample with a gap in two is reported by.
 MOST_PARTS = 999999999
 GAP = "record 2 start 2024-01-01T00:00:00.825001 gap 25001\n"
 
@@ -306,7 +306,7 @@ def bad_after_borders() -> Cases:
                       lines.encode() if "--each" in words else b"", (reported + error).encode())
 
 
-def tells(name: str, status: int, parts: Sequence[str], lines: str, text: str, errors: str = "",
+def reports(name: str, status: int, parts: Sequence[str], lines: str, text: str, errors: str = "",
           more: Sequence[str] = ()) -> Iterator[Row]:
     """With `--each` these parts give these lines of borders, and then this text."""
     words = ["join", "--each", *more]
@@ -318,44 +318,44 @@ def each_border() -> Cases:
     """A line for each border with a finding."""
     one = f"128 {BHZ} record 2 start 2024-01-01T00:00:00.825001 gap 25001\n"
     text = f"{FOUND}records 2 channels 1\n"
-    yield from tells("a gap at a border", 1, [FIRST, LATE], one, text)
-    yield from tells("a sound border", 0, [FIRST, NEXT], "", TWO)
-    yield from tells("a gap within a part", 1, [part(OF_BOTH, counts(2, 256))], "", text)
-    yield from tells("no part at all", 0, [], "", "records 0 channels 0\n")
+    yield from reports("a gap at a border", 1, [FIRST, LATE], one, text)
+    yield from reports("a sound border", 0, [FIRST, NEXT], "", TWO)
+    yield from reports("a gap within a part", 1, [part(OF_BOTH, counts(2, 256))], "", text)
+    yield from reports("no part at all", 0, [], "", "records 0 channels 0\n")
     first, second = part(BHN_FIRST, OF_FIRST, counts(2, 256)), part(BHN_LATE, OF_LATE, counts(2, 256))
-    yield from tells("two channels", 1, [first, second], BHN_BORDER + BHZ_BORDER,
+    yield from reports("two channels", 1, [first, second], BHN_BORDER + BHZ_BORDER,
                      f"{BHN} broken findings 1 first record 3 offset 256 gap 25001\n"
                      f"{BHZ} broken findings 1 first record 3 offset 256 gap 25001\nrecords 4 channels 2\n")
     # The channels ascend within a part, wherever their records lie.
     after = part(BHN_LATE.replace("head 1 0", "head 2 128"), OF_LATE, counts(2, 256))
-    yield from tells("the second channel first", 1, [first, after],
+    yield from reports("the second channel first", 1, [first, after],
                      BHN_BORDER.replace("256 XX_STA__BHN record 3", "384 XX_STA__BHN record 4") + BHZ_BORDER,
                      f"{BHN} broken findings 1 first record 4 offset 384 gap 25001\n"
                      f"{BHZ} broken findings 1 first record 3 offset 256 gap 25001\nrecords 4 channels 2\n")
     back = "start 2024-01-01T00:00:00.000000 overlap 1625001\n"
-    yield from tells("part after part", 1, [first, second, first],
+    yield from reports("part after part", 1, [first, second, first],
                      f"{BHN_BORDER}{BHZ_BORDER}512 {BHN} record 5 {back}512 {BHZ} record 5 {back}",
                      f"{BHN} broken findings 2 first record 3 offset 256 gap 25001\n"
                      f"{BHZ} broken findings 2 first record 3 offset 256 gap 25001\nrecords 6 channels 2\n")
-    yield from tells("a channel that a part between hasn't", 1, [FIRST, part(channel(BHN_KEY), ONE), LATE],
+    yield from reports("a channel that a part between hasn't", 1, [FIRST, part(channel(BHN_KEY), ONE), LATE],
                      f"256 {BHZ} record 3 start 2024-01-01T00:00:00.825001 gap 25001\n",
                      f"{BHN} {NONE} records 1 samples 16\n"
                      f"{BHZ} broken findings 1 first record 3 offset 256 gap 25001\nrecords 3 channels 2\n")
-    yield from tells("a finding of its own is no border's", 1, [FIRST, part(UNREAD, ONE)], "",
+    yield from reports("a finding of its own is no border's", 1, [FIRST, part(UNREAD, ONE)], "",
                      f"{BHZ} broken findings 1 first record 2 offset 128 encoding 4\nrecords 2 channels 1\n")
-    yield from tells("a tail without a time", 1, [part(TIMELESS, ONE), LATE], "",
+    yield from reports("a tail without a time", 1, [part(TIMELESS, ONE), LATE], "",
                      f"{BHZ} broken findings 1 first record 1 offset 0 time day\nrecords 2 channels 1\n")
-    yield from tells("a tail with a finding of its own", 1, [part(UNREAD, ONE), LATE],
+    yield from reports("a tail with a finding of its own", 1, [part(UNREAD, ONE), LATE],
                      f"128 {BHZ} record 2 start 2024-01-01T00:00:00.825001 overlap 774999\n",
                      f"{BHZ} broken findings 2 first record 1 offset 0 encoding 4\nrecords 2 channels 1\n")
     late = begins(START + 800000, "40/1")
-    yield from tells("another rate", 1, [FIRST, part(late, ONE)],
+    yield from reports("another rate", 1, [FIRST, part(late, ONE)],
                      f"128 {BHZ} record 2 start 2024-01-01T00:00:00.800000 ratechange\n",
                      f"{BHZ} broken findings 1 first record 2 offset 128 ratechange\nrecords 2 channels 1\n")
-    yield from tells("both leap seconds", 1, [part(begins(START, leap="both"), ONE), NEXT],
+    yield from reports("both leap seconds", 1, [part(begins(START, leap="both"), ONE), NEXT],
                      f"128 {BHZ} record 2 start 2024-01-01T00:00:00.800000 leap\n",
                      f"{BHZ} broken findings 1 first record 2 offset 128 leap\nrecords 2 channels 1\n")
-    yield from tells("the first instant", 1, [part(begins(LAST_INSTANT), ONE), part(begins(FIRST_INSTANT), ONE)],
+    yield from reports("the first instant", 1, [part(begins(LAST_INSTANT), ONE), part(begins(FIRST_INSTANT), ONE)],
                      f"128 {BHZ} record 2 start 1800-01-01T00:00:00.000000 overlap 12622780800799999\n",
                      f"{BHZ} broken findings 1 first record 2 offset 128 overlap 12622780800799999\n"
                      "records 2 channels 1\n")
@@ -365,15 +365,15 @@ def each_after_faults() -> Cases:
     """Borders after a part that ends by a fault: none, but with `--past-faults`."""
     cut = "fault at 128 truncated 10"
     faulty, one = part(OF_FIRST, ONE, cut), f"128 {BHZ} record 2 start 2024-01-01T00:00:00.825001 gap 25001\n"
-    yield from tells("a part after a fault", 2, [faulty, LATE], "",
+    yield from reports("a part after a fault", 2, [faulty, LATE], "",
                      f"{BHZ} {NONE} records 1 samples 16\nrecords 1 channels 1\n{cut}\n")
-    yield from tells("a gap and a fault after it", 2, [FIRST, part(OF_LATE, ONE, cut), FIRST], one,
+    yield from reports("a gap and a fault after it", 2, [FIRST, part(OF_LATE, ONE, cut), FIRST], one,
                      f"{FOUND}records 2 channels 1\nfault at 256 truncated 10\n")
     past = ["--past-faults"]
-    yield from tells("no fault", 1, [FIRST, LATE], one, f"{FOUND}records 2 channels 1\n", more=past)
-    yield from tells("a fault between", 2, [faulty, LATE], one, f"{FOUND}records 2 channels 1\nfaults 1\n",
+    yield from reports("no fault", 1, [FIRST, LATE], one, f"{FOUND}records 2 channels 1\n", more=past)
+    yield from reports("a fault between", 2, [faulty, LATE], one, f"{FOUND}records 2 channels 1\nfaults 1\n",
                      f"mseed: part 1 {cut}\n", past)
-    yield from tells("a fault at the end", 2, [FIRST, part(OF_LATE, ONE, cut)], one,
+    yield from reports("a fault at the end", 2, [FIRST, part(OF_LATE, ONE, cut)], one,
                      f"{FOUND}records 2 channels 1\nfaults 1\n", f"mseed: part 2 {cut}\n", past)
 
 
@@ -384,7 +384,7 @@ Written = Tuple[List[str], str, str]
 def expecting(parts: Sequence[str], more: Sequence[str], status: int, written: Sequence[Written],
               errors: str = "") -> Iterator[Row]:
     """With `--expect` the parts are counted. Where they are as many, all is as without it; where they aren't, nothing
-    is written but the lines of the borders, and both numbers are told after the faults."""
+    is written but the lines of the borders, and both numbers are reported after the faults."""
     count, text = len(parts), "".join(parts).encode()
     for expected in sorted({1, count - 1, count, count + 1, 10 * count, MOST_PARTS} - {-1, 0}):
         refused = "" if expected == count else f"mseed: {count} parts, not {expected}\n"

@@ -159,17 +159,17 @@ def refusals(refusing: str) -> Cases:
         yield from refuses(" ".join(words), Row("", parts, words, status), refusing, "--each" in words)
     past, none = ["join", "--past-faults", "--part"], b"none\n"
     faulty, reported = FAULTY.encode(), "".join(REPORTED).encode()
-    yield from tells(refusing, "a bad line", Row("", parts + none, ["join"], 2, b"", b"mseed: bad part at line 12\n"))
-    yield from tells(refusing, "too few parts", Row("", parts, ["join", "--expect", "4"], 2, b"",
+    yield from reports(refusing, "a bad line", Row("", parts + none, ["join"], 2, b"", b"mseed: bad part at line 12\n"))
+    yield from reports(refusing, "too few parts", Row("", parts, ["join", "--expect", "4"], 2, b"",
                                                     b"mseed: 3 parts, not 4\n"))
     joint = part(OF_BOTH, counts(2, 256), "faults 2").encode()
-    yield from tells(refusing, "faults", Row("", faulty, past, 2, joint, reported))
-    yield from tells(refusing, "faults and a bad line",
+    yield from reports(refusing, "faults", Row("", faulty, past, 2, joint, reported))
+    yield from reports(refusing, "faults and a bad line",
                      Row("", faulty + none, past, 2, b"", reported + b"mseed: bad part at line 9\n"))
 
 
-def tells(refusing: str, name: str, row: Row) -> Cases:
-    """A run of status 2 in any case, with each allocation refused in turn, alone and with all after it: it tells some
+def reports(refusing: str, name: str, row: Row) -> Cases:
+    """A run of status 2 in any case, with each allocation refused in turn, alone and with all after it: it reports some
     of the faults before it ends for want of memory, and writes nothing."""
     whole = Result(2, row.out, row.err)
     ends = [Result(2, b"", "".join(REPORTED[:count]).encode() + NO_MEMORY) for count in range(len(REPORTED) + 1)]

@@ -245,10 +245,10 @@ def types(folder: Path) -> Cases:
     use.write_text(USE, encoding="ascii")
     run = subprocess.run([*words, str(use)], cwd=folder, capture_output=True, text=True, check=False,
                          env={**os.environ, "MYPYPATH": str(PACKAGE)})
-    told = [line.rpartition("note: ")[2] for line in run.stdout.splitlines()]
+    reported = [line.rpartition("note: ")[2] for line in run.stdout.splitlines()]
     array = '"numpy.ndarray[Any, numpy.dtype[numpy.signedinteger[numpy._typing._32Bit]]]"' if has_numpy() else '"Any"'
     yield Fact("its types for others", [f"Revealed type is {name}" for name in
-                                        (array, '"builtins.bool"', '"builtins.int"', '"builtins.str"')], told)
+                                        (array, '"builtins.bool"', '"builtins.int"', '"builtins.str"')], reported)
 
 
 def rows() -> Cases:

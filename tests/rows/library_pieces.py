@@ -125,7 +125,7 @@ print(samples == 9 * len(SAMPLES) * made.turn, {goes_on for _, goes_on in last.v
 
 # Two archives, of one channel or of nine by turns, read one after the other and by two threads at once: the least time
 # of each, until the threads are quicker by a seventh, or for half a minute. Other work on the machine comes second, if
-# that may be; else most tries tell nothing where there is much of it.
+# that may be; else most tries show nothing where there is much of it.
 THREADS = """
 import os, sys, threading, time, mseed
 paths, channels, alone, together = sys.argv[1:3], int(sys.argv[3]), [], []

@@ -196,7 +196,7 @@ def rows() -> Cases:
     yield Fact("the recipes of the pages", EXPECTED, [(recipe.document, recipe.heading) for recipe in found])
     for recipe in found:
         joins = len(re.findall(r"mseed join", recipe.words))
-        yield Fact(f"{recipe.name()}: each join is told how many parts", joins, recipe.words.count("--expect"))
+        yield Fact(f"{recipe.name()}: each join expects a number of parts", joins, recipe.words.count("--expect"))
         if "parallel" in recipe.words and shutil.which("parallel") is None:
             yield Skipped(recipe.name(), "parallel")
             continue

@@ -38,7 +38,7 @@ def packs(name: str, archive: bytes, packed: bytes, *words: str) -> Cases:
     yield from both(Row(name, archive, ["repack", "--stretches", *words], 0, packed))
 
 
-def tells(name: str, status: int, lines: list[str], archive: bytes, packed: bytes, *words: str) -> Cases:
+def reports(name: str, status: int, lines: list[str], archive: bytes, packed: bytes, *words: str) -> Cases:
     """Lines on standard error, and what is written beside."""
     errors = "".join(f"mseed: {line}\n" for line in lines).encode()
     yield from both(Row(name, archive, ["repack", "--stretches", *words], status, packed, errors))
@@ -100,22 +100,22 @@ def refused() -> Cases:
     """What can't be packed, and what is written of the rest."""
     differs = record(encoding=10, frames=1, samples=2, data=payload("01000000 00000000 00000009 00010000"))
     line = "XX_STA__BHZ is broken"
-    yield from tells("a wrong constant", 1, [line], differs, b"", *SHORT)
-    yield from tells("a wrong constant, left out", 1, [line], differs + record(**BHN), record(**BHN), *LEAVE)
+    yield from reports("a wrong constant", 1, [line], differs, b"", *SHORT)
+    yield from reports("a wrong constant, left out", 1, [line], differs + record(**BHN), record(**BHN), *LEAVE)
     wide = record(samples=2, data=integers([0, 2**29]), fraction=9000)
     line = "XX_STA__BHZ does not fit 5 stretch 2"
-    yield from tells("a stretch that does not fit", 2, [line], FIRST + wide, b"")
-    yield from tells("a stretch that does not fit, left out", 2, [line], FIRST + wide, b"", "--leave")
-    yield from tells("a sample past 16 bits", 2, ["XX_STA__BHZ does not fit 4 stretch 1"],
+    yield from reports("a stretch that does not fit", 2, [line], FIRST + wide, b"")
+    yield from reports("a stretch that does not fit, left out", 2, [line], FIRST + wide, b"", "--leave")
+    yield from reports("a sample past 16 bits", 2, ["XX_STA__BHZ does not fit 4 stretch 1"],
                      record(samples=2, data=integers([0, 2**15])), b"", "--encoding", "int16")
     line = "XX_STA__LOG is broken"
-    yield from tells("a log channel", 1, [line], LOG + FIRST, b"", *SHORT)
-    yield from tells("a log channel, left out", 1, [line], LOG + FIRST, FIRST, *LEAVE)
+    yield from reports("a log channel", 1, [line], LOG + FIRST, b"", *SHORT)
+    yield from reports("a log channel, left out", 1, [line], LOG + FIRST, FIRST, *LEAVE)
     lines = ["XX_STA__BHN is broken", "XX_STA__BHZ does not fit 5 stretch 2"]
     archive = FIRST + record(encoding=4, **BHN) + wide
-    yield from tells("a broken channel and one that does not fit", 1, lines[:1], archive, b"")
-    yield from tells("both left out", 2, lines, archive, b"", "--leave")
-    yield from tells("a cut archive", 2, ["fault at 128 truncated 9"], FIRST + FIRST[:9], b"", "--leave")
+    yield from reports("a broken channel and one that does not fit", 1, lines[:1], archive, b"")
+    yield from reports("both left out", 2, lines, archive, b"", "--leave")
+    yield from reports("a cut archive", 2, ["fault at 128 truncated 9"], FIRST + FIRST[:9], b"", "--leave")
 
 
 def words() -> Cases:

@@ -155,7 +155,7 @@ def without_time() -> Cases:
 
 
 def faults() -> Cases:
-    """A fault of the input: what comes before it is written, and then it is told."""
+    """A fault of the input: what comes before it is written, and then it is reported."""
     two = record() + record(codes=b"STB    BHZXX")
     for name, end, fault in [("junk", b"x" * 48, b"notdata"), ("a piece", record()[:100], b"truncated 100"),
                              ("a header", record()[:10], b"truncated 10")]:

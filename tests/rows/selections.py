@@ -115,7 +115,7 @@ def channels() -> Cases:
 
 
 def faults() -> Cases:
-    """A record before a fault is written before the fault is told."""
+    """A record before a fault is written before the fault is reported."""
     yield from selects("a fault", [], FIRST, b"mseed: fault at 128 truncated 5\n", FIRST + FIRST[:5], 2)
     junk = b"no record" * 10
     yield from selects("no record", [], TWO, b"mseed: fault at 256 notdata\n", TWO + junk, 2)

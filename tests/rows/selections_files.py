@@ -124,9 +124,9 @@ def rows() -> Cases:
         path = os.path.join(folder, "a.mseed")
         with open(path, "wb") as file:
             file.write(JUNK[1])
-        tells = Row("in which file a fault lies", b"", ["show", path], 2, b"records 0\nfault at 0 notdata\n",
+        reports = Row("in which file a fault lies", b"", ["show", path], 2, b"records 0\nfault at 0 notdata\n",
                     b"mseed: fault in %b at 0\n" % os.fsencode(path))
-        yield tells
-        does_tell = tells.fault() is None
-    if does_tell:
+        yield reports
+        does_report = reports.fault() is None
+    if does_report:
         yield from cuts()

@@ -228,7 +228,7 @@ def wrong_roots(folder: Path) -> Cases:
 
 
 def lost_parts(folder: Path) -> Cases:
-    """A part that is lost on its way to the program is told, and not left out."""
+    """A part that is lost on its way to the program is reported, and not left out."""
     root, program = folder / "lost", losing(folder)
     write_tree(root, dict([day("AAA", 1), day("AAA", 2)]))
     rest()

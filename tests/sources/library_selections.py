@@ -21,18 +21,18 @@ WINDOWS = 8
 
 
 def selected(archive: bytes, asked: Selection) -> Tuple[bytes, List[str]]:
-    """What the package selects, and what it tells beside, in the words of the program."""
-    with warnings.catch_warnings(record=True) as told:
+    """What the package selects, and what it reports beside, in the words of the program."""
+    with warnings.catch_warnings(record=True) as reported:
         warnings.simplefilter("always")
         try:
             out = mseed.select(archive, channels=asked.channels, start=asked.start, end=asked.end)
         except mseed.RecordError as error:
             return b"", [f"mseed: fault at {error.offset} {error.reason}"]
-    return out, [f"mseed: {one.message}" for one in told]
+    return out, [f"mseed: {one.message}" for one in reported]
 
 
 def wanted(archive: bytes, asked: Selection) -> Tuple[bytes, List[str]]:
-    """The same by the second program. Where the archive has a fault, the package tells that alone."""
+    """The same by the second program. Where the archive has a fault, the package reports that alone."""
     out, errors, status = select(archive, asked)
     lines = errors.decode("ascii").splitlines()
     return (out, lines) if status == 0 else (b"", lines[-1:])

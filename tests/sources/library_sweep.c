@@ -73,19 +73,19 @@ is_pattern (const void *bytes, size_t size)
 }
 
 /* ---- texts */
-typedef uint32_t (*teller) (const uint8_t *, size_t, uint8_t *, size_t, mseed_totals *);
-static const teller TELLERS[] = { mseed_audit, mseed_audit_each, mseed_part };
+typedef uint32_t (*reporter) (const uint8_t *, size_t, uint8_t *, size_t, mseed_totals *);
+static const reporter REPORTERS[] = { mseed_audit, mseed_audit_each, mseed_part };
 
 /* A room of a text holds the first bytes of the whole, and the pattern after them. */
 static void
-check_room (teller tell, const uint8_t *archive, size_t size, const uint8_t *whole, const mseed_totals *totals,
+check_room (reporter report, const uint8_t *archive, size_t size, const uint8_t *whole, const mseed_totals *totals,
             uint32_t status, size_t room, int at_end)
 {
   uint8_t *text = room_in (text_fence, room, at_end);
   mseed_totals *answer = room_in (small_fence, sizeof *answer, at_end);
   size_t shown = room < totals->length ? room : (size_t)totals->length;
   calls++;
-  if (tell (archive, size, text, room, answer) != status || memcmp (answer, totals, sizeof *answer) != 0)
+  if (report (archive, size, text, room, answer) != status || memcmp (answer, totals, sizeof *answer) != 0)
     fail ("another answer", room);
   if (memcmp (text, whole, shown) != 0 || !is_pattern (text + shown, room - shown))
     fail ("another text", room);
@@ -96,20 +96,20 @@ check_texts (const uint8_t *archive, size_t size, int all_rooms, int at_end)
 {
   static uint8_t whole[1 << 17];
   size_t k, room;
-  for (k = 0; k < sizeof TELLERS / sizeof *TELLERS; k++)
+  for (k = 0; k < sizeof REPORTERS / sizeof *REPORTERS; k++)
   {
     mseed_totals totals;
     uint32_t status;
     memset (&totals, 0, sizeof totals);
-    status = TELLERS[k](archive, size, whole, sizeof whole, &totals);
+    status = REPORTERS[k](archive, size, whole, sizeof whole, &totals);
     calls++;
     if (status > MSEED_FAULT || totals.length > sizeof whole || totals.broken > totals.channels)
       fail ("a strange answer", k);
-    check_room (TELLERS[k], archive, size, whole, &totals, status, 0, at_end);
-    check_room (TELLERS[k], archive, size, whole, &totals, status, totals.length, at_end);
-    check_room (TELLERS[k], archive, size, whole, &totals, status, totals.length + 1, at_end);
+    check_room (REPORTERS[k], archive, size, whole, &totals, status, 0, at_end);
+    check_room (REPORTERS[k], archive, size, whole, &totals, status, totals.length, at_end);
+    check_room (REPORTERS[k], archive, size, whole, &totals, status, totals.length + 1, at_end);
     for (room = 1; all_rooms && room < totals.length; room++)
-      check_room (TELLERS[k], archive, size, whole, &totals, status, room, at_end);
+      check_room (REPORTERS[k], archive, size, whole, &totals, status, room, at_end);
   }
 }
 
