@@ -160,21 +160,21 @@ def report_library(given: argparse.Namespace) -> None:
 
 
 def given_words() -> argparse.Namespace:
-    """What the words ask for."""
-    words = argparse.ArgumentParser(description="Puts what was built in its place, and takes it away again.")
-    words.add_argument("work", choices=["program", "library", "uninstall"])
-    words.add_argument("built", type=Path, nargs="?")
-    words.add_argument("--prefix", required=True)
-    words.add_argument("--destdir", default="")
-    words.add_argument("--python-dir", default="")
-    given = words.parse_args()
+    """What the arguments ask for."""
+    parser = argparse.ArgumentParser(description="Puts what was built in its place, and takes it away again.")
+    parser.add_argument("work", choices=["program", "library", "uninstall"])
+    parser.add_argument("built", type=Path, nargs="?")
+    parser.add_argument("--prefix", required=True)
+    parser.add_argument("--destdir", default="")
+    parser.add_argument("--python-dir", default="")
+    given = parser.parse_args()
     given.prefix = os.path.abspath(given.prefix).rstrip("/")
     given.destdir = given.destdir and os.path.abspath(given.destdir).rstrip("/")
     return given
 
 
 def main() -> int:
-    """Does what the words ask for."""
+    """Does what the arguments ask for."""
     given = given_words()
     root = Root(given.destdir, given.prefix)
     if given.work == "uninstall":

@@ -167,15 +167,15 @@ def write_selections(mseed, options):
 
 
 def main():
-    words = argparse.ArgumentParser(description=__doc__, formatter_class=argparse.RawDescriptionHelpFormatter)
-    words.add_argument("mseed")
-    words.add_argument("--rounds", type=int, default=5)
-    words.add_argument("--megabytes", type=int, default=100)
-    words.add_argument("--commands", nargs="+", default=["audit", "show", "repack"])
-    words.add_argument("--archives", nargs="+", default=ARCHIVES)
-    words.add_argument("--count", action="store_true")
-    words.add_argument("--write", action="store_true")
-    options = words.parse_args()
+    parser = argparse.ArgumentParser(description=__doc__, formatter_class=argparse.RawDescriptionHelpFormatter)
+    parser.add_argument("mseed")
+    parser.add_argument("--rounds", type=int, default=5)
+    parser.add_argument("--megabytes", type=int, default=100)
+    parser.add_argument("--commands", nargs="+", default=["audit", "show", "repack"])
+    parser.add_argument("--archives", nargs="+", default=ARCHIVES)
+    parser.add_argument("--count", action="store_true")
+    parser.add_argument("--write", action="store_true")
+    options = parser.parse_args()
     if (options.count or options.write) and not shutil.which("valgrind"):
         sys.exit("instructions are counted by valgrind, which isn't installed")
     if options.write and (options.commands, options.archives) != (["audit", "show", "repack"], ARCHIVES):

@@ -113,13 +113,13 @@ def count(mseed):
 
 
 def main():
-    words = argparse.ArgumentParser(description=__doc__, formatter_class=argparse.RawDescriptionHelpFormatter)
-    words.add_argument("mseed")
-    words.add_argument("--rounds", type=int, default=7)
-    words.add_argument("--megabytes", type=int, default=100)
-    words.add_argument("--count", action="store_true")
-    words.add_argument("--write", action="store_true")
-    options = words.parse_args()
+    parser = argparse.ArgumentParser(description=__doc__, formatter_class=argparse.RawDescriptionHelpFormatter)
+    parser.add_argument("mseed")
+    parser.add_argument("--rounds", type=int, default=7)
+    parser.add_argument("--megabytes", type=int, default=100)
+    parser.add_argument("--count", action="store_true")
+    parser.add_argument("--write", action="store_true")
+    options = parser.parse_args()
     if options.count:
         os.makedirs(FOLDER, exist_ok=True)
         return count(os.path.abspath(options.mseed))

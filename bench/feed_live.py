@@ -174,14 +174,14 @@ def delays(mseed, who, records=500, links=64):
 
 
 def main():
-    words = argparse.ArgumentParser(description=__doc__, formatter_class=argparse.RawDescriptionHelpFormatter)
-    words.add_argument("mseed")
-    words.add_argument("--rounds", type=int, default=3)
-    words.add_argument("--records", type=int, default=100000)
-    words.add_argument("--fetches", type=int, default=32)
-    words.add_argument("--links", type=int, default=1000)
-    words.add_argument("--write", action="store_true")
-    options = words.parse_args()
+    parser = argparse.ArgumentParser(description=__doc__, formatter_class=argparse.RawDescriptionHelpFormatter)
+    parser.add_argument("mseed")
+    parser.add_argument("--rounds", type=int, default=3)
+    parser.add_argument("--records", type=int, default=100000)
+    parser.add_argument("--fetches", type=int, default=32)
+    parser.add_argument("--links", type=int, default=1000)
+    parser.add_argument("--write", action="store_true")
+    options = parser.parse_args()
     mseed, rounds = os.path.abspath(options.mseed), options.rounds
     os.makedirs(FOLDER, exist_ok=True)
     subprocess.run(["cc", "-O2", "-o", LOOP, os.path.join(HERE, "feed_loop.c")], check=True)

@@ -84,17 +84,18 @@ def counted(mseed, links, places, records):
 
 def main():
     """Counts, and prints a line for each number of places."""
-    words = argparse.ArgumentParser(description=__doc__, formatter_class=argparse.RawDescriptionHelpFormatter)
-    words.add_argument("mseed")
-    words.add_argument("--links", type=int, default=64)
-    words.add_argument("--places", type=int, nargs="+", default=[2, 16])
-    words.add_argument("--records", type=int, default=2000)
-    options = words.parse_args()
+    parser = argparse.ArgumentParser(description=__doc__, formatter_class=argparse.RawDescriptionHelpFormatter)
+    parser.add_argument("mseed")
+    parser.add_argument("--links", type=int, default=64)
+    parser.add_argument("--places", type=int, nargs="+", default=[2, 16])
+    parser.add_argument("--records", type=int, default=2000)
+    options = parser.parse_args()
     mseed, links, records = os.path.abspath(options.mseed), options.links, options.records
     for count in options.places:
         places = [Place(f"XX_S{number:02}") for number in range(count)]
         once, twice = (counted(mseed, links, places, most) for most in (records, 2 * records))
-        print(f"{links} links, {count} places: {(twice - once) / (links * records):.1f} instructions a packet", flush=True)
+        each = (twice - once) / (links * records)
+        print(f"{links} links, {count} places: {each:.1f} instructions a packet", flush=True)
 
 
 if __name__ == "__main__":

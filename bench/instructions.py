@@ -21,10 +21,10 @@ from driver.instructions import FIGURES, Figures, counts, read, text_of, toolcha
 
 def main() -> None:
     """Counts, prints and writes."""
-    words = argparse.ArgumentParser(description="Counts the instructions of the program's commands, by callgrind.",
-                                    epilog="Example: bench/instructions.py --write")
-    words.add_argument("--write", action="store_true", help="write them into bench/instructions.txt")
-    given = words.parse_args()
+    parser = argparse.ArgumentParser(description="Counts the instructions of the program's commands, by callgrind.",
+                                     epilog="Example: bench/instructions.py --write")
+    parser.add_argument("--write", action="store_true", help="write them into bench/instructions.txt")
+    given = parser.parse_args()
     kept = read(FIGURES.read_text(encoding="ascii")).of if FIGURES.exists() else {}
     counted = {}
     for job, count in counts():

@@ -61,7 +61,7 @@ def seconds(call, archive):
 
 
 def call_of(who, work, where, archive, turns):
-    """The words of a run."""
+    """The command of a run."""
     if where == "NumPy" and who == "mseed":
         return ["/usr/bin/python3", "-c", FROM_NUMPY, PACKAGE, archive, work, str(turns)]
     return [PROGRAM, who, work, str(turns)]
@@ -84,13 +84,13 @@ def measured(work, peer, where, archive, options):
 
 
 def main():
-    words = argparse.ArgumentParser(description=__doc__, formatter_class=argparse.RawDescriptionHelpFormatter)
-    words.add_argument("--rounds", type=int, default=5)
-    words.add_argument("--turns", type=int, default=3)
-    words.add_argument("--megabytes", type=int, default=20)
-    words.add_argument("--archives", nargs="+", default=ARCHIVES)
-    words.add_argument("--write", action="store_true")
-    options = words.parse_args()
+    parser = argparse.ArgumentParser(description=__doc__, formatter_class=argparse.RawDescriptionHelpFormatter)
+    parser.add_argument("--rounds", type=int, default=5)
+    parser.add_argument("--turns", type=int, default=3)
+    parser.add_argument("--megabytes", type=int, default=20)
+    parser.add_argument("--archives", nargs="+", default=ARCHIVES)
+    parser.add_argument("--write", action="store_true")
+    options = parser.parse_args()
     build()
     source = os.path.join(HERE, "library.c")
     subprocess.run(["cc", "-O2", "-o", PROGRAM, f"-I{HERE}/../include", source, os.path.join(LIB, "libmseed_c.a"),

@@ -73,7 +73,7 @@ def make_parts(path, megabytes):
 
 
 def ways_of(mseed, archive, folder, cores):
-    """The ways to audit the archive: their words, and at how many processes at once they do it."""
+    """The ways to audit the archive: their commands, and how many processes they run at once."""
     by_files = f"""cd {folder}/pieces
         set -- *
         printf '%s\\0' "$@" | xargs -0 -P $CORES -n 1 sh -c '"$MSEED" audit --part < "$1" > "../parts/$1"' sh
@@ -126,13 +126,13 @@ def write_tables(costs, cores, megabytes, joined):
 
 
 def main():
-    words = argparse.ArgumentParser(description=__doc__, formatter_class=argparse.RawDescriptionHelpFormatter)
-    words.add_argument("mseed")
-    words.add_argument("--cores", type=int, default=4)
-    words.add_argument("--megabytes", type=int, default=1000)
-    words.add_argument("--rounds", type=int, default=5)
-    words.add_argument("--write", action="store_true")
-    options = words.parse_args()
+    parser = argparse.ArgumentParser(description=__doc__, formatter_class=argparse.RawDescriptionHelpFormatter)
+    parser.add_argument("mseed")
+    parser.add_argument("--cores", type=int, default=4)
+    parser.add_argument("--megabytes", type=int, default=1000)
+    parser.add_argument("--rounds", type=int, default=5)
+    parser.add_argument("--write", action="store_true")
+    options = parser.parse_args()
     mseed = os.path.abspath(options.mseed)
     with tempfile.TemporaryDirectory() as folder:
         archive, parts = os.path.join(folder, "archive.mseed"), os.path.join(folder, "joined")

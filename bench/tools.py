@@ -90,13 +90,13 @@ def measure(root, folder, jobs, env):
 
 
 def main():
-    words = argparse.ArgumentParser(description=__doc__, formatter_class=argparse.RawDescriptionHelpFormatter)
-    words.add_argument("mseed")
-    words.add_argument("--jobs", default="1,4")
-    words.add_argument("--megabytes", type=int, default=1000)
-    words.add_argument("--rounds", type=int, default=5)
-    words.add_argument("--write", action="store_true")
-    options = words.parse_args()
+    parser = argparse.ArgumentParser(description=__doc__, formatter_class=argparse.RawDescriptionHelpFormatter)
+    parser.add_argument("mseed")
+    parser.add_argument("--jobs", default="1,4")
+    parser.add_argument("--megabytes", type=int, default=1000)
+    parser.add_argument("--rounds", type=int, default=5)
+    parser.add_argument("--write", action="store_true")
+    options = parser.parse_args()
     env, jobs = {**os.environ, "MSEED": os.path.abspath(options.mseed)}, options.jobs.split(",")
     with tempfile.TemporaryDirectory() as folder:
         root = os.path.join(folder, "archive")

@@ -410,18 +410,18 @@ def measure() -> None:
 
 
 def main() -> int:
-    """Does what the words ask for."""
-    words = argparse.ArgumentParser(description="Proves and builds the libraries that a crate stands on, side by side.",
-                                    epilog="Example: crates/prove.py mseed run -- --version")
-    words.add_argument("--measure", action="store_true", help="write minutes.txt anew, by what the last proofs took")
-    words.add_argument("crate", nargs="?", choices=sorted(lines()), metavar="CRATE", help="a crate of crates.txt")
-    words.add_argument("command", nargs=argparse.REMAINDER, help="lib or run: build the crate itself, or run it")
-    given = words.parse_args()
+    """Does what the arguments ask for."""
+    parser = argparse.ArgumentParser(description="Proves and builds the libraries of a crate, side by side.",
+                                     epilog="Example: crates/prove.py mseed run -- --version")
+    parser.add_argument("--measure", action="store_true", help="write minutes.txt anew, by what the last proofs took")
+    parser.add_argument("crate", nargs="?", choices=sorted(lines()), metavar="CRATE", help="a crate of crates.txt")
+    parser.add_argument("command", nargs=argparse.REMAINDER, help="lib or run: build the crate itself, or run it")
+    given = parser.parse_args()
     if given.measure:
         measure()
         return 0
     if not given.crate:
-        words.error("no crate is named")
+        parser.error("no crate is named")
     if not shutil.which("rt"):
         print("rt: not found. The toolchain's command has to be on the path: see README.md.", file=sys.stderr)
         return 2

@@ -57,7 +57,7 @@ def relinked(sources: Sources, name: str, text: str) -> str:
 
 
 def main() -> int:
-    """Mends links and examples where the words want it, and judges the documents."""
+    """Mends links and examples where the arguments want it, and judges the documents."""
     sources, count = Sources(), Count()
     documents = [word for word in sys.argv[1:] if not word.startswith("--")] or documents_of(sources)
     for name in documents:

@@ -72,16 +72,16 @@ def tried(edits: Sequence[Path]) -> int:
 
 
 def main() -> int:
-    """Tries what the words name."""
-    words = argparse.ArgumentParser(description="Tries the wrong bodies of tests/must-fail.",
-                                    epilog="Example: tests/edits.py mseed_join")
-    words.add_argument("crates", nargs="*", metavar="CRATE", help="those of this crate; without names, of all")
-    words.add_argument("--tenth", action="store_true", help="the tenth of all whose turn it is")
-    given = words.parse_args()
+    """Tries what the arguments name."""
+    parser = argparse.ArgumentParser(description="Tries the wrong bodies of tests/must-fail.",
+                                     epilog="Example: tests/edits.py mseed_join")
+    parser.add_argument("crates", nargs="*", metavar="CRATE", help="those of this crate; without names, of all")
+    parser.add_argument("--tenth", action="store_true", help="the tenth of all whose turn it is")
+    given = parser.parse_args()
     there = {path.parent.name for path in edits_of()}
     unknown = [crate for crate in given.crates if crate not in there]
     if unknown:
-        words.error(f"no edits of {unknown[0]} in tests/must-fail")
+        parser.error(f"no edits of {unknown[0]} in tests/must-fail")
     return tried(tenths()[turn()] if given.tenth else edits_of(given.crates))
 
 

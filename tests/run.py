@@ -92,7 +92,7 @@ def arguments() -> argparse.Namespace:
 
 
 def main() -> int:
-    """Runs what the words ask for. The status is 1 where anything failed."""
+    """Runs what the arguments ask for. The status is 1 where anything failed."""
     given = arguments()
     if given.list:
         print("\n".join(names()))

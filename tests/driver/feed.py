@@ -55,7 +55,7 @@ def end_all() -> None:
 
 def words_of(places: Sequence[Station], options: Iterable[object] = (),
              wants: Sequence[Optional[int]] = ()) -> list[str]:
-    """The command's words for some places, the first by its options, and the numbers that are wanted first of them."""
+    """The command's arguments for some places, the first by its options, and the numbers wanted first of them."""
     wants = [*wants, *[None] * (len(places) - len(wants))]
     words = ["--station", places[0].sta.decode(), "--network", places[0].net.decode()]
     words += [] if wants[0] is None else ["--from", f"{wants[0]:X}"]
@@ -64,8 +64,8 @@ def words_of(places: Sequence[Station], options: Iterable[object] = (),
 
 
 class Server:
-    """`mseed serve` over an archive, once it listens or has ended. Its words are made of the places and the options,
-    where no others are given."""
+    """`mseed serve` over an archive, once it listens or has ended. Its arguments are made of the places and the
+    options, where no others are given."""
 
     def __init__(self, archive: bytes, places: Sequence[Station] = (), *options: object, port: Optional[int] = None,
                  words: Optional[Sequence[str]] = None, env: Env = None, closed: Sequence[int] = (),
@@ -96,7 +96,7 @@ class Server:
 
 
 class Fetching:
-    """`mseed fetch`, by its words, which runs on its own."""
+    """`mseed fetch`, by its arguments, which runs on its own."""
 
     def __init__(self, words: Sequence[str], env: Env = None, closed: Sequence[int] = ()):
         self.output, self.errors = tempfile.TemporaryFile(), tempfile.TemporaryFile()

@@ -90,7 +90,7 @@ def counts() -> Iterator[tuple[Job, int]]:
 
 
 def toolchain() -> Optional[str]:
-    """The toolchain that is here, in the words of `rt version`, with the machine and its C library, if there is one."""
+    """The toolchain that is here, as `rt version` says it, with the machine and its C library, if there is one."""
     if shutil.which("rt") is None:
         return None
     version = subprocess.run(["rt", "version"], stdout=subprocess.PIPE, text=True, check=False).stdout.strip()

@@ -45,9 +45,9 @@ class Result(NamedTuple):
 
 @dataclass(frozen=True)
 class Row:
-    """A run of the program with these words, and how it must end. The input is bytes, as a file or through a pipe byte
-    by byte, or the path of a file or folder. Where `left` is a number, so many bytes of it stay unread. `out_to` and
-    `err_to` are written to in the place of files; the descriptors `closed` are closed from the first moment on."""
+    """A run of the program with these arguments, and how it must end. The input is bytes, as a file or through a pipe
+    byte by byte, or the path of a file or folder. Where `left` is a number, so many bytes of it stay unread. `out_to`
+    and `err_to` are written to in the place of files; the descriptors `closed` are closed from the first moment on."""
 
     name: str
     input: Union[bytes, Path]

@@ -26,12 +26,12 @@ class About:
 
 @dataclass(frozen=True)
 class Without:
-    """Any text that has no such words in it."""
+    """Any text that has no such text in it."""
 
     words: bytes
 
     def matches(self, text: bytes) -> bool:
-        """Whether the words are missing."""
+        """Whether the text is missing."""
         return self.words not in text
 
 

@@ -1,4 +1,4 @@
-"""Records that are asked for, in Python, from docs/format.md and docs/texts.md alone: patterns and times as words, what
+"""Records that are asked for, in Python, from docs/format.md and docs/texts.md alone: patterns and times as texts, what
 `select` writes, and what an audit, a list and packings say of these records; and in which file a fault lies."""
 
 from __future__ import annotations
@@ -77,7 +77,7 @@ class Selection(NamedTuple):
         return start, end
 
     def is_good(self) -> bool:
-        """Whether the words mean something, and the window's end is after its begin."""
+        """Whether the arguments mean something, and the window's end is after its beginning."""
         if self.channels is not None and patterns_of(self.channels) is None:
             return False
         start, end = self.bounds()
@@ -201,7 +201,7 @@ def fault_place(archive: bytes, sizes: Sequence[int]) -> Optional[tuple[int, int
 
 
 def fault_line(archive: bytes, files: Sequence[tuple[bytes, int]]) -> bytes:
-    """The line of an archive's fault, by the words and the sizes of its files."""
+    """The line of an archive's fault, by the arguments and the sizes of its files."""
     place = fault_place(archive, [size for _, size in files])
     if place is None:
         return b""

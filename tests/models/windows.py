@@ -110,7 +110,7 @@ def word_of(source: Random, instant: int) -> str:
 
 
 def selection_for(source: Random, archive: bytes) -> Selection:
-    """What is asked for of an archive, in words that mean something."""
+    """What is asked for of an archive, in arguments that mean something."""
     records = [one for _, one in cut(archive)[0]]
     first, second = (bounds_near(source, records) for _ in range(2))
     if first == second:

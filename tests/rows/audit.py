@@ -260,7 +260,7 @@ def bytes_of_255() -> Cases:
 
 
 def words() -> Cases:
-    """How much of the input is read; and other words, for which nothing is read."""
+    """How much of the input is read; and other arguments, for which nothing is read."""
     yield Row("an audit, and leaves 0 bytes", TWO, ["audit"], 0, TWO_TEXT.encode(), left=0)
     broken = f"{BHZ} broken findings 1 first record 2 offset 128 gap 25001\nrecords 2 channels 1\n"
     yield Row("an audit with a fault, and leaves 0 bytes", FIRST + LATE + FIRST[:10], ["audit"], 2,

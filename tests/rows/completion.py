@@ -15,7 +15,7 @@ COMPLETION = ROOT / "completion" / "mseed.bash"
 COMMANDS = ["audit", "join", "show", "select", "repack", "serve", "fetch"]
 FEED = ["serve", "fetch"]
 
-# What is proposed for the last of the words, and whether files would be, if nothing is.
+# What is proposed for the last of the arguments, and whether files would be, if nothing is.
 SCRIPT = """
 compopt() { files=; }
 complete() { :; }
@@ -34,7 +34,7 @@ class Proposed(NamedTuple):
 
 
 def proposed_for(*words: str) -> Proposed:
-    """What is proposed for the last of these words, those after the program's name."""
+    """What is proposed for the last of these arguments, those after the program's name."""
     run = subprocess.run(["bash", "-c", SCRIPT, str(COMPLETION), "mseed", *words], stdin=subprocess.DEVNULL,
                          stdout=subprocess.PIPE, stderr=subprocess.STDOUT, text=True, check=False)
     files, *found = run.stdout.splitlines()

@@ -1,5 +1,5 @@
-"""`serve --live`: its words, many clients at once while records come, each cut off and reconnected at random, clients
-that take nothing or say nothing, a server that is killed and started anew, and inputs that end badly."""
+"""`serve --live`: its arguments, many clients at once while records come, each cut off and reconnected at random,
+clients that take nothing or say nothing, a server that is killed and started anew, and inputs that end badly."""
 
 from __future__ import annotations
 
@@ -341,7 +341,7 @@ def granted_of(links: Sequence[socket.socket], least: int) -> list[socket.socket
 
 
 def exact_numbers() -> Cases:
-    """As many are served at once as the words give, or 64: not one more, and as many again for those that go."""
+    """As many are served at once as the arguments give, or 64: not one more, and as many again for those that go."""
     for options, most, leaving in [(["--clients", 1], 1, 1), (["--clients", 5], 5, 3), ([], 64, 6)]:
         live = Live("--timeout", 60, *options)
         links = [dialled(live.port) for _ in range(most + leaving + 2)]

@@ -1,4 +1,4 @@
-"""Words after a command name files, whose bytes, one after another, are its input."""
+"""Arguments after a command name files, whose bytes, one after another, are its input."""
 
 from __future__ import annotations
 
@@ -68,7 +68,7 @@ def named(folder: Path) -> Cases:
 
 
 def refused(folder: Path) -> Cases:
-    """Words that name nothing that can be read: nothing is done then, and the first of them is reported."""
+    """Arguments that name nothing that can be read: nothing is done then, and the first of them is reported."""
     good, none, directory = str(TWO), str(folder / "none"), str(folder)
     for command in (["audit"], ["join"], ["show"], ["repack"]):
         for words, word in [([none], none), ([good, none], none), ([good, directory, none], directory)]:
@@ -122,7 +122,7 @@ def piped(folder: Path) -> Cases:
 
 
 def many(folder: Path) -> Cases:
-    """Ten thousand words with sixty-four descriptors."""
+    """Ten thousand arguments with sixty-four descriptors."""
     names = written(folder, [record(), next_record()])
     words = [*names[:1], *["/dev/null", str(folder / "empty")] * 5000, *names[1:]]
     (folder / "empty").write_bytes(b"")
@@ -133,7 +133,7 @@ def many(folder: Path) -> Cases:
 
 
 def cut_anywhere(folder: Path) -> Cases:
-    """Sound archives cut at any byte, as words and as one input."""
+    """Sound archives cut at any byte, as files and as one input."""
     rng = random.Random(56)
     for index in range(200):
         archive = b"".join(record(fraction=0, minute=minute) for minute in range(rng.randrange(1, 6)))

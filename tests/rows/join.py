@@ -45,7 +45,7 @@ TWO = f"{BHZ} {NONE} records 2 samples 32\nrecords 2 channels 1\n"
 
 def joins(name: str, status: int, parts: Sequence[str], lines: str, joint: str = "",
           errors: str = "", more: Sequence[str] = ()) -> Iterator[Row]:
-    """These parts give this text, and with `--part` this part, where one is given. More words are given besides."""
+    """These parts give this text, and with `--part` this part, where one is given. More arguments are given besides."""
     text = "".join(parts).encode()
     outputs = [([], lines), *([(["--part"], joint)] if joint else [])]
     for words, output in outputs:
@@ -457,7 +457,7 @@ def counted_after_others() -> Cases:
 
 
 def words() -> Cases:
-    """Which words go together, and which are refused. Nothing is read then."""
+    """Which arguments go together, and which are refused. Nothing is read then."""
     text = f"{FIRST}{LATE}".encode()
     for given in ("join --each --part", "join --part --each", "--each join --part", "join --each --part --past-faults",
                   "join --each --part --expect 2", "audit --expect 2", "audit --part --expect 2", "show --expect 2",

@@ -29,7 +29,7 @@ Seen = tuple[list[Fact], list[str]]
 
 
 def runner(batch: Batch) -> Run:
-    """Runs the program with these words."""
+    """Runs the program with these arguments."""
     return lambda words, input: batch.run(words.split(), input)
 
 

@@ -16,7 +16,7 @@ from driver.tools import rest
 BUILT = "Proved and built."
 AUDITED = ["XX_STA__BHZ continuous 2024-01-01T00:00:00.000000 rate 20/1 records 2 samples 32", "records 2 channels 1"]
 BROKEN = ["XX_STA__BHZ broken findings 1 first record 2 offset 128 gap 25001", "records 2 channels 1"]
-# By each of the words, where its file isn't there.
+# By each of the targets, where its file isn't there.
 WORDS = ["audit", "show", "select", "repack"]
 ODD = """a b'c"d.mseed"""
 

@@ -33,7 +33,7 @@ EXPECTED = [("README.md", "audit"), ("README.md", "join"), ("docs/cookbook.md", 
 
 
 class Recipe(NamedTuple):
-    """Where it stands, and its words."""
+    """Where it stands, and its text."""
 
     document: str
     heading: str
@@ -84,7 +84,7 @@ class Place:
         self.large = folder / "a b'c\"d\n$e.mseed"
 
     def words(self, recipe: Recipe) -> str:
-        """The recipe's words, for the files that are here."""
+        """The recipe's text, for the files that are here."""
         words = recipe.words.replace(str(BUILT.relative_to(ROOT)), "mseed").replace("/tmp/", f"{self.folder}/")
         for name in (f"{self.folder}/large.mseed", "samples/network_gap.mseed", "samples/network_junk.mseed"):
             words = words.replace(name, shlex.quote(str(self.large)))

@@ -201,7 +201,7 @@ NOT_TAKING: list[list[str]] = [
 
 
 def of_files(folder: Path) -> Cases:
-    """Files as words: pipes, folders, and what isn't there."""
+    """Files as arguments: pipes, folders, and what isn't there."""
     names = []
     for index, piece in enumerate((ARCHIVE[:100], b"", ARCHIVE[100:])):
         path = folder / str(index)

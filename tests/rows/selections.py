@@ -150,7 +150,7 @@ BAD_PATTERNS = ["", ",", "_", "__", "____", "XX_STA__BHZ,", ",XX_STA__BHZ", "XX_
 
 
 def words(taking: Sequence[str]) -> Cases:
-    """Which words mean something, and which commands take them."""
+    """Which arguments mean something, and which commands take them."""
     for command in [["select"], *(command for command, _ in OVER_SELECTIONS if command[0] in taking)]:
         for option, bad in [("--from", BAD_TIMES), ("--until", BAD_TIMES), ("--channels", BAD_PATTERNS)]:
             chosen_words = bad if command == ["select"] else bad[:3]

@@ -1,4 +1,4 @@
-"""Archives cut into files at any byte, as words and as one input: the same output, status and standard error, but for
+"""Archives cut into files at any byte, as files and as one input: the same output, status and standard error, but for
 the last line there, which says in which file a fault lies. Rows of selections.py compare the one input with the second
 program in Python; here the words are compared with it (models/selecting.py)."""
 
@@ -68,7 +68,7 @@ class Files(Batch):
         return self.run([*command, *self.words(pieces, given)], pieces[given] if given < len(pieces) else b"")
 
     def words(self, pieces: Sequence[bytes], given: int) -> list[str]:
-        """The words that name them."""
+        """The arguments that name them."""
         return ["-" if index == given else self.word(index) for index in range(len(pieces))]
 
 

@@ -26,7 +26,7 @@ BOTH = STA + STB + STB + STA
 NETWORK = of("STA", "XY")
 CUT = STA + STA[:300]
 
-# Archives that can be served, and further words.
+# Archives that can be served, and further arguments.
 SERVED: list[tuple[str, bytes, Sequence[str]]] = [
     ("an empty archive", b"", []),
     ("a record of the place", STA, []),

@@ -93,7 +93,7 @@ def devices() -> Cases:
 
 
 def parsed() -> Cases:
-    """Words that are refused in the parser's own text, before a byte is read."""
+    """Arguments that are refused in the parser's own text, before a byte is read."""
     refused: Sequence[tuple[str, str, str]] = [
         ("help", "Usage", "--help"),
         ("an unknown option", "bogus", "show --bogus"),

@@ -106,7 +106,7 @@ def both_trees(cluster: Cluster, sound: Path, files: Sequence[Path], damaged: Pa
     yield Fact(f"{name}: the damaged tree", program(["join", "--past-faults"], parts_of(sources_of(damaged))),
                cluster.run("--parts", f"{parts}-damaged", str(damaged)))
     yield Fact(f"{name}: no files", program(["join"], b""), cluster.run("--parts", f"{parts}-none"))
-    yield Fact(f"{name}: words that mean nothing", 3, cluster.run("--no-such-word").status)
+    yield Fact(f"{name}: arguments that mean nothing", 3, cluster.run("--no-such-word").status)
 
 
 def sources_of(root: Path) -> list[Path]:

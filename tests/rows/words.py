@@ -14,17 +14,17 @@ SIXTEEN = [f"XX_P{number}" for number in range(1, 16)]
 
 
 def bad(name: str, *words: str) -> Row:
-    """Words that ask for nothing that there is."""
+    """Arguments that ask for nothing that there is."""
     return Row(name, OTHER, words, 3, b"", BAD_VALUE)
 
 
 def refused(name: str, about: str, *words: str) -> Row:
-    """Words that are refused in the parser's own text."""
+    """Arguments that are refused in the parser's own text."""
     return Row(name, OTHER, words, 3, b"", About(about))
 
 
 def taken(name: str, *words: str) -> Row:
-    """Words that are taken. What they ask for can't be done: the input is no archive, and nobody answers there."""
+    """Arguments that are taken. What they ask for can't be done: the input is no archive, and nobody answers there."""
     return Row(name, OTHER, words, 2, b"", Without(BAD_VALUE.strip()))
 
 
