@@ -55,8 +55,8 @@ impl Btime {
     ghost use Rattle.mseed_time.specs.Btime.{parts_at, first_fault, instant_of, microsecond_of};
     ghost use Rattle.mseed_time.specs.Parts.{parts_of};
 
-    /// The time that the 10 bytes of a BTIME give, with its 16-bit numbers in this byte order: year, day of the year,
-    /// hour, minute, second, an unused byte, and ten-thousandths of a second (SEED Reference Manual 2.4, chapter 3).
+    /// Reads the 10 bytes of a BTIME, with its 16-bit numbers in this byte order: year, day of the year, hour, minute,
+    /// second, an unused byte, and ten-thousandths of a second (SEED Reference Manual 2.4, chapter 3).
     ///
     /// # Errors
     ///
@@ -100,8 +100,8 @@ impl Btime {
         })
     }
 
-    /// The instant of a record's first sample, whose header has this time: `correction`, in ten-thousandths of a
-    /// second, is added unless it was applied already (activity bit 1), and so are the microseconds of blockette 1001
+    /// Returns the instant of a record's first sample, whose header has this time: `correction`, in ten-thousandths of
+    /// a second, is added unless it was applied already (activity bit 1), and so are the microseconds of blockette 1001
     /// (SEED Reference Manual 2.4, chapter 8). Second 60 counts as the first second of the next minute.
     pub fn micros(&self, correction: i32, is_applied: bool, microseconds: i8) -> Micros
         ensures { result ≡ instant_of (parts_of self.now) correction is_applied microseconds }
@@ -110,8 +110,8 @@ impl Btime {
         Micros::within(whole + i64::from(microseconds))
     }
 
-    /// The 10 bytes of the time as a BTIME, with its 16-bit numbers in this byte order and 0 in the unused byte.
-    /// [`Btime::read`] gives the same time of them.
+    /// Returns the 10 bytes of the time as a BTIME, with its 16-bit numbers in this byte order and 0 in the unused byte
+    /// (SEED Reference Manual 2.4, chapter 3). [`Btime::read`] reads the same time from them.
     pub fn write(&self, order: Order) -> [u8; 10]
         ensures fields { parts_at order 0 result ≡ parts_of self.now }
         ensures unused { slice_index result 7 ≡ 0 }
@@ -124,9 +124,9 @@ impl Btime {
         bytes
     }
 
-    /// The time that is nearest to an instant, the later one of two that are equally near, and the microseconds from
-    /// it to the instant, -50 to 49, as blockette 1001 has them. The time's second is never 60, and no other such pair
-    /// gives the instant.
+    /// Returns the time that is nearest to an instant, the later one of two that are equally near, and the microseconds
+    /// from it to the instant, -50 to 49, as blockette 1001 has them (SEED Reference Manual 2.4, chapter 8). The time's
+    /// second is never 60, and no other such pair gives the instant.
     ///
     /// # Errors
     ///
@@ -147,10 +147,10 @@ impl Btime {
         Ok((Btime::of_ticks(ticks), microseconds))
     }
 
-    /// The time that is so many ten-thousandths of a second after 1900-01-01T00:00:00.
+    /// Returns the time that is so many ten-thousandths of a second after 1900-01-01T00:00:00.
     fn of_ticks(ticks: u64) -> Btime
         requires { ticks < 63_429_696_000_000 }
-        ensures value { microsecond_of (parts_of result) +ℤ pos 2_208_988_800_000_000 ≡ pos (100 * ticks) }
+        ensures value { microsecond_of (parts_of result) +ℤ BEFORE_1970 ≡ pos (100 * ticks) }
         ensures second { result.second ≤ 59 }
     {
         let (seconds, fraction) = (ticks / 10_000, ticks % 10_000);
@@ -168,18 +168,18 @@ impl Btime {
         }
     }
 
-    /// The microseconds from 1970-01-01T00:00:00 to the time, negative before then.
+    /// Returns the microseconds from 1970-01-01T00:00:00 to the time, negative before then.
     fn whole(&self) -> i64
         ensures value { result ≡ microsecond_of (parts_of self.now) }
-        ensures low { neg_ℤ (pos 2_208_988_800_000_000) ≤ℤ result }
+        ensures low { neg_ℤ BEFORE_1970 ≤ℤ result }
         ensures high { result ≤ℤ pos 5_000_000_000_000_000 }
     {
         self.since_1900() as i64 - BEFORE_1970
     }
 
-    /// The microseconds from 1900-01-01T00:00:00 to the time.
+    /// Returns the microseconds from 1900-01-01T00:00:00 to the time.
     fn since_1900(&self) -> u64
-        ensures value { microsecond_of (parts_of self.now) +ℤ pos 2_208_988_800_000_000 ≡ pos result }
+        ensures value { microsecond_of (parts_of self.now) +ℤ BEFORE_1970 ≡ pos result }
         ensures bound { result < 6_400_000_000_000_000 }
     {
         let days = days_since_1900(self.year) + u64::from(self.day) - 1;
@@ -189,7 +189,7 @@ impl Btime {
     }
 }
 
-/// The days from 1900-01-01 to the first day of a year.
+/// Returns the number of days from 1900-01-01 to the first day of a year.
 fn days_since_1900(year: u16) -> u64
     requires low { 1900 ≤ year }
     requires high { year ≤ 2100 }
@@ -199,7 +199,7 @@ fn days_since_1900(year: u16) -> u64
     (1461 * (u64::from(year) - 1900)).saturating_sub(1) / 4
 }
 
-/// The year and the day of the year, 1 January being 1, of the day that is so many after 1900-01-01.
+/// Returns the year and the day of the year, 1 January being 1, of the day that is so many days after 1900-01-01.
 fn year_and_day(days: u32) -> (u16, u16)
     requires { days < 73_414 }
     ensures low { 1900 ≤ result.0 }
@@ -212,18 +212,20 @@ fn year_and_day(days: u32) -> (u16, u16)
     (date.year.unsigned_abs(), date.day_of_year())
 }
 
-/// Of so many microseconds the whole ten-thousandths of a second, and what is left, less 50 microseconds: -50 to 49.
+/// Returns how many whole ten-thousandths of a second these microseconds are, and the microseconds that are left, less
+/// half of one: -50 to 49.
 fn ticks_of(microseconds: u64) -> (u64, i8)
     requires { microseconds < 6_342_969_600_000_000 }
     ensures ticks { result.0 < 63_429_696_000_000 }
-    ensures low { neg_ℤ (pos 50) ≤ℤ result.1 }
+    ensures low { neg_ℤ (pos HALF_TICK) ≤ℤ result.1 }
     ensures high { result.1 ≤ℤ pos 49 }
-    ensures value { pos (100 * result.0) +ℤ result.1 +ℤ pos 50 ≡ pos microseconds }
+    ensures value { pos (100 * result.0) +ℤ result.1 +ℤ pos HALF_TICK ≡ pos microseconds }
 {
     (microseconds / 100, (microseconds % 100) as i8 - 50)
 }
 
-/// The microseconds that a time correction, in ten-thousandths of a second, adds: none where it was applied already.
+/// Returns the microseconds that a time correction, in ten-thousandths of a second, adds to a start: 0 where it was
+/// applied already.
 fn shift(correction: i32, is_applied: bool) -> i64
     ensures value { result ≡ shift_of correction is_applied }
     ensures low { neg_ℤ (pos 214_748_364_800) ≤ℤ result }

@@ -22,7 +22,7 @@ pub enum TimeFault {
 impl TimeFault {
     ghost use Rattle.mseed_time.specs.Text.{fault_word};
 
-    /// The field's name as it is printed: `year`, `day`, `hour`, `minute`, `second` or `fraction`.
+    /// Returns the field's name as it is printed: `year`, `day`, `hour`, `minute`, `second` or `fraction`.
     pub fn word(self) -> &'static str
         ensures { result.now ≡ fault_word self }
     {

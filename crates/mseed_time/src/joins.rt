@@ -9,10 +9,10 @@ use crate::ratio::Ratio;
 /// Microseconds in a second.
 const SECOND: i64 = 1_000_000;
 
-/// Whether a record that begins at `next` meets the end of one that begins at `start` and has `count` samples at this
-/// rate: a record ends one sample period after its last sample. `Meets` where it begins within half a sample period of
-/// that end, the half included; else `Late` or `Early`, by how many microseconds, rounded down. A leap second that
-/// happened during the record before counts at that record's end: the clock shows `next` a second too early after
+/// Returns whether a record that begins at `next` meets the end of one that begins at `start` and has `count` samples
+/// at this rate: a record ends one sample period after its last sample. `Meets` where it begins within half a sample
+/// period of that end, the half included; else `Late` or `Early`, by how many microseconds, rounded down. A leap second
+/// that happened during the record before counts at that record's end: the clock shows `next` a second too early after
 /// `Plus`, and a second too late after `Minus`.
 pub fn join(start: Micros, count: u32, rate: Ratio, step: Option<LeapStep>, next: Micros) -> Join
     ensures value { result ≡ join_of start count rate step next }
@@ -29,8 +29,8 @@ pub fn join(start: Micros, count: u32, rate: Ratio, step: Option<LeapStep>, next
     }
 }
 
-/// By how much `next` misses the instant of the sample after `count` others, of which the first is at `start`, where
-/// leap seconds added so many microseconds: in microseconds times the rate's `num`, so that it is a whole number;
+/// Returns by how much `next` misses the instant of the sample after `count` others, of which the first is at `start`,
+/// where leap seconds added so many microseconds: in microseconds times the rate's `num`, so that it is a whole number;
 /// positive where `next` is late, negative where it is early.
 pub fn drift(start: Micros, count: u64, rate: Ratio, added: i64, next: Micros) -> i128
     requires few { count ≤ 2 ^ 60 }
@@ -43,7 +43,8 @@ pub fn drift(start: Micros, count: u64, rate: Ratio, added: i64, next: Micros) -
     scaled(passed(start, added, next), rate.num()) - due(count, rate.den())
 }
 
-/// The microseconds from one start to the next, where leap seconds added so many; negative where the next is earlier.
+/// Returns the microseconds from one start to the next, where leap seconds added so many; negative where the next is
+/// earlier.
 fn passed(start: Micros, added: i64, next: Micros) -> i64
     requires low { neg_ℤ (pos (2 ^ 61)) ≤ℤ added }
     requires high { added ≤ℤ pos (2 ^ 61) }
@@ -52,10 +53,10 @@ fn passed(start: Micros, added: i64, next: Micros) -> i64
     next.get() - start.get() + added
 }
 
-/// The microseconds that `count` samples take, times the rate's `num`.
+/// Returns the microseconds that `count` samples take, times the rate's `num`.
 fn due(count: u64, den: u32) -> i128
     requires few { count ≤ 2 ^ 60 }
-    requires bound { den ≤ 2 ^ 30 }
+    requires bound { den ≤ Ratio.MAX }
     ensures value { result ≡ pos (count * den * 10 ^ 6) }
     ensures low { pos 0 ≤ℤ result }
     ensures high { result ≤ℤ pos (2 ^ 110) }
@@ -63,7 +64,7 @@ fn due(count: u64, den: u32) -> i128
     (u128::from(count) * u128::from(den) * 1_000_000) as i128
 }
 
-/// The microseconds that passed, times the rate's `num`.
+/// Returns the microseconds that passed, times the rate's `num`.
 fn scaled(passed: i64, num: u32) -> i128
     ensures value { result ≡ passed *ℤ pos num }
     ensures low { neg_ℤ (pos (2 ^ 95)) ≤ℤ result }
@@ -72,12 +73,12 @@ fn scaled(passed: i64, num: u32) -> i128
     i128::from(passed) * i128::from(num)
 }
 
-/// The microseconds that a leap second between two readings of the clock adds to the time between them: 10^6 for
-/// `Plus`, -10^6 for `Minus`, 0 for none.
+/// Returns the microseconds that a leap second between two readings of the clock adds to the time between them: 10^6
+/// for `Plus`, -10^6 for `Minus`, 0 for none.
 pub fn step_micros(step: Option<LeapStep>) -> i64
     ensures value { result ≡ step_of step }
-    ensures low { neg_ℤ (pos 1_000_000) ≤ℤ result }
-    ensures high { result ≤ℤ pos 1_000_000 }
+    ensures low { neg_ℤ SECOND ≤ℤ result }
+    ensures high { result ≤ℤ SECOND }
 {
     match step {
         None => 0,

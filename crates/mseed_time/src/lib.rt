@@ -22,4 +22,4 @@ pub use order::Order;
 pub use outcome::{Join, LeapStep};
 pub use rate::{NoRate, Rate};
 pub use ratio::Ratio;
-pub use show::show_time;
+pub use show::{show_time, two_digits};

@@ -31,8 +31,8 @@ impl Micros {
     /// The last instant, 2199-12-31T23:59:59.999999, in microseconds from 1970-01-01T00:00:00.
     pub const MAX: i64 = 7_258_118_399_999_999;
 
-    /// The instant that is so many microseconds from 1970-01-01T00:00:00; none exactly where it lies outside of the
-    /// years 1800 to 2199.
+    /// Returns the instant that is so many microseconds from 1970-01-01T00:00:00; `None` exactly where it lies outside
+    /// of the years 1800 to 2199.
     pub fn new(micros: i64) -> Option<Micros>
         ensures some { IsSome result ↔ IsInstant micros }
         ensures value { IfSome result (λ t. t ≡ micros) }
@@ -43,7 +43,7 @@ impl Micros {
         Some(Micros { micros })
     }
 
-    /// The microseconds from 1970-01-01T00:00:00 to the instant, negative before then.
+    /// Returns the microseconds from 1970-01-01T00:00:00 to the instant, negative before then.
     pub fn get(self) -> i64
         ensures value { result ≡ self }
         ensures range { IsInstant result }
@@ -51,7 +51,7 @@ impl Micros {
         self.micros
     }
 
-    /// The microseconds from the first instant, 1800-01-01T00:00:00.
+    /// Returns the microseconds from the first instant, 1800-01-01T00:00:00.
     pub(crate) fn since_first(self) -> u64
         ensures value { self +ℤ pos 5_364_662_400_000_000 ≡ pos result }
         ensures bound { result < 12_622_780_800_000_000 }
@@ -59,8 +59,8 @@ impl Micros {
         (self.micros - Micros::MIN) as u64
     }
 
-    /// The instant that is so many microseconds from 1970-01-01T00:00:00, where it is known to lie in the years 1800 to
-    /// 2199.
+    /// Returns the instant that is so many microseconds from 1970-01-01T00:00:00, where it is known to lie in the years
+    /// 1800 to 2199.
     pub(crate) fn within(micros: i64) -> Micros
         requires { IsInstant micros }
         ensures { result ≡ micros }

@@ -15,7 +15,7 @@ pub enum Order {
 impl Order {
     ghost use Rattle.mseed_time.specs.Fields.{number_at};
 
-    /// The unsigned 16-bit number in the two bytes at an offset, read in this byte order.
+    /// Returns the unsigned 16-bit number in the two bytes at an offset (in bytes), read in this byte order.
     pub fn u16_at(self, bytes: &[u8], offset: usize) -> u16
         requires { offset + 2 ≤ length bytes.now }
         ensures { result ≡ number_at self 2 offset bytes.now }
@@ -26,7 +26,8 @@ impl Order {
         }
     }
 
-    /// Writes an unsigned 16-bit number into the two bytes at an offset, in this byte order. All other bytes stay.
+    /// Writes an unsigned 16-bit number into the two bytes at an offset (in bytes), in this byte order. All other bytes
+    /// stay.
     pub fn put_u16(self, bytes: &mut [u8], offset: usize, number: u16)
         requires { offset + 2 ≤ length bytes.old }
         ensures number { number_at self 2 offset bytes.new ≡ number }

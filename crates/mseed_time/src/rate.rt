@@ -26,8 +26,9 @@ pub struct Rate {
 impl Rate {
     ghost use Rattle.mseed_time.specs.Ratios.{ratio_of};
 
-    /// The rate of a factor and a multiplier (SEED Reference Manual 2.4, chapter 8, fields 10 and 11), in samples a
-    /// second: their product, where a negative one of them divides by its absolute value in place of multiplying.
+    /// Returns the rate of a factor and a multiplier (SEED Reference Manual 2.4, chapter 8, fields 10 and 11), in
+    /// samples a second: their product, where a negative one of them divides by its absolute value in place of
+    /// multiplying.
     ///
     /// # Errors
     ///
@@ -44,7 +45,7 @@ impl Rate {
         Ok(Rate { factor, multiplier })
     }
 
-    /// The factor and the multiplier, as they stand in the header.
+    /// Returns the factor and the multiplier, as they stand in the header.
     pub fn pair(self) -> (i16, i16)
         ensures factor { result.0 ≡ self.factor }
         ensures multiplier { result.1 ≡ self.multiplier }
@@ -52,32 +53,32 @@ impl Rate {
         (self.factor, self.multiplier)
     }
 
-    /// The rate as [`Rate::num`] samples in [`Rate::den`] seconds, not reduced.
+    /// Returns the rate as [`Rate::num`] samples in [`Rate::den`] seconds, not reduced.
     pub fn ratio(self) -> Ratio
         ensures { result ≡ ratio_of self }
     {
         Ratio::within(self.num(), self.den())
     }
 
-    /// How many samples there are in [`Rate::den`] seconds: 1 to 2^30. The two aren't reduced.
+    /// Returns how many samples there are in [`Rate::den`] seconds: 1 to 2^30. The two aren't reduced.
     pub fn num(self) -> u32
         ensures value { result ≡ (ratio_of self).num }
         ensures some { 0 < result }
-        ensures bound { result ≤ 2 ^ 30 }
+        ensures bound { result ≤ Ratio.MAX }
     {
         positive_part(self.factor) * positive_part(self.multiplier)
     }
 
-    /// In how many seconds there are [`Rate::num`] samples: 1 to 2^30.
+    /// Returns in how many seconds there are [`Rate::num`] samples: 1 to 2^30.
     pub fn den(self) -> u32
         ensures value { result ≡ (ratio_of self).den }
         ensures some { 0 < result }
-        ensures bound { result ≤ 2 ^ 30 }
+        ensures bound { result ≤ Ratio.MAX }
     {
         negative_part(self.factor) * negative_part(self.multiplier)
     }
 
-    /// Whether both are the same number of samples a second, reduced or not.
+    /// Returns whether both are the same number of samples a second, reduced or not.
     pub fn same_as(self, other: Rate) -> bool
         ensures { IsTrue result ↔ SameRate (ratio_of self) (ratio_of other) }
     {
@@ -86,7 +87,7 @@ impl Rate {
     }
 }
 
-/// The number where it is positive, else 1.
+/// Returns the number where it is positive, else 1.
 fn positive_part(number: i16) -> u32
     ensures { result ≡ positive_part_of number }
 {
@@ -97,7 +98,7 @@ fn positive_part(number: i16) -> u32
     }
 }
 
-/// The absolute value of the number where it is negative, else 1.
+/// Returns the absolute value of the number where it is negative, else 1.
 fn negative_part(number: i16) -> u32
     ensures { result ≡ negative_part_of number }
 {

@@ -7,8 +7,7 @@ use std::marker::Model;
 /// A sample rate: so many samples in so many seconds, each in 1..=2^30, not reduced. Two of them are equal by `==`
 /// where both numbers are; whether they are the same number of samples a second is what [`Ratio::same_as`] says.
 ///
-/// Each factor and multiplier of a header give one ([`Rate::ratio`](crate::Rate::ratio)); the two can't be had back
-/// from it.
+/// Each factor and multiplier of a header give one ([`Rate::ratio`](crate::Rate::ratio)); they can't be read from it.
 #[derive(Clone, Copy, Debug, PartialEq, Eq)]
 pub struct Ratio {
     num: u32,
@@ -31,7 +30,7 @@ impl Ratio {
     /// The largest number of samples, and of seconds.
     pub const MAX: u32 = 1 << 30;
 
-    /// The rate of `num` samples in `den` seconds; none exactly where one of them isn't in 1..=2^30.
+    /// Returns the rate of `num` samples in `den` seconds; `None` exactly where one of them isn't in 1..=2^30.
     pub fn new(num: u32, den: u32) -> Option<Ratio>
         ensures some { IsSome result ↔ IsRatio (record { num = num; den = den }) }
         ensures value { IfSome result (λ r. r ≡ record { num = num; den = den }) }
@@ -42,7 +41,7 @@ impl Ratio {
         Some(Ratio { num, den })
     }
 
-    /// The rate of `num` samples in `den` seconds, where both are known to be in 1..=2^30.
+    /// Returns the rate of `num` samples in `den` seconds, where both are known to be in 1..=2^30.
     pub(crate) fn within(num: u32, den: u32) -> Ratio
         requires { IsRatio (record { num = num; den = den }) }
         ensures { result ≡ record { num = num; den = den } }
@@ -50,25 +49,25 @@ impl Ratio {
         Ratio { num, den }
     }
 
-    /// How many samples there are in [`Ratio::den`] seconds: 1 to 2^30.
+    /// Returns how many samples there are in [`Ratio::den`] seconds: 1 to 2^30.
     pub fn num(self) -> u32
         ensures value { result ≡ self.num }
         ensures some { 0 < result }
-        ensures bound { result ≤ 2 ^ 30 }
+        ensures bound { result ≤ Ratio.MAX }
     {
         self.num
     }
 
-    /// In how many seconds there are [`Ratio::num`] samples: 1 to 2^30.
+    /// Returns in how many seconds there are [`Ratio::num`] samples: 1 to 2^30.
     pub fn den(self) -> u32
         ensures value { result ≡ self.den }
         ensures some { 0 < result }
-        ensures bound { result ≤ 2 ^ 30 }
+        ensures bound { result ≤ Ratio.MAX }
     {
         self.den
     }
 
-    /// Whether both are the same number of samples a second, reduced or not.
+    /// Returns whether both are the same number of samples a second, reduced or not.
     pub fn same_as(self, other: Ratio) -> bool
         ensures { IsTrue result ↔ SameRate self other }
     {

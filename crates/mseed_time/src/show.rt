@@ -19,8 +19,8 @@ static DIGITS: [u8; 200] = *b"\
 /// The days from the calendar's first day to 1800-01-01.
 const FIRST_OF_1800: u32 = 4_309_496;
 
-/// An instant as 26 bytes of text, such as `2024-01-01T00:00:00.000000`: the date, `T`, and the time of day with its
-/// microseconds.
+/// Returns an instant as 26 bytes of text, such as `2024-01-01T00:00:00.000000` (UTC, in the form of ISO 8601): the
+/// date, `T`, and the time of day with its microseconds.
 #[tactic(auto, unfolding(crate::specs::Text::time_text))]
 pub fn show_time(instant: Micros) -> [u8; 26]
     ensures { result ≡ time_text instant }
@@ -29,17 +29,17 @@ pub fn show_time(instant: Micros) -> [u8; 26]
     let (year, month, day) = civil_date(since / DAY);
     let clock = since % DAY;
     let (seconds, micros) = ((clock / 1_000_000) as u32, (clock % 1_000_000) as u32);
-    let (century, year) = (pair(year / 100), pair(year % 100));
-    let (month, day) = (pair(month), pair(day));
+    let (century, year) = (two_digits(year / 100), two_digits(year % 100));
+    let (month, day) = (two_digits(month), two_digits(day));
     let (hour, minute, second) = (
-        pair(seconds / 3600),
-        pair(seconds / 60 % 60),
-        pair(seconds % 60),
+        two_digits(seconds / 3600),
+        two_digits(seconds / 60 % 60),
+        two_digits(seconds % 60),
     );
     let (high, middle, low) = (
-        pair(micros / 10_000),
-        pair(micros / 100 % 100),
-        pair(micros % 100),
+        two_digits(micros / 10_000),
+        two_digits(micros / 100 % 100),
+        two_digits(micros % 100),
     );
     [
         century[0], century[1], year[0], year[1], b'-', month[0], month[1], b'-', day[0], day[1],
@@ -48,7 +48,7 @@ pub fn show_time(instant: Micros) -> [u8; 26]
     ]
 }
 
-/// The year, the month and the day of the month, both from 1, of the day that is so many after 1800-01-01.
+/// Returns the year, the month and the day of the month, both from 1, of the day that is so many days after 1800-01-01.
 fn civil_date(day: u64) -> (u32, u32, u32)
     requires { day < 146_097 }
     ensures year { result.0 ≡ year_of day }
@@ -65,8 +65,9 @@ fn civil_date(day: u64) -> (u32, u32, u32)
     )
 }
 
-/// The two digits of a number below 100, in ASCII.
-fn pair(number: u32) -> [u8; 2]
+/// Returns the two decimal digits of a number below 100, in ASCII.
+#[inline(always)]
+pub fn two_digits(number: u32) -> [u8; 2]
     requires { number < 100 }
     ensures { result ≡ padded_decimal 2 number }
 {

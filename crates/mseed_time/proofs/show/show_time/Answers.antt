@@ -10,6 +10,7 @@ returns c =
     ap unsigned_abs c.since_first-since.ensures.value in
     let date = c.civil_date-year.ensures in
     rw since (pairs_text _ _ _ (c.since_first-since.result % 86_400_000_000) _ _ _ _ _ _ _ _ _ _
-    (rw date.year at c.pair-century.ensures) (rw date.year at c.pair-year.ensures)
-    (rw date.month at c.pair-month.ensures) (rw date.day_of_month at c.pair-day.ensures) c.pair-hour.ensures
-    c.pair-minute.ensures c.pair-second.ensures c.pair-high.ensures c.pair-middle.ensures c.pair-low.ensures)
+    (rw date.year at c.two_digits-century.ensures) (rw date.year at c.two_digits-year.ensures)
+    (rw date.month at c.two_digits-month.ensures) (rw date.day_of_month at c.two_digits-day.ensures)
+    c.two_digits-hour.ensures c.two_digits-minute.ensures c.two_digits-second.ensures c.two_digits-high.ensures
+    c.two_digits-middle.ensures c.two_digits-low.ensures)

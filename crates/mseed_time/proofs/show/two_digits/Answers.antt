@@ -1,5 +1,5 @@
 use Rattle.mseed_time.proofs.Digits.{digits_at}
-use Rattle.mseed_time.proofs.show.pair.Goals as goal
+use Rattle.mseed_time.proofs.show.two_digits.Goals as goal
 
 pub returns : goal.returns
 returns c = digits_at c.args.number c.requires
