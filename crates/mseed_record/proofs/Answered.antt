@@ -1,7 +1,7 @@
 -- Where a record is there, the framing steps answer it.
 use Rattle.std.proofs.Common.{◌≡◌, ℕ, ◌+◌, ◌^◌, ◌<◌, ◌≤◌, List, [], ◌∷◌, length, take, Option, Some, None, sym, ap}
-use Rattle.std.proofs.Common.{subst, arith, Bool, true, false, refl, ◌∙◌}
-use Rattle.std.proofs.lemmas.Bool.{false≢true}
+use Rattle.std.proofs.Common.{subst, arith, true, false, ◌∙◌}
+use Rattle.std.proofs.lemmas.Bool.{false≢true, false_from_ne_true}
 use Rattle.std.proofs.lemmas.Bool.Decides.{nat_tests}
 use Rattle.std.proofs.lemmas.List.{get_or-take, length-take-le}
 use Rattle.mseed_time.specs.declared.order.Order.{Order}
@@ -62,12 +62,8 @@ other_version : (b : List ℕ) → has_fixed_bytes b ≡ true → is_version3 b 
 other_version [] h v = false≢true v
 other_version (x ∷ xs) h v = grind (arith, nat_tests, h, v)
 
-false_where : (x : Bool) → (x ≡ true → ⊥) → x ≡ false
-false_where true n = absurd (n refl)
-false_where false n = refl
-
 pub no_version3 : (b : List ℕ) → has_fixed_bytes b ≡ true → is_version3 b ≡ false
-no_version3 b h = false_where (is_version3 b) (λ v. other_version b h v)
+no_version3 b h = false_from_ne_true (is_version3 b) (λ v. other_version b h v)
 
 -- what a record that is there says
 record There (order : Order) (prefix : List ℕ) (k : ℕ) (os : List ℕ) (last : ℕ) : Type 0 where

@@ -1,13 +1,16 @@
 -- Where the framing steps answer a record, one is there.
-use Rattle.std.proofs.Common.{◌≡◌, ◌≢◌, ℕ, suc, ◌+◌, ◌^◌, ◌<◌, ◌≤◌, List, [], ◌∷◌, length, take, get_or, Some, None}
+use Rattle.std.proofs.Common.{◌≡◌, ◌≢◌, ℕ, ◌+◌, ◌^◌, ◌<◌, ◌≤◌, List, [], ◌∷◌, length, take, get_or, Some, None}
 use Rattle.std.proofs.Common.{refl, sym, ap, subst, arith, lit<, ⊎_elim, length-take, true, ◌∙◌}
 use Rattle.std.proofs.lemmas.Bool.Decides.{nat_tests}
 use Rattle.std.proofs.lemmas.List.{get_or-take, take-take, length-take-le}
 use Rattle.std.proofs.lemmas.Bool.{cases_lt}
 use Rattle.std.proofs.Math.ListN.{get_or-eq_default}
+use Rattle.std.specs.Prelude.{⊤}
+use Rattle.byteorder.specs.Numbers.{big_from-take, little_from-take}
 use Rattle.mseed_time.specs.declared.order.Order.{Order}
 use Rattle.mseed_time.specs.declared.order.Order.TheVariants.{Big, Little}
 use Rattle.mseed_time.specs.Fields.{number_at}
+use Rattle.mseed_record.specs.declared.framer.Scan.{Scan}
 use Rattle.mseed_record.specs.declared.framer.Scan.TheVariants.{Record}
 use Rattle.mseed_record.specs.Header.{has_fixed_bytes, blockette_at}
 use Rattle.mseed_record.specs.Order.{is_dated, order_of}
@@ -20,14 +23,8 @@ use Rattle.mseed_record.proofs.Passing.{none_within}
 -- a prefix and its first k bytes spell the same
 pub number_prefix : (order : Order) (b : List ℕ) (o k : ℕ) → o + 2 ≤ k
     → number_at order 2 o (take k b) ≡ number_at order 2 o b
-number_prefix Big b o k h =
-    let one : o < k = omega arith in
-    let two : suc o < k = omega arith in
-    rw (get_or-take k b o 0 one, get_or-take k b (suc o) 0 two) refl
-number_prefix Little b o k h =
-    let one : o < k = omega arith in
-    let two : suc o < k = omega arith in
-    rw (get_or-take k b o 0 one, get_or-take k b (suc o) 0 two) refl
+number_prefix Big b o k h = big_from-take o 2 k b h
+number_prefix Little b o k h = little_from-take o 2 k b h
 
 -- what the first 1000 of a whole record says
 pub record Stands (order : Order) (prefix : List ℕ) (o k : ℕ) : Type 0 where
@@ -56,36 +53,31 @@ pub other_at : (order : Order) (prefix : List ℕ) (low o : ℕ) → at_offset o
     → type_at order prefix o ≢ 1000
 other_at order prefix low o e = λ t. absurd (grind (arith, nat_tests, e, t))
 
--- the first 1000 of a record that was answered, after the blockettes that were passed
-pub found : (order : Order) (prefix : List ℕ) (low o : ℕ) (os : List ℕ) (k : ℕ)
-    → DecidesFrom order prefix low o os (Record k)
-    → (last : ℕ) × ((low ≤ o) × Passes order prefix o os last × Stands order prefix last k)
-found order prefix low o [] k e =
-    let there = record_at order prefix low o k e in
-    (o, (there.0, refl, there.1))
-found order prefix low o (p ∷ os) k e =
-    let later = found order prefix (o + 4) (next_at order prefix o) os k e.2 in (
-      later.0,
-      (
-        (none_within order prefix low o e.1).0,
-        (e.0, other_at order prefix low o e.1, later.1.0, later.1.1),
-        later.1.2,
-      ),
-    )
+-- the steps that decide come to the place where they do
+pub decides_at : (order : Order) (prefix : List ℕ) (low o : ℕ) (os : List ℕ) (answer : Scan)
+    → DecidesFrom order prefix low o os answer
+    → (least : ℕ) × ((q : ℕ) × (PassesTo order prefix low o os least q
+    × (at_offset order prefix least q ≡ Some answer)))
+decides_at order prefix low o [] answer d = (low, (o, ((refl, refl), d)))
+decides_at order prefix low o (p ∷ os) answer d =
+    let later = decides_at order prefix (o + 4) (next_at order prefix o) os answer d.2 in
+    (later.0, (later.1.0, ((d.0, d.1, later.1.1.0), later.1.1.1)))
 
--- the same, where the steps came to it
-pub found_at : (order : Order) (prefix : List ℕ) (low o : ℕ) (os : List ℕ) (least q k : ℕ)
-    → PassesTo order prefix low o os least q → at_offset order prefix least q ≡ Some (Record k)
-    → (low ≤ o) × Passes order prefix o os q × Stands order prefix q k
-found_at order prefix low o [] least q k h e =
-    let there = record_at order prefix low o k (rw (h.0, h.1) e) in
-    (there.0, h.1, subst (λ (n : ℕ). Stands order prefix n k) h.1 there.1)
-found_at order prefix low o (p ∷ os) least q k h e =
-    let later = found_at order prefix (o + 4) (next_at order prefix o) os least q k h.2 e in (
-      (none_within order prefix low o h.1).0,
-      (h.0, other_at order prefix low o h.1, later.0, later.1),
-      later.2,
-    )
+-- these blockettes have their first four bytes
+abbrev pub Within : List ℕ → List ℕ → Type 0
+Within prefix [] = ⊤
+Within prefix (o ∷ os) = (o + 4 ≤ length prefix) × Within prefix os
+
+-- what the steps pass on their way to an offset that isn't too low is a chain of blockettes that are there
+pub passes_to : (order : Order) (prefix : List ℕ) (low o : ℕ) (os : List ℕ) (least q : ℕ)
+    → PassesTo order prefix low o os least q → least ≤ q
+    → (low ≤ o) × Passes order prefix o os q × Within prefix os
+passes_to order prefix low o [] least q h l = (omega (arith, h.0, h.1), h.1, tt)
+passes_to order prefix low o (p ∷ os) least q h l =
+    let here = none_within order prefix low o h.1 in
+    let later = passes_to order prefix (o + 4) (next_at order prefix o) os least q h.2 l in
+    let place : p + 4 ≤ length prefix = rw h.0 here.1 in
+    (here.0, (h.0, other_at order prefix low o h.1, later.0, later.1), (place, later.2))
 
 pub passes_above : (order : Order) (b : List ℕ) (o : ℕ) (os : List ℕ) (last : ℕ) → Passes order b o os last → o ≤ last
 passes_above order b o [] last h = omega (arith, h)
@@ -169,22 +161,23 @@ record_by order prefix os last k octets long fixed dated low passes stands =
       },
     )
 
--- the first k bytes are a record where the steps answer k
-pub framed : (order : Order) (prefix : List ℕ) (os : List ℕ) (k : ℕ) → ((i : ℕ) → get_or prefix i 0 < 256)
-    → 48 ≤ length prefix → has_fixed_bytes prefix ≡ true → order_of prefix ≡ Some order
-    → DecidesFrom order prefix 48 (blockette_at order prefix) os (Record k)
-    → (k ≤ length prefix) × IsRecord (take k prefix)
-framed order prefix os k octets long fixed dated decided =
-    let it = found order prefix 48 (blockette_at order prefix) os k decided in
-    let whole = record_by order prefix os it.0 k octets long fixed dated it.1.0 it.1.1 it.1.2 in
-    (whole.0, (order, (os, (it.0, whole.1))))
-
--- the same where the steps came to its first 1000
+-- the first k bytes are a record where the steps came to its first 1000
 pub framed_at : (order : Order) (prefix : List ℕ) (os : List ℕ) (least last k : ℕ)
     → ((i : ℕ) → get_or prefix i 0 < 256) → 48 ≤ length prefix → has_fixed_bytes prefix ≡ true
     → order_of prefix ≡ Some order → PassesTo order prefix 48 (blockette_at order prefix) os least last
     → at_offset order prefix least last ≡ Some (Record k)
     → (k ≤ length prefix) × IsRecordBy order os last (take k prefix)
 framed_at order prefix os least last k octets long fixed dated passed e =
-    let it = found_at order prefix 48 (blockette_at order prefix) os least last k passed e in
-    record_by order prefix os last k octets long fixed dated it.0 it.1 it.2
+    let there = record_at order prefix least last k e in
+    let it = passes_to order prefix 48 (blockette_at order prefix) os least last passed there.0 in
+    record_by order prefix os last k octets long fixed dated it.0 it.1 there.1
+
+-- the same where the steps answer k
+pub framed : (order : Order) (prefix : List ℕ) (os : List ℕ) (k : ℕ) → ((i : ℕ) → get_or prefix i 0 < 256)
+    → 48 ≤ length prefix → has_fixed_bytes prefix ≡ true → order_of prefix ≡ Some order
+    → DecidesFrom order prefix 48 (blockette_at order prefix) os (Record k)
+    → (k ≤ length prefix) × IsRecord (take k prefix)
+framed order prefix os k octets long fixed dated decided =
+    let it = decides_at order prefix 48 (blockette_at order prefix) os (Record k) decided in
+    let whole = framed_at order prefix os it.0 it.1.0 k octets long fixed dated it.1.1.0 it.1.1.1 in
+    (whole.0, (order, (os, (it.1.0, whole.1))))

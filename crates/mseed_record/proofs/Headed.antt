@@ -201,7 +201,7 @@ reads_back h b w e =
       factor = rw s.factor (complement_16 h.factor w.factor).0;
       multiplier = rw s.multiplier (complement_16 h.multiplier w.multiplier).0;
       activity = s.activity;
-      has_payload = record { behind = rw s.data_begin (lit≤ tt); within = rw s.data_begin (omega arith) };
+      has_payload = record { after_header = rw s.data_begin (lit≤ tt); within = rw s.data_begin (omega arith) };
       payload = rw s.data_begin refl;
     }
 

@@ -1,28 +1,6 @@
 -- Keys compare as the numbers that their bytes spell.
-use Rattle.std.proofs.Common.{
-  ◌≡◌,
-  ◌≢◌,
-  ◌<◌,
-  ◌≤◌,
-  ◌+◌,
-  ◌*◌,
-  ◌∙◌,
-  ◌++◌,
-  ℕ,
-  List,
-  [],
-  ◌∷◌,
-  length,
-  refl,
-  sym,
-  ap,
-  arith,
-  zero,
-  suc,
-  take,
-  drop,
-  slice_index_or,
-}
+use Rattle.std.proofs.Common.{◌≡◌, ◌<◌, ◌≤◌, ◌+◌, ◌*◌, ◌∙◌, ℕ, List, [], ◌∷◌, length, refl, sym, ap, arith}
+use Rattle.std.proofs.Common.{zero, suc, take, drop, slice_index_or, length-drop, length-take}
 use Rattle.std.specs.List.{AllByRecursion}
 use Rattle.std.specs.Cmp.{nat_cmp_is, ranks}
 use Rattle.std.specs.Cmp.Lexicographic.{slice_cmp}
@@ -97,20 +75,6 @@ back_octets zero xs h = h
 back_octets (suc n) [] h = tt
 back_octets (suc n) (x ∷ xs) h = back_octets n xs h.1
 
-front_long : (n : ℕ) (xs ys : List ℕ) → length xs ≡ length ys → length (take n xs) ≡ length (take n ys)
-front_long zero xs ys l = refl
-front_long (suc n) [] [] l = refl
-front_long (suc n) [] (y ∷ ys) l = absurd (omega (arith, l))
-front_long (suc n) (x ∷ xs) [] l = absurd (omega (arith, l))
-front_long (suc n) (x ∷ xs) (y ∷ ys) l = ap suc (front_long n xs ys (omega (arith, l)))
-
-back_long : (n : ℕ) (xs ys : List ℕ) → length xs ≡ length ys → length (drop n xs) ≡ length (drop n ys)
-back_long zero xs ys l = l
-back_long (suc n) [] [] l = refl
-back_long (suc n) [] (y ∷ ys) l = absurd (omega (arith, l))
-back_long (suc n) (x ∷ xs) [] l = absurd (omega (arith, l))
-back_long (suc n) (x ∷ xs) (y ∷ ys) l = back_long n xs ys (omega (arith, l))
-
 -- keys compare as the numbers of their first n bytes, and then as those of the others
 pub keys_cmp : (n : ℕ) (xs ys : List ℕ) → n ≤ length xs → length xs ≡ length ys
     → ((i : ℕ) → slice_index_or xs i 0 < 256) → ((i : ℕ) → slice_index_or ys i 0 < 256)
@@ -119,10 +83,10 @@ pub keys_cmp : (n : ℕ) (xs ys : List ℕ) → n ≤ length xs → length xs �
 keys_cmp n xs ys h l p q =
     let a = each_octet xs p in
     let b = each_octet ys q in
-    let front = spelled_cmp (take n xs) (take n ys) 0 0 (front_long n xs ys l) (front_octets n xs a)
-    (front_octets n ys b) in
-    let back = spelled_cmp (drop n xs) (drop n ys) 0 0 (back_long n xs ys l) (back_octets n xs a)
-    (back_octets n ys b) in
+    let front = spelled_cmp (take n xs) (take n ys) 0 0 (omega (arith, l, length-take n xs, length-take n ys))
+    (front_octets n xs a) (front_octets n ys b) in
+    let back = spelled_cmp (drop n xs) (drop n ys) 0 0 (omega (arith, l, length-drop n xs, length-drop n ys))
+    (back_octets n xs a) (back_octets n ys b) in
     (λ i. ordering_then (front i) (back i)) ∙ sym (cmp_behind n xs ys h (omega (arith, h, l)))
 
 -- the same by the numbers themselves, of which the second are asked where the first are the same

@@ -1,7 +1,6 @@
 -- Where the framing steps need more bytes, and which.
-use Rattle.std.proofs.Common.{◌≡◌, ℕ, zero, suc, ◌+◌, ◌-◌, ◌^◌, ◌<◌, ◌≤◌, ◌++◌, List, [], ◌∷◌, length, take, get_or}
+use Rattle.std.proofs.Common.{◌≡◌, ℕ, zero, suc, ◌+◌, ◌-◌, ◌^◌, ◌<◌, ◌≤◌, ◌++◌, List, [], ◌∷◌, length, get_or}
 use Rattle.std.proofs.Common.{replicate, Some, refl, sym, ap, subst, arith, lit<, ⊎_elim, true, ◌∙◌}
-use Rattle.std.specs.Prelude.{⊤}
 use Rattle.std.proofs.lemmas.Bool.{cases_lt}
 use Rattle.std.proofs.lemmas.Bool.Decides.{nat_tests}
 use Rattle.std.proofs.lemmas.List.{length-replicate, length-append, append_assoc}
@@ -18,8 +17,7 @@ use Rattle.mseed_record.specs.Chain.{type_at, next_at, Passes}
 use Rattle.mseed_record.specs.Record.{exponent_at, IsRecordBy, IsRecord}
 use Rattle.mseed_record.specs.Scan.{at_offset, DecidesFrom, Decides, version3, short, no_data, no_order, by_chain}
 use Rattle.mseed_record.specs.Scan.{HasRecord, Needs, header, blockette, exponent, record_end}
-use Rattle.mseed_record.proofs.Passing.{none_within}
-use Rattle.mseed_record.proofs.Framed.{number_prefix, fixed_prefix, order_prefix, other_at}
+use Rattle.mseed_record.proofs.Framed.{Within, number_prefix, fixed_prefix, order_prefix, decides_at, passes_to}
 
 pub number_more : (order : Order) (prefix more : List ℕ) (o : ℕ) → o + 2 ≤ length prefix
     → number_at order 2 o (prefix ++ more) ≡ number_at order 2 o prefix
@@ -27,18 +25,30 @@ number_more order prefix more o h =
     sym (number_prefix order (prefix ++ more) o (length prefix) h)
     ∙ ap (λ (b : List ℕ). number_at order 2 o b) (take-append_seam prefix more)
 
+-- what a header says stays where bytes follow it
+pub fixed_more : (prefix more : List ℕ) → 48 ≤ length prefix
+    → has_fixed_bytes (prefix ++ more) ≡ has_fixed_bytes prefix
+fixed_more prefix more h =
+    sym (fixed_prefix (prefix ++ more) (length prefix) h)
+    ∙ ap (λ (b : List ℕ). has_fixed_bytes b) (take-append_seam prefix more)
+
+pub order_more : (prefix more : List ℕ) → 48 ≤ length prefix → order_of (prefix ++ more) ≡ order_of prefix
+order_more prefix more h =
+    sym (order_prefix (prefix ++ more) (length prefix) h)
+    ∙ ap (λ (b : List ℕ). order_of b) (take-append_seam prefix more)
+
 -- what the first 1000 of a record that may come says
-record Grows (order : Order) (prefix : List ℕ) (o k : ℕ) : Type 0 where
-  type : type_at order prefix o ≡ 1000
-  there : o + 8 ≤ length prefix
-  exponent_low : 7 ≤ exponent_at prefix o
-  exponent_high : exponent_at prefix o ≤ 20
-  inside : o + 8 ≤ 2 ^ exponent_at prefix o
-  short : length prefix < 2 ^ exponent_at prefix o
-  size : k ≡ 2 ^ exponent_at prefix o
+pub record Grows (order : Order) (prefix : List ℕ) (o k : ℕ) : Type 0 where
+  pub type : type_at order prefix o ≡ 1000
+  pub there : o + 8 ≤ length prefix
+  pub exponent_low : 7 ≤ exponent_at prefix o
+  pub exponent_high : exponent_at prefix o ≤ 20
+  pub inside : o + 8 ≤ 2 ^ exponent_at prefix o
+  pub short : length prefix < 2 ^ exponent_at prefix o
+  pub size : k ≡ 2 ^ exponent_at prefix o
 
 -- the three places where bytes are missing
-data Lacks (order : Order) (prefix : List ℕ) (o k : ℕ) : Type 0 where
+pub data Lacks (order : Order) (prefix : List ℕ) (o k : ℕ) : Type 0 where
   four : length prefix < o + 4 → k ≡ o + 4 → Lacks order prefix o k
   eight : type_at order prefix o ≡ 1000 → o + 4 ≤ length prefix → length prefix < o + 8 → k ≡ o + 8
       → Lacks order prefix o k
@@ -71,7 +81,7 @@ grows order prefix low o k e l = record {
   size = grind (arith, nat_tests, e, l);
 }
 
-lacks : (order : Order) (prefix : List ℕ) (low o k : ℕ) → at_offset order prefix low o ≡ Some (Need k)
+pub lacks : (order : Order) (prefix : List ℕ) (low o k : ℕ) → at_offset order prefix low o ≡ Some (Need k)
     → Lacks order prefix o k
 lacks order prefix low o k e = ⊎_elim
     (λ (s : length prefix < o + 4). four s (lacks_four order prefix low o k e s))
@@ -82,21 +92,15 @@ lacks order prefix low o k e = ⊎_elim
     (cases_lt (length prefix) (o + 8)))
     (cases_lt (length prefix) (o + 4))
 
--- these blockettes have their first four bytes
-abbrev Within : List ℕ → List ℕ → Type 0
-Within prefix [] = ⊤
-Within prefix (o ∷ os) = (o + 4 ≤ length prefix) × Within prefix os
-
 -- the blockette where bytes are missing, after those that were passed
 lacking : (order : Order) (prefix : List ℕ) (low o : ℕ) (os : List ℕ) (k : ℕ)
     → DecidesFrom order prefix low o os (Need k)
     → (last : ℕ) × ((low ≤ o) × Passes order prefix o os last × Within prefix os × Lacks order prefix last k)
-lacking order prefix low o [] k e = (o, (low_of order prefix low o k e, refl, tt, lacks order prefix low o k e))
-lacking order prefix low o (p ∷ os) k e =
-    let later = lacking order prefix (o + 4) (next_at order prefix o) os k e.2 in
-    let here = none_within order prefix low o e.1 in
-    let place : p + 4 ≤ length prefix = rw e.0 here.1 in
-    (later.0, (here.0, (e.0, other_at order prefix low o e.1, later.1.0, later.1.1), (place, later.1.2), later.1.3))
+lacking order prefix low o os k d =
+    let it = decides_at order prefix low o os (Need k) d in
+    let low_enough = low_of order prefix it.0 it.1.0 k it.1.1.1 in
+    let there = passes_to order prefix low o os it.0 it.1.0 it.1.1.0 low_enough in
+    (it.1.0, (there.0, there.1, there.2, lacks order prefix it.0 it.1.0 k it.1.1.1))
 
 passes_more : (order : Order) (prefix more : List ℕ) (o : ℕ) (os : List ℕ) (last : ℕ) → Within prefix os
     → Passes order prefix o os last → Passes order (prefix ++ more) o os last
@@ -123,7 +127,7 @@ within_more prefix more (o ∷ os) w =
     (wide, within_more prefix more os w.1)
 
 -- lists of bytes
-abbrev Octets : List ℕ → Type 0
+abbrev pub Octets : List ℕ → Type 0
 Octets b = (i : ℕ) → get_or b i 0 < 256
 
 octets_none : Octets []
@@ -156,14 +160,13 @@ headed_more : (order : Order) (prefix more : List ℕ) (os : List ℕ) (last : �
     → Headed order (prefix ++ more) os last
 headed_more order prefix more os last octets h =
     let all : List ℕ = prefix ++ more in
-    let cut : take (length prefix) all ≡ prefix = take-append_seam prefix more in
     let long = h.long in
     let same : blockette_at order all ≡ blockette_at order prefix = number_more order prefix more 46 (omega arith) in
     record {
       octets = octets_append prefix more h.octets octets;
       long = omega (arith, length-append prefix more);
-      fixed = sym (fixed_prefix all (length prefix) h.long) ∙ ap (λ (b : List ℕ). has_fixed_bytes b) cut ∙ h.fixed;
-      dated = sym (order_prefix all (length prefix) h.long) ∙ ap (λ (b : List ℕ). order_of b) cut ∙ h.dated;
+      fixed = fixed_more prefix more long ∙ h.fixed;
+      dated = order_more prefix more long ∙ h.dated;
       begins = rw same h.begins;
       passes = subst (λ (n : ℕ). Passes order all n os last) (sym same)
           (passes_more order prefix more (blockette_at order prefix) os last h.within h.passes);
@@ -197,7 +200,7 @@ grown order prefix os last k h g =
     (more, (order, (os, (last, facts))))
 
 -- offsets have 16 bits
-number_small : (order : Order) (b : List ℕ) (o : ℕ) → Octets b → number_at order 2 o b < 2 ^ 16
+pub number_small : (order : Order) (b : List ℕ) (o : ℕ) → Octets b → number_at order 2 o b < 2 ^ 16
 number_small Big b o k =
     let high = k o in
     let low = k (suc o) in

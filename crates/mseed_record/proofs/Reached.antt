@@ -1,22 +1,20 @@
 -- Framing goes on along a chain, and where it ended stays where more bytes come.
 use Rattle.std.proofs.Common.{◌≡◌, ℕ, ◌+◌, ◌^◌, ◌<◌, ◌≤◌, ◌++◌, List, [], ◌∷◌, length, take, Some, None, Option, IfSome}
-use Rattle.std.proofs.Common.{get_or, refl, sym, ap, subst, ◌∙◌, arith, length-append}
-use Rattle.std.proofs.Math.Seq.{take-append_seam}
+use Rattle.std.proofs.Common.{get_or, refl, sym, subst, ◌∙◌, arith, length-append}
 use Rattle.mseed_time.specs.declared.order.Order.{Order}
 use Rattle.mseed_record.specs.declared.framer.Scan.{Scan}
 use Rattle.mseed_record.specs.declared.framer.Scan.TheVariants.{Record}
 use Rattle.mseed_record.specs.declared.framer.Framer.{Framer}
 use Rattle.mseed_record.specs.declared.framer.Reached.{Reached}
-use Rattle.mseed_record.specs.Header.{has_fixed_bytes, blockette_at}
-use Rattle.mseed_record.specs.Order.{order_of}
+use Rattle.mseed_record.specs.Header.{blockette_at}
 use Rattle.mseed_record.specs.Chain.{type_at, next_at}
 use Rattle.mseed_record.specs.Record.{IsRecordBy}
 use Rattle.mseed_record.specs.Scan.{is_version3, at_offset, Decides, by_chain}
 use Rattle.mseed_record.specs.Framer.{PassesTo, HasReached, IsFramerOf}
 use Rattle.mseed_record.proofs.Passing.{none_within, passes_more, passes_decides}
-use Rattle.mseed_record.proofs.Framed.{fixed_prefix, order_prefix, other_at, framed_at}
+use Rattle.mseed_record.proofs.Framed.{other_at, framed_at}
 use Rattle.mseed_record.proofs.Answered.{none_at}
-use Rattle.mseed_record.proofs.Needed.{number_more}
+use Rattle.mseed_record.proofs.Needed.{number_more, fixed_more, order_more}
 
 -- what is decided where the look stands
 pub reached_decides : (r : Reached) (prefix : List ℕ) (answer : Scan) → HasReached r prefix
@@ -88,7 +86,6 @@ pub reached_more : (r : Reached) (prefix more : List ℕ) → HasReached r prefi
 reached_more r prefix more h =
     let all : List ℕ = prefix ++ more in
     let long = h.header in
-    let cut : take (length prefix) all ≡ prefix = take-append_seam prefix more in
     let begins : blockette_at r.order all ≡ blockette_at r.order prefix =
     number_more r.order prefix more 46 (omega arith) in
     let passed = passes_to_more r.order prefix more 48 (blockette_at r.order prefix) h.passed.0 r.low r.offset
@@ -97,8 +94,8 @@ reached_more r prefix more h =
     record {
       other_version = version3_more prefix more (omega arith) ∙ h.other_version;
       header = omega (arith, wide);
-      fixed = sym (fixed_prefix all (length prefix) long) ∙ ap (λ (b : List ℕ). has_fixed_bytes b) cut ∙ h.fixed;
-      order_is = sym (order_prefix all (length prefix) long) ∙ ap (λ (b : List ℕ). order_of b) cut ∙ h.order_is;
+      fixed = fixed_more prefix more long ∙ h.fixed;
+      order_is = order_more prefix more long ∙ h.order_is;
       low = omega (arith, h.low, wide);
       small = h.small;
       passed = (h.passed.0, subst (λ (n : ℕ). PassesTo r.order all 48 n h.passed.0 r.low r.offset) (sym begins) passed);

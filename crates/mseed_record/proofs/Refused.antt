@@ -1,20 +1,19 @@
 -- What is refused by its first bytes isn't made a record by any bytes that follow.
 use Rattle.std.proofs.Common.{◌≡◌, ◌≢◌, ℕ, ◌+◌, ◌^◌, ◌<◌, ◌≤◌, ◌++◌, List, [], ◌∷◌, length, take, get_or, true, Some}
-use Rattle.std.proofs.Common.{None, sym, ap, subst, ◌∙◌, arith}
+use Rattle.std.proofs.Common.{None, sym, ap, ◌∙◌, arith}
 use Rattle.std.proofs.lemmas.Bool.{both_ways}
 use Rattle.std.proofs.lemmas.Bool.Decides.{nat_tests}
 use Rattle.mseed_time.specs.declared.order.Order.{Order}
 use Rattle.mseed_record.specs.declared.framer.Scan.TheVariants.{Not}
 use Rattle.mseed_record.specs.declared.fault.FrameFault.{FrameFault}
-use Rattle.mseed_record.specs.Header.{has_fixed_bytes, blockette_at}
+use Rattle.mseed_record.specs.Header.{has_fixed_bytes}
 use Rattle.mseed_record.specs.Chain.{type_at, next_at, Passes}
 use Rattle.mseed_record.specs.Record.{IsRecordBy, exponent_at}
-use Rattle.mseed_record.specs.Scan.{is_version3, at_1000, at_offset, DecidesFrom, Decides, version3, no_data, no_order}
+use Rattle.mseed_record.specs.Scan.{is_version3, at_1000, at_offset, Decides, version3, no_data, no_order}
 use Rattle.mseed_record.specs.Scan.{by_chain, HasNoRecord}
 use Rattle.mseed_record.proofs.Chains.{along}
 use Rattle.mseed_record.proofs.Prefixes.{Alike, alike_cut, byte_alike, number_alike, fixed_alike, order_alike}
-use Rattle.mseed_record.proofs.Framed.{passes_above, other_at, record_room}
-use Rattle.mseed_record.proofs.Passing.{none_within}
+use Rattle.mseed_record.proofs.Framed.{passes_above, record_room}
 
 -- the first byte of miniSEED 3 isn't one of a sequence number
 version3_first : (prefix : List ℕ) → is_version3 prefix ≡ true → (0 < length prefix) × (get_or prefix 0 0 ≡ 77)
@@ -36,41 +35,25 @@ not_refused : (prefix : List ℕ) (o : ℕ) (f : FrameFault) → 7 ≤ exponent_
     → o + 8 ≤ 2 ^ exponent_at prefix o → at_1000 prefix o ≡ Not f → ⊥
 not_refused prefix o f low high inside e = grind (arith, nat_tests)
 
--- Along one chain in the prefix and in the bytes, no step refuses what the bytes have.
-chain_goes_on : (order : Order) (b prefix : List ℕ) (low o : ℕ) (passed os : List ℕ) (last : ℕ) (f : FrameFault)
-    → Alike b prefix → 0 < low → low ≤ o → last + 8 ≤ length b → type_at order b last ≡ 1000
-    → 7 ≤ exponent_at b last → exponent_at b last ≤ 20 → last + 8 ≤ 2 ^ exponent_at b last
-    → DecidesFrom order prefix low o passed (Not f) → Passes order b o os last → ⊥
-chain_goes_on order b prefix low o [] [] last f alike positive on room found low_enough high inside refused there =
-    let at_o = refused_at order prefix low o f positive on refused in
+-- no step along the chain of a record refuses what the record has
+stops : (order : Order) (b prefix : List ℕ) (low o : ℕ) (os rest : List ℕ) (last : ℕ) (f : FrameFault)
+    → Alike b prefix → IsRecordBy order os last b → 0 < low → low ≤ o → at_offset order prefix low o ≡ Some (Not f)
+    → Passes order b o rest last → ⊥
+stops order b prefix low o os [] last f alike r some on refused there =
+    let at_o = refused_at order prefix low o f some on refused in
+    let room = record_room order os last b r in
     let exponent : get_or b (o + 6) 0 ≡ get_or prefix (o + 6) 0 =
-    byte_alike b prefix (o + 6) alike (omega (arith, there, room)) (omega (arith, at_o.1)) in
+    byte_alike b prefix (o + 6) alike (omega (arith, there, room.1)) (omega (arith, at_o.1)) in
     let same : exponent_at b last ≡ exponent_at prefix o = ap (λ (n : ℕ). exponent_at b n) (sym there) ∙ exponent in
-    not_refused prefix o f (rw same at low_enough) (rw same at high) (rw (same, sym there) at inside) at_o.2
-chain_goes_on order b prefix low o [] (q ∷ os) last f alike positive on room found low_enough high inside refused
-    there =
-    let at_o = refused_at order prefix low o f positive on refused in
-    let further : next_at order b o ≤ last = passes_above order b (next_at order b o) os last there.3 in
+    not_refused prefix o f (rw same at r.exponent_low) (rw same at r.exponent_high) (rw (same, sym there) at r.inside)
+    at_o.2
+stops order b prefix low o os (q ∷ rest) last f alike r some on refused there =
+    let at_o = refused_at order prefix low o f some on refused in
+    let room = record_room order os last b r in
+    let further : next_at order b o ≤ last = passes_above order b (next_at order b o) rest last there.3 in
     let same : type_at order b o ≡ type_at order prefix o =
-    number_alike order 2 o b prefix alike (omega (arith, there.2, further, room)) (omega (arith, at_o.1)) in
+    number_alike order 2 o b prefix alike (omega (arith, there.2, further, room.1)) (omega (arith, at_o.1)) in
     there.1 (same ∙ at_o.0)
-chain_goes_on order b prefix low o (p ∷ passed) [] last f alike positive on room found low_enough high inside refused
-    there =
-    let within : o + 4 ≤ length prefix = (none_within order prefix low o refused.1).1 in
-    let same : type_at order b o ≡ type_at order prefix o =
-    number_alike order 2 o b prefix alike (omega (arith, there, room)) (omega (arith, within)) in
-    other_at order prefix low o refused.1 (sym same ∙ (ap (λ (n : ℕ). type_at order b n) there ∙ found))
-chain_goes_on order b prefix low o (p ∷ passed) (q ∷ os) last f alike positive on room found low_enough high inside
-    refused there =
-    let within : o + 4 ≤ length prefix = (none_within order prefix low o refused.1).1 in
-    let further : next_at order b o ≤ last = passes_above order b (next_at order b o) os last there.3 in
-    let same : next_at order b o ≡ next_at order prefix o =
-    number_alike order 2 (o + 2) b prefix alike (omega (arith, there.2, further, room)) (omega (arith, within)) in
-    let rest : Passes order b (next_at order prefix o) os last =
-    subst (λ (n : ℕ). Passes order b n os last) same there.3 in
-    let on_there : o + 4 ≤ next_at order prefix o = subst (λ (n : ℕ). o + 4 ≤ n) same there.2 in
-    chain_goes_on order b prefix (o + 4) (next_at order prefix o) passed os last f alike (omega arith) on_there room
-    found low_enough high inside refused.2 rest
 
 refused_by : (prefix b : List ℕ) (f : FrameFault) (order : Order) (os : List ℕ) (last : ℕ) → Alike b prefix
     → IsRecordBy order os last b → Decides prefix (Not f) → ⊥
@@ -88,11 +71,8 @@ refused_by prefix b f order os last alike r (no_order _ long _ none) =
     sym none ∙ (sym (order_alike b prefix alike (omega (arith, room)) long) ∙ r.order_is) in
     grind arith
 refused_by prefix b f order os last alike r (by_chain found passed answer _ long _ dated refused) =
-    let room = record_room order os last b r in
-    let on = along prefix b found order passed os last (Not f) alike r long dated refused in
-    let low : 48 ≤ blockette_at order prefix = subst (λ (n : ℕ). 48 ≤ n) on.start r.chain.low in
-    chain_goes_on order b prefix 48 (blockette_at order prefix) passed os last f alike (omega arith) low room.1
-    r.chain.found r.exponent_low r.exponent_high r.inside on.steps on.there
+    let m = along prefix b found order passed os last (Not f) alike r long dated refused in
+    stops order b prefix m.low m.place os m.rest last f alike r m.some m.on m.decides m.ahead
 
 -- refused for good: no bytes that follow make a record of such a prefix
 pub refused : (prefix : List ℕ) (f : FrameFault) → Decides prefix (Not f) → HasNoRecord prefix

@@ -65,7 +65,7 @@ step_in Both = None
 
 -- the data begin after the header, and within the record or at its end
 pub record HasPayload (v : View) : Type 0 where
-  pub behind : 48 ≤ data_at v.order v.bytes
+  pub after_header : 48 ≤ data_at v.order v.bytes
   pub within : data_at v.order v.bytes ≤ length v.bytes
 
 -- from the beginning of data to the record's end

@@ -1,4 +1,4 @@
-//! The whole chain of blockettes of a record.
+//! The chain of blockettes of a record (SEED manual, chapter 8, "Data record blockettes").
 ghost use Rattle.std.specs.Prelude.{◌≡◌, ◌≤◌, ◌+◌, ◌==◌, ◌||◌, ℕ, List, ◌∷◌, ◌++◌, length, IfSome, Option, Some, None};
 ghost use Rattle.std.specs.Prelude.{if◌then◌else◌};
 ghost use Rattle.std.specs.Option.{option_or};
@@ -9,14 +9,16 @@ ghost use Rattle.mseed_record.specs.private.Blockettes.{AreBlockettes};
 
 use mseed_time::Order;
 
-/// The blockettes that count besides the first 1000, by their offsets.
+/// The blockettes of a chain that are looked up besides the first 1000.
 #[derive(Clone, Copy)]
 pub(crate) struct Blockettes {
+    /// The offset of the first blockette 1001, in bytes from the record's beginning.
     pub first_1001: Option<usize>,
+    /// There is a blockette 100.
     pub has_100: bool,
 }
 
-/// The offset of a record's first blockette 1000.
+/// Returns the offset of a record's first blockette 1000, in bytes from the record's beginning.
 pub(crate) fn first_1000_of(bytes: &[u8], order: Order) -> usize
     requires { (os : List ℕ) × ((last : ℕ) × IsRecordBy order os last bytes.now) }
     ensures { (os : List ℕ) × IsRecordBy order os result bytes.now }
@@ -28,7 +30,7 @@ pub(crate) fn first_1000_of(bytes: &[u8], order: Order) -> usize
     offset
 }
 
-/// Goes along the whole chain of a record, once, by a body for each order.
+/// Returns what the whole chain of a record has: each order has a body of its own, which goes along the chain once.
 #[inline(always)]
 pub(crate) fn blockettes_of(bytes: &[u8], order: Order) -> Blockettes
     requires { (os : List ℕ) × ((last : ℕ) × IsRecordBy order os last bytes.now) }
@@ -43,7 +45,7 @@ pub(crate) fn blockettes_of(bytes: &[u8], order: Order) -> Blockettes
     }
 }
 
-/// Goes along the whole chain of a record, once.
+/// Returns what the whole chain of a record in this order has. Each blockette is looked at once.
 #[inline(always)]
 fn blockettes_by(bytes: &[u8], order: Order) -> Blockettes
     requires { (os : List ℕ) × ((last : ℕ) × IsRecordBy order os last bytes.now) }
@@ -67,7 +69,7 @@ fn blockettes_by(bytes: &[u8], order: Order) -> Blockettes
 }
 
 impl Blockettes {
-    /// With one more blockette.
+    /// Returns what a chain has with one more blockette, of this type and at this offset (in bytes).
     fn and(self, kind: u16, offset: usize) -> Blockettes
         ensures first_1001 { result.first_1001 ≡ option_or self.first_1001
             (if kind == 1001 then Some offset else None) }
@@ -81,7 +83,8 @@ impl Blockettes {
     }
 }
 
-/// Where the next blockette is, if the chain goes on to it.
+/// Returns the offset of the blockette after the one at `offset`, both in bytes from the record's beginning; `None`
+/// where the chain doesn't go on: the next has to begin at least 4 bytes further on, and its head to lie in the record.
 fn next_of(bytes: &[u8], order: Order, offset: usize) -> Option<usize>
     requires { offset + 4 ≤ length bytes.now }
     ensures { result ≡ (if goes_on order bytes.now offset then Some (next_at order bytes.now offset) else None) }

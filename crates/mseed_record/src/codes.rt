@@ -1,4 +1,4 @@
-//! What a channel is called.
+//! The codes of a channel.
 ghost use Rattle.std.specs.Prelude.{◌≡◌, ◌≤◌, ◌<◌, ℕ, Some, drop, length, refl, slice_index_or, slice_range, take};
 ghost use Rattle.std.specs.Cmp.Lexicographic.{nat_list_cmp_total, slice_cmp, texts_po, texts_ties};
 ghost use Rattle.std.specs.Ordering.{nat_cmp};
@@ -8,8 +8,8 @@ ghost use Rattle.mseed_record.specs.Header.{key_at};
 use std::cmp::Ordering;
 use std::marker::Model;
 
-/// The codes of a channel: its key, 12 bytes, which orders channels by network, then station, location
-/// and channel.
+/// The codes of a channel, which order channels by network, then station, location and channel (SEED manual, chapter 8,
+/// fields 4 to 7 of the fixed section). Contracts see them as a key of 12 bytes.
 #[derive(Clone, Copy, Debug, PartialEq, Eq)]
 pub struct Codes {
     key: [u8; 12],
@@ -63,35 +63,35 @@ impl Codes {
         Codes { key }
     }
 
-    /// The key: network, station, location and channel, as they stand in the header.
+    /// Returns the key, 12 bytes: network, station, location and channel, as they stand in the header.
     pub fn key(&self) -> &[u8; 12]
         ensures { result.now ≡ self.now }
     {
         &self.key
     }
 
-    /// The network code, 2 bytes.
+    /// Returns the network code: 2 bytes, with the blanks that fill it.
     pub fn network(&self) -> &[u8]
         ensures { result.now ≡ slice_range self.now 0 2 }
     {
         &self.key[..2]
     }
 
-    /// The station code, 5 bytes.
+    /// Returns the station code: 5 bytes, with the blanks that fill it.
     pub fn station(&self) -> &[u8]
         ensures { result.now ≡ slice_range self.now 2 7 }
     {
         &self.key[2..7]
     }
 
-    /// The location code, 2 bytes.
+    /// Returns the location code: 2 bytes, with the blanks that fill it.
     pub fn location(&self) -> &[u8]
         ensures { result.now ≡ slice_range self.now 7 9 }
     {
         &self.key[7..9]
     }
 
-    /// The channel code, 3 bytes.
+    /// Returns the channel code: 3 bytes, with the blanks that fill it.
     pub fn channel(&self) -> &[u8]
         ensures { result.now ≡ slice_range self.now 9 12 }
     {
@@ -99,7 +99,7 @@ impl Codes {
     }
 }
 
-/// A key as two numbers, of its first eight bytes and of its last four. They compare as keys do.
+/// Returns a key as two numbers, of its first eight bytes and of its last four. They compare as keys do.
 fn words_of(key: [u8; 12]) -> (u64, u32)
     ensures front { result.0 ≡ big_endian 0 (take 8 key) }
     ensures back { result.1 ≡ big_endian 0 (drop 8 key) }
@@ -112,7 +112,7 @@ fn words_of(key: [u8; 12]) -> (u64, u32)
     )
 }
 
-/// The codes in a header.
+/// Returns the codes in a header: network at byte 18, station at 8, location at 13, channel at 15.
 pub(crate) fn codes_at(bytes: &[u8]) -> Codes
     requires { 20 ≤ length bytes.now }
     ensures { result ≡ key_at bytes.now }

@@ -1,7 +1,7 @@
 //! Why bytes begin no record, and why a record has no payload.
 
-/// Why the bytes at the beginning of an input begin no record, by the first framing step that applies. No
-/// bytes that may come can make one of them.
+/// Why the bytes at the beginning of an input begin no record, whatever follows them: the first framing step that
+/// applies.
 #[derive(Clone, Copy, Debug, PartialEq, Eq)]
 pub enum FrameFault {
     /// The bytes before the station aren't those of a data record's header.
@@ -20,12 +20,12 @@ pub enum FrameFault {
     Version3,
 }
 
-/// Why no record begins the bytes, as framing says.
+/// Why no record begins some bytes, as framing says.
 #[derive(Clone, Copy, Debug, PartialEq, Eq)]
 pub enum ViewFault {
-    /// No bytes that may come make a record of them.
+    /// They begin no record, whatever follows them.
     Not(FrameFault),
-    /// So many bytes are needed before that is known.
+    /// So many bytes are needed, from the first of them on, before it is known whether they begin a record.
     Short(usize),
 }
 

@@ -1,10 +1,10 @@
-//! What a header says that is written.
+//! The fields of a header that is written.
 ghost use Rattle.std.specs.Prelude.{◌<◌};
 
 use crate::codes::Codes;
 use mseed_time::{Btime, Rate};
 
-/// What a header says that is written.
+/// The fields of a header that is written (SEED manual, chapter 8, fixed section and blockettes 1000 and 1001).
 #[derive(Clone, Copy, Debug, PartialEq, Eq)]
 pub struct Fields {
     /// The sequence number of the record, 0 to 999,999 (SEED manual, chapter 8, field 1).
@@ -13,7 +13,7 @@ pub struct Fields {
     pub codes: Codes,
     /// The time of the first sample, to a ten-thousandth of a second.
     pub start: Btime,
-    /// How many microseconds the start's instant is after its BTIME.
+    /// How many microseconds the instant of the first sample is after that time, for blockette 1001.
     pub usec: i8,
     /// The number of samples.
     pub samples: u16,
@@ -23,7 +23,7 @@ pub struct Fields {
     pub encoding: u8,
     /// The power of two that is the record's length, for blockette 1000.
     pub exponent: u8,
-    /// How many frames hold data words in use, for blockette 1001.
+    /// How many frames hold data, for blockette 1001.
     pub frames: u8,
     /// The activity flags (SEED manual, chapter 8, field 12).
     pub activity: u8,

@@ -1,4 +1,4 @@
-//! Framing that goes on where it ended, while a record's bytes come.
+//! Framing: where a record ends, while its bytes come.
 ghost use Rattle.std.specs.Prelude.{◌≡◌, ◌≢◌, ◌≤◌, ◌<◌, ◌+◌, ◌++◌, ◌^◌, ℕ, List, length, take, false, IfOk, IfErr};
 ghost use Rattle.std.specs.Prelude.{OnErr, Some};
 ghost use Rattle.mseed_record.specs.declared.framer.Scan.TheVariants.{Need, Record};
@@ -11,14 +11,17 @@ use crate::fault::FrameFault;
 use crate::header::{HEADER, has_fixed_bytes, order_of};
 use mseed_time::Order;
 
-/// What the prefix of an input is.
+/// The longest record has so many bytes (SEED manual, chapter 8, blockette 1000: a length exponent of 20).
+pub const LONGEST_RECORD: usize = 1 << 20;
+
+/// What framing says of the first bytes of an input.
 #[derive(Clone, Copy, Debug, PartialEq, Eq)]
 pub enum Scan {
-    /// So many bytes are needed before that is known.
+    /// So many bytes are needed, from the first of them on, before more is known.
     Need(usize),
     /// The first so many bytes are a record.
     Record(usize),
-    /// No bytes that may come make a record of it.
+    /// They begin no record, whatever follows them.
     Not(FrameFault),
 }
 
@@ -44,15 +47,15 @@ pub(crate) struct Reached {
 }
 
 impl Framer {
-    /// A framer that was shown nothing yet.
+    /// Returns a framer of no bytes yet.
     pub fn new() -> Framer
         ensures { (prefix : List ℕ) → IsFramerOf result prefix }
     {
         Framer { reached: None }
     }
 
-    /// Says of a prefix what [`scan`](crate::scan) says of it, and looks only at what it didn't pass before.
-    /// The prefix begins with the bytes of the looks before.
+    /// Returns what [`scan`](crate::scan) returns of a prefix, and looks only at the blockettes that it didn't pass
+    /// before. The prefix has to begin with the bytes of the call before.
     pub fn look(&mut self, prefix: &[u8]) -> Scan
         requires { IsFramerOf self.old prefix.now }
         ensures goes_on { (more : List ℕ) → IsFramerOf self.new (prefix.now ++ more) }
@@ -61,7 +64,7 @@ impl Framer {
         ensures stands { StandsAt self.new prefix.now result }
         ensures decides { Decides prefix.now result }
         ensures record { (k : ℕ) → result ≡ Record k → (k ≤ length prefix.now) × IsRecord (take k prefix.now) }
-        ensures bound { (k : ℕ) → result ≡ Need k → (length prefix.now < k) × (k ≤ 2 ^ 20) }
+        ensures bound { (k : ℕ) → result ≡ Need k → (length prefix.now < k) × (k ≤ LONGEST_RECORD) }
     {
         let from = match self.reached {
             Some(reached) => reached,
@@ -76,15 +79,22 @@ impl Framer {
     }
 }
 
-/// A record that begins the bytes: its length, its byte order, and where its first blockette 1000 stands.
+/// A record that begins some bytes.
 #[derive(Clone, Copy)]
 pub(crate) struct Framed {
+    /// The byte order of its header.
     pub order: Order,
+    /// Its length in bytes.
     pub size: usize,
+    /// The offset of its first blockette 1000, in bytes.
     pub first_1000: usize,
 }
 
-/// The record that begins the bytes, or what [`scan`](crate::scan) answers in its place.
+/// Returns the record that begins the bytes.
+///
+/// # Errors
+///
+/// What [`scan`](crate::scan) returns where no record begins them.
 #[inline(always)]
 pub(crate) fn frame(prefix: &[u8]) -> Result<Framed, Scan>
     ensures ok { IfOk result (λ f. (f.size ≤ length prefix.now)
@@ -108,7 +118,11 @@ pub(crate) fn frame(prefix: &[u8]) -> Result<Framed, Scan>
     }
 }
 
-/// Where the chain begins, or what is decided before it.
+/// Returns where the chain begins.
+///
+/// # Errors
+///
+/// What is decided before the chain: by the header's length, its first eight bytes and its start.
 #[inline(always)]
 #[tactic(auto, using(crate::proofs::Answered::no_version3))]
 fn chain_of(prefix: &[u8]) -> Result<Reached, Scan>
@@ -130,9 +144,9 @@ fn chain_of(prefix: &[u8]) -> Result<Reached, Scan>
     }
 }
 
-/// What is decided by the bytes before the station.
+/// Returns what is decided by the bytes before the station, where there are fewer than a header has, or no header's.
 fn early_of(prefix: &[u8]) -> Scan
-    requires { 48 ≤ length prefix.now → has_fixed_bytes prefix.now ≡ false }
+    requires { HEADER ≤ length prefix.now → has_fixed_bytes prefix.now ≡ false }
     ensures decides { Decides prefix.now result }
     ensures early { (k : ℕ) → result ≢ Record k }
 {
@@ -145,7 +159,8 @@ fn early_of(prefix: &[u8]) -> Scan
     }
 }
 
-/// Goes along the chain of blockettes up to the first 1000, or to where bytes are missing.
+/// Goes along the chain of blockettes up to the first 1000, or to where bytes are missing. Returns where it ended, and
+/// what is decided there.
 #[inline(always)]
 fn go_along(prefix: &[u8], from: Reached) -> (Reached, Scan)
     requires { HasReached from prefix.now }
@@ -165,8 +180,8 @@ fn go_along(prefix: &[u8], from: Reached) -> (Reached, Scan)
     }
 }
 
-/// What is decided at an offset that a header or a blockette names; `None` where the blockette there is
-/// of another type.
+/// Returns what is decided at an offset that a header or a blockette names; `None` where the blockette there isn't a
+/// 1000, and the chain goes on.
 #[inline(always)]
 fn at_offset(prefix: &[u8], order: Order, low: usize, offset: usize) -> Option<Scan>
     requires { offset < 2 ^ 16 }
@@ -190,7 +205,7 @@ fn at_offset(prefix: &[u8], order: Order, low: usize, offset: usize) -> Option<S
     Some(at_1000(prefix, offset))
 }
 
-/// What the first blockette 1000 decides.
+/// Returns what the first blockette 1000, at an offset, decides.
 #[inline(always)]
 fn at_1000(prefix: &[u8], offset: usize) -> Scan
     requires within { offset + 8 ≤ length prefix.now }

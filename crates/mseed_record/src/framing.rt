@@ -1,4 +1,4 @@
-//! Framing: where a record ends, by its first bytes.
+//! Framing of a prefix that is there at once.
 ghost use Rattle.std.specs.Prelude.{◌≡◌, ◌↔◌, ◌≤◌, ◌<◌, ◌^◌, ℕ, length, take};
 ghost use Rattle.mseed_record.specs.declared.fault.FrameFault.{FrameFault};
 ghost use Rattle.mseed_record.specs.declared.framer.Scan.{Scan};
@@ -6,14 +6,14 @@ ghost use Rattle.mseed_record.specs.declared.framer.Scan.TheVariants.{Need, Reco
 ghost use Rattle.mseed_record.specs.Record.{IsRecord};
 ghost use Rattle.mseed_record.specs.Scan.{Decides, HasNoRecord, HasNoShorter, Needs};
 
-use crate::framer::{Framer, Scan};
+use crate::framer::{Framer, LONGEST_RECORD, Scan};
 
-/// Says whether a record begins the bytes, and how many bytes it has, by the first framing step that
-/// applies (SEED manual, chapter 8, "Data record blockettes": the length is blockette 1000's).
+/// Returns whether a record begins the bytes, and how many bytes it has, by the first framing step that applies (SEED
+/// manual, chapter 8, "Data record blockettes": the length is blockette 1000's).
 ///
-/// `Need` names how many bytes there have to be in all before more is known, `Not` the step by which
-/// no bytes that may come can help. Each blockette up to the first 1000 is looked at once; a [`Framer`]
-/// goes on along them while more bytes come.
+/// `Need` says how many bytes there have to be in all before more is known, `Not` by which step they begin no record,
+/// whatever follows them. Each blockette up to the first 1000 is looked at once; a [`Framer`] goes on along them while
+/// more bytes come.
 pub fn scan(prefix: &[u8]) -> Scan
     ensures decides { Decides prefix.now result }
     ensures one_answer { (other : Scan) → Decides prefix.now other → other ≡ result }
@@ -25,7 +25,7 @@ pub fn scan(prefix: &[u8]) -> Scan
 
     // What is requested is more than there is, no more than the longest record has, and no more than any record
     // that may come has.
-    ensures bound { (k : ℕ) → result ≡ Need k → (length prefix.now < k) × (k ≤ 2 ^ 20) }
+    ensures bound { (k : ℕ) → result ≡ Need k → (length prefix.now < k) × (k ≤ LONGEST_RECORD) }
     ensures least { (k : ℕ) → result ≡ Need k → HasNoShorter prefix.now k }
 {
     Framer::new().look(prefix)

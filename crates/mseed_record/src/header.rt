@@ -1,4 +1,4 @@
-//! Fields of a header, read where they stand.
+//! The fields of a header (SEED manual, chapter 8, "Fixed section of data header").
 ghost use Rattle.std.specs.Prelude.{◌≡◌, ◌≤◌, ◌+◌, ◌<◌, IfOk, length, slice_index};
 ghost use Rattle.mseed_record.specs.Header.{time_at, has_fixed_bytes, is_sequence_byte, is_quality, is_blank, trimmed};
 ghost use Rattle.mseed_record.specs.Order.{order_of, is_dated};
@@ -13,10 +13,14 @@ ghost use Rattle.std.specs.Result.{result_err};
 use byteorder::{BigEndian, ByteOrder, LittleEndian};
 use mseed_time::{Btime, Order, TimeFault};
 
-/// The bytes of the fixed section of a header.
-pub(crate) const HEADER: usize = 48;
+/// The fixed section of a header has so many bytes (SEED manual, chapter 8).
+pub const HEADER: usize = 48;
 
-/// The start's BTIME.
+/// Returns the BTIME of the start, at byte 20.
+///
+/// # Errors
+///
+/// The first field of it that is out of its range.
 pub(crate) fn read_time(bytes: &[u8], order: Order) -> Result<Btime, TimeFault>
     requires { 30 ≤ length bytes.now }
     ensures fields { IfOk result (λ b. parts_of b ≡ time_at order bytes.now) }
@@ -27,7 +31,7 @@ pub(crate) fn read_time(bytes: &[u8], order: Order) -> Result<Btime, TimeFault>
     Btime::read(&field, order)
 }
 
-/// The signed byte at an offset.
+/// Returns the signed byte at an offset (in bytes).
 pub(crate) fn i8_at(bytes: &[u8], offset: usize) -> i8
     requires { offset < length bytes.now }
     ensures { result ≡ twos_complement 1 (slice_index bytes.now offset) }
@@ -35,7 +39,7 @@ pub(crate) fn i8_at(bytes: &[u8], offset: usize) -> i8
     bytes[offset].cast_signed()
 }
 
-/// The unsigned 32-bit number at an offset.
+/// Returns the unsigned 32-bit number at an offset (in bytes).
 fn u32_at(bytes: &[u8], offset: usize, order: Order) -> u32
     requires { offset + 4 ≤ length bytes.now }
     ensures { result ≡ number_at order 4 offset bytes.now }
@@ -46,7 +50,7 @@ fn u32_at(bytes: &[u8], offset: usize, order: Order) -> u32
     }
 }
 
-/// The signed 32-bit number at an offset.
+/// Returns the signed 32-bit number at an offset (in bytes).
 pub(crate) fn i32_at(bytes: &[u8], offset: usize, order: Order) -> i32
     requires { offset + 4 ≤ length bytes.now }
     ensures { result ≡ twos_complement 4 (number_at order 4 offset bytes.now) }
@@ -54,7 +58,7 @@ pub(crate) fn i32_at(bytes: &[u8], offset: usize, order: Order) -> i32
     u32_at(bytes, offset, order).cast_signed()
 }
 
-/// The signed 16-bit number at an offset.
+/// Returns the signed 16-bit number at an offset (in bytes).
 pub(crate) fn i16_at(bytes: &[u8], offset: usize, order: Order) -> i16
     requires { offset + 2 ≤ length bytes.now }
     ensures { result ≡ twos_complement 2 (number_at order 2 offset bytes.now) }
@@ -62,7 +66,7 @@ pub(crate) fn i16_at(bytes: &[u8], offset: usize, order: Order) -> i16
     order.u16_at(bytes, offset).cast_signed()
 }
 
-/// Whether the bytes before the station are those of a header.
+/// Returns whether the bytes before the station are those of a header: sequence number, quality and reserved byte.
 #[inline(always)]
 pub(crate) fn has_fixed_bytes(bytes: &[u8]) -> bool
     requires { 8 ≤ length bytes.now }
@@ -77,43 +81,43 @@ pub(crate) fn has_fixed_bytes(bytes: &[u8]) -> bool
     is_blank(bytes[7])
 }
 
-/// Whether all bytes may stand in a sequence number. In most headers all are digits.
+/// Returns whether all bytes may stand in a sequence number. In most headers all are digits.
 fn is_sequence(bytes: &[u8]) -> bool
     ensures { result ≡ list_all is_sequence_byte bytes.now }
 {
     are_digits(bytes) || bytes.iter().all(|byte| is_sequence_byte(*byte))
 }
 
-/// Whether all bytes are digits.
+/// Returns whether all bytes are digits.
 fn are_digits(bytes: &[u8]) -> bool
     ensures { result ≡ list_all is_ascii_digit bytes.now }
 {
     bytes.iter().all(u8::is_ascii_digit)
 }
 
-/// Whether a byte may stand in a sequence number.
+/// Returns whether a byte may stand in a sequence number: a digit, a space or NUL.
 fn is_sequence_byte(byte: u8) -> bool
     ensures { result ≡ is_sequence_byte byte }
 {
     byte.is_ascii_digit() || is_blank(byte)
 }
 
-/// Whether a byte is a quality indicator.
+/// Returns whether a byte is a quality indicator: `D`, `R`, `Q` or `M`.
 fn is_quality(byte: u8) -> bool
     ensures { result ≡ is_quality byte }
 {
     matches!(byte, b'D' | b'R' | b'Q' | b'M')
 }
 
-/// Whether a byte is blank: a space or NUL, by which fields are filled.
+/// Returns whether a byte is blank: a space or NUL, by which fields are filled.
 pub fn is_blank(byte: u8) -> bool
     ensures { result ≡ is_blank byte }
 {
     byte == b' ' || byte == 0
 }
 
-/// A code without the blanks at its end, the spaces and NULs by which its field is filled (SEED manual, chapter 8,
-/// fields 4 to 7 of the fixed section): of a field that is blank nothing is left.
+/// Returns a code without the blanks at its end, the spaces and NULs by which its field is filled (SEED manual, chapter
+/// 8, fields 4 to 7 of the fixed section): of a field that is blank nothing is left.
 pub fn trimmed(code: &[u8]) -> &[u8]
     ensures { result.now ≡ trimmed code.now }
 {
@@ -127,9 +131,10 @@ pub fn trimmed(code: &[u8]) -> &[u8]
     &code[..0]
 }
 
-/// The byte order of a header.
+/// Returns the byte order of a header: big-endian where the start's year and day are in their ranges so, else
+/// little-endian where they are; `None` where they are in neither.
 pub(crate) fn order_of(prefix: &[u8]) -> Option<Order>
-    requires { 48 ≤ length prefix.now }
+    requires { HEADER ≤ length prefix.now }
     ensures { result ≡ order_of prefix.now }
 {
     if is_dated(prefix, Order::Big) {
@@ -141,9 +146,9 @@ pub(crate) fn order_of(prefix: &[u8]) -> Option<Order>
     }
 }
 
-/// Whether the start has a year and a day in this order.
+/// Returns whether the start's year is 1900 to 2100 and its day 1 to 366, read in this order.
 fn is_dated(prefix: &[u8], order: Order) -> bool
-    requires { 48 ≤ length prefix.now }
+    requires { HEADER ≤ length prefix.now }
     ensures { result ≡ is_dated order prefix.now }
 {
     let (year, day) = (order.u16_at(prefix, 20), order.u16_at(prefix, 22));

@@ -3,7 +3,8 @@ ghost use Rattle.std.specs.Prelude.{◌≡◌};
 
 use mseed_time::LeapStep;
 
-/// The leap seconds that happened during a record, by its activity flags.
+/// The leap seconds that happened during a record, by its activity flags (SEED manual, chapter 8, field 12: bits 4 and
+/// 5).
 #[derive(Clone, Copy, Debug, PartialEq, Eq)]
 pub enum Leap {
     /// None.
@@ -12,14 +13,14 @@ pub enum Leap {
     Positive,
     /// A negative one: a minute of 59 seconds.
     Negative,
-    /// Both flags are set, which says nothing.
+    /// Both flags are set, so that it isn't known which one happened.
     Both,
 }
 
 impl Leap {
     ghost use Rattle.mseed_record.specs.View.{step_in};
 
-    /// The leap second at the record's end, if there is one; with both flags nobody can say.
+    /// Returns the leap second that counts at the record's end; `None` where there is none, and with both flags.
     pub fn step(self) -> Option<LeapStep>
         ensures { result ≡ step_in self }
     {

@@ -26,12 +26,12 @@ pub struct BadCode {
 }
 
 impl Codes {
-    /// The codes of a channel, each filled with spaces (SEED manual, chapter 8, fields 4 to 7 of the
-    /// fixed section): at most 2, 5, 2 and 3 printable bytes, none of them a space.
+    /// Returns the codes of a channel, each filled with spaces (SEED manual, chapter 8, fields 4 to 7 of the fixed
+    /// section). They may have at most 2, 5, 2 and 3 bytes, each printable and no space.
     ///
     /// # Errors
     ///
-    /// The first code that is too long, or has another byte.
+    /// `BadCode` with the field of the first code that is too long, or has another byte.
     pub fn new(
         network: &[u8],
         station: &[u8],
@@ -54,7 +54,11 @@ impl Codes {
     }
 }
 
-/// A code, filled with spaces.
+/// Returns a code, with spaces after it up to its field's length.
+///
+/// # Errors
+///
+/// `BadCode` with this field where the code is too long for it, or has a byte that no code has.
 fn filled<const N: usize>(code: &[u8], field: CodeField) -> Result<[u8; N], BadCode>
     ensures ok { IsOk result ↔ IsTrue (is_code N code.now) }
     ensures value { IfOk result (λ bytes. bytes ≡ filled N code.now) }
@@ -68,7 +72,7 @@ fn filled<const N: usize>(code: &[u8], field: CodeField) -> Result<[u8; N], BadC
     Ok(bytes)
 }
 
-/// Whether a code fits a field that has so many bytes.
+/// Returns whether a code fits a field of so many bytes.
 fn is_code(code: &[u8], width: usize) -> bool
     ensures { result ≡ is_code width code.now }
 {
@@ -78,7 +82,7 @@ fn is_code(code: &[u8], width: usize) -> bool
     are_code_bytes(code)
 }
 
-/// Whether all bytes may stand in a code.
+/// Returns whether all bytes may stand in a code: each is printable, and no space.
 fn are_code_bytes(code: &[u8]) -> bool
     ensures { result ≡ list_all is_code_byte code.now }
 {

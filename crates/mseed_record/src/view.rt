@@ -1,4 +1,4 @@
-//! A record where it lies.
+//! A record, as its bytes lie in memory.
 ghost use Rattle.std.specs.Prelude.{◌≡◌, ◌↔◌, ◌≤◌, ℕ, List, length, take, slice_index, ◌+◌, ◌<◌, ◌==◌, IfOk, IfSome};
 ghost use Rattle.std.specs.Prelude.{IsOk, IsSome, IsTrue, Err};
 ghost use Rattle.std.specs.Result.{result_err};
@@ -6,6 +6,7 @@ ghost use Rattle.std.specs.Int.{bit_at};
 ghost use Rattle.mseed_time.specs.Btime.{first_fault};
 ghost use Rattle.mseed_time.specs.Rate.{rate_of};
 ghost use Rattle.mseed_record.specs.declared.fault.FrameFault.{FrameFault};
+ghost use Rattle.mseed_record.specs.declared.header.TheConstants.{HEADER};
 ghost use Rattle.mseed_record.specs.Header.{key_at, quality_at, time_at, samples_at, factor_at, multiplier_at};
 ghost use Rattle.mseed_record.specs.Header.{activity_at, is_quality};
 ghost use Rattle.mseed_record.specs.Record.{IsRecord, IsRecordBy};
@@ -21,18 +22,19 @@ use crate::header::{HEADER, i8_at, i16_at, i32_at, order_of, read_time};
 use crate::leap::Leap;
 use mseed_time::{Micros, NoRate, Order, Rate, TimeFault};
 
-/// The activity flag that says that the time correction has been applied to the start.
+/// The bit of the activity flags that says that the time correction has been applied to the start (SEED manual, chapter
+/// 8, field 12).
 const CORRECTED: u32 = 1;
 
-/// The activity flag of a positive leap second during the record.
+/// The bit of the activity flags of a positive leap second during the record.
 const LEAP_ADDED: u32 = 4;
 
-/// The activity flag of a negative leap second during the record.
+/// The bit of the activity flags of a negative leap second during the record.
 const LEAP_DROPPED: u32 = 5;
 
-/// A record, borrowed from the bytes that hold it.
+/// A record, borrowed from the bytes that hold it (SEED manual, chapter 8).
 ///
-/// What its chain of blockettes says is looked up once, when the view is made.
+/// Its chain of blockettes is gone along once, when the view is made.
 #[derive(Clone, Copy, Debug)]
 pub struct RecordView<'a> {
     order: Order,
@@ -40,9 +42,9 @@ pub struct RecordView<'a> {
     payload_order: Order,
     microseconds: i8,
     has_rate_blockette: bool,
-    // After the small fields, so that a fault in place of a view stands over none of its bytes.
+    // After the small fields, so that a result's tag and a fault don't share its place.
     bytes: &'a [u8],
-    ghost has_header: { 48 ≤ length bytes.now },
+    ghost has_header: { HEADER ≤ length bytes.now },
     ghost is_view: { ∥ IsView (record {
       bytes = bytes.now;
       order = order;
@@ -56,11 +58,12 @@ pub struct RecordView<'a> {
 impl<'a> RecordView<'a> {
     ghost use Rattle.mseed_record.specs.Viewing.{view_of, scan_of};
 
-    /// The record that begins the bytes, exactly as [`scan`] answers.
+    /// Returns the record that begins the bytes, exactly where [`scan`](crate::scan) finds one.
     ///
     /// # Errors
     ///
-    /// `Not` where no bytes that may come make a record of them, `Short` where more are needed.
+    /// `Not` where they begin no record, whatever follows them, with the first framing step that applies; `Short` where
+    /// more bytes are needed before that is known, with how many there have to be.
     #[inline(always)]
     pub fn of(bytes: &'a [u8]) -> Result<RecordView<'a>, ViewFault>
         ensures ok { IsOk result ↔ ((k : ℕ) × ((k ≤ length bytes.now) × IsRecord (take k bytes.now))) }
@@ -83,7 +86,7 @@ impl<'a> RecordView<'a> {
         }
     }
 
-    /// The record that all of the bytes are. They aren't framed again.
+    /// Returns the record that all of the bytes are. They aren't framed again.
     pub fn of_record(bytes: &'a [u8]) -> RecordView<'a>
         requires { IsRecord bytes.now }
         ensures bytes { (view_of result).bytes ≡ bytes.now }
@@ -97,7 +100,8 @@ impl<'a> RecordView<'a> {
         RecordView::by(bytes, order, first_1000_of(bytes, order))
     }
 
-    /// The record that all of the bytes are, by its byte order and its first blockette 1000.
+    /// Returns the record that all of the bytes are, by its byte order and the offset (in bytes) of its first blockette
+    /// 1000.
     #[inline(always)]
     fn by(bytes: &'a [u8], order: Order, first_1000: usize) -> RecordView<'a>
         requires { (os : List ℕ) × IsRecordBy order os first_1000 bytes.now }
@@ -130,7 +134,7 @@ impl<'a> RecordView<'a> {
         codes_at(self.bytes)
     }
 
-    /// The quality indicator: `D`, `R`, `Q` or `M`.
+    /// Returns the quality indicator: `D`, `R`, `Q` or `M` (SEED manual, chapter 8, field 2).
     pub fn quality(&self) -> u8
         ensures value { result ≡ quality_at (view_of self.now).bytes }
         ensures range { IsTrue (is_quality result) }
@@ -138,15 +142,16 @@ impl<'a> RecordView<'a> {
         self.bytes[6]
     }
 
-    /// The number of samples.
+    /// Returns the number of samples, as the header has it (SEED manual, chapter 8, field 9).
     pub fn samples(&self) -> u16
         ensures { result ≡ samples_at (view_of self.now).order (view_of self.now).bytes }
     {
         self.order.u16_at(self.bytes, 30)
     }
 
-    /// The instant of the first sample: the header's BTIME, the time correction where the activity flags
-    /// don't say that it has been applied, and the microseconds of the first blockette 1001.
+    /// Returns the instant of the first sample: the header's BTIME, with the time correction where the activity flags
+    /// don't say that it has been applied, and the microseconds of the first blockette 1001 (SEED manual, chapter 8,
+    /// fields 8, 12 and 16).
     ///
     /// # Errors
     ///
@@ -161,11 +166,11 @@ impl<'a> RecordView<'a> {
         Ok(time.micros(correction, self.has_flag(CORRECTED), self.microseconds))
     }
 
-    /// The sample rate.
+    /// Returns the sample rate, by the header's factor and multiplier (SEED manual, chapter 8, fields 10 and 11).
     ///
     /// # Errors
     ///
-    /// `NoRate` where the factor or the multiplier is 0.
+    /// `NoRate` exactly where the factor or the multiplier is 0.
     pub fn rate(&self) -> Result<Rate, NoRate>
         ensures ok { IsOk result ↔ IsSome (rate_of (factor_at (view_of self.now).order (view_of self.now).bytes)
             (multiplier_at (view_of self.now).order (view_of self.now).bytes)) }
@@ -179,28 +184,28 @@ impl<'a> RecordView<'a> {
         )
     }
 
-    /// How the payload is encoded, by the first blockette 1000.
+    /// Returns the code of the payload's encoding, by the first blockette 1000 (SEED manual, chapter 8).
     pub fn encoding(&self) -> u8
         ensures { result ≡ (view_of self.now).encoding }
     {
         self.encoding
     }
 
-    /// The order of the payload's words, by the first blockette 1000. The header's can be another.
+    /// Returns the byte order of the payload's words, by the first blockette 1000. The header can have another one.
     pub fn payload_order(&self) -> Order
         ensures { result ≡ (view_of self.now).payload_order }
     {
         self.payload_order
     }
 
-    /// Whether a blockette 100, which gives another rate, stands anywhere on the chain.
+    /// Returns whether a blockette 100, which gives another sample rate, stands anywhere on the chain.
     pub fn has_rate_blockette(&self) -> bool
         ensures { result ≡ (view_of self.now).has_rate_blockette }
     {
         self.has_rate_blockette
     }
 
-    /// The leap seconds that happened during the record.
+    /// Returns the leap seconds that happened during the record, by the activity flags.
     pub fn leap(&self) -> Leap
         ensures { result ≡ leap_of (view_of self.now).bytes }
     {
@@ -212,11 +217,11 @@ impl<'a> RecordView<'a> {
         }
     }
 
-    /// The data, from where they begin to the record's end.
+    /// Returns the data, from the offset that the header gives (SEED manual, chapter 8, field 17) to the record's end.
     ///
     /// # Errors
     ///
-    /// `DataOffset` where they begin within the header, or after the record's end.
+    /// `DataOffset` exactly where that offset lies within the header, or after the record's end.
     pub fn payload(&self) -> Result<&'a [u8], DataOffset>
         ensures ok { IsOk result ↔ HasPayload (view_of self.now) }
         ensures value { IfOk result (λ bytes. bytes.now ≡ payload_of (view_of self.now)) }
@@ -228,7 +233,7 @@ impl<'a> RecordView<'a> {
         Ok(&self.bytes[begin..])
     }
 
-    /// Whether an activity flag is set, by its bit; bit 0 is the lowest.
+    /// Returns whether an activity flag is set, by its bit; bit 0 is the lowest.
     fn has_flag(&self, bit: u32) -> bool
         requires { bit < 8 }
         ensures { result ≡ (bit_at (activity_at (view_of self.now).bytes) bit == 1) }
@@ -237,7 +242,7 @@ impl<'a> RecordView<'a> {
     }
 }
 
-/// The order of the payload's words, by the blockette 1000 at an offset.
+/// Returns the byte order of the payload's words, by the blockette 1000 at an offset (in bytes).
 fn word_order_at(bytes: &[u8], offset: usize) -> Order
     requires { offset + 5 < length bytes.now }
     ensures { result ≡ word_order_at bytes.now offset }
@@ -249,7 +254,7 @@ fn word_order_at(bytes: &[u8], offset: usize) -> Order
     }
 }
 
-/// The microseconds of the blockette 1001 at an offset; 0 where there is none.
+/// Returns the microseconds of the blockette 1001 at an offset (in bytes); 0 where there is none.
 fn microseconds_at(bytes: &[u8], offset: Option<usize>) -> i8
     requires { IfSome offset (λ o. o + 8 ≤ length bytes.now) }
     ensures { result ≡ microseconds_at bytes.now offset }

@@ -1,4 +1,4 @@
-//! Writing a header.
+//! Writing a header (SEED manual, chapter 8).
 ghost use Rattle.std.specs.Prelude.{◌≡◌, ◌↔◌, ◌<◌, ◌≤◌, ◌+◌, ◌/◌, ◌%◌, ◌^◌, ◌++◌, ℕ, List, length, take, drop};
 ghost use Rattle.std.specs.Prelude.{FitsSigned, IsErr, OnErr, OnOk};
 ghost use Rattle.std.specs.Int.{w8, w16};
@@ -10,27 +10,27 @@ ghost use Rattle.mseed_record.specs.Written.{blockette_1000, blockette_1001};
 use crate::fields::Fields;
 use mseed_time::Order;
 
-/// The bytes of a header with its two blockettes.
-const WRITTEN: usize = 64;
+/// A header that is written has so many bytes: the fixed section, a blockette 1000 and a blockette 1001.
+pub const WRITTEN_HEADER: usize = 64;
 
-/// The output has fewer bytes than a header.
+/// The output has fewer bytes than [`WRITTEN_HEADER`].
 #[derive(Clone, Copy, Debug, PartialEq, Eq)]
 pub struct TooShort;
 
-/// Writes a header, big-endian, with a blockette 1000 and a blockette 1001, into the first 64 bytes of a
-/// record (SEED manual, chapter 8). The data begin after it.
+/// Writes a header, big-endian, with a blockette 1000 and a blockette 1001, into the first [`WRITTEN_HEADER`] bytes of
+/// a record (SEED manual, chapter 8). The data begin after it.
 ///
 /// # Errors
 ///
-/// `TooShort` where the output has fewer than 64 bytes; it is unchanged then.
+/// `TooShort` exactly where the output has fewer bytes than that; it is unchanged then.
 pub fn write_header(out: &mut [u8], fields: &Fields) -> Result<(), TooShort>
-    ensures too_short { IsErr result ↔ (length out.old < 64) }
-    ensures bytes { OnOk result (out.new ≡ header_bytes (header_of fields.now) ++ drop 64 out.old) }
+    ensures too_short { IsErr result ↔ (length out.old < WRITTEN_HEADER) }
+    ensures bytes { OnOk result (out.new ≡ header_bytes (header_of fields.now) ++ drop WRITTEN_HEADER out.old) }
     ensures unchanged { OnErr result (out.new ≡ out.old) }
     ensures reads_back { OnOk result ((b : List ℕ) → IsHeaded (header_of fields.now) b
         → ReadsBack (header_of fields.now) b) }
 {
-    if out.len() < WRITTEN {
+    if out.len() < WRITTEN_HEADER {
         return Err(TooShort);
     }
     put_names(out, fields);
@@ -55,7 +55,8 @@ fn put_names(out: &mut [u8], fields: &Fields)
     put(out, 18, &key[0..2]);
 }
 
-/// The fixed section after the start: samples, rate, flags, and where things stand.
+/// Returns the bytes of the fixed section after the start: samples, rate, flags, time correction, and the offsets of
+/// the data and of the first blockette.
 fn counts(fields: &Fields) -> [u8; 18]
     ensures bytes { result ≡ count_bytes (header_of fields.now) }
     ensures samples { fields.now.samples < 2 ^ 16 }
@@ -71,7 +72,7 @@ fn counts(fields: &Fields) -> [u8; 18]
     ]
 }
 
-/// A blockette 1000 and, after it, a blockette 1001.
+/// Returns the bytes of a blockette 1000 and, after it, of a blockette 1001.
 fn blockettes(fields: &Fields) -> [u8; 16]
     ensures bytes { result ≡ blockette_1000 (header_of fields.now) ++ blockette_1001 (header_of fields.now) }
     ensures microseconds { FitsSigned w8 fields.now.usec }
@@ -84,7 +85,7 @@ fn blockettes(fields: &Fields) -> [u8; 16]
     ]
 }
 
-/// Writes bytes at an offset.
+/// Writes bytes at an offset (in bytes).
 fn put(out: &mut [u8], offset: usize, bytes: &[u8])
     requires { offset + length bytes.now ≤ length out.old }
     ensures { out.new ≡ take offset out.old ++ bytes.now ++ drop (offset + length bytes.now) out.old }
@@ -92,7 +93,7 @@ fn put(out: &mut [u8], offset: usize, bytes: &[u8])
     out[offset..offset + bytes.len()].copy_from_slice(bytes);
 }
 
-/// The six digits of a sequence number.
+/// Returns the last six digits of a number, in ASCII.
 fn sequence_digits(number: u32) -> [u8; 6]
     ensures { result ≡ padded_decimal 6 number }
 {
@@ -106,7 +107,7 @@ fn sequence_digits(number: u32) -> [u8; 6]
     ]
 }
 
-/// The decimal digit of a number that counts this unit.
+/// Returns the decimal digit of a number that counts this unit, a power of ten, in ASCII.
 fn digit(number: u32, unit: u32) -> u8
     requires { 0 < unit }
     ensures { result ≡ 48 + number / unit % 10 }

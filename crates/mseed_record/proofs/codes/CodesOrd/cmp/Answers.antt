@@ -1,4 +1,4 @@
-use Rattle.std.proofs.Common.{◌≡◌, ◌≤◌, ◌∙◌, List, length, refl, sym, arith}
+use Rattle.std.proofs.Common.{◌∙◌, refl, sym, arith}
 use Rattle.mseed_record.proofs.Keys.{words_cmp}
 use Rattle.mseed_record.proofs.codes.CodesOrd.cmp.Goals as goal
 
