@@ -16,7 +16,7 @@ use Rattle.mseed_record.proofs.OneRecord.{one_first}
 use Rattle.mseed_stream.specs.Archive.{End, HasNoFurther, IsArchive, IsEndOf, clean, frame, truncated, is_clean}
 use Rattle.mseed_stream.specs.Device.{BytesRead, BytesWritten, IsPrefixOf, nothing_read}
 use Rattle.mseed_stream.specs.Fault.{IsStreamFault}
-use Rattle.mseed_stream.specs.Split.{EndsBehind, GoesOnBehind, IsSplitFault}
+use Rattle.mseed_stream.specs.Split.{EndsAfter, GoesOnAfter, IsSplitFault}
 use Rattle.mseed_stream.specs.Walk.{AreAllViews, bytes_in}
 use Rattle.mseed_stream.specs.declared.fault.StreamFault.{StreamFault}
 use Rattle.mseed_stream.specs.declared.fault.StreamFault.TheVariants.{Frame, Truncated, Read, Turns, Memory as NoMemory}
@@ -125,9 +125,9 @@ at n (frame f) = Some (Frame n f)
 at n (truncated have) = Some (Truncated n have)
 
 data Broke (bytes : List ℕ) (fault : StreamFault) : Type 0 where
-  by_end : (n : ℕ) (records : List (List ℕ)) (end : End) → EndsBehind bytes n records end → at n end ≡ Some fault
+  by_end : (n : ℕ) (records : List (List ℕ)) (end : End) → EndsAfter bytes n records end → at n end ≡ Some fault
       → Broke bytes fault
-  by_turns : (n : ℕ) (records : List (List ℕ)) → GoesOnBehind bytes n records → length records + 1 ≡ 2 ^ 40
+  by_turns : (n : ℕ) (records : List (List ℕ)) → GoesOnAfter bytes n records → length records + 1 ≡ 2 ^ 40
       → fault ≡ Turns n → Broke bytes fault
 
 broke : (bytes : List ℕ) (fault : StreamFault) → fault ≢ NoMemory → IsSplitFault fault bytes → Broke bytes fault
@@ -177,7 +177,7 @@ each_more : (xs : List (List ℕ)) (x : List ℕ) → AllByRecursion IsRecord xs
 each_more [] x all is = (is, tt)
 each_more (y ∷ ys) x all is = (all.0, each_more ys x all.1 is)
 
-turns_fewer : (bytes rest : List ℕ) (n : ℕ) (records all : List (List ℕ)) → GoesOnBehind bytes n records
+turns_fewer : (bytes rest : List ℕ) (n : ℕ) (records all : List (List ℕ)) → GoesOnAfter bytes n records
     → IsArchive bytes all rest → length records + 1 ≤ length all
 turns_fewer bytes rest n records all g a =
     let behind : List ℕ = drop n bytes in
@@ -195,7 +195,7 @@ turns_fewer bytes rest n records all g a =
     (each_more records last g.before.each g.further.1.1) joined a in
     omega (arith, less, length-append records (last ∷ []))
 
-turns_at : (bytes : List ℕ) (n : ℕ) (records : List (List ℕ)) → GoesOnBehind bytes n records
+turns_at : (bytes : List ℕ) (n : ℕ) (records : List (List ℕ)) → GoesOnAfter bytes n records
     → length (concat records) ≡ n
 turns_at bytes n records g =
     let long : 48 ≤ length (take g.further.0 (drop n bytes)) =

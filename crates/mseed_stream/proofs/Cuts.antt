@@ -97,16 +97,6 @@ first_fill before after needed is_at_end none d whole short_of =
     go false w s e = omega (arith, w refl)
     go true w s e = omega (arith, s refl)
 
--- where nothing more is held, it's the same
-pub grown_none : (before after more : List ℕ) → after ≡ before ++ more → length after ≤ length before → after ≡ before
-grown_none before after more e l =
-    e ∙ (ap (λ (xs : List ℕ). before ++ xs)
-    (empty more (omega (arith, ap (λ (xs : List ℕ). length xs) e, length-append before more))) ∙ append-nil before)
-  where
-    empty : (xs : List ℕ) → length xs ≡ 0 → xs ≡ []
-    empty [] h = refl
-    empty (x ∷ xs) h = absurd (omega arith)
-
 -- where nothing was called, nothing more is held
 pub none_called : (first before after more : List ℕ) (o m n : ℕ) → after ≡ before ++ more → m ≤ n → o ≤ m
     → (m ≤ o → before ≡ first) → (length before < length after → m < n) → n ≤ o → after ≡ first

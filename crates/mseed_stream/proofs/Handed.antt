@@ -27,10 +27,11 @@ no_further rest _ (is_clean empty) k l r =
 no_further rest _ (is_frame f d) k l r = cc (answered rest k _ d l r)
 no_further rest _ (is_truncated n some d) k l r = cc (answered rest k _ d l r)
 
-pub all_more : (xs : List (List ℕ)) (x : List ℕ) → AllByRecursion IsRecord xs → IsRecord x
-    → AllByRecursion IsRecord (xs ++ x ∷ [])
-all_more [] x all is = (is, tt)
-all_more (y ∷ ys) x all is = (all.0, all_more ys x all.1 is)
+-- what holds of each holds with one more
+pub all_more : {X : Type 0} (P : X → Type 0) (xs : List X) (x : X) → AllByRecursion P xs → P x
+    → AllByRecursion P (xs ++ x ∷ [])
+all_more P [] x all is = (is, tt)
+all_more P (y ∷ ys) x all is = (all.0, all_more P ys x all.1 is)
 
 -- what was handed out stays where more is read
 same_prefix : (old new more : List ℕ) (offset : ℕ) → offset ≤ length old → new ≡ old ++ more
@@ -57,20 +58,23 @@ records_stay old new more offset records l e has =
       each = subst (λ (xs : List (List ℕ)). AllByRecursion IsRecord xs) (sym list) has.each;
     }
 
+-- what the bytes after the records begin with is one more
+pub records_next : (bytes : List ℕ) (offset : ℕ) (records : List (List ℕ)) (b : List ℕ)
+    → HasRecords bytes offset records → IsRecord b → b ≡ take (length b) (drop offset bytes)
+    → HasRecords bytes (offset + length b) (records ++ b ∷ [])
+records_next bytes offset records b has is prefix = record {
+  joined = take-add offset (length b) bytes ∙ (λ i. has.joined i ++ sym prefix i)
+      ∙ ap (λ (xs : List ℕ). concat records ++ xs) (sym (append-nil b)) ∙ sym (concat-append records (b ∷ []));
+  each = all_more IsRecord records b has.each is;
+}
+
 pub records_more : (old new more : List ℕ) (offset : ℕ) (records : List (List ℕ)) → offset ≤ length old
     → new ≡ old ++ more → IsRecord (drop offset new) → HasRecords old offset records
     → HasRecords new (offset + length (drop offset new)) (records ++ drop offset new ∷ [])
 records_more old new more offset records l e is has =
-    let r : List ℕ = drop offset new in
-    let cut : take (offset + length r) new ≡ take offset new ++ r = take-add offset (length r) new
-    ∙ ap (λ (xs : List ℕ). take offset new ++ xs) (take-length r) in
-    let prefix : take offset new ≡ concat records = same_prefix old new more offset l e ∙ has.joined in
-    let one : concat (r ∷ []) ≡ r = append-nil r in
-    record {
-      joined = cut ∙ (ap (λ (xs : List ℕ). xs ++ r) prefix
-          ∙ (ap (λ (xs : List ℕ). concat records ++ xs) (sym one) ∙ sym (concat-append records (r ∷ []))));
-      each = all_more records r has.each is;
-    }
+    records_next new offset records (drop offset new)
+    (record { joined = same_prefix old new more offset l e ∙ has.joined; each = has.each }) is
+    (sym (take-length (drop offset new)))
 
 pub records_after : (result : Result (Option ℕ) StreamFault) (old new : BytesRead) (more : List ℕ) (offset : ℕ)
     (records : List (List ℕ)) → offset ≤ length old.bytes → new.bytes ≡ old.bytes ++ more
@@ -94,7 +98,7 @@ archive_of old new more offset records l e has none = record {
   no_further = none;
 }
 
-archive_by : (old new more : List ℕ) (offset : ℕ) (records : List (List ℕ)) (end : End) → offset ≤ length old
+pub archive_by : (old new more : List ℕ) (offset : ℕ) (records : List (List ℕ)) (end : End) → offset ≤ length old
     → new ≡ old ++ more → HasRecords old offset records → IsEndOf (drop offset new) end
     → IsArchive new records (drop offset new)
 archive_by old new more offset records end l e has is =

@@ -1,16 +1,11 @@
 -- An archive's records are the only ones.
 use Rattle.std.proofs.Common.{◌≡◌, ℕ, ◌≤◌, ◌++◌, List, [], ◌∷◌, length, take, refl, sym, ap, subst, ◌∙◌, arith}
 use Rattle.std.proofs.Common.{append_assoc, length-append, length-take}
-use Rattle.std.proofs.lemmas.List.{append_cancel_left}
-use Rattle.std.proofs.Math.Seq.{take-append_seam}
 use Rattle.std.specs.List.{concat}
 use Rattle.mseed_record.specs.Record.{IsRecord}
 use Rattle.mseed_record.specs.View.{View, IsView}
-use Rattle.mseed_record.proofs.OneRecord.{one_record}
+use Rattle.mseed_record.proofs.OneRecord.{one_first, prefix_is}
 use Rattle.mseed_stream.specs.Archive.{IsArchive}
-
-prefix_is : (r rest bytes : List ℕ) → bytes ≡ r ++ rest → take (length r) bytes ≡ r
-prefix_is r rest bytes e = ap (λ (xs : List ℕ). take (length r) xs) e ∙ take-append_seam r rest
 
 none_left : (bytes : List ℕ) (r tail rest : List ℕ) → IsRecord r → bytes ≡ r ++ tail → bytes ≡ rest
     → ((k : ℕ) → k ≤ length rest → IsRecord (take k rest) → ⊥) → ⊥
@@ -18,17 +13,6 @@ none_left bytes r tail rest is e same no_further =
     let whole : rest ≡ r ++ tail = sym same ∙ e in
     let fits : length r ≤ length rest = omega (arith, ap (λ (xs : List ℕ). length xs) whole, length-append r tail) in
     no_further (length r) fits (subst (λ (xs : List ℕ). IsRecord xs) (sym (prefix_is r tail rest whole)) is)
-
-one_first : (bytes r s tail rest : List ℕ) → IsRecord r → IsRecord s → bytes ≡ r ++ tail → bytes ≡ s ++ rest → r ≡ s
-one_first bytes r s tail rest is it d e =
-    let fits : length r ≤ length bytes = omega (arith, ap (λ (xs : List ℕ). length xs) d, length-append r tail) in
-    let within : length s ≤ length bytes = omega (arith, ap (λ (xs : List ℕ). length xs) e, length-append s rest) in
-    let one = prefix_is r tail bytes d in
-    let two = prefix_is s rest bytes e in
-    let same : length r ≡ length s =
-    one_record bytes (length r) (length s) fits within (subst (λ (xs : List ℕ). IsRecord xs) (sym one) is)
-    (subst (λ (xs : List ℕ). IsRecord xs) (sym two) it) in
-    sym one ∙ (ap (λ (n : ℕ). take n bytes) same ∙ two)
 
 -- the records of an archive and what is left after them are the only ones
 pub one_archive : (bytes : List ℕ) (records others : List (List ℕ)) (rest left : List ℕ) → IsArchive bytes records rest
@@ -43,16 +27,11 @@ one_archive bytes (r ∷ records) [] rest left a b =
 one_archive bytes (r ∷ records) (s ∷ others) rest left a b =
     let one : bytes ≡ r ++ (concat records ++ rest) = a.joined ∙ append_assoc r (concat records) rest in
     let two : bytes ≡ s ++ (concat others ++ left) = b.joined ∙ append_assoc s (concat others) left in
-    let first : r ≡ s = one_first bytes r s (concat records ++ rest) (concat others ++ left) a.each.0 b.each.0 one
-    two in
-    let again : r ++ (concat records ++ rest) ≡ r ++ (concat others ++ left) =
-    sym one ∙ (two ∙ ap (λ (xs : List ℕ). xs ++ (concat others ++ left)) (sym first)) in
-    let tail : concat records ++ rest ≡ concat others ++ left =
-    append_cancel_left r (concat records ++ rest) (concat others ++ left) again in
+    let first = one_first bytes r s (concat records ++ rest) (concat others ++ left) a.each.0 b.each.0 one two in
     let later = one_archive (concat records ++ rest) records others rest left
     (record { joined = refl; each = a.each.1; no_further = a.no_further })
-    (record { joined = tail; each = b.each.1; no_further = b.no_further }) in
-    (ap (λ (x : List ℕ). x ∷ records) first ∙ ap (λ (xs : List (List ℕ)). s ∷ xs) later.0, later.1)
+    (record { joined = first.1; each = b.each.1; no_further = b.no_further }) in
+    (ap (λ (x : List ℕ). x ∷ records) first.0 ∙ ap (λ (xs : List (List ℕ)). s ∷ xs) later.0, later.1)
 
 -- a view shows a record
 pub view_record : (v : View) → IsView v → IsRecord v.bytes

@@ -1,5 +1,5 @@
 -- A cutter stays along what its source gave, whatever it answers.
-use Rattle.std.proofs.Common.{◌≡◌, ◌≢◌, ℕ, ◌+◌, ◌*◌, ◌<◌, ◌≤◌, Bool, true, false, List, [], ◌∷◌, length, Option, Some}
+use Rattle.std.proofs.Common.{◌≡◌, ◌≢◌, ℕ, ◌+◌, ◌<◌, ◌≤◌, Bool, true, false, List, [], ◌∷◌, length, Option, Some}
 use Rattle.std.proofs.Common.{None, Result, Ok, Err, IfOk, IfErr, IfSome, refl, sym, ap, subst, ◌∙◌, arith, ⊎_elim}
 use Rattle.std.proofs.lemmas.Bool.{cases_lt}
 use Rattle.std.proofs.lemmas.List.{drop_all}
@@ -10,7 +10,7 @@ use Rattle.mseed_stream.specs.Archive.{IsEndOf, clean, frame, truncated, is_clea
 use Rattle.mseed_stream.specs.Device.{BytesRead}
 use Rattle.mseed_stream.specs.Standing.{Standing}
 use Rattle.mseed_stream.specs.Cutting.{IsStop, at_start, read_from, IsRead, IsAlong, IsEnding, FallsShort, IsReadTo}
-use Rattle.mseed_stream.specs.Cutting.{is_short, IsCutFault, IsCleanEnd, answer_of, held_of, asks_of, count_of}
+use Rattle.mseed_stream.specs.Cutting.{is_short, IsCutFault, IsCleanEnd, answer_of, asks_of}
 use Rattle.mseed_stream.specs.private.Steps.{IsCuttingFault, lent_of, settled}
 use Rattle.mseed_stream.specs.declared.cutter.Ending.{Ending}
 use Rattle.mseed_stream.specs.declared.cutter.Ending.TheVariants.{Clean, Fault}
@@ -194,23 +194,3 @@ asks_other held prefix old new calls quiet = ⊎_elim
     (λ (less : old < new). omega (arith, few_asks prefix))
     (λ (none : new ≤ old). omega (arith, ap (λ (xs : List ℕ). asks_of xs) (quiet none)))
     (cases_lt old new)
-
--- two asks of the source for each record, and one for what is held of the next
-pub asks_settled : (found : Result Bool StreamFault) (n : ℕ) (held : List ℕ) (after : Standing) (old new : ℕ)
-    → after.is_lent ≡ false → old ≤ new → (new ≤ old → after.prefix ≡ held)
-    → (found ≡ Ok true → old + 2 ≤ new + asks_of held)
-    → old + 2 * count_of (lent_of n found) + asks_of (held_of (settled after found)) ≤ new + asks_of held
-asks_settled (Ok true) n held after old new lent calls quiet twice = omega (arith, twice refl)
-asks_settled (Ok false) n held after old new lent calls quiet twice =
-    let same : held_of (settled after (Ok false)) ≡ after.prefix = held_is (settled after (Ok false)) lent in
-    omega (arith, asks_other held after.prefix old new calls quiet, ap (λ (xs : List ℕ). asks_of xs) same)
-asks_settled (Err e) n held after old new lent calls quiet twice =
-    let same : held_of (settled after (Err e)) ≡ after.prefix = settled_prefix e after lent in
-    omega (arith, asks_other held after.prefix old new calls quiet, ap (λ (xs : List ℕ). asks_of xs) same)
-  where
-    settled_prefix : (f : StreamFault) (c : Standing) → c.is_lent ≡ false → held_of (settled c (Err f)) ≡ c.prefix
-    settled_prefix Memory c l = held_is c l
-    settled_prefix (Frame k f) c l = held_is (settled c (Err (Frame k f))) l
-    settled_prefix (Truncated k have) c l = held_is (settled c (Err (Truncated k have))) l
-    settled_prefix (Read k) c l = held_is (settled c (Err (Read k))) l
-    settled_prefix (Turns k) c l = held_is (settled c (Err (Turns k))) l

@@ -1,7 +1,8 @@
 -- A cutter's records so far, with one more, and all of them at the input's end.
 use Rattle.std.proofs.Common.{◌≡◌, ◌≢◌, ℕ, ◌+◌, ◌^◌, ◌<◌, ◌≤◌, ◌++◌, List, [], ◌∷◌, length, Option, Some, None, Result}
-use Rattle.std.proofs.Common.{Ok, Err, IfErr, refl, sym, ap, subst, ◌∙◌, arith, length-append, append-nil}
-use Rattle.std.specs.List.{concat, AllByRecursion}
+use Rattle.std.proofs.Common.{Ok, Err, IfErr, refl, sym, ap, subst, ◌∙◌, arith, length-append}
+use Rattle.std.proofs.lemmas.List.{map-append}
+use Rattle.std.specs.List.{concat}
 use Rattle.mseed_record.specs.View.{View, IsView}
 use Rattle.mseed_stream.specs.Device.{BytesRead}
 use Rattle.mseed_stream.specs.Standing.{Standing}
@@ -10,7 +11,7 @@ use Rattle.mseed_stream.specs.Cutting.{read_from, held_of, asks_of, IsAlong, IsC
 use Rattle.mseed_stream.specs.Walk.{bytes_in, AreViews, HasHandedOut, AreAllViews, end_of}
 use Rattle.mseed_stream.specs.declared.fault.StreamFault.{StreamFault}
 use Rattle.mseed_stream.specs.declared.fault.StreamFault.TheVariants.{Frame, Truncated, Read, Turns, Memory}
-use Rattle.mseed_stream.proofs.Handed.{records_stay}
+use Rattle.mseed_stream.proofs.Handed.{all_more, views_stay}
 
 -- how many bytes the records have, with one more
 size_more : (views : List View) (v : View)
@@ -22,40 +23,19 @@ size_more (w ∷ views) v =
     let later : length more ≡ length rest + length v.bytes = size_more views v in
     omega (arith, later, length-append w.bytes more, length-append w.bytes rest)
 
-all_more : (views : List View) (v : View) → AllByRecursion IsView views → IsView v
-    → AllByRecursion IsView (views ++ v ∷ [])
-all_more [] v h k = (k, tt)
-all_more (w ∷ views) v h k = (h.0, all_more views v h.1 k)
-
-bytes_more : (views : List View) (v : View) → bytes_in views ++ v.bytes ∷ [] ≡ bytes_in (views ++ v ∷ [])
-bytes_more [] v = refl
-bytes_more (w ∷ views) v = ap (λ (xs : List (List ℕ)). w.bytes ∷ xs) (bytes_more views v)
-
 -- one more record
 pub views_more : (old new : List ℕ) (offset : ℕ) (views : List View) (v : View) (reported : List ℕ)
     → AreViews old offset views → IsView v → v.bytes ≡ reported
     → HasRecords new (offset + length reported) (bytes_in views ++ reported ∷ [])
     → AreViews new (offset + length reported) (views ++ v ∷ [])
 views_more old new offset views v reported before is same has = record {
-  each = all_more views v before.each is;
+  each = all_more IsView views v before.each is;
   records = subst (λ (xs : List (List ℕ)). HasRecords new (offset + length reported) xs)
-      (ap (λ (xs : List ℕ). bytes_in views ++ xs ∷ []) (sym same) ∙ bytes_more views v) has;
+      (ap (λ (xs : List ℕ). bytes_in views ++ xs ∷ []) (sym same)
+      ∙ sym (map-append (λ (w : View). w.bytes) views (v ∷ []))) has;
   offset_is = size_more views v
       ∙ (ap (λ (n : ℕ). n + length v.bytes) before.offset_is ∙ ap (λ (xs : List ℕ). offset + length xs) same);
 }
-
--- they stay while more is read
-pub views_stay : (old new more : List ℕ) (offset : ℕ) (views : List View) → offset ≤ length old → new ≡ old ++ more
-    → AreViews old offset views → AreViews new offset views
-views_stay old new more offset views within e before =
-    let has = records_stay old new more offset (bytes_in views) within e before.records in
-    let same : offset + 0 ≡ offset = omega arith in
-    record {
-      each = before.each;
-      records = subst (λ (n : ℕ). HasRecords new n (bytes_in views)) same
-          (subst (λ (xs : List (List ℕ)). HasRecords new (offset + 0) xs) (append-nil (bytes_in views)) has);
-      offset_is = before.offset_is;
-    }
 
 length_more : (views : List View) (v : View) → length (views ++ v ∷ []) ≡ length views + 1
 length_more views v = length-append views (v ∷ [])
@@ -76,23 +56,6 @@ handed_record h now c after views v before is same has along offset goes fine ca
       records = subst (λ (n : ℕ). AreViews now.bytes n (views ++ v ∷ [])) (sym offset) more;
       called = omega (arith, before.called, called, length_more views v);
     }
-
--- memory was refused
-pub handed_none : (h now : BytesRead) (c after : Standing) (views : List View) (more : List ℕ) → HasHandedOut h c views
-    → now.bytes ≡ h.bytes ++ more → IsAlong now after → after.offset ≡ c.offset → after.answer ≡ None
-    → now.failures ≡ h.failures → h.calls + asks_of (held_of after) ≤ now.calls + asks_of (held_of c)
-    → HasHandedOut now after (views ++ [])
-handed_none h now c after views more before reported along offset goes fine called =
-    let within : c.offset ≤ length h.bytes = omega (arith, before.along.read.reported) in
-    let stay = views_stay h.bytes now.bytes more c.offset views within reported before.records in
-    let same : HasHandedOut now after views = record {
-      along = along;
-      goes_on = goes;
-      fine = fine ∙ before.fine;
-      records = subst (λ (n : ℕ). AreViews now.bytes n views) (sym offset) stay;
-      called = omega (arith, before.called, called);
-    } in
-    subst (λ (vs : List View). HasHandedOut now after vs) (sym (append-nil views)) same
 
 few_views : (h : BytesRead) (c : Standing) (views : List View) → HasHandedOut h c views → length views < 2 ^ 40
 few_views h c views before = omega (arith, before.called, before.along.read.reads, before.along.read.few_reads)
@@ -131,12 +94,3 @@ all_views r h now c views more before reported end fault failed =
     go (Err (Truncated m have)) e f n s w = fault_all (Truncated m have) (λ same. cc) f n s w
     go (Err (Read m)) e f n s w = fault_all (Read m) (λ same. cc) f n s w
     go (Err (Turns m)) e f n s w = fault_all (Turns m) (λ same. cc) f n s w
-
--- all but a want of memory end the input
-pub all_at_fault : (X : Type 0) (fault : StreamFault) (h : BytesRead) (views : List View) → fault ≢ Memory
-    → IfEnds {X = X} (Err fault) (AreAllViews h views (Some fault)) → AreAllViews h views (Some fault)
-all_at_fault X (Frame n f) h views other all = all
-all_at_fault X (Truncated n have) h views other all = all
-all_at_fault X (Read n) h views other all = all
-all_at_fault X (Turns n) h views other all = all
-all_at_fault X Memory h views other all = absurd (other refl)

@@ -15,24 +15,24 @@ abbrev pub bytes_of_each : List RecordView → List (List ℕ)
 bytes_of_each views = map (λ r. (view_of r).bytes) views
 
 -- fewer than 2^40 records stand up to the offset, and the bytes after them end so
-pub record EndsBehind (bytes : List ℕ) (offset : ℕ) (records : List (List ℕ)) (end : End) : Type 0 where
+pub record EndsAfter (bytes : List ℕ) (offset : ℕ) (records : List (List ℕ)) (end : End) : Type 0 where
   pub archive : IsArchive bytes records (drop offset bytes)
   pub offset_is : length (concat records) ≡ offset
   pub few : length records < 2 ^ 40
   pub ends : IsEndOf (drop offset bytes) end
 
 -- so many records stand up to the offset, and a further one after them
-pub record GoesOnBehind (bytes : List ℕ) (offset : ℕ) (records : List (List ℕ)) : Type 0 where
+pub record GoesOnAfter (bytes : List ℕ) (offset : ℕ) (records : List (List ℕ)) : Type 0 where
   pub before : HasRecords bytes offset records
   pub further : (k : ℕ) × ((k ≤ length (drop offset bytes)) × IsRecord (take k (drop offset bytes)))
 
 -- what a fault means: the end of the bytes, the 2^40th record, or a record for which memory was requested
 abbrev pub IsSplitFault : StreamFault → List ℕ → Type 0
-IsSplitFault (Frame n f) bytes = (records : List (List ℕ)) × EndsBehind bytes n records (frame f)
-IsSplitFault (Truncated n have) bytes = (records : List (List ℕ)) × EndsBehind bytes n records (truncated have)
+IsSplitFault (Frame n f) bytes = (records : List (List ℕ)) × EndsAfter bytes n records (frame f)
+IsSplitFault (Truncated n have) bytes = (records : List (List ℕ)) × EndsAfter bytes n records (truncated have)
 IsSplitFault (Read n) bytes = ⊥
-IsSplitFault (Turns n) bytes = (records : List (List ℕ)) × GoesOnBehind bytes n records × (length records + 1 ≡ 2 ^ 40)
-IsSplitFault Memory bytes = (n : ℕ) × ((records : List (List ℕ)) × GoesOnBehind bytes n records)
+IsSplitFault (Turns n) bytes = (records : List (List ℕ)) × GoesOnAfter bytes n records × (length records + 1 ≡ 2 ^ 40)
+IsSplitFault Memory bytes = (n : ℕ) × ((records : List (List ℕ)) × GoesOnAfter bytes n records)
 
 -- the fault after an offset, by why no record begins there
 abbrev pub fault_at : ℕ → ℕ → ViewFault → StreamFault

@@ -1,6 +1,7 @@
 -- A line that is written as far as the device takes it.
-use Rattle.std.specs.Prelude.{◌≡◌, ◌⊎◌, ℕ, ◌+◌, ◌<◌, List, ◌++◌, length, take}
+use Rattle.std.specs.Prelude.{◌≡◌, ◌⊎◌, ℕ, ◌+◌, List, ◌++◌}
 use Rattle.mseed_stream.specs.Device.{BytesWritten}
+use Rattle.mseed_stream.specs.Gathered.{EmittedPart}
 
 -- a line was written
 pub record TellsAll (line : List ℕ) (old new : BytesWritten) : Type 0 where
@@ -9,7 +10,7 @@ pub record TellsAll (line : List ℕ) (old new : BytesWritten) : Type 0 where
 
 -- a prefix of a line was written, and then the device failed, and wasn't called again
 pub record TellsPrefix (line : List ℕ) (old new : BytesWritten) : Type 0 where
-  pub prefix : (n : ℕ) × ((n < length line) × (new.bytes ≡ old.bytes ++ take n line))
+  pub prefix : EmittedPart old new line
   pub failed : new.failures ≡ old.failures + 1
 
 -- a line was written, whole unless the device failed

@@ -1,4 +1,4 @@
-//! The maker of sources that lend what they hold.
+//! A buffered reader as a source that lends what it holds.
 ghost use Rattle.std.specs.Prelude.{◌≡◌};
 ghost use Rattle.mseed_stream.specs.Device.{nothing_read};
 
@@ -17,7 +17,7 @@ pub struct Buffered<T, A: Allocator = Global> {
 impl<T: Read, A: Allocator> Buffered<T, A> {
     ghost use Rattle.mseed_stream.specs.Buffered.{read_through, reader_of};
 
-    /// The reader, of which nothing was called yet: what stands in its buffer is the first that is lent.
+    /// Returns the reader as a source, of which nothing was read yet: what stands in its buffer is lent first.
     pub fn new(reader: BufReader<T, A>) -> Buffered<T, A>
         ensures read { read_through result ≡ nothing_read }
         ensures reader { reader_of result ≡ reader }

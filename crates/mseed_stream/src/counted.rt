@@ -1,4 +1,4 @@
-//! The one maker of sources and sinks.
+//! A reader or writer of `std::io` as a source or sink.
 ghost use Rattle.std.specs.Prelude.{◌≡◌, refl};
 ghost use Rattle.mseed_stream.specs.Device.{nothing_read, nothing_written};
 
@@ -6,11 +6,11 @@ use crate::device::{Duplex, Failed, Sink, Source};
 use crate::tally::Tally;
 use std::io::{Read, Write};
 
-/// A reader or writer as a [`Source`] or [`Sink`]: it counts what goes through. It lends nothing.
+/// A reader or writer as a [`Source`] or [`Sink`]: it counts the bytes that go through, the calls, and those that
+/// failed. It lends nothing.
 ///
-/// One that both reads and writes is both. A reader that answered 0 for a slice that isn't empty is
-/// at its end, and isn't called again. An error of any kind counts as a failure, and is not tried
-/// again here.
+/// One that both reads and writes is both. A reader that returned 0 for a slice that isn't empty is at its end, and
+/// isn't called again. An error of any kind counts as a failure, and the call isn't repeated here.
 #[derive(Drop)]
 pub struct Counted<T> {
     pub(crate) inner: T,
@@ -22,7 +22,7 @@ pub struct Counted<T> {
 impl<T> Counted<T> {
     ghost use Rattle.mseed_stream.specs.Counted.{read_by, written_by, inner_of};
 
-    /// The reader or writer, of which nothing was called yet.
+    /// Returns the reader or writer as a source or sink, of which nothing was called yet.
     pub fn new(inner: T) -> Counted<T>
         ensures read { read_by result ≡ nothing_read }
         ensures written { written_by result ≡ nothing_written }
@@ -36,14 +36,14 @@ impl<T> Counted<T> {
         }
     }
 
-    /// The reader or writer, to look at.
+    /// Returns the reader or writer.
     pub fn get_ref(&self) -> &T
         ensures { result.now ≡ inner_of self.now }
     {
         &self.inner
     }
 
-    /// The reader or writer, as the calls left it.
+    /// Returns the reader or writer, as the calls left it.
     pub fn into_inner(self) -> T
         ensures { result ≡ inner_of self }
     {

@@ -1,4 +1,4 @@
-//! Cuts what a source tells into records.
+//! Cutting what is read of a source into records.
 ghost use Rattle.std.specs.Prelude.{◌≡◌, ◌≢◌, ◌↔◌, ◌+◌, ◌*◌, ◌^◌, ◌<◌, ◌≤◌, length, take, drop, true, false, IfOk};
 ghost use Rattle.std.specs.Prelude.{IfErr, OnErr, OnOk, IsTrue, Ok, slice_range, [], ℕ, IfNone, IfSome, Some, None};
 ghost use Rattle.std.specs.Prelude.{Err, ⊤, List, ◌∷◌, ◌++◌};
@@ -16,29 +16,23 @@ ghost use Rattle.mseed_stream.specs.Cutting.{lent_whole};
 ghost use Rattle.mseed_stream.specs.Walk.{HasHandedOut, AreAllViews, IfGoesOn, end_of};
 ghost use Rattle.mseed_stream.specs.private.Steps.{IsFillFault, IsAnswerAtEnd, IsCut, MayCut, lent_of, settled};
 
-use crate::device::{Failed, Sink, Source};
+use crate::device::{Failed, READS, Sink, Source};
 use crate::fault::StreamFault;
-use mseed_record::{Framer, RecordView, Scan};
+use mseed_record::{Framer, HEADER, LONGEST_RECORD, RecordView, Scan};
 use std::alloc::{Allocator, Global};
 use std::marker::Model;
 
-/// At most so many reads of one input.
-const TURNS: u64 = 1 << 40;
-
-/// So many bytes has the header, which framing asks for first.
-const HEADER: usize = 48;
-
-/// How a cutter ended, for ever.
+/// How a cutter ended: it returns the same from then on.
 #[derive(Clone, Copy)]
 pub(crate) enum Ending {
     /// The input ended where a record ended.
     Clean,
-    /// A fault, but for a want of memory.
+    /// A fault other than `Memory`.
     Fault(StreamFault),
 }
 
 impl Ending {
-    /// The answer for ever.
+    /// Returns what the cutter returns from then on.
     fn answer(self) -> Result<Option<usize>, StreamFault>
         ensures { result ≡ answer_of self }
     {
@@ -49,28 +43,28 @@ impl Ending {
     }
 }
 
-/// Cuts what a source tells into records, and lends each out of its one buffer.
+/// Cuts what is read of a source into records, and lends each out of its one buffer.
 ///
-/// It reads up to what framing asks for ([`Scan::Need`]), or to the input's end, before it looks at the
-/// bytes again, and so never past a record's end. The buffer is kept from record to record: once it has
-/// room for the longest, no more memory is requested.
+/// It reads as many bytes as framing asks for ([`Scan::Need`]), or to the input's end, before it frames them again, and
+/// so never past a record's end. The buffer stays from record to record: once it has room for the longest, no more
+/// memory is requested.
 ///
-/// Contracts see a cutter as a `Standing`, and say by `IsAlong` how it stands to what its source gave.
+/// Contracts see a cutter as a `Standing`, and say by `IsAlong` that it holds what was read of its source.
 #[derive(Drop)]
 pub struct Cutter<A: Allocator = Global> {
     // The bytes that were read and not handed out, and room after them.
     held: Vec<u8, A>,
     // How many bytes stand at its beginning.
     have: usize,
-    // They are a record that was lent, and not needed any more.
+    // They are a record that was lent, and are dropped before the next read.
     is_lent: bool,
-    // Where the next record begins.
+    // The offset of the next record, in bytes from the input's beginning.
     offset: u64,
     // How often the source was called.
     reads: u64,
-    // How far framing has come along the bytes at its beginning.
+    // How far framing has come along the bytes at the buffer's beginning.
     framer: Framer,
-    // The answer for ever, once there is one.
+    // How it ended, once it has.
     ending: Option<Ending>,
 }
 
@@ -78,6 +72,8 @@ impl<A: Allocator> Model for Cutter<A> {
     ghost use Rattle.std.specs.Prelude.{◌≤◌, ◌+◌, ◌*◌, ◌^◌, take, if◌then◌else◌};
     ghost use Rattle.std.specs.Vec.{vec_len};
     ghost use Rattle.mseed_record.specs.Framer.{IsFramerOf};
+    ghost use Rattle.mseed_record.specs.declared.framer.TheConstants.{LONGEST_RECORD};
+    ghost use Rattle.mseed_stream.specs.declared.device.TheConstants.{READS};
     ghost use Rattle.mseed_stream.specs.Standing.{Standing};
 
     ghost Value = { Standing };
@@ -91,8 +87,8 @@ impl<A: Allocator> Model for Cutter<A> {
       answer = c.ending;
     } };
 
-    ghost invariant = { λ c. (c.have ≤ vec_len c.held) × (vec_len c.held ≤ 2 ^ 20) × (c.reads ≤ 2 ^ 40)
-        × (c.offset + (if c.is_lent then 0 else c.have) ≤ 2 ^ 20 * c.reads)
+    ghost invariant = { λ c. (c.have ≤ vec_len c.held) × (vec_len c.held ≤ LONGEST_RECORD) × (c.reads ≤ READS)
+        × (c.offset + (if c.is_lent then 0 else c.have) ≤ LONGEST_RECORD * c.reads)
         × IsFramerOf c.framer (take c.have c.held.items) };
 }
 
@@ -102,7 +98,7 @@ impl<A: Allocator> Cutter<A> {
     ghost use denote.Follow.{follows_so};
     ghost use Rattle.std.specs.Borrow.{sem};
 
-    /// A cutter of which nothing was called yet. It takes no memory.
+    /// Returns a cutter of an input of which nothing was read yet. It requests no memory.
     pub fn new(alloc: A) -> Cutter<A>
         ensures along { IsAlong nothing_read result }
         ensures offset { result.offset ≡ 0 }
@@ -122,40 +118,39 @@ impl<A: Allocator> Cutter<A> {
         }
     }
 
-    /// Where the next record begins, in bytes from the input's beginning.
+    /// Returns the offset of the next record, in bytes from the input's beginning.
     pub fn offset(&self) -> u64
         ensures { result ≡ self.now.offset }
     {
         self.offset
     }
 
-    /// The length of the buffer in bytes, which never becomes shorter.
+    /// Returns the length of the buffer in bytes, which never becomes shorter.
     pub fn room(&self) -> usize
         ensures value { result ≡ self.now.room }
-        ensures most { result ≤ 1048576 }
+        ensures most { result ≤ LONGEST_RECORD }
     {
         self.held.len()
     }
 
-    /// The next record, or `None` where the input ended where a record ended.
+    /// Returns the next record, or `None` where the input ended where a record ended.
     ///
-    /// The record is lent. The cutter then stands after it, and has read no byte that follows. The source
-    /// is the same at each call, and the cutter alone asks it, from its first read on.
+    /// The record is lent. The cutter then stands after it, and has read no byte that follows. The source has to be the
+    /// same at each call, and the cutter alone may read it, from its first read on.
     ///
-    /// After `None`, and after any fault but `Memory`, the same is answered for ever, and the source isn't
-    /// called again.
+    /// After `None`, and after any fault but `Memory`, each call returns the same, and the source isn't called again.
     ///
     /// # Errors
     ///
-    /// `Frame` where no bytes that may come can make a record of those at the offset; `Truncated` where the
-    /// input ended while more was needed; `Read` where the source failed; `Turns` where 2^40 reads were
-    /// made; `Memory` where more room was needed than there is. After `Memory` no byte reported is lost, and a
+    /// `Frame` where the bytes at the offset begin no record, whatever follows them; `Truncated` where the input ended
+    /// while more was needed; `Read` where the source failed; `Turns` where 2^40 reads were made and more was needed;
+    /// `Memory` where memory for a longer buffer was refused. After `Memory` no byte that was read is lost, and a
     /// further call goes on.
     pub fn next<R: Source>(&mut self, source: &mut R) -> Result<Option<RecordView<'_>>, StreamFault>
         requires { IsAlong (R.read source.old) self.old }
 
-        // What is answered is what became of the input: its members tell what was read, which record is next, how the
-        // records end, and when an answer is given again.
+        // What is returned is what became of the input: what was read, which record is next, how the records end, and
+        // when the same is returned again.
         ensures answer { IsNextAnswer result self.old (R.read source.old) (R.read source.new)
             (R.remaining source.old) (R.remaining source.new) }
 
@@ -167,13 +162,13 @@ impl<A: Allocator> Cutter<A> {
         ensures all { (views : List View) → HasHandedOut (R.read source.old) self.old views
             → IfEnds result (AreAllViews (R.read source.new) views (end_of result)) }
 
-        // A record asks the source.
+        // For a record the source was called.
         ensures called { IfOk result (λ o. IfSome o (λ r. (R.read source.old).calls < (R.read source.new).calls)) }
 
         // What the source takes stays as it was.
         ensures beside { R.beside source.new ≡ R.beside source.old }
 
-        // Then the cutter stands after the record, goes on or has its answer for ever, and keeps its buffer.
+        // Then the cutter stands after the record, goes on or has ended, and its buffer is no shorter.
         ensures* after { sem 𝓛 (follows_so (the_row A.row A.Allocator)
             (the_row A.row A.Allocator) self.entry.ghost_name none (λ _ _. ⊤)
             (λ c. IsAlong (R.read source.new) c
@@ -188,14 +183,14 @@ impl<A: Allocator> Cutter<A> {
         }
     }
 
-    /// The next record where it lies, as long as the source holds it whole: it is lent from there, and not copied.
+    /// Returns the next record where it lies, where the source holds it whole: it is lent from there, and not copied.
     ///
-    /// It is lent exactly where it begins what the source holds, and the cutter goes on, holds no bytes and has
-    /// two reads left. Neither the cutter nor the source moves: [`pass`](Cutter::pass) goes past the record.
-    /// Where this lends nothing, [`next`](Cutter::next) answers what comes.
+    /// It is returned exactly where it begins what the source holds, and the cutter goes on, holds no bytes and has two
+    /// reads left. Neither the cutter nor the source moves: [`pass`](Cutter::pass) goes past the record. Where this
+    /// returns `None`, [`next`](Cutter::next) reads on.
     #[inline(always)]
     pub fn peek<'a, R: Source>(&self, source: &'a R) -> Option<RecordView<'a>>
-        // A record is lent as its view, and is what the source tells next.
+        // A record is lent as its view, and is what is read next.
         ensures record { IfSome result (λ r. IsView (view_of r)
             × ((view_of r).bytes ≡ take (length (view_of r).bytes) (R.lent source.now))) }
         ensures ahead { IfSome result (λ r. IsAhead (length (view_of r).bytes) self.now (R.lent source.now)) }
@@ -212,19 +207,19 @@ impl<A: Allocator> Cutter<A> {
         }
     }
 
-    /// Whether it goes on, holds no bytes, and can ask for a record.
+    /// Returns whether it goes on, holds no bytes, and has two reads left, as many as a record takes.
     fn is_ready(&self) -> bool
         ensures { IsTrue result ↔ ((held_of self.now ≡ []) × (self.now.answer ≡ None)
-            × (self.now.reads + 2 ≤ 2 ^ 40)) }
+            × (self.now.reads + 2 ≤ READS)) }
     {
-        if self.ending.is_some() || self.reads > TURNS - 2 {
+        if self.ending.is_some() || self.reads > READS - 2 {
             return false;
         }
         self.is_lent || self.have == 0
     }
 
-    /// Goes past a record of so many bytes that the source holds whole, as [`next`](Cutter::next) does that lends
-    /// it: the source tells what framing asks for, the header and then the rest.
+    /// Goes past a record of so many bytes that the source holds whole, as [`next`](Cutter::next) does where it returns
+    /// one: by two calls of the source, for the header and for the rest.
     pub fn pass<R: Source>(&mut self, source: &mut R, size: usize)
         requires along { IsAlong (R.read source.old) self.old }
         requires ahead { IsAhead size self.old (R.lent source.old) }
@@ -249,12 +244,16 @@ impl<A: Allocator> Cutter<A> {
             → v.bytes ≡ take size (R.lent source.old) → HasHandedOut (R.read source.new) self.new (views ++ v ∷ []) }
     {
         self.forget();
-        tell_whole(source, size);
+        pass_whole(source, size);
         self.reads += 2;
         self.offset += size as u64;
     }
 
-    /// The next answer, by which the bytes of a record that is found are lent.
+    /// Finds the next record, and returns its length in bytes, or `None` where the input ended where a record ended.
+    ///
+    /// # Errors
+    ///
+    /// Those of [`next`](Cutter::next).
     fn advance<R: Source>(&mut self, source: &mut R) -> Result<Option<usize>, StreamFault>
         requires { IsAlong (R.read source.old) self.old }
         ensures along { IsAlong (R.read source.new) self.new }
@@ -277,7 +276,7 @@ impl<A: Allocator> Cutter<A> {
         self.settle(found)
     }
 
-    /// Forgets the record that was lent.
+    /// Drops the record that was lent from the buffer.
     fn forget(&mut self)
         ensures { self.new ≡ record self.old { prefix = held_of self.old; is_lent = false } }
     {
@@ -288,7 +287,11 @@ impl<A: Allocator> Cutter<A> {
         }
     }
 
-    /// Lends what was found, or keeps the answer for ever.
+    /// Goes past the record that was found and returns its length in bytes, or ends.
+    ///
+    /// # Errors
+    ///
+    /// The fault that was found.
     fn settle(&mut self, found: Result<bool, StreamFault>) -> Result<Option<usize>, StreamFault>
         requires { self.old.is_lent ≡ false }
         ensures after { self.new ≡ settled self.old found }
@@ -312,7 +315,12 @@ impl<A: Allocator> Cutter<A> {
         }
     }
 
-    /// Reads from stop to stop up to the next record's end, or answers that the input ended where a record ended.
+    /// Reads up to the next record's end, as many bytes at a time as framing asks for, and returns true; false where
+    /// the input ended where a record ended.
+    ///
+    /// # Errors
+    ///
+    /// Those of [`next`](Cutter::next).
     fn cut<R: Source>(&mut self, source: &mut R) -> Result<bool, StreamFault>
         requires { MayCut (R.read source.old) self.old }
         ensures cut { IsCut result self.old self.new (R.read source.old) (R.read source.new) }
@@ -332,7 +340,11 @@ impl<A: Allocator> Cutter<A> {
         }
     }
 
-    /// The answer at the input's end, by how many bytes are left.
+    /// Returns false where no bytes are left at the input's end.
+    ///
+    /// # Errors
+    ///
+    /// `Truncated` where some are left.
     fn end(&self) -> Result<bool, StreamFault>
         ensures { IsAnswerAtEnd result self.now.offset self.now.prefix }
     {
@@ -343,25 +355,29 @@ impl<A: Allocator> Cutter<A> {
         }
     }
 
-    /// What the bytes that are held begin: framing goes on where it ended.
+    /// Returns what framing says of the bytes that are held. It goes on where it ended.
     fn look(&mut self) -> Scan
         ensures stays { self.new ≡ self.old }
         ensures decides { Decides self.old.prefix result }
         ensures record { (k : ℕ) → result ≡ Record k
             → (k ≤ length self.old.prefix) × IsRecord (take k self.old.prefix) }
-        ensures needed { (k : ℕ) → result ≡ Need k → (length self.old.prefix < k) × (k ≤ 2 ^ 20) }
+        ensures needed { (k : ℕ) → result ≡ Need k → (length self.old.prefix < k) × (k ≤ LONGEST_RECORD) }
     {
         self.framer.look(&self.held[..self.have])
     }
 
-    /// Makes the buffer at least so long.
+    /// Makes the buffer at least so many bytes long.
+    ///
+    /// # Errors
+    ///
+    /// `Memory` where memory is refused; the cutter is unchanged then.
     fn make_room(&mut self, needed: usize) -> Result<(), StreamFault>
-        requires { needed ≤ 2 ^ 20 }
+        requires { needed ≤ LONGEST_RECORD }
         ensures ok { OnOk result (needed ≤ self.new.room) }
         ensures err { IfErr result (λ e. (e ≡ StreamFault.Memory) × (self.old.room < needed) × (self.new ≡ self.old)) }
         ensures stays { self.new ≡ record self.old { room = self.new.room } }
         ensures longer { self.old.room ≤ self.new.room }
-        ensures small { self.new.room ≤ 2 ^ 20 }
+        ensures small { self.new.room ≤ LONGEST_RECORD }
     {
         if self.held.len() < needed && self.held.resize(needed, 0).is_err() {
             return Err(StreamFault::Memory);
@@ -369,12 +385,16 @@ impl<A: Allocator> Cutter<A> {
         Ok(())
     }
 
-    /// Reads until so many bytes are held, and answers whether the input ended before.
+    /// Reads until so many bytes are held, and returns whether the input ended before.
+    ///
+    /// # Errors
+    ///
+    /// `Memory`, `Turns` and `Read`, as of [`next`](Cutter::next).
     fn fill<R: Source>(&mut self, source: &mut R, needed: usize) -> Result<bool, StreamFault>
         requires read { IsRead (R.read source.old) self.old }
         requires not_lent { self.old.is_lent ≡ false }
         requires more { length self.old.prefix < needed }
-        requires most { needed ≤ 2 ^ 20 }
+        requires most { needed ≤ LONGEST_RECORD }
         requires going_on { (R.read source.old).is_at_end ≡ false }
         ensures read { IsRead (R.read source.new) self.new }
         ensures more { TellsMore (R.read source.old) (R.read source.new) (R.remaining source.old)
@@ -398,7 +418,7 @@ impl<A: Allocator> Cutter<A> {
     {
         self.make_room(needed)?;
         while self.have < needed {
-            if self.reads == TURNS {
+            if self.reads == READS {
                 return Err(StreamFault::Turns(self.offset));
             }
             self.reads += 1;
@@ -412,9 +432,9 @@ impl<A: Allocator> Cutter<A> {
     }
 }
 
-/// Has the source tell so many of the bytes that it holds, as framing asks for them: the header, and then the rest.
-fn tell_whole<R: Source>(source: &mut R, size: usize)
-    requires header { 48 ≤ size }
+/// Goes past so many of the bytes that the source holds, as framing asks for them: the header, and then the rest.
+fn pass_whole<R: Source>(source: &mut R, size: usize)
+    requires header { HEADER ≤ size }
     requires whole { size ≤ length (R.lent source.old) }
     ensures reported { R.read source.new ≡ lent_whole (R.read source.old) (take size (R.lent source.old)) }
     ensures rest { R.lent source.new ≡ drop size (R.lent source.old) }
@@ -425,7 +445,11 @@ fn tell_whole<R: Source>(source: &mut R, size: usize)
     source.consume(size - HEADER);
 }
 
-/// Reads once, into the bytes from `begin` to `end`.
+/// Reads once, into the bytes from index `begin` to `end`, and returns how many bytes were read.
+///
+/// # Errors
+///
+/// `Failed` where the source failed.
 fn pull_between<R: Source>(
     source: &mut R,
     held: &mut [u8],

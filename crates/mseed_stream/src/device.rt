@@ -1,4 +1,4 @@
-//! Where bytes come from, and where they go to.
+//! Sources and sinks of bytes.
 ghost use Rattle.std.specs.Prelude.{◌≡◌, List, ℕ, IsTrue, ◌<◌, ◌≤◌, [], length, take, drop, IfOk, IfSome, Option, None};
 ghost use Rattle.std.specs.Io.{StartsWith};
 ghost use Rattle.std.specs.Io.KnownBytes.{Consumes, ReadConsumes, WriteAppends};
@@ -6,7 +6,10 @@ ghost use Rattle.mseed_stream.specs.Device.{BytesRead, BytesWritten, nothing_rea
 ghost use Rattle.mseed_stream.specs.Device.{lent_also};
 ghost use Rattle.mseed_stream.specs.Device.{written_also, ComesFirst};
 
-/// A device failed at a call, for whatever cause. By that call no byte went through.
+/// One input is read at most so often.
+pub(crate) const READS: u64 = 1 << 40;
+
+/// A device failed at a call, for whatever cause. No byte went through in that call.
 #[derive(Debug, Clone, Copy, PartialEq, Eq)]
 pub struct Failed;
 
@@ -14,29 +17,28 @@ pub struct Failed;
 ///
 /// Contracts name four things of a source: `read`, the record of what was read of it so far;
 /// `remaining`, the bytes that it has left, where they are known; `lent`, those of them that it
-/// holds already; and `beside`, what it accepted meanwhile, where it is a sink as well.
+/// holds already; and `beside`, what it accepted, where it is a sink as well.
 pub trait Source {
     // What was read of it so far.
     ghost read: { Self → BytesRead };
 
-    // The bytes that it will tell from here on, where they are known.
+    // The bytes that it has left, where they are known.
     ghost remaining: { Self → Option (List ℕ) } = { λ _. None };
 
-    // The bytes that it holds already, and tells next.
+    // The bytes that it holds already, which are read next.
     ghost lent: { Self → List ℕ } = { λ _. [] };
 
     // What it accepted so far, where it is a sink as well. A read leaves it as it was.
     ghost beside: { Self → BytesWritten } = { λ _. nothing_written };
 
-    /// Reads once, into the beginning of `buf`, and answers how many bytes it read.
+    /// Reads once, into the beginning of `buf`, and returns how many bytes were read.
     ///
-    /// The first 0 for a slice that isn't empty is the input's end. From then on each answer is
-    /// `Ok(0)`, and the device isn't called. A short answer is no end.
+    /// The first 0 for a slice that isn't empty is the input's end. From then on each call returns `Ok(0)`, and the
+    /// device isn't called. Fewer bytes than there is room for are no end.
     ///
     /// # Errors
     ///
-    /// `Failed` where the device failed. The bytes that come next aren't lost by it, and the next
-    /// call asks the device again.
+    /// `Failed` where the device failed. No byte is lost by it, and the next call calls the device again.
     fn pull(&mut self, buf: &mut [u8]) -> Result<usize, Failed>
         ensures bound { IfOk result (λ n. n ≤ length buf.new) }
         ensures read { read self.new ≡ read_also (read self.old) result buf.new }
@@ -45,12 +47,13 @@ pub trait Source {
         ensures first { ComesFirst (lent self.old) result buf.new }
         ensures beside { beside self.new ≡ beside self.old };
 
-    /// The bytes that it holds already, and tells next: nothing, where it holds none. It isn't called.
+    /// Returns the bytes that it holds already, which are read next: none, where it holds none. The device isn't
+    /// called.
     fn lend(&self) -> &[u8]
         ensures bytes { result.now ≡ lent self.now }
         ensures known { IfSome (remaining self.now) (λ left. StartsWith left (lent self.now)) };
 
-    /// Tells so many of the bytes that it holds, in one call, which can't fail.
+    /// Goes past so many of the bytes that it holds: they count as read, by one call that didn't fail.
     fn consume(&mut self, amount: usize)
         requires { amount ≤ length (lent self.old) }
         ensures read { read self.new ≡ lent_also (read self.old) (take amount (lent self.old)) }
@@ -62,8 +65,8 @@ pub trait Source {
 /// Where bytes go to.
 ///
 /// Contracts name three things of a sink: `written`, the record of what it accepted so far; `contents`,
-/// the bytes that it holds, where they are known; and `beside`, what was read of it meanwhile, where it
-/// is a source as well.
+/// the bytes that it holds, where they are known; and `beside`, what was read of it, where it is a source
+/// as well.
 pub trait Sink {
     // What it accepted so far.
     ghost written: { Self → BytesWritten };
@@ -74,13 +77,12 @@ pub trait Sink {
     // What was read of it so far, where it is a source as well. A write leaves it as it was.
     ghost beside: { Self → BytesRead } = { λ _. nothing_read };
 
-    /// Writes once, from the beginning of `bytes`, and answers how many bytes it accepted.
-    ///
-    /// Of a slice that isn't empty it takes at least one byte, or it fails.
+    /// Writes once, from the beginning of `bytes`, and returns how many bytes were accepted: at least one, where there
+    /// are any.
     ///
     /// # Errors
     ///
-    /// `Failed` where the device failed, or accepted none of the bytes that there were.
+    /// `Failed` where the device failed, or accepted none of the bytes, of which there was one at least.
     fn put(&mut self, bytes: &[u8]) -> Result<usize, Failed>
         ensures bound { IfOk result (λ n. n ≤ length bytes.now) }
         ensures progress { IfOk result (λ n. 0 < length bytes.now → 0 < n) }

@@ -1,4 +1,4 @@
-//! What went over links, one after another. It has no bytes, and its functions do nothing at run time.
+//! What went over links, one after another, for proofs: it has no bytes, and its functions do nothing at run time.
 ghost use Rattle.std.specs.Prelude.{◌≡◌, List, [], ◌∷◌, ◌++◌};
 ghost use base.Fml.{ftrue};
 ghost use Rattle.mseed_stream.specs.Exchanges.{Exchange, exchange_over, exchanges_code};
@@ -36,7 +36,7 @@ impl Exchanges {
         self.note(&link.reads, &link.writes, link.is_at_end);
     }
 
-    /// One more link, by the calls that were counted.
+    /// Adds one more link, by the calls that were counted.
     fn note(&mut self, _reads: &Tally, _writes: &Tally, _is_at_end: bool)
         ensures { self.new.all ≡ self.old.all ++ (record {
           read = record {

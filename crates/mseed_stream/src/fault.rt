@@ -6,29 +6,26 @@ use mseed_record::FrameFault;
 
 /// Why an input wasn't read to its end.
 ///
-/// The first number of each counts bytes: from the input's beginning to where the next record begins,
-/// for a [`Cutter`](crate::Cutter) and for [`split`](crate::split); from where the call
-/// began, for [`read_all`](crate::read_all).
+/// The first number of each is an offset in bytes: from the input's beginning to where the next record begins, for a
+/// [`Cutter`](crate::Cutter) and for [`split`](crate::split); from where the call began, for
+/// [`read_all`](crate::read_all).
 #[derive(Debug, Clone, Copy, PartialEq, Eq)]
 pub enum StreamFault {
-    /// No bytes that may come can make a record of those after so many bytes.
+    /// The bytes from the offset on begin no record, whatever follows them: by the first framing step that applies.
     Frame(u64, FrameFault),
-    /// The input ended while more was needed: after so many bytes, with so many of what might have been
-    /// a record.
+    /// The input ended while more was needed: with so many bytes, from the offset on, of what might have been a record.
     Truncated(u64, usize),
-    /// The reader failed, after so many bytes.
+    /// The source failed.
     Read(u64),
-    /// The input wasn't at its end after 2^40 reads, after so many bytes; for [`split`](crate::split), a
-    /// 2^40th record stands there.
+    /// The input wasn't at its end after 2^40 reads; for [`split`](crate::split), a 2^40th record begins at the offset.
     Turns(u64),
     /// An allocation was refused.
     Memory,
 }
 
 impl StreamFault {
-    /// Returns after how many bytes of the input the fault lies: the offset, in bytes, of what is no record, or of the
-    /// record that is cut off. A read that failed and memory that was refused lie in no byte of the input, and have
-    /// none.
+    /// Returns the offset (in bytes) of what is no record, or of the record that is cut off; `None` for a read that
+    /// failed and memory that was refused, which lie in no byte of the input.
     pub fn offset(&self) -> Option<u64>
         ensures { result ≡ offset_of self.now }
     {

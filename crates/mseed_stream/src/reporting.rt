@@ -1,10 +1,11 @@
-//! A line for whoever watches.
+//! Diagnostics.
 ghost use Rattle.mseed_stream.specs.Telling.{Tells};
 
 use crate::device::Sink;
 use crate::whole::write_all_of;
 
-/// Writes a line. A device that fails is left as it is: there is nowhere else to say so.
+/// Writes a line of diagnostics, bytes as they are. Where the device fails the rest of the line is left out, and the
+/// failure isn't reported: there is no other device for it.
 pub fn report<E: Sink>(errors: &mut E, line: &[u8])
     ensures { Tells line.now (E.written errors.old) (E.written errors.new) }
 {

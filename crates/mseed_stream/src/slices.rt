@@ -1,4 +1,4 @@
-//! All records of a slice.
+//! The records of a slice.
 ghost use Rattle.std.specs.Prelude.{◌≡◌, ◌<◌, ◌^◌, List, ℕ, [], length, IfOk, IfErr};
 ghost use Rattle.std.specs.List.{AllByRecursion};
 ghost use Rattle.mseed_record.specs.View.{IsView};
@@ -10,15 +10,15 @@ use crate::fault::StreamFault;
 use mseed_record::{RecordView, ViewFault};
 use std::alloc::{Allocator, Global};
 
-/// At most so many records.
+/// A slice is split into at most so many records.
 const MOST: usize = (1 << 40) - 1;
 
-/// All records of the bytes, where nothing is left after them.
+/// Returns all records of the bytes, in their order, where nothing is left after them.
 ///
 /// # Errors
 ///
-/// As a [`Cutter`](crate::Cutter) says of a reader that tells the bytes: `Frame` and `Truncated` with the
-/// offset after the records, `Turns` at a 2^40th record, `Memory` where there was no room for a record.
+/// As those of a [`Cutter`](crate::Cutter) over the bytes: `Frame` and `Truncated` with the offset after the records,
+/// `Turns` at a 2^40th record, `Memory` where memory for a record's view was refused.
 pub fn split(alloc: Global, bytes: &[u8]) -> Result<Vec<RecordView<'_>>, StreamFault>
     ensures archive { IfOk result (λ views. IsArchive bytes.now (bytes_of_each views.items) []) }
     ensures views { IfOk result (λ views. AllByRecursion (λ r. IsView (view_of r)) views.items) }
@@ -61,7 +61,7 @@ pub fn split_in<A: Allocator>(alloc: A, bytes: &[u8]) -> Result<Vec<RecordView<'
     Ok(records)
 }
 
-/// The fault of bytes that don't begin with a record from an offset on.
+/// Returns the fault of bytes that begin no record at an offset (in bytes).
 fn fault_at(bytes: &[u8], offset: usize, fault: ViewFault) -> StreamFault
     requires { offset < length bytes.now }
     ensures { result ≡ fault_at (length bytes.now) offset fault }

@@ -1,4 +1,4 @@
-//! What went through a device so far. It has no bytes, and its functions do nothing at run time.
+//! What went through a device so far, for proofs: it has no bytes, and its functions do nothing at run time.
 ghost use Rattle.std.specs.Prelude.{◌≡◌, List, ℕ, [], ◌+◌, ◌++◌, if◌then◌else◌};
 ghost use base.Fml.{ftrue};
 

@@ -1,27 +1,23 @@
-//! All that a source tells, all of a slice to a sink, and a text that is gathered to a sink, some at a time.
+//! Reading a source to its end, writing all of a slice, and writing a text that is gathered some at a time.
 ghost use Rattle.std.specs.Prelude.{◌≡◌, ◌≤◌, ◌+◌, ◌++◌, ◌<◌, length, take, OnOk, IfErr, OnErr, MatchResult};
 ghost use Rattle.std.specs.Io.KnownBytes.{Appends};
 ghost use Rattle.mseed_stream.specs.Calls.{WritesOn};
 ghost use Rattle.mseed_stream.specs.Gathered.{AreGathered, IsCutOff};
 ghost use Rattle.mseed_stream.specs.Whole.{ReadsAll};
 
-use crate::device::{Failed, Sink, Source};
+use crate::device::{Failed, READS, Sink, Source};
 use crate::fault::StreamFault;
 use std::alloc::{Allocator, Global};
 
-/// At most so many reads of one input.
-const TURNS: u64 = 1 << 40;
-
-/// The bytes that one read has room for.
+/// One read has room for so many bytes.
 const ROOM: usize = 4096;
 
-/// All that the source tells from here up to its end.
+/// Reads the source from here to its end, and returns the bytes.
 ///
 /// # Errors
 ///
-/// `Read` where the source failed, with the number of bytes read before; `Turns` where it wasn't
-/// at its end after 2^40 reads; `Memory` where there was no room for bytes that it reported. The bytes
-/// reported in the call are lost then.
+/// `Read` where the source failed, with the number of bytes read before; `Turns` where it wasn't at its end after 2^40
+/// reads; `Memory` where memory for what was read was refused. The bytes that were read in the call are lost then.
 pub fn read_all<R: Source>(alloc: Global, source: &mut R) -> Result<Vec<u8>, StreamFault>
     ensures { ReadsAll result (R.read source.old) (R.read source.new) (R.remaining source.old) (R.beside source.old)
         (R.beside source.new) }
@@ -43,7 +39,7 @@ pub fn read_all_in<A: Allocator, R: Source>(
 {
     let mut bytes = Vec::new(alloc);
     let mut buf = [0; ROOM];
-    for turn in 0..TURNS {
+    for reads in 0..READS {
         match source.pull(&mut buf) {
             Ok(0) => return Ok(bytes),
             Ok(n) => match bytes.extend_from_slice(&buf[..n]) {
@@ -60,8 +56,7 @@ pub fn read_all_in<A: Allocator, R: Source>(
 ///
 /// # Errors
 ///
-/// How many of the bytes were taken before the sink failed: fewer than there are. The sink isn't
-/// called again.
+/// How many of the bytes were accepted before the sink failed: fewer than there are. The sink isn't called again.
 pub fn write_all_of<W: Sink>(sink: &mut W, bytes: &[u8]) -> Result<(), usize>
     ensures ok { OnOk result ((W.written sink.new).bytes ≡ (W.written sink.old).bytes ++ bytes.now) }
     ensures fine { OnOk result ((W.written sink.new).failures ≡ (W.written sink.old).failures) }
@@ -93,7 +88,7 @@ pub fn write_all_of<W: Sink>(sink: &mut W, bytes: &[u8]) -> Result<(), usize>
 ///
 /// # Errors
 ///
-/// How many bytes of the text were taken before the sink failed: fewer than it has. The sink isn't called again.
+/// How many bytes of the text were accepted before the sink failed: fewer than it has. The sink isn't called again.
 pub fn write_beyond<A: Allocator, W: Sink>(
     sink: &mut W,
     text: &mut Vec<u8, A>,

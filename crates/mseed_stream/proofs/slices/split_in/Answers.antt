@@ -9,7 +9,8 @@ use Rattle.std.specs.List.{AllByRecursion}
 use Rattle.mseed_stream.specs.declared.fault.StreamFault.{StreamFault}
 use Rattle.mseed_stream.specs.Archive.{HasRecords}
 use Rattle.mseed_stream.specs.Split.{bytes_of_each, IsSplitFault}
-use Rattle.mseed_stream.proofs.Splits.{split_fault, split_more, split_within, views_more, size_of_each, tail_is}
+use Rattle.mseed_stream.proofs.Splits.{split_fault, split_more, split_within, size_of_each, tail_is}
+use Rattle.mseed_stream.proofs.Handed.{all_more}
 use Rattle.mseed_stream.proofs.slices.split_in.Goals as goal
 
 pub returns-in-Err-clause-fault : goal.returns-in-Err-clause-fault
@@ -56,7 +57,7 @@ loop-offset-preserved g c =
       records = subst (λ (n : ℕ). HasRecords bytes (offset + n) (bytes_of_each c.push.new.self.items)) (sym size)
           (subst (λ (xs : List RecordView). HasRecords bytes (offset + length b) (bytes_of_each xs)) (sym items) more);
       views = subst (λ (xs : List RecordView). AllByRecursion (λ v. IsView (view_of v)) xs) (sym items)
-          (views_more views r inv.views c.in-Ok.ensures.view);
+          (all_more (λ (v : RecordView). IsView (view_of v)) views r inv.views c.in-Ok.ensures.view);
       few = omega (arith, inv.few);
       within = omega (arith, size, split_within bytes offset b c.loop-offset-test.true prefix);
     }

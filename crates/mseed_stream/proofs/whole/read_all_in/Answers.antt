@@ -8,8 +8,8 @@ returns-in-Err-extend_from_slice g c = grind (arith, common_steps)
 pub returns-in-Err : goal.returns-in-Err
 returns-in-Err g c = grind (arith, common_steps)
 
-pub loop-turn-preserved : goal.loop-turn-preserved
-loop-turn-preserved g c = grind (arith, common_steps)
+pub loop-reads-preserved : goal.loop-reads-preserved
+loop-reads-preserved g c = grind (arith, common_steps)
 
 pub returns : goal.returns
 returns g c = grind (arith, common_steps)

@@ -50,7 +50,7 @@ loop-self-preserved g c =
     let calls : new.calls ≡ old.calls + 1 = ap (λ (h : BytesRead). h.calls) c.in-Ok.ensures.read in
     let within : length prefix_now ≤ room =
     omega (arith, length-take (have + n) (take room (now ++ drop (length now) items))) in
-    let few : i.reads < 2 ^ 40 = omega (arith, inv.read.few_reads, c.if-self-eq-TURNS.false) in
+    let few : i.reads < 2 ^ 40 = omega (arith, inv.read.few_reads, c.if-self-eq-READS.false) in
     let small : room ≤ 2 ^ 20 = inv.read.small in
     record {
       read = read_more old new before after reported inv.read inv.not_lent inv.not_lent refl prefix bytes calls refl few

@@ -9,8 +9,8 @@ use Rattle.mseed_stream.specs.Walk.{HasHandedOut}
 use Rattle.mseed_stream.proofs.Passed.{passed_along, passed_handed, passed_records, record_few, stands_passed}
 use Rattle.mseed_stream.proofs.cutter.Cutter.pass.Goals as goal
 
-pub tell_whole-requires-clause-header : goal.tell_whole-requires-clause-header
-tell_whole-requires-clause-header g c =
+pub pass_whole-requires-clause-header : goal.pass_whole-requires-clause-header
+pass_whole-requires-clause-header g c =
     let bytes : List ℕ = take c.args.size (g.R.Source.lent c.args.source.now) in
     let long : length bytes ≡ c.args.size =
     length-take-le c.args.size (g.R.Source.lent c.args.source.now) c.requires.ahead.whole in
@@ -28,9 +28,9 @@ invariant_of-self g c =
 
 pub returns-clause-along : goal.returns-clause-along
 returns-clause-along g c =
-    stands_passed (λ (h : BytesRead) (s : Standing). IsAlong h s) (g.R.Source.read c.tell_whole.new.source) _
+    stands_passed (λ (h : BytesRead) (s : Standing). IsAlong h s) (g.R.Source.read c.pass_whole.new.source) _
     c.args.self.now c.args.size _ (c.self.view_is ∙ c.forget.ensures) c.requires.ahead.none
-    c.tell_whole.ensures.reported
+    c.pass_whole.ensures.reported
     (passed_along (g.R.Source.read c.args.source.now) c.args.self.now c.args.size
     (g.R.Source.lent c.args.source.now) c.requires.along c.requires.ahead)
 
@@ -43,15 +43,15 @@ returns-clause-records g c = λ records has.
     ap (λ (s : Standing). s.offset) (c.self.view_is ∙ c.forget.ensures) in
     let whole : List (List ℕ) = records ++ take size lent ∷ [] in
     let more = passed_records reported c.args.self.now size lent records c.requires.along.read c.requires.ahead has in
-    subst (λ (n : ℕ). HasRecords (g.R.Source.read c.tell_whole.new.source).bytes (n + size) whole) (sym offset)
+    subst (λ (n : ℕ). HasRecords (g.R.Source.read c.pass_whole.new.source).bytes (n + size) whole) (sym offset)
     (subst (λ (h : BytesRead). HasRecords h.bytes (c.args.self.now.offset + size) whole)
-    (sym c.tell_whole.ensures.reported)
+    (sym c.pass_whole.ensures.reported)
     more)
 
 pub returns-clause-handed : goal.returns-clause-handed
 returns-clause-handed g c = λ views v before is same.
     stands_passed (λ (h : BytesRead) (s : Standing). HasHandedOut h s (views ++ v ∷ []))
-    (g.R.Source.read c.tell_whole.new.source) _ c.args.self.now c.args.size _ (c.self.view_is ∙ c.forget.ensures)
-    c.requires.ahead.none c.tell_whole.ensures.reported
+    (g.R.Source.read c.pass_whole.new.source) _ c.args.self.now c.args.size _ (c.self.view_is ∙ c.forget.ensures)
+    c.requires.ahead.none c.pass_whole.ensures.reported
     (passed_handed (g.R.Source.read c.args.source.now) c.args.self.now c.args.size
     (g.R.Source.lent c.args.source.now) views v c.requires.ahead before is same)

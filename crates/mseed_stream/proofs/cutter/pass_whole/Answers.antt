@@ -5,7 +5,7 @@ use Rattle.mseed_stream.specs.Device.{BytesRead, lent_also}
 use Rattle.mseed_stream.specs.Cutting.{lent_whole}
 use Rattle.mseed_stream.proofs.Filled.{two_parts}
 use Rattle.mseed_stream.proofs.Passed.{lent_twice, rest_twice}
-use Rattle.mseed_stream.proofs.cutter.tell_whole.Goals as goal
+use Rattle.mseed_stream.proofs.cutter.pass_whole.Goals as goal
 
 pub consume-requires-2 : goal.consume-requires-2
 consume-requires-2 g c =
