@@ -3,15 +3,15 @@ ghost use Rattle.std.specs.Prelude.{◌≡◌, ◌≤◌, ◌+◌, ◌++◌, OnE
 ghost use Rattle.mseed_stream.specs.Device.{IsPrefixOf};
 ghost use Rattle.mseed_text.specs.Fault.{fault_line, frame_words};
 
-use crate::line::{Line, push_line};
+use crate::line::{LONGEST_LINE, Line, push_line};
 use mseed_record::FrameFault;
 use mseed_stream::StreamFault;
 use std::alloc::{AllocError, Allocator};
 
 impl Line {
-    /// Puts the line of a stream's fault at its end, with its LF, at most 61 bytes; nothing for a want of memory.
+    /// Puts the line of a stream's fault at its end, with its LF: at most 61 bytes, and nothing for `Memory`.
     pub fn put_fault_line(&mut self, fault: &StreamFault)
-        requires room { length self.old + 61 ≤ 256 }
+        requires room { length self.old + 61 ≤ LONGEST_LINE }
         ensures text { self.new ≡ self.old ++ fault_line fault.now }
         ensures most { length self.new ≤ length self.old + 61 }
     {
@@ -40,9 +40,9 @@ impl Line {
         }
     }
 
-    /// Puts where a fault stands.
+    /// Puts `fault at ` and the offset of a fault (in bytes) at its end: at most 29 bytes.
     fn put_offset(&mut self, offset: u64)
-        requires { length self.old + 29 ≤ 256 }
+        requires { length self.old + 29 ≤ LONGEST_LINE }
         ensures text { self.new ≡ self.old ++ (codes "fault at " ++ decimal offset) }
         ensures most { length self.new ≤ length self.old + 29 }
     {
@@ -50,9 +50,9 @@ impl Line {
         self.put_count(offset);
     }
 
-    /// Puts why bytes begin no record.
+    /// Puts why bytes begin no record at its end: at most 27 bytes.
     fn put_frame_words(&mut self, fault: &FrameFault)
-        requires { length self.old + 27 ≤ 256 }
+        requires { length self.old + 27 ≤ LONGEST_LINE }
         ensures text { self.new ≡ self.old ++ frame_words fault.now }
         ensures most { length self.new ≤ length self.old + 27 }
     {
@@ -71,11 +71,11 @@ impl Line {
     }
 }
 
-/// Adds the line of a stream's fault to a text; none for a want of memory.
+/// Adds the line of a stream's fault to a text; nothing for `Memory`.
 ///
 /// # Errors
 ///
-/// `AllocError` where memory is refused. The text is as it was.
+/// `AllocError` where memory is refused; the text is unchanged then.
 pub fn push_fault_line<A: Allocator>(
     text: &mut Vec<u8, A>,
     fault: &StreamFault,

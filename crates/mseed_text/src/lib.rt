@@ -8,4 +8,4 @@ mod name;
 mod time;
 
 pub use fault::push_fault_line;
-pub use line::{Line, push_line};
+pub use line::{LONGEST_LINE, Line, push_line};

@@ -8,39 +8,41 @@ use mseed_record::trimmed;
 use std::alloc::{AllocError, Allocator};
 use std::marker::Model;
 
-/// The most bytes of a line.
-const ROOM: usize = 256;
+/// A line has at most so many bytes.
+pub const LONGEST_LINE: usize = 256;
 
-/// A text has room for so many bytes at least, if for any.
+/// A text that has room for any bytes has room for at least so many.
 const LEAST_ROOM: usize = 8;
 
-/// A line of up to 256 bytes, as far as it is built. It takes no memory, and is added to a text at once.
+/// A line of up to [`LONGEST_LINE`] bytes, as far as it is built. It needs no allocation, and [`push_line`] adds it to
+/// a text.
 ///
 /// Contracts see a line as its bytes.
 #[derive(Drop)]
 pub struct Line {
-    bytes: [u8; ROOM],
+    bytes: [u8; LONGEST_LINE],
     len: usize,
 }
 
 impl Model for Line {
     ghost use Rattle.std.specs.Prelude.{◌≤◌, ℕ, List, take};
+    ghost use Rattle.mseed_text.specs.declared.line.TheConstants.{LONGEST_LINE};
 
     ghost Value = { List ℕ };
 
     ghost view = { λ l. take l.len l.bytes };
 
-    ghost invariant = { λ l. l.len ≤ 256 };
+    ghost invariant = { λ l. l.len ≤ LONGEST_LINE };
 }
 
 impl Line {
-    /// An empty line.
+    /// Returns an empty line.
     #[inline(always)]
     pub fn new() -> Line
         ensures { result ≡ [] }
     {
         Line {
-            bytes: [0; ROOM],
+            bytes: [0; LONGEST_LINE],
             len: 0,
         }
     }
@@ -53,10 +55,10 @@ impl Line {
         &self.bytes[..self.len]
     }
 
-    /// Puts bytes at its end, which have room there.
+    /// Puts bytes at its end.
     #[inline(always)]
     pub fn put(&mut self, bytes: &[u8])
-        requires room { length self.old + length bytes.now ≤ 256 }
+        requires room { length self.old + length bytes.now ≤ LONGEST_LINE }
         ensures text { self.new ≡ self.old ++ bytes.now }
         ensures len { length self.new ≡ length self.old + length bytes.now }
     {
@@ -65,11 +67,11 @@ impl Line {
         self.len = end;
     }
 
-    /// Puts a code without its trailing spaces and NULs. Those are written too, after the end, so that the number of
-    /// writes is known.
+    /// Puts a code at its end, as it is printed, without its trailing spaces and NULs. Those are written too, after the
+    /// line's end, so that the number of writes is that of the code's bytes.
     #[inline(always)]
     pub(crate) fn put_code(&mut self, code: &[u8])
-        requires { length self.old + length code.now ≤ 256 }
+        requires { length self.old + length code.now ≤ LONGEST_LINE }
         ensures text { self.new ≡ self.old ++ code_text code.now }
         ensures most { length self.new ≤ length self.old + length code.now }
     {
@@ -79,23 +81,23 @@ impl Line {
     }
 }
 
-/// Writes the bytes of a code at a place, each as it is printed.
+/// Writes the bytes of a code from an index on, each as it is printed.
 #[inline(always)]
-fn write_printed(room: &mut [u8; ROOM], place: usize, code: &[u8])
-    requires { place + length code.now ≤ 256 }
-    ensures { take (place + length code.now) room.new ≡ take place room.old ++ map printed code.now }
+fn write_printed(room: &mut [u8; LONGEST_LINE], index: usize, code: &[u8])
+    requires { index + length code.now ≤ LONGEST_LINE }
+    ensures { take (index + length code.now) room.new ≡ take index room.old ++ map printed code.now }
 {
-    for index in 0..code.len() {
-        room[place + index] = printed(code[index]);
+    for i in 0..code.len() {
+        room[index + i] = printed(code[i]);
     }
 }
 
-/// Adds a line to a text. The room of a text begins with what the first word of its first line takes, and doubles until
-/// a line has room: so no text asks for more memory than one to which the words are added one by one.
+/// Adds a line to a text. The capacity of a text begins with that of the first line's first word, and doubles until the
+/// line fits: so no text requests more memory than one to which the words are added one by one.
 ///
 /// # Errors
 ///
-/// `AllocError` where memory is refused. The text is as it was.
+/// `AllocError` where memory is refused; the text is unchanged then.
 #[inline(always)]
 pub fn push_line<A: Allocator>(text: &mut Vec<u8, A>, line: &[u8]) -> Result<(), AllocError>
     ensures ok { OnOk result (text.new.items ≡ text.old.items ++ line.now) }
@@ -108,7 +110,11 @@ pub fn push_line<A: Allocator>(text: &mut Vec<u8, A>, line: &[u8]) -> Result<(),
     text.extend_from_slice(line)
 }
 
-/// Makes room for a line. What the text holds stays, whatever the result.
+/// Makes room for a line in a text, whose bytes stay, whatever the result.
+///
+/// # Errors
+///
+/// `AllocError` where memory is refused.
 #[cold]
 #[inline(never)]
 fn make_room<A: Allocator>(text: &mut Vec<u8, A>, line: &[u8]) -> Result<(), AllocError>
@@ -124,7 +130,7 @@ fn make_room<A: Allocator>(text: &mut Vec<u8, A>, line: &[u8]) -> Result<(), All
     text.reserve_exact(room.saturating_sub(text.len()))
 }
 
-/// How many bytes stand before the first space.
+/// Returns how many bytes stand before the first space.
 fn first_word(line: &[u8]) -> usize {
     for index in 0..line.len() {
         if line[index] == b' ' {

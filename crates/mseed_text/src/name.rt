@@ -2,15 +2,15 @@
 ghost use Rattle.std.specs.Prelude.{◌≡◌, ◌≤◌, ◌+◌, ◌++◌, length};
 ghost use Rattle.mseed_text.specs.Name.{name_text, printed};
 
-use crate::line::Line;
+use crate::line::{LONGEST_LINE, Line};
 use mseed_record::Codes;
 
 impl Line {
-    /// Puts a channel's name at its end: network, station, location and channel, each without its trailing spaces and
-    /// NULs, with `?` for what is left and can't be printed. It has at most 15 bytes.
+    /// Puts a channel's name at its end: network, station, location and channel with `_` between them, each without its
+    /// trailing spaces and NULs, and with `?` for each byte that is left and can't be printed. At most 15 bytes.
     #[inline(always)]
     pub fn put_name(&mut self, codes: &Codes)
-        requires room { length self.old + 15 ≤ 256 }
+        requires room { length self.old + 15 ≤ LONGEST_LINE }
         ensures text { self.new ≡ self.old ++ name_text codes.now }
         ensures most { length self.new ≤ length self.old + 15 }
     {
@@ -24,7 +24,7 @@ impl Line {
     }
 }
 
-/// A byte of a name as it is printed.
+/// Returns a byte of a name as it is printed: `?` for a space and for what is no printable character.
 pub(crate) fn printed(byte: u8) -> u8
     ensures { result ≡ printed byte }
 {

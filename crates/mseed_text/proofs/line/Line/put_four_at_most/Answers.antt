@@ -9,13 +9,14 @@ returns-then-count-lt10-clause-text c =
 
 pub returns-then-count-lt100-clause-text : goal.returns-then-count-lt100-clause-text
 returns-then-count-lt100-clause-text c =
-    c.put-then-count-lt100.ensures.text ∙ ap (λ (xs : List ℕ). c.args.self.now ++ xs) (c.pair.ensures
+    c.put-then-count-lt100.ensures.text ∙ ap (λ (xs : List ℕ). c.args.self.now ++ xs) (c.two_digits.ensures
     ∙ decimal_two c.args.count (search rules) (search rules))
 
 pub returns-then-count-lt1000-clause-text : goal.returns-then-count-lt1000-clause-text
 returns-then-count-lt1000-clause-text c =
     let digits = decimal_three c.args.count (search rules) (search rules) in
-    c.put-then-count-lt1000.ensures.text ∙ ap (λ (xs : List ℕ). c.args.self.now ++ xs) (rw c.pair-low.ensures digits)
+    c.put-then-count-lt1000.ensures.text
+    ∙ ap (λ (xs : List ℕ). c.args.self.now ++ xs) (rw c.two_digits-low.ensures digits)
 
 pub returns-clause-text : goal.returns-clause-text
 returns-clause-text c =

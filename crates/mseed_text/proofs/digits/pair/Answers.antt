@@ -1,5 +1,0 @@
-use Rattle.mseed_time.proofs.Digits.{digits_at}
-use Rattle.mseed_text.proofs.digits.pair.Goals as goal
-
-pub returns : goal.returns
-returns c = digits_at c.args.number c.requires
