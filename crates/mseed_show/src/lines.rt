@@ -6,15 +6,15 @@ ghost use Rattle.mseed_show.specs.Listing.{record_line, offset_words, size_words
 ghost use Rattle.mseed_show.specs.Listing.{count_line, rate_text, order_word, last_words};
 
 use mseed_record::RecordView;
-use mseed_text::{Line, push_line};
+use mseed_text::{LONGEST_LINE, Line, push_line};
 use mseed_time::{NoRate, Order};
 use std::alloc::{AllocError, Allocator};
 
-/// Adds a record's line.
+/// Adds the line of a record to a text, by the record's offset (in bytes) in the whole input.
 ///
 /// # Errors
 ///
-/// `AllocError` where an allocation was refused. The text is as it was then.
+/// `AllocError` where memory is refused; the text is unchanged then.
 pub fn push_record_line<A: Allocator>(
     text: &mut Vec<u8, A>,
     offset: u64,
@@ -31,11 +31,11 @@ pub fn push_record_line<A: Allocator>(
     push_line(text, line.as_slice())
 }
 
-/// Adds the line that counts the records.
+/// Adds the line that says how many records are listed to a text.
 ///
 /// # Errors
 ///
-/// `AllocError` where an allocation was refused. The text is as it was then.
+/// `AllocError` where memory is refused; the text is unchanged then.
 pub fn push_count_line<A: Allocator>(text: &mut Vec<u8, A>, records: u64) -> Result<(), AllocError>
     ensures ok { OnOk result (text.new.items ≡ text.old.items ++ count_line records) }
     ensures unchanged { OnErr result (text.new.items ≡ text.old.items) }
@@ -47,10 +47,10 @@ pub fn push_count_line<A: Allocator>(text: &mut Vec<u8, A>, records: u64) -> Res
     push_line(text, line.as_slice())
 }
 
-/// Puts where a record begins, and its channel's name.
+/// Puts the offset of a record (in bytes) and its channel's name at a line's end.
 #[inline(always)]
 fn put_offset(line: &mut Line, offset: u64, view: &RecordView)
-    requires { length line.old + 36 ≤ 256 }
+    requires { length line.old + 36 ≤ LONGEST_LINE }
     ensures text { line.new ≡ line.old ++ offset_words offset (view_of view.now) }
     ensures most { length line.new ≤ length line.old + 36 }
 {
@@ -59,10 +59,10 @@ fn put_offset(line: &mut Line, offset: u64, view: &RecordView)
     line.put_name(&view.codes());
 }
 
-/// Puts a record's quality, length and number of samples.
+/// Puts a record's quality, length in bytes and number of samples at a line's end.
 #[inline(always)]
 fn put_size(line: &mut Line, view: &RecordView)
-    requires { length line.old + 59 ≤ 256 }
+    requires { length line.old + 59 ≤ LONGEST_LINE }
     ensures text { line.new ≡ line.old ++ size_words (view_of view.now) }
     ensures most { length line.new ≤ length line.old + 59 }
 {
@@ -73,10 +73,10 @@ fn put_size(line: &mut Line, view: &RecordView)
     line.put_count(u64::from(view.samples()));
 }
 
-/// Puts a record's start and rate.
+/// Puts a record's start and sample rate at a line's end.
 #[inline(always)]
 fn put_times(line: &mut Line, view: &RecordView)
-    requires { length line.old + 80 ≤ 256 }
+    requires { length line.old + 80 ≤ LONGEST_LINE }
     ensures text { line.new ≡ line.old ++ time_words (view_of view.now) }
     ensures most { length line.new ≤ length line.old + 80 }
 {
@@ -84,10 +84,10 @@ fn put_times(line: &mut Line, view: &RecordView)
     put_rate(line, view);
 }
 
-/// Puts a record's start.
+/// Puts a record's start at a line's end.
 #[inline(always)]
 fn put_start(line: &mut Line, view: &RecordView)
-    requires { length line.old + 33 ≤ 256 }
+    requires { length line.old + 33 ≤ LONGEST_LINE }
     ensures text { line.new ≡ line.old ++ codes " start " ++ start_text (view_of view.now) }
     ensures most { length line.new ≤ length line.old + 33 }
 {
@@ -95,10 +95,10 @@ fn put_start(line: &mut Line, view: &RecordView)
     line.put_start(view);
 }
 
-/// Puts a record's rate.
+/// Puts a record's sample rate at a line's end.
 #[inline(always)]
 fn put_rate(line: &mut Line, view: &RecordView)
-    requires { length line.old + 47 ≤ 256 }
+    requires { length line.old + 47 ≤ LONGEST_LINE }
     ensures text { line.new ≡ line.old ++ codes " rate " ++ rate_text (view_of view.now) }
     ensures most { length line.new ≤ length line.old + 47 }
 {
@@ -109,10 +109,10 @@ fn put_rate(line: &mut Line, view: &RecordView)
     }
 }
 
-/// Puts how a record's payload is encoded, and whether a blockette 100 gives another rate.
+/// Puts how a record's payload is encoded, and whether a blockette 100 gives another rate, at a line's end.
 #[inline(always)]
 fn put_payload(line: &mut Line, view: &RecordView)
-    requires { length line.old + 51 ≤ 256 }
+    requires { length line.old + 51 ≤ LONGEST_LINE }
     ensures { line.new ≡ line.old ++ payload_words (view_of view.now) }
 {
     line.put(b" encoding ");
@@ -120,10 +120,11 @@ fn put_payload(line: &mut Line, view: &RecordView)
     put_last(line, view.payload_order(), view.has_rate_blockette());
 }
 
-/// Puts a payload's order, and the end of a line. The words' length is known where they stand.
+/// Puts a payload's byte order, whether there is a blockette 100, and LF at a line's end. Each text has a write of its
+/// own, so that its length is known there.
 #[inline(always)]
 fn put_last(line: &mut Line, order: Order, has_rate_blockette: bool)
-    requires { length line.old + 21 ≤ 256 }
+    requires { length line.old + 21 ≤ LONGEST_LINE }
     ensures { line.new ≡ line.old ++ (order_word order ++ last_words has_rate_blockette) }
 {
     match (order, has_rate_blockette) {

@@ -15,22 +15,22 @@ use std::alloc::{AllocError, Allocator};
 /// What the listing of the records that are asked for comes to.
 #[derive(Clone, Copy, Debug, PartialEq, Eq)]
 pub struct Shown {
-    /// The fault with which the input ended, if with one.
+    /// The fault with which the input ended; `None` where it ended after a record.
     pub end: Option<StreamFault>,
     /// How many records aren't listed since their start isn't known, though their channel is asked for and a window is
     /// given.
     pub without_time: u64,
 }
 
-/// Lists the records of the input, and answers with what fault it ended, if with any. The text is a line for each
-/// record: where it begins, in bytes, its channel, quality, length in bytes, number of samples, start (UTC, to the
+/// Lists the records of the input, and returns the fault with which it ended, if with one. The text is a line for each
+/// record: its offset in bytes, its channel, quality, length in bytes, number of samples, start (UTC, to the
 /// microsecond), rate in samples a second as a ratio, encoding and byte order (SEED manual, chapter 8: header and
 /// blockettes 1000 and 100); then how many records there are, and the fault. Lines are written as records come, some
-/// at a time. The input is one of which nothing was read yet.
+/// at a time. Nothing may have been read of the input before.
 ///
 /// # Errors
 ///
-/// `Write` where the output failed, `Memory` where an allocation was refused. A prefix of the text was written then.
+/// `Write` where the output failed, `Memory` where memory was refused. A prefix of the text was written then.
 pub fn show<A: Allocator + Copy, R: Source, W: Sink>(
     alloc: A,
     input: &mut R,
@@ -45,12 +45,12 @@ pub fn show<A: Allocator + Copy, R: Source, W: Sink>(
     }
 }
 
-/// Lists those of the records of the input that are asked for, as `show` lists all: their number is that of the lines,
-/// and each offset, the fault's too, is that in the whole input. The input is one of which nothing was read yet.
+/// Lists those of the records of the input that are asked for, as [`show`] lists all: their number is that of the
+/// lines, and each offset, the fault's too, is that in the whole input. Nothing may have been read of the input before.
 ///
 /// # Errors
 ///
-/// `Write` where the output failed, `Memory` where an allocation was refused. A prefix of the text was written then.
+/// `Write` where the output failed, `Memory` where memory was refused. A prefix of the text was written then.
 pub fn show_selected<A: Allocator + Copy, C: Choice, R: Source, W: Sink>(
     alloc: A,
     choice: &C,
@@ -71,7 +71,7 @@ pub fn show_selected<A: Allocator + Copy, C: Choice, R: Source, W: Sink>(
     }
 }
 
-/// A line for each record, and at the end their number, and the fault, if the input ended with one.
+/// The format of a listing: a line for each record, and at the end their number, and the fault, if there is one.
 #[derive(Clone, Copy)]
 pub(crate) struct Listing;
 
