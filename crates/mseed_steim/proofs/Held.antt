@@ -12,11 +12,11 @@ use Rattle.mseed_steim.specs.declared.scheme.Scheme.TheVariants.{One, Two}
 use Rattle.mseed_steim.specs.declared.row.Row.{Row}
 use Rattle.mseed_steim.specs.Spelling.{IsWithin}
 use Rattle.mseed_steim.specs.Packing.{CanSpell, IsFullest}
-use Rattle.mseed_steim.specs.private.Rows.{row_with, row_for, IsBestRow}
+use Rattle.mseed_steim.specs.private.Rows.{row_with, row_for, IsBestRow, NoneSpelled}
 use Rattle.mseed_steim.specs.private.Ahead.{size_of, near, near_size, raised, most_one, most_two, most_with, IsMost}
-use Rattle.mseed_steim.specs.private.Ahead.{IsAhead, AreCut, AreSame, IsCut, Tells, taken}
+use Rattle.mseed_steim.specs.Lookahead.{IsAhead, AreCut, AreSame, IsCut, taken}
 use Rattle.mseed_steim.proofs.Below.{eight}
-use Rattle.mseed_steim.proofs.Rows.{row_is, spelled_fits}
+use Rattle.mseed_steim.proofs.Rows.{row_is, spelled_fits, fits_spelled}
 use Rattle.mseed_steim.proofs.Sizes.{one_3, two_6}
 use Rattle.mseed_steim.proofs.Widths.{within_by}
 use Rattle.mseed_steim.proofs.Fullest.{prefix_fits}
@@ -220,7 +220,14 @@ is_ahead s ds held i most long early says is some =
     let is_held : k ≤ most = (is k).1 held_all in
     let taken_k : k ≤ taken s most = t.all k fits.0 is_held fits.1.0 in
     omega (arith, taken_k, over, count) in
-    (seven, omega (arith, room, long, early), (t.row, (t.found, (found, inside, range, none))))
+    let spelled : CanSpell s (take t.row.count xs) = fits_spelled s (take t.row.count xs)
+    (record { row = t.row; found = rw prefix found; range = range }) in
+    let same : t.row.count ≡ taken s most = count in (
+      seven,
+      omega (arith, room, long, early),
+      subst (λ (k : ℕ). CanSpell s (take k xs)) same spelled,
+      subst (λ (k : ℕ). NoneSpelled s xs k (length xs)) same none,
+    )
   where
     held_few : (s : Scheme) (x most : ℕ) → most ≤ most_with s x → most ≤ most_with s 0
     held_few One x most h = let k = one_3 x in omega (arith, h, k)
@@ -229,19 +236,6 @@ is_ahead s ds held i most long early says is some =
     seven_most : (s : Scheme) (most : ℕ) → most ≤ most_with s 0 → most ≤ 7
     seven_most One most h = omega (arith, h)
     seven_most Two most h = omega (arith, h)
-
-zero_at : (n i : ℕ) → get_or {A = ℕ} (replicate n 0) i 0 ≡ 0
-zero_at zero i = refl
-zero_at (suc n) zero = refl
-zero_at (suc n) (suc i) = zero_at n i
-
--- nothing is reported
-pub tells_none : (s : Scheme) (ds cut : List ℤ) → Tells s ds (replicate 80 0) cut
-tells_none s ds cut = (
-  λ i h. subst (λ (m : ℕ). IsAhead s (drop i ds) m) (sym (zero_at 80 i)) (λ some. absurd (omega (arith, some))),
-  λ i low h. zero_at 80 i,
-  λ i h two some. absurd (omega (arith, some, zero_at 80 i)),
-)
 
 -- those behind a place of which something is reported are cut off
 pub cut_from : (s : Scheme) (ds : List ℤ) (most : List ℕ) (cut : List ℤ) → length cut ≡ 64
@@ -255,15 +249,40 @@ cut_from s ds most cut long none same i h two some =
           (rw (get_or-drop i ds j (pos 0)) at within) ∙ sym (get_or-drop i ds j (pos 0)),
     )
 
+-- some are taken where two or more are held, and no more than these
+pub taken_some : (s : Scheme) (most : ℕ) → 2 ≤ most → most ≤ 7 → (2 ≤ taken s most) × (taken s most ≤ most)
+taken_some One most some few =
+    eight (λ m. 2 ≤ m → (2 ≤ taken One m) × (taken One m ≤ m)) (λ h. absurd (omega (arith, h)))
+    (λ h. absurd (omega (arith, h))) (λ _. (omega arith, omega arith)) (λ _. (omega arith, omega arith)) (λ _. (omega arith, omega arith)) (λ _. (omega arith, omega arith)) (λ _. (omega arith, omega arith))
+    (λ _. (omega arith, omega arith)) most (omega (arith, few)) some
+taken_some Two most some few = (some, omega arith)
+
+-- the row of the word that is known ahead
+pub row_ahead : (s : Scheme) (ds : List ℤ) (most : ℕ) → 2 ≤ most → IsAhead s ds most
+    → (row : Row) × ((row_for s (taken s most) ≡ Some row) × IsBestRow s ds (length ds) (Some row))
+row_ahead s ds most some ahead =
+    let known = ahead some in
+    let least = taken_some s most some known.0 in
+    let inside : taken s most ≤ length ds = omega (arith, least.1, known.0, known.1) in
+    let fits = prefix_fits s ds (taken s most) (omega (arith, least.0)) inside known.2 in
+    let count : fits.0.count ≡ taken s most = (row_is s (taken s most) fits.0 fits.1.0).1 in (
+      fits.0,
+      (
+        fits.1.0,
+        subst (λ (k : ℕ). (row_for s k ≡ Some fits.0) × (k ≤ length ds) × All (IsWithin fits.0.width) (take k ds)
+            × NoneSpelled s ds k (length ds)) (sym count) (fits.1.0, inside, fits.1.1, known.3),
+      ),
+    )
+
 -- a row that is the one of which is known ahead
 pub best_ahead : (s : Scheme) (ds : List ℤ) (most : ℕ) (row : Row) → 2 ≤ most → IsAhead s ds most
     → ((r : Row) → row_for s (taken s most) ≡ Some r → row ≡ r)
     → IsBestRow s ds (length ds) (Some row) × (row.count ≡ taken s most)
 best_ahead s ds most row some ahead same =
-    let known = ahead some in
-    let reported : row ≡ known.2.0 = same known.2.0 known.2.1.0 in (
-      subst (λ (r : Row). IsBestRow s ds (length ds) (Some r)) (sym reported) known.2.1.1,
-      ap (λ (r : Row). r.count) reported ∙ (row_is s (taken s most) known.2.0 known.2.1.0).1,
+    let known = row_ahead s ds most some ahead in
+    let reported : row ≡ known.0 = same known.0 known.1.0 in (
+      subst (λ (r : Row). IsBestRow s ds (length ds) (Some r)) (sym reported) known.1.1,
+      ap (λ (r : Row). r.count) reported ∙ (row_is s (taken s most) known.0 known.1.0).1,
     )
 
 shorter : (w : ℕ) (z : ℤ) → w ≤ 15 → IsWithin w z → IsWithin 16 z
@@ -295,19 +314,3 @@ fullest_few s ds code word used full =
     let fits = spelled_fits s (take used ds) (omega (arith, long, some)) (code, (word, full.spelled)) in
     let row = row_is s (length (take used ds)) fits.row fits.found in
     omega (arith, row.0.most, row.1, long)
-
--- what is left of the differences behind some of those that were left
-pub rest_of : (ds left : List ℤ) (at : ℕ) → left ≡ drop (length ds - length left) ds
-    → drop at left ≡ drop (length ds - length left + at) ds
-rest_of ds left at e = ap (λ (xs : List ℤ). drop at xs) e ∙ drop-drop at (length ds - length left) ds
-
--- the rest of a list whose length is known
-pub rest_long : (n at : ℕ) (xs : List ℤ) → length xs ≡ n → take (n - at) (drop at xs) ≡ drop at xs
-rest_long n at xs long = subst (λ (m : ℕ). take (m - at) (drop at xs) ≡ drop at xs) long (take_rest xs at)
-
--- where two or more are held, the place is one of which is reported
-pub word_known : (s : Scheme) (ds : List ℤ) (most : List ℕ) (cut : List ℤ) (at held : ℕ) → Tells s ds most cut
-    → at ≤ 64 → held ≡ get_or most at 0 → 2 ≤ held → at < 57
-word_known s ds most cut at held reported to e some = ⊎_elim (λ (h : at < 57). h)
-    (λ (h : 57 ≤ at). absurd (omega (arith, some, e, reported.1 at h (omega (arith, to)))))
-    (cases_lt at 57)

@@ -6,7 +6,8 @@ use Rattle.mseed_steim.specs.declared.layout.LayoutOne.{LayoutOne}
 use Rattle.mseed_steim.specs.declared.layout.LayoutTwo.{LayoutTwo}
 use Rattle.mseed_steim.specs.declared.layout.TheConstants.{LAYOUTS_ONE, LAYOUTS_TWO}
 use Rattle.mseed_steim.specs.private.Rows.{row_for}
-use Rattle.mseed_steim.specs.private.Ahead.{IsLayoutOne, IsLayoutTwo, taken}
+use Rattle.mseed_steim.specs.private.Ahead.{IsLayoutOne, IsLayoutTwo}
+use Rattle.mseed_steim.specs.Lookahead.{taken}
 use Rattle.mseed_steim.proofs.Below.{eight}
 
 abbrev InTwo : LayoutTwo → ℕ → Type 0

@@ -39,6 +39,7 @@ pub mod Filling
 pub mod Sizes
 pub mod Layouts
 pub mod Held
+pub mod Lookaheads
 pub mod Coding
 pub mod OnePacking
 pub mod Widened

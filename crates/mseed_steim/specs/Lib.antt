@@ -8,4 +8,6 @@ pub mod Samples
 pub mod Reading
 pub mod Nearness
 pub mod Packing
+pub mod Packed
+pub mod Lookahead
 pub mod private

@@ -9,4 +9,3 @@ pub mod Unpacked
 pub mod Sums
 pub mod Rows
 pub mod Ahead
-pub mod Packed

@@ -1,11 +1,13 @@
 //! How many differences the next words take, found ahead, for many places at once.
 
-ghost use Rattle.std.specs.Prelude.{◌≡◌, ◌⊎◌, ◌↔◌, ◌≤◌, ◌<◌, ◌+◌, ℕ, ℤ, List, pos, drop, length, map, slice_index};
+ghost use Rattle.std.specs.Prelude.{◌≡◌, ◌⊎◌, ◌↔◌, ◌≤◌, ◌<◌, ◌+◌, ◌++◌, ℕ, ℤ, List, pos, drop, length, map, slice_index};
 ghost use Rattle.std.specs.Prelude.{slice_index_or};
 ghost use Rattle.std.specs.Simd.Lanes.{Each1};
 ghost use Rattle.mseed_steim.specs.declared.scheme.Scheme.TheVariants.{One, Two};
 ghost use Rattle.mseed_steim.specs.private.Ahead.{near_size, size_of, raised, most_one, most_two, most_with};
-ghost use Rattle.mseed_steim.specs.private.Ahead.{AreSame, IsAhead, IsMost, Tells};
+ghost use Rattle.mseed_steim.specs.private.Ahead.{IsMost};
+ghost use Rattle.mseed_steim.specs.Lookahead.{AreSame, IsAhead, IsLookahead};
+ghost use Rattle.mseed_steim.specs.declared.scheme.Scheme.{Scheme};
 ghost use Rattle.mseed_steim.specs.Spelling.{IsWithin};
 
 use crate::lanes::{Rows, look_up};
@@ -26,6 +28,47 @@ pub(crate) type Most = [u8; ROOM];
 
 /// Differences cut off at 16 bits.
 pub(crate) type Cut = [i16; AHEAD];
+
+/// What is known of the differences that come next in a series. It is kept from one record to the next by
+/// [`crate::pack_words_ahead`], so that each difference is looked at once.
+#[derive(Drop)]
+pub struct Lookahead {
+    /// By place, how many differences are narrow enough for a word that takes so many, where it's two or more. Where
+    /// it's less, nothing is known.
+    pub most: [u8; ROOM],
+    /// In Steim-2 the differences themselves, or the nearest to each of the numbers of 16 bits.
+    pub cut: [i16; AHEAD],
+    /// The place of the difference that comes next.
+    pub place: usize,
+}
+
+impl Lookahead {
+    /// Nothing is known, whatever comes.
+    pub fn new() -> Lookahead
+        ensures { (scheme : Scheme) (ds : List ℤ) → IsLookahead scheme result ds }
+    {
+        Lookahead {
+            most: [0; ROOM],
+            cut: [0; AHEAD],
+            place: KNOWN,
+        }
+    }
+
+    /// The place of the first of so many differences that come next, or the first place of which nothing is known,
+    /// where nothing is known of them alone.
+    #[inline(always)]
+    pub(crate) fn begin(&self, count: usize) -> usize
+        requires { self.now.place ≤ 64 }
+        ensures { (scheme : Scheme) (ds more : List ℤ) → length ds ≡ count → IsLookahead scheme self.now (ds ++ more)
+            → IsLookahead scheme (record { most = self.now.most; cut = self.now.cut; place = result }) ds }
+    {
+        if count < AHEAD || self.most[self.place] < 2 {
+            KNOWN
+        } else {
+            self.place
+        }
+    }
+}
 
 /// Half the size of a difference, or 32767 where that is larger.
 #[inline(always)]
@@ -240,7 +283,7 @@ fn look_ahead(scheme: Scheme, diffs: &[i32], most: &mut Most, cut: &mut Cut)
 /// them: at others, and where fewer than 64 differences are left. In Steim-2 those of which anything is known are cut
 /// off at 16 bits besides.
 pub(crate) fn look(scheme: Scheme, diffs: &[i32], most: &mut Most, cut: &mut Cut)
-    ensures { Tells scheme diffs.now most.new cut.new }
+    ensures { IsLookahead scheme (record { most = most.new; cut = cut.new; place = 0 }) diffs.now }
 {
     if diffs.len() < AHEAD {
         *most = [0; ROOM];

@@ -1,12 +1,14 @@
 //! Laws of readings and of packing.
 
-ghost use Rattle.std.specs.Prelude.{◌≡◌, ◌<◌, List, ℤ, length, ℕ, drop, take};
+ghost use Rattle.std.specs.Prelude.{◌≡◌, ◌<◌, ◌++◌, List, ℤ, length, ℕ, drop, take};
 ghost use Rattle.mseed_record.specs.View.{View};
 ghost use Rattle.mseed_steim.specs.declared.fault.ReadFault.{ReadFault};
 ghost use Rattle.mseed_steim.specs.Reading.{count_of, Denies, HasOneReading, IsFault, IsReading, IsWhole};
 ghost use Rattle.mseed_steim.specs.declared.scheme.Scheme.{Scheme};
 ghost use Rattle.mseed_steim.specs.declared.scheme.Scheme.TheVariants.{Two};
+ghost use Rattle.mseed_steim.specs.declared.ahead.Lookahead.{Lookahead};
 ghost use Rattle.mseed_steim.specs.Frames.{DataWord};
+ghost use Rattle.mseed_steim.specs.Lookahead.{IsLookahead};
 ghost use Rattle.mseed_steim.specs.Packing.{IsFewest, IsFullest, PacksRun, contents};
 ghost use Rattle.mseed_steim.specs.Runs.{SpellsRun};
 
@@ -34,6 +36,12 @@ pub fn one_packing()
         → (c ≡ d) × (w ≡ v) × (u ≡ t) }
     ensures run { (s : Scheme) (ws vs : List DataWord) (ds rest more : List ℤ) → PacksRun s ws ds rest
         → PacksRun s vs ds more → length ws ≡ length vs → (contents ws ≡ contents vs) × (rest ≡ more) }
+{}
+
+/// What is known ahead of differences is known of all that begin with them.
+pub fn lookahead_stays()
+    ensures { (s : Scheme) (known : Lookahead) (ds more : List ℤ) → IsLookahead s known ds
+        → IsLookahead s known (ds ++ more) }
 {}
 
 /// One number of words is the fewest of some differences.

@@ -2,7 +2,8 @@
 
 ghost use Rattle.std.specs.Prelude.{◌≡◌, ◌*◌, ◌+◌, ◌%◌, ◌^◌, ◌<◌, ◌≤◌, List, ℤ, Some, length, pos, slice_index_or};
 ghost use Rattle.std.specs.Prelude.{take};
-ghost use Rattle.mseed_steim.specs.private.Ahead.{AreCut, IsAhead, IsCut, IsLayoutOne, IsLayoutTwo, bits_of, taken};
+ghost use Rattle.mseed_steim.specs.Lookahead.{AreCut, IsAhead, IsCut, taken};
+ghost use Rattle.mseed_steim.specs.private.Ahead.{IsLayoutOne, IsLayoutTwo, bits_of};
 ghost use Rattle.mseed_steim.specs.Packing.{IsFullest};
 ghost use Rattle.mseed_steim.specs.private.Rows.{row_for};
 ghost use Rattle.mseed_steim.specs.Spelling.{positional, residue};

@@ -29,13 +29,19 @@ mod walk;
 mod widen;
 mod word;
 
+pub use ahead::Lookahead;
 pub use check::check_samples;
 pub use differences::{BadWordAt, Differences};
 pub use ends::{ends_of, is_surely_near};
 pub use fault::{Ends, ReadFault};
 pub use known::unpack_differences;
-pub use law::{one_fault, one_fewest, one_packing, one_reading, packed_spells, reading_has_count};
-pub use pack::{Packed, TooLarge, TooLargeAt, least_words, pack_word, pack_words};
+pub use law::{
+    lookahead_stays, one_fault, one_fewest, one_packing, one_reading, packed_spells,
+    reading_has_count,
+};
+pub use pack::{
+    Packed, TooLarge, TooLargeAt, least_words, pack_word, pack_words, pack_words_ahead,
+};
 pub use read::{fill_differences, fill_samples, is_steim, read_samples};
 pub use scheme::Scheme;
 pub use widen::widen_bytes;

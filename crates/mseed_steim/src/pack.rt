@@ -2,17 +2,17 @@
 
 ghost use Rattle.std.specs.Prelude.{◌≡◌, ◌⊎◌, ◌↔◌, ℕ, ◌+◌, ◌-◌, ◌*◌, ◌%◌, ◌^◌, ◌<◌, ◌≤◌, ◌==◌, if◌then◌else◌};
 ghost use Rattle.std.specs.Prelude.{Err, IfOk};
-ghost use Rattle.std.specs.Prelude.{MatchResult, length, take, drop};
+ghost use Rattle.std.specs.Prelude.{MatchResult, List, ℤ, ◌++◌, length, take, drop};
 ghost use Rattle.std.specs.List.{AllByRecursion};
 ghost use Rattle.mseed_steim.specs.declared.scheme.Scheme.TheVariants.{Two};
-ghost use Rattle.mseed_steim.specs.private.Ahead.{IsAhead, IsCut};
-ghost use Rattle.mseed_steim.specs.private.Packed.{IsRunPacked};
+ghost use Rattle.mseed_steim.specs.Lookahead.{IsAhead, IsCut, IsLookahead};
+ghost use Rattle.mseed_steim.specs.Packed.{IsRunPacked};
 ghost use Rattle.mseed_steim.specs.Frames.{code_at, data_words, word_at, word_count};
 ghost use Rattle.mseed_steim.specs.Packing.{IsEmptyWord, IsFarthest, IsFewest, IsFirstTooLarge, IsFullest};
 ghost use Rattle.mseed_steim.specs.Packing.{IsTooLargeAt, LeavesRoom, PacksRun};
 ghost use Rattle.mseed_steim.specs.Runs.{SpellsRun};
 
-use crate::ahead::{AHEAD, KNOWN, ROOM, look};
+use crate::ahead::{KNOWN, Lookahead, look};
 use crate::data_words::{FRAME, WORD};
 use crate::layout::word_ahead;
 use crate::row::{fullest_row, word_of};
@@ -108,45 +108,49 @@ fn codes_to(codes: u32, index: usize) -> u32
     codes << (30 - 2 * ((index - 1) % FRAME) as u32)
 }
 
-/// The same, by one relation, from which the clauses of [`pack_words`] follow.
+/// As [`pack_words_ahead`], for one scheme.
 #[inline(always)]
-fn pack_run(scheme: Scheme, diffs: &[i32], frames: &mut [u8]) -> Result<Packed, TooLargeAt>
+fn pack_run(
+    scheme: Scheme,
+    diffs: &[i32],
+    known: &mut Lookahead,
+    frames: &mut [u8],
+) -> Result<Packed, TooLargeAt>
     requires some { 0 < length frames.old }
     requires whole { length frames.old % 64 ≡ 0 }
-    ensures { IsRunPacked scheme diffs.now frames.new result }
+    requires known { (more : List ℤ) × IsLookahead scheme known.old (diffs.now ++ more) }
+    ensures packed { IsRunPacked scheme diffs.now frames.new result }
+    ensures known { IfOk result (λ p. IsLookahead scheme known.new (drop p.used diffs.now)) }
 {
     frames.fill(0);
     let mut index = 3;
     // The frame that is being filled: its first word, and the codes that belong there.
     let mut head = 0;
     let mut codes = 0;
-    // The differences from the place where was looked ahead last, how many of them are packed, and what was found.
+    // The differences that are left, and the place of the first of them in what is known ahead.
     let mut left = diffs;
-    let mut at = 0;
-    let mut most = [0; ROOM];
-    let mut cut = [0; AHEAD];
-    look(scheme, left, &mut most, &mut cut);
+    let mut place = known.begin(diffs.len());
     'filling: loop {
         while index < head + FRAME {
-            let held = usize::from(most[at]);
+            let held = usize::from(known.most[place]);
             if held < 2 {
-                if at == left.len() {
+                if left.is_empty() {
                     break 'filling;
                 }
-                if KNOWN <= at {
-                    left = &left[at..];
-                    at = 0;
-                    look(scheme, left, &mut most, &mut cut);
+                if KNOWN <= place {
+                    place = 0;
+                    look(scheme, left, &mut known.most, &mut known.cut);
                     continue;
                 }
             }
-            let Ok((code, word, count)) = next_word(scheme, held, &left[at..], &cut[at..]) else {
-                let index = diffs.len() - left.len() + at;
+            let Ok((code, word, count)) = next_word(scheme, held, left, &known.cut[place..]) else {
+                let index = diffs.len() - left.len();
                 return Err(TooLargeAt { index });
             };
             write_word(frames, index, word);
             codes = with_code(codes, code);
-            at += count;
+            left = &left[count..];
+            place += count;
             index += 1;
         }
         if index == frames.len() / WORD {
@@ -158,8 +162,9 @@ fn pack_run(scheme: Scheme, diffs: &[i32], frames: &mut [u8]) -> Result<Packed, 
         index += 1;
     }
     write_word(frames, head, codes_to(codes, index));
+    known.place = place;
     Ok(Packed {
-        used: diffs.len() - left.len() + at,
+        used: diffs.len() - left.len(),
         words: index - 3 - (index - 1) / FRAME,
     })
 }
@@ -195,10 +200,34 @@ pub fn pack_words(scheme: Scheme, diffs: &[i32], frames: &mut [u8]) -> Result<Pa
         → (result ≡ Err (record { index = i })) ↔ (IsFirstTooLarge scheme diffs.now i
         × LeavesRoom scheme (take i diffs.now) (length (data_words frames.new))) }
 {
+    pack_words_ahead(scheme, diffs, &mut Lookahead::new(), frames)
+}
+
+/// Packs the differences of a series into the frames of one record after another, as [`pack_words`] does. What is found
+/// ahead of the differences is kept for the next call, which is given those that this one didn't use, or the first of
+/// them, and any number of further ones.
+///
+/// # Errors
+///
+/// `TooLargeAt` as `pack_words` does; what is known then is open.
+pub fn pack_words_ahead(
+    scheme: Scheme,
+    diffs: &[i32],
+    known: &mut Lookahead,
+    frames: &mut [u8],
+) -> Result<Packed, TooLargeAt>
+    requires some { 0 < length frames.old }
+    requires whole { length frames.old % 64 ≡ 0 }
+    requires known { (more : List ℤ) × IsLookahead scheme known.old (diffs.now ++ more) }
+    // What is packed, and what is refused, is what it is by `pack_words`.
+    ensures packed { IsRunPacked scheme diffs.now frames.new result }
+    // What is known is known of the differences that weren't used.
+    ensures known { IfOk result (λ p. IsLookahead scheme known.new (drop p.used diffs.now)) }
+{
     // A body for each scheme, with its own table and lanes.
     match scheme {
-        Scheme::One => pack_run(Scheme::One, diffs, frames),
-        Scheme::Two => pack_run(Scheme::Two, diffs, frames),
+        Scheme::One => pack_run(Scheme::One, diffs, known, frames),
+        Scheme::Two => pack_run(Scheme::Two, diffs, known, frames),
     }
 }
 

@@ -1,11 +1,10 @@
--- How many differences words hold, by the sizes of single differences.
-use Rattle.std.specs.Prelude.{◌≡◌, ◌↔◌, ℕ, ◌+◌, ◌-◌, ◌*◌, ◌/◌, ◌%◌, ◌^◌, ◌<◌, ◌≤◌, ◌==◌, nat_lt, if◌then◌else◌}
-use Rattle.std.specs.Prelude.{List, length, drop, ℤ, pos, negsuc, slice_index_or, Some}
+-- How many differences words hold, by the sizes of single differences, and how they are joined.
+use Rattle.std.specs.Prelude.{◌≡◌, ◌↔◌, ℕ, ◌+◌, ◌-◌, ◌*◌, ◌/◌, ◌%◌, ◌^◌, ◌<◌, ◌≤◌, nat_lt, if◌then◌else◌}
+use Rattle.std.specs.Prelude.{List, ℤ, pos, negsuc, slice_index_or, Some}
 use Rattle.mseed_steim.specs.declared.row.Row.{Row}
 use Rattle.mseed_steim.specs.declared.layout.LayoutOne.{LayoutOne}
 use Rattle.mseed_steim.specs.declared.layout.LayoutTwo.{LayoutTwo}
-use Rattle.mseed_steim.specs.Spelling.{IsWithin}
-use Rattle.mseed_steim.specs.private.Rows.{row_for, place_of, AreMasks, ArePlaces, IsBestRow}
+use Rattle.mseed_steim.specs.private.Rows.{row_for, place_of, AreMasks, ArePlaces}
 use Rattle.mseed_steim.specs.declared.scheme.Scheme.{Scheme}
 use Rattle.mseed_steim.specs.declared.scheme.Scheme.TheVariants.{One, Two}
 
@@ -42,18 +41,6 @@ most_with Two = most_two
 abbrev pub IsMost : List ℕ → ℕ → ℕ → Type 0
 IsMost items from most = (k : ℕ) → (k ≤ most) ↔ ((j : ℕ) → j < k → j < 7 → k ≤ slice_index_or items (from + j) 0)
 
--- how many of them a word takes: Steim-1 has no word of three
-abbrev pub taken : Scheme → ℕ → ℕ
-taken One most = if most == 3 then 2 else most
-taken Two most = most
-
--- Where two or more are held, this is the row that takes the largest number of the differences, of which there are
--- eight or more.
-abbrev pub IsAhead : Scheme → List ℤ → ℕ → Type 0
-IsAhead scheme ds most =
-    2 ≤ most → (most ≤ 7) × (8 ≤ length ds)
-    × ((row : Row) × ((row_for scheme (taken scheme most) ≡ Some row) × IsBestRow scheme ds (length ds) (Some row)))
-
 -- a row's bits of one difference, and what its differences count for
 abbrev pub IsLayoutOne : LayoutOne → Type 0
 IsLayoutOne layout =
@@ -76,23 +63,3 @@ pub record IsLayoutTwo (layout : LayoutTwo) : Type 0 where
   pub places : (i : ℕ) → i < 8
       → bits_of (slice_index_or layout.weights i (pos 0)) * slice_index_or layout.counts (i / 2) 0 % 2 ^ 32
       ≡ place_of layout.row.width layout.row.count i
-
--- the first n are those of the differences, where these have 16 bits at the most
-abbrev pub AreSame : ℕ → List ℤ → List ℤ → Type 0
-AreSame n ds cut = (i : ℕ) → i < n → IsWithin 16 (slice_index_or ds i (pos 0))
-    → slice_index_or cut i (pos 0) ≡ slice_index_or ds i (pos 0)
-
--- there are eight, as far as they have 16 bits at the most
-abbrev pub AreCut : List ℤ → List ℤ → Type 0
-AreCut ds cut = (8 ≤ length cut) × AreSame 8 ds cut
-
--- so there are where, in Steim-2, two or more are held
-abbrev pub IsCut : Scheme → ℕ → List ℤ → List ℤ → Type 0
-IsCut scheme most ds cut = scheme ≡ Two → 2 ≤ most → AreCut ds cut
-
--- What was found from each of the first places on is so of the differences, and nothing is reported of the last places.
-abbrev pub Tells : Scheme → List ℤ → List ℕ → List ℤ → Type 0
-Tells scheme ds most cut =
-    ((i : ℕ) → i < 80 → IsAhead scheme (drop i ds) (slice_index_or most i 0))
-    × ((i : ℕ) → 57 ≤ i → i < 80 → slice_index_or most i 0 ≡ 0)
-    × ((i : ℕ) → i < 80 → IsCut scheme (slice_index_or most i 0) (drop i ds) (drop i cut))

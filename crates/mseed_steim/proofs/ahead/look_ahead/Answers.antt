@@ -1,6 +1,9 @@
 use Rattle.std.proofs.Common.{◌≡◌, ◌∙◌, ◌<◌, ◌≤◌, ℕ, get_or, drop, ap, sym, subst, arith, pos, ⊎_elim}
+use Rattle.std.proofs.Common.{length, rules, slice_set}
 use Rattle.std.proofs.lemmas.Bool.{cases_lt}
-use Rattle.mseed_steim.specs.private.Ahead.{IsAhead, most_with}
+use Rattle.std.proofs.lemmas.List.{get_or-set_other, get_or-set_same}
+use Rattle.mseed_steim.specs.Lookahead.{IsAhead}
+use Rattle.mseed_steim.specs.private.Ahead.{most_with}
 use Rattle.mseed_steim.proofs.Held.{is_ahead, near_small}
 use Rattle.mseed_steim.proofs.ahead.look_ahead.Goals as goal
 
@@ -14,6 +17,23 @@ loop-index-init c = record {
       (λ x l. c.put_most.ensures x l ∙ ap (most_with c.args.scheme) (c.put_sizes.ensures.sizes x l))
       (c.bound.ensures i (omega (arith, h)));
   none = λ i h l. absurd (omega (arith, h, l));
+}
+
+pub loop-index-preserved : goal.loop-index-preserved
+loop-index-preserved c = record {
+  ahead = λ i h. subst (λ (x : ℕ). IsAhead c.args.scheme (drop i c.args.diffs.now) x)
+      (sym (get_or-set_other c.loop-index.most c.loop-index.index i 0 0
+      (λ e. absurd (omega (arith, e, h, c.loop-index.auto.index)))))
+      (c.loop-index.invariant.ahead i h);
+  none = λ i b h. ⊎_elim
+      (λ (l : i < c.loop-index.index). get_or-set_other c.loop-index.most c.loop-index.index i 0 0
+      (λ e. absurd (omega (arith, e, l))) ∙ c.loop-index.invariant.none i b l)
+      (λ (m : c.loop-index.index ≤ i).
+      let same : i ≡ c.loop-index.index = omega (arith, m, h) in
+      let long : length c.loop-index.most ≡ 80 = search rules in
+      subst (λ (n : ℕ). get_or (slice_set c.loop-index.most c.loop-index.index 0) n 0 ≡ 0) (sym same)
+      (get_or-set_same c.loop-index.most c.loop-index.index 0 0 (omega (arith, long, c.loop-index-test.true))))
+      (cases_lt i c.loop-index.index);
 }
 
 pub returns : goal.returns

@@ -1,5 +1,5 @@
 use Rattle.std.proofs.Common.{◌≡◌, ◌<◌, ◌≤◌, ℕ, get_or, drop}
-use Rattle.mseed_steim.specs.private.Ahead.{IsAhead}
+use Rattle.mseed_steim.specs.Lookahead.{IsAhead}
 use Rattle.mseed_steim.proofs.ahead.look_ahead.Given as goal
 
 abbrev pub invariant-loop-index : goal.invariant-loop-index

@@ -1,6 +1,7 @@
 use Rattle.std.proofs.Common.{◌≡◌, ◌<◌, ℕ, get_or, length, pos}
 use Rattle.mseed_steim.specs.declared.scheme.Scheme.TheVariants.{Two}
-use Rattle.mseed_steim.specs.private.Ahead.{AreSame, near_size, size_of}
+use Rattle.mseed_steim.specs.Lookahead.{AreSame}
+use Rattle.mseed_steim.specs.private.Ahead.{near_size, size_of}
 use Rattle.mseed_steim.proofs.ahead.put_cut.Given as goal
 
 abbrev pub invariant-loop-index : goal.invariant-loop-index

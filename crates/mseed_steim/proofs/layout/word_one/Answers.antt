@@ -3,17 +3,22 @@ use Rattle.mseed_steim.specs.declared.scheme.Scheme.TheVariants.{One}
 use Rattle.mseed_steim.specs.Packing.{IsFullest}
 use Rattle.mseed_steim.specs.Spelling.{positional}
 use Rattle.mseed_steim.proofs.Packs.{is_fullest}
-use Rattle.mseed_steim.proofs.Held.{best_ahead}
+use Rattle.mseed_steim.proofs.Held.{best_ahead, row_ahead}
 use Rattle.mseed_steim.proofs.layout.word_one.Goals as goal
+
+pub join_one-requires-clause-layout : goal.join_one-requires-clause-layout
+join_one-requires-clause-layout c =
+    let known = row_ahead One c.args.diffs.now c.args.most c.requires.some c.requires.ahead in
+    (c.layout_one-layout.ensures known.0 known.1.0).1
 
 pub returns : goal.returns
 returns c =
     let ds = c.args.diffs.now in
     let row = c.layout_one-layout.result.now.row in
-    let known = c.requires.ahead c.requires.some in
+    let known = row_ahead One ds c.args.most c.requires.some c.requires.ahead in
     let best = best_ahead One ds c.args.most row c.requires.some c.requires.ahead
     (λ r e. (c.layout_one-layout.ensures r e).0) in
-    let plain : row.dnib ≡ 0 = (c.layout_one-layout.ensures known.2.0 known.2.1.0).1.1 in
+    let plain : row.dnib ≡ 0 = (c.layout_one-layout.ensures known.0 known.1.0).1.1 in
     let word : c.join_one.result ≡ row.dnib * 2 ^ 30 + positional row.width (take row.count ds) =
     omega (arith, c.join_one.ensures, plain) in
     subst (λ (n : ℕ). IsFullest One ds c.from-code.result c.join_one.result n) (best.1 ∙ sym c.taken_one.ensures)

@@ -1,7 +1,5 @@
+use Rattle.std.proofs.Common.{[], ◌++◌}
 use Rattle.mseed_steim.proofs.pack.pack_words.Goals as goal
 
-pub returns-in-One-clause-refused : goal.returns-in-One-clause-refused
-returns-in-One-clause-refused c = rw c.in-One.is c.pack_run.ensures.refused
-
-pub returns-in-Two-clause-refused : goal.returns-in-Two-clause-refused
-returns-in-Two-clause-refused c = rw c.in-Two.is c.pack_run-in-Two.ensures.refused
+pub pack_words_ahead-requires-clause-known : goal.pack_words_ahead-requires-clause-known
+pack_words_ahead-requires-clause-known c = ([], c.new.ensures c.args.scheme (c.args.diffs.now ++ []))

@@ -1,4 +1,4 @@
--- What a run of differences that was packed into frames is: the clauses of the public call, as one relation.
+-- What a run of differences that was packed into frames is: the clauses of `pack_words`, as one relation.
 use Rattle.std.specs.Prelude.{◌≡◌, ◌⊎◌, ◌↔◌, ℕ, ℤ, ◌%◌, ◌<◌, ◌≤◌, List, Result, Err, IfOk, take, drop, length}
 use Rattle.std.specs.List.{AllByRecursion}
 use Rattle.mseed_steim.specs.declared.pack.Packed.{Packed}

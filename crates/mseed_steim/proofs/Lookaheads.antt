@@ -1,0 +1,173 @@
+-- What is known ahead: nothing, of the differences further on, and of more of them.
+use Rattle.std.proofs.Common.{◌≡◌, ℕ, ℤ, ◌+◌, ◌-◌, ◌<◌, ◌≤◌, List, ◌++◌, length, take, drop, get_or, pos, arith, refl}
+use Rattle.std.proofs.Common.{sym, subst, ◌∙◌, ⊎_elim, replicate, zero, suc}
+use Rattle.std.proofs.lemmas.Bool.{cases_lt}
+use Rattle.std.proofs.lemmas.List.{drop-drop, drop-append-le, get_or_append_left, length-append, length-drop}
+use Rattle.std.proofs.lemmas.List.{take-append-le}
+use Rattle.mseed_steim.specs.declared.ahead.Lookahead.{Lookahead}
+use Rattle.mseed_steim.specs.declared.scheme.Scheme.{Scheme}
+use Rattle.mseed_steim.specs.Lookahead.{IsAhead, AreCut, IsCut, IsLookahead, taken}
+use Rattle.mseed_steim.specs.Packing.{CanSpell}
+use Rattle.mseed_steim.specs.Spelling.{IsWithin}
+use Rattle.mseed_steim.proofs.Fullest.{prefix_fits}
+use Rattle.mseed_steim.proofs.Held.{taken_some}
+use Rattle.mseed_steim.proofs.Rows.{row_is}
+
+abbrev pub known_at : List ℕ → List ℤ → ℕ → Lookahead
+known_at most cut place = record { most = most; cut = cut; place = place }
+
+zero_at : (n i : ℕ) → get_or {A = ℕ} (replicate n 0) i 0 ≡ 0
+zero_at zero i = refl
+zero_at (suc n) zero = refl
+zero_at (suc n) (suc i) = zero_at n i
+
+-- fewer than two are known to be held: so nothing is known
+nothing : (s : Scheme) (ds : List ℤ) (most : ℕ) → most < 2 → IsAhead s ds most
+nothing s ds most less some = absurd (omega (arith, less, some))
+
+uncut : (s : Scheme) (ds cut : List ℤ) (most : ℕ) → most < 2 → IsCut s most ds cut
+uncut s ds cut most less two some = absurd (omega (arith, less, some))
+
+-- nothing is reported
+pub known_none : (s : Scheme) (ds cut : List ℤ) (place : ℕ) → place ≤ 64
+    → IsLookahead s (known_at (replicate 80 0) cut place) ds
+known_none s ds cut place h = record {
+  place = h;
+  ahead = λ i l. let none = zero_at 80 (i + place) in nothing s (drop i ds) _ (omega (arith, none));
+  none = λ i low h. zero_at 80 i;
+  cut = λ i l. let none = zero_at 80 (i + place) in uncut s (drop i ds) (drop (i + place) cut) _ (omega (arith, none));
+}
+
+-- nothing is known of the last places
+pub known_past : (s : Scheme) (known : Lookahead) (ds others : List ℤ) → IsLookahead s known others
+    → IsLookahead s (known_at known.most known.cut 57) ds
+known_past s known ds others is = record {
+  place = omega arith;
+  ahead = λ i l. let none = is.none (i + 57) (omega arith) l in nothing s (drop i ds) _ (omega (arith, none));
+  none = is.none;
+  cut = λ i l. let none = is.none (i + 57) (omega arith) l in
+      uncut s (drop i ds) (drop (i + 57) known.cut) _ (omega (arith, none));
+}
+
+-- it's known as well from a later place on
+pub known_next : (s : Scheme) (most : List ℕ) (cut : List ℤ) (place count : ℕ) (ds : List ℤ)
+    → IsLookahead s (known_at most cut place) ds → place + count ≤ 64
+    → IsLookahead s (known_at most cut (place + count)) (drop count ds)
+known_next s most cut place count ds is h = record {
+  place = h;
+  ahead = λ i l. let same : count + i + place ≡ i + (place + count) = omega arith in
+      subst (λ (n : ℕ). IsAhead s (drop i (drop count ds)) (get_or most n 0)) same
+      (subst (λ (xs : List ℤ). IsAhead s xs (get_or most (count + i + place) 0)) (sym (drop-drop i count ds))
+      (is.ahead (count + i) (omega (arith, l))));
+  none = is.none;
+  cut = λ i l. let same : count + i + place ≡ i + (place + count) = omega arith in
+      subst (λ (n : ℕ). IsCut s (get_or most n 0) (drop i (drop count ds)) (drop n cut)) same
+      (subst (λ (xs : List ℤ). IsCut s (get_or most (count + i + place) 0) xs (drop (count + i + place) cut))
+      (sym (drop-drop i count ds)) (is.cut (count + i) (omega (arith, l))));
+}
+
+-- what is known of the differences that come next
+pub known_here : (s : Scheme) (known : Lookahead) (ds : List ℤ) → IsLookahead s known ds
+    → IsAhead s ds (get_or known.most known.place 0)
+    × IsCut s (get_or known.most known.place 0) ds (drop known.place known.cut)
+known_here s known ds is =
+    let same : 0 + known.place ≡ known.place = omega arith in
+    let inside : 0 + known.place < 80 = omega (arith, is.place) in (
+      subst (λ (n : ℕ). IsAhead s ds (get_or known.most n 0)) same (is.ahead 0 inside),
+      subst (λ (n : ℕ). IsCut s (get_or known.most n 0) ds (drop n known.cut)) same (is.cut 0 inside),
+    )
+
+-- where two or more are held, the place is one of which something is known
+pub known_early : (s : Scheme) (known : Lookahead) (ds : List ℤ) (held : ℕ) → IsLookahead s known ds
+    → held ≡ get_or known.most known.place 0 → 2 ≤ held → known.place < 57
+known_early s known ds held is e some = ⊎_elim (λ (h : known.place < 57). h)
+    (λ (h : 57 ≤ known.place). absurd (omega (arith, some, e, is.none known.place h (omega (arith, is.place)))))
+    (cases_lt known.place 57)
+
+-- No word takes more where more differences follow: it has seven at the most.
+ahead_more : (s : Scheme) (ds more : List ℤ) (most : ℕ) → IsAhead s ds most → IsAhead s (ds ++ more) most
+ahead_more s ds more most is some =
+    let known = is some in
+    let least = taken_some s most some known.0 in
+    let inside : taken s most ≤ length ds = omega (arith, least.1, known.0, known.1) in (
+      known.0,
+      omega (arith, known.1, length-append ds more),
+      subst (λ (xs : List ℤ). CanSpell s xs) (sym (take-append-le (taken s most) ds more inside)) known.2,
+      λ k over low can. ⊎_elim
+          (λ (a : k < length ds + 1). known.3 k over (omega (arith, a))
+          (subst (λ (xs : List ℤ). CanSpell s xs) (take-append-le k ds more (omega (arith, a))) can))
+          (λ (b : length ds + 1 ≤ k).
+          let fits = prefix_fits s (ds ++ more) k (omega (arith, b)) low can in
+          let row = row_is s k fits.0 fits.1.0 in
+          omega (arith, row.0.most, row.1, b, known.1))
+          (cases_lt k (length ds + 1)),
+    )
+
+-- what is left of differences that more follow, where eight are left
+rest_more : (ds more : List ℤ) (i : ℕ) → 8 ≤ length (drop i ds) → drop i (ds ++ more) ≡ drop i ds ++ more
+rest_more ds more i h = drop-append-le i ds more (omega (arith, h, length-drop i ds))
+
+-- what is known of differences is known of all that begin with them
+pub known_more : (s : Scheme) (known : Lookahead) (ds more : List ℤ) → IsLookahead s known ds
+    → IsLookahead s known (ds ++ more)
+known_more s known ds more is = record {
+  place = is.place;
+  ahead = λ i l some.
+      let most = get_or known.most (i + known.place) 0 in
+      let here = is.ahead i l in
+      subst (λ (xs : List ℤ). IsAhead s xs most) (sym (rest_more ds more i (here some).1))
+      (ahead_more s (drop i ds) more most here) some;
+  none = is.none;
+  cut = λ i l two some.
+      let eight = (is.ahead i l some).1 in
+      let here = is.cut i l two some in
+      subst (λ (xs : List ℤ). AreCut xs (drop (i + known.place) known.cut)) (sym (rest_more ds more i eight)) (
+        here.0,
+        λ j less within.
+            let same = get_or_append_left (drop i ds) more (pos 0) j (omega (arith, less, eight)) in
+            here.1 j less (subst (λ (z : ℤ). IsWithin 16 z) same within) ∙ sym same,
+      );
+}
+
+-- What is known of differences is known of the first of them, where these are as many as are looked at.
+pub known_first : (s : Scheme) (known : Lookahead) (ds more : List ℤ) → 64 ≤ length ds
+    → IsLookahead s known (ds ++ more) → IsLookahead s known ds
+known_first s known ds more long is = record {
+  place = is.place;
+  ahead = λ i l some.
+      let few = eight_left i l some in
+      let known_of : IsAhead s (drop i ds ++ more) (get_or known.most (i + known.place) 0) =
+      subst (λ (xs : List ℤ). IsAhead s xs (get_or known.most (i + known.place) 0)) (rest_more ds more i few)
+      (is.ahead i l) in
+      ahead_first s (drop i ds) more _ few known_of some;
+  none = is.none;
+  cut = λ i l two some.
+      let few = eight_left i l some in
+      let here : AreCut (drop i ds ++ more) (drop (i + known.place) known.cut) =
+      subst (λ (xs : List ℤ). AreCut xs (drop (i + known.place) known.cut)) (rest_more ds more i few)
+      (is.cut i l two some) in (
+        here.0,
+        λ j less within.
+            let same = get_or_append_left (drop i ds) more (pos 0) j (omega (arith, less, few)) in
+            here.1 j less (subst (λ (z : ℤ). IsWithin 16 z) (sym same) within) ∙ same,
+      );
+}
+  where
+    eight_left : (i : ℕ) → i + known.place < 80 → 2 ≤ get_or known.most (i + known.place) 0 → 8 ≤ length (drop i ds)
+    eight_left i l some = ⊎_elim
+        (λ (a : i + known.place < 57). omega (arith, a, long, length-drop i ds))
+        (λ (b : 57 ≤ i + known.place). absurd (omega (arith, some, is.none (i + known.place) b l)))
+        (cases_lt (i + known.place) 57)
+
+    ahead_first : (s : Scheme) (xs more : List ℤ) (most : ℕ) → 8 ≤ length xs → IsAhead s (xs ++ more) most
+        → IsAhead s xs most
+    ahead_first s xs more most few is some =
+        let known = is some in
+        let least = taken_some s most some known.0 in
+        let inside : taken s most ≤ length xs = omega (arith, least.1, known.0, few) in (
+          known.0,
+          few,
+          subst (λ (ys : List ℤ). CanSpell s ys) (take-append-le (taken s most) xs more inside) known.2,
+          λ k over low can. known.3 k over (omega (arith, low, length-append xs more))
+              (subst (λ (ys : List ℤ). CanSpell s ys) (sym (take-append-le k xs more low)) can),
+        )
