@@ -22,10 +22,10 @@ zero_at (suc n) zero = refl
 zero_at (suc n) (suc i) = zero_at n i
 
 -- fewer than two are known to be held: so nothing is known
-nothing : (s : Scheme) (ds : List ℤ) (most : ℕ) → most < 2 → IsAhead s ds most
+pub nothing : (s : Scheme) (ds : List ℤ) (most : ℕ) → most < 2 → IsAhead s ds most
 nothing s ds most less some = absurd (omega (arith, less, some))
 
-uncut : (s : Scheme) (ds cut : List ℤ) (most : ℕ) → most < 2 → IsCut s most ds cut
+pub uncut : (s : Scheme) (ds cut : List ℤ) (most : ℕ) → most < 2 → IsCut s most ds cut
 uncut s ds cut most less two some = absurd (omega (arith, less, some))
 
 -- nothing is reported
@@ -129,45 +129,54 @@ known_more s known ds more is = record {
       );
 }
 
+-- what is known where more follow is known without them, where eight are left
+ahead_first : (s : Scheme) (xs more : List ℤ) (most : ℕ) → 8 ≤ length xs → IsAhead s (xs ++ more) most → IsAhead s xs most
+ahead_first s xs more most few is some =
+    let known = is some in
+    let least = taken_some s most some known.0 in
+    let inside : taken s most ≤ length xs = omega (arith, least.1, known.0, few) in (
+      known.0,
+      few,
+      subst (λ (ys : List ℤ). CanSpell s ys) (take-append-le (taken s most) xs more inside) known.2,
+      λ k over low can. known.3 k over (omega (arith, low, length-append xs more))
+          (subst (λ (ys : List ℤ). CanSpell s ys) (sym (take-append-le k xs more low)) can),
+    )
+
+cut_first : (xs more cut : List ℤ) → 8 ≤ length xs → AreCut (xs ++ more) cut → AreCut xs cut
+cut_first xs more cut few is = (
+  is.0,
+  λ j less within.
+      let same = get_or_append_left xs more (pos 0) j (omega (arith, less, few)) in
+      is.1 j less (subst (λ (z : ℤ). IsWithin 16 z) (sym same) within) ∙ same,
+)
+
+-- so is it from a place on
+pub few_ahead : (s : Scheme) (ds more : List ℤ) (i most : ℕ) → i + 8 ≤ length ds → IsAhead s (drop i (ds ++ more)) most
+    → IsAhead s (drop i ds) most
+few_ahead s ds more i most room is =
+    let few : 8 ≤ length (drop i ds) = omega (arith, room, length-drop i ds) in
+    ahead_first s (drop i ds) more most few
+    (subst (λ (xs : List ℤ). IsAhead s xs most) (rest_more ds more i few) is)
+
+pub few_cut : (s : Scheme) (ds more cut : List ℤ) (i most : ℕ) → i + 8 ≤ length ds
+    → IsCut s most (drop i (ds ++ more)) cut → IsCut s most (drop i ds) cut
+few_cut s ds more cut i most room is two some =
+    let few : 8 ≤ length (drop i ds) = omega (arith, room, length-drop i ds) in
+    cut_first (drop i ds) more cut few
+    (subst (λ (xs : List ℤ). AreCut xs cut) (rest_more ds more i few) (is two some))
+
 -- What is known of differences is known of the first of them, where these are as many as are looked at.
 pub known_first : (s : Scheme) (known : Lookahead) (ds more : List ℤ) → 64 ≤ length ds
     → IsLookahead s known (ds ++ more) → IsLookahead s known ds
 known_first s known ds more long is = record {
   place = is.place;
-  ahead = λ i l some.
-      let few = eight_left i l some in
-      let known_of : IsAhead s (drop i ds ++ more) (get_or known.most (i + known.place) 0) =
-      subst (λ (xs : List ℤ). IsAhead s xs (get_or known.most (i + known.place) 0)) (rest_more ds more i few)
-      (is.ahead i l) in
-      ahead_first s (drop i ds) more _ few known_of some;
+  ahead = λ i l some. few_ahead s ds more i _ (eight_left i l some) (is.ahead i l) some;
   none = is.none;
-  cut = λ i l two some.
-      let few = eight_left i l some in
-      let here : AreCut (drop i ds ++ more) (drop (i + known.place) known.cut) =
-      subst (λ (xs : List ℤ). AreCut xs (drop (i + known.place) known.cut)) (rest_more ds more i few)
-      (is.cut i l two some) in (
-        here.0,
-        λ j less within.
-            let same = get_or_append_left (drop i ds) more (pos 0) j (omega (arith, less, few)) in
-            here.1 j less (subst (λ (z : ℤ). IsWithin 16 z) (sym same) within) ∙ same,
-      );
+  cut = λ i l two some. few_cut s ds more _ i _ (eight_left i l some) (is.cut i l) two some;
 }
   where
-    eight_left : (i : ℕ) → i + known.place < 80 → 2 ≤ get_or known.most (i + known.place) 0 → 8 ≤ length (drop i ds)
+    eight_left : (i : ℕ) → i + known.place < 80 → 2 ≤ get_or known.most (i + known.place) 0 → i + 8 ≤ length ds
     eight_left i l some = ⊎_elim
-        (λ (a : i + known.place < 57). omega (arith, a, long, length-drop i ds))
+        (λ (a : i + known.place < 57). omega (arith, a, long))
         (λ (b : 57 ≤ i + known.place). absurd (omega (arith, some, is.none (i + known.place) b l)))
         (cases_lt (i + known.place) 57)
-
-    ahead_first : (s : Scheme) (xs more : List ℤ) (most : ℕ) → 8 ≤ length xs → IsAhead s (xs ++ more) most
-        → IsAhead s xs most
-    ahead_first s xs more most few is some =
-        let known = is some in
-        let least = taken_some s most some known.0 in
-        let inside : taken s most ≤ length xs = omega (arith, least.1, known.0, few) in (
-          known.0,
-          few,
-          subst (λ (ys : List ℤ). CanSpell s ys) (take-append-le (taken s most) xs more inside) known.2,
-          λ k over low can. known.3 k over (omega (arith, low, length-append xs more))
-              (subst (λ (ys : List ℤ). CanSpell s ys) (sym (take-append-le k xs more low)) can),
-        )

@@ -20,6 +20,9 @@ pub(crate) const AHEAD: usize = 64;
 /// How many places are reported: for a word eight differences are read.
 pub(crate) const KNOWN: usize = AHEAD - 7;
 
+/// Fewer differences than these aren't looked at ahead.
+const FEW: usize = 32;
+
 /// How many bytes it takes to tell of each place among them how many a word takes there.
 pub(crate) const ROOM: usize = AHEAD + 16;
 
@@ -279,15 +282,40 @@ fn look_ahead(scheme: Scheme, diffs: &[i32], most: &mut Most, cut: &mut Cut)
     }
 }
 
+/// The differences, and behind them as many zeros as are looked at with them.
+#[inline(always)]
+fn padded(diffs: &[i32]) -> [i32; AHEAD]
+    requires { length diffs.now ≤ 64 }
+    ensures { (zeros : List ℤ) × (result ≡ diffs.now ++ zeros) }
+{
+    let mut padded = [0; AHEAD];
+    padded[..diffs.len()].copy_from_slice(diffs);
+    padded
+}
+
+/// The same of fewer differences than are looked at. Nothing is reported of the last seven.
+fn look_at_few(scheme: Scheme, diffs: &[i32], most: &mut Most, cut: &mut Cut)
+    requires some { 7 ≤ length diffs.now }
+    requires few { length diffs.now < 64 }
+    ensures { IsLookahead scheme (record { most = most.new; cut = cut.new; place = 0 }) diffs.now }
+{
+    look_ahead(scheme, &padded(diffs), most, cut);
+    for index in diffs.len() - 7..KNOWN {
+        most[index] = 0;
+    }
+}
+
 /// The most differences that are held from each of the first 57 places on; less than two where nothing is known of
-/// them: at others, and where fewer than 64 differences are left. In Steim-2 those of which anything is known are cut
-/// off at 16 bits besides.
+/// them: at others, where fewer than eight differences are left, and where there are so few that looking at them costs
+/// more than it saves. In Steim-2 those of which anything is known are cut off at 16 bits besides.
 pub(crate) fn look(scheme: Scheme, diffs: &[i32], most: &mut Most, cut: &mut Cut)
     ensures { IsLookahead scheme (record { most = most.new; cut = cut.new; place = 0 }) diffs.now }
 {
-    if diffs.len() < AHEAD {
+    if AHEAD <= diffs.len() {
+        look_ahead(scheme, diffs, most, cut);
+    } else if FEW <= diffs.len() {
+        look_at_few(scheme, diffs, most, cut);
+    } else {
         *most = [0; ROOM];
-        return;
     }
-    look_ahead(scheme, diffs, most, cut);
 }

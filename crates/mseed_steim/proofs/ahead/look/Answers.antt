@@ -4,11 +4,11 @@ use Rattle.mseed_steim.proofs.Held.{cut_from}
 use Rattle.mseed_steim.proofs.Lookaheads.{known_none}
 use Rattle.mseed_steim.proofs.ahead.look.Goals as goal
 
-pub returns-then-diffs-lt-AHEAD : goal.returns-then-diffs-lt-AHEAD
-returns-then-diffs-lt-AHEAD c = known_none c.args.scheme c.args.diffs.now c.args.cut.now 0 (omega arith)
+pub returns-else-diffs-ge-FEW : goal.returns-else-diffs-ge-FEW
+returns-else-diffs-ge-FEW c = known_none c.args.scheme c.args.diffs.now c.args.cut.now 0 (omega arith)
 
-pub returns : goal.returns
-returns c =
+pub returns-then-diffs-ge-AHEAD : goal.returns-then-diffs-ge-AHEAD
+returns-then-diffs-ge-AHEAD c =
     let s = c.args.scheme in
     let ds = c.args.diffs.now in
     let most = c.look_ahead.new.most in
