@@ -5,9 +5,10 @@ ghost use Rattle.mseed_steim.specs.Reading.{IsSteim, IsWhole, count_of};
 
 use mseed_record::RecordView;
 use mseed_steim::{
-    BadWord, BadWordAt, Differences, ReadFault, Scheme, TooLarge, TooLargeAt, check_samples,
-    ends_of, fill_differences, fill_samples, is_steim, is_surely_near, least_words, pack_word,
-    pack_words, read_samples, unpack_differences, unpack_word, widen_bytes,
+    BadWord, BadWordAt, Differences, Lookahead, ReadFault, Scheme, TooLarge, TooLargeAt,
+    check_samples, ends_of, fill_differences, fill_samples, is_steim, is_surely_near, least_words,
+    pack_word, pack_words, pack_words_ahead, read_samples, unpack_differences, unpack_word,
+    widen_bytes,
 };
 use std::alloc::Allocator;
 
@@ -111,6 +112,18 @@ pub fn taken_by_first(differences: &[i32]) -> Result<usize, TooLarge>
 pub fn pack_seven_frames(differences: &[i32], frames: &mut [u8; 448]) -> Result<usize, TooLargeAt> {
     let packed = pack_words(Scheme::Two, differences, frames)?;
     Ok(packed.used)
+}
+
+/// Packs the differences of a series into two records, and says how many of them each holds.
+pub fn pack_two_records(
+    differences: &[i32],
+    first: &mut [u8; 448],
+    second: &mut [u8; 448],
+) -> Result<(usize, usize), TooLargeAt> {
+    let mut known = Lookahead::new();
+    let one = pack_words_ahead(Scheme::Two, differences, &mut known, first)?;
+    let two = pack_words_ahead(Scheme::Two, &differences[one.used..], &mut known, second)?;
+    Ok((one.used, two.used))
 }
 
 /// The bytes of the fewest words of Steim-2 that hold the differences.

@@ -10,7 +10,7 @@ ghost use Rattle.mseed_time.specs.Text.{time_text};
 
 use mseed_time::{
     Btime, Join, LeapStep, Micros, NoRate, Order, OutOfRange, Rate, Ratio, TimeFault, drift, join,
-    one_name, show_time, step_micros,
+    one_name, show_time, step_micros, two_digits,
 };
 
 /// The instant that is so many milliseconds from 1970-01-01T00:00:00.
@@ -51,6 +51,15 @@ pub fn text_of(instant: Micros) -> [u8; 26]
     ensures { result ≡ time_text instant }
 {
     show_time(instant)
+}
+
+/// An hour and a minute as a clock shows them, such as 03:20; none past 99.
+pub fn clock_of(hour: u32, minute: u32) -> Option<[u8; 5]> {
+    if hour > 99 || minute > 99 {
+        return None;
+    }
+    let (hours, minutes) = (two_digits(hour), two_digits(minute));
+    Some([hours[0], hours[1], b':', minutes[0], minutes[1]])
 }
 
 /// Turns a number of 16 bits into the other byte order.
