@@ -22,19 +22,14 @@ ghost use Rattle.mseed_pack.specs.ReadBack.{AreApart, AreViewsOf, HaveSamples, I
 ghost use Rattle.mseed_pack.specs.ReadBack.{Packed, ReadsAs, StandsIn, records_of_all};
 ghost use Rattle.mseed_pack.specs.Traces.{trace_of};
 
-use crate::batch::{Job, first_place, gather};
-use crate::listed::Listed;
+use crate::lent::pack_into;
 use crate::options::Options;
-use crate::payloads::Payloads;
 use crate::series_view::SeriesView;
 use mseed_audit::{continuous_exactly, one_series};
 use mseed_record::header_reads_back;
 use mseed_steim::{one_packing as one_run, one_reading, packed_spells};
 use mseed_stream::one_input;
 use mseed_time::one_name;
-
-/// The bytes of the longest record.
-const LONGEST: usize = 4096;
 
 /// A series is packed into one list of records, byte for byte; records that it is packed into up to some samples that
 /// are left are a prefix of them; and of two such lists one is a prefix of the other.
@@ -51,25 +46,13 @@ pub fn one_packing()
     one_name();
 }
 
-/// A series that fits its options has a packing: it is packed here, record by record, and nothing is kept.
+/// A series that fits its options has a packing: it is packed here, into no room.
 pub fn a_packing_exists(series: &SeriesView, options: &Options)
     requires fits { Fits (trace_of series.now) options.now }
     requires steps { AreSteps (length series.now.samples.now) series.now.steps.now }
     ensures { (records : List (List ℕ)) × IsPacking (trace_of series.now) options.now records }
 {
-    let mut records = [0; LONGEST];
-    let mut payloads = Payloads::new();
-    let mut list = Listed::of(series.samples);
-    let head = series.head();
-    payloads.begin(head.first);
-    let job = Job {
-        head: &head,
-        options,
-    };
-    let mut place = first_place(&head);
-    while place.first < head.count {
-        place = gather(&job, place, &mut payloads, &mut list, &mut records).next;
-    }
+    pack_into(series, options, &mut []);
 }
 
 /// Where the packing of a series failed twice, each sink accepted a prefix of what the other one accepted, or the other
