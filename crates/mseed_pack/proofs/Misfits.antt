@@ -1,4 +1,5 @@
 -- What is found of a series' samples.
+use Rattle.std.proofs.Common.{◌*◌, ◌%◌, ◌^◌, max, negsuc, FitsSigned, w32, of_z}
 use Rattle.std.proofs.Common.{◌≡◌, ◌≢◌, ◌↔◌, ◌<◌, ◌+◌, ℕ, zero, suc, ℤ, ◌-ℤ◌, List, [], length, take, get_or, pos, Bool}
 use Rattle.std.proofs.Common.{true, false, eqb, sym, subst, ap, ◌∙◌, arith, refl, All}
 use Rattle.std.specs.Prelude.{IsTrue}
@@ -57,21 +58,31 @@ near_differences e xs near =
     All-from_get_or (IsDifferenceOf e) (differences xs) (pos 0)
     (λ k h. near_at e xs near k (omega (arith, h, length-differences xs)))
 
--- whether all samples so far are under a limit, with one more that isn't
-pub near_not : (limit : ℤ) (xs : List ℤ) (i : ℕ) → i < length xs → ¬ (IsUnder limit (get_or xs i (pos 0)))
-    → IsTrue false ↔ All (IsUnder limit) (take (i + 1) xs)
-near_not limit xs i h far = (
-  λ e. absurd (false≢true e),
+-- whether a sample is under a limit, as a number that can't be negative
+pub raised_under : (limit : ℕ) (z : ℤ) → limit < 2 ^ 31 → FitsSigned w32 z
+    → ((of_z w32 z + limit) % 2 ^ 32 < 2 * limit) ↔ IsUnder (pos limit) z
+raised_under limit (pos n) small fits =
+    let half = fits.sfits in (
+      λ less. (omega (arith, ints), omega (arith, ints, less, half, small)),
+      λ under. let below = under.1 in omega (arith, ints, below, half, small),
+    )
+raised_under limit (negsuc n) small fits =
+    let half = fits.sfits in (
+      λ less. (omega (arith, ints, less, half, small), omega (arith, ints)),
+      λ under. let above = under.0 in omega (arith, ints, above, half, small),
+    )
+
+-- whether all samples so far are under a limit, with one more
+pub under_more : (limit : ℤ) (xs : List ℤ) (i bound largest raised : ℕ) → i < length xs
+    → (raised < bound) ↔ IsUnder limit (get_or xs i (pos 0)) → (largest < bound) ↔ All (IsUnder limit) (take i xs)
+    → (max raised largest < bound) ↔ All (IsUnder limit) (take (i + 1) xs)
+under_more limit xs i bound largest raised h one before = (
+  λ less. All-more (IsUnder limit) xs i (pos 0) h (before.0 (omega (arith, less))) (one.0 (omega (arith, less))),
   λ all.
       let long : i < length (take (i + 1) xs) = rw (length-take-le (i + 1) xs (omega (arith, h))) (omega arith) in
-      absurd (far (rw (get_or-take (i + 1) xs i (pos 0) (omega arith)) at
-      (All-get_or (IsUnder limit) (take (i + 1) xs) i (pos 0) long all))),
-)
-
--- or that is
-pub near_more : (limit : ℤ) (near : Bool) (xs : List ℤ) (i : ℕ) → i < length xs → IsUnder limit (get_or xs i (pos 0))
-    → IsTrue near ↔ All (IsUnder limit) (take i xs) → IsTrue near ↔ All (IsUnder limit) (take (i + 1) xs)
-near_more limit near xs i h one before = (
-  λ e. All-more (IsUnder limit) xs i (pos 0) h (before.0 e) one,
-  λ all. before.1 (rw (take-take i (i + 1) xs (omega arith)) at (All-take (IsUnder limit) i (take (i + 1) xs) all)),
+      let here : raised < bound = one.1 (rw (get_or-take (i + 1) xs i (pos 0) (omega arith)) at
+      (All-get_or (IsUnder limit) (take (i + 1) xs) i (pos 0) long all)) in
+      let others : largest < bound =
+      before.1 (rw (take-take i (i + 1) xs (omega arith)) at (All-take (IsUnder limit) i (take (i + 1) xs) all)) in
+      omega (arith, here, others),
 )

@@ -1,6 +1,6 @@
 //! Whether a series can be packed.
 ghost use Rattle.std.specs.Prelude.{◌≡◌, ◌↔◌, ◌<◌, ◌≤◌, ◌*◌, ℕ, ℤ, IsTrue, OnOk, IfErr, IfSome, IfNone, None, All};
-ghost use Rattle.std.specs.Prelude.{List, length, pos, slice_index_or, ◌^◌, nat_abs, ◌+ℤ◌, ◌-ℤ◌, ◌<ℤ◌, ◌≢◌, FitsSigned};
+ghost use Rattle.std.specs.Prelude.{List, length, pos, slice_index_or, ◌^◌, nat_abs, ◌+ℤ◌, ◌-ℤ◌, ◌≢◌, FitsSigned};
 ghost use Rattle.std.specs.Int.{w16};
 ghost use Rattle.mseed_time.specs.Btime.{IsInstant};
 ghost use Rattle.mseed_time.specs.Naming.{IsOutside};
@@ -29,10 +29,10 @@ use std::alloc::Allocator;
 const FASTEST: u64 = 500_000;
 
 /// The first number that has more than 16 bits.
-const SHORT: i32 = 0x8000;
+const SHORT: u32 = 0x8000;
 
 /// The first number that has more than 29 bits.
-const NEAR: i32 = 0x1000_0000;
+const NEAR: u32 = 0x1000_0000;
 
 /// Whether a series can be packed with these options.
 ///
@@ -263,25 +263,25 @@ fn first_wide_difference(samples: &[i32], encoding: Encoding) -> Option<usize>
 }
 
 /// Whether each sample is less than a limit, and no less than its negative.
-fn are_within(samples: &[i32], limit: i32) -> bool
-    requires { pos 0 <ℤ limit }
-    ensures { IsTrue result ↔ All (IsUnder limit) samples.now }
+fn are_within(samples: &[i32], limit: u32) -> bool
+    requires some { 0 < limit }
+    requires half { limit < 2 ^ 31 }
+    ensures { IsTrue result ↔ All (IsUnder (pos limit)) samples.now }
 {
-    let mut near = true;
+    let mut largest = 0;
     for sample in samples {
-        if !is_within(*sample, limit) {
-            near = false;
-        }
+        largest = raised(*sample, limit).max(largest);
     }
-    near
+    largest < 2 * limit
 }
 
-/// Whether a sample is.
-fn is_within(sample: i32, limit: i32) -> bool
-    requires { pos 0 <ℤ limit }
-    ensures { IsTrue result ↔ IsUnder limit sample }
+/// A sample and a limit added up, modulo 2^32: less than twice the limit exactly where the sample is less than the
+/// limit, and no less than its negative.
+fn raised(sample: i32, limit: u32) -> u32
+    requires { limit < 2 ^ 31 }
+    ensures { (result < 2 * limit) ↔ IsUnder (pos limit) sample }
 {
-    -limit <= sample && sample < limit
+    sample.cast_unsigned().wrapping_add(limit)
 }
 
 /// The same, sample by sample.
