@@ -1,6 +1,7 @@
 -- Before the first sample of a series is packed.
-use Rattle.std.proofs.Common.{◌≡◌, ℕ, ◌<◌, ◌^◌, ℤ, pos, List, length, get_or, arith, sym, subst, ◌∙◌, All}
-use Rattle.std.proofs.lemmas.Int.{ints}
+use Rattle.std.proofs.Common.{◌≡◌, ℕ, ◌<◌, ◌^◌, ℤ, pos, List, length, get_or, arith, refl, sym, subst, All}
+use Rattle.std.proofs.Common.{FitsSigned, w32, to_z, of_z}
+use Rattle.std.proofs.lemmas.Int.{ints, to_z-of_z}
 use Rattle.std.proofs.lemmas.List.Elements.{All-weaker}
 use Rattle.mseed_steim.specs.Spelling.{IsWithin}
 use Rattle.mseed_audit.specs.Series.{Trace}
@@ -16,48 +17,42 @@ use Rattle.mseed_pack.specs.Options.{IsSteim}
 use Rattle.mseed_pack.specs.Stretches.{differences}
 use Rattle.mseed_pack.specs.Supplies.{SuppliesFitting}
 use Rattle.mseed_pack.specs.Traces.{headed, trace_of}
-use Rattle.mseed_pack.specs.private.Filling.{GoesOn, GoesOnIn, IsListed, StandsInList}
+use Rattle.mseed_pack.specs.private.Filling.{AreBegun, GoesOn, GoesOnIn, IsListed, StandsInList}
 use Rattle.mseed_pack.specs.private.Standing.{CanBegin}
 
--- frames before the first sample
-pub record AreEmpty (f : Frames) (xs : List ℤ) : Type 0 where
-  pub before : f.before ≡ get_or xs 0 (pos 0)
-  pub low : f.window.first ≡ 0
-  pub high : f.window.end ≡ 0
+-- as it is passed, in 32 bits
+pub begun_by : (f : Frames) (first : ℤ) → FitsSigned w32 first → AreBegun f (to_z w32 (of_z w32 first))
+    → AreBegun f first
+begun_by f first fits begins = subst (λ (z : ℤ). AreBegun f z) (to_z-of_z w32 first fits) begins
 
 begun : {S : Type 0} (supplies : S → List ℤ → ℕ → Type 0) (f : Frames) (supply : S) (width : ℕ) (xs : List ℤ)
-    → supplies supply xs 0 → length xs < 2 ^ 64 → AreEmpty f xs → All (IsWithin 32) xs
+    → supplies supply xs 0 → length xs < 2 ^ 64 → AreBegun f (get_or xs 0 (pos 0)) → All (IsWithin 32) xs
     → All (IsWithin width) (differences xs) → GoesOn supplies f supply width xs 0
-begun supplies f supply width xs supplied few empty fit differences_fit =
-    let low = empty.low in
-    let high = empty.high in
+begun supplies f supply width xs supplied few begins fit differences_fit =
+    let low = begins.low in
+    let high = begins.high in
     record {
       draws = record {
-        held = record {
-          order = omega (arith, low, high);
-          inside = omega (arith, high);
-          few = omega (arith, low, high);
-          each = λ k h. absurd (omega (arith, low, high, h));
-        };
+        held = begins.held xs refl;
         supplied = subst (λ (n : ℕ). supplies supply xs n) (sym high) supplied;
         low = omega (arith, low);
         high = omega (arith, high);
       };
-      before = empty.before;
+      before = begins.before;
       fit = fit;
       differences_fit = differences_fit;
       few = few;
     }
 
 pub frames_begun : {S : Type 0} (supplies : S → List ℤ → ℕ → Type 0) (f : Frames) (supply : S) (e : Encoding)
-    (xs : List ℤ) → IsSteim e → supplies supply xs 0 → length xs < 2 ^ 64 → AreEmpty f xs → All (IsSampleOf e) xs
+    (xs : List ℤ) → IsSteim e → supplies supply xs 0 → length xs < 2 ^ 64 → AreBegun f (get_or xs 0 (pos 0)) → All (IsSampleOf e) xs
     → All (IsDifferenceOf e) (differences xs) → GoesOnIn supplies f supply e xs 0
-frames_begun supplies f supply Int16 xs steim supplied few empty fit differences_fit = absurd steim
-frames_begun supplies f supply Int32 xs steim supplied few empty fit differences_fit = absurd steim
-frames_begun supplies f supply Steim1 xs steim supplied few empty fit differences_fit =
-    begun supplies f supply 32 xs supplied few empty fit differences_fit
-frames_begun supplies f supply Steim2 xs steim supplied few empty fit differences_fit =
-    begun supplies f supply 30 xs supplied few empty fit differences_fit
+frames_begun supplies f supply Int16 xs steim supplied few begins fit differences_fit = absurd steim
+frames_begun supplies f supply Int32 xs steim supplied few begins fit differences_fit = absurd steim
+frames_begun supplies f supply Steim1 xs steim supplied few begins fit differences_fit =
+    begun supplies f supply 32 xs supplied few begins fit differences_fit
+frames_begun supplies f supply Steim2 xs steim supplied few begins fit differences_fit =
+    begun supplies f supply 30 xs supplied few begins fit differences_fit
 
 -- 30 bits are held in 32
 wider : (z : ℤ) → IsWithin 30 z → IsWithin 32 z
@@ -77,15 +72,15 @@ list_supplies list Steim2 xs steim same none fits =
     listed list xs same none (All-weaker (IsWithin 30) (IsWithin 32) wider (differences xs) fits)
 
 pub list_begun : (p : Payloads) (list : Listed) (e : Encoding) (xs : List ℤ) → list.samples.now ≡ xs → list.given ≡ 0
-    → length xs < 2 ^ 64 → AreEmpty p.frames xs → All (IsSampleOf e) xs → All (IsDifferenceOf e) (differences xs)
+    → length xs < 2 ^ 64 → AreBegun p.frames (get_or xs 0 (pos 0)) → All (IsSampleOf e) xs → All (IsDifferenceOf e) (differences xs)
     → StandsInList p list e xs 0
-list_begun p list Int16 xs same none few empty fit differences_fit = (same, fit)
-list_begun p list Int32 xs same none few empty fit differences_fit = (same, fit)
-list_begun p list Steim1 xs same none few empty fit differences_fit =
-    begun IsListed p.frames list 32 xs (list_supplies list Steim1 xs tt same none differences_fit) few empty fit
+list_begun p list Int16 xs same none few begins fit differences_fit = (same, fit)
+list_begun p list Int32 xs same none few begins fit differences_fit = (same, fit)
+list_begun p list Steim1 xs same none few begins fit differences_fit =
+    begun IsListed p.frames list 32 xs (list_supplies list Steim1 xs tt same none differences_fit) few begins fit
     differences_fit
-list_begun p list Steim2 xs same none few empty fit differences_fit =
-    begun IsListed p.frames list 30 xs (list_supplies list Steim2 xs tt same none differences_fit) few empty fit
+list_begun p list Steim2 xs same none few begins fit differences_fit =
+    begun IsListed p.frames list 30 xs (list_supplies list Steim2 xs tt same none differences_fit) few begins fit
     differences_fit
 
 -- a series where it lies
@@ -93,27 +88,25 @@ pub series_begins : (p : Payloads) (list : Listed) (job : Job) (view : SeriesVie
     → headed job.head.now view.samples.now ≡ trace_of view → job.head.now.count ≡ length view.samples.now
     → job.head.now.first ≡ get_or view.samples.now 0 (pos 0) → Fits (trace_of view) job.options.now
     → list.samples.now ≡ view.samples.now → list.given ≡ 0 → length view.samples.now < 2 ^ 64
-    → p.frames.before ≡ job.head.now.first → p.frames.window.first ≡ 0 → p.frames.window.end ≡ 0
-    → CanBegin StandsInList job p list view.samples.now
-series_begins p list job view trace count first fits same none few before low high = record {
+    → AreBegun p.frames job.head.now.first → CanBegin StandsInList job p list view.samples.now
+series_begins p list job view trace count first fits same none few begins = record {
   count = sym count;
   fits = subst (λ (s : Trace). Fits s job.options.now) (sym trace) fits;
   stands_first = list_begun p list job.options.now.encoding view.samples.now same none few
-      (record { before = before ∙ first; low = low; high = high }) fits.samples fits.differences_fit;
+      (subst (λ (z : ℤ). AreBegun p.frames z) first begins) fits.samples fits.differences_fit;
 }
 
 -- one that comes from a supply
 pub supply_begins : {S : Type 0} (supplies : S → List ℤ → ℕ → Type 0) (f : Frames) (supply : S) (job : Job)
     (xs : List ℤ) → IsSteim job.options.now.encoding
     → SuppliesFitting supplies supply job.head.now job.options.now xs → job.head.now.count < 2 ^ 64
-    → f.before ≡ job.head.now.first → f.window.first ≡ 0 → f.window.end ≡ 0
-    → CanBegin (λ g s e ys n. GoesOnIn supplies g s e ys n) job f supply xs
-supply_begins supplies f supply job xs steim h few before low high =
+    → AreBegun f job.head.now.first → CanBegin (λ g s e ys n. GoesOnIn supplies g s e ys n) job f supply xs
+supply_begins supplies f supply job xs steim h few begins =
     let count = h.count in
     record {
       count = h.count;
       fits = h.fits;
       stands_first = frames_begun supplies f supply job.options.now.encoding xs steim h.supplied
-          (omega (arith, count, few)) (record { before = before ∙ sym h.first; low = low; high = high })
+          (omega (arith, count, few)) (subst (λ (z : ℤ). AreBegun f z) (sym h.first) begins)
           h.fits.samples h.fits.differences_fit;
     }

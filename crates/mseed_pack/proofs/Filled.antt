@@ -29,26 +29,28 @@ length_part xs i j a b = length-take-le (j - i) (drop i xs) (omega (arith, b, le
 pub part_at : (xs : List ℤ) (i j k : ℕ) → k < j - i → get_or (slice_range xs i j) k (pos 0) ≡ get_or xs (i + k) (pos 0)
 part_at xs i j k h = get_or-take (j - i) (drop i xs) k (pos 0) h ∙ get_or-drop i xs k (pos 0)
 
--- a part of what a window holds
-pub held_part : (xs : List ℤ) (w : Window) (first n : ℕ) → HoldsDifferences xs w → w.first ≤ first → first + n ≤ w.end
-    → length w.differences ≡ 7056
-    → slice_range w.differences (first - w.first) (first - w.first + n) ≡ slice_range (differences xs) first (first + n)
-held_part xs w first n h low high long =
+-- what a window holds from a place on
+pub held_part : (xs : List ℤ) (w : Window) (first end : ℕ) → HoldsDifferences xs w → w.first ≤ first → first ≤ end
+    → end ≤ w.end → length w.differences ≡ 7056
+    → slice_range w.differences (first - w.first) (end - w.first)
+    ≡ slice_range (differences xs) first (first + (end - first))
+held_part xs w first end h low order high long =
     let at = first - w.first in
     let few = h.few in
     let inside = h.inside in
-    let left : length (slice_range w.differences at (at + n)) ≡ at + n - at =
-    length_part w.differences at (at + n) (omega arith) (omega (arith, long, few, low, high)) in
-    let right : length (slice_range (differences xs) first (first + n)) ≡ first + n - first =
-    length_part (differences xs) first (first + n) (omega arith)
-    (omega (arith, inside, high, length-differences xs)) in
-    ext_get_or (pos 0) (slice_range w.differences at (at + n)) (slice_range (differences xs) first (first + n))
-    (omega (arith, left, right))
-    (λ k b. let here : k < n = omega (arith, b, left) in
+    let left : length (slice_range w.differences at (end - w.first)) ≡ end - w.first - at =
+    length_part w.differences at (end - w.first) (omega (arith, low, order)) (omega (arith, long, few, high)) in
+    let right : length (slice_range (differences xs) first (first + (end - first))) ≡ first + (end - first) - first =
+    length_part (differences xs) first (first + (end - first)) (omega arith)
+    (omega (arith, inside, high, order, length-differences xs)) in
+    ext_get_or (pos 0) (slice_range w.differences at (end - w.first))
+    (slice_range (differences xs) first (first + (end - first)))
+    (omega (arith, left, right, low, order))
+    (λ k b. let here : k < end - first = omega (arith, b, left, low, order) in
     let place : w.first + (at + k) ≡ first + k = omega (arith, low) in
-    part_at w.differences at (at + n) k (omega (arith, here)) ∙ h.each (at + k) (omega (arith, here, low, high))
+    part_at w.differences at (end - w.first) k (omega (arith, here, low)) ∙ h.each (at + k) (omega (arith, here, low, high))
     ∙ ap (λ (m : ℕ). get_or (differences xs) m (pos 0)) place
-    ∙ sym (part_at (differences xs) first (first + n) k (omega (arith, here))))
+    ∙ sym (part_at (differences xs) first (first + (end - first)) k (omega (arith, here))))
 
 part_prefix : (xs : List ℤ) (i n j : ℕ) → i + n ≤ j → slice_range xs i (i + n) ≡ take n (slice_range xs i j)
 part_prefix xs i n j h =
@@ -212,22 +214,16 @@ holds s xs first end n used words p q f size set =
 -- by what packing answered
 fills_by : (s : Scheme) (xs : List ℤ) (first end n used words size : ℕ) (p : List ℕ) (ds : List ℤ)
     → ds ≡ slice_range (differences xs) first (first + n) → first < end → end ≤ length xs
-    → n ≡ min (end - first) (7 * (size / 4)) → length p ≡ size → 64 ≤ size → size % 64 ≡ 0
+    → (first + n ≡ end) ⊎ ((7 * (size / 4) ≤ n) × (first + n ≤ end)) → length p ≡ size → 64 ≤ size → size % 64 ≡ 0
     → PacksRun s (take words (data_words p)) ds (drop used ds) → (used ≤ length ds) × (words ≤ length (data_words p))
     → (used ≡ length ds) ⊎ (words ≡ length (data_words p))
     → AllByRecursion IsEmptyWord (drop words (data_words p))
     → ((k : ℕ) → k < word_count p → (k < 3) ⊎ (k % 16 ≡ 0) → code_at p k ≡ 0) → Fills s xs first end n used words p
-fills_by s xs first end n used words size p ds e order inside count long some whole_frames packed fits whole behind
+fills_by s xs first end n used words size p ds e order inside enough long some whole_frames packed fits whole behind
     codes = record {
       order = order;
       inside = inside;
-      enough = ⊎_elim
-          (λ (less : 7 * (size / 4) < end - first). inr (
-            omega (arith, less, count, long),
-            omega (arith, less, count, order),
-          ))
-          (λ (more : end - first ≤ 7 * (size / 4)). inl (omega (arith, more, count, order)))
-          (cases_lt (7 * (size / 4)) (end - first));
+      enough = subst (λ (m : ℕ). (first + n ≡ end) ⊎ ((7 * (m / 4) ≤ n) × (first + n ≤ end))) (sym long) enough;
       long = omega (arith, long, some);
       whole_frames = ap (λ (m : ℕ). m % 64) long ∙ whole_frames;
       packed = subst (λ (l : List ℤ). PacksRun s (take words (data_words p)) l (drop used l)) e packed;
@@ -238,23 +234,35 @@ fills_by s xs first end n used words size p ds e order inside count long some wh
       codes = codes;
     }
 
+-- a window holds enough of the samples that are left: all, or seven for each word of so many bytes
+pub held_enough : (w : Window) (l : Left) (bytes end : ℕ) → l.first < l.end → w.first ≤ l.first
+    → min l.end (l.first + 7 * (bytes / 4)) ≤ w.end → 64 ≤ bytes → end ≡ min l.end w.end
+    → (l.first + (end - l.first) ≡ l.end)
+    ⊎ ((7 * (bytes / 4) ≤ end - l.first) × (l.first + (end - l.first) ≤ l.end))
+held_enough w l bytes end some low high long is = ⊎_elim
+    (λ (less : w.end < l.end). inr (omega (arith, less, high, long, is), omega (arith, less, high, long, is)))
+    (λ (all : l.end ≤ w.end). inl (omega (arith, all, some, is)))
+    (cases_lt w.end l.end)
+
 -- the same, of what a window holds of the samples that are left
-pub fills_from : (s : Scheme) (xs : List ℤ) (l : Left) (w : Window) (n used words : ℕ) (old p : List ℕ) → AreLeft xs l
-    → AreFrames old → HoldsDifferences xs w → w.first ≤ l.first → l.first + n ≤ w.end → length w.differences ≡ 7056
-    → n ≡ min (l.end - l.first) (7 * (length old / 4)) → length p ≡ length old
-    → PacksRun s (take words (data_words p)) (slice_range w.differences (l.first - w.first) (l.first - w.first + n))
-    (drop used (slice_range w.differences (l.first - w.first) (l.first - w.first + n)))
-    → (used ≤ length (slice_range w.differences (l.first - w.first) (l.first - w.first + n)))
-    × (words ≤ length (data_words p))
-    → (used ≡ length (slice_range w.differences (l.first - w.first) (l.first - w.first + n)))
+pub fills_from : (s : Scheme) (xs : List ℤ) (l : Left) (w : Window) (end used words : ℕ) (old p : List ℕ) → AreLeft xs l
+    → AreFrames old → HoldsDifferences xs w → w.first ≤ l.first → min l.end (l.first + 7 * (length old / 4)) ≤ w.end
+    → length w.differences ≡ 7056 → end ≡ min l.end w.end → length p ≡ length old
+    → PacksRun s (take words (data_words p)) (slice_range w.differences (l.first - w.first) (end - w.first))
+    (drop used (slice_range w.differences (l.first - w.first) (end - w.first)))
+    → (used ≤ length (slice_range w.differences (l.first - w.first) (end - w.first))) × (words ≤ length (data_words p))
+    → (used ≡ length (slice_range w.differences (l.first - w.first) (end - w.first)))
     ⊎ (words ≡ length (data_words p))
     → AllByRecursion IsEmptyWord (drop words (data_words p))
     → ((k : ℕ) → k < word_count p → (k < 3) ⊎ (k % 16 ≡ 0) → code_at p k ≡ 0)
-    → Fills s xs l.first l.end n used words p
-fills_from s xs l w n used words old p left frames held low high room count size packed fits whole behind codes =
-    fills_by s xs l.first l.end n used words (length old) p
-    (slice_range w.differences (l.first - w.first) (l.first - w.first + n))
-    (held_part xs w l.first n held low high room) left.some left.inside count size frames.long frames.whole
+    → Fills s xs l.first l.end (end - l.first) used words p
+fills_from s xs l w end used words old p left frames held low high room is size packed fits whole behind codes =
+    let some = left.some in
+    let long = frames.long in
+    fills_by s xs l.first l.end (end - l.first) used words (length old) p
+    (slice_range w.differences (l.first - w.first) (end - w.first))
+    (held_part xs w l.first end held low (omega (arith, is, some, high, long)) (omega (arith, is)) room) left.some
+    left.inside (held_enough w l (length old) end left.some low high frames.long is) size frames.long frames.whole
     packed fits whole behind codes
 
 -- no difference of a part is too large, where none of all is

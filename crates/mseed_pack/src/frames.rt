@@ -1,10 +1,13 @@
 //! Samples as Steim frames.
 ghost use Rattle.std.specs.Prelude.{◌≡◌, ℕ, ℤ, List, ◌+◌, ◌-◌, ◌*◌, ◌/◌, ◌%◌, ◌<◌, ◌≤◌, ◌==◌, if◌then◌else◌, length};
-ghost use Rattle.std.specs.Prelude.{min, pos, slice_index_or, IfSome};
+ghost use Rattle.std.specs.Prelude.{min, pos, slice_index_or, All, IfSome};
 ghost use Rattle.mseed_steim.specs.Frames.{word_at};
-ghost use Rattle.mseed_pack.specs.private.Filling.{AreFrames, AreLeft, AreSet, AreTaken, GoesOn, Holds, HoldsInFrames};
-ghost use Rattle.mseed_pack.specs.private.Filling.{AreRunEnds, Begins, Runs, width_of};
+ghost use Rattle.mseed_steim.specs.Spelling.{IsWithin};
+ghost use Rattle.mseed_pack.specs.private.Filling.{AreBegun, AreFrames, AreLeft, AreRunEnds, AreSet, AreTaken, GoesOn};
+ghost use Rattle.mseed_pack.specs.private.Filling.{Holds, HoldsDifferences, HoldsInFrames, width_of};
+ghost use Rattle.mseed_pack.specs.private.Marks.{sample_before};
 
+use crate::marks::Mark;
 use crate::options::Encoding;
 use crate::payload::{Filled, Filler, Left};
 use crate::supply::Supply;
@@ -24,6 +27,8 @@ const MOST: usize = 7;
 pub(crate) struct Frames {
     pub(crate) window: Window,
     pub(crate) before: i32,
+    /// The index of the window's mark that was nearest to the last sample that was packed.
+    near: usize,
 }
 
 impl Frames {
@@ -32,17 +37,39 @@ impl Frames {
         Frames {
             window: Window::new(),
             before: 0,
+            near: 0,
         }
     }
 
     /// Begins with the first sample of a series, whatever was filled in before.
     pub(crate) fn begin(&mut self, first: i32)
-        ensures before { self.new.before ≡ first }
-        ensures low { self.new.window.first ≡ 0 }
-        ensures high { self.new.window.end ≡ 0 }
+        ensures { AreBegun self.new first }
     {
-        self.window.forget();
+        self.window.begin(first);
         self.before = first;
+        self.near = 0;
+    }
+
+    /// The first and the last of so many samples from one on, by their differences, which the window holds.
+    fn add_ends(&mut self, place: usize, count: usize) -> Ends
+        requires some { 0 < count }
+        requires low { self.old.window.first ≤ place }
+        requires high { place + count ≤ self.old.window.end }
+        requires held { (samples : List ℤ) × HoldsDifferences samples self.old.window }
+        ensures ends { (samples : List ℤ) → HoldsDifferences samples self.old.window → All (IsWithin 32) samples
+            → self.old.before ≡ sample_before samples place → AreRunEnds result samples place count }
+        ensures window { self.new.window ≡ self.old.window }
+    {
+        let before = Mark {
+            place,
+            sample: self.before,
+        };
+        let (near, index) = self.window.nearest(before, self.near, place + count);
+        self.near = index;
+        Ends {
+            first: self.window.sample_before(place + 1, before),
+            last: self.window.sample_before(place + count, near),
+        }
     }
 }
 
@@ -90,35 +117,33 @@ pub(crate) fn fill_frames<S: Supply>(
 {
     let count = (left.end - left.first).min(MOST * (payload.len() / WORD));
     frames.window.hold(supply, left.first, count);
-    pack_held(scheme, left, count, list, frames, payload)
+    pack_held(scheme, left, list, frames, payload)
 }
 
-/// The same of what the window holds, which is so many of the samples that are left: all, or as many as there is room
-/// for.
+/// The same of what the window holds: of all samples that are left the differences, or of as many as there is room for.
 fn pack_held(
     scheme: Scheme,
     left: Left,
-    count: usize,
     list: Option<&[i32]>,
     frames: &mut Frames,
     payload: &mut [u8],
 ) -> Filled
     requires frames { AreFrames payload.old }
-    requires held { (samples : List ℤ) × (Holds frames.old (width_of scheme) samples left count
+    requires held { (samples : List ℤ) × (Holds frames.old (width_of scheme) samples left (length payload.old)
         × IfSome list (λ all. all.now ≡ samples)) }
-    requires count { count ≡ min (left.end - left.first) (7 * (length payload.old / 4)) }
-    ensures filled { (samples : List ℤ) → Holds frames.old (width_of scheme) samples left count
+    ensures filled { (samples : List ℤ) → Holds frames.old (width_of scheme) samples left (length payload.old)
         → IfSome list.entry (λ all. all.now ≡ samples) → HoldsInFrames scheme samples left result payload.new
-        × (frames.new.before ≡ slice_index_or samples (left.first + result.samples - 1) (pos 0)) }
+        × (frames.new.before ≡ sample_before samples (left.first + result.samples)) }
     ensures taken { AreTaken left result }
-    ensures few { result.samples ≤ count }
+    ensures few { left.first + result.samples ≤ frames.old.window.end }
     ensures window { frames.new.window ≡ frames.old.window }
 {
+    let end = left.end.min(frames.window.end);
     let at = left.first - frames.window.first;
-    let diffs = &frames.window.differences[at..at + count];
+    let diffs = &frames.window.differences[at..end - frames.window.first];
     match pack_words(scheme, diffs, payload) {
         Ok(packed) => {
-            let ends = find_ends(list, left.first, frames.before, &diffs[..packed.used]);
+            let ends = find_ends(list, frames, left.first, packed.used);
             put_constants(payload, ends.first, ends.last);
             frames.before = ends.last;
             Filled {
@@ -139,18 +164,21 @@ fn frames_of(words: usize) -> u8
     ((words + 16) / 15) as u8
 }
 
-/// The first and the last of the samples with these differences, the first of which is that from the sample before.
-/// Where a list of all samples is at hand, they are read in it, so many behind its beginning.
-fn find_ends(list: Option<&[i32]>, place: usize, before: i32, diffs: &[i32]) -> Ends
-    requires some { 0 < length diffs.now }
-    requires run { (samples : List ℤ)
-        × (Begins samples place before diffs.now × IfSome list (λ all. all.now ≡ samples)) }
-    ensures { (samples : List ℤ) → Begins samples place before diffs.now → IfSome list.entry (λ all. all.now ≡ samples)
-        → AreRunEnds result samples place (length diffs.now) }
+/// The first and the last of so many samples from one on. Where a list of all samples is at hand, they are read in it.
+fn find_ends(list: Option<&[i32]>, frames: &mut Frames, place: usize, count: usize) -> Ends
+    requires some { 0 < count }
+    requires low { frames.old.window.first ≤ place }
+    requires high { place + count ≤ frames.old.window.end }
+    requires held { (samples : List ℤ) × (HoldsDifferences samples frames.old.window
+        × IfSome list (λ all. all.now ≡ samples)) }
+    ensures ends { (samples : List ℤ) → HoldsDifferences samples frames.old.window → All (IsWithin 32) samples
+        → frames.old.before ≡ sample_before samples place → IfSome list.entry (λ all. all.now ≡ samples)
+        → AreRunEnds result samples place count }
+    ensures window { frames.new.window ≡ frames.old.window }
 {
     match list {
-        Some(samples) => ends_in(samples, place, diffs.len()),
-        None => add_ends(before, diffs),
+        Some(samples) => ends_in(samples, place, count),
+        None => frames.add_ends(place, count),
     }
 }
 
@@ -164,33 +192,6 @@ fn ends_in(samples: &[i32], place: usize, count: usize) -> Ends
         first: samples[place],
         last: samples[place + count - 1],
     }
-}
-
-/// The first and the last of the samples with these differences, by adding them up.
-fn add_ends(before: i32, diffs: &[i32]) -> Ends
-    requires some { 0 < length diffs.now }
-    requires run { (samples : List ℤ) × ((place : ℕ) × Begins samples place before diffs.now) }
-    ensures { (samples : List ℤ) (place : ℕ) → Begins samples place before diffs.now
-        → AreRunEnds result samples place (length diffs.now) }
-{
-    let first = before + diffs[0];
-    Ends {
-        first,
-        last: last_behind(first, &diffs[1..]),
-    }
-}
-
-/// The last of the samples behind one, by their differences; that one, where there is none.
-fn last_behind(first: i32, diffs: &[i32]) -> i32
-    requires { (samples : List ℤ) × ((place : ℕ) × Runs samples place first diffs.now) }
-    ensures { (samples : List ℤ) (place : ℕ) → Runs samples place first diffs.now
-        → result ≡ slice_index_or samples (place + length diffs.now) (pos 0) }
-{
-    let mut last = first;
-    for difference in diffs {
-        last += *difference;
-    }
-    last
 }
 
 /// Writes the first and the last sample into the words 1 and 2 of some frames.

@@ -12,6 +12,7 @@ mod integers;
 mod law;
 mod lent;
 mod listed;
+mod marks;
 mod options;
 mod packing;
 mod payload;

@@ -1,6 +1,6 @@
 //! The samples of a list, in payloads of any encoding.
 ghost use Rattle.std.specs.Prelude.{◌≡◌, ◌+◌, ℤ, List};
-ghost use Rattle.mseed_pack.specs.private.Filling.{AreFrames, AreLeft, AreTaken, GoesOn, HoldsInFrames, IsListed};
+ghost use Rattle.mseed_pack.specs.private.Filling.{AreBegun, AreFrames, AreLeft, AreTaken, GoesOn, HoldsInFrames, IsListed};
 ghost use Rattle.mseed_pack.specs.private.Filling.{width_of};
 
 use crate::frames::{Frames, fill_frames};
@@ -26,9 +26,7 @@ impl Payloads {
 
     /// Begins with the first sample of a series, whatever was filled in before.
     pub(crate) fn begin(&mut self, first: i32)
-        ensures before { self.new.frames.before ≡ first }
-        ensures low { self.new.frames.window.first ≡ 0 }
-        ensures high { self.new.frames.window.end ≡ 0 }
+        ensures { AreBegun self.new.frames first }
     {
         self.frames.begin(first);
     }

@@ -2,7 +2,7 @@
 
 /// Where the samples of a series come from, as differences: each sample minus the one before it, and 0 for the first.
 pub trait Supply {
-    ghost use Rattle.std.specs.Prelude.{◌≡◌, ◌+◌, ◌≤◌, ℕ, ℤ, List, length};
+    ghost use Rattle.std.specs.Prelude.{◌≡◌, ◌+◌, ◌-◌, ◌<◌, ◌≤◌, ℕ, ℤ, List, length, pos, slice_index_or, IfSome};
     ghost use Rattle.mseed_pack.specs.Supplies.{IsNextGiven};
 
     /// It supplies the differences of these samples, and has given so many of them.
@@ -19,4 +19,13 @@ pub trait Supply {
         ensures next { (samples : List ℤ) (given : ℕ) → supplies self.old samples given
             → IsNextGiven samples given out.new result × supplies self.new samples (given + result) }
         ensures beside { beside self.new ≡ beside self.old };
+
+    /// The sample of the last difference that was given, where it is at hand. Before any was given nothing is said. A
+    /// packer that knows it has fewer differences to add up for the last sample of a record.
+    fn last(&self) -> Option<i32>
+        ensures { IfSome result (λ last. (samples : List ℤ) (given : ℕ) → supplies self.now samples given → 0 < given
+            → last ≡ slice_index_or samples (given - 1) (pos 0)) }
+    {
+        None
+    }
 }

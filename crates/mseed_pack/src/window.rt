@@ -1,7 +1,6 @@
 //! A window over the differences of a series.
-ghost use Rattle.std.specs.Prelude.{◌≡◌, ℤ, ◌+◌, ◌^◌, ◌<◌, ◌≤◌, List, length, min};
-ghost use Rattle.mseed_pack.specs.private.Filling.{Draws, HoldsDifferences};
 
+use crate::marks::{Mark, Marks};
 use crate::supply::Supply;
 
 /// How many differences a window holds: the most that are looked at for a record, of whose 1008 words none holds more
@@ -16,28 +15,37 @@ pub(crate) struct Window {
     pub(crate) first: usize,
     /// The sample behind the one whose difference is the last.
     pub(crate) end: usize,
+    /// Samples that are known without adding up differences.
+    pub(crate) marks: Marks,
 }
 
 impl Window {
+    ghost use Rattle.std.specs.Prelude.{◌≡◌, ℤ, ◌+◌, ◌-ℤ◌, ◌^◌, ◌<◌, ◌≤◌, List, length, min, pos, slice_index_or, All};
+    ghost use Rattle.std.specs.Int.{int_wrap, w32};
+    ghost use Rattle.mseed_steim.specs.Spelling.{IsWithin};
+    ghost use Rattle.mseed_pack.specs.private.Filling.{Draws, HoldsDifferences};
+    ghost use Rattle.mseed_pack.specs.private.Marks.{IsMark, sample_before};
+
     /// A window that holds nothing.
-    pub(crate) fn new() -> Window
-        ensures first { result.first ≡ 0 }
-        ensures end { result.end ≡ 0 }
-    {
+    pub(crate) fn new() -> Window {
         Window {
             differences: [0; ROOM],
             first: 0,
             end: 0,
+            marks: Marks::of(0),
         }
     }
 
-    /// Lets go of all, so that it holds none of any samples.
-    pub(crate) fn forget(&mut self)
+    /// Lets go of all, so that it holds none yet of a series that begins with a sample.
+    pub(crate) fn begin(&mut self, first: i32)
+        ensures held { (samples : List ℤ) → first ≡ slice_index_or samples 0 (pos 0)
+            → HoldsDifferences samples self.new }
         ensures first { self.new.first ≡ 0 }
         ensures end { self.new.end ≡ 0 }
     {
         self.first = 0;
         self.end = 0;
+        self.marks = Marks::of(first);
     }
 
     /// Makes it hold the differences of so many samples from one on. It takes what it lacks from the supply, from
@@ -84,12 +92,97 @@ impl Window {
         ensures beside { S.beside supply.new ≡ S.beside supply.old }
     {
         while self.end - self.first < ROOM {
-            let held = self.end - self.first;
-            let count = supply.fill(&mut self.differences[held..]);
-            if count == 0 {
+            if self.take(supply) == 0 {
                 return;
             }
-            self.end += count;
+            self.mark_end(supply);
         }
+    }
+
+    /// Takes differences once, where there is room for any, and answers how many.
+    fn take<S: Supply>(&mut self, supply: &mut S) -> usize
+        requires supplied { (samples : List ℤ) × (HoldsDifferences samples self.old
+            × S.supplies supply.old samples self.old.end × (length samples < 2 ^ 64)) }
+        requires room { self.old.end < self.old.first + 7056 }
+        ensures first { self.new.first ≡ self.old.first }
+        ensures end { self.new.end ≡ self.old.end + result }
+        ensures held { (samples : List ℤ) → HoldsDifferences samples self.old
+            → S.supplies supply.old samples self.old.end → HoldsDifferences samples self.new }
+        ensures supplied { (samples : List ℤ) → S.supplies supply.old samples self.old.end
+            → S.supplies supply.new samples self.new.end × (self.old.end < length samples → 0 < result) }
+        ensures beside { S.beside supply.new ≡ S.beside supply.old }
+    {
+        let held = self.end - self.first;
+        let count = supply.fill(&mut self.differences[held..]);
+        self.end += count;
+        count
+    }
+
+    /// Marks the last sample whose difference was taken, where the supply has it at hand.
+    fn mark_end<S: Supply>(&mut self, supply: &S)
+        requires some { 0 < self.old.end }
+        ensures held { (samples : List ℤ) → HoldsDifferences samples self.old
+            → S.supplies supply.now samples self.old.end → HoldsDifferences samples self.new }
+        ensures first { self.new.first ≡ self.old.first }
+        ensures end { self.new.end ≡ self.old.end }
+    {
+        if let Some(sample) = supply.last() {
+            let place = self.end;
+            self.marks.put(Mark { place, sample });
+        }
+    }
+
+    /// The nearer to a place of a mark that stands before it and of the marks that are kept, looked for from an index
+    /// on; and the index of that.
+    pub(crate) fn nearest(&self, mark: Mark, index: usize, place: usize) -> (Mark, usize)
+        requires low { self.now.first ≤ mark.place }
+        requires order { mark.place ≤ place }
+        requires high { place ≤ self.now.end }
+        ensures mark { (samples : List ℤ) → HoldsDifferences samples self.now → IsMark samples mark
+            → IsMark samples result.0 }
+        ensures low { self.now.first ≤ result.0.place }
+        ensures high { result.0.place ≤ self.now.end }
+    {
+        let index = self.marks.nearest(index, place);
+        let kept = self.marks.at(index);
+        if kept.place <= self.end && kept.place.abs_diff(place) < place - mark.place {
+            (kept, index)
+        } else {
+            (mark, index)
+        }
+    }
+
+    /// The sample before a place, by a mark.
+    pub(crate) fn sample_before(&self, place: usize, mark: Mark) -> i32
+        requires low { self.now.first ≤ place }
+        requires high { place ≤ self.now.end }
+        requires mark_low { self.now.first ≤ mark.place }
+        requires mark_high { mark.place ≤ self.now.end }
+        requires some { 0 < place }
+        requires held { (samples : List ℤ) × HoldsDifferences samples self.now }
+        ensures { (samples : List ℤ) → HoldsDifferences samples self.now → All (IsWithin 32) samples
+            → IsMark samples mark → result ≡ sample_before samples place }
+    {
+        if mark.place <= place {
+            mark.sample.wrapping_add(self.moved(mark.place, place))
+        } else {
+            mark.sample.wrapping_sub(self.moved(place, mark.place))
+        }
+    }
+
+    /// How much the sample before a place differs from that before an earlier one, as far as 32 bits hold it.
+    fn moved(&self, first: usize, end: usize) -> i32
+        requires low { self.now.first ≤ first }
+        requires order { first ≤ end }
+        requires high { end ≤ self.now.end }
+        requires held { (samples : List ℤ) × HoldsDifferences samples self.now }
+        ensures { (samples : List ℤ) → HoldsDifferences samples self.now
+            → result ≡ int_wrap w32 (sample_before samples end -ℤ sample_before samples first) }
+    {
+        let mut moved = 0i32;
+        for difference in &self.differences[first - self.first..end - self.first] {
+            moved = moved.wrapping_add(*difference);
+        }
+        moved
     }
 }

@@ -1,5 +1,5 @@
 -- Steps of filling a payload.
-use Rattle.std.specs.Prelude.{◌≡◌, ℕ, ◌+◌, ◌-◌, ◌*◌, ◌%◌, ◌^◌, ◌<◌, ◌≤◌, List, length, slice_index_or, slice_range, ℤ}
+use Rattle.std.specs.Prelude.{◌≡◌, ℕ, ◌+◌, ◌-◌, ◌*◌, ◌/◌, ◌%◌, ◌^◌, ◌<◌, ◌≤◌, List, length, min, slice_index_or, slice_range, ℤ}
 use Rattle.std.specs.Prelude.{pos, neg_ℤ, ◌≤ℤ◌, ◌<ℤ◌, All}
 use Rattle.byteorder.specs.Endian.{big_bytes}
 use Rattle.mseed_steim.specs.Spelling.{IsWithin, residue}
@@ -12,6 +12,7 @@ use Rattle.mseed_pack.specs.declared.payload.Filled.{Filled}
 use Rattle.mseed_pack.specs.declared.payload.Left.{Left}
 use Rattle.mseed_pack.specs.declared.payloads.Payloads.{Payloads}
 use Rattle.mseed_pack.specs.declared.window.Window.{Window}
+use Rattle.mseed_pack.specs.private.Marks.{AreMarks, sample_before}
 use Rattle.mseed_pack.specs.Packing.{HoldsFrames, HoldsSamples}
 use Rattle.mseed_pack.specs.Stretches.{differences}
 use Rattle.mseed_pack.specs.declared.integers.Width.TheVariants.{Two as Short, Four as Long}
@@ -41,13 +42,14 @@ bytes_in Long = 4
 abbrev pub integer_bytes : ℕ → ℤ → List ℕ
 integer_bytes width z = big_bytes width (residue (2 ^ (8 * width)) z)
 
--- the window holds the differences of the samples from its first on, up to its end
+-- the window holds the differences of the samples from its first on, up to its end, and marks among the samples
 pub record HoldsDifferences (samples : List ℤ) (window : Window) : Type 0 where
   pub order : window.first ≤ window.end
   pub inside : window.end ≤ length samples
   pub few : window.end ≤ window.first + 7056
   pub each : (k : ℕ) → k < window.end - window.first
       → slice_index_or window.differences k (pos 0) ≡ slice_index_or (differences samples) (window.first + k) (pos 0)
+  pub marked : AreMarks samples window.marks
 
 -- a number less than a limit, and no less than its negative
 abbrev pub IsUnder : ℤ → ℤ → Type 0
@@ -97,21 +99,28 @@ pub record Draws {S : Type 0} (supplies : S → List ℤ → ℕ → Type 0) (sa
   pub low : window.first ≤ place
   pub high : place ≤ window.end
 
+-- frames before the first sample of a series
+pub record AreBegun (frames : Frames) (first : ℤ) : Type 0 where
+  pub before : frames.before ≡ first
+  pub low : frames.window.first ≡ 0
+  pub high : frames.window.end ≡ 0
+  pub held : (samples : List ℤ) → first ≡ slice_index_or samples 0 (pos 0) → HoldsDifferences samples frames.window
+
 -- frames go on at a place of the samples, whose differences have at most so many bits
 pub record GoesOn {S : Type 0} (supplies : S → List ℤ → ℕ → Type 0) (frames : Frames) (supply : S) (width : ℕ)
     (samples : List ℤ) (place : ℕ) : Type 0 where
   pub draws : Draws supplies samples supply frames.window place
-  pub before : frames.before ≡ slice_index_or samples (place - 1) (pos 0)
+  pub before : frames.before ≡ sample_before samples place
   pub fit : All (IsWithin 32) samples
   pub differences_fit : All (IsWithin width) (differences samples)
   pub few : length samples < 2 ^ 64
 
--- frames hold differences of some of the samples that are left, so many from the first on
-pub record Holds (frames : Frames) (width : ℕ) (samples : List ℤ) (left : Left) (count : ℕ) : Type 0 where
+-- frames hold differences of the samples that are left: of all, or at least seven for each word of so many bytes
+pub record Holds (frames : Frames) (width : ℕ) (samples : List ℤ) (left : Left) (bytes : ℕ) : Type 0 where
   pub held : HoldsDifferences samples frames.window
   pub low : frames.window.first ≤ left.first
-  pub high : left.first + count ≤ frames.window.end
-  pub before : frames.before ≡ slice_index_or samples (left.first - 1) (pos 0)
+  pub high : min left.end (left.first + 7 * (bytes / 4)) ≤ frames.window.end
+  pub before : frames.before ≡ sample_before samples left.first
   pub fit : All (IsWithin 32) samples
   pub differences_fit : All (IsWithin width) (differences samples)
   pub are_left : AreLeft samples left
@@ -133,22 +142,6 @@ StandsInList payloads list Int16 samples place = HasIntegers list 16 samples
 StandsInList payloads list Int32 samples place = HasIntegers list 32 samples
 StandsInList payloads list Steim1 samples place = GoesOn IsListed payloads.frames list 32 samples place
 StandsInList payloads list Steim2 samples place = GoesOn IsListed payloads.frames list 30 samples place
-
--- the differences behind a sample of this value, which has so many before it
-pub record Runs (samples : List ℤ) (place : ℕ) (value : ℤ) (diffs : List ℤ) : Type 0 where
-  pub inside : place + length diffs < length samples
-  pub fit : All (IsWithin 32) samples
-  pub value_is : value ≡ slice_index_or samples place (pos 0)
-  pub each : (k : ℕ) → k < length diffs
-      → slice_index_or diffs k (pos 0) ≡ slice_index_or (differences samples) (place + k + 1) (pos 0)
-
--- the differences from a sample on, which has so many before it, the last of them of this value
-pub record Begins (samples : List ℤ) (place : ℕ) (before : ℤ) (diffs : List ℤ) : Type 0 where
-  pub inside : place + length diffs ≤ length samples
-  pub fit : All (IsWithin 32) samples
-  pub before_is : before ≡ slice_index_or samples (place - 1) (pos 0)
-  pub each : (k : ℕ) → k < length diffs
-      → slice_index_or diffs k (pos 0) ≡ slice_index_or (differences samples) (place + k) (pos 0)
 
 -- the first and the last of so many samples from a place on
 pub record AreRunEnds (ends : Ends) (samples : List ℤ) (place count : ℕ) : Type 0 where

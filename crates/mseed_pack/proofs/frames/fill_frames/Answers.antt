@@ -28,7 +28,7 @@ pack_held-requires-clause-held g c =
         record {
           held = drawn.0.held;
           low = drawn.0.low;
-          high = drawn.1;
+          high = omega (arith, drawn.1, c.min-count.ensures, some);
           before = goes.before;
           fit = goes.fit;
           differences_fit = goes.differences_fit;
@@ -49,7 +49,7 @@ returns-clause-filled g c = λ xs goes left listed.
     let filled = c.pack_held.ensures.filled xs (record {
       held = drawn.0.held;
       low = drawn.0.low;
-      high = drawn.1;
+      high = omega (arith, drawn.1, c.min-count.ensures, some);
       before = goes.before;
       fit = goes.fit;
       differences_fit = goes.differences_fit;
@@ -62,7 +62,7 @@ returns-clause-filled g c = λ xs goes left listed.
               held = drawn.0.held;
               supplied = drawn.0.supplied;
               low = omega (arith, low);
-              high = omega (arith, drawn.1, c.pack_held.ensures.few);
+              high = omega (arith, c.pack_held.ensures.few);
             });
         before = filled.1;
         fit = goes.fit;

@@ -1,6 +1,5 @@
-use Rattle.std.proofs.Common.{◌≡◌, ℤ, List, Option, Bor, IfSome, Some, ap, arith, length, subst, sym, w32}
-use Rattle.std.proofs.lemmas.Int.{to_z-of_z}
-use Rattle.mseed_pack.specs.private.Filling.{AreRunEnds, Begins}
+use Rattle.std.proofs.Common.{◌≡◌, ℤ, List, Option, Bor, IfSome, Some, ap, arith, length, subst}
+use Rattle.mseed_pack.specs.private.Filling.{AreRunEnds}
 use Rattle.mseed_pack.proofs.frames.find_ends.Goals as goal
 
 listed_are : (xs : List ℤ) (list : Option (Bor (List ℤ))) (all : Bor (List ℤ)) → list ≡ Some all
@@ -9,18 +8,13 @@ listed_are xs list all is h = subst (λ (o : Option (Bor (List ℤ))). IfSome o 
 
 pub ends_in-requires-clause-inside : goal.ends_in-requires-clause-inside
 ends_in-requires-clause-inside c =
-    let xs = c.requires.run.0 in
-    let same = listed_are xs c.args.list c.in-Some.samples c.in-Some.is c.requires.run.1.1 in
-    let inside = c.requires.run.1.0.inside in
+    let xs = c.requires.held.0 in
+    let same = listed_are xs c.args.list c.in-Some.samples c.in-Some.is c.requires.held.1.1 in
+    let inside = c.requires.held.1.0.inside in
     let size : length c.in-Some.samples.now ≡ length xs = ap (λ (ys : List ℤ). length ys) same in
-    omega (arith, inside, size)
+    omega (arith, inside, size, c.requires.high)
 
-pub returns-in-Some : goal.returns-in-Some
-returns-in-Some c = λ xs begins listed.
-    subst (λ (ys : List ℤ). AreRunEnds c.ends_in.result ys c.args.place (length c.args.diffs.now))
+pub returns-in-Some-clause-ends : goal.returns-in-Some-clause-ends
+returns-in-Some-clause-ends c = λ xs held fit before listed.
+    subst (λ (ys : List ℤ). AreRunEnds c.ends_in.result ys c.args.place c.args.count)
     (listed_are xs c.args.list c.in-Some.samples c.in-Some.is listed) c.ends_in.ensures
-
-pub returns-in-None : goal.returns-in-None
-returns-in-None c = λ xs begins listed. c.add_ends.ensures xs c.args.place
-    (subst (λ (z : ℤ). Begins xs c.args.place z c.args.diffs.now)
-    (sym (to_z-of_z w32 c.args.before c.ranges.before)) begins)

@@ -1,13 +1,13 @@
-use Rattle.std.proofs.Common.{w32, ◌≡◌, ℕ, ◌+◌, List, ◌++◌, length, drop, sym, ap, subst, ◌∙◌, arith, rules}
+use Rattle.std.proofs.Common.{◌≡◌, ℕ, ◌+◌, List, ◌++◌, length, drop, sym, ap, subst, ◌∙◌, arith, rules}
 use Rattle.std.proofs.Common.{ℤ, [], length-append}
 use Rattle.std.proofs.lemmas.List.{drop_all}
 use Rattle.std.specs.List.{concat}
-use Rattle.std.proofs.lemmas.Int.{to_z-of_z}
 use Rattle.mseed_audit.specs.Series.{Trace}
 use Rattle.mseed_pack.specs.Fitting.{Fits}
 use Rattle.mseed_pack.specs.Packing.{PacksUpTo}
 use Rattle.mseed_pack.specs.Traces.{headed}
-use Rattle.mseed_pack.proofs.Begun.{list_begun}
+use Rattle.mseed_pack.specs.private.Filling.{AreBegun}
+use Rattle.mseed_pack.proofs.Begun.{begun_by, list_begun}
 use Rattle.mseed_pack.proofs.Growing.{concat_all, packs_none}
 use Rattle.mseed_pack.proofs.Overwritten.{over, over_none, over_more}
 use Rattle.mseed_pack.proofs.lent.pack_into.Goals as goal
@@ -17,11 +17,9 @@ loop-place-init c =
     let xs = c.args.series.now.samples.now in
     let first = c.first_place-place.ensures.first in
     let begins = list_begun c.begin.new.self c.of-list.result c.args.options.now.encoding xs c.of-list.ensures.samples
-    c.of-list.ensures.given (search rules) (record {
-      before = c.begin.ensures.before ∙ to_z-of_z w32 _ (search rules) ∙ c.head-head.ensures.first;
-      low = c.begin.ensures.low;
-      high = c.begin.ensures.high;
-    }) c.requires.fits.samples c.requires.fits.differences_fit in
+    c.of-list.ensures.given (search rules) (subst (λ (z : ℤ). AreBegun c.begin.new.self.frames z)
+    c.head-head.ensures.first (begun_by _ _ (search rules) c.begin.ensures)) c.requires.fits.samples
+    c.requires.fits.differences_fit in
     record {
       standing = c.first_place-place.ensures.standing;
       stands_there = rw first begins;

@@ -1,9 +1,8 @@
-use Rattle.std.proofs.Common.{◌∙◌, w32, ℕ, subst, rules}
+use Rattle.std.proofs.Common.{ℕ, subst, rules}
 use Rattle.std.proofs.lemmas.Result.{IfOk-weaker, IfErr-weaker}
-use Rattle.std.proofs.lemmas.Int.{to_z-of_z}
 use Rattle.mseed_audit.specs.Series.{Trace}
 use Rattle.mseed_pack.specs.Outcome.{EmittedAll, EmittedPrefix}
-use Rattle.mseed_pack.proofs.Begun.{series_begins}
+use Rattle.mseed_pack.proofs.Begun.{begun_by, series_begins}
 use Rattle.mseed_pack.proofs.packing.Packer.pack_fitting.Goals as goal
 
 pub write_records-requires-clause-begins : goal.write_records-requires-clause-begins
@@ -11,7 +10,7 @@ write_records-requires-clause-begins g c = (
   c.args.series.now.samples.now,
   series_begins _ _ _ c.args.series.now c.head-head.ensures.trace c.head-head.ensures.count
       c.head-head.ensures.first c.requires.fits c.of-list.ensures.samples c.of-list.ensures.given (search rules)
-      (c.begin.ensures.before ∙ to_z-of_z w32 _ (search rules)) c.begin.ensures.low c.begin.ensures.high,
+      (begun_by _ _ (search rules) c.begin.ensures),
 )
 
 pub returns-clause-ok : goal.returns-clause-ok
@@ -23,8 +22,7 @@ returns-clause-ok g c =
     (λ count all. subst (λ (s : Trace). EmittedAll s o count old new) c.head-head.ensures.trace
     (all c.args.series.now.samples.now (series_begins _ _ _ c.args.series.now c.head-head.ensures.trace
     c.head-head.ensures.count c.head-head.ensures.first c.requires.fits c.of-list.ensures.samples
-    c.of-list.ensures.given (search rules) (c.begin.ensures.before ∙ to_z-of_z w32 _ (search rules))
-    c.begin.ensures.low c.begin.ensures.high)))
+    c.of-list.ensures.given (search rules) (begun_by _ _ (search rules) c.begin.ensures))))
     c.write_records.ensures.ok
 
 pub returns-clause-err : goal.returns-clause-err
@@ -36,6 +34,5 @@ returns-clause-err g c =
     (λ taken all. subst (λ (s : Trace). EmittedPrefix s o taken old new) c.head-head.ensures.trace
     (all c.args.series.now.samples.now (series_begins _ _ _ c.args.series.now c.head-head.ensures.trace
     c.head-head.ensures.count c.head-head.ensures.first c.requires.fits c.of-list.ensures.samples
-    c.of-list.ensures.given (search rules) (c.begin.ensures.before ∙ to_z-of_z w32 _ (search rules))
-    c.begin.ensures.low c.begin.ensures.high)))
+    c.of-list.ensures.given (search rules) (begun_by _ _ (search rules) c.begin.ensures))))
     c.write_records.ensures.err

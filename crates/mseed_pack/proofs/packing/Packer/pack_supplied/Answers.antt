@@ -1,18 +1,16 @@
-use Rattle.std.proofs.Common.{rules, ◌∙◌, w32, ℕ, ℤ, List}
+use Rattle.std.proofs.Common.{rules, ℕ, ℤ, List}
 use Rattle.std.proofs.lemmas.Result.{IfOk-weaker, IfErr-weaker}
-use Rattle.std.proofs.lemmas.Int.{to_z-of_z}
 use Rattle.mseed_pack.specs.Outcome.{EmittedAll, EmittedPrefix}
 use Rattle.mseed_pack.specs.Supplies.{SuppliesFitting}
 use Rattle.mseed_pack.specs.Traces.{headed}
-use Rattle.mseed_pack.proofs.Begun.{supply_begins}
+use Rattle.mseed_pack.proofs.Begun.{begun_by, supply_begins}
 use Rattle.mseed_pack.proofs.packing.Packer.pack_supplied.Goals as goal
 
 pub write_records-requires-clause-begins : goal.write_records-requires-clause-begins
 write_records-requires-clause-begins g c = (
   c.requires.supplied.0,
   supply_begins g.S.Supply.supplies _ c.args.supply.now _ c.requires.supplied.0 c.requires.steim c.requires.supplied.1
-      c.know_count.ensures (c.begin.ensures.before ∙ to_z-of_z w32 _ (search rules)) c.begin.ensures.low
-      c.begin.ensures.high,
+      c.know_count.ensures (begun_by _ _ (search rules) c.begin.ensures),
 )
 
 pub returns-clause-ok : goal.returns-clause-ok
@@ -24,8 +22,7 @@ returns-clause-ok g c =
     IfOk-weaker _ _ (λ (count : ℕ). (samples : List ℤ)
     → SuppliesFitting g.S.Supply.supplies c.args.supply.now h o samples → EmittedAll (headed h samples) o count old new)
     (λ count all xs fitting. all xs (supply_begins g.S.Supply.supplies _ c.args.supply.now _ xs c.requires.steim fitting
-    c.know_count.ensures (c.begin.ensures.before ∙ to_z-of_z w32 _ (search rules)) c.begin.ensures.low
-    c.begin.ensures.high))
+    c.know_count.ensures (begun_by _ _ (search rules) c.begin.ensures)))
     c.write_records.ensures.ok
 
 pub returns-clause-err : goal.returns-clause-err
@@ -38,6 +35,5 @@ returns-clause-err g c =
     → SuppliesFitting g.S.Supply.supplies c.args.supply.now h o samples
     → EmittedPrefix (headed h samples) o taken old new)
     (λ taken all xs fitting. all xs (supply_begins g.S.Supply.supplies _ c.args.supply.now _ xs c.requires.steim fitting
-    c.know_count.ensures (c.begin.ensures.before ∙ to_z-of_z w32 _ (search rules)) c.begin.ensures.low
-    c.begin.ensures.high))
+    c.know_count.ensures (begun_by _ _ (search rules) c.begin.ensures)))
     c.write_records.ensures.err
