@@ -3,6 +3,8 @@ use Rattle.std.proofs.Common.{◌≡◌, ℕ, ◌<◌, ◌^◌, ℤ, pos, List, 
 use Rattle.std.proofs.Common.{FitsSigned, w32, to_z, of_z}
 use Rattle.std.proofs.lemmas.Int.{ints, to_z-of_z}
 use Rattle.std.proofs.lemmas.List.Elements.{All-weaker}
+use Rattle.mseed_steim.specs.declared.scheme.Scheme.{Scheme}
+use Rattle.mseed_steim.specs.declared.scheme.Scheme.TheVariants.{One, Two}
 use Rattle.mseed_steim.specs.Spelling.{IsWithin}
 use Rattle.mseed_audit.specs.Series.{Trace}
 use Rattle.mseed_pack.specs.declared.batch.Job.{Job}
@@ -17,7 +19,7 @@ use Rattle.mseed_pack.specs.Options.{IsSteim}
 use Rattle.mseed_pack.specs.Stretches.{differences}
 use Rattle.mseed_pack.specs.Supplies.{SuppliesFitting}
 use Rattle.mseed_pack.specs.Traces.{headed, trace_of}
-use Rattle.mseed_pack.specs.private.Filling.{AreBegun, GoesOn, GoesOnIn, IsListed, StandsInList}
+use Rattle.mseed_pack.specs.private.Filling.{AreBegun, GoesOn, GoesOnIn, IsListed, StandsInList, width_of}
 use Rattle.mseed_pack.specs.private.Standing.{CanBegin}
 
 -- as it is passed, in 32 bits
@@ -25,10 +27,10 @@ pub begun_by : (f : Frames) (first : ℤ) → FitsSigned w32 first → AreBegun 
     → AreBegun f first
 begun_by f first fits begins = subst (λ (z : ℤ). AreBegun f z) (to_z-of_z w32 first fits) begins
 
-begun : {S : Type 0} (supplies : S → List ℤ → ℕ → Type 0) (f : Frames) (supply : S) (width : ℕ) (xs : List ℤ)
+begun : {S : Type 0} (supplies : S → List ℤ → ℕ → Type 0) (f : Frames) (supply : S) (scheme : Scheme) (xs : List ℤ)
     → supplies supply xs 0 → length xs < 2 ^ 64 → AreBegun f (get_or xs 0 (pos 0)) → All (IsWithin 32) xs
-    → All (IsWithin width) (differences xs) → GoesOn supplies f supply width xs 0
-begun supplies f supply width xs supplied few begins fit differences_fit =
+    → All (IsWithin (width_of scheme)) (differences xs) → GoesOn supplies f supply scheme xs 0
+begun supplies f supply scheme xs supplied few begins fit differences_fit =
     let low = begins.low in
     let high = begins.high in
     record {
@@ -41,18 +43,19 @@ begun supplies f supply width xs supplied few begins fit differences_fit =
       before = begins.before;
       fit = fit;
       differences_fit = differences_fit;
+      known = begins.known scheme (differences xs);
       few = few;
     }
 
 pub frames_begun : {S : Type 0} (supplies : S → List ℤ → ℕ → Type 0) (f : Frames) (supply : S) (e : Encoding)
-    (xs : List ℤ) → IsSteim e → supplies supply xs 0 → length xs < 2 ^ 64 → AreBegun f (get_or xs 0 (pos 0)) → All (IsSampleOf e) xs
-    → All (IsDifferenceOf e) (differences xs) → GoesOnIn supplies f supply e xs 0
+    (xs : List ℤ) → IsSteim e → supplies supply xs 0 → length xs < 2 ^ 64 → AreBegun f (get_or xs 0 (pos 0))
+    → All (IsSampleOf e) xs → All (IsDifferenceOf e) (differences xs) → GoesOnIn supplies f supply e xs 0
 frames_begun supplies f supply Int16 xs steim supplied few begins fit differences_fit = absurd steim
 frames_begun supplies f supply Int32 xs steim supplied few begins fit differences_fit = absurd steim
 frames_begun supplies f supply Steim1 xs steim supplied few begins fit differences_fit =
-    begun supplies f supply 32 xs supplied few begins fit differences_fit
+    begun supplies f supply One xs supplied few begins fit differences_fit
 frames_begun supplies f supply Steim2 xs steim supplied few begins fit differences_fit =
-    begun supplies f supply 30 xs supplied few begins fit differences_fit
+    begun supplies f supply Two xs supplied few begins fit differences_fit
 
 -- 30 bits are held in 32
 wider : (z : ℤ) → IsWithin 30 z → IsWithin 32 z
@@ -72,15 +75,16 @@ list_supplies list Steim2 xs steim same none fits =
     listed list xs same none (All-weaker (IsWithin 30) (IsWithin 32) wider (differences xs) fits)
 
 pub list_begun : (p : Payloads) (list : Listed) (e : Encoding) (xs : List ℤ) → list.samples.now ≡ xs → list.given ≡ 0
-    → length xs < 2 ^ 64 → AreBegun p.frames (get_or xs 0 (pos 0)) → All (IsSampleOf e) xs → All (IsDifferenceOf e) (differences xs)
+    → length xs < 2 ^ 64 → AreBegun p.frames (get_or xs 0 (pos 0)) → All (IsSampleOf e) xs
+    → All (IsDifferenceOf e) (differences xs)
     → StandsInList p list e xs 0
 list_begun p list Int16 xs same none few begins fit differences_fit = (same, fit)
 list_begun p list Int32 xs same none few begins fit differences_fit = (same, fit)
 list_begun p list Steim1 xs same none few begins fit differences_fit =
-    begun IsListed p.frames list 32 xs (list_supplies list Steim1 xs tt same none differences_fit) few begins fit
+    begun IsListed p.frames list One xs (list_supplies list Steim1 xs tt same none differences_fit) few begins fit
     differences_fit
 list_begun p list Steim2 xs same none few begins fit differences_fit =
-    begun IsListed p.frames list 30 xs (list_supplies list Steim2 xs tt same none differences_fit) few begins fit
+    begun IsListed p.frames list Two xs (list_supplies list Steim2 xs tt same none differences_fit) few begins fit
     differences_fit
 
 -- a series where it lies

@@ -1,16 +1,17 @@
 -- Steim frames that hold the differences that are left, as far as there is room.
 use Rattle.std.proofs.Common.{◌≡◌, ℕ, suc, ◌+◌, ◌-◌, ◌*◌, ◌/◌, ◌%◌, ◌<◌, ◌≤◌, List, ◌∷◌, length, take, drop, get_or}
-use Rattle.std.proofs.Common.{sym, ap, subst, ◌∙◌, arith, ℤ, pos, ◌⊎◌, inl, inr, ⊎_elim, Some, All, min}
+use Rattle.std.proofs.Common.{sym, ap, subst, ◌∙◌, arith, ℤ, pos, ◌⊎◌, inl, inr, ⊎_elim, Some, All, min, Ok}
 use Rattle.std.specs.Prelude.{slice_range, slice_get}
 use Rattle.std.specs.List.{AllByRecursion}
 use Rattle.std.proofs.lemmas.List.{length-drop, length-take-le, take-take, get_or-take, get_or-drop, ext_get_or}
 use Rattle.std.proofs.lemmas.Option.{slice_get-get_or}
-use Rattle.std.proofs.lemmas.List.Elements.{All-get_or}
+use Rattle.std.proofs.lemmas.List.Elements.{All-drop, All-get_or, All-take}
 use Rattle.std.proofs.lemmas.Bool.{cases_lt}
 use Rattle.mseed_steim.specs.declared.scheme.Scheme.{Scheme}
 use Rattle.mseed_steim.specs.declared.scheme.Scheme.TheVariants.{Two}
 use Rattle.mseed_steim.specs.Spelling.{IsWithin}
 use Rattle.mseed_steim.specs.Frames.{DataWord, data_word, data_words, words_from, word_count, code_at}
+use Rattle.mseed_steim.specs.Packed.{IsRunPacked}
 use Rattle.mseed_steim.specs.Packing.{IsEmptyWord, PacksRun}
 use Rattle.mseed_steim.proofs.Packs.{rest_shorter}
 use Rattle.mseed_pack.specs.declared.payload.Left.{Left}
@@ -48,7 +49,8 @@ held_part xs w first end h low order high long =
     (omega (arith, left, right, low, order))
     (λ k b. let here : k < end - first = omega (arith, b, left, low, order) in
     let place : w.first + (at + k) ≡ first + k = omega (arith, low) in
-    part_at w.differences at (end - w.first) k (omega (arith, here, low)) ∙ h.each (at + k) (omega (arith, here, low, high))
+    part_at w.differences at (end - w.first) k (omega (arith, here, low))
+    ∙ h.each (at + k) (omega (arith, here, low, high))
     ∙ ap (λ (m : ℕ). get_or (differences xs) m (pos 0)) place
     ∙ sym (part_at (differences xs) first (first + (end - first)) k (omega (arith, here))))
 
@@ -248,38 +250,29 @@ held_enough w l bytes end some low high long is = ⊎_elim
 pub fills_from : (s : Scheme) (xs : List ℤ) (l : Left) (w : Window) (end used words : ℕ) (old p : List ℕ) → AreLeft xs l
     → AreFrames old → HoldsDifferences xs w → w.first ≤ l.first → min l.end (l.first + 7 * (length old / 4)) ≤ w.end
     → length w.differences ≡ 7056 → end ≡ min l.end w.end → length p ≡ length old
-    → PacksRun s (take words (data_words p)) (slice_range w.differences (l.first - w.first) (end - w.first))
-    (drop used (slice_range w.differences (l.first - w.first) (end - w.first)))
-    → (used ≤ length (slice_range w.differences (l.first - w.first) (end - w.first))) × (words ≤ length (data_words p))
-    → (used ≡ length (slice_range w.differences (l.first - w.first) (end - w.first)))
-    ⊎ (words ≡ length (data_words p))
-    → AllByRecursion IsEmptyWord (drop words (data_words p))
-    → ((k : ℕ) → k < word_count p → (k < 3) ⊎ (k % 16 ≡ 0) → code_at p k ≡ 0)
+    → IsRunPacked s (slice_range w.differences (l.first - w.first) (end - w.first)) p
+    (Ok (record { used = used; words = words }))
     → Fills s xs l.first l.end (end - l.first) used words p
-fills_from s xs l w end used words old p left frames held low high room is size packed fits whole behind codes =
+fills_from s xs l w end used words old p left frames held low high room is size run =
     let some = left.some in
     let long = frames.long in
     fills_by s xs l.first l.end (end - l.first) used words (length old) p
     (slice_range w.differences (l.first - w.first) (end - w.first))
     (held_part xs w l.first end held low (omega (arith, is, some, high, long)) (omega (arith, is)) room) left.some
     left.inside (held_enough w l (length old) end left.some low high frames.long is) size frames.long frames.whole
-    packed fits whole behind codes
+    run.packed run.inside run.whole run.behind run.codes
 
--- no difference of a part is too large, where none of all is
-pub none_large : (s : Scheme) (xs : List ℤ) (first n i : ℕ) (ds : List ℤ)
-    → ds ≡ slice_range (differences xs) first (first + n) → first + n ≤ length xs
-    → All (IsWithin (width_of s)) (differences xs)
+-- no difference is too large where each fits the scheme
+pub none_large : (s : Scheme) (ds : List ℤ) (i : ℕ) → All (IsWithin (width_of s)) ds
     → ¬ ((i < length ds) × (s ≡ Two) × ¬ (IsWithin 30 (get_or ds i (pos 0))))
-none_large s xs first n i ds e inside fits large =
-    let part = slice_range (differences xs) first (first + n) in
-    let size : length part ≡ first + n - first =
-    length_part (differences xs) first (first + n) (omega arith) (omega (arith, inside, length-differences xs)) in
-    let here : i < length part = subst (λ (l : List ℤ). i < length l) e large.0 in
-    let at : get_or ds i (pos 0) ≡ get_or (differences xs) (first + i) (pos 0) =
-    ap (λ (l : List ℤ). get_or l i (pos 0)) e
-    ∙ part_at (differences xs) first (first + n) i (omega (arith, here, size)) in
-    let one : IsWithin (width_of s) (get_or (differences xs) (first + i) (pos 0)) =
-    All-get_or (IsWithin (width_of s)) (differences xs) (first + i) (pos 0)
-    (omega (arith, here, size, inside, length-differences xs)) fits in
-    large.2 (subst (λ (z : ℤ). IsWithin 30 z) (sym at)
-    (subst (λ (k : Scheme). IsWithin (width_of k) (get_or (differences xs) (first + i) (pos 0))) large.1 one))
+none_large s ds i fit large =
+    large.2 (subst (λ (k : Scheme). IsWithin (width_of k) (get_or ds i (pos 0))) large.1
+    (All-get_or (IsWithin (width_of s)) ds i (pos 0) large.0 fit))
+
+-- what a window holds of differences that fit does so too
+pub part_fits : (width : ℕ) (xs : List ℤ) (ds : List ℤ) (first end : ℕ)
+    → ds ≡ slice_range (differences xs) first end → All (IsWithin width) (differences xs) → All (IsWithin width) ds
+part_fits width xs ds first end is fit =
+    subst (λ (l : List ℤ). All (IsWithin width) l) (sym is)
+    (All-take (IsWithin width) (end - first) (drop first (differences xs))
+    (All-drop (IsWithin width) first (differences xs) fit))

@@ -1,11 +1,14 @@
 //! Samples as Steim frames.
 ghost use Rattle.std.specs.Prelude.{◌≡◌, ℕ, ℤ, List, ◌+◌, ◌-◌, ◌*◌, ◌/◌, ◌%◌, ◌<◌, ◌≤◌, ◌==◌, if◌then◌else◌, length};
-ghost use Rattle.std.specs.Prelude.{min, pos, slice_index_or, All, IfSome};
+ghost use Rattle.std.specs.Prelude.{drop, min, pos, slice_index_or, slice_range, ◌++◌, All, IfSome, Ok};
 ghost use Rattle.mseed_steim.specs.Frames.{word_at};
+ghost use Rattle.mseed_steim.specs.Lookahead.{IsLookahead};
+ghost use Rattle.mseed_steim.specs.Packed.{IsRunPacked};
 ghost use Rattle.mseed_steim.specs.Spelling.{IsWithin};
 ghost use Rattle.mseed_pack.specs.private.Filling.{AreBegun, AreFrames, AreLeft, AreRunEnds, AreSet, AreTaken, GoesOn};
 ghost use Rattle.mseed_pack.specs.private.Filling.{Holds, HoldsDifferences, HoldsInFrames, width_of};
 ghost use Rattle.mseed_pack.specs.private.Marks.{sample_before};
+ghost use Rattle.mseed_pack.specs.Stretches.{differences};
 
 use crate::marks::Mark;
 use crate::options::Encoding;
@@ -13,7 +16,7 @@ use crate::payload::{Filled, Filler, Left};
 use crate::supply::Supply;
 use crate::window::Window;
 use byteorder::{BigEndian, ByteOrder};
-use mseed_steim::{Ends, Scheme, pack_words};
+use mseed_steim::{Ends, Lookahead, Packed, Scheme, pack_words_ahead};
 
 /// Bytes of a word.
 const WORD: usize = 4;
@@ -27,6 +30,8 @@ const MOST: usize = 7;
 pub(crate) struct Frames {
     pub(crate) window: Window,
     pub(crate) before: i32,
+    /// What is known ahead of the next difference.
+    pub(crate) known: Lookahead,
     /// The index of the window's mark that was nearest to the last sample that was packed.
     near: usize,
 }
@@ -37,6 +42,7 @@ impl Frames {
         Frames {
             window: Window::new(),
             before: 0,
+            known: Lookahead::new(),
             near: 0,
         }
     }
@@ -47,6 +53,7 @@ impl Frames {
     {
         self.window.begin(first);
         self.before = first;
+        self.known = Lookahead::new();
         self.near = 0;
     }
 
@@ -59,6 +66,7 @@ impl Frames {
         ensures ends { (samples : List ℤ) → HoldsDifferences samples self.old.window → All (IsWithin 32) samples
             → self.old.before ≡ sample_before samples place → AreRunEnds result samples place count }
         ensures window { self.new.window ≡ self.old.window }
+        ensures known { self.new.known ≡ self.old.known }
     {
         let before = Mark {
             place,
@@ -106,12 +114,12 @@ pub(crate) fn fill_frames<S: Supply>(
     payload: &mut [u8],
 ) -> Filled
     requires frames { AreFrames payload.old }
-    requires left { (samples : List ℤ) × (GoesOn S.supplies frames.old supply.old (width_of scheme) samples left.first
+    requires left { (samples : List ℤ) × (GoesOn S.supplies frames.old supply.old scheme samples left.first
         × AreLeft samples left × IfSome list (λ all. all.now ≡ samples)) }
-    ensures filled { (samples : List ℤ) → GoesOn S.supplies frames.old supply.old (width_of scheme) samples left.first
+    ensures filled { (samples : List ℤ) → GoesOn S.supplies frames.old supply.old scheme samples left.first
         → AreLeft samples left → IfSome list.entry (λ all. all.now ≡ samples)
         → HoldsInFrames scheme samples left result payload.new
-        × GoesOn S.supplies frames.new supply.new (width_of scheme) samples (left.first + result.samples) }
+        × GoesOn S.supplies frames.new supply.new scheme samples (left.first + result.samples) }
     ensures taken { AreTaken left result }
     ensures beside { S.beside supply.new ≡ S.beside supply.old }
 {
@@ -129,28 +137,57 @@ fn pack_held(
     payload: &mut [u8],
 ) -> Filled
     requires frames { AreFrames payload.old }
-    requires held { (samples : List ℤ) × (Holds frames.old (width_of scheme) samples left (length payload.old)
+    requires held { (samples : List ℤ) × (Holds frames.old scheme samples left (length payload.old)
         × IfSome list (λ all. all.now ≡ samples)) }
-    ensures filled { (samples : List ℤ) → Holds frames.old (width_of scheme) samples left (length payload.old)
+    ensures filled { (samples : List ℤ) → Holds frames.old scheme samples left (length payload.old)
         → IfSome list.entry (λ all. all.now ≡ samples) → HoldsInFrames scheme samples left result payload.new
-        × (frames.new.before ≡ sample_before samples (left.first + result.samples)) }
+        × (frames.new.before ≡ sample_before samples (left.first + result.samples))
+        × IsLookahead scheme frames.new.known (drop (left.first + result.samples) (differences samples)) }
     ensures taken { AreTaken left result }
     ensures few { left.first + result.samples ≤ frames.old.window.end }
     ensures window { frames.new.window ≡ frames.old.window }
 {
-    let end = left.end.min(frames.window.end);
-    let at = left.first - frames.window.first;
-    let diffs = &frames.window.differences[at..end - frames.window.first];
-    match pack_words(scheme, diffs, payload) {
-        Ok(packed) => {
-            let ends = find_ends(list, frames, left.first, packed.used);
-            put_constants(payload, ends.first, ends.last);
-            frames.before = ends.last;
-            Filled {
-                samples: packed.used,
-                frames: frames_of(packed.words),
-            }
-        }
+    let window = &mut frames.window;
+    let end = left.end.min(window.end);
+    let known = &mut frames.known;
+    let packed = pack_part(scheme, left.first, end, window, known, payload);
+    let ends = find_ends(list, frames, left.first, packed.used);
+    put_constants(payload, ends.first, ends.last);
+    frames.before = ends.last;
+    Filled {
+        samples: packed.used,
+        frames: frames_of(packed.words),
+    }
+}
+
+/// Packs the differences that the window holds from a place to another, as many as there is room for.
+fn pack_part(
+    scheme: Scheme,
+    first: usize,
+    end: usize,
+    window: &mut Window,
+    known: &mut Lookahead,
+    payload: &mut [u8],
+) -> Packed
+    requires frames { AreFrames payload.old }
+    requires low { window.old.first ≤ first }
+    requires order { first ≤ end }
+    requires high { end ≤ window.old.end }
+    requires room { window.old.end ≤ window.old.first + 7056 }
+    requires fit { All (IsWithin (width_of scheme))
+        (slice_range window.old.differences (first - window.old.first) (end - window.old.first)) }
+    requires known { (more : List ℤ) × IsLookahead scheme known.old
+        (slice_range window.old.differences (first - window.old.first) (end - window.old.first) ++ more) }
+    ensures packed { IsRunPacked scheme
+        (slice_range window.old.differences (first - window.old.first) (end - window.old.first)) payload.new
+        (Ok result) }
+    ensures known { IsLookahead scheme known.new (drop result.used
+        (slice_range window.old.differences (first - window.old.first) (end - window.old.first))) }
+    ensures window { window.new ≡ window.old }
+{
+    let diffs = &window.differences[first - window.first..end - window.first];
+    match pack_words_ahead(scheme, diffs, known, payload) {
+        Ok(packed) => packed,
         // Each difference fits the scheme.
         Err(_) => unreachable!(),
     }
@@ -175,6 +212,7 @@ fn find_ends(list: Option<&[i32]>, frames: &mut Frames, place: usize, count: usi
         → frames.old.before ≡ sample_before samples place → IfSome list.entry (λ all. all.now ≡ samples)
         → AreRunEnds result samples place count }
     ensures window { frames.new.window ≡ frames.old.window }
+    ensures known { frames.new.known ≡ frames.old.known }
 {
     match list {
         Some(samples) => ends_in(samples, place, count),

@@ -1,7 +1,7 @@
 //! The samples of a list, in payloads of any encoding.
 ghost use Rattle.std.specs.Prelude.{◌≡◌, ◌+◌, ℤ, List};
-ghost use Rattle.mseed_pack.specs.private.Filling.{AreBegun, AreFrames, AreLeft, AreTaken, GoesOn, HoldsInFrames, IsListed};
-ghost use Rattle.mseed_pack.specs.private.Filling.{width_of};
+ghost use Rattle.mseed_pack.specs.private.Filling.{AreBegun, AreFrames, AreLeft, AreTaken, GoesOn};
+ghost use Rattle.mseed_pack.specs.private.Filling.{HoldsInFrames, IsListed};
 
 use crate::frames::{Frames, fill_frames};
 use crate::integers::{Width, fill_integers};
@@ -62,11 +62,11 @@ fn fill_listed(
     payload: &mut [u8],
 ) -> Filled
     requires frames { AreFrames payload.old }
-    requires left { (samples : List ℤ) × (GoesOn IsListed frames.old list.old (width_of scheme) samples left.first
+    requires left { (samples : List ℤ) × (GoesOn IsListed frames.old list.old scheme samples left.first
         × AreLeft samples left) }
-    ensures filled { (samples : List ℤ) → GoesOn IsListed frames.old list.old (width_of scheme) samples left.first
+    ensures filled { (samples : List ℤ) → GoesOn IsListed frames.old list.old scheme samples left.first
         → AreLeft samples left → HoldsInFrames scheme samples left result payload.new
-        × GoesOn IsListed frames.new list.new (width_of scheme) samples (left.first + result.samples) }
+        × GoesOn IsListed frames.new list.new scheme samples (left.first + result.samples) }
     ensures taken { AreTaken left result }
 {
     fill_frames(scheme, left, Some(list.samples), frames, list, payload)

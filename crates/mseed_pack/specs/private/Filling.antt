@@ -1,7 +1,8 @@
 -- Steps of filling a payload.
-use Rattle.std.specs.Prelude.{◌≡◌, ℕ, ◌+◌, ◌-◌, ◌*◌, ◌/◌, ◌%◌, ◌^◌, ◌<◌, ◌≤◌, List, length, min, slice_index_or, slice_range, ℤ}
-use Rattle.std.specs.Prelude.{pos, neg_ℤ, ◌≤ℤ◌, ◌<ℤ◌, All}
+use Rattle.std.specs.Prelude.{◌≡◌, ℕ, ◌+◌, ◌-◌, ◌*◌, ◌/◌, ◌%◌, ◌^◌, ◌<◌, ◌≤◌, List, length, drop, min}
+use Rattle.std.specs.Prelude.{slice_index_or, slice_range, ℤ, pos, neg_ℤ, ◌≤ℤ◌, ◌<ℤ◌, All}
 use Rattle.byteorder.specs.Endian.{big_bytes}
+use Rattle.mseed_steim.specs.Lookahead.{IsLookahead}
 use Rattle.mseed_steim.specs.Spelling.{IsWithin, residue}
 use Rattle.mseed_pack.specs.declared.frames.Frames.{Frames}
 use Rattle.mseed_pack.specs.declared.integers.Width.{Width}
@@ -105,32 +106,35 @@ pub record AreBegun (frames : Frames) (first : ℤ) : Type 0 where
   pub low : frames.window.first ≡ 0
   pub high : frames.window.end ≡ 0
   pub held : (samples : List ℤ) → first ≡ slice_index_or samples 0 (pos 0) → HoldsDifferences samples frames.window
+  pub known : (scheme : Scheme) (ds : List ℤ) → IsLookahead scheme frames.known ds
 
--- frames go on at a place of the samples, whose differences have at most so many bits
-pub record GoesOn {S : Type 0} (supplies : S → List ℤ → ℕ → Type 0) (frames : Frames) (supply : S) (width : ℕ)
+-- frames go on in a scheme at a place of the samples, whose differences it holds
+pub record GoesOn {S : Type 0} (supplies : S → List ℤ → ℕ → Type 0) (frames : Frames) (supply : S) (scheme : Scheme)
     (samples : List ℤ) (place : ℕ) : Type 0 where
   pub draws : Draws supplies samples supply frames.window place
   pub before : frames.before ≡ sample_before samples place
   pub fit : All (IsWithin 32) samples
-  pub differences_fit : All (IsWithin width) (differences samples)
+  pub differences_fit : All (IsWithin (width_of scheme)) (differences samples)
+  pub known : IsLookahead scheme frames.known (drop place (differences samples))
   pub few : length samples < 2 ^ 64
 
 -- frames hold differences of the samples that are left: of all, or at least seven for each word of so many bytes
-pub record Holds (frames : Frames) (width : ℕ) (samples : List ℤ) (left : Left) (bytes : ℕ) : Type 0 where
+pub record Holds (frames : Frames) (scheme : Scheme) (samples : List ℤ) (left : Left) (bytes : ℕ) : Type 0 where
   pub held : HoldsDifferences samples frames.window
   pub low : frames.window.first ≤ left.first
   pub high : min left.end (left.first + 7 * (bytes / 4)) ≤ frames.window.end
   pub before : frames.before ≡ sample_before samples left.first
   pub fit : All (IsWithin 32) samples
-  pub differences_fit : All (IsWithin width) (differences samples)
+  pub differences_fit : All (IsWithin (width_of scheme)) (differences samples)
+  pub known : IsLookahead scheme frames.known (drop left.first (differences samples))
   pub are_left : AreLeft samples left
 
 -- frames go on so in an encoding, which is either Steim
 abbrev pub GoesOnIn : {S : Type 0} → (S → List ℤ → ℕ → Type 0) → Frames → S → Encoding → List ℤ → ℕ → Type 0
 GoesOnIn supplies frames supply Int16 samples place = ⊥
 GoesOnIn supplies frames supply Int32 samples place = ⊥
-GoesOnIn supplies frames supply Steim1 samples place = GoesOn supplies frames supply 32 samples place
-GoesOnIn supplies frames supply Steim2 samples place = GoesOn supplies frames supply 30 samples place
+GoesOnIn supplies frames supply Steim1 samples place = GoesOn supplies frames supply One samples place
+GoesOnIn supplies frames supply Steim2 samples place = GoesOn supplies frames supply Two samples place
 
 -- a list of these samples, which have at most so many bits
 abbrev pub HasIntegers : Listed → ℕ → List ℤ → Type 0
@@ -140,8 +144,8 @@ HasIntegers list width samples = (list.samples.now ≡ samples) × All (IsWithin
 abbrev pub StandsInList : Payloads → Listed → Encoding → List ℤ → ℕ → Type 0
 StandsInList payloads list Int16 samples place = HasIntegers list 16 samples
 StandsInList payloads list Int32 samples place = HasIntegers list 32 samples
-StandsInList payloads list Steim1 samples place = GoesOn IsListed payloads.frames list 32 samples place
-StandsInList payloads list Steim2 samples place = GoesOn IsListed payloads.frames list 30 samples place
+StandsInList payloads list Steim1 samples place = GoesOn IsListed payloads.frames list One samples place
+StandsInList payloads list Steim2 samples place = GoesOn IsListed payloads.frames list Two samples place
 
 -- the first and the last of so many samples from a place on
 pub record AreRunEnds (ends : Ends) (samples : List ℤ) (place count : ℕ) : Type 0 where

@@ -32,6 +32,7 @@ pack_held-requires-clause-held g c =
           before = goes.before;
           fit = goes.fit;
           differences_fit = goes.differences_fit;
+          known = goes.known;
           are_left = left;
         },
         c.requires.left.1.2,
@@ -53,6 +54,7 @@ returns-clause-filled g c = λ xs goes left listed.
       before = goes.before;
       fit = goes.fit;
       differences_fit = goes.differences_fit;
+      known = goes.known;
       are_left = left;
     }) listed in (
       filled.0,
@@ -67,6 +69,7 @@ returns-clause-filled g c = λ xs goes left listed.
         before = filled.1;
         fit = goes.fit;
         differences_fit = goes.differences_fit;
+        known = filled.2;
         few = goes.few;
       },
     )

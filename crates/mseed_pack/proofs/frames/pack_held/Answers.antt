@@ -1,16 +1,19 @@
-use Rattle.std.proofs.Common.{◌≡◌, ◌+◌, ◌-◌, ◌≤◌, ℕ, ℤ, pos, refl, rules, arith, length, get_or, sym, subst}
+use Rattle.std.proofs.Common.{◌≡◌, ◌+◌, ◌-◌, ◌≤◌, ℕ, ℤ, pos, List, rules, arith, length, drop, get_or, sym, subst}
 use Rattle.std.proofs.Common.{◌∙◌, w32, to_z, of_z}
 use Rattle.std.specs.Prelude.{slice_range}
 use Rattle.std.proofs.lemmas.Int.{to_z-of_z}
+use Rattle.mseed_steim.specs.declared.ahead.Lookahead.{Lookahead}
+use Rattle.mseed_steim.specs.Lookahead.{IsLookahead}
 use Rattle.mseed_pack.specs.Packing.{HoldsFrames}
-use Rattle.mseed_pack.specs.private.Filling.{AreSet}
+use Rattle.mseed_pack.specs.private.Filling.{AreSet, width_of}
 use Rattle.mseed_pack.specs.Stretches.{differences}
-use Rattle.mseed_pack.proofs.Filled.{fills_from, held_part, holds, none_large, some_used_of, used_most}
+use Rattle.mseed_pack.proofs.Filled.{fills_from, held_part, holds, part_fits, some_used_of, used_most}
+use Rattle.mseed_pack.proofs.Onward.{known_of, known_on}
 use Rattle.mseed_pack.proofs.Room.{words_fit}
 use Rattle.mseed_pack.proofs.frames.pack_held.Goals as goal
 
-pub unreachable-requires : goal.unreachable-requires
-unreachable-requires c =
+pub pack_part-packed-requires : goal.pack_part-packed-requires
+pack_part-packed-requires c =
     let xs = c.requires.held.0 in
     let h = c.requires.held.1.0 in
     let l = c.args.left in
@@ -18,43 +21,52 @@ unreachable-requires c =
     let end = c.min-end.result in
     let left = h.are_left in
     let some = left.some in
-    let inside = left.inside in
     let high = h.high in
     let ordered : l.first ≤ end = omega (arith, c.min-end.ensures, some, high, c.requires.frames.long) in
-    let drawn = held_part xs w l.first end h.held h.low ordered (omega (arith, c.min-end.ensures)) (search rules) in
-    let large = (c.in-Err.ensures.refused c.in-Err.field-0.index).0 refl in
-    none_large c.args.scheme xs l.first (end - l.first) c.in-Err.field-0.index
-    (slice_range w.differences (l.first - w.first) (end - w.first)) drawn
-    (omega (arith, c.min-end.ensures, ordered, inside)) h.differences_fit large.0.0
+    let inside : end ≤ w.end = omega (arith, c.min-end.ensures) in
+    let part : List ℤ = slice_range w.differences (l.first - w.first) (end - w.first) in
+    let drawn = held_part xs w l.first end h.held h.low ordered inside (search rules) in
+    record {
+      frames = c.requires.frames;
+      low = h.low;
+      order = ordered;
+      high = inside;
+      room = h.held.few;
+      fit = part_fits (width_of c.args.scheme) xs part l.first (l.first + (end - l.first)) drawn h.differences_fit;
+      known = (
+        drop (l.first + (end - l.first)) (differences xs),
+        known_of c.args.scheme c.args.frames.now.known part (differences xs) l.first (end - l.first) drawn h.known,
+      );
+    }
 
 pub find_ends-ends-requires : goal.find_ends-ends-requires
 find_ends-ends-requires c =
     let xs = c.requires.held.0 in
     let h = c.requires.held.1.0 in
     let l = c.args.left in
-    let fills = fills_from c.args.scheme xs l c.args.frames.now.window c.min-end.result c.in-Ok.packed.used
-    c.in-Ok.packed.words c.args.payload.now c.pack_words.new.frames h.are_left c.requires.frames h.held h.low h.high
-    (search rules) c.min-end.ensures (search rules) c.in-Ok.ensures.packed c.in-Ok.ensures.inside c.in-Ok.ensures.whole
-    c.in-Ok.ensures.behind c.in-Ok.ensures.codes in
+    let r = c.pack_part-packed.result in
+    let fills = fills_from c.args.scheme xs l c.args.frames.now.window c.min-end.result r.used r.words
+    c.args.payload.now c.pack_part-packed.new.payload h.are_left c.requires.frames h.held h.low h.high (search rules)
+    c.min-end.ensures (search rules) c.pack_part-packed.ensures.packed in
     let some = some_used_of _ _ _ _ _ _ _ _ fills in
     let few = used_most _ _ _ _ _ _ _ _ fills in
-    record {
+    rw c.pack_part-packed.ensures.window (record {
       some = some.0;
       low = h.low;
       high = omega (arith, few, some, c.min-end.ensures);
       held = (xs, (h.held, c.requires.held.1.1));
-    }
+    })
 
 pub put_constants-requires : goal.put_constants-requires
 put_constants-requires c =
-    let size : length c.pack_words.new.frames ≡ length c.args.payload.now = search rules in
+    let size : length c.pack_part-packed.new.payload ≡ length c.args.payload.now = search rules in
     omega (arith, size, c.requires.frames.long)
 
 pub frames_of-requires : goal.frames_of-requires
 frames_of-requires c =
-    let inside = c.in-Ok.ensures.inside.1 in
-    let most = words_fit c.pack_words.new.frames in
-    let size : length c.pack_words.new.frames ≡ length c.args.payload.now = search rules in
+    let inside = c.pack_part-packed.ensures.packed.inside.1 in
+    let most = words_fit c.pack_part-packed.new.payload in
+    let size : length c.pack_part-packed.new.payload ≡ length c.args.payload.now = search rules in
     omega (arith, inside, most, size, c.requires.frames.short)
 
 pub returns-clause-filled : goal.returns-clause-filled
@@ -62,14 +74,19 @@ returns-clause-filled c = λ xs h listed.
     let s = c.args.scheme in
     let l = c.args.left in
     let w = c.args.frames.now.window in
-    let used = c.in-Ok.packed.used in
-    let words = c.in-Ok.packed.words in
-    let old = c.pack_words.new.frames in
+    let used = c.pack_part-packed.result.used in
+    let words = c.pack_part-packed.result.words in
+    let old = c.pack_part-packed.new.payload in
     let new = c.put_constants.new.frames in
-    let fills = fills_from s xs l w c.min-end.result used words c.args.payload.now old h.are_left c.requires.frames h.held
-    h.low h.high (search rules) c.min-end.ensures (search rules) c.in-Ok.ensures.packed c.in-Ok.ensures.inside
-    c.in-Ok.ensures.whole c.in-Ok.ensures.behind c.in-Ok.ensures.codes in
-    let ends = c.find_ends-ends.ensures.ends xs h.held h.fit h.before listed in
+    let end = c.min-end.result in
+    let fills = fills_from s xs l w end used words c.args.payload.now old h.are_left c.requires.frames h.held h.low
+    h.high (search rules) c.min-end.ensures (search rules) c.pack_part-packed.ensures.packed in
+    let left = h.are_left in
+    let some = left.some in
+    let high = h.high in
+    let ordered : l.first ≤ end = omega (arith, c.min-end.ensures, some, high, c.requires.frames.long) in
+    let drawn = held_part xs w l.first end h.held h.low ordered (omega (arith, c.min-end.ensures)) (search rules) in
+    let ends = c.find_ends-ends.ensures.ends xs (rw c.pack_part-packed.ensures.window h.held) h.fit h.before listed in
     let r = c.find_ends-ends.result in
     let first_held : to_z w32 (of_z w32 r.first) ≡ r.first = to_z-of_z w32 r.first (search rules) in
     let last_held : to_z w32 (of_z w32 r.last) ≡ r.last = to_z-of_z w32 r.last (search rules) in
@@ -79,8 +96,13 @@ returns-clause-filled c = λ xs h listed.
     c.put_constants.ensures) in (
       subst (λ (m : ℕ). HoldsFrames s (slice_range (differences xs) l.first l.end)
           (slice_range xs l.first (l.first + used)) m new) (sym c.frames_of.ensures)
-          (holds s xs l.first l.end (c.min-end.result - l.first) used words old new fills (search rules) set),
+          (holds s xs l.first l.end (end - l.first) used words old new fills (search rules) set),
       to_z-of_z w32 _ (search rules) ∙ ends.last_is,
+      subst (λ (k : Lookahead). IsLookahead s k (drop (l.first + used) (differences xs)))
+          (sym c.find_ends-ends.ensures.known)
+          (known_on s c.pack_part-packed.new.known (slice_range w.differences (l.first - w.first) (end - w.first))
+          (differences xs) l.first (end - l.first) used drawn c.pack_part-packed.ensures.packed.inside.0
+          c.pack_part-packed.ensures.known),
     )
 
 pub returns-clause-taken : goal.returns-clause-taken
@@ -88,10 +110,10 @@ returns-clause-taken c =
     let xs = c.requires.held.0 in
     let h = c.requires.held.1.0 in
     let l = c.args.left in
-    let fills = fills_from c.args.scheme xs l c.args.frames.now.window c.min-end.result c.in-Ok.packed.used
-    c.in-Ok.packed.words c.args.payload.now c.pack_words.new.frames h.are_left c.requires.frames h.held h.low h.high
-    (search rules) c.min-end.ensures (search rules) c.in-Ok.ensures.packed c.in-Ok.ensures.inside c.in-Ok.ensures.whole
-    c.in-Ok.ensures.behind c.in-Ok.ensures.codes in
+    let r = c.pack_part-packed.result in
+    let fills = fills_from c.args.scheme xs l c.args.frames.now.window c.min-end.result r.used r.words
+    c.args.payload.now c.pack_part-packed.new.payload h.are_left c.requires.frames h.held h.low h.high (search rules)
+    c.min-end.ensures (search rules) c.pack_part-packed.ensures.packed in
     let some = some_used_of _ _ _ _ _ _ _ _ fills in
     let few = used_most _ _ _ _ _ _ _ _ fills in
     let room = h.held.few in
@@ -107,10 +129,10 @@ returns-clause-few c =
     let xs = c.requires.held.0 in
     let h = c.requires.held.1.0 in
     let l = c.args.left in
-    let fills = fills_from c.args.scheme xs l c.args.frames.now.window c.min-end.result c.in-Ok.packed.used
-    c.in-Ok.packed.words c.args.payload.now c.pack_words.new.frames h.are_left c.requires.frames h.held h.low h.high
-    (search rules) c.min-end.ensures (search rules) c.in-Ok.ensures.packed c.in-Ok.ensures.inside c.in-Ok.ensures.whole
-    c.in-Ok.ensures.behind c.in-Ok.ensures.codes in
+    let r = c.pack_part-packed.result in
+    let fills = fills_from c.args.scheme xs l c.args.frames.now.window c.min-end.result r.used r.words
+    c.args.payload.now c.pack_part-packed.new.payload h.are_left c.requires.frames h.held h.low h.high (search rules)
+    c.min-end.ensures (search rules) c.pack_part-packed.ensures.packed in
     let some = some_used_of _ _ _ _ _ _ _ _ fills in
     let few = used_most _ _ _ _ _ _ _ _ fills in
     omega (arith, few, some.0, c.min-end.ensures)
