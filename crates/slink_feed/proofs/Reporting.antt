@@ -14,7 +14,7 @@ use Rattle.slink_feed.specs.Dialogue.{Talk, read}
 use Rattle.slink_feed.specs.Fetching.{Fetching, line_written, record_reported}
 use Rattle.slink_feed.specs.Listening.{Brings, Listening, begun, telling, whole}
 use Rattle.slink_feed.specs.private.Delivery.{FailsToTakeNext, TakesNext, IsDelivered, IsUndelivered}
-use Rattle.slink_feed.specs.Reports.{AreHandedOver, Kept, Reports, TakesRecords, ReportsRecords, all, but_last, kept}
+use Rattle.slink_feed.specs.Reports.{AreHandedOver, Outputs, Reports, TakesRecords, ReportsRecords, all, but_last, outputs}
 use Rattle.slink_feed.specs.Reporter.{Account, AreReported, Telling, lines_at, lines_of, none, one, telling_behind}
 use Rattle.slink_feed.specs.Reporter.{telling_past}
 use Rattle.slink_feed.specs.Reported.{HasReported, bytes_in, record_in, records_reported}
@@ -135,10 +135,10 @@ behind_more t [] more = refl
 behind_more t (r ∷ rs) more = behind_more (telling_past t r.place r.number) rs more
 
 -- Records that are reported and taken, one after another.
-pub handed_over_none : (a : Kept) → AreHandedOver [] a a
+pub handed_over_none : (a : Outputs) → AreHandedOver [] a a
 handed_over_none a = record { emitted = takes_none a.output; telling = refl; lines = none a.errors }
 
-pub handed_over_both : (some more : List Numbered) (a b c : Kept) → AreHandedOver some a b
+pub handed_over_both : (some more : List Numbered) (a b c : Outputs) → AreHandedOver some a b
     → b.output.failures ≡ a.output.failures → AreHandedOver more b c → AreHandedOver (some ++ more) a c
 handed_over_both some more a b c p fine q = record {
   emitted = takes_both a.output b.output c.output some more (all_taken some a.output b.output p.emitted fine) q.emitted;
@@ -148,7 +148,7 @@ handed_over_both some more a b c p fine q = record {
       p.lines (subst (λ t. AreReported (lines_of t more) b.errors c.errors) p.telling q.lines));
 }
 
-pub reports_none : (t : Talk) (a : Kept) → Reports t t a a
+pub reports_none : (t : Talk) (a : Outputs) → Reports t t a a
 reports_none t a = record {
   records = [];
   reported = reported_none t.holes t.wants;
@@ -156,7 +156,7 @@ reports_none t a = record {
   handed_over = handed_over_none a;
 }
 
-pub reports_both : (old now new : Talk) (a b c : Kept) → Reports old now a b → b.output.failures ≡ a.output.failures
+pub reports_both : (old now new : Talk) (a b c : Outputs) → Reports old now a b → b.output.failures ≡ a.output.failures
     → Reports now new b c → Reports old new a c
 reports_both old now new a b c p fine q = record {
   records = p.records ++ q.records;
@@ -171,14 +171,14 @@ pub told_none : (t : Talk) (reporter : Account) (output errors : BytesWritten)
     → ReportsRecords t t reporter reporter output output errors errors
 told_none t reporter output errors = record {
   received = nothing_noted reporter.received output;
-  reports = reports_none t (kept output errors reporter.telling);
+  reports = reports_none t (outputs output errors reporter.telling);
 }
 
 pub told_both : (old now new : Talk) (r s t : Account) (a b c d e f : BytesWritten) → ReportsRecords old now r s a b d e
     → b.failures ≡ a.failures → ReportsRecords now new s t b c e f → ReportsRecords old new r t a c d f
 told_both old now new r s t a b c d e f p fine q = record {
   received = notes_both r.received s.received t.received a b c fine p.received q.received;
-  reports = reports_both old now new (kept a d r.telling) (kept b e s.telling) (kept c f t.telling) p.reports fine
+  reports = reports_both old now new (outputs a d r.telling) (outputs b e s.telling) (outputs c f t.telling) p.reports fine
       q.reports;
 }
 
@@ -220,7 +220,7 @@ takes_cut (faults.Output count) event before w w' o o' cut =
     (subst (λ bytes. EmittedPrefix o o' bytes cut.more) (record_bytes event) cut.failing)
 
 -- one event more
-pub reports_more : (first : Talk) (now new : Listening) (bytes : List ℕ) (event : Event) (a b c : Kept)
+pub reports_more : (first : Talk) (now new : Listening) (bytes : List ℕ) (event : Event) (a b c : Outputs)
     → Reports first now.talk a b → b.output.failures ≡ a.output.failures → Brings now.talk bytes new event
     → TakesRecords (record_in event) b.output c.output → c.telling ≡ telling_behind b.telling (record_in event)
     → AreReported (lines_of b.telling (record_in event)) b.errors c.errors → Reports first new.talk a c
@@ -235,7 +235,7 @@ reports_more first now new bytes event a b c p fine brings emitted telling lines
 
 -- what is received of bytes
 pub reports_received : (first : Talk) (bytes : List ℕ) (used : ℕ) (before after : Counts) (now new : Fetching)
-    (a b c : Kept) → now.output ≡ b.output → new.output ≡ c.output → Reports first now.client.talk a b
+    (a b c : Outputs) → now.output ≡ b.output → new.output ≡ c.output → Reports first now.client.talk a b
     → b.output.failures ≡ a.output.failures → TakesNext bytes used before after now new b c
     → Reports first new.client.talk a c
 reports_received first bytes used before after now new a b c from to p fine received =
@@ -248,7 +248,7 @@ reports_received first bytes used before after now new a b c from to p fine rece
     received.reported.telling received.reported.lines
 
 pub reports_cut : (first : Talk) (bytes : List ℕ) (fault : LinkFault) (before : Counts) (now new : Fetching)
-    (a b c : Kept) → now.output ≡ b.output → new.output ≡ c.output → Reports first now.client.talk a b
+    (a b c : Outputs) → now.output ≡ b.output → new.output ≡ c.output → Reports first now.client.talk a b
     → b.output.failures ≡ a.output.failures → FailsToTakeNext fault bytes before now new b c
     → Reports first new.client.talk a c
 reports_cut first bytes fault before now new a b c from to p fine received =

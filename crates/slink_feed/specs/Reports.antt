@@ -18,23 +18,23 @@ pub data TakesRecords (records : List Numbered) (old new : BytesWritten) : Type 
       → EmittedPrefix old new (bytes_in records) count → TakesRecords records old new
 
 -- what the output and standard error accepted so far, and what is reported of records
-pub record Kept : Type 0 where
+pub record Outputs : Type 0 where
   pub output : BytesWritten
   pub errors : BytesWritten
   pub telling : Telling
 
-abbrev pub kept : BytesWritten → BytesWritten → Telling → Kept
-kept output errors telling = record { output = output; errors = errors; telling = telling }
+abbrev pub outputs : BytesWritten → BytesWritten → Telling → Outputs
+outputs output errors telling = record { output = output; errors = errors; telling = telling }
 
 -- These records were reported, each before the output accepted a byte of it: where the output failed within the last
 -- one, its lines are there.
-pub record AreHandedOver (records : List Numbered) (old new : Kept) : Type 0 where
+pub record AreHandedOver (records : List Numbered) (old new : Outputs) : Type 0 where
   pub emitted : TakesRecords records old.output new.output
   pub telling : new.telling ≡ telling_behind old.telling records
   pub lines : AreReported (lines_of old.telling records) old.errors new.errors
 
 -- A client reported records, which were reported and taken.
-pub record Reports (old new : Talk) (before after : Kept) : Type 0 where
+pub record Reports (old new : Talk) (before after : Outputs) : Type 0 where
   pub records : List Numbered
   pub reported : HasReported old.holes old.wants new.wants records
   pub holes : new.holes ≡ old.holes
@@ -45,8 +45,8 @@ pub record Reports (old new : Talk) (before after : Kept) : Type 0 where
 pub record ReportsRecords (old new : Talk) (reporter_old reporter_new : Account)
     (output_old output_new errors_old errors_new : BytesWritten) : Type 0 where
   pub received : Notes reporter_old.received reporter_new.received output_old output_new
-  pub reports : Reports old new (kept output_old errors_old reporter_old.telling)
-      (kept output_new errors_new reporter_new.telling)
+  pub reports : Reports old new (outputs output_old errors_old reporter_old.telling)
+      (outputs output_new errors_new reporter_new.telling)
 
 -- A client took a step with its link, in which each record was reported before the output took it.
 pub record TakesReportingTurn (result : Result Turn LinkFault) (old new : Fetching) (before after : BytesRead)

@@ -6,7 +6,7 @@ ghost use Rattle.slink_feed.specs.Fetching.{Delivers, FailsAt, Notes, TakesTurn,
 ghost use Rattle.slink_feed.specs.private.Delivery.{FailsToTakeNext, IsDelivered, IsReportedOf, IsUndelivered};
 ghost use Rattle.slink_feed.specs.private.Delivery.{TakesNext};
 ghost use Rattle.slink_feed.specs.Listening.{IsLinked};
-ghost use Rattle.slink_feed.specs.Reports.{ReportsRecords, TakesReportingTurn, kept};
+ghost use Rattle.slink_feed.specs.Reports.{ReportsRecords, TakesReportingTurn, outputs};
 ghost use Rattle.slink_feed.specs.Reporter.{AreReported, lines_of, telling_behind};
 ghost use Rattle.slink_feed.specs.Reported.{record_in};
 
@@ -172,13 +172,13 @@ fn take_next<L: Sink, W: Sink, E: Sink>(
     ensures ok { IfOk result (λ incoming. TakesNext bytes.now incoming.used counts incoming.counts
         (fetching client.old (L.written link.old) (W.written output.old))
         (fetching client.new (L.written link.new) (W.written output.new))
-        (kept (W.written output.old) (E.written errors.old) reporter.old.telling)
-        (kept (W.written output.new) (E.written errors.new) reporter.new.telling)) }
+        (outputs (W.written output.old) (E.written errors.old) reporter.old.telling)
+        (outputs (W.written output.new) (E.written errors.new) reporter.new.telling)) }
     ensures fault { IfErr result (λ fault. FailsToTakeNext fault bytes.now counts
         (fetching client.old (L.written link.old) (W.written output.old))
         (fetching client.new (L.written link.new) (W.written output.new))
-        (kept (W.written output.old) (E.written errors.old) reporter.old.telling)
-        (kept (W.written output.new) (E.written errors.new) reporter.new.telling)) }
+        (outputs (W.written output.old) (E.written errors.old) reporter.old.telling)
+        (outputs (W.written output.new) (E.written errors.new) reporter.new.telling)) }
     ensures received { Notes reporter.old.received reporter.new.received (W.written output.old) (W.written output.new) }
     ensures beside { L.beside link.new ≡ L.beside link.old }
 {
@@ -259,8 +259,8 @@ fn deliver_record<W: Sink, E: Sink>(
         (Event.Record index number bytes.now) counts link link (W.written output.old) (W.written output.new)) }
     ensures received { Notes reporter.old.received reporter.new.received (W.written output.old) (W.written output.new) }
     ensures reported { IsReportedOf (Event.Record index number bytes.now)
-        (kept (W.written output.old) (E.written errors.old) reporter.old.telling)
-        (kept (W.written output.new) (E.written errors.new) reporter.new.telling) }
+        (outputs (W.written output.old) (E.written errors.old) reporter.old.telling)
+        (outputs (W.written output.new) (E.written errors.new) reporter.new.telling) }
 {
     reporter.note(index, number, errors);
     match write_all_of(output, bytes) {

@@ -5,7 +5,7 @@ use Rattle.mseed_stream.specs.Telling.{Tells}
 use Rattle.slink_feed.specs.Delivered.{Numbered}
 use Rattle.slink_feed.specs.Dialogue.{Wants}
 use Rattle.slink_feed.specs.Listening.{Listening}
-use Rattle.slink_feed.specs.Reports.{kept}
+use Rattle.slink_feed.specs.Reports.{outputs}
 use Rattle.slink_feed.specs.Reporter.{AreReported, Telling, lines_of, next_line_of, none, one, telling_behind}
 use Rattle.slink_feed.specs.Reporter.{telling_of}
 use Rattle.slink_feed.specs.Reporter.{wants_left}
@@ -44,7 +44,7 @@ end_reported end old new records a d reported all =
 
 -- all that is reported
 pub all_reported : (firsts : Bool) (end : FetchEnd) (old new : Listening) (t u : Telling) (o p a b c d : BytesWritten)
-    (f : FetchesReporting end old new (kept o a t) (kept p b u)) → t ≡ telling_of old.talk.wants firsts
+    (f : FetchesReporting end old new (outputs o a t) (outputs p b u)) → t ≡ telling_of old.talk.wants firsts
     → ReportsOfFetch end b c → AreReported (next_lines firsts (wants_left (is_unwritten end) u.last new.talk.wants)) c d
     → ReportsOfAll firsts end f.fetched.records old.talk.wants new.talk.wants a d
 all_reported firsts end old new t u o p a b c d f begun ended next =

@@ -22,7 +22,7 @@ use Rattle.slink_feed.specs.Fetching.{fetching, line_written, lines_written, rec
 use Rattle.slink_feed.specs.Listening.{IsLinked, Listening, Reads}
 use Rattle.slink_feed.specs.Reported.{HasReported, bytes_in, record_in, records_reported}
 use Rattle.slink_feed.specs.Turns.{Emitted, EmittedPrefix}
-use Rattle.slink_feed.specs.Reports.{Kept, TakesRecords, Reports, all, but_last}
+use Rattle.slink_feed.specs.Reports.{Outputs, TakesRecords, Reports, all, but_last}
 use Rattle.slink_feed.proofs.Deliveries.{on_both, on_none}
 use Rattle.slink_feed.proofs.Numbers.{kept_place}
 use Rattle.slink_feed.proofs.OneReading as one
@@ -418,7 +418,7 @@ read_link end old now new event h i s t says reads p = record {
 }
 
 -- its records are those that were reported
-pub fetched_telling : (end : FetchEnd) (old now new : Listening) (event : Event) (a b : Kept)
+pub fetched_telling : (end : FetchEnd) (old now new : Listening) (event : Event) (a b : Outputs)
     → says_place 0 old.talk ≡ (now.talk, event) → HasFetched end old new a.output b.output
     → Reports now.talk new.talk a b → FetchesReporting end old new a b
 fetched_telling end old now new event a b says f p =
@@ -437,7 +437,7 @@ fetched_telling end old now new event a b says f p =
     }
 
 -- no link yet
-pub fetched_none : (now : Listening) (a : Kept) → FetchesReporting LinkFailed now now a a
+pub fetched_none : (now : Listening) (a : Outputs) → FetchesReporting LinkFailed now now a a
 fetched_none now a = record {
   fetched = record {
     records = [];
@@ -462,7 +462,7 @@ stands_behind LinkFailed a b c before stands = elim stands [
 ]
 
 -- one link after another
-pub fetched_both : (end : FetchEnd) (a b c : Listening) (s t u : Kept) → FetchesReporting LinkFailed a b s t
+pub fetched_both : (end : FetchEnd) (a b c : Listening) (s t u : Outputs) → FetchesReporting LinkFailed a b s t
     → FetchesReporting end b c t u → FetchesReporting end a c s u
 fetched_both end a b c s t u x y =
     let p : HasFetched LinkFailed a b s.output t.output = x.fetched in

@@ -18,7 +18,7 @@ use Rattle.slink_feed.specs.Delivered.{Numbered}
 use Rattle.slink_feed.specs.Dialogue.{Talk, Wants, next_at, says_place}
 use Rattle.slink_feed.specs.Fetching.{Fetching, ReadsOn, TakesTurn, fetching, line_written}
 use Rattle.slink_feed.specs.Listening.{IsLinked, Listening, Reads}
-use Rattle.slink_feed.specs.Reports.{AreHandedOver, Kept, TakesRecords}
+use Rattle.slink_feed.specs.Reports.{AreHandedOver, Outputs, TakesRecords}
 use Rattle.slink_feed.specs.Reporter.{AreReported, lines_of, next_line_of, telling_behind, telling_of, wants_left}
 use Rattle.slink_feed.specs.Reported.{HasReported, numbers_at, records_reported}
 use Rattle.slink_feed.specs.Turns.{Emitted, EmittedPrefix}
@@ -99,7 +99,7 @@ pub record HasFetched (end : FetchEnd) (old new : Listening) (written_old writte
   pub failures : written_new.failures ≡ written_old.failures + output_failures end
 
 -- Links were fetched over so, and standard error was informed of the records before the output accepted them.
-pub record FetchesReporting (end : FetchEnd) (old new : Listening) (before after : Kept) : Type 0 where
+pub record FetchesReporting (end : FetchEnd) (old new : Listening) (before after : Outputs) : Type 0 where
   pub fetched : HasFetched end old new before.output after.output
   pub handed_over : AreHandedOver fetched.records before after
 

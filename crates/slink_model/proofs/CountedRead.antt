@@ -186,13 +186,13 @@ module _ (places : Places) (differ : Differ places) (codes : (k : ℕ) (p : Fiel
       (subst (λ b. Left places differ codes l.session.state before (talk_after w.client.talk bs) b (undelivered e its))
       server (out.after l.first_sent (gained (taking w l)) refl
       (subst (λ (t : Talk). IsLinked t.stage) talk on))) in
-      let kept_now : v.client.kept ≡ rest = sym (append-nil v.client.kept)
+      let outputs_now : v.client.kept ≡ rest = sym (append-nil v.client.kept)
       ∙ (ap (λ b. v.client.kept ++ b) (sym (x.all on)) ∙ one.1) in
       let way_now : m.to_client ≡ drop (part e its) (way_bytes (undelivered e its)) =
       h.left ∙ (ap (drop n) way ∙ (drop-drop n p all ∙ drop_behind its e)) in
       record {
         flows = record {
-          flow = ap (λ b. b ++ m.to_client) kept_now
+          flow = ap (λ b. b ++ m.to_client) outputs_now
               ∙ (ap (λ b. rest ++ b) way_now ∙ take-append-drop (part e its) (way_bytes (undelivered e its)));
           borne = left.borne;
           suited = left.suited;

@@ -7,7 +7,7 @@ use Rattle.slink_feed.specs.declared.turn.LinkFault.{LinkFault}
 use Rattle.slink_feed.specs.declared.turn.LinkFault.TheVariants as faults
 use Rattle.slink_feed.specs.Fetching.{Fetching, line_written, record_reported}
 use Rattle.slink_feed.specs.Listening.{Brings, Listening}
-use Rattle.slink_feed.specs.Reports.{Kept}
+use Rattle.slink_feed.specs.Reports.{Outputs}
 use Rattle.slink_feed.specs.Reporter.{AreReported, lines_of, telling_behind}
 use Rattle.slink_feed.specs.Reported.{record_in}
 use Rattle.slink_feed.specs.Turns.{Emitted, EmittedPrefix}
@@ -47,12 +47,12 @@ pub record ComesTo (event : Event) (used : ℕ) (bytes : List ℕ) (old new : Li
   pub bound : used ≤ length bytes
 
 -- A record that an event reports was reported.
-pub record IsReportedOf (event : Event) (old new : Kept) : Type 0 where
+pub record IsReportedOf (event : Event) (old new : Outputs) : Type 0 where
   pub telling : new.telling ≡ telling_behind old.telling (record_in event)
   pub lines : AreReported (lines_of old.telling (record_in event)) old.errors new.errors
 
 -- Of these bytes so many were taken, and what they come to was reported and delivered.
-pub record TakesNext (bytes : List ℕ) (used : ℕ) (before after : Counts) (old new : Fetching) (was is : Kept) : Type
+pub record TakesNext (bytes : List ℕ) (used : ℕ) (before after : Counts) (old new : Fetching) (was is : Outputs) : Type
     0 where
   pub event : Event
   pub comes : ComesTo event used bytes old.client new.client
@@ -61,7 +61,7 @@ pub record TakesNext (bytes : List ℕ) (used : ℕ) (before after : Counts) (ol
 
 -- It was reported, and a device failed at it.
 pub record FailsToTakeNext (fault : LinkFault) (bytes : List ℕ) (before : Counts) (old new : Fetching)
-    (was is : Kept) : Type 0 where
+    (was is : Outputs) : Type 0 where
   pub event : Event
   pub used : ℕ
   pub comes : ComesTo event used bytes old.client new.client

@@ -4,7 +4,7 @@ use Rattle.mseed_stream.specs.Device.{BytesRead}
 use Rattle.slink_feed.specs.Fetching.{Fetching, fetching}
 use Rattle.slink_links.specs.declared.fetching.FetchEnd.TheVariants.{LinkFailed}
 use Rattle.slink_links.specs.Fetched.{HasReadLink, HasTakenAll, IsFetchedOver, by_turns, unwritten}
-use Rattle.slink_feed.specs.Reports.{Kept, kept}
+use Rattle.slink_feed.specs.Reports.{Outputs, outputs}
 use Rattle.slink_feed.proofs.Reporting.{reports_none}
 use Rattle.slink_links.proofs.Fetches.{connected_linked, fetched_link, fetched_telling, read_link, emitted_as}
 use Rattle.slink_links.proofs.Fetches.{emitted_prefix_as, turned_none}
@@ -18,9 +18,9 @@ take_turns-requires-clause-linked g c =
 
 pub returns-in-Ok-clause-fetched : goal.returns-in-Ok-clause-fetched
 returns-in-Ok-clause-fetched g c =
-    let before : Kept = kept (g.W.Sink.written c.args.output.now) (g.E.Sink.written c.args.errors.now)
+    let before : Outputs = outputs (g.W.Sink.written c.args.output.now) (g.E.Sink.written c.args.errors.now)
     c.args.reporter.now.telling in
-    let after : Kept = kept (g.W.Sink.written c.take_turns.new.output) (g.E.Sink.written c.take_turns.new.errors)
+    let after : Outputs = outputs (g.W.Sink.written c.take_turns.new.output) (g.E.Sink.written c.take_turns.new.errors)
     c.take_turns.new.reporter.telling in
     fetched_telling c.take_turns.result c.args.client.now c.connect-line.new.self c.take_turns.new.client
     (Say c.connect-line.result) before after c.connect-line.ensures.written
@@ -50,7 +50,7 @@ returns-in-Err-clause-fetched g c =
     let now = c.connect-line.new.self in
     let read = g.S.Source.read c.args.link.now in
     let written = g.W.Sink.written c.args.output.now in
-    let same : Kept = kept written (g.E.Sink.written c.args.errors.now) c.args.reporter.now.telling in
+    let same : Outputs = outputs written (g.E.Sink.written c.args.errors.now) c.args.reporter.now.telling in
     let none = turned_none now read written
     (connected_linked c.args.client.now.talk now.talk (Say c.connect-line.result)
     c.connect-line.ensures.written) in

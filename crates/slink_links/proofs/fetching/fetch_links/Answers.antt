@@ -1,6 +1,6 @@
 use Rattle.std.proofs.Common.{◌≡◌, arith, refl, rules, subst}
 use Rattle.slink_links.specs.declared.fetching.FetchEnd.TheVariants.{LinkFailed}
-use Rattle.slink_feed.specs.Reports.{Kept, kept}
+use Rattle.slink_feed.specs.Reports.{Outputs, outputs}
 use Rattle.slink_links.specs.Fetched.{Calls, FetchesReporting, HasReadEach, HasTried, calls_of}
 use Rattle.slink_links.proofs.Fetches.{fetched_both, fetched_none, reads_both, reads_none}
 use Rattle.slink_links.proofs.Tries.{few_counted, nothing_tried, tried_last, tried_more}
@@ -9,7 +9,7 @@ use Rattle.slink_links.proofs.fetching.fetch_links.Goals as goal
 pub returns-then-tries-eq0-clause-fetched : goal.returns-then-tries-eq0-clause-fetched
 returns-then-tries-eq0-clause-fetched g c =
     fetched_none c.args.client.now
-    (kept (g.W.Sink.written c.args.output.now) (g.E.Sink.written c.args.errors.now) c.args.reporter.now.telling)
+    (outputs (g.W.Sink.written c.args.output.now) (g.E.Sink.written c.args.errors.now) c.args.reporter.now.telling)
 
 pub returns-then-tries-eq0-clause-read : goal.returns-then-tries-eq0-clause-read
 returns-then-tries-eq0-clause-read g c =
@@ -21,7 +21,7 @@ links-init g c =
     (g.P.Pause.called c.args.waits.now) in
     record {
       fetched = fetched_none c.args.client.now
-          (kept (g.W.Sink.written c.args.output.now) (g.E.Sink.written c.args.errors.now) c.args.reporter.now.telling);
+          (outputs (g.W.Sink.written c.args.output.now) (g.E.Sink.written c.args.errors.now) c.args.reporter.now.telling);
       some = omega (arith, c.if-tries-eq0.false);
       most = omega arith;
       dialled = refl;
@@ -33,10 +33,10 @@ links-init g c =
 pub returns-then-ne-clause-fetched : goal.returns-then-ne-clause-fetched
 returns-then-ne-clause-fetched g c =
     fetched_both c.try_link-end.result.0 c.args.client.now c.links.client c.try_link-end.new.client
-    (kept (g.W.Sink.written c.args.output.now) (g.E.Sink.written c.args.errors.now) c.args.reporter.now.telling)
-    (kept (g.W.Sink.written c.links.output) (g.E.Sink.written c.links.errors)
+    (outputs (g.W.Sink.written c.args.output.now) (g.E.Sink.written c.args.errors.now) c.args.reporter.now.telling)
+    (outputs (g.W.Sink.written c.links.output) (g.E.Sink.written c.links.errors)
     c.links.reporter.telling)
-    (kept (g.W.Sink.written c.try_link-end.new.output) (g.E.Sink.written c.try_link-end.new.errors)
+    (outputs (g.W.Sink.written c.try_link-end.new.output) (g.E.Sink.written c.try_link-end.new.errors)
     c.try_link-end.new.reporter.telling) c.links.invariant.fetched c.try_link-end.ensures.fetched
 
 pub returns-then-ne-clause-read : goal.returns-then-ne-clause-read
@@ -85,8 +85,8 @@ links-preserved g c =
     let first = g.W.Sink.written c.args.output.now in
     let written_now = g.W.Sink.written c.links.output in
     let written_new = g.W.Sink.written c.try_link-end.new.output in
-    let kept_now : Kept = kept written_now (g.E.Sink.written c.links.errors) c.links.reporter.telling in
-    let kept_new : Kept = kept written_new (g.E.Sink.written c.try_link-end.new.errors)
+    let outputs_now : Outputs = outputs written_now (g.E.Sink.written c.links.errors) c.links.reporter.telling in
+    let outputs_new : Outputs = outputs written_new (g.E.Sink.written c.try_link-end.new.errors)
     c.try_link-end.new.reporter.telling in
     let links_now = g.D.Dial.given_back c.links.dialler in
     let links_new = g.D.Dial.given_back c.try_link-end.new.dialler in
@@ -99,9 +99,9 @@ links-preserved g c =
     (g.P.Pause.called c.wait_behind-count.new.waits) in
     record {
       fetched = fetched_both LinkFailed c.args.client.now now new
-          (kept (g.W.Sink.written c.args.output.now) (g.E.Sink.written c.args.errors.now) c.args.reporter.now.telling)
-          kept_now kept_new c.links.invariant.fetched
-          (subst (λ end. FetchesReporting end now new kept_now kept_new) same c.try_link-end.ensures.fetched);
+          (outputs (g.W.Sink.written c.args.output.now) (g.E.Sink.written c.args.errors.now) c.args.reporter.now.telling)
+          outputs_now outputs_new c.links.invariant.fetched
+          (subst (λ end. FetchesReporting end now new outputs_now outputs_new) same c.try_link-end.ensures.fetched);
       some = omega (arith, c.if-left-eq0.false);
       most = omega (arith, c.links.invariant.most);
       dialled = omega (arith, c.try_link-end.ensures.dialled, c.links.invariant.dialled, c.links.invariant.some);

@@ -2,7 +2,7 @@ use Rattle.std.proofs.Common.{Bool, [], ◌∷◌, ◌++◌, ◌∙◌, ap, subs
 use Rattle.mseed_stream.specs.Exchanges.{Exchange, exchange}
 use Rattle.slink_links.specs.declared.fetching.FetchEnd.TheVariants.{LinkFailed}
 use Rattle.slink_feed.specs.Fetching.{Notes}
-use Rattle.slink_feed.specs.Reports.{Kept, kept}
+use Rattle.slink_feed.specs.Reports.{Outputs, outputs}
 use Rattle.slink_feed.specs.Reporter.{Account, Telling}
 use Rattle.slink_links.specs.Fetched.{FetchesReporting, HasReadEach, HasTried}
 use Rattle.slink_links.proofs.Fetches.{fetched_none, reads_none, reads_one, was_over}
@@ -48,17 +48,17 @@ returns-in-Some-clause-tried g c =
 
 pub returns-in-Some-clause-fetched : goal.returns-in-Some-clause-fetched
 returns-in-Some-clause-fetched g c =
-    let after : Kept = kept (g.W.Sink.written c.fetch_link_reporting-end.new.output)
+    let after : Outputs = outputs (g.W.Sink.written c.fetch_link_reporting-end.new.output)
     (g.E.Sink.written c.fetch_link_reporting-end.new.errors) c.fetch_link_reporting-end.new.reporter.telling in
     subst (λ (t : Telling). FetchesReporting c.fetch_link_reporting-end.result c.args.client.now
     c.fetch_link_reporting-end.new.client
-    (kept (g.W.Sink.written c.args.output.now) (g.E.Sink.written c.args.errors.now) t) after)
+    (outputs (g.W.Sink.written c.args.output.now) (g.E.Sink.written c.args.errors.now) t) after)
     (ap (λ (a : Account). a.telling) c.begin.ensures) c.fetch_link_reporting-end.ensures.fetched
 
 pub returns-in-None-clause-fetched : goal.returns-in-None-clause-fetched
 returns-in-None-clause-fetched g c =
     fetched_none c.args.client.now
-    (kept (g.W.Sink.written c.args.output.now) (g.E.Sink.written c.args.errors.now) c.args.reporter.now.telling)
+    (outputs (g.W.Sink.written c.args.output.now) (g.E.Sink.written c.args.errors.now) c.args.reporter.now.telling)
 
 pub returns-in-None-clause-read : goal.returns-in-None-clause-read
 returns-in-None-clause-read g c =
