@@ -13,7 +13,7 @@ use Rattle.slink_feed.specs.declared.turn.Turn.TheVariants as turns
 use Rattle.slink_feed.specs.private.Delivery.{ComesTo, FailsAtEvent, IsDelivered, IsUndelivered}
 use Rattle.slink_feed.specs.Fetching.{Delivers, FailsAt, FailsAtLast, Fetches, Fetching, ReadsOn, Takes, bytes_reported}
 use Rattle.slink_feed.specs.Fetching.{joined_by, line_written, lines_written, record_reported}
-use Rattle.slink_feed.specs.Listening.{Brings, IsLinked, Listening, Reads, telling}
+use Rattle.slink_feed.specs.Listening.{Brings, IsLinked, Listening, Reads, event_if_any}
 use Rattle.slink_feed.specs.Turns.{Emitted, EmittedPrefix, reported_once}
 use Rattle.slink_feed.proofs.Goings.{says_on, still_linked, tells_on}
 use Rattle.slink_feed.proofs.Prefixes.{from_offset}
@@ -76,37 +76,37 @@ joined_more given [] fs = refl
 joined_more given (e ∷ es) fs = ap (λ s. given e ++ s) (joined_more given es fs)
     ∙ sym (append_assoc (given e) (joined_by given es) (joined_by given fs))
 
-joined_telling : (given : Event → List ℕ) (e : Event) → given events.None ≡ [] → joined_by given (telling e) ≡ given e
-joined_telling given events.None none = sym none
-joined_telling given (events.Say line) none = append-nil (given (events.Say line))
-joined_telling given (events.Record k n r) none = append-nil (given (events.Record k n r))
-joined_telling given events.End none = append-nil (given events.End)
-joined_telling given (events.Refused k) none = append-nil (given (events.Refused k))
-joined_telling given (events.Gap k want got) none = append-nil (given (events.Gap k want got))
-joined_telling given events.Garbage none = append-nil (given events.Garbage)
-joined_telling given events.Foreign none = append-nil (given events.Foreign)
+joined_event : (given : Event → List ℕ) (e : Event) → given events.None ≡ [] → joined_by given (event_if_any e) ≡ given e
+joined_event given events.None none = sym none
+joined_event given (events.Say line) none = append-nil (given (events.Say line))
+joined_event given (events.Record k n r) none = append-nil (given (events.Record k n r))
+joined_event given events.End none = append-nil (given events.End)
+joined_event given (events.Refused k) none = append-nil (given (events.Refused k))
+joined_event given (events.Gap k want got) none = append-nil (given (events.Gap k want got))
+joined_event given events.Garbage none = append-nil (given events.Garbage)
+joined_event given events.Foreign none = append-nil (given events.Foreign)
 
 joined_once : (given : Event → List ℕ) (es : List Event) (e : Event) → given events.None ≡ []
-    → joined_by given (es ++ telling e) ≡ joined_by given es ++ given e
-joined_once given es e none = joined_more given es (telling e)
-    ∙ ap (λ s. joined_by given es ++ s) (joined_telling given e none)
+    → joined_by given (es ++ event_if_any e) ≡ joined_by given es ++ given e
+joined_once given es e none = joined_more given es (event_if_any e)
+    ∙ ap (λ s. joined_by given es ++ s) (joined_event given e none)
 
 -- an event that gives something
-telling_some : (given : Event → List ℕ) (e : Event) → given events.None ≡ [] → 0 < length (given e) → telling e ≡ e ∷ []
-telling_some given events.None none some = absurd (omega (arith, some, ap length none))
-telling_some given (events.Say line) none some = refl
-telling_some given (events.Record k n r) none some = refl
-telling_some given events.End none some = refl
-telling_some given (events.Refused k) none some = refl
-telling_some given (events.Gap k want got) none some = refl
-telling_some given events.Garbage none some = refl
-telling_some given events.Foreign none some = refl
+some_event : (given : Event → List ℕ) (e : Event) → given events.None ≡ [] → 0 < length (given e) → event_if_any e ≡ e ∷ []
+some_event given events.None none some = absurd (omega (arith, some, ap length none))
+some_event given (events.Say line) none some = refl
+some_event given (events.Record k n r) none some = refl
+some_event given events.End none some = refl
+some_event given (events.Refused k) none some = refl
+some_event given (events.Gap k want got) none some = refl
+some_event given events.Garbage none some = refl
+some_event given events.Foreign none some = refl
 
 -- what `take` says of a piece at an offset
 pub record IsPiece (now new : Listening) (bytes : List ℕ) (offset used : ℕ) (event : Event) : Type 0 where
   pub linked : IsLinked now.talk.stage
   pub brings : Brings now.talk (now.kept ++ take used (take (length bytes - offset) (drop offset bytes))) new event
-  pub reads : ReadsOn now (take used (take (length bytes - offset) (drop offset bytes))) (telling event) new
+  pub reads : ReadsOn now (take used (take (length bytes - offset) (drop offset bytes))) (event_if_any event) new
   pub some : 0 < used
   pub bound : used ≤ length bytes - offset
 
@@ -172,24 +172,24 @@ nothing_so_far s bytes = record {
 module _ (old now new : Fetching) (bytes : List ℕ) (offset used : ℕ) (event : Event) (before : Counts)
     (so_far : SoFar old now bytes offset before.written before.output)
     (piece : IsPiece now.client new.client bytes offset used event) where
-  further : ReadsOn old.client (take (offset + used) bytes) (so_far.reported ++ telling event) new.client
-  further = subst (λ (s : List ℕ). ReadsOn old.client s (so_far.reported ++ telling event) new.client)
+  further : ReadsOn old.client (take (offset + used) bytes) (so_far.reported ++ event_if_any event) new.client
+  further = subst (λ (s : List ℕ). ReadsOn old.client s (so_far.reported ++ event_if_any event) new.client)
       (piece_is bytes offset used)
       (on_both old.client now.client new.client (take offset bytes)
-      (take used (take (length bytes - offset) (drop offset bytes))) so_far.reported (telling event) so_far.reads
+      (take used (take (length bytes - offset) (drop offset bytes))) so_far.reported (event_if_any event) so_far.reads
       piece.reads)
 
   pub one_more : (after : Counts) → IsDelivered event before after now.written new.written now.output new.output
       → SoFar old new bytes (offset + used) after.written after.output
   one_more after done =
-      let lines : lines_written (so_far.reported ++ telling event) ≡ lines_written so_far.reported ++ line_written
+      let lines : lines_written (so_far.reported ++ event_if_any event) ≡ lines_written so_far.reported ++ line_written
       event =
       joined_once line_written so_far.reported event refl in
-      let records : bytes_reported (so_far.reported ++ telling event) ≡ bytes_reported so_far.reported ++
+      let records : bytes_reported (so_far.reported ++ event_if_any event) ≡ bytes_reported so_far.reported ++
       record_reported event =
       joined_once record_reported so_far.reported event refl in
       record {
-        reported = so_far.reported ++ telling event;
+        reported = so_far.reported ++ event_if_any event;
         within = omega (arith, so_far.within, piece.bound);
         reads = further;
         linked = λ linked. still_linked now.client.talk
@@ -197,10 +197,10 @@ module _ (old now new : Fetching) (bytes : List ℕ) (offset used : ℕ) (event 
             piece.brings piece.linked;
         written = emitted_further old.written now.written new.written (lines_written so_far.reported)
             (line_written event)
-            (lines_written (so_far.reported ++ telling event)) lines so_far.written done.written;
+            (lines_written (so_far.reported ++ event_if_any event)) lines so_far.written done.written;
         output = emitted_further old.output now.output new.output (bytes_reported so_far.reported)
             (record_reported event)
-            (bytes_reported (so_far.reported ++ telling event)) records so_far.output done.output;
+            (bytes_reported (so_far.reported ++ event_if_any event)) records so_far.output done.output;
         written_counted = done.written_count ∙ (ap (λ n. n + length (line_written event)) so_far.written_counted
             ∙ (sym (length-append (lines_written so_far.reported) (line_written event)) ∙ ap length (sym lines)));
         output_counted = done.output_count ∙ (ap (λ n. n + length (record_reported event)) so_far.output_counted
@@ -209,7 +209,7 @@ module _ (old now new : Fetching) (bytes : List ℕ) (offset used : ℕ) (event 
         output_few = omega (arith, done.output_count, done.sized, so_far.output_few, piece.some);
       }
 
-  takes_last : telling event ≡ event ∷ [] → Takes old.client new.client bytes (so_far.reported ++ event ∷ [])
+  takes_last : event_if_any event ≡ event ∷ [] → Takes old.client new.client bytes (so_far.reported ++ event ∷ [])
   takes_last one = record {
     taken = take (offset + used) bytes;
     prefix = is_prefix bytes (offset + used);
@@ -227,7 +227,7 @@ module _ (old now new : Fetching) (bytes : List ℕ) (offset used : ℕ) (event 
       → FailsAtLast given others old.client new.client bytes count f h o q
   fails_within given others f g h o p q count_before count none counted emitted other linked cut =
       let some : 0 < length (given event) = omega (arith, cut.failing.part) in
-      let one : telling event ≡ event ∷ [] = telling_some given event none some in
+      let one : event_if_any event ≡ event ∷ [] = some_event given event none some in
       let joined : joined_by given (so_far.reported ++ event ∷ []) ≡ joined_by given so_far.reported ++ given event =
       ap (λ es. joined_by given (so_far.reported ++ es)) (sym one) ∙ joined_once given so_far.reported event none in
       let total : count ≡ length (joined_by given so_far.reported) + cut.more =

@@ -19,7 +19,7 @@ use Rattle.slink_feed.specs.Cutting.{IsBegun, IsWhole}
 use Rattle.slink_feed.specs.Delivered.{AreWanted, Numbered, all_packets, record_events}
 use Rattle.slink_feed.specs.Dialogue.{Talk, Whole, Packet, at_packet, bearer, ended, is_ahead, read, read_at, if_wanted}
 use Rattle.slink_feed.specs.Dialogue.{next_at, reported}
-use Rattle.slink_feed.specs.Listening.{AreBrought, Brought, Listening, Reads, bytes_of, events_of, talk_after, telling}
+use Rattle.slink_feed.specs.Listening.{AreBrought, Brought, Listening, Reads, bytes_of, events_of, talk_after, event_if_any}
 use Rattle.slink_feed.proofs.Received.{begun_none}
 use Rattle.slink_feed.proofs.Wholes.{prefix_begun}
 
@@ -119,7 +119,7 @@ whole_prefixed t r rs d at are ge more =
       );
       bytes = ap (λ xs. p ++ xs) more.1.bytes ∙ sym (append_assoc p (bytes_of bs) more.0.kept);
       events_are = ap (λ es. events.Record r.place r.number r.bytes ∷ es) more.1.events_are
-          ∙ ap (λ (x : Talk × Event). telling x.1 ++ events_of x.0 bs) (sym h);
+          ∙ ap (λ (x : Talk × Event). event_if_any x.1 ++ events_of x.0 bs) (sym h);
       talk = more.1.talk ∙ ap (λ (x : Talk × Event). talk_after x.0 bs) (sym h);
       is_begun = more.1.is_begun;
     } in (

@@ -16,7 +16,7 @@ use Rattle.slink_feed.specs.Dialogue.{Talk, Whole, Reply, Packet, End, Garbage, 
 use Rattle.slink_feed.specs.Dialogue.{read_at}
 use Rattle.slink_feed.specs.Listening.{AreBrought, AwaitsReply, Brings, Brought, IsLinked, Listening, Reads, begun}
 use Rattle.slink_feed.specs.Listening.{bytes_of}
-use Rattle.slink_feed.specs.Listening.{events_of, talk_after, telling, whole}
+use Rattle.slink_feed.specs.Listening.{events_of, talk_after, event_if_any, whole}
 
 -- a packet's number has six digits
 pub packet_short : (bytes packet record_bytes : List ℕ) (n : ℕ) → length bytes ≡ 520 → packet ≡ take 520 bytes
@@ -147,12 +147,12 @@ talk_more t [] b = refl
 talk_more t (c ∷ cs) b = talk_more (read t c.whole).0 cs b
 
 events_more : (t : Talk) (bs : List Brought) (b : Brought)
-    → events_of t (bs ++ b ∷ []) ≡ events_of t bs ++ telling (read (talk_after t bs) b.whole).1
-events_more t [] b = append-nil (telling (read t b.whole).1)
+    → events_of t (bs ++ b ∷ []) ≡ events_of t bs ++ event_if_any (read (talk_after t bs) b.whole).1
+events_more t [] b = append-nil (event_if_any (read t b.whole).1)
 events_more t (c ∷ cs) b =
-    ap (λ es. telling (read t c.whole).1 ++ es) (events_more (read t c.whole).0 cs b)
-    ∙ sym (append_assoc (telling (read t c.whole).1) (events_of (read t c.whole).0 cs)
-    (telling (read (talk_after t (c ∷ cs)) b.whole).1))
+    ap (λ es. event_if_any (read t c.whole).1 ++ es) (events_more (read t c.whole).0 cs b)
+    ∙ sym (append_assoc (event_if_any (read t c.whole).1) (events_of (read t c.whole).0 cs)
+    (event_if_any (read (talk_after t (c ∷ cs)) b.whole).1))
 
 bytes_more : (bs : List Brought) (b : Brought) → bytes_of (bs ++ b ∷ []) ≡ bytes_of bs ++ b.bytes
 bytes_more [] b = append-nil b.bytes
@@ -160,7 +160,7 @@ bytes_more (c ∷ cs) b = ap (λ xs. c.bytes ++ xs) (bytes_more cs b) ∙ sym (a
 
 reads_whole : (start : Talk) (stream more : List ℕ) (es : List Event) (now new : Listening) (e : Event) (w : Whole)
     → IsWhole now.talk.stage (now.kept ++ more) w → read now.talk w ≡ (new.talk, e) → new.kept ≡ []
-    → Reads start stream es now → Reads start (stream ++ more) (es ++ telling e) new
+    → Reads start stream es now → Reads start (stream ++ more) (es ++ event_if_any e) new
 reads_whole start stream more es now new e w is h none reads =
     let b : Brought = record { bytes = now.kept ++ more; whole = w } in
     let at : read (talk_after start reads.brought) w ≡ (new.talk, e) = ap (λ (t : Talk). read t w) (sym reads.talk)
@@ -172,8 +172,8 @@ reads_whole start stream more es now new e w is h none reads =
       bytes = ap (λ s. s ++ more) reads.bytes ∙ (append_assoc (bytes_of reads.brought) now.kept more
           ∙ (sym (bytes_more reads.brought b) ∙ (sym (append-nil (bytes_of (reads.brought ++ b ∷ [])))
           ∙ ap (λ k. bytes_of (reads.brought ++ b ∷ []) ++ k) (sym none))));
-      events_are = ap (λ xs. xs ++ telling e) reads.events_are
-          ∙ (ap (λ (p : Talk × Event). events_of start reads.brought ++ telling p.1) (sym at)
+      events_are = ap (λ xs. xs ++ event_if_any e) reads.events_are
+          ∙ (ap (λ (p : Talk × Event). events_of start reads.brought ++ event_if_any p.1) (sym at)
           ∙ sym (events_more start reads.brought b));
       talk = ap (λ (p : Talk × Event). p.0) (sym at) ∙ sym (talk_more start reads.brought b);
       is_begun = subst (IsBegun new.talk.stage) (sym none) (begun_none new.talk.stage);
@@ -182,10 +182,10 @@ reads_whole start stream more es now new e w is h none reads =
 reads_begun : (start : Talk) (stream more : List ℕ) (es : List Event) (now new : Listening) (e : Event)
     → IsBegun now.talk.stage (now.kept ++ more) → new ≡ record { talk = now.talk; kept = now.kept ++ more }
     → e ≡ events.None
-    → Reads start stream es now → Reads start (stream ++ more) (es ++ telling e) new
+    → Reads start stream es now → Reads start (stream ++ more) (es ++ event_if_any e) new
 reads_begun start stream more es now new e is same quiet reads =
-    let all : es ++ telling e ≡ es = ap (λ x. es ++ telling x) quiet ∙ append-nil es in
-    subst (λ (l : Listening). Reads start (stream ++ more) (es ++ telling e) l) (sym same)
+    let all : es ++ event_if_any e ≡ es = ap (λ x. es ++ event_if_any x) quiet ∙ append-nil es in
+    subst (λ (l : Listening). Reads start (stream ++ more) (es ++ event_if_any e) l) (sym same)
     (subst (λ xs. Reads start (stream ++ more) xs (record { talk = now.talk; kept = now.kept ++ more })) (sym all)
     (record {
       brought = reads.brought;
@@ -198,7 +198,7 @@ reads_begun start stream more es now new e is same quiet reads =
 
 pub reads_more : (start : Talk) (stream more : List ℕ) (es : List Event) (now new : Listening) (e : Event)
     → Brings now.talk (now.kept ++ more) new e → Reads start stream es now
-    → Reads start (stream ++ more) (es ++ telling e) new
+    → Reads start (stream ++ more) (es ++ event_if_any e) new
 reads_more start stream more es now new e (whole w is h none) reads =
     reads_whole start stream more es now new e w is h none reads
 reads_more start stream more es now new e (begun is same quiet) reads =
@@ -208,5 +208,5 @@ reads_more start stream more es now new e (begun is same quiet) reads =
 pub reads_by : (now new : Listening) (e : Event) (bytes : List ℕ)
     → (IsLinked now.talk.stage → Brings now.talk (now.kept ++ bytes) new e) → (start : Talk) (stream : List ℕ)
     (es : List Event) → IsLinked now.talk.stage → Reads start stream es now
-    → Reads start (stream ++ bytes) (es ++ telling e) new
+    → Reads start (stream ++ bytes) (es ++ event_if_any e) new
 reads_by now new e bytes brings start stream es linked = reads_more start stream bytes es now new e (brings linked)

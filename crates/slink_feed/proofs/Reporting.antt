@@ -12,7 +12,7 @@ use Rattle.slink_feed.specs.declared.turn.LinkFault.TheVariants as faults
 use Rattle.slink_feed.specs.Delivered.{Numbered}
 use Rattle.slink_feed.specs.Dialogue.{Talk, read}
 use Rattle.slink_feed.specs.Fetching.{Fetching, line_written, record_reported}
-use Rattle.slink_feed.specs.Listening.{Brings, Listening, begun, telling, whole}
+use Rattle.slink_feed.specs.Listening.{Brings, Listening, begun, event_if_any, whole}
 use Rattle.slink_feed.specs.private.Delivery.{FailsToTakeNext, TakesNext, IsDelivered, IsUndelivered}
 use Rattle.slink_feed.specs.Reports.{AreHandedOver, Outputs, Reports, TakesRecords, ReportsRecords, all, but_last, outputs}
 use Rattle.slink_feed.specs.Reporter.{Account, AreReported, Telling, lines_at, lines_of, none, one, telling_behind}
@@ -103,7 +103,7 @@ record_alone (events.Gap k want got) some = absurd (omega (arith, some))
 record_alone events.Garbage some = absurd (omega (arith, some))
 record_alone events.Foreign some = absurd (omega (arith, some))
 
-event_alone : (e : Event) → records_reported (telling e) ≡ record_in e
+event_alone : (e : Event) → records_reported (event_if_any e) ≡ record_in e
 event_alone events.None = refl
 event_alone (events.Say line) = refl
 event_alone (events.Record k n bytes) = refl
@@ -187,7 +187,7 @@ reported_event : (talk : Talk) (bytes : List ℕ) (new : Listening) (event : Eve
     → HasReported talk.holes talk.wants new.talk.wants (record_in event)
 reported_event talk bytes new event (whole w is h nothing) =
     subst (λ rs. HasReported talk.holes talk.wants new.talk.wants rs) (event_alone event)
-    (subst (λ (x : Talk × Event). HasReported talk.holes talk.wants x.0.wants (records_reported (telling x.1))) h
+    (subst (λ (x : Talk × Event). HasReported talk.holes talk.wants x.0.wants (records_reported (event_if_any x.1))) h
     (reported_one talk (read talk w) (comes_read talk talk.stage bytes w is)))
 reported_event talk bytes new event (begun is same quiet) =
     subst (λ (e : Event). HasReported talk.holes talk.wants new.talk.wants (record_in e)) (sym quiet)

@@ -22,7 +22,7 @@ use Rattle.slink_feed.specs.Dialogue.{is_taken}
 use Rattle.slink_feed.specs.Dialogue.{ended, read, read_at, if_wanted, is_borne, next_at, next_set, says_number}
 use Rattle.slink_feed.specs.Dialogue.{says_place, to_answer, to_place, reported, want_at}
 use Rattle.slink_feed.specs.Holding.{GoBy, GoOn, IsNext}
-use Rattle.slink_feed.specs.Listening.{AreBrought, Brought, Listening, Reads, events_of, talk_after, telling}
+use Rattle.slink_feed.specs.Listening.{AreBrought, Brought, Listening, Reads, events_of, talk_after, event_if_any}
 use Rattle.slink_feed.specs.Reported.{AreOf, HasReported, bytes_in, numbers_at, places_of, record_in, records_reported}
 use Rattle.slink_feed.proofs.Numbers.{Moved, moves, stays, bearer_some, get_want, go_on_more, kept_read, moved_reported}
 use Rattle.slink_feed.proofs.Numbers.{taken_next}
@@ -30,7 +30,7 @@ use Rattle.slink_feed.proofs.Numbers.{taken_next}
 -- what comes of a whole: nothing is reported; or a record, of the place that it carries and of the number that this
 -- wants
 pub data Comes (t : Talk) (x : Talk × Event) : Type 0 where
-  nothing : records_reported (telling x.1) ≡ [] → x.0.wants ≡ t.wants → Comes t x
+  nothing : records_reported (event_if_any x.1) ≡ [] → x.0.wants ≡ t.wants → Comes t x
   a_record : (k n : ℕ) (bytes : List ℕ) → length bytes ≡ 512 → bearer t.wants bytes ≡ Some k
       → IfSome (next_at t.wants k) (λ want. IsNext t.holes want n)
       → x ≡ reported k n bytes t → Comes t x
@@ -194,12 +194,12 @@ reported_record k n bytes t long bears wanted =
     }
 
 pub reported_one : (t : Talk) (x : Talk × Event) → Comes t x
-    → HasReported t.holes t.wants x.0.wants (records_reported (telling x.1))
+    → HasReported t.holes t.wants x.0.wants (records_reported (event_if_any x.1))
 reported_one t x comes = elim comes [
   | nothing none same ↦ subst (λ rs. HasReported t.holes t.wants x.0.wants rs) (sym none)
       (subst (λ ws. HasReported t.holes t.wants ws []) (sym same) (reported_none t.holes t.wants))
   | a_record k n bytes long bears wanted is ↦ subst
-      (λ (y : Talk × Event). HasReported t.holes t.wants y.0.wants (records_reported (telling y.1))) (sym is)
+      (λ (y : Talk × Event). HasReported t.holes t.wants y.0.wants (records_reported (event_if_any y.1))) (sym is)
       (reported_record k n bytes t long bears wanted)
 ]
 
@@ -219,14 +219,14 @@ reported_brought : (t : Talk) (bs : List Brought) → AreBrought t bs
 reported_brought t [] are = reported_none t.holes t.wants
 reported_brought t (b ∷ bs) are =
     let x : Talk × Event = read t b.whole in
-    let one : HasReported t.holes t.wants x.0.wants (records_reported (telling x.1)) =
+    let one : HasReported t.holes t.wants x.0.wants (records_reported (event_if_any x.1)) =
     reported_one t x (comes_read t t.stage b.bytes b.whole are.0) in
     let more : HasReported t.holes x.0.wants (talk_after x.0 bs).wants (records_reported (events_of x.0 bs)) =
     subst (λ (h : Bool). HasReported h x.0.wants (talk_after x.0 bs).wants (records_reported (events_of x.0 bs)))
     (kept_read t t.stage b.whole) (reported_brought x.0 bs are.1) in
     subst (λ rs. HasReported t.holes t.wants (talk_after x.0 bs).wants rs)
-    (sym (records_both (telling x.1) (events_of x.0 bs)))
-    (reported_both t.holes t.wants x.0.wants (talk_after x.0 bs).wants (records_reported (telling x.1))
+    (sym (records_both (event_if_any x.1) (events_of x.0 bs)))
+    (reported_both t.holes t.wants x.0.wants (talk_after x.0 bs).wants (records_reported (event_if_any x.1))
     (records_reported (events_of x.0 bs)) one more)
 
 -- what a client reports a link

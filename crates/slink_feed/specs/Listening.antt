@@ -46,15 +46,15 @@ pub data Brings (talk : Talk) (bytes : List ℕ) (new : Listening) (event : Even
       → Brings talk bytes new event
 
 -- an event, where there is one
-abbrev pub telling : Event → List Event
-telling events.None = []
-telling (events.Say bytes) = events.Say bytes ∷ []
-telling (events.Record k number bytes) = events.Record k number bytes ∷ []
-telling events.End = events.End ∷ []
-telling (events.Refused k) = events.Refused k ∷ []
-telling (events.Gap k want got) = events.Gap k want got ∷ []
-telling events.Garbage = events.Garbage ∷ []
-telling events.Foreign = events.Foreign ∷ []
+abbrev pub event_if_any : Event → List Event
+event_if_any events.None = []
+event_if_any (events.Say bytes) = events.Say bytes ∷ []
+event_if_any (events.Record k number bytes) = events.Record k number bytes ∷ []
+event_if_any events.End = events.End ∷ []
+event_if_any (events.Refused k) = events.Refused k ∷ []
+event_if_any (events.Gap k want got) = events.Gap k want got ∷ []
+event_if_any events.Garbage = events.Garbage ∷ []
+event_if_any events.Foreign = events.Foreign ∷ []
 
 -- a whole, with its bytes
 pub record Brought : Type 0 where
@@ -74,7 +74,7 @@ talk_after talk (b ∷ bs) = talk_after (read talk b.whole).0 bs
 -- the events that report them
 abbrev pub events_of : Talk → List Brought → List Event
 events_of talk [] = []
-events_of talk (b ∷ bs) = telling (read talk b.whole).1 ++ events_of (read talk b.whole).0 bs
+events_of talk (b ∷ bs) = event_if_any (read talk b.whole).1 ++ events_of (read talk b.whole).0 bs
 
 abbrev pub bytes_of : List Brought → List ℕ
 bytes_of [] = []

@@ -10,7 +10,7 @@ ghost use Rattle.slink_feed.specs.declared.dialogue.Ending.{Ending};
 ghost use Rattle.slink_feed.specs.declared.dialogue.Event.{Event};
 ghost use Rattle.slink_feed.specs.Dialogue.{Talk, at_packet, bearer, event_of, next_at, says_place};
 ghost use Rattle.slink_feed.specs.Fetching.{turn_at};
-ghost use Rattle.slink_feed.specs.Listening.{AwaitsReply, Brings, IsLinked, Reads, new_client, telling};
+ghost use Rattle.slink_feed.specs.Listening.{AwaitsReply, Brings, IsLinked, Reads, new_client, event_if_any};
 
 use crate::cutting::{PACKET, Part, take_packet, take_reply};
 use crate::dialogue::{Bytes, Dialogue, Ending, Event, Stage, Wanted};
@@ -111,7 +111,7 @@ impl Client {
         // The client goes on to stand for all that the link brought, and the events for what it reads as.
         ensures reads { (start : Talk) (stream : List ℕ) (events : List Event) → IsLinked self.old.talk.stage
             → Reads start stream events self.old
-            → Reads start (stream ++ take result.0 bytes.now) (events ++ telling result.1) self.new }
+            → Reads start (stream ++ take result.0 bytes.now) (events ++ event_if_any result.1) self.new }
         ensures whole { result.1 ≡ Event.None → result.0 ≡ length bytes.now }
         ensures some { IsLinked self.old.talk.stage → 0 < length bytes.now → 0 < result.0 }
         ensures bound { result.0 ≤ length bytes.now }

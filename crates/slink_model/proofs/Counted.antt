@@ -22,7 +22,7 @@ use Rattle.slink_model.specs.Counted.{with_events}
 use Rattle.slink_feed.specs.Cutting.{IsBegun, IsWhole}
 use Rattle.slink_feed.specs.Dialogue.{Talk, Wants, Reply, Packet, End, at_packet, bearer, ended, read, read_at}
 use Rattle.slink_feed.specs.Dialogue.{next_at, next_set, numbered, says, to_place, reported, want_at, with_next}
-use Rattle.slink_feed.specs.Listening.{AreBrought, IsLinked, events_of, talk_after, telling}
+use Rattle.slink_feed.specs.Listening.{AreBrought, IsLinked, events_of, talk_after, event_if_any}
 use Rattle.slink_feed.specs.Session.{Grants, State, grant_at}
 use Rattle.slink_model.specs.Ties.{Item, Accepted, Refused, Greeted, Carried, Finished, Places, item_bytes, of_place}
 use Rattle.slink_model.specs.Ties.{way_bytes}
@@ -190,7 +190,7 @@ module _ (places : Places) (differ : Differ places) (codes_are : (k : ℕ) (p : 
       record {
         are = (at_stage t Finished s.stage refl, tt);
         is_begun = λ _. begun_none (read t End).0.stage;
-        unwritten = λ f g. ap (λ (y : Talk × Event). (with_events f (telling y.1 ++ []) g).to_server) h;
+        unwritten = λ f g. ap (λ (y : Talk × Event). (with_events f (event_if_any y.1 ++ []) g).to_server) h;
         same = same_more t Finished [] (h ∙ ap (λ (y : Stage). on_item y Finished t) (sym s.stage)) (refl, λ f g. refl);
         after = λ linked. absurd (subst (λ (y : Talk × Event). IsLinked y.0.stage) h linked);
       }
@@ -266,7 +266,7 @@ module _ (places : Places) (differ : Differ places) (codes_are : (k : ℕ) (p : 
       same = same_more t i [] on (refl, λ f g. refl);
       unwritten = λ shut f g. absurd (awake shut);
       after = λ f g same _. subst
-          (λ (y : Talk × Event). Left s taken y.0 (with_events f (telling y.1 ++ []) g).to_server []) (sym h)
+          (λ (y : Talk × Event). Left s taken y.0 (with_events f (event_if_any y.1 ++ []) g).to_server []) (sym h)
           (subst (λ b. Left s taken (record t { stage = stage }) (b ++ request_bytes request) []) (sym same)
           (record { borne = tt; suited = suited; shakes = shakes; ends = tt }));
       quiet = λ f g same over. absurd (over (subst (λ (y : Talk × Event). IsLinked y.0.stage) (sym h) linked));
@@ -284,7 +284,7 @@ module _ (places : Places) (differ : Differ places) (codes_are : (k : ℕ) (p : 
       unwritten = λ shut f g. absurd (awake shut);
       after = λ f g same linked. absurd (subst (λ (y : Talk × Event). IsLinked y.0.stage) h linked);
       quiet = λ f g same _ _. subst
-          (λ (y : Talk × Event). IsAnswered taken (with_events f (telling y.1 ++ []) g).to_server) (sym h)
+          (λ (y : Talk × Event). IsAnswered taken (with_events f (event_if_any y.1 ++ []) g).to_server) (sym h)
           (subst (IsAnswered taken) (sym same) reported);
     }
 

@@ -19,7 +19,7 @@ use Rattle.slink_model.specs.Counted.{Gained, with_event, with_events}
 use Rattle.slink_feed.specs.Cutting.{IsBegun, IsWhole}
 use Rattle.slink_feed.specs.Dialogue.{Talk, Whole, read, says_place}
 use Rattle.slink_feed.specs.Listening.{AreBrought, Brings, Brought, IsLinked, Listening, begun, bytes_of, events_of}
-use Rattle.slink_feed.specs.Listening.{talk_after, telling, whole}
+use Rattle.slink_feed.specs.Listening.{talk_after, event_if_any, whole}
 use Rattle.slink_feed.specs.Serving.{Serves, Standing}
 use Rattle.slink_feed.specs.Session.{State}
 use Rattle.slink_model.specs.Spared.{AreAskable}
@@ -55,7 +55,7 @@ same_gained f events.Garbage t = refl
 same_gained f events.Foreign t = refl
 
 pub reported_events : (f : Numbers) (e : Event) (es : List Event) (g : Gained)
-    → with_events f (telling e ++ es) g ≡ with_events f es (with_event f e g)
+    → with_events f (event_if_any e ++ es) g ≡ with_events f es (with_event f e g)
 reported_events f (events.Say line) es g = refl
 reported_events f (events.Record k n bytes) es g = refl
 reported_events f events.None es g = refl
