@@ -28,8 +28,8 @@ pub mod Sendoffs
 pub mod Slots
 pub mod Stretched
 pub mod Stands
-pub mod Telling
-pub mod Tellings
+pub mod Reported
+pub mod ReportLines
 pub mod Waits
 pub mod Wanting
 pub mod Wholes

@@ -9,11 +9,11 @@ use Rattle.slink_feed.specs.declared.dialogue.Wanted.{Wanted}
 use Rattle.slink_feed.specs.Delivered.{Numbered}
 use Rattle.slink_feed.specs.Dialogue.{Wants, next_at, want_at, with_next}
 use Rattle.slink_feed.specs.Holding.{GoBy}
-use Rattle.slink_feed.specs.Reporter.{Telling, first_lines, hole_line, hole_lines, if_other, lines_of, telling_of}
-use Rattle.slink_feed.specs.Reporter.{telling_past}
+use Rattle.slink_feed.specs.Reporter.{Reporting, first_lines, hole_line, hole_lines, if_other, lines_of, reporting_of}
+use Rattle.slink_feed.specs.Reporter.{reporting_past}
 use Rattle.slink_feed.specs.Reported.{AreOf, HasReported, numbers_at}
 use Rattle.slink_feed.proofs.Numbers.{bearer_some, next_here, next_other}
-use Rattle.slink_feed.proofs.Telling.{of_same, places_next}
+use Rattle.slink_feed.proofs.Reported.{of_same, places_next}
 
 -- no first record is to be reported
 abbrev AreQuiet : List Bool → Type 0
@@ -64,13 +64,13 @@ go_there k r rs want last other go = elim (eqb_tells r.place k) [
   | inr is ↦ subst (λ (b : Bool). GoBy false want ((if b then r.number ∷ [] else []) ++ numbers_at k rs) last) is.0 go
 ]
 
-quiet_lines : (t : Telling) (last : ℕ → Option ℕ) (rs : List Numbered) → AreQuiet t.firsts → AreOf t.wants rs
+quiet_lines : (t : Reporting) (last : ℕ → Option ℕ) (rs : List Numbered) → AreQuiet t.firsts → AreOf t.wants rs
     → ((k : ℕ) → GoBy false (next_at t.wants k) (numbers_at k rs) (last k)) → lines_of t rs ≡ []
 quiet_lines t last [] quiet of go = refl
 quiet_lines t last (r ∷ rs) quiet of go =
     let p : ℕ = r.place in
     let m : ℕ = (r.number + 1) % 2 ^ 24 in
-    let past : Telling = telling_past t p r.number in
+    let past : Reporting = reporting_past t p r.number in
     let wants : Wants = with_next t.wants p m in
     let some : (w : Wanted) × (want_at t.wants p ≡ Some w) = bearer_some t.wants r.bytes p of.1 in
     let parts : IfSome (next_at t.wants p) (λ x. r.number ≡ x) × GoBy false (Some m) (numbers_at p rs) (last p) =
@@ -93,6 +93,6 @@ quiet_lines t last (r ∷ rs) quiet of go =
     ∙ (ap (λ lines. lines ++ lines_of past rs) unreported ∙ rest)
 
 pub nothing_reported : (old new : Wants) (rs : List Numbered) → HasReported false old new rs
-    → lines_of (telling_of old false) rs ≡ []
+    → lines_of (reporting_of old false) rs ≡ []
 nothing_reported old new rs h =
-    quiet_lines (telling_of old false) (λ k. next_at new k) rs (none_first 16) h.are_of h.go_on
+    quiet_lines (reporting_of old false) (λ k. next_at new k) rs (none_first 16) h.are_of h.go_on

@@ -15,13 +15,13 @@ use Rattle.slink_feed.specs.Fetching.{Fetching, line_written, record_reported}
 use Rattle.slink_feed.specs.Listening.{Brings, Listening, begun, event_if_any, whole}
 use Rattle.slink_feed.specs.private.Delivery.{FailsToTakeNext, TakesNext, IsDelivered, IsUndelivered}
 use Rattle.slink_feed.specs.Reports.{AreHandedOver, Outputs, Reports, TakesRecords, ReportsRecords, all, but_last, outputs}
-use Rattle.slink_feed.specs.Reporter.{Account, AreReported, Telling, lines_at, lines_of, none, one, telling_behind}
-use Rattle.slink_feed.specs.Reporter.{telling_past}
+use Rattle.slink_feed.specs.Reporter.{ReporterState, AreReported, Reporting, lines_at, lines_of, none, one, reporting_after}
+use Rattle.slink_feed.specs.Reporter.{reporting_past}
 use Rattle.slink_feed.specs.Reported.{HasReported, bytes_in, record_in, records_reported}
 use Rattle.slink_feed.specs.Turns.{Emitted, EmittedPrefix}
 use Rattle.slink_feed.proofs.Noting.{nothing_noted, notes_both}
 use Rattle.slink_feed.proofs.Numbers.{kept_read}
-use Rattle.slink_feed.proofs.Telling.{bytes_both, comes_read, reported_both, reported_none, reported_one}
+use Rattle.slink_feed.proofs.Reported.{bytes_both, comes_read, reported_both, reported_none, reported_one}
 
 -- What a sink takes, one part after another.
 pub emitted_none : (old : BytesWritten) → Emitted old old []
@@ -120,32 +120,32 @@ lines_both _ ys _ _ c (none now) more = more
 lines_both _ ys _ _ c (one line lines old now new tells rest) more =
     one line (lines ++ ys) old now c tells (lines_both lines ys now new c rest more)
 
-lines_more : (t : Telling) (some more : List Numbered)
-    → lines_of t (some ++ more) ≡ lines_of t some ++ lines_of (telling_behind t some) more
+lines_more : (t : Reporting) (some more : List Numbered)
+    → lines_of t (some ++ more) ≡ lines_of t some ++ lines_of (reporting_after t some) more
 lines_more t [] more = refl
 lines_more t (r ∷ rs) more =
-    let past : Telling = telling_past t r.place r.number in
+    let past : Reporting = reporting_past t r.place r.number in
     let here : List (List ℕ) = lines_at t r.place r.number in
     ap (λ ls. here ++ ls) (lines_more past rs more)
-    ∙ sym (append_assoc here (lines_of past rs) (lines_of (telling_behind past rs) more))
+    ∙ sym (append_assoc here (lines_of past rs) (lines_of (reporting_after past rs) more))
 
-behind_more : (t : Telling) (some more : List Numbered)
-    → telling_behind t (some ++ more) ≡ telling_behind (telling_behind t some) more
+behind_more : (t : Reporting) (some more : List Numbered)
+    → reporting_after t (some ++ more) ≡ reporting_after (reporting_after t some) more
 behind_more t [] more = refl
-behind_more t (r ∷ rs) more = behind_more (telling_past t r.place r.number) rs more
+behind_more t (r ∷ rs) more = behind_more (reporting_past t r.place r.number) rs more
 
 -- Records that are reported and taken, one after another.
 pub handed_over_none : (a : Outputs) → AreHandedOver [] a a
-handed_over_none a = record { emitted = takes_none a.output; telling = refl; lines = none a.errors }
+handed_over_none a = record { emitted = takes_none a.output; reporting = refl; lines = none a.errors }
 
 pub handed_over_both : (some more : List Numbered) (a b c : Outputs) → AreHandedOver some a b
     → b.output.failures ≡ a.output.failures → AreHandedOver more b c → AreHandedOver (some ++ more) a c
 handed_over_both some more a b c p fine q = record {
   emitted = takes_both a.output b.output c.output some more (all_taken some a.output b.output p.emitted fine) q.emitted;
-  telling = q.telling ∙ (ap (λ t. telling_behind t more) p.telling ∙ sym (behind_more a.telling some more));
-  lines = subst (λ ls. AreReported ls a.errors c.errors) (sym (lines_more a.telling some more))
-      (lines_both (lines_of a.telling some) (lines_of (telling_behind a.telling some) more) a.errors b.errors c.errors
-      p.lines (subst (λ t. AreReported (lines_of t more) b.errors c.errors) p.telling q.lines));
+  reporting = q.reporting ∙ (ap (λ t. reporting_after t more) p.reporting ∙ sym (behind_more a.reporting some more));
+  lines = subst (λ ls. AreReported ls a.errors c.errors) (sym (lines_more a.reporting some more))
+      (lines_both (lines_of a.reporting some) (lines_of (reporting_after a.reporting some) more) a.errors b.errors c.errors
+      p.lines (subst (λ t. AreReported (lines_of t more) b.errors c.errors) p.reporting q.lines));
 }
 
 pub reports_none : (t : Talk) (a : Outputs) → Reports t t a a
@@ -167,18 +167,18 @@ reports_both old now new a b c p fine q = record {
 }
 
 -- What one who reports records has reported, one call after another.
-pub told_none : (t : Talk) (reporter : Account) (output errors : BytesWritten)
+pub told_none : (t : Talk) (reporter : ReporterState) (output errors : BytesWritten)
     → ReportsRecords t t reporter reporter output output errors errors
 told_none t reporter output errors = record {
   received = nothing_noted reporter.received output;
-  reports = reports_none t (outputs output errors reporter.telling);
+  reports = reports_none t (outputs output errors reporter.reporting);
 }
 
-pub told_both : (old now new : Talk) (r s t : Account) (a b c d e f : BytesWritten) → ReportsRecords old now r s a b d e
+pub told_both : (old now new : Talk) (r s t : ReporterState) (a b c d e f : BytesWritten) → ReportsRecords old now r s a b d e
     → b.failures ≡ a.failures → ReportsRecords now new s t b c e f → ReportsRecords old new r t a c d f
 told_both old now new r s t a b c d e f p fine q = record {
   received = notes_both r.received s.received t.received a b c fine p.received q.received;
-  reports = reports_both old now new (outputs a d r.telling) (outputs b e s.telling) (outputs c f t.telling) p.reports fine
+  reports = reports_both old now new (outputs a d r.reporting) (outputs b e s.reporting) (outputs c f t.reporting) p.reports fine
       q.reports;
 }
 
@@ -222,15 +222,15 @@ takes_cut (faults.Output count) event before w w' o o' cut =
 -- one event more
 pub reports_more : (first : Talk) (now new : Listening) (bytes : List ℕ) (event : Event) (a b c : Outputs)
     → Reports first now.talk a b → b.output.failures ≡ a.output.failures → Brings now.talk bytes new event
-    → TakesRecords (record_in event) b.output c.output → c.telling ≡ telling_behind b.telling (record_in event)
-    → AreReported (lines_of b.telling (record_in event)) b.errors c.errors → Reports first new.talk a c
-reports_more first now new bytes event a b c p fine brings emitted telling lines =
+    → TakesRecords (record_in event) b.output c.output → c.reporting ≡ reporting_after b.reporting (record_in event)
+    → AreReported (lines_of b.reporting (record_in event)) b.errors c.errors → Reports first new.talk a c
+reports_more first now new bytes event a b c p fine brings emitted reporting lines =
     reports_both first now.talk new.talk a b c p fine
     (record {
       records = record_in event;
       reported = reported_event now.talk bytes new event brings;
       holes = kept_event now.talk bytes new event brings;
-      handed_over = record { emitted = emitted; telling = telling; lines = lines };
+      handed_over = record { emitted = emitted; reporting = reporting; lines = lines };
     })
 
 -- what is received of bytes
@@ -245,7 +245,7 @@ reports_received first bytes used before after now new a b c from to p fine rece
     received.comes.brings
     (subst (λ (o : BytesWritten). TakesRecords (record_in received.event) o c.output) from
     (subst (λ (o : BytesWritten). TakesRecords (record_in received.event) now.output o) to done))
-    received.reported.telling received.reported.lines
+    received.reported.reporting received.reported.lines
 
 pub reports_cut : (first : Talk) (bytes : List ℕ) (fault : LinkFault) (before : Counts) (now new : Fetching)
     (a b c : Outputs) → now.output ≡ b.output → new.output ≡ c.output → Reports first now.client.talk a b
@@ -258,4 +258,4 @@ reports_cut first bytes fault before now new a b c from to p fine received =
     received.comes.brings
     (subst (λ (o : BytesWritten). TakesRecords (record_in received.event) o c.output) from
     (subst (λ (o : BytesWritten). TakesRecords (record_in received.event) now.output o) to done))
-    received.reported.telling received.reported.lines
+    received.reported.reporting received.reported.lines

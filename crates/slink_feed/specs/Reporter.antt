@@ -17,14 +17,14 @@ pub data AreReported : List (List ℕ) → BytesWritten → BytesWritten → Typ
 
 -- what is reported of records: which number each place wants next, of which places the first record is to be reported,
 -- and the last record that was reported, by the index of its place and its number
-pub record Telling : Type 0 where
+pub record Reporting : Type 0 where
   pub wants : List (Option Wanted)
   pub firsts : List Bool
   pub last : Option (ℕ × ℕ)
 
 -- before the first record
-abbrev pub telling_of : Wants → Bool → Telling
-telling_of wants firsts = record { wants = wants; firsts = replicate 16 firsts; last = None }
+abbrev pub reporting_of : Wants → Bool → Reporting
+reporting_of wants firsts = record { wants = wants; firsts = replicate 16 firsts; last = None }
 
 -- the line of a place's first record
 abbrev pub first_line : Fields → ℕ → List ℕ
@@ -49,26 +49,26 @@ first_lines false want number = []
 first_lines true None number = []
 first_lines true (Some w) number = first_line w.place number ∷ []
 
-abbrev pub lines_at : Telling → ℕ → ℕ → List (List ℕ)
+abbrev pub lines_at : Reporting → ℕ → ℕ → List (List ℕ)
 lines_at t k number = hole_lines (want_at t.wants k) number
     ++ first_lines (unwrap_or (slice_get t.firsts k) false) (want_at t.wants k) number
 
 -- what is reported from there on
-abbrev pub telling_past : Telling → ℕ → ℕ → Telling
-telling_past t k number = record {
+abbrev pub reporting_past : Reporting → ℕ → ℕ → Reporting
+reporting_past t k number = record {
   wants = with_next t.wants k ((number + 1) % 2 ^ 24);
   firsts = slice_set t.firsts k false;
   last = Some (k, number);
 }
 
 -- records, one after another
-abbrev pub lines_of : Telling → List Numbered → List (List ℕ)
+abbrev pub lines_of : Reporting → List Numbered → List (List ℕ)
 lines_of t [] = []
-lines_of t (r ∷ rs) = lines_at t r.place r.number ++ lines_of (telling_past t r.place r.number) rs
+lines_of t (r ∷ rs) = lines_at t r.place r.number ++ lines_of (reporting_past t r.place r.number) rs
 
-abbrev pub telling_behind : Telling → List Numbered → Telling
-telling_behind t [] = t
-telling_behind t (r ∷ rs) = telling_behind (telling_past t r.place r.number) rs
+abbrev pub reporting_after : Reporting → List Numbered → Reporting
+reporting_after t [] = t
+reporting_after t (r ∷ rs) = reporting_after (reporting_past t r.place r.number) rs
 
 -- the arguments that name a number, where one is known
 abbrev pub number_behind : List ℕ → Option ℕ → List ℕ
@@ -105,6 +105,6 @@ wants_left true (Some last) wants = with_next wants last.0 last.1
 
 -- what one who reports records has come to: what is reported, and whether the output accepted a whole record since it
 -- was called to note that
-pub record Account : Type 0 where
-  pub telling : Telling
+pub record ReporterState : Type 0 where
+  pub reporting : Reporting
   pub received : Bool

@@ -6,7 +6,7 @@ use Rattle.slink_feed.specs.declared.turn.Turn.{Turn}
 use Rattle.slink_feed.specs.Delivered.{Numbered}
 use Rattle.slink_feed.specs.Dialogue.{Talk}
 use Rattle.slink_feed.specs.Fetching.{Fetching, Notes, TakesTurn}
-use Rattle.slink_feed.specs.Reporter.{Account, AreReported, Telling, lines_of, telling_behind}
+use Rattle.slink_feed.specs.Reporter.{ReporterState, AreReported, Reporting, lines_of, reporting_after}
 use Rattle.slink_feed.specs.Reported.{HasReported, bytes_in}
 use Rattle.slink_feed.specs.Turns.{Emitted, EmittedPrefix}
 
@@ -21,17 +21,17 @@ pub data TakesRecords (records : List Numbered) (old new : BytesWritten) : Type 
 pub record Outputs : Type 0 where
   pub output : BytesWritten
   pub errors : BytesWritten
-  pub telling : Telling
+  pub reporting : Reporting
 
-abbrev pub outputs : BytesWritten → BytesWritten → Telling → Outputs
-outputs output errors telling = record { output = output; errors = errors; telling = telling }
+abbrev pub outputs : BytesWritten → BytesWritten → Reporting → Outputs
+outputs output errors reporting = record { output = output; errors = errors; reporting = reporting }
 
 -- These records were reported, each before the output accepted a byte of it: where the output failed within the last
 -- one, its lines are there.
 pub record AreHandedOver (records : List Numbered) (old new : Outputs) : Type 0 where
   pub emitted : TakesRecords records old.output new.output
-  pub telling : new.telling ≡ telling_behind old.telling records
-  pub lines : AreReported (lines_of old.telling records) old.errors new.errors
+  pub reporting : new.reporting ≡ reporting_after old.reporting records
+  pub lines : AreReported (lines_of old.reporting records) old.errors new.errors
 
 -- A client reported records, which were reported and taken.
 pub record Reports (old new : Talk) (before after : Outputs) : Type 0 where
@@ -42,15 +42,15 @@ pub record Reports (old new : Talk) (before after : Outputs) : Type 0 where
 
 -- A client reported records, each of which a teller reported before the output took it; and the teller noted whether
 -- the output accepted some.
-pub record ReportsRecords (old new : Talk) (reporter_old reporter_new : Account)
+pub record ReportsRecords (old new : Talk) (reporter_old reporter_new : ReporterState)
     (output_old output_new errors_old errors_new : BytesWritten) : Type 0 where
   pub received : Notes reporter_old.received reporter_new.received output_old output_new
-  pub reports : Reports old new (outputs output_old errors_old reporter_old.telling)
-      (outputs output_new errors_new reporter_new.telling)
+  pub reports : Reports old new (outputs output_old errors_old reporter_old.reporting)
+      (outputs output_new errors_new reporter_new.reporting)
 
 -- A client took a step with its link, in which each record was reported before the output took it.
 pub record TakesReportingTurn (result : Result Turn LinkFault) (old new : Fetching) (before after : BytesRead)
-    (reporter_old reporter_new : Account) (errors_old errors_new : BytesWritten) : Type 0 where
+    (reporter_old reporter_new : ReporterState) (errors_old errors_new : BytesWritten) : Type 0 where
   pub turn : TakesTurn result old new before after
   pub reported : ReportsRecords old.client.talk new.client.talk reporter_old reporter_new old.output new.output
       errors_old errors_new

@@ -7,7 +7,7 @@ ghost use Rattle.slink_feed.specs.private.Delivery.{FailsToTakeNext, IsDelivered
 ghost use Rattle.slink_feed.specs.private.Delivery.{TakesNext};
 ghost use Rattle.slink_feed.specs.Listening.{IsLinked};
 ghost use Rattle.slink_feed.specs.Reports.{ReportsRecords, TakesReportingTurn, outputs};
-ghost use Rattle.slink_feed.specs.Reporter.{AreReported, lines_of, telling_behind};
+ghost use Rattle.slink_feed.specs.Reporter.{AreReported, lines_of, reporting_after};
 ghost use Rattle.slink_feed.specs.Reported.{record_in};
 
 use crate::client::Client;
@@ -172,13 +172,13 @@ fn take_next<L: Sink, W: Sink, E: Sink>(
     ensures ok { IfOk result (λ incoming. TakesNext bytes.now incoming.used counts incoming.counts
         (fetching client.old (L.written link.old) (W.written output.old))
         (fetching client.new (L.written link.new) (W.written output.new))
-        (outputs (W.written output.old) (E.written errors.old) reporter.old.telling)
-        (outputs (W.written output.new) (E.written errors.new) reporter.new.telling)) }
+        (outputs (W.written output.old) (E.written errors.old) reporter.old.reporting)
+        (outputs (W.written output.new) (E.written errors.new) reporter.new.reporting)) }
     ensures fault { IfErr result (λ fault. FailsToTakeNext fault bytes.now counts
         (fetching client.old (L.written link.old) (W.written output.old))
         (fetching client.new (L.written link.new) (W.written output.new))
-        (outputs (W.written output.old) (E.written errors.old) reporter.old.telling)
-        (outputs (W.written output.new) (E.written errors.new) reporter.new.telling)) }
+        (outputs (W.written output.old) (E.written errors.old) reporter.old.reporting)
+        (outputs (W.written output.new) (E.written errors.new) reporter.new.reporting)) }
     ensures received { Notes reporter.old.received reporter.new.received (W.written output.old) (W.written output.new) }
     ensures beside { L.beside link.new ≡ L.beside link.old }
 {
@@ -219,8 +219,8 @@ fn deliver<L: Sink, W: Sink, E: Sink>(
         (W.written output.old) (W.written output.new)) }
     ensures received { Notes reporter.old.received reporter.new.received (W.written output.old) (W.written output.new) }
     // A record is reported before it is written, also where that fails.
-    ensures telling { reporter.new.telling ≡ telling_behind reporter.old.telling (record_in event.now) }
-    ensures lines { AreReported (lines_of reporter.old.telling (record_in event.now)) (E.written errors.old)
+    ensures reporting { reporter.new.reporting ≡ reporting_after reporter.old.reporting (record_in event.now) }
+    ensures lines { AreReported (lines_of reporter.old.reporting (record_in event.now)) (E.written errors.old)
         (E.written errors.new) }
     ensures beside { L.beside link.new ≡ L.beside link.old }
 {
@@ -259,8 +259,8 @@ fn deliver_record<W: Sink, E: Sink>(
         (Event.Record index number bytes.now) counts link link (W.written output.old) (W.written output.new)) }
     ensures received { Notes reporter.old.received reporter.new.received (W.written output.old) (W.written output.new) }
     ensures reported { IsReportedOf (Event.Record index number bytes.now)
-        (outputs (W.written output.old) (E.written errors.old) reporter.old.telling)
-        (outputs (W.written output.new) (E.written errors.new) reporter.new.telling) }
+        (outputs (W.written output.old) (E.written errors.old) reporter.old.reporting)
+        (outputs (W.written output.new) (E.written errors.new) reporter.new.reporting) }
 {
     reporter.note(index, number, errors);
     match write_all_of(output, bytes) {

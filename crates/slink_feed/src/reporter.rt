@@ -4,8 +4,8 @@ ghost use Rattle.mseed_stream.specs.Telling.{Tells};
 ghost use Rattle.slink_feed.specs.Dialogue.{want_at, with_next};
 ghost use Rattle.slink_feed.specs.Reporter.{AreReported, first_line, first_lines, hole_line, hole_lines, if_other};
 ghost use Rattle.slink_feed.specs.Reporter.{lines_at};
-ghost use Rattle.slink_feed.specs.Reporter.{next_line, next_line_of, number_behind, options_of, telling_of};
-ghost use Rattle.slink_feed.specs.Reporter.{telling_past};
+ghost use Rattle.slink_feed.specs.Reporter.{next_line, next_line_of, number_behind, options_of, reporting_of};
+ghost use Rattle.slink_feed.specs.Reporter.{reporting_past};
 ghost use Rattle.slink_feed.specs.Reporter.{wants_left, word_of};
 ghost use Rattle.slink_feed.specs.private.Lines.{PutsBehind};
 
@@ -180,12 +180,12 @@ pub struct Reporter {
 }
 
 impl Model for Reporter {
-    ghost use Rattle.slink_feed.specs.Reporter.{Account};
+    ghost use Rattle.slink_feed.specs.Reporter.{ReporterState};
 
-    ghost Value = { Account };
+    ghost Value = { ReporterState };
 
     ghost view = { λ t. record {
-      telling = record { wants = t.wants; firsts = t.firsts; last = t.last };
+      reporting = record { wants = t.wants; firsts = t.firsts; last = t.last };
       received = t.received;
     } };
 }
@@ -194,7 +194,7 @@ impl Reporter {
     /// A reporter of the records that a client wants. The first record of each place is reported where `firsts` says
     /// so, and each hole in any case.
     pub fn new(client: &Client, firsts: bool) -> Reporter
-        ensures { result ≡ record { telling = telling_of client.now.talk.wants firsts; received = false } }
+        ensures { result ≡ record { reporting = reporting_of client.now.talk.wants firsts; received = false } }
     {
         Reporter {
             wants: copied(client.wants()),
@@ -206,7 +206,7 @@ impl Reporter {
 
     /// The place at an index, with the number that it wants next.
     fn want(&self, k: usize) -> Option<Wanted>
-        ensures { result ≡ want_at self.now.telling.wants k }
+        ensures { result ≡ want_at self.now.reporting.wants k }
     {
         match self.wants.get(k) {
             Some(want) => *want,
@@ -216,7 +216,7 @@ impl Reporter {
 
     /// Whether the next record of the place at an index is its first, of which is to be reported.
     fn is_first(&self, k: usize) -> bool
-        ensures { result ≡ unwrap_or (slice_get self.now.telling.firsts k) false }
+        ensures { result ≡ unwrap_or (slice_get self.now.reporting.firsts k) false }
     {
         match self.firsts.get(k) {
             Some(is_first) => *is_first,
@@ -227,7 +227,7 @@ impl Reporter {
     /// Notes that a record of a place was reported, and which is wanted next.
     #[tactic(auto, using(std::proofs::lemmas::List::set_past))]
     fn pass(&mut self, k: usize, number: u32)
-        ensures { self.new ≡ record self.old { telling = telling_past self.old.telling k number } }
+        ensures { self.new ≡ record self.old { reporting = reporting_past self.old.reporting k number } }
     {
         want_next(&mut self.wants, k, (number % SPAN as u32 + 1) % SPAN as u32);
         if k < self.firsts.len() {
@@ -238,8 +238,8 @@ impl Reporter {
 
     /// Reports the record of the place at an index, with its number: it is about to be written.
     pub(crate) fn note<E: Sink>(&mut self, k: usize, number: u32, errors: &mut E)
-        ensures telling { self.new ≡ record self.old { telling = telling_past self.old.telling k number } }
-        ensures lines { AreReported (lines_at self.old.telling k number) (E.written errors.old) (E.written errors.new) }
+        ensures reporting { self.new ≡ record self.old { reporting = reporting_past self.old.reporting k number } }
+        ensures lines { AreReported (lines_at self.old.reporting k number) (E.written errors.old) (E.written errors.new) }
     {
         let want = self.want(k);
         report_hole(&want, number, errors);
@@ -270,7 +270,7 @@ impl Reporter {
 
     /// What a client wants; where the output `failed`, the last record that was reported again.
     fn wants_left(&self, client: &Client, failed: bool) -> [Option<Wanted>; 16]
-        ensures { result ≡ wants_left failed self.now.telling.last client.now.talk.wants }
+        ensures { result ≡ wants_left failed self.now.reporting.last client.now.talk.wants }
     {
         match self.last {
             Some((k, number)) => {
@@ -287,7 +287,7 @@ impl Reporter {
     /// Reports the arguments of a `fetch` that goes on with what a client wants. Where the output `failed`, the last
     /// record that was reported is wanted again.
     pub fn report_next<E: Sink>(&self, client: &Client, failed: bool, errors: &mut E)
-        ensures { Tells (next_line_of (wants_left failed self.now.telling.last client.now.talk.wants))
+        ensures { Tells (next_line_of (wants_left failed self.now.reporting.last client.now.talk.wants))
             (E.written errors.old) (E.written errors.new) }
     {
         let wants = self.wants_left(client, failed);

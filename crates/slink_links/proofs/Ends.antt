@@ -6,8 +6,8 @@ use Rattle.slink_feed.specs.Delivered.{Numbered}
 use Rattle.slink_feed.specs.Dialogue.{Wants}
 use Rattle.slink_feed.specs.Listening.{Listening}
 use Rattle.slink_feed.specs.Reports.{outputs}
-use Rattle.slink_feed.specs.Reporter.{AreReported, Telling, lines_of, next_line_of, none, one, telling_behind}
-use Rattle.slink_feed.specs.Reporter.{telling_of}
+use Rattle.slink_feed.specs.Reporter.{AreReported, Reporting, lines_of, next_line_of, none, one, reporting_after}
+use Rattle.slink_feed.specs.Reporter.{reporting_of}
 use Rattle.slink_feed.specs.Reporter.{wants_left}
 use Rattle.slink_feed.specs.Reported.{HasReported}
 use Rattle.slink_feed.proofs.Quiet.{nothing_reported}
@@ -36,27 +36,27 @@ pub end_reported : (end : FetchEnd) (old new : Wants) (records : List Numbered) 
     → HasReported false old new records → ReportsOfAll false end records old new a d → ReportsOfFetch end a d
 end_reported end old new records a d reported all =
     let first : all.reported ≡ a =
-    none_reported (lines_of (telling_of old false) records) a all.reported (nothing_reported old new records reported)
+    none_reported (lines_of (reporting_of old false) records) a all.reported (nothing_reported old new records reported)
     all.lines in
     let last : d ≡ all.ended = none_reported [] all.ended d refl all.next in
     subst (λ (x : BytesWritten). ReportsOfFetch end a x) (sym last)
     (subst (λ (x : BytesWritten). ReportsOfFetch end x all.ended) first all.end_line)
 
 -- all that is reported
-pub all_reported : (firsts : Bool) (end : FetchEnd) (old new : Listening) (t u : Telling) (o p a b c d : BytesWritten)
-    (f : FetchesReporting end old new (outputs o a t) (outputs p b u)) → t ≡ telling_of old.talk.wants firsts
+pub all_reported : (firsts : Bool) (end : FetchEnd) (old new : Listening) (t u : Reporting) (o p a b c d : BytesWritten)
+    (f : FetchesReporting end old new (outputs o a t) (outputs p b u)) → t ≡ reporting_of old.talk.wants firsts
     → ReportsOfFetch end b c → AreReported (next_lines firsts (wants_left (is_unwritten end) u.last new.talk.wants)) c d
     → ReportsOfAll firsts end f.fetched.records old.talk.wants new.talk.wants a d
 all_reported firsts end old new t u o p a b c d f begun ended next =
     let records : List Numbered = f.fetched.records in
-    let first : Telling = telling_of old.talk.wants firsts in
-    let behind : u ≡ telling_behind first records =
-    f.handed_over.telling ∙ ap (λ (x : Telling). telling_behind x records) begun in record {
+    let first : Reporting = reporting_of old.talk.wants firsts in
+    let behind : u ≡ reporting_after first records =
+    f.handed_over.reporting ∙ ap (λ (x : Reporting). reporting_after x records) begun in record {
       reported = b;
       ended = c;
-      lines = subst (λ (x : Telling). AreReported (lines_of x records) a b) begun f.handed_over.lines;
+      lines = subst (λ (x : Reporting). AreReported (lines_of x records) a b) begun f.handed_over.lines;
       end_line = ended;
-      next = subst (λ (x : Telling). AreReported (next_lines firsts
+      next = subst (λ (x : Reporting). AreReported (next_lines firsts
           (wants_left (is_unwritten end) x.last new.talk.wants)) c
           d) behind next;
     }

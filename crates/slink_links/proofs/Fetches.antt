@@ -29,9 +29,9 @@ use Rattle.slink_feed.proofs.OneReading as one
 use Rattle.slink_feed.proofs.Reporting.{all_taken, line_alone, record_alone, record_bytes, handed_over_both}
 use Rattle.slink_feed.proofs.Reporting.{handed_over_none}
 use Rattle.slink_feed.proofs.Reporting.{takes_both, takes_none}
-use Rattle.slink_feed.proofs.Telling.{bytes_both, records_both, kept_link, reported_both, reported_far, reported_link}
-use Rattle.slink_feed.proofs.Telling.{reported_none}
-use Rattle.slink_feed.proofs.Telling.{wants_written}
+use Rattle.slink_feed.proofs.Reported.{bytes_both, records_both, kept_link, reported_both, reported_far, reported_link}
+use Rattle.slink_feed.proofs.Reported.{reported_none}
+use Rattle.slink_feed.proofs.Reported.{wants_written}
 use Rattle.slink_links.specs.declared.fetching.FetchEnd.{FetchEnd}
 use Rattle.slink_links.specs.declared.fetching.FetchEnd.TheVariants.{Done, Refused, BadFeed, WriteFailed, LinkFailed}
 use Rattle.slink_links.specs.Fetched.{AreTaken, HasFetched, HasReadEach, HasReadLink, HasReadLinks, HasTurned}
@@ -418,10 +418,10 @@ read_link end old now new event h i s t says reads p = record {
 }
 
 -- its records are those that were reported
-pub fetched_telling : (end : FetchEnd) (old now new : Listening) (event : Event) (a b : Outputs)
+pub fetched_reporting : (end : FetchEnd) (old now new : Listening) (event : Event) (a b : Outputs)
     → says_place 0 old.talk ≡ (now.talk, event) → HasFetched end old new a.output b.output
     → Reports now.talk new.talk a b → FetchesReporting end old new a b
-fetched_telling end old now new event a b says f p =
+fetched_reporting end old now new event a b says f p =
     let reported : HasReported old.talk.holes old.talk.wants new.talk.wants p.records =
     connected_reported old.talk now.talk event new.talk.wants p.records says p.reported in record {
       fetched = record {

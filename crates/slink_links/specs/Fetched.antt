@@ -19,7 +19,7 @@ use Rattle.slink_feed.specs.Dialogue.{Talk, Wants, next_at, says_place}
 use Rattle.slink_feed.specs.Fetching.{Fetching, ReadsOn, TakesTurn, fetching, line_written}
 use Rattle.slink_feed.specs.Listening.{IsLinked, Listening, Reads}
 use Rattle.slink_feed.specs.Reports.{AreHandedOver, Outputs, TakesRecords}
-use Rattle.slink_feed.specs.Reporter.{AreReported, lines_of, next_line_of, telling_behind, telling_of, wants_left}
+use Rattle.slink_feed.specs.Reporter.{AreReported, lines_of, next_line_of, reporting_after, reporting_of, wants_left}
 use Rattle.slink_feed.specs.Reported.{HasReported, numbers_at, records_reported}
 use Rattle.slink_feed.specs.Turns.{Emitted, EmittedPrefix}
 use Rattle.slink_links.specs.declared.fetching.FetchEnd.{FetchEnd}
@@ -119,7 +119,7 @@ next_lines true wants = next_line_of wants ∷ []
 -- what is wanted next after these records: what the client wants, and a record again that wasn't taken whole
 abbrev pub left_behind : Bool → FetchEnd → List Numbered → Wants → Wants → Wants
 left_behind firsts end records old new =
-    wants_left (is_unwritten end) (telling_behind (telling_of old firsts) records).last new
+    wants_left (is_unwritten end) (reporting_after (reporting_of old firsts) records).last new
 
 -- Standard error accepted the lines of these records, each before the output accepted a byte of it; then the line that
 -- says how the fetch ended; and at last, where the first records are reported, the words of a fetch that goes on.
@@ -127,7 +127,7 @@ pub record ReportsOfAll (firsts : Bool) (end : FetchEnd) (records : List Numbere
     (before after : BytesWritten) : Type 0 where
   pub reported : BytesWritten
   pub ended : BytesWritten
-  pub lines : AreReported (lines_of (telling_of old firsts) records) before reported
+  pub lines : AreReported (lines_of (reporting_of old firsts) records) before reported
   pub end_line : ReportsOfFetch end reported ended
   pub next : AreReported (next_lines firsts (left_behind firsts end records old new)) ended after
 

@@ -93,7 +93,7 @@ fn report_next_of<E: Sink>(
     errors: &mut E,
 )
     ensures { AreReported (next_lines is_called
-        (wants_left (is_unwritten end) reporter.now.telling.last client.now.talk.wants)) (E.written errors.old)
+        (wants_left (is_unwritten end) reporter.now.reporting.last client.now.talk.wants)) (E.written errors.old)
         (E.written errors.new) }
 {
     if is_called {
@@ -147,8 +147,8 @@ fn fetch_links<D: Dial, P: Pause, W: Sink, E: Sink>(
 ) -> FetchEnd
     requires { AreOut 0 (D.calls dialler.old) (D.failures dialler.old) (D.given_back dialler.old) }
     ensures fetched { FetchesReporting result client.old client.new
-        (outputs (W.written output.old) (E.written errors.old) reporter.old.telling)
-        (outputs (W.written output.new) (E.written errors.new) reporter.new.telling) }
+        (outputs (W.written output.old) (E.written errors.old) reporter.old.reporting)
+        (outputs (W.written output.new) (E.written errors.new) reporter.new.reporting) }
     ensures dialled { HasDialled result tries (D.calls dialler.old) (D.calls dialler.new) }
     ensures out { AreOut 0 (D.calls dialler.new) (D.failures dialler.new) (D.given_back dialler.new) }
     ensures read { HasReadEach result client.old client.new (D.given_back dialler.old) (D.given_back dialler.new)
@@ -182,8 +182,8 @@ fn try_link<D: Dial, W: Sink, E: Sink>(
 ) -> (FetchEnd, bool)
     requires { AreOut 0 (D.calls dialler.old) (D.failures dialler.old) (D.given_back dialler.old) }
     ensures fetched { FetchesReporting result.0 client.old client.new
-        (outputs (W.written output.old) (E.written errors.old) reporter.old.telling)
-        (outputs (W.written output.new) (E.written errors.new) reporter.new.telling) }
+        (outputs (W.written output.old) (E.written errors.old) reporter.old.reporting)
+        (outputs (W.written output.new) (E.written errors.new) reporter.new.reporting) }
     ensures dialled { D.calls dialler.new ≡ D.calls dialler.old + 1 }
     ensures out { AreOut 0 (D.calls dialler.new) (D.failures dialler.new) (D.given_back dialler.new) }
     ensures read { HasReadEach result.0 client.old client.new (D.given_back dialler.old) (D.given_back dialler.new)
@@ -227,8 +227,8 @@ fn fetch_link_reporting<S: Settle, W: Sink, E: Sink>(
     reporter: &mut Reporter,
 ) -> FetchEnd
     ensures fetched { FetchesReporting result client.old client.new
-        (outputs (W.written output.old) (E.written errors.old) reporter.old.telling)
-        (outputs (W.written output.new) (E.written errors.new) reporter.new.telling) }
+        (outputs (W.written output.old) (E.written errors.old) reporter.old.reporting)
+        (outputs (W.written output.new) (E.written errors.new) reporter.new.reporting) }
     ensures read { HasReadLink client.old client.new (S.read link.old) (S.read link.new) (W.written output.old)
         (W.written output.new) }
     ensures turns { IsFetchedOver (fetching client.old (S.written link.old) (W.written output.old)) (S.read link.old)

@@ -59,7 +59,7 @@ pub closes_none : (log last : List Happening) → last ≡ log → Closes log la
 closes_none log last e = record { gone = []; each = tt; last_is = e ∙ sym (append-nil log) }
 
 pub closes_told : (log last : List Happening) (h : Happening) → IsTelling h → last ≡ log ++ h ∷ [] → Closes log last
-closes_told log last h telling e = record { gone = h ∷ []; each = (telling, tt); last_is = e }
+closes_told log last h reporting e = record { gone = h ∷ []; each = (reporting, tt); last_is = e }
 
 pub closes_both : (log now last : List Happening) → Closes log now → Closes now last → Closes log last
 closes_both log now last a b = record {

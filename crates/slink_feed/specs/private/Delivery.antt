@@ -8,7 +8,7 @@ use Rattle.slink_feed.specs.declared.turn.LinkFault.TheVariants as faults
 use Rattle.slink_feed.specs.Fetching.{Fetching, line_written, record_reported}
 use Rattle.slink_feed.specs.Listening.{Brings, Listening}
 use Rattle.slink_feed.specs.Reports.{Outputs}
-use Rattle.slink_feed.specs.Reporter.{AreReported, lines_of, telling_behind}
+use Rattle.slink_feed.specs.Reporter.{AreReported, lines_of, reporting_after}
 use Rattle.slink_feed.specs.Reported.{record_in}
 use Rattle.slink_feed.specs.Turns.{Emitted, EmittedPrefix}
 
@@ -48,8 +48,8 @@ pub record ComesTo (event : Event) (used : ℕ) (bytes : List ℕ) (old new : Li
 
 -- A record that an event reports was reported.
 pub record IsReportedOf (event : Event) (old new : Outputs) : Type 0 where
-  pub telling : new.telling ≡ telling_behind old.telling (record_in event)
-  pub lines : AreReported (lines_of old.telling (record_in event)) old.errors new.errors
+  pub reporting : new.reporting ≡ reporting_after old.reporting (record_in event)
+  pub lines : AreReported (lines_of old.reporting (record_in event)) old.errors new.errors
 
 -- Of these bytes so many were taken, and what they come to was reported and delivered.
 pub record TakesNext (bytes : List ℕ) (used : ℕ) (before after : Counts) (old new : Fetching) (was is : Outputs) : Type

@@ -31,7 +31,7 @@ returns-in_ok-after-in-None-clause-ok g c = record {
   comes = comes_to c.args.client.now c.take_record.new.self c.take-used.new.self c.args.bytes.now
       c.take-used.result.0 c.take-used.result.1 c.in-None.ensures.none c.requires.linked c.requires.some
       c.take-used.ensures.brings c.take-used.ensures.some c.take-used.ensures.bound;
-  reported = record { telling = c.deliver.ensures.telling; lines = c.deliver.ensures.lines };
+  reported = record { reporting = c.deliver.ensures.reporting; lines = c.deliver.ensures.lines };
   done = c.in_ok-after-in-None.ensures.ok;
 }
 
@@ -45,6 +45,6 @@ returns-in_err-after-in-None-clause-fault g c =
       comes = comes_to c.args.client.now c.take_record.new.self c.take-used.new.self c.args.bytes.now
           c.take-used.result.0 c.take-used.result.1 c.in-None.ensures.none c.requires.linked c.requires.some
           c.take-used.ensures.brings c.take-used.ensures.some c.take-used.ensures.bound;
-      reported = record { telling = c.deliver.ensures.telling; lines = c.deliver.ensures.lines };
+      reported = record { reporting = c.deliver.ensures.reporting; lines = c.deliver.ensures.lines };
       cut = c.in_err-after-in-None.ensures.fault;
     })

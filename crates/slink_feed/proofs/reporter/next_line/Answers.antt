@@ -1,7 +1,7 @@
 use Rattle.std.proofs.Common.{◌++◌, ◌∙◌, List, ℕ, Option, ap, append_assoc, arith, codes, sym, take}
 use Rattle.slink_feed.specs.declared.dialogue.Wanted.{Wanted}
 use Rattle.slink_feed.specs.Reporter.{options_of, word_of, words_of}
-use Rattle.slink_feed.proofs.Tellings.{words_more}
+use Rattle.slink_feed.proofs.ReportLines.{words_more}
 use Rattle.slink_feed.proofs.reporter.next_line.Goals as goal
 
 pub loop-want-preserved : goal.loop-want-preserved

@@ -1,6 +1,6 @@
 use Rattle.std.proofs.Common.{◌∙◌}
 use Rattle.slink_feed.specs.Reporter.{first_line}
-use Rattle.slink_feed.proofs.Tellings.{first_none, first_reported, no_first, reported_line}
+use Rattle.slink_feed.proofs.ReportLines.{first_none, first_reported, no_first, reported_line}
 use Rattle.slink_feed.proofs.reporter.report_first.Goals as goal
 
 pub returns-then-is_first : goal.returns-then-is_first

@@ -1,4 +1,4 @@
-use Rattle.slink_feed.proofs.Tellings.{hole_none, hole_reported}
+use Rattle.slink_feed.proofs.ReportLines.{hole_none, hole_reported}
 use Rattle.slink_feed.proofs.reporter.report_hole.Goals as goal
 
 pub returns-in-Some : goal.returns-in-Some

@@ -1,6 +1,6 @@
 use Rattle.std.proofs.Common.{◌∙◌}
 use Rattle.slink_feed.specs.Reporter.{hole_line}
-use Rattle.slink_feed.proofs.Tellings.{other_none, other_same, other_reported, reported_line}
+use Rattle.slink_feed.proofs.ReportLines.{other_none, other_same, other_reported, reported_line}
 use Rattle.slink_feed.proofs.reporter.report_if_other.Goals as goal
 
 pub returns-then-want-got : goal.returns-then-want-got

@@ -1,5 +1,5 @@
 use Rattle.std.proofs.Common.{Bool, ap, subst}
-use Rattle.slink_feed.specs.Reporter.{Account}
+use Rattle.slink_feed.specs.Reporter.{ReporterState}
 use Rattle.slink_feed.specs.Reported.{HasReported}
 use Rattle.slink_links.specs.Fetched.{ReportsOfAll}
 use Rattle.slink_links.proofs.Ends.{all_reported, end_reported}
@@ -13,11 +13,11 @@ returns-clause-end g c = (
   c.fetch_links-end.ensures.read,
   c.fetch_status.ensures,
   all_reported c.args.tell_next c.fetch_links-end.result c.args.client.now c.fetch_links-end.new.client
-      c.new-reporter.result.telling c.fetch_links-end.new.reporter.telling (g.W.Sink.written c.args.output.now)
+      c.new-reporter.result.reporting c.fetch_links-end.new.reporter.reporting (g.W.Sink.written c.args.output.now)
       (g.W.Sink.written c.fetch_links-end.new.output) (g.E.Sink.written c.args.errors.now)
       (g.E.Sink.written c.fetch_links-end.new.errors) (g.E.Sink.written c.report_end.new.errors)
       (g.E.Sink.written c.report_next_of.new.errors) c.fetch_links-end.ensures.fetched
-      (ap (λ (a : Account). a.telling) c.new-reporter.ensures) c.report_end.ensures c.report_next_of.ensures,
+      (ap (λ (a : ReporterState). a.reporting) c.new-reporter.ensures) c.report_end.ensures c.report_next_of.ensures,
   c.fetch_links-end.ensures.paused,
 )
 
@@ -30,11 +30,11 @@ returns-clause-quiet g c = λ uncalled plain.
     let after = g.E.Sink.written c.report_next_of.new.errors in
     let all =
     all_reported c.args.tell_next c.fetch_links-end.result c.args.client.now c.fetch_links-end.new.client
-    c.new-reporter.result.telling c.fetch_links-end.new.reporter.telling (g.W.Sink.written c.args.output.now)
+    c.new-reporter.result.reporting c.fetch_links-end.new.reporter.reporting (g.W.Sink.written c.args.output.now)
     (g.W.Sink.written c.fetch_links-end.new.output) (g.E.Sink.written c.args.errors.now)
     (g.E.Sink.written c.fetch_links-end.new.errors) (g.E.Sink.written c.report_end.new.errors)
     (g.E.Sink.written c.report_next_of.new.errors) c.fetch_links-end.ensures.fetched
-    (ap (λ (a : Account). a.telling) c.new-reporter.ensures) c.report_end.ensures c.report_next_of.ensures in (
+    (ap (λ (a : ReporterState). a.reporting) c.new-reporter.ensures) c.report_end.ensures c.report_next_of.ensures in (
       c.fetch_links-end.result,
       c.fetch_status.ensures,
       end_reported c.fetch_links-end.result old new fetched.records before after

@@ -6,7 +6,7 @@ use Rattle.slink_links.specs.declared.fetching.FetchEnd.TheVariants.{LinkFailed}
 use Rattle.slink_links.specs.Fetched.{HasReadLink, HasTakenAll, IsFetchedOver, by_turns, unwritten}
 use Rattle.slink_feed.specs.Reports.{Outputs, outputs}
 use Rattle.slink_feed.proofs.Reporting.{reports_none}
-use Rattle.slink_links.proofs.Fetches.{connected_linked, fetched_link, fetched_telling, read_link, emitted_as}
+use Rattle.slink_links.proofs.Fetches.{connected_linked, fetched_link, fetched_reporting, read_link, emitted_as}
 use Rattle.slink_links.proofs.Fetches.{emitted_prefix_as, turned_none}
 use Rattle.slink_links.proofs.Fetches.{turned_out}
 use Rattle.slink_links.proofs.fetching.fetch_link_reporting.Goals as goal
@@ -19,10 +19,10 @@ take_turns-requires-clause-linked g c =
 pub returns-in-Ok-clause-fetched : goal.returns-in-Ok-clause-fetched
 returns-in-Ok-clause-fetched g c =
     let before : Outputs = outputs (g.W.Sink.written c.args.output.now) (g.E.Sink.written c.args.errors.now)
-    c.args.reporter.now.telling in
+    c.args.reporter.now.reporting in
     let after : Outputs = outputs (g.W.Sink.written c.take_turns.new.output) (g.E.Sink.written c.take_turns.new.errors)
-    c.take_turns.new.reporter.telling in
-    fetched_telling c.take_turns.result c.args.client.now c.connect-line.new.self c.take_turns.new.client
+    c.take_turns.new.reporter.reporting in
+    fetched_reporting c.take_turns.result c.args.client.now c.connect-line.new.self c.take_turns.new.client
     (Say c.connect-line.result) before after c.connect-line.ensures.written
     (fetched_link c.take_turns.result c.args.client.now c.connect-line.new.self c.take_turns.new.client
     (Say c.connect-line.result) (g.S.Source.read c.write_all_of.new.sink)
@@ -50,11 +50,11 @@ returns-in-Err-clause-fetched g c =
     let now = c.connect-line.new.self in
     let read = g.S.Source.read c.args.link.now in
     let written = g.W.Sink.written c.args.output.now in
-    let same : Outputs = outputs written (g.E.Sink.written c.args.errors.now) c.args.reporter.now.telling in
+    let same : Outputs = outputs written (g.E.Sink.written c.args.errors.now) c.args.reporter.now.reporting in
     let none = turned_none now read written
     (connected_linked c.args.client.now.talk now.talk (Say c.connect-line.result)
     c.connect-line.ensures.written) in
-    fetched_telling LinkFailed c.args.client.now now now (Say c.connect-line.result) same same
+    fetched_reporting LinkFailed c.args.client.now now now (Say c.connect-line.result) same same
     c.connect-line.ensures.written
     (fetched_link LinkFailed c.args.client.now now now (Say c.connect-line.result) read read written written
     c.connect-line.ensures.written c.connect-line.ensures.reads (turned_out now now read read written written none))

@@ -9,7 +9,7 @@ use Rattle.slink_links.proofs.fetching.fetch_links.Goals as goal
 pub returns-then-tries-eq0-clause-fetched : goal.returns-then-tries-eq0-clause-fetched
 returns-then-tries-eq0-clause-fetched g c =
     fetched_none c.args.client.now
-    (outputs (g.W.Sink.written c.args.output.now) (g.E.Sink.written c.args.errors.now) c.args.reporter.now.telling)
+    (outputs (g.W.Sink.written c.args.output.now) (g.E.Sink.written c.args.errors.now) c.args.reporter.now.reporting)
 
 pub returns-then-tries-eq0-clause-read : goal.returns-then-tries-eq0-clause-read
 returns-then-tries-eq0-clause-read g c =
@@ -21,7 +21,7 @@ links-init g c =
     (g.P.Pause.called c.args.waits.now) in
     record {
       fetched = fetched_none c.args.client.now
-          (outputs (g.W.Sink.written c.args.output.now) (g.E.Sink.written c.args.errors.now) c.args.reporter.now.telling);
+          (outputs (g.W.Sink.written c.args.output.now) (g.E.Sink.written c.args.errors.now) c.args.reporter.now.reporting);
       some = omega (arith, c.if-tries-eq0.false);
       most = omega arith;
       dialled = refl;
@@ -33,11 +33,11 @@ links-init g c =
 pub returns-then-ne-clause-fetched : goal.returns-then-ne-clause-fetched
 returns-then-ne-clause-fetched g c =
     fetched_both c.try_link-end.result.0 c.args.client.now c.links.client c.try_link-end.new.client
-    (outputs (g.W.Sink.written c.args.output.now) (g.E.Sink.written c.args.errors.now) c.args.reporter.now.telling)
+    (outputs (g.W.Sink.written c.args.output.now) (g.E.Sink.written c.args.errors.now) c.args.reporter.now.reporting)
     (outputs (g.W.Sink.written c.links.output) (g.E.Sink.written c.links.errors)
-    c.links.reporter.telling)
+    c.links.reporter.reporting)
     (outputs (g.W.Sink.written c.try_link-end.new.output) (g.E.Sink.written c.try_link-end.new.errors)
-    c.try_link-end.new.reporter.telling) c.links.invariant.fetched c.try_link-end.ensures.fetched
+    c.try_link-end.new.reporter.reporting) c.links.invariant.fetched c.try_link-end.ensures.fetched
 
 pub returns-then-ne-clause-read : goal.returns-then-ne-clause-read
 returns-then-ne-clause-read g c =
@@ -85,9 +85,9 @@ links-preserved g c =
     let first = g.W.Sink.written c.args.output.now in
     let written_now = g.W.Sink.written c.links.output in
     let written_new = g.W.Sink.written c.try_link-end.new.output in
-    let outputs_now : Outputs = outputs written_now (g.E.Sink.written c.links.errors) c.links.reporter.telling in
+    let outputs_now : Outputs = outputs written_now (g.E.Sink.written c.links.errors) c.links.reporter.reporting in
     let outputs_new : Outputs = outputs written_new (g.E.Sink.written c.try_link-end.new.errors)
-    c.try_link-end.new.reporter.telling in
+    c.try_link-end.new.reporter.reporting in
     let links_now = g.D.Dial.given_back c.links.dialler in
     let links_new = g.D.Dial.given_back c.try_link-end.new.dialler in
     let before : Calls = calls_of (g.D.Dial.calls c.args.dialler.now) (g.D.Dial.given_back c.args.dialler.now)
@@ -99,7 +99,7 @@ links-preserved g c =
     (g.P.Pause.called c.wait_behind-count.new.waits) in
     record {
       fetched = fetched_both LinkFailed c.args.client.now now new
-          (outputs (g.W.Sink.written c.args.output.now) (g.E.Sink.written c.args.errors.now) c.args.reporter.now.telling)
+          (outputs (g.W.Sink.written c.args.output.now) (g.E.Sink.written c.args.errors.now) c.args.reporter.now.reporting)
           outputs_now outputs_new c.links.invariant.fetched
           (subst (λ end. FetchesReporting end now new outputs_now outputs_new) same c.try_link-end.ensures.fetched);
       some = omega (arith, c.if-left-eq0.false);

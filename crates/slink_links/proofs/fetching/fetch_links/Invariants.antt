@@ -9,8 +9,8 @@ use Rattle.slink_links.proofs.fetching.fetch_links.Given as goal
 abbrev pub invariant-links : goal.invariant-links
 invariant-links g l = record {
   fetched : FetchesReporting LinkFailed l.fn.client l.client
-      (outputs (g.W.Sink.written l.fn.output) (g.E.Sink.written l.fn.errors) l.fn.reporter.telling)
-      (outputs (g.W.Sink.written l.output) (g.E.Sink.written l.errors) l.reporter.telling);
+      (outputs (g.W.Sink.written l.fn.output) (g.E.Sink.written l.fn.errors) l.fn.reporter.reporting)
+      (outputs (g.W.Sink.written l.output) (g.E.Sink.written l.errors) l.reporter.reporting);
   some : 0 < l.left;
   most : l.left ≤ l.tries;
   dialled : g.D.Dial.calls l.dialler + l.left ≡ g.D.Dial.calls l.fn.dialler + l.tries;

@@ -3,7 +3,7 @@ use Rattle.mseed_stream.specs.Exchanges.{Exchange, exchange}
 use Rattle.slink_links.specs.declared.fetching.FetchEnd.TheVariants.{LinkFailed}
 use Rattle.slink_feed.specs.Fetching.{Notes}
 use Rattle.slink_feed.specs.Reports.{Outputs, outputs}
-use Rattle.slink_feed.specs.Reporter.{Account, Telling}
+use Rattle.slink_feed.specs.Reporter.{ReporterState, Reporting}
 use Rattle.slink_links.specs.Fetched.{FetchesReporting, HasReadEach, HasTried}
 use Rattle.slink_links.proofs.Fetches.{fetched_none, reads_none, reads_one, was_over}
 use Rattle.slink_links.proofs.Tries.{tried_none, tried_over}
@@ -43,22 +43,22 @@ returns-in-Some-clause-tried g c =
     c.fetch_link_reporting-end.ensures.fetched.fetched
     (subst (λ (was : Bool). Notes was c.fetch_link_reporting-end.new.reporter.received
     (g.W.Sink.written c.args.output.now) (g.W.Sink.written c.fetch_link_reporting-end.new.output))
-    (ap (λ (a : Account). a.received) c.begin.ensures) c.fetch_link_reporting-end.ensures.received)
+    (ap (λ (a : ReporterState). a.received) c.begin.ensures) c.fetch_link_reporting-end.ensures.received)
     (c.hang_up.ensures.given_back ∙ ap (λ links. links ++ link ∷ []) c.in-Some.ensures.given_back))
 
 pub returns-in-Some-clause-fetched : goal.returns-in-Some-clause-fetched
 returns-in-Some-clause-fetched g c =
     let after : Outputs = outputs (g.W.Sink.written c.fetch_link_reporting-end.new.output)
-    (g.E.Sink.written c.fetch_link_reporting-end.new.errors) c.fetch_link_reporting-end.new.reporter.telling in
-    subst (λ (t : Telling). FetchesReporting c.fetch_link_reporting-end.result c.args.client.now
+    (g.E.Sink.written c.fetch_link_reporting-end.new.errors) c.fetch_link_reporting-end.new.reporter.reporting in
+    subst (λ (t : Reporting). FetchesReporting c.fetch_link_reporting-end.result c.args.client.now
     c.fetch_link_reporting-end.new.client
     (outputs (g.W.Sink.written c.args.output.now) (g.E.Sink.written c.args.errors.now) t) after)
-    (ap (λ (a : Account). a.telling) c.begin.ensures) c.fetch_link_reporting-end.ensures.fetched
+    (ap (λ (a : ReporterState). a.reporting) c.begin.ensures) c.fetch_link_reporting-end.ensures.fetched
 
 pub returns-in-None-clause-fetched : goal.returns-in-None-clause-fetched
 returns-in-None-clause-fetched g c =
     fetched_none c.args.client.now
-    (outputs (g.W.Sink.written c.args.output.now) (g.E.Sink.written c.args.errors.now) c.args.reporter.now.telling)
+    (outputs (g.W.Sink.written c.args.output.now) (g.E.Sink.written c.args.errors.now) c.args.reporter.now.reporting)
 
 pub returns-in-None-clause-read : goal.returns-in-None-clause-read
 returns-in-None-clause-read g c =

@@ -3,7 +3,7 @@ use Rattle.mseed_stream.specs.Telling.{Tells}
 use Rattle.slink_feed.specs.declared.dialogue.Wanted.{Wanted}
 use Rattle.slink_feed.specs.Dialogue.{Wants, want_at}
 use Rattle.slink_feed.specs.Reporter.{next_line, next_line_of}
-use Rattle.slink_feed.proofs.Tellings.{behind_first, first_is}
+use Rattle.slink_feed.proofs.ReportLines.{behind_first, first_is}
 use Rattle.slink_feed.proofs.reporter.Reporter.report_next.Goals as goal
 
 pub returns : goal.returns

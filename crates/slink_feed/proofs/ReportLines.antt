@@ -12,7 +12,7 @@ use Rattle.slink_feed.specs.declared.dialogue.Event.{Event}
 use Rattle.slink_feed.specs.declared.dialogue.Event.TheVariants as events
 use Rattle.slink_feed.specs.declared.dialogue.Wanted.{Wanted}
 use Rattle.slink_feed.specs.Dialogue.{Wants, want_at}
-use Rattle.slink_feed.specs.Reporter.{AreReported, Telling, first_line, first_lines, hole_line, hole_lines, if_other}
+use Rattle.slink_feed.specs.Reporter.{AreReported, Reporting, first_line, first_lines, hole_line, hole_lines, if_other}
 use Rattle.slink_feed.specs.Reporter.{lines_at}
 use Rattle.slink_feed.specs.Reporter.{lines_of, none, one, word_of, words_of}
 use Rattle.slink_feed.specs.Reported.{record_in}
@@ -73,7 +73,7 @@ pub no_first : (first : Bool) (o : Option Wanted) (number : ℕ) (a : BytesWritt
 no_first first o number a unset = subst (λ (t : Bool). AreReported (first_lines t o number) a a) (sym unset) (none a)
 
 -- the lines of a record
-pub lines_reported : (t : Telling) (k number : ℕ) (o : Option Wanted) (first : Bool) (a b c : BytesWritten)
+pub lines_reported : (t : Reporting) (k number : ℕ) (o : Option Wanted) (first : Bool) (a b c : BytesWritten)
     → o ≡ want_at t.wants k → first ≡ unwrap_or (slice_get t.firsts k) false → AreReported (hole_lines o number) a b
     → AreReported (first_lines first o number) b c → AreReported (lines_at t k number) a c
 lines_reported t k number o first a b c is set hole reported =
@@ -83,7 +83,7 @@ lines_reported t k number o first a b c is set hole reported =
     (lines_both (hole_lines o number) (first_lines first o number) a b c hole reported))
 
 -- an event that tells of no record
-pub reported_quiet : (t : Telling) (event : Event) (a : BytesWritten) → record_in event ≡ []
+pub reported_quiet : (t : Reporting) (event : Event) (a : BytesWritten) → record_in event ≡ []
     → AreReported (lines_of t (record_in event)) a a
 reported_quiet t event a quiet = subst (λ rs. AreReported (lines_of t rs) a a) (sym quiet) (none a)
 
@@ -101,11 +101,11 @@ quiet_four e h = elim h [
   ]
 ]
 
-pub reported_two : (t : Telling) (e : Event) (a : BytesWritten) → (e ≡ events.Garbage) ⊎ (e ≡ events.Foreign)
+pub reported_two : (t : Reporting) (e : Event) (a : BytesWritten) → (e ≡ events.Garbage) ⊎ (e ≡ events.Foreign)
     → AreReported (lines_of t (record_in e)) a a
 reported_two t e a h = reported_quiet t e a (quiet_two e h)
 
-pub reported_four : (t : Telling) (e : Event) (a : BytesWritten) → (e ≡ events.None)
+pub reported_four : (t : Reporting) (e : Event) (a : BytesWritten) → (e ≡ events.None)
     ⊎ ((e ≡ events.End)
     ⊎ (((k : ℕ) × (e ≡ events.Refused k)) ⊎ ((k want got : ℕ) × (e ≡ events.Gap k want got))))
     → AreReported (lines_of t (record_in e)) a a
