@@ -11,7 +11,7 @@ use Rattle.slink_wire.specs.declared.reply.Reply.TheVariants as written
 use Rattle.slink_wire.specs.Command.{IsCommand, folded, words}
 use Rattle.slink_wire.specs.Lines.{IsHeld, Spelled, lines_of, unless_empty}
 use Rattle.slink_wire.specs.Reply.{reply_bytes}
-use Rattle.slink_wire.specs.Taking.{Tells}
+use Rattle.slink_wire.specs.Taking.{Yields}
 use Rattle.slink_wire.proofs.Written.{one_command}
 use Rattle.slink_wire.proofs.Spelled.{checked, continued, lines_byte, lines_cr, with_cr}
 use Rattle.slink_feed.specs.declared.session.Phase.{Phase}
@@ -215,7 +215,7 @@ module _ (feed : List Window) where
 
   module _ (u now last : Standing) (stream piece others way all : List ℕ) (reply : Reply) where
     -- a piece that reported nothing
-    ran_more : (now.state ≡ u.state) × (reply ≡ written.Nothing) → Tells More stream (stream ++ piece)
+    ran_more : (now.state ≡ u.state) × (reply ≡ written.Nothing) → Yields More stream (stream ++ piece)
         → Ran now (stream ++ piece) others (way ++ reply_bytes reply) last all
         → Ran u stream (piece ++ others) way last all
     ran_more same tells r = record {
@@ -264,7 +264,7 @@ module _ (feed : List Window) where
         }
 
     -- one by which a line is too long: the session is closed
-    ran_over : ended u.state ≡ (now.state, reply) → Tells TooLong stream (stream ++ piece)
+    ran_over : ended u.state ≡ (now.state, reply) → Yields TooLong stream (stream ++ piece)
         → (last ≡ now) × (all ≡ way ++ reply_bytes reply) → Ran u stream (piece ++ others) way last all
     ran_over done tells rest =
         let at_last : last.state ≡ (ended u.state).0 = ap (λ (x : Standing). x.state) rest.0
@@ -287,7 +287,7 @@ module _ (feed : List Window) where
           ends = inl (ap (λ (x : State). x.phase) at_last);
         }
 
-    ran_piece : (what : What) → IsAnswer feed u.state what now.state reply → Tells what stream (stream ++ piece)
+    ran_piece : (what : What) → IsAnswer feed u.state what now.state reply → Yields what stream (stream ++ piece)
         → Serves feed now others (way ++ reply_bytes reply) last all
         → ((lines_of (stream ++ piece)).is_too_long ≡ false
         → Ran now (stream ++ piece) others (way ++ reply_bytes reply) last all)
@@ -539,7 +539,7 @@ module _ (feed : List Window) where
 
     cut_at : (u v : State) (lines : List (List ℕ)) (reply : Reply) (n : ℕ) (what : What)
         → n < length (reply_bytes reply) → (lines_of (stream ++ prefix)).lines ≡ (lines_of stream).lines ++ lines
-        → Tells what (stream ++ prefix) ((stream ++ prefix) ++ piece)
+        → Yields what (stream ++ prefix) ((stream ++ prefix) ++ piece)
         → IsAnswer feed u what v reply → CutAt lines (grows stream bytes).more u v reply
     cut_at u v lines reply n More part reported tells is = absurd (replies_some reply n part is.1)
     cut_at u v lines reply n (Line line) part reported tells is =

@@ -6,7 +6,7 @@ use Rattle.slink_wire.specs.declared.lines.What.{What}
 use Rattle.slink_wire.specs.declared.lines.What.TheVariants.{More, Line, TooLong}
 use Rattle.slink_wire.specs.declared.reply.Reply.{Reply}
 use Rattle.slink_wire.specs.Lines.{Held, IsHeld, lines_of}
-use Rattle.slink_wire.specs.Taking.{Tells}
+use Rattle.slink_wire.specs.Taking.{Yields}
 use Rattle.slink_feed.specs.declared.session.Phase.{Phase}
 use Rattle.slink_feed.specs.declared.session.Phase.TheVariants.{Fresh, Chosen, Granted, Streaming, Closed}
 use Rattle.slink_feed.specs.declared.session.Sent.{Sent}
@@ -27,7 +27,7 @@ true_false b t f = let bad : true ≡ false = sym t ∙ f in cc bad
 
 -- something is reported of no byte at all only where a line was too long
 nothing_reported : (what : What) (stream : List ℕ) (count : ℕ) → 0 < count → (lines_of stream).is_too_long ≡ false
-    → Tells what stream stream → (what ≡ More → 0 ≡ count) → ⊥
+    → Yields what stream stream → (what ≡ More → 0 ≡ count) → ⊥
 nothing_reported More stream count some short tells whole = let e : 0 ≡ count = whole refl in omega (arith, e, some)
 nothing_reported (Line line) stream count some short tells whole =
     let long : length (lines_of stream).lines ≡ length ((lines_of stream).lines ++ line.items ∷ []) =
@@ -40,7 +40,7 @@ takes_some : (stream bytes : List ℕ) (used : ℕ) → 0 < length bytes → (li
     → TakesWhole stream (stream ++ take used bytes) used (length bytes) → 0 < used
 takes_some stream bytes zero some short whole =
     absurd (nothing_reported whole.0 stream (length bytes) some short
-    (subst (λ s. Tells whole.0 stream s) (append-nil stream) whole.1) whole.2)
+    (subst (λ s. Yields whole.0 stream s) (append-nil stream) whole.1) whole.2)
 takes_some stream bytes (suc n) some short whole = omega arith
 
 pub piece_taken : (old : Standing) (bytes : List ℕ) (used : ℕ) → 0 < length bytes → Stands old
@@ -56,7 +56,7 @@ piece_taken old bytes used some stands whole closed = elim (closed_or old.state.
 
 -- no line is too long, since the session isn't closed
 short_after : (feed : List Window) (s new : State) (before after : List ℕ) (reply : Reply) → ¬ (new.phase ≡ Closed)
-    → (what : What) → Tells what before after → IsAnswer feed s what new reply → (lines_of after).is_too_long ≡ false
+    → (what : What) → Yields what before after → IsAnswer feed s what new reply → (lines_of after).is_too_long ≡ false
 short_after feed s new before after reply unshut More tells answer = tells.1
 short_after feed s new before after reply unshut (Line line) tells answer = tells.1
 short_after feed s new before after reply unshut TooLong tells answer =

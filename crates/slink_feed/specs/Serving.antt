@@ -8,7 +8,7 @@ use Rattle.slink_wire.specs.declared.reply.Reply.TheVariants as Replies
 use Rattle.slink_wire.specs.Command.{IsCommand}
 use Rattle.slink_wire.specs.Lines.{Held, IsHeld}
 use Rattle.slink_wire.specs.Reply.{reply_bytes}
-use Rattle.slink_wire.specs.Taking.{Tells}
+use Rattle.slink_wire.specs.Taking.{Yields}
 use Rattle.slink_feed.specs.declared.session.Phase.TheVariants.{Closed}
 use Rattle.slink_feed.specs.Session.{State, answered, ended}
 use Rattle.slink_feed.specs.Window.{Window}
@@ -26,11 +26,11 @@ IsAnswer feed s TooLong new reply = ended s ≡ (new, reply)
 
 -- The answer to what the one stream has beyond the other.
 abbrev pub Answers : List Window → State → List ℕ → List ℕ → State → Reply → Type 0
-Answers feed s before after new reply = (what : What) × Tells what before after × IsAnswer feed s what new reply
+Answers feed s before after new reply = (what : What) × Yields what before after × IsAnswer feed s what new reply
 
 -- So many bytes of these were taken: all of them, unless a line ended or is too long.
 abbrev pub TakesWhole : List ℕ → List ℕ → ℕ → ℕ → Type 0
-TakesWhole before after used count = (what : What) × Tells what before after × (what ≡ More → used ≡ count)
+TakesWhole before after used count = (what : What) × Yields what before after × (what ≡ More → used ≡ count)
 
 -- A session takes bytes, of which the last may end a line, and replies. A closed one replies nothing.
 pub record Takes (feed : List Window) (old : Standing) (bytes : List ℕ) (new : Standing) (reply : Reply) : Type 0 where

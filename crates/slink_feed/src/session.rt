@@ -3,7 +3,7 @@ ghost use Rattle.std.specs.Prelude.{◌≡◌, ◌≢◌, ◌≤◌, ◌<◌, �
 ghost use Rattle.std.specs.Prelude.{◌↔◌, ◌^◌, IfErr, IfOk, IsTrue, slice_get, take};
 ghost use Rattle.std.specs.Bool.{OnFalse, OnTrue};
 ghost use Rattle.std.specs.Option.{ForSome};
-ghost use Rattle.slink_wire.specs.Lines.{IsHeld, TellsNothing};
+ghost use Rattle.slink_wire.specs.Lines.{IsHeld, YieldsNothing};
 ghost use Rattle.slink_wire.specs.Packet.{packet_bytes};
 ghost use Rattle.slink_feed.specs.declared.grant.Grant.{Grant};
 ghost use Rattle.slink_feed.specs.Window.{Window};
@@ -135,7 +135,7 @@ impl Session {
             → TakesWhole stream (stream ++ take result.0 bytes.now) result.0 (length bytes.now) }
         // Fewer of them add nothing.
         ensures first { (stream : List ℕ) (n : ℕ) → self.old.state.phase ≢ Phase.Closed → IsHeld self.old.held stream
-            → n < result.0 → TellsNothing stream (stream ++ take n bytes.now) }
+            → n < result.0 → YieldsNothing stream (stream ++ take n bytes.now) }
         ensures closed { self.old.state.phase ≡ Phase.Closed
             → (result.0 ≡ length bytes.now) × (result.1 ≡ Reply.Nothing) × (self.new ≡ self.old) }
         // It takes some, where there are any.

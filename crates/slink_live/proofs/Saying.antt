@@ -222,16 +222,16 @@ module _ (start : List Window) where
       )
 
   -- the story of a slot
-  abbrev Tells : List Happening → Option Story → Type 0
-  Tells log None = Unit {0}
-  Tells log (Some t) = ProducedOf log t.session t.produced
+  abbrev Yields : List Happening → Option Story → Type 0
+  Yields log None = Unit {0}
+  Yields log (Some t) = ProducedOf log t.session t.produced
 
-  tells_more : (log now : List Happening) (h : Happening) (o : Option Story) → now ≡ log ++ h ∷ [] → Tells log o
-      → Tells now o
+  tells_more : (log now : List Happening) (h : Happening) (o : Option Story) → now ≡ log ++ h ∷ [] → Yields log o
+      → Yields now o
   tells_more log now h None e x = tt
   tells_more log now h (Some t) e x = (produced_more log now h t.session.state t.produced e x.0, x.1)
 
-  story_tells : (k : ℕ) (log : List Happening) (o : Option Story) → IsServed start k log o → Tells log o
+  story_tells : (k : ℕ) (log : List Happening) (o : Option Story) → IsServed start k log o → Yields log o
   story_tells k log o no_event = tt
   story_tells k log o (elsewhere before now h x s other e) = tells_more before now h x e (story_tells k before x s)
   story_tells k log o (opens before now s served fresh e) = (

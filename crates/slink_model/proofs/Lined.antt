@@ -6,7 +6,7 @@ use Rattle.slink_wire.specs.declared.lines.What.{What}
 use Rattle.slink_wire.specs.declared.lines.What.TheVariants.{More, Line, TooLong}
 use Rattle.slink_wire.specs.Lines.{lines_of}
 use Rattle.slink_wire.specs.Written.{AreLines, IsLine, SpellsPrefix, written_bytes}
-use Rattle.slink_wire.specs.Taking.{Tells}
+use Rattle.slink_wire.specs.Taking.{Yields}
 use Rattle.slink_wire.proofs.WrittenBack.{prefix_spelled, none_quiet}
 
 pub bytes_more : (lines : List (List ℕ)) (line : List ℕ)
@@ -86,7 +86,7 @@ pub data IsRead (line taken way : List ℕ) : What → Type 0 where
       → IsRead line taken way (Line (record { items = items }))
 
 pub more_called : (line taken piece way : List ℕ) (what : What) → IsAsking line taken (piece ++ way)
-    → Tells what taken (taken ++ piece) → IsRead line (taken ++ piece) way what
+    → Yields what taken (taken ++ piece) → IsRead line (taken ++ piece) way what
 more_called line taken piece way More a tells = nothing (record {
   before = a.before;
   are_lines = a.are_lines;
@@ -116,7 +116,7 @@ more_called line taken piece way TooLong a tells =
 
 -- nothing is reported any more
 pub more_answered : (taken piece way : List ℕ) (what : What) → IsAnswered taken (piece ++ way)
-    → Tells what taken (taken ++ piece) → (what ≡ More) × IsAnswered (taken ++ piece) way
+    → Yields what taken (taken ++ piece) → (what ≡ More) × IsAnswered (taken ++ piece) way
 more_answered taken piece way More a tells = (
   refl,
   record {

@@ -13,7 +13,7 @@ use Rattle.slink_wire.specs.Lines.{IsHeld}
 use Rattle.slink_wire.specs.Place.{Bears, Fields, IsField}
 use Rattle.slink_wire.specs.Reply.{reply_bytes}
 use Rattle.slink_wire.specs.Request.{IsShort, request_line, requested}
-use Rattle.slink_wire.specs.Taking.{Tells}
+use Rattle.slink_wire.specs.Taking.{Yields}
 use Rattle.slink_feed.specs.declared.dialogue.Wanted.{Wanted}
 use Rattle.slink_feed.specs.declared.dialogue.Stage.TheVariants.{Station, Number, Packets}
 use Rattle.slink_feed.specs.declared.grant.Grant.{Grant}
@@ -418,7 +418,7 @@ module _ (places : Places) (differ : Differ places) (codes : (k : ℕ) (p : Fiel
       }
 
   piece_shaken : (s now : Standing) (taken piece rest way : List ℕ) (items : List Item) (reply : Reply) (what : What)
-      → ¬ (s.state.phase ≡ Closed) → Tells what taken (taken ++ piece) → IsAnswer feed s.state what now.state reply
+      → ¬ (s.state.phase ≡ Closed) → Yields what taken (taken ++ piece) → IsAnswer feed s.state what now.state reply
       → Shakes client.talk s.state.phase taken (piece ++ rest) items
       → Flows places client s.state.grants way items → Then now (taken ++ piece) rest way reply
   piece_shaken s now taken piece rest way items reply what awake tells is (asks_place k w stage want ready asks none) f

@@ -3,9 +3,9 @@ use Rattle.std.proofs.Common.{◌≡◌, ℕ, refl, sym, ap, ◌∙◌, List, []
 use Rattle.slink_wire.specs.declared.lines.What.{What}
 use Rattle.slink_wire.specs.declared.lines.What.TheVariants.{More, Line, TooLong}
 use Rattle.slink_wire.specs.Lines.{lines_of}
-use Rattle.slink_wire.specs.Taking.{AreCalls, Call, Tells, bytes_in, line_in, lines_in}
+use Rattle.slink_wire.specs.Taking.{AreCalls, Call, Yields, bytes_in, line_in, lines_in}
 
-reported : (what : What) (before after : List ℕ) → Tells what before after
+reported : (what : What) (before after : List ℕ) → Yields what before after
     → (lines_of after).lines ≡ (lines_of before).lines ++ line_in what
 reported More before after h = h.0 ∙ sym (append-nil (lines_of before).lines)
 reported (Line line) before after h = h.0
@@ -24,8 +24,8 @@ no_lines : (lines_of []).lines ≡ []
 unfolding lines_of
 no_lines = refl
 
-pub calls_tell : (calls : List Call) → AreCalls [] calls → lines_in calls ≡ (lines_of (bytes_in calls)).lines
-calls_tell calls h = sym (behind [] calls h ∙ ap (λ ls. ls ++ lines_in calls) no_lines)
+pub calls_yield : (calls : List Call) → AreCalls [] calls → lines_in calls ≡ (lines_of (bytes_in calls)).lines
+calls_yield calls h = sym (behind [] calls h ∙ ap (λ ls. ls ++ lines_in calls) no_lines)
 
 pub calls_alike : (a b : List Call) → AreCalls [] a → AreCalls [] b → bytes_in a ≡ bytes_in b → lines_in a ≡ lines_in b
-calls_alike a b p q e = calls_tell a p ∙ (ap (λ s. (lines_of s).lines) e ∙ sym (calls_tell b q))
+calls_alike a b p q e = calls_yield a p ∙ (ap (λ s. (lines_of s).lines) e ∙ sym (calls_yield b q))

@@ -8,7 +8,7 @@ use Rattle.std.proofs.lemmas.List.Folds.{list_all-append}
 use Rattle.std.proofs.lemmas.List.{map_push, same_from_push, take_more, take_all, get_or_push, get_or_append_left}
 use Rattle.std.proofs.lemmas.List.{get_or-map}
 use Rattle.std.proofs.Math.Nat.{pow-suc, pow-le-pow_right}
-use Rattle.slink_wire.specs.Hexadecimal.{SaysNumber, digit_byte, hexadecimal}
+use Rattle.slink_wire.specs.Hexadecimal.{SpellsNumber, digit_byte, hexadecimal}
 use Rattle.slink_wire.proofs.Cuts.{Lacks}
 
 same_digits : (a b c d e a' b' c' d' e' f : ℕ) → a ≡ a' → b ≡ b' → c ≡ c' → d ≡ d' → e ≡ e'
@@ -105,8 +105,8 @@ one_number (suc k) n m hn hm same =
     one_number k (n / 16) (m / 16) (omega (arith, wide, hn)) (omega (arith, wide, hm)) parts.0 in
     omega (arith, low, high)
 
-pub says_one : (digits : List ℕ) (n m : ℕ) → SaysNumber digits n → SaysNumber digits m → n ≡ m
-says_one digits n m p q = one_number (length digits) n m p.0 q.0 (sym p.1 ∙ q.1)
+pub spells_one : (digits : List ℕ) (n m : ℕ) → SpellsNumber digits n → SpellsNumber digits m → n ≡ m
+spells_one digits n m p q = one_number (length digits) n m p.0 q.0 (sym p.1 ∙ q.1)
 
 -- each of them is the byte of a digit
 digit_within : (k n i : ℕ) → i < k → (d : ℕ) × (d < 16) × (get_or (hexadecimal k n) i 0 ≡ digit_byte d)
@@ -131,7 +131,7 @@ digit_within (suc k) n i h = elim (leb_tells (suc i) k) [
 
 pub none_written : (digits : List ℕ) (i : ℕ) → i < length digits
     → ((d : ℕ) → d < 16 → to_ascii_uppercase (get_or digits i 0) ≡ digit_byte d → ⊥)
-    → (n : ℕ) → SaysNumber digits n → ⊥
+    → (n : ℕ) → SpellsNumber digits n → ⊥
 none_written digits i lt other n h =
     let d : (d : ℕ) × (d < 16) × (get_or (hexadecimal (length digits) n) i 0 ≡ digit_byte d) =
     digit_within (length digits) n i lt in
@@ -156,7 +156,7 @@ reads_more digits i n d lt h digit r = record {
       ∙ (ap (λ b. hexadecimal i n ++ b ∷ []) digit ∙ sym (hexadecimal_more i n d h))));
 }
 
-pub reads_all : (digits : List ℕ) (n : ℕ) → Reads digits (length digits) n → SaysNumber digits n
+pub reads_all : (digits : List ℕ) (n : ℕ) → Reads digits (length digits) n → SpellsNumber digits n
 reads_all digits n r = (
   r.small,
   ap (map to_ascii_uppercase) (sym (take_all (length digits) digits (omega arith)))

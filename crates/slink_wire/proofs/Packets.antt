@@ -3,24 +3,24 @@ use Rattle.std.proofs.Common.{◌≡◌, ℕ, ◌+◌, ◌^◌, ◌<◌, refl, s
 use Rattle.std.proofs.Common.{map, codes}
 use Rattle.std.specs.Char.{to_ascii_uppercase}
 use Rattle.std.proofs.lemmas.List.{take_at, drop_at}
-use Rattle.slink_wire.specs.Hexadecimal.{SaysNumber, hexadecimal}
+use Rattle.slink_wire.specs.Hexadecimal.{SpellsNumber, hexadecimal}
 use Rattle.slink_wire.specs.Packet.{IsPacket, packet_bytes}
-use Rattle.slink_wire.proofs.Digits.{hexadecimal_stays, length-hexadecimal, says_one}
+use Rattle.slink_wire.proofs.Digits.{hexadecimal_stays, length-hexadecimal, spells_one}
 
-pub says_itself : (n : ℕ) → n < 2 ^ 24 → SaysNumber (hexadecimal 6 n) n
-says_itself n h = subst (λ k. (n < 16 ^ k) × (map to_ascii_uppercase (hexadecimal 6 n) ≡ hexadecimal k n))
+pub spells_itself : (n : ℕ) → n < 2 ^ 24 → SpellsNumber (hexadecimal 6 n) n
+spells_itself n h = subst (λ k. (n < 16 ^ k) × (map to_ascii_uppercase (hexadecimal 6 n) ≡ hexadecimal k n))
     (sym (length-hexadecimal 6 n)) (omega arith, hexadecimal_stays 6 n)
 
 pub read_back : (n : ℕ) (r : List ℕ) → n < 2 ^ 24 → IsPacket (packet_bytes n r) n r
 read_back n r h = (
   refl,
-  subst (λ ds. SaysNumber ds n) (sym (take_at (hexadecimal 6 n) r 6 (length-hexadecimal 6 n)))
-      (says_itself n h),
+  subst (λ ds. SpellsNumber ds n) (sym (take_at (hexadecimal 6 n) r 6 (length-hexadecimal 6 n)))
+      (spells_itself n h),
   drop_at (hexadecimal 6 n) r 6 (length-hexadecimal 6 n),
 )
 
 pub one_packet : (bytes : List ℕ) (n m : ℕ) (r s : List ℕ) → IsPacket bytes n r → IsPacket bytes m s → (n ≡ m) × (r ≡ s)
-one_packet bytes n m r s p q = (says_one _ n m p.1 q.1, sym p.2 ∙ q.2)
+one_packet bytes n m r s p q = (spells_one _ n m p.1 q.1, sym p.2 ∙ q.2)
 
 pub packet_length : (n : ℕ) (r : List ℕ) → length (packet_bytes n r) ≡ 8 + length r
 packet_length n r =

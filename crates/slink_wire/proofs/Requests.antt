@@ -10,11 +10,11 @@ use Rattle.slink_wire.specs.Request.{IsShort, number_bytes}
 use Rattle.slink_wire.proofs.Codes.{without}
 use Rattle.slink_wire.proofs.Cuts.{Lacks}
 use Rattle.slink_wire.proofs.Digits.{digits_lack, length-hexadecimal}
-use Rattle.slink_wire.proofs.Packets.{says_itself}
+use Rattle.slink_wire.proofs.Packets.{spells_itself}
 use Rattle.slink_wire.proofs.Worded.{words_last, words_then}
 
 is_number : (n : ℕ) → n < 2 ^ 24 → IsNumber (hexadecimal 6 n) n
-is_number n h = (omega (arith, length-hexadecimal 6 n), omega (arith, length-hexadecimal 6 n), says_itself n h)
+is_number n h = (omega (arith, length-hexadecimal 6 n), omega (arith, length-hexadecimal 6 n), spells_itself n h)
 
 two_words : (keyword : List ℕ) (n : ℕ) → 1 ≤ length keyword → Lacks 32 keyword
     → words (keyword ++ 32 ∷ hexadecimal 6 n) ≡ keyword ∷ hexadecimal 6 n ∷ []

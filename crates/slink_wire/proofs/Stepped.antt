@@ -6,15 +6,15 @@ use Rattle.std.proofs.lemmas.Bool.Decides.{eqb_tells, leb_tells}
 use Rattle.std.proofs.lemmas.List.{take_more}
 use Rattle.slink_wire.specs.declared.lines.What.{What}
 use Rattle.slink_wire.specs.declared.lines.What.TheVariants.{More, Line, TooLong}
-use Rattle.slink_wire.specs.Lines.{Held, IsHeld, TellsNothing, Spelled, lines_of, stripped, unless_empty}
+use Rattle.slink_wire.specs.Lines.{Held, IsHeld, YieldsNothing, Spelled, lines_of, stripped, unless_empty}
 use Rattle.slink_wire.specs.private.Steps.{begun, cr_step, lf_step, other_step, step}
-use Rattle.slink_wire.specs.Taking.{Tells}
+use Rattle.slink_wire.specs.Taking.{Yields}
 use Rattle.slink_wire.proofs.Spelled.{IsStripped, begun_fits, lines_byte, lines_cr, stripped_on, with_byte, with_cr}
 use Rattle.slink_wire.proofs.Spelled.{continued, checked}
 
 -- a step leads from a stream to one: what is held is its, and what it tells
 abbrev Leads : List ℕ → List ℕ → Held × What → Type 0
-Leads before after x = IsHeld x.0 after × Tells x.1 before after
+Leads before after x = IsHeld x.0 after × Yields x.1 before after
 
 -- the same, over what the two streams spell
 abbrev TellsOf : What → Spelled → Spelled → Type 0
@@ -162,7 +162,7 @@ step_open line b = choice_open (b == 13) (cr_step line) (if b == 10 then lf_step
 pub record TakenTo (old now : Held) (piece : List ℕ) (i : ℕ) : Type 0 where
   pub goes_on : now.is_too_long ≡ false
   pub held : (stream : List ℕ) → IsHeld old stream → IsHeld now (stream ++ take i piece)
-  pub quiet : (stream : List ℕ) (k : ℕ) → IsHeld old stream → k ≤ i → TellsNothing stream (stream ++ take k piece)
+  pub quiet : (stream : List ℕ) (k : ℕ) → IsHeld old stream → k ≤ i → YieldsNothing stream (stream ++ take k piece)
 
 taken_at : (piece stream : List ℕ) (k : ℕ) → k ≡ 0 → stream ≡ stream ++ take k piece
 taken_at piece stream k e = sym (append-nil stream) ∙ ap (λ j. stream ++ take j piece) (sym e)
@@ -171,15 +171,15 @@ pub taken_none : (old : Held) (piece : List ℕ) → old.is_too_long ≡ false �
 taken_none old piece isopen = record {
   goes_on = isopen;
   held = (λ stream h. subst (IsHeld old) (taken_at piece stream 0 refl) h);
-  quiet = (λ stream k h le. subst (TellsNothing stream) (taken_at piece stream k (omega arith)) (
+  quiet = (λ stream k h le. subst (YieldsNothing stream) (taken_at piece stream k (omega arith)) (
     refl,
     sym h.1
         ∙ isopen,
   ));
 }
 
-tells_from : (what : What) (before middle after : List ℕ) → TellsNothing before middle → Tells what middle after
-    → Tells what before after
+tells_from : (what : What) (before middle after : List ℕ) → YieldsNothing before middle → Yields what middle after
+    → Yields what before after
 tells_from More before middle after p q = (q.0 ∙ p.0, q.1)
 tells_from (Line line) before middle after p q = (q.0 ∙ ap (λ ls. ls ++ line.items ∷ []) p.0, q.1)
 tells_from TooLong before middle after p q = (q.0 ∙ p.0, q.1)
@@ -209,7 +209,7 @@ taken_more old now new piece i lt stepped t = record {
   quiet = (λ stream k h le. elim (leb_tells k i) [
     | inl before ↦ t.quiet stream k h before.1
     | inr here ↦ (let e : i + 1 ≡ k = omega (arith, here.1) in
-        subst (λ j. TellsNothing stream (stream ++ take j piece)) e
+        subst (λ j. YieldsNothing stream (stream ++ take j piece)) e
         (taken_byte old now new piece i More lt stepped t stream h).1)
   ]);
 }

@@ -6,11 +6,11 @@ use Rattle.slink_wire.specs.declared.command.Command.TheVariants.{Hello, Station
 use Rattle.slink_wire.specs.declared.command.Command.TheVariants.{Other}
 use Rattle.slink_wire.specs.declared.keyword.Keyword.{Keyword}
 use Rattle.slink_wire.specs.declared.keyword.Keyword.TheVariants as keyword
-use Rattle.slink_wire.specs.Hexadecimal.{SaysNumber}
+use Rattle.slink_wire.specs.Hexadecimal.{SpellsNumber}
 use Rattle.slink_wire.specs.Command.{IsCommand, IsRow, IsWritten, folded, words}
 use Rattle.slink_wire.specs.Place.{filled}
 use Rattle.slink_wire.specs.private.Parsing.{text_of}
-use Rattle.slink_wire.proofs.Digits.{says_one}
+use Rattle.slink_wire.proofs.Digits.{spells_one}
 
 -- the keyword of a command
 abbrev keyword_at : Command → Option Keyword
@@ -72,8 +72,8 @@ one_keyword (Some j) None ws p q = absurd q
 one_keyword (Some j) (Some k) [] p q = absurd p
 one_keyword (Some j) (Some k) (w ∷ ws) p q = ap (λ x. Some x) (one_text j k (sym p ∙ q))
 
-one_number : (g h : List ℕ) (n m : ℕ) → g ≡ h → SaysNumber g n → SaysNumber h m → n ≡ m
-one_number g h n m e p q = says_one h n m (subst (λ x. SaysNumber x n) e p) q
+one_number : (g h : List ℕ) (n m : ℕ) → g ≡ h → SpellsNumber g n → SpellsNumber h m → n ≡ m
+one_number g h n m e p q = spells_one h n m (subst (λ x. SpellsNumber x n) e p) q
 
 written_alike : (ws : List (List ℕ)) (c d : Command) → keyword_at c ≡ keyword_at d → IsWritten c ws → IsWritten d ws
     → c ≡ d

@@ -5,7 +5,7 @@ use Rattle.std.specs.Char.{to_ascii_lowercase}
 use Rattle.slink_wire.specs.declared.command.Command.{Command}
 use Rattle.slink_wire.specs.declared.command.Command.TheVariants.{Hello, Station, SelectAll, Data, Fetch, End, Bye}
 use Rattle.slink_wire.specs.declared.command.Command.TheVariants.{Other}
-use Rattle.slink_wire.specs.Hexadecimal.{SaysNumber}
+use Rattle.slink_wire.specs.Hexadecimal.{SpellsNumber}
 use Rattle.slink_wire.specs.Place.{IsCode, filled}
 
 -- the words of a line: what stands between spaces
@@ -22,7 +22,7 @@ folded (keyword ∷ ws) = in_small_letters keyword ∷ ws
 
 -- a number of one to six hexadecimal digits
 abbrev pub IsNumber : List ℕ → ℕ → Type 0
-IsNumber word n = (1 ≤ length word) × (length word ≤ 6) × SaysNumber word n
+IsNumber word n = (1 ≤ length word) × (length word ≤ 6) × SpellsNumber word n
 
 -- the words of each command
 abbrev pub IsWritten : Command → List (List ℕ) → Type 0

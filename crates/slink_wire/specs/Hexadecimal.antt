@@ -13,5 +13,5 @@ hexadecimal zero n = []
 hexadecimal (suc k) n = hexadecimal k (n / 16) ++ digit_byte (n % 16) ∷ []
 
 -- digits, in either case, that say a number
-abbrev pub SaysNumber : List ℕ → ℕ → Type 0
-SaysNumber digits n = (n < 16 ^ length digits) × (map to_ascii_uppercase digits ≡ hexadecimal (length digits) n)
+abbrev pub SpellsNumber : List ℕ → ℕ → Type 0
+SpellsNumber digits n = (n < 16 ^ length digits) × (map to_ascii_uppercase digits ≡ hexadecimal (length digits) n)

@@ -48,5 +48,5 @@ abbrev pub IsHeld : Held → List ℕ → Type 0
 IsHeld held stream = (held.begun ≡ (lines_of stream).begun) × (held.is_too_long ≡ (lines_of stream).is_too_long)
 
 -- no line ends between the two, and none is too long
-abbrev pub TellsNothing : List ℕ → List ℕ → Type 0
-TellsNothing before after = ((lines_of after).lines ≡ (lines_of before).lines) × ((lines_of after).is_too_long ≡ false)
+abbrev pub YieldsNothing : List ℕ → List ℕ → Type 0
+YieldsNothing before after = ((lines_of after).lines ≡ (lines_of before).lines) × ((lines_of after).is_too_long ≡ false)

@@ -2,14 +2,14 @@
 use Rattle.std.specs.Prelude.{◌≡◌, ℕ, true, false, List, [], ◌∷◌, ◌++◌}
 use Rattle.slink_wire.specs.declared.lines.What.{What}
 use Rattle.slink_wire.specs.declared.lines.What.TheVariants.{More, Line, TooLong}
-use Rattle.slink_wire.specs.Lines.{TellsNothing, lines_of}
+use Rattle.slink_wire.specs.Lines.{YieldsNothing, lines_of}
 
 -- from the one stream to the other: no line more, this line more, or one that is too long
-abbrev pub Tells : What → List ℕ → List ℕ → Type 0
-Tells More before after = TellsNothing before after
-Tells (Line line) before after = ((lines_of after).lines ≡ (lines_of before).lines ++ line.items ∷ [])
+abbrev pub Yields : What → List ℕ → List ℕ → Type 0
+Yields More before after = YieldsNothing before after
+Yields (Line line) before after = ((lines_of after).lines ≡ (lines_of before).lines ++ line.items ∷ [])
     × ((lines_of after).is_too_long ≡ false)
-Tells TooLong before after = ((lines_of after).lines ≡ (lines_of before).lines) × ((lines_of after).is_too_long ≡ true)
+Yields TooLong before after = ((lines_of after).lines ≡ (lines_of before).lines) × ((lines_of after).is_too_long ≡ true)
 
 -- a call: the bytes that it accepted, and what was read of it
 pub record Call : Type 0 where
@@ -19,7 +19,7 @@ pub record Call : Type 0 where
 -- calls one after another, after this stream
 abbrev pub AreCalls : List ℕ → List Call → Type 0
 AreCalls stream [] = Unit {0}
-AreCalls stream (call ∷ calls) = Tells call.what stream (stream ++ call.bytes) × AreCalls (stream ++ call.bytes) calls
+AreCalls stream (call ∷ calls) = Yields call.what stream (stream ++ call.bytes) × AreCalls (stream ++ call.bytes) calls
 
 -- the bytes that calls accepted
 abbrev pub bytes_in : List Call → List ℕ

@@ -1,7 +1,7 @@
 //! Numbers in hexadecimal digits.
 ghost use Rattle.std.specs.Prelude.{◌≡◌, ◌≢◌, ℕ, ◌++◌, codes, ◌^◌, ◌<◌, ◌≤◌, IfSome, IfNone, length};
 ghost use Rattle.std.specs.Char.{to_ascii_uppercase};
-ghost use Rattle.slink_wire.specs.Hexadecimal.{SaysNumber, digit_byte, hexadecimal};
+ghost use Rattle.slink_wire.specs.Hexadecimal.{SpellsNumber, digit_byte, hexadecimal};
 
 /// The byte that writes a digit.
 fn digit_byte(digit: u8) -> u8
@@ -65,8 +65,8 @@ fn digit_of(byte: u8) -> Option<u32>
 /// The number that digits say, in either case.
 pub(crate) fn number_of(digits: &[u8]) -> Option<u32>
     requires { length digits.now ≤ 6 }
-    ensures written { IfSome result (SaysNumber digits.now) }
-    ensures none { IfNone result ((n : ℕ) → ¬ (SaysNumber digits.now n)) }
+    ensures written { IfSome result (SpellsNumber digits.now) }
+    ensures none { IfNone result ((n : ℕ) → ¬ (SpellsNumber digits.now n)) }
 {
     let mut number = 0;
     for byte in digits {

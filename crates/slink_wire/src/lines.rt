@@ -1,8 +1,8 @@
 //! Command lines out of a stream that comes in any pieces.
 ghost use Rattle.std.specs.Prelude.{◌≡◌, ◌<◌, ◌≤◌, ◌++◌, List, ℕ, [], true, false, length, take};
-ghost use Rattle.slink_wire.specs.Lines.{Held, IsHeld, TellsNothing};
+ghost use Rattle.slink_wire.specs.Lines.{Held, IsHeld, YieldsNothing};
 ghost use Rattle.slink_wire.specs.private.Steps.{step};
-ghost use Rattle.slink_wire.specs.Taking.{Tells};
+ghost use Rattle.slink_wire.specs.Taking.{Yields};
 
 use arrayvec::ArrayVec;
 use std::marker::Model;
@@ -91,10 +91,10 @@ impl Lines {
             → IsHeld self.new (stream ++ take result.used piece.now) }
         // The answer is what these bytes add to what the stream spells.
         ensures reported { (stream : List ℕ) → IsHeld self.old stream
-            → Tells result.what stream (stream ++ take result.used piece.now) }
+            → Yields result.what stream (stream ++ take result.used piece.now) }
         // Fewer of them add nothing, so that it stops where there is something to say.
         ensures first { (stream : List ℕ) (k : ℕ) → IsHeld self.old stream → k < result.used
-            → TellsNothing stream (stream ++ take k piece.now) }
+            → YieldsNothing stream (stream ++ take k piece.now) }
         ensures whole { result.what ≡ What.More → result.used ≡ length piece.now }
         ensures bound { result.used ≤ length piece.now }
         ensures repeats { self.old.is_too_long ≡ true
