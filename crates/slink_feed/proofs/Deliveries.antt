@@ -15,7 +15,7 @@ use Rattle.slink_feed.specs.Fetching.{Delivers, FailsAt, FailsAtLast, Fetches, F
 use Rattle.slink_feed.specs.Fetching.{joined_by, line_written, lines_written, record_reported}
 use Rattle.slink_feed.specs.Listening.{Brings, IsLinked, Listening, Reads, event_if_any}
 use Rattle.slink_feed.specs.Turns.{Emitted, EmittedPrefix, reported_once}
-use Rattle.slink_feed.proofs.Goings.{says_on, still_linked, tells_on}
+use Rattle.slink_feed.proofs.Goings.{lines_on, still_linked, tells_on}
 use Rattle.slink_feed.proofs.Prefixes.{from_offset}
 use Rattle.slink_feed.proofs.Received.{reads_more}
 
@@ -249,7 +249,7 @@ module _ (old now new : Fetching) (bytes : List ℕ) (offset used : ℕ) (event 
   fails_here (faults.Write count) cut =
       fails_within line_written record_reported old.written now.written new.written old.output now.output new.output
       before.written count refl so_far.written_counted so_far.written so_far.output
-      (says_on now.client.talk (now.client.kept ++ take used (take (length bytes - offset) (drop offset bytes)))
+      (lines_on now.client.talk (now.client.kept ++ take used (take (length bytes - offset) (drop offset bytes)))
       new.client event piece.brings) cut
   fails_here (faults.Output count) cut =
       fails_within record_reported line_written old.output now.output new.output old.written now.written new.written

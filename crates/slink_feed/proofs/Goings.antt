@@ -10,7 +10,7 @@ use Rattle.slink_feed.specs.declared.dialogue.Stage.{Stage}
 use Rattle.slink_feed.specs.declared.dialogue.Stage.TheVariants.{Unlinked, Station, Number, Packets, Ended}
 use Rattle.slink_feed.specs.declared.dialogue.Wanted.{Wanted}
 use Rattle.slink_feed.specs.Dialogue.{Talk, Whole, Reply, Packet, End, Garbage, answer_of, at_packet, bearer, ended}
-use Rattle.slink_feed.specs.Dialogue.{read_at, if_wanted, is_taken, next_at, says_number, says_place, to_answer}
+use Rattle.slink_feed.specs.Dialogue.{read_at, if_wanted, is_taken, next_at, requests_number, requests_place, to_answer}
 use Rattle.slink_feed.specs.Dialogue.{to_place, reported}
 use Rattle.slink_feed.specs.Dialogue.{want_at}
 use Rattle.slink_feed.specs.Fetching.{line_written, record_reported}
@@ -52,12 +52,12 @@ at_bearer t n r None linked = at_end t endings.Foreign
 at_bearer t n r (Some k) linked = at_wanted t k n r (next_at t.wants k) linked
 
 at_whole : (t : Talk) (stage : Stage) (w : Whole) → t.stage ≡ stage → GoesOn (read_at stage t w)
-at_whole t (Station k) (Reply line) is = at_answer t k (says_number k t) (answer_of line) (goes_on tt)
+at_whole t (Station k) (Reply line) is = at_answer t k (requests_number k t) (answer_of line) (goes_on tt)
 at_whole t (Station k) Garbage is = at_end t endings.Garbage
 at_whole t (Station k) (Packet n r) is = stays_quiet refl refl
 at_whole t (Station k) End is = stays_quiet refl refl
 at_whole t (Number k) (Reply line) is =
-    at_answer t k (says_place (k + 1) t) (answer_of line) (at_place t (k + 1) (want_at t.wants (k + 1)))
+    at_answer t k (requests_place (k + 1) t) (answer_of line) (at_place t (k + 1) (want_at t.wants (k + 1)))
 at_whole t (Number k) Garbage is = at_end t endings.Garbage
 at_whole t (Number k) (Packet n r) is = stays_quiet refl refl
 at_whole t (Number k) End is = stays_quiet refl refl
@@ -80,9 +80,9 @@ pub goes_on_by : (talk : Talk) (bytes : List ℕ) (new : Listening) (event : Eve
 goes_on_by talk bytes new event (whole w is h none) = subst GoesOn h (at_whole talk talk.stage w refl)
 goes_on_by talk bytes new event (begun is same quiet) = stays_quiet (ap line_written quiet) (ap record_reported quiet)
 
-pub says_on : (talk : Talk) (bytes : List ℕ) (new : Listening) (event : Event) → Brings talk bytes new event
+pub lines_on : (talk : Talk) (bytes : List ℕ) (new : Listening) (event : Event) → Brings talk bytes new event
     → 0 < length (line_written event) → IsLinked new.talk.stage
-says_on talk bytes new event brings some = elim (goes_on_by talk bytes new event brings) [
+lines_on talk bytes new event brings some = elim (goes_on_by talk bytes new event brings) [
   | goes_on linked ↦ linked
   | stays_quiet written reported ↦ absurd (omega (arith, some, ap length written))
 ]
@@ -95,9 +95,9 @@ tells_on talk bytes new event brings some = elim (goes_on_by talk bytes new even
 ]
 
 -- A link is linked until it is at an end.
-says_linked : (t : Talk) (k : ℕ) (o : Option Wanted) → (to_place o k t).0.stage ≢ Unlinked
-says_linked t k None e = cc e
-says_linked t k (Some w) e = cc e
+sends_linked : (t : Talk) (k : ℕ) (o : Option Wanted) → (to_place o k t).0.stage ≢ Unlinked
+sends_linked t k None e = cc e
+sends_linked t k (Some w) e = cc e
 
 answers_linked : (t : Talk) (k : ℕ) (next : Talk × Event) (answer : Answer) → next.0.stage ≢ Unlinked
     → (to_answer answer k next t).0.stage ≢ Unlinked
@@ -121,12 +121,12 @@ bearer_linked t n r None linked = λ e. cc e
 bearer_linked t n r (Some k) linked = wanted_linked t k n r (next_at t.wants k) linked
 
 whole_linked : (t : Talk) (stage : Stage) (w : Whole) → t.stage ≢ Unlinked → (read_at stage t w).0.stage ≢ Unlinked
-whole_linked t (Station k) (Reply line) on = answers_linked t k (says_number k t) (answer_of line) (λ e. cc e)
+whole_linked t (Station k) (Reply line) on = answers_linked t k (requests_number k t) (answer_of line) (λ e. cc e)
 whole_linked t (Station k) Garbage on = λ e. cc e
 whole_linked t (Station k) (Packet n r) on = on
 whole_linked t (Station k) End on = on
 whole_linked t (Number k) (Reply line) on =
-    answers_linked t k (says_place (k + 1) t) (answer_of line) (says_linked t (k + 1) (want_at t.wants (k + 1)))
+    answers_linked t k (requests_place (k + 1) t) (answer_of line) (sends_linked t (k + 1) (want_at t.wants (k + 1)))
 whole_linked t (Number k) Garbage on = λ e. cc e
 whole_linked t (Number k) (Packet n r) on = on
 whole_linked t (Number k) End on = on

@@ -18,8 +18,8 @@ use Rattle.slink_feed.specs.declared.dialogue.Stage.TheVariants.{Unlinked, Stati
 use Rattle.slink_feed.specs.declared.dialogue.Wanted.{Wanted}
 use Rattle.slink_feed.specs.Dialogue.{Talk, Wants, Whole, Reply, Packet, End, Garbage, answer_of, at_packet, bearer}
 use Rattle.slink_feed.specs.Dialogue.{ahead_of, is_ahead, is_taken}
-use Rattle.slink_feed.specs.Dialogue.{ended, read_at, if_wanted, is_borne, next_at, next_set, says, says_number}
-use Rattle.slink_feed.specs.Dialogue.{says_place, to_answer, to_place, reported, want_at, with_next}
+use Rattle.slink_feed.specs.Dialogue.{ended, read_at, if_wanted, is_borne, next_at, next_set, sends_line, requests_number}
+use Rattle.slink_feed.specs.Dialogue.{requests_place, to_answer, to_place, reported, want_at, with_next}
 use Rattle.slink_feed.specs.Holding.{AreRising, GoBy, IsNext, Rise, Turn, connects, brings, numbers_in, numbers_of}
 use Rattle.slink_feed.specs.Holding.{talk_after, turned}
 
@@ -36,12 +36,12 @@ moved_end k t (endings.Gap j want got) = stays refl refl
 moved_end k t endings.Garbage = stays refl refl
 moved_end k t endings.Foreign = stays refl refl
 
-moved_say : (k : ℕ) (t : Talk) (stage : Stage) (request : Request) → Moved k t (says t stage request)
-moved_say k t stage request = stays refl refl
+moved_line : (k : ℕ) (t : Talk) (stage : Stage) (request : Request) → Moved k t (sends_line t stage request)
+moved_line k t stage request = stays refl refl
 
 moved_place : (k j : ℕ) (t : Talk) (o : Option Wanted) → Moved k t (to_place o j t)
-moved_place k j t None = moved_say k t Packets requests.End
-moved_place k j t (Some w) = moved_say k t (Station j) (requests.Station w.place)
+moved_place k j t None = moved_line k t Packets requests.End
+moved_place k j t (Some w) = moved_line k t (Station j) (requests.Station w.place)
 
 moved_answer : (k j : ℕ) (t : Talk) (next : Talk × Event) (answer : Answer) → Moved k t next
     → Moved k t (to_answer answer j next t)
@@ -160,12 +160,12 @@ moved_packet k n bytes t (Some j) is = let some : (w : Wanted) × (want_at t.wan
     bearer_some t.wants bytes j is in moved_wanted k j n bytes t some.0 (next_at t.wants j) some.1 refl
 
 moved_read : (k : ℕ) (t : Talk) (stage : Stage) (w : Whole) → Moved k t (read_at stage t w)
-moved_read k t (Station j) (Reply line) = moved_answer k j t (says_number j t) (answer_of line) (stays refl refl)
+moved_read k t (Station j) (Reply line) = moved_answer k j t (requests_number j t) (answer_of line) (stays refl refl)
 moved_read k t (Station j) Garbage = moved_end k t endings.Garbage
 moved_read k t (Station j) (Packet n r) = stays refl refl
 moved_read k t (Station j) End = stays refl refl
 moved_read k t (Number j) (Reply line) =
-    moved_answer k j t (says_place (j + 1) t) (answer_of line) (moved_place k (j + 1) t (want_at t.wants (j + 1)))
+    moved_answer k j t (requests_place (j + 1) t) (answer_of line) (moved_place k (j + 1) t (want_at t.wants (j + 1)))
 moved_read k t (Number j) Garbage = moved_end k t endings.Garbage
 moved_read k t (Number j) (Packet n r) = stays refl refl
 moved_read k t (Number j) End = stays refl refl
@@ -214,12 +214,12 @@ kept_packet n bytes t None = refl
 kept_packet n bytes t (Some j) = kept_wanted j n bytes t (next_at t.wants j)
 
 pub kept_read : (t : Talk) (stage : Stage) (w : Whole) → (read_at stage t w).0.holes ≡ t.holes
-kept_read t (Station j) (Reply line) = kept_answer j t (says_number j t) (answer_of line) refl
+kept_read t (Station j) (Reply line) = kept_answer j t (requests_number j t) (answer_of line) refl
 kept_read t (Station j) Garbage = refl
 kept_read t (Station j) (Packet n r) = refl
 kept_read t (Station j) End = refl
 kept_read t (Number j) (Reply line) =
-    kept_answer j t (says_place (j + 1) t) (answer_of line) (kept_place (j + 1) t (want_at t.wants (j + 1)))
+    kept_answer j t (requests_place (j + 1) t) (answer_of line) (kept_place (j + 1) t (want_at t.wants (j + 1)))
 kept_read t (Number j) Garbage = refl
 kept_read t (Number j) (Packet n r) = refl
 kept_read t (Number j) End = refl

@@ -19,8 +19,8 @@ use Rattle.slink_feed.specs.Cutting.{IsWhole}
 use Rattle.slink_feed.specs.Delivered.{Numbered}
 use Rattle.slink_feed.specs.Dialogue.{Talk, Wants, Whole, Reply, Packet, End, Garbage, answer_of, at_packet, bearer}
 use Rattle.slink_feed.specs.Dialogue.{is_taken}
-use Rattle.slink_feed.specs.Dialogue.{ended, read, read_at, if_wanted, is_borne, next_at, next_set, says_number}
-use Rattle.slink_feed.specs.Dialogue.{says_place, to_answer, to_place, reported, want_at}
+use Rattle.slink_feed.specs.Dialogue.{ended, read, read_at, if_wanted, is_borne, next_at, next_set, requests_number}
+use Rattle.slink_feed.specs.Dialogue.{requests_place, to_answer, to_place, reported, want_at}
 use Rattle.slink_feed.specs.Holding.{GoBy, GoOn, IsNext}
 use Rattle.slink_feed.specs.Listening.{AreBrought, Brought, Listening, Reads, events_of, talk_after, event_if_any}
 use Rattle.slink_feed.specs.Reported.{AreOf, HasReported, bytes_in, numbers_at, places_of, record_in, records_reported}
@@ -78,12 +78,12 @@ record_long packet bytes is long = ap length (sym is) ∙ (length-drop 8 packet 
 pub comes_read : (t : Talk) (stage : Stage) (bytes : List ℕ) (w : Whole) → IsWhole stage bytes w
     → Comes t (read_at stage t w)
 comes_read t (Station j) bytes (Reply line) is =
-    comes_answer j t (says_number j t) (answer_of line) (nothing refl refl)
+    comes_answer j t (requests_number j t) (answer_of line) (nothing refl refl)
 comes_read t (Station j) bytes Garbage is = comes_end t endings.Garbage
 comes_read t (Station j) bytes (Packet n r) is = absurd is
 comes_read t (Station j) bytes End is = absurd is
 comes_read t (Number j) bytes (Reply line) is =
-    comes_answer j t (says_place (j + 1) t) (answer_of line) (comes_place (j + 1) t (want_at t.wants (j + 1)))
+    comes_answer j t (requests_place (j + 1) t) (answer_of line) (comes_place (j + 1) t (want_at t.wants (j + 1)))
 comes_read t (Number j) bytes Garbage is = comes_end t endings.Garbage
 comes_read t (Number j) bytes (Packet n r) is = absurd is
 comes_read t (Number j) bytes End is = absurd is

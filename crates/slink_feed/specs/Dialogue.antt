@@ -76,24 +76,24 @@ abbrev pub ended : Ending → Talk → Talk × Event
 ended ending t = (record t { stage = Ended ending }, event_of ending)
 
 -- a line is sent
-abbrev pub says : Talk → Stage → Request → Talk × Event
-says t stage request = (record t { stage = stage }, events.Say (record { items = request_bytes request }))
+abbrev pub sends_line : Talk → Stage → Request → Talk × Event
+sends_line t stage request = (record t { stage = stage }, events.Say (record { items = request_bytes request }))
 
 -- the STATION of a place; after the last place, the END
 abbrev pub to_place : Option Wanted → ℕ → Talk → Talk × Event
-to_place (Some w) k t = says t (Station k) (requests.Station w.place)
-to_place None k t = says t Packets requests.End
+to_place (Some w) k t = sends_line t (Station k) (requests.Station w.place)
+to_place None k t = sends_line t Packets requests.End
 
-abbrev pub says_place : ℕ → Talk → Talk × Event
-says_place k t = to_place (want_at t.wants k) k t
+abbrev pub requests_place : ℕ → Talk → Talk × Event
+requests_place k t = to_place (want_at t.wants k) k t
 
 -- the DATA or FETCH of a place, with the number that it wants next, where it has one
 abbrev pub numbered : Mode → Option ℕ → Request
 numbered modes.Data number = requests.Data number
 numbered modes.Fetch number = requests.Fetch number
 
-abbrev pub says_number : ℕ → Talk → Talk × Event
-says_number k t = says t (Number k) (numbered t.mode (next_at t.wants k))
+abbrev pub requests_number : ℕ → Talk → Talk × Event
+requests_number k t = sends_line t (Number k) (numbered t.mode (next_at t.wants k))
 
 -- a reply: `OK`, or what begins with `ERROR`
 abbrev pub answer_of : List ℕ → Answer
@@ -155,9 +155,9 @@ at_packet (Some k) number bytes t = if_wanted (next_at t.wants k) k number bytes
 
 -- The client's table: what it does with what has come, by what it waits for.
 abbrev pub read_at : Stage → Talk → Whole → Talk × Event
-read_at (Station k) t (Reply line) = to_answer (answer_of line) k (says_number k t) t
+read_at (Station k) t (Reply line) = to_answer (answer_of line) k (requests_number k t) t
 read_at (Station k) t Garbage = ended endings.Garbage t
-read_at (Number k) t (Reply line) = to_answer (answer_of line) k (says_place (k + 1) t) t
+read_at (Number k) t (Reply line) = to_answer (answer_of line) k (requests_place (k + 1) t) t
 read_at (Number k) t Garbage = ended endings.Garbage t
 read_at Packets t (Packet number bytes) = at_packet (bearer t.wants bytes) number bytes t
 read_at Packets t End = ended endings.End t

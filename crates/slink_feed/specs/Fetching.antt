@@ -91,8 +91,8 @@ pub record FailsAtLast (given others : Event → List ℕ) (old new : Listening)
   pub other : Emitted other_old other_new (joined_by others reported)
 
 -- The link failed within the line of the last event.
-abbrev pub FailsToSay : Fetching → Fetching → List ℕ → ℕ → Type 0
-FailsToSay old new bytes count = FailsAtLast line_written record_reported old.client new.client bytes count old.written
+abbrev pub FailsToWriteLine : Fetching → Fetching → List ℕ → ℕ → Type 0
+FailsToWriteLine old new bytes count = FailsAtLast line_written record_reported old.client new.client bytes count old.written
     new.written old.output new.output
 
 -- The output failed within the record of the last event.
@@ -103,7 +103,7 @@ FailsToWrite old new bytes count = FailsAtLast record_reported line_written old.
 -- what failed while a client accepted these bytes
 abbrev pub FailsAt : LinkFault → Fetching → Fetching → List ℕ → Type 0
 FailsAt faults.Read old new bytes = ⊥
-FailsAt (faults.Write count) old new bytes = FailsToSay old new bytes count
+FailsAt (faults.Write count) old new bytes = FailsToWriteLine old new bytes count
 FailsAt (faults.Output count) old new bytes = FailsToWrite old new bytes count
 
 -- what a client has come to: it goes on, or is at an end

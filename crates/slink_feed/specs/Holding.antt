@@ -3,7 +3,7 @@ use Rattle.std.specs.Prelude.{◌⊎◌, Bool, true, false, ◌<◌, ◌≤◌, 
 use Rattle.std.specs.Prelude.{◌≡◌, ℕ, ◌+◌, ◌%◌, ◌^◌, ◌==◌, List, [], ◌∷◌, ◌++◌, Option, Some, None, if◌then◌else◌}
 use Rattle.slink_feed.specs.declared.dialogue.Event.{Event}
 use Rattle.slink_feed.specs.declared.dialogue.Event.TheVariants as events
-use Rattle.slink_feed.specs.Dialogue.{Talk, Whole, ahead_of, read, says_place}
+use Rattle.slink_feed.specs.Dialogue.{Talk, Whole, ahead_of, read, requests_place}
 
 -- a new link begins, or a link brings a whole
 pub data Turn : Type 0 where
@@ -11,7 +11,7 @@ pub data Turn : Type 0 where
   brings : Whole → Turn
 
 abbrev pub turned : Talk → Turn → Talk × Event
-turned t connects = says_place 0 t
+turned t connects = requests_place 0 t
 turned t (brings w) = read t w
 
 -- the numbers of the records that are reported of a place

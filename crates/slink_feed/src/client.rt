@@ -8,7 +8,7 @@ ghost use Rattle.slink_feed.specs.Cutting.{IsReply};
 ghost use Rattle.slink_feed.specs.private.Parts.{IsPacketPart, IsReplyPart};
 ghost use Rattle.slink_feed.specs.declared.dialogue.Ending.{Ending};
 ghost use Rattle.slink_feed.specs.declared.dialogue.Event.{Event};
-ghost use Rattle.slink_feed.specs.Dialogue.{Talk, at_packet, bearer, event_of, next_at, says_place};
+ghost use Rattle.slink_feed.specs.Dialogue.{Talk, at_packet, bearer, event_of, next_at, requests_place};
 ghost use Rattle.slink_feed.specs.Fetching.{turn_at};
 ghost use Rattle.slink_feed.specs.Listening.{AwaitsReply, Brings, IsLinked, Reads, new_client, event_if_any};
 
@@ -91,7 +91,7 @@ impl Client {
 
     /// Begins on a new link, to which these bytes are to be written. What was kept of the one before is dropped.
     pub fn connect(&mut self) -> Bytes
-        ensures written { says_place 0 self.old.talk ≡ (self.new.talk, Event.Say result) }
+        ensures written { requests_place 0 self.old.talk ≡ (self.new.talk, Event.Say result) }
         ensures dropped { self.new.kept ≡ [] }
         // The new link has brought nothing.
         ensures reads { Reads self.new.talk [] [] self.new }

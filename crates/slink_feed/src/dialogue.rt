@@ -4,7 +4,7 @@ ghost use Rattle.slink_wire.specs.Request.{IsSpelled};
 ghost use Rattle.slink_wire.specs.Place.{AreNumbers};
 ghost use Rattle.slink_feed.specs.Dialogue.{IsStage, Reply, answer_of, at_packet, bearer, ended, event_of};
 ghost use Rattle.slink_feed.specs.Dialogue.{is_ahead, is_taken};
-ghost use Rattle.slink_feed.specs.Dialogue.{read, if_wanted, is_borne, next_at, says, says_number, says_place};
+ghost use Rattle.slink_feed.specs.Dialogue.{read, if_wanted, is_borne, next_at, sends_line, requests_number, requests_place};
 ghost use Rattle.slink_feed.specs.Dialogue.{to_answer, want_at, wants_of, with_next};
 ghost use Rattle.slink_feed.specs.Listening.{AwaitsReply};
 
@@ -242,7 +242,7 @@ impl Dialogue {
     fn request_line(&mut self, stage: Stage, request: Request) -> Bytes
         requires request { IsSpelled request }
         requires stage { IsStage stage }
-        ensures { says self.old stage request ≡ (self.new, Event.Say result) }
+        ensures { sends_line self.old stage request ≡ (self.new, Event.Say result) }
     {
         self.stage = stage;
         request.bytes()
@@ -250,7 +250,7 @@ impl Dialogue {
 
     /// Returns the STATION line of the place at an index; after the last place, the END line.
     pub(crate) fn request_place(&mut self, k: usize) -> Bytes
-        ensures { says_place k self.old ≡ (self.new, Event.Say result) }
+        ensures { requests_place k self.old ≡ (self.new, Event.Say result) }
     {
         match self.want(k) {
             Some(wanted) => self.request_line(Stage::Station(k), Request::Station(wanted.place)),
@@ -261,7 +261,7 @@ impl Dialogue {
     /// Returns the DATA or FETCH line of a place.
     fn request_number(&mut self, k: usize) -> Bytes
         requires { k < 16 }
-        ensures { says_number k self.old ≡ (self.new, Event.Say result) }
+        ensures { requests_number k self.old ≡ (self.new, Event.Say result) }
     {
         let number = self.next(k);
         let request = match self.mode {
@@ -287,7 +287,7 @@ impl Dialogue {
     /// Takes the reply to the STATION line of a place.
     fn read_station(&mut self, k: usize, answer: Answer) -> Event
         requires { k < 16 }
-        ensures read { to_answer answer k (says_number k self.old) self.old ≡ (self.new, result) }
+        ensures read { to_answer answer k (requests_number k self.old) self.old ≡ (self.new, result) }
         ensures reported { result ≢ Event.None }
     {
         match answer {
@@ -300,7 +300,7 @@ impl Dialogue {
     /// Takes the reply to the DATA or FETCH line of a place.
     fn read_number(&mut self, k: usize, answer: Answer) -> Event
         requires { k < 16 }
-        ensures read { to_answer answer k (says_place (k + 1) self.old) self.old ≡ (self.new, result) }
+        ensures read { to_answer answer k (requests_place (k + 1) self.old) self.old ≡ (self.new, result) }
         ensures reported { result ≢ Event.None }
     {
         match answer {

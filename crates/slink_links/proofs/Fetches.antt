@@ -15,8 +15,8 @@ use Rattle.slink_feed.specs.declared.turn.LinkFault.{LinkFault}
 use Rattle.slink_feed.specs.declared.turn.LinkFault.TheVariants as faults
 use Rattle.slink_feed.specs.declared.turn.Turn.{Turn}
 use Rattle.slink_feed.specs.Delivered.{Numbered}
-use Rattle.slink_feed.specs.Dialogue.{Talk, Wants, says_place, to_place, want_at}
-use Rattle.slink_feed.specs.Fetching.{Delivers, FailsToSay, FailsToWrite, Fetches, Fetching, IsFetchFault, ReadsOn}
+use Rattle.slink_feed.specs.Dialogue.{Talk, Wants, requests_place, to_place, want_at}
+use Rattle.slink_feed.specs.Fetching.{Delivers, FailsToWriteLine, FailsToWrite, Fetches, Fetching, IsFetchFault, ReadsOn}
 use Rattle.slink_feed.specs.Fetching.{TakesTurn, bytes_reported}
 use Rattle.slink_feed.specs.Fetching.{fetching, line_written, lines_written, record_reported, turn_after, turn_of}
 use Rattle.slink_feed.specs.Listening.{IsLinked, Listening, Reads}
@@ -238,7 +238,7 @@ turned_err faults.Read old new s0 s1 w0 w1 h0 h1 f reading linked =
       failures = ap (λ (w : BytesWritten). w.failures) output ∙ omega arith;
     }
 turned_err (faults.Write n) old new s0 s1 w0 w1 h0 h1 f reading linked =
-    let x : FailsToSay (fetching old s0 w0) (fetching new s1 w1) f.bytes n = f.fails in
+    let x : FailsToWriteLine (fetching old s0 w0) (fetching new s1 w1) f.bytes n = f.fails in
     let emitted : Emitted w0 w1 (bytes_in (records_reported x.reported)) =
     subst (Emitted w0 w1) (reported_bytes x.reported) x.other in record {
       bytes = x.takes.taken;
@@ -345,23 +345,23 @@ written_linked : (t : Talk) (o : Option Wanted) → IsLinked (to_place o 0 t).0.
 written_linked t None = tt
 written_linked t (Some w) = tt
 
-pub connected_linked : (old : Talk) (new : Talk) (event : Event) → says_place 0 old ≡ (new, event) → IsLinked new.stage
+pub connected_linked : (old : Talk) (new : Talk) (event : Event) → requests_place 0 old ≡ (new, event) → IsLinked new.stage
 connected_linked old new event says =
     subst (λ (t : Talk). IsLinked t.stage) (ap (λ p. p.0) says) (written_linked old (want_at old.wants 0))
 
-connected_unended : (old : Talk) (new : Talk) (event : Event) → says_place 0 old ≡ (new, event) → IsUnended new.stage
+connected_unended : (old : Talk) (new : Talk) (event : Event) → requests_place 0 old ≡ (new, event) → IsUnended new.stage
 connected_unended old new event says = linked_unended new.stage (connected_linked old new event says)
 
-pub connected_wants : (old : Talk) (new : Talk) (event : Event) → says_place 0 old ≡ (new, event)
+pub connected_wants : (old : Talk) (new : Talk) (event : Event) → requests_place 0 old ≡ (new, event)
     → new.wants ≡ old.wants
 connected_wants old new event says = ap (λ p. p.0.wants) (sym says) ∙ wants_written old (want_at old.wants 0)
 
-connected_holes : (old : Talk) (new : Talk) (event : Event) → says_place 0 old ≡ (new, event)
+connected_holes : (old : Talk) (new : Talk) (event : Event) → requests_place 0 old ≡ (new, event)
     → new.holes ≡ old.holes
 connected_holes old new event says = ap (λ p. p.0.holes) (sym says) ∙ kept_place 0 old (want_at old.wants 0)
 
 connected_reported : (old : Talk) (new : Talk) (event : Event) (wants : Wants) (records : List Numbered)
-    → says_place 0 old ≡ (new, event) → HasReported new.holes new.wants wants records
+    → requests_place 0 old ≡ (new, event) → HasReported new.holes new.wants wants records
     → HasReported old.holes old.wants wants records
 connected_reported old new event wants records says reported =
     subst (λ (h : Bool). HasReported h old.wants wants records) (connected_holes old new event says)
@@ -386,7 +386,7 @@ stands_linked LinkFailed old now new unended stands =
 
 -- a link, from its first byte on
 pub fetched_link : (end : FetchEnd) (old now new : Listening) (event : Event) (h i : BytesRead) (s t : BytesWritten)
-    → says_place 0 old.talk ≡ (now.talk, event) → Reads now.talk [] [] now → HasTurned (Some end) now new h i s t
+    → requests_place 0 old.talk ≡ (now.talk, event) → Reads now.talk [] [] now → HasTurned (Some end) now new h i s t
     → HasFetched end old new s t
 fetched_link end old now new event h i s t says reads p =
     let all : Reads now.talk p.bytes p.reported new = p.reads now.talk [] [] reads in
@@ -404,7 +404,7 @@ fetched_link end old now new event h i s t says reads p =
     }
 
 pub read_link : (end : FetchEnd) (old now new : Listening) (event : Event) (h i : BytesRead) (s t : BytesWritten)
-    → says_place 0 old.talk ≡ (now.talk, event) → Reads now.talk [] [] now → HasTurned (Some end) now new h i s t
+    → requests_place 0 old.talk ≡ (now.talk, event) → Reads now.talk [] [] now → HasTurned (Some end) now new h i s t
     → HasReadLink old new h i s t
 read_link end old now new event h i s t says reads p = record {
   begun = now;
@@ -419,7 +419,7 @@ read_link end old now new event h i s t says reads p = record {
 
 -- its records are those that were reported
 pub fetched_reporting : (end : FetchEnd) (old now new : Listening) (event : Event) (a b : Outputs)
-    → says_place 0 old.talk ≡ (now.talk, event) → HasFetched end old new a.output b.output
+    → requests_place 0 old.talk ≡ (now.talk, event) → HasFetched end old new a.output b.output
     → Reports now.talk new.talk a b → FetchesReporting end old new a b
 fetched_reporting end old now new event a b says f p =
     let reported : HasReported old.talk.holes old.talk.wants new.talk.wants p.records =

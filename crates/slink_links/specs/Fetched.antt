@@ -15,7 +15,7 @@ use Rattle.slink_feed.specs.declared.turn.LinkFault.TheVariants as faults
 use Rattle.slink_feed.specs.declared.turn.Turn.{Turn}
 use Rattle.slink_feed.specs.declared.turn.Turn.TheVariants as turns
 use Rattle.slink_feed.specs.Delivered.{Numbered}
-use Rattle.slink_feed.specs.Dialogue.{Talk, Wants, next_at, says_place}
+use Rattle.slink_feed.specs.Dialogue.{Talk, Wants, next_at, requests_place}
 use Rattle.slink_feed.specs.Fetching.{Fetching, ReadsOn, TakesTurn, fetching, line_written}
 use Rattle.slink_feed.specs.Listening.{IsLinked, Listening, Reads}
 use Rattle.slink_feed.specs.Reports.{AreHandedOver, Outputs, TakesRecords}
@@ -188,7 +188,7 @@ pub record HasReadLink (old new : Listening) (read_old read_new : BytesRead)
     (written_old written_new : BytesWritten) : Type 0 where
   pub begun : Listening
   pub line : Event
-  pub begins : says_place 0 old.talk ≡ (begun.talk, line)
+  pub begins : requests_place 0 old.talk ≡ (begun.talk, line)
   pub bytes : List ℕ
   pub prefix : IsPrefixOf (read_old.bytes ++ bytes) read_new.bytes
   pub reported : List Event
@@ -217,7 +217,7 @@ pub data HasTakenAll (first : Fetching) (before : BytesRead) : FetchEnd → Fetc
 
 -- A client begins on a link by this line, and nothing is kept of the link before.
 pub record Begins (old begun : Listening) (line : Event) : Type 0 where
-  pub says : says_place 0 old.talk ≡ (begun.talk, line)
+  pub says : requests_place 0 old.talk ≡ (begun.talk, line)
   pub kept : begun.kept ≡ []
 
 -- The line was written to the link, and turns were taken; or the link failed within the line, and wasn't read.

@@ -17,7 +17,7 @@ use Rattle.slink_model.specs.declared.world.Step.{Step}
 use Rattle.slink_model.specs.declared.world.Step.TheVariants.{Append, Connect, ToServer, ToClient, Send, Cut}
 use Rattle.slink_model.specs.Counted.{Gained, with_event, with_events}
 use Rattle.slink_feed.specs.Cutting.{IsBegun, IsWhole}
-use Rattle.slink_feed.specs.Dialogue.{Talk, Whole, read, says_place}
+use Rattle.slink_feed.specs.Dialogue.{Talk, Whole, read, requests_place}
 use Rattle.slink_feed.specs.Listening.{AreBrought, Brings, Brought, IsLinked, Listening, begun, bytes_of, events_of}
 use Rattle.slink_feed.specs.Listening.{talk_after, event_if_any, whole}
 use Rattle.slink_feed.specs.Serving.{Serves, Standing}
@@ -364,7 +364,7 @@ module _ (places : Places) (differ : Differ places) (codes : (k : ℕ) (p : Fiel
       let session : p.session ≡ q.session =
       standings_same p.session q.session (p.is_new.state ∙ sym q.is_new.state)
       (held_same p.session.held q.session.held [] p.is_new.held q.is_new.held) in
-      p.becomes ∙ (ap (λ (x : Standing). linked_anew w x (says_place 0 w.client.talk)) session ∙ sym q.becomes)
+      p.becomes ∙ (ap (λ (x : Standing). linked_anew w x (requests_place 0 w.client.talk)) session ∙ sym q.becomes)
 
   pub step_once : (step : Step) (a b : WorldState) → Happens w step a → Happens w step b → a ≡ b
   step_once (Append k bytes) a b p q = p ∙ sym q
@@ -391,7 +391,7 @@ module _ (places : Places) (differ : Differ places) (codes : (k : ℕ) (p : Fiel
 
   pub step_keeps : (step : Step) (a : WorldState) → Happens w step a → Keeps a
   step_keeps (Append k bytes) a p = subst Keeps (sym p) (pushed_keeps k bytes (slice_get w.windows k))
-  step_keeps Connect a p = subst Keeps (sym p.becomes) (begun_none (says_place 0 w.client.talk).0.stage)
+  step_keeps Connect a p = subst Keeps (sym p.becomes) (begun_none (requests_place 0 w.client.talk).0.stage)
   step_keeps (ToServer n) a p = subst Keeps (sym p.0) keeps
   step_keeps (ToClient n) a p = read_keeps n a w.link a.link p refl p.link
   step_keeps (Send k) a p = subst Keeps (sym p) keeps

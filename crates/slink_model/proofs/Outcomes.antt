@@ -22,8 +22,8 @@ use Rattle.slink_feed.specs.declared.dialogue.Stage.TheVariants.{Unlinked, Stati
 use Rattle.slink_feed.specs.declared.dialogue.Wanted.{Wanted}
 use Rattle.slink_feed.specs.Cutting.{IsWhole}
 use Rattle.slink_feed.specs.Dialogue.{Talk, Whole, Reply, Packet, End, Garbage, answer_of, at_packet, bearer, ended}
-use Rattle.slink_feed.specs.Dialogue.{event_of, is_ahead, is_taken, read, read_at, if_wanted, next_at, says_number}
-use Rattle.slink_feed.specs.Dialogue.{says_place, to_answer}
+use Rattle.slink_feed.specs.Dialogue.{event_of, is_ahead, is_taken, read, read_at, if_wanted, next_at, requests_number}
+use Rattle.slink_feed.specs.Dialogue.{requests_place, to_answer}
 use Rattle.slink_feed.specs.Dialogue.{to_place, reported, want_at, with_next}
 use Rattle.slink_feed.specs.Listening.{Brings, Listening, begun, whole}
 use Rattle.slink_model.specs.Ties.{AreWhole, Item, Accepted, Refused, Greeted, Carried, Finished, Outcome, ends, says}
@@ -209,12 +209,12 @@ module _ (t : Talk) (bytes way : List ℕ) (new : Listening) (e : Event) (plain 
       → IsWhole stage bytes w → read_at stage t w ≡ (new.talk, e) → new.kept ≡ [] → Outcome t items bytes way new e
   has_whole Unlinked items w are h is read none = absurd is
   has_whole (Station k) items (Reply line) are h is read none =
-      has_reply items line k (says_number k t) (answer_of line) refl is.0 h (refl, refl) read none
+      has_reply items line k (requests_number k t) (answer_of line) refl is.0 h (refl, refl) read none
   has_whole (Station k) items (Packet n r) are h is read none = absurd is
   has_whole (Station k) items End are h is read none = absurd is
   has_whole (Station k) items Garbage are h is read none = has_ended items endings.Garbage read none
   has_whole (Number k) items (Reply line) are h is read none =
-      has_reply items line k (says_place (k + 1) t) (answer_of line) refl is.0 h
+      has_reply items line k (requests_place (k + 1) t) (answer_of line) refl is.0 h
       (place_written (want_at t.wants (k + 1)) (k + 1) t) read none
   has_whole (Number k) items (Packet n r) are h is read none = absurd is
   has_whole (Number k) items End are h is read none = absurd is

@@ -26,7 +26,7 @@ use Rattle.slink_feed.specs.declared.grant.Grant.{Grant}
 use Rattle.slink_feed.specs.declared.session.Phase.TheVariants.{Chosen, Granted, Closed}
 use Rattle.slink_feed.specs.Cutting.{IsReply, IsWhole, LacksEnd}
 use Rattle.slink_feed.specs.Dialogue.{Talk, Wants, Whole, Reply, Packet, End, at_packet, bearer, ended, event_of, read}
-use Rattle.slink_feed.specs.Dialogue.{read_at, is_borne, next_at, next_set, numbered, says_number, says_place}
+use Rattle.slink_feed.specs.Dialogue.{read_at, is_borne, next_at, next_set, numbered, requests_number, requests_place}
 use Rattle.slink_feed.specs.Dialogue.{to_place, reported, want_at, with_next}
 use Rattle.slink_feed.specs.Listening.{Brings, IsLinked, Listening, begun, whole}
 use Rattle.slink_feed.specs.Serving.{Standing}
@@ -291,7 +291,7 @@ module _ (places : Places) (differ : Differ places) (codes_are : (k : ℕ) (p : 
             → l.items ≡ Accepted ∷ [] → IsWhole t.client.talk.stage (t.client.kept ++ bytes) w
             → read t.client.talk w ≡ (new.talk, e) → new.kept ≡ [] → ClientTalks new (Way t new e) left
         place_talks stage phase reported one is h none =
-            let first : (says_number k t.client.talk ≡ (new.talk, e)) × (left ≡ []) =
+            let first : (requests_number k t.client.talk ≡ (new.talk, e)) × (left ≡ []) =
             first_read (Station k) t.client bytes left w (Reply (codes "OK")) Accepted [] (new.talk, e) stage
             (l.flows.flow ∙ ap way_bytes one) accepted_whole is h in
             let request : Request = numbered t.client.talk.mode (next_at t.client.talk.wants k) in
@@ -306,7 +306,7 @@ module _ (places : Places) (differ : Differ places) (codes_are : (k : ℕ) (p : 
             → l.items ≡ Accepted ∷ [] → IsWhole t.client.talk.stage (t.client.kept ++ bytes) w
             → read t.client.talk w ≡ (new.talk, e) → new.kept ≡ [] → ClientTalks new (Way t new e) left
         number_talks stage phase reported one is h none =
-            let first : (says_place (k + 1) t.client.talk ≡ (new.talk, e)) × (left ≡ []) =
+            let first : (requests_place (k + 1) t.client.talk ≡ (new.talk, e)) × (left ≡ []) =
             first_read (Number k) t.client bytes left w (Reply (codes "OK")) Accepted [] (new.talk, e) stage
             (l.flows.flow ∙ ap way_bytes one) accepted_whole is h in
             next_talks t new left l.taken e k (want_at t.client.talk.wants (k + 1)) called phase reported refl first.0

@@ -18,7 +18,7 @@ use Rattle.slink_feed.specs.declared.session.Sent.{Sent}
 use Rattle.slink_model.specs.declared.world.Setup.{Setup}
 use Rattle.slink_model.specs.declared.world.Step.{Step}
 use Rattle.slink_model.specs.declared.world.Step.TheVariants.{Append, Connect, ToServer, ToClient, Send, Cut}
-use Rattle.slink_feed.specs.Dialogue.{Talk, next_at, says_place, to_place, want_at, wanted_of, wants_of}
+use Rattle.slink_feed.specs.Dialogue.{Talk, next_at, requests_place, to_place, want_at, wanted_of, wants_of}
 use Rattle.slink_feed.specs.Listening.{IsLinked, Listening}
 use Rattle.slink_feed.specs.Serving.{Standing}
 use Rattle.slink_feed.specs.Session.{Grants, IsBefore, State, all_done, at, at_next, grant_at, packet_at, sent}
@@ -120,7 +120,7 @@ linked_anew w session x = record w {
 -- the place that a client requests first over a new link, and what the link carries then
 pub record Opens (places : Places) (talk : Talk) (session : Standing) : Type 0 where
   pub want : Wanted
-  pub says : says_place 0 talk ≡ to_place (Some want) 0 talk
+  pub says : requests_place 0 talk ≡ to_place (Some want) 0 talk
   pub flows : Flows places (record { talk = record talk { stage = Station 0 }; kept = [] }) session.state.grants [] []
   pub shakes : Shakes (record talk { stage = Station 0 }) session.state.phase []
       (request_bytes (requests.Station want.place)) []

@@ -10,7 +10,7 @@ use Rattle.slink_feed.specs.declared.grant.Grant.{Grant}
 use Rattle.slink_model.specs.declared.world.Setup.{Setup}
 use Rattle.slink_model.specs.declared.world.Step.{Step}
 use Rattle.slink_model.specs.declared.world.Step.TheVariants.{Append, Connect, ToServer, ToClient, Send, Cut}
-use Rattle.slink_feed.specs.Dialogue.{Talk, Wants, next_at, says_place, want_at, wanted_of, wants_of}
+use Rattle.slink_feed.specs.Dialogue.{Talk, Wants, next_at, requests_place, want_at, wanted_of, wants_of}
 use Rattle.slink_feed.specs.Listening.{Listening}
 use Rattle.slink_feed.specs.Serving.{Standing}
 use Rattle.slink_feed.specs.Session.{Grants, State, grant_at, sent_in}
@@ -184,7 +184,7 @@ module _ (places : Places) (first : ℕ) where
 
   connect_ties : (w v : WorldState) → Connects w v → WorldTies places first w → WorldTies places first v
   connect_ties w v c t =
-      let talk : Talk = (says_place 0 w.client.talk).0 in
+      let talk : Talk = (requests_place 0 w.client.talk).0 in
       let wants : talk.wants ≡ w.client.talk.wants =
       (place_written (want_at w.client.talk.wants 0) 0 w.client.talk).0 in
       let grants : c.session.state.grants ≡ replicate 16 None = ap (λ (s : State). s.grants) c.is_new.state in

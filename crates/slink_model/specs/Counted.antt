@@ -21,7 +21,7 @@ use Rattle.slink_feed.specs.declared.session.Sent.TheVariants as sents
 use Rattle.slink_model.specs.declared.world.Setup.{Setup}
 use Rattle.slink_model.specs.declared.world.Step.{Step}
 use Rattle.slink_model.specs.declared.world.Step.TheVariants.{Append, Connect, ToServer, ToClient, Send, Cut}
-use Rattle.slink_feed.specs.Dialogue.{Talk, ended, next_at, says_number, says_place, reported, wants_of}
+use Rattle.slink_feed.specs.Dialogue.{Talk, ended, next_at, requests_number, requests_place, reported, wants_of}
 use Rattle.slink_feed.specs.Listening.{IsLinked}
 use Rattle.slink_feed.specs.Session.{Grants, State, called, at, chosen, grant_at, sent}
 use Rattle.slink_model.specs.Ties.{Item, Accepted, Refused, Greeted, Carried, Finished, item_bytes, items_of, way_bytes}
@@ -135,9 +135,9 @@ part d (i ∷ is) = if nat_le (length (item_bytes i)) d then part (d - length (i
 -- link;
 -- a packet brings a record of its place, and the number after it is wanted next.
 abbrev pub on_item : Stage → Item → Talk → Talk × Event
-on_item (Station k) Accepted t = says_number k t
+on_item (Station k) Accepted t = requests_number k t
 on_item (Station k) Refused t = ended (endings.Refused k) t
-on_item (Number k) Accepted t = says_place (k + 1) t
+on_item (Number k) Accepted t = requests_place (k + 1) t
 on_item (Number k) Refused t = ended (endings.Refused k) t
 on_item Packets (Carried k n r) t = reported k (n % 2 ^ 24) r t
 on_item Packets Finished t = ended endings.End t
@@ -207,7 +207,7 @@ new_link written = record {
 abbrev pub counted_step : Setup → Counted → Step → Counted
 counted_step setup c (Append k bytes) = record c { pushed = with_one c.pushed k bytes }
 counted_step setup c Connect =
-    record c { talk = (says_place 0 c.talk).0; link = Some (new_link (written (says_place 0 c.talk).1)) }
+    record c { talk = (requests_place 0 c.talk).0; link = Some (new_link (written (requests_place 0 c.talk).1)) }
 counted_step setup c (ToServer n) = record c { link = option_map (served_by (windows_of setup c) c.talk n) c.link }
 counted_step setup c (ToClient n) = read_by n c c.link
 counted_step setup c (Send k) = record c { link = option_map (sent_by (windows_of setup c) k) c.link }

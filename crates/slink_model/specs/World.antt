@@ -17,7 +17,7 @@ use Rattle.slink_model.specs.declared.world.Setup.{Setup}
 use Rattle.slink_model.specs.declared.world.Step.{Step}
 use Rattle.slink_model.specs.declared.world.Step.TheVariants.{Append, Connect, ToServer, ToClient, Send, Cut}
 use Rattle.slink_model.specs.declared.world.World.{World}
-use Rattle.slink_feed.specs.Dialogue.{says_place, wants_of}
+use Rattle.slink_feed.specs.Dialogue.{requests_place, wants_of}
 use Rattle.slink_feed.specs.Listening.{Brings, IsLinked, Listening}
 use Rattle.slink_feed.specs.Serving.{Standing, Serves}
 use Rattle.slink_feed.specs.Session.{Grants, at, grant_at, sent, sent_bytes}
@@ -154,11 +154,11 @@ pub record Connects (w v : WorldState) : Type 0 where
   pub session : Standing
   pub is_new : IsNew session
   pub becomes : v ≡ record w {
-    client = record { talk = (says_place 0 w.client.talk).0; kept = [] };
+    client = record { talk = (requests_place 0 w.client.talk).0; kept = [] };
     link = Some (record {
       session = session;
       first_sent = replicate 16 None;
-      to_server = written (says_place 0 w.client.talk).1;
+      to_server = written (requests_place 0 w.client.talk).1;
       to_client = [];
     });
   }
