@@ -9,7 +9,7 @@ use Rattle.slink_feed.specs.declared.dialogue.Event.{Event}
 use Rattle.slink_feed.specs.declared.dialogue.Stage.{Stage}
 use Rattle.slink_feed.specs.declared.dialogue.Stage.TheVariants.{Unlinked, Station, Number, Packets, Ended}
 use Rattle.slink_feed.specs.declared.dialogue.Wanted.{Wanted}
-use Rattle.slink_feed.specs.Dialogue.{Talk, Whole, Reply, Packet, End, Garbage, answer_of, at_packet, bearer, ended}
+use Rattle.slink_feed.specs.Dialogue.{Talk, Whole, Reply, Packet, End, Garbage, answer_of, at_packet, place_of, ended}
 use Rattle.slink_feed.specs.Dialogue.{read_at, if_wanted, is_taken, next_at, requests_number, requests_place, to_answer}
 use Rattle.slink_feed.specs.Dialogue.{to_place, reported}
 use Rattle.slink_feed.specs.Dialogue.{want_at}
@@ -47,9 +47,9 @@ at_wanted : (t : Talk) (k n : ℕ) (r : List ℕ) (o : Option ℕ) → IsLinked 
 at_wanted t k n r None linked = goes_on linked
 at_wanted t k n r (Some want) linked = at_number t k n want r (is_taken t.holes want n) linked
 
-at_bearer : (t : Talk) (n : ℕ) (r : List ℕ) (o : Option ℕ) → IsLinked t.stage → GoesOn (at_packet o n r t)
-at_bearer t n r None linked = at_end t endings.Foreign
-at_bearer t n r (Some k) linked = at_wanted t k n r (next_at t.wants k) linked
+at_place_of : (t : Talk) (n : ℕ) (r : List ℕ) (o : Option ℕ) → IsLinked t.stage → GoesOn (at_packet o n r t)
+at_place_of t n r None linked = at_end t endings.Foreign
+at_place_of t n r (Some k) linked = at_wanted t k n r (next_at t.wants k) linked
 
 at_whole : (t : Talk) (stage : Stage) (w : Whole) → t.stage ≡ stage → GoesOn (read_at stage t w)
 at_whole t (Station k) (Reply line) is = at_answer t k (requests_number k t) (answer_of line) (goes_on tt)
@@ -61,7 +61,7 @@ at_whole t (Number k) (Reply line) is =
 at_whole t (Number k) Garbage is = at_end t endings.Garbage
 at_whole t (Number k) (Packet n r) is = stays_quiet refl refl
 at_whole t (Number k) End is = stays_quiet refl refl
-at_whole t Packets (Packet n r) is = at_bearer t n r (bearer t.wants r) (subst IsLinked (sym is) tt)
+at_whole t Packets (Packet n r) is = at_place_of t n r (place_of t.wants r) (subst IsLinked (sym is) tt)
 at_whole t Packets End is = at_end t endings.End
 at_whole t Packets Garbage is = at_end t endings.Garbage
 at_whole t Packets (Reply line) is = stays_quiet refl refl
@@ -115,10 +115,10 @@ wanted_linked : (t : Talk) (k n : ℕ) (r : List ℕ) (o : Option ℕ) → t.sta
 wanted_linked t k n r None linked = linked
 wanted_linked t k n r (Some want) linked = number_linked t k n want r (is_taken t.holes want n) linked
 
-bearer_linked : (t : Talk) (n : ℕ) (r : List ℕ) (o : Option ℕ) → t.stage ≢ Unlinked
+place_linked : (t : Talk) (n : ℕ) (r : List ℕ) (o : Option ℕ) → t.stage ≢ Unlinked
     → (at_packet o n r t).0.stage ≢ Unlinked
-bearer_linked t n r None linked = λ e. cc e
-bearer_linked t n r (Some k) linked = wanted_linked t k n r (next_at t.wants k) linked
+place_linked t n r None linked = λ e. cc e
+place_linked t n r (Some k) linked = wanted_linked t k n r (next_at t.wants k) linked
 
 whole_linked : (t : Talk) (stage : Stage) (w : Whole) → t.stage ≢ Unlinked → (read_at stage t w).0.stage ≢ Unlinked
 whole_linked t (Station k) (Reply line) on = answers_linked t k (requests_number k t) (answer_of line) (λ e. cc e)
@@ -130,7 +130,7 @@ whole_linked t (Number k) (Reply line) on =
 whole_linked t (Number k) Garbage on = λ e. cc e
 whole_linked t (Number k) (Packet n r) on = on
 whole_linked t (Number k) End on = on
-whole_linked t Packets (Packet n r) on = bearer_linked t n r (bearer t.wants r) on
+whole_linked t Packets (Packet n r) on = place_linked t n r (place_of t.wants r) on
 whole_linked t Packets End on = λ e. cc e
 whole_linked t Packets Garbage on = λ e. cc e
 whole_linked t Packets (Reply line) on = on

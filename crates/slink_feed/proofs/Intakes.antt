@@ -5,7 +5,7 @@ use Rattle.std.proofs.lemmas.Option.{slice_get-map}
 use Rattle.slink_wire.specs.Place.{Bears, Fields}
 use Rattle.slink_wire.proofs.Bearing.{bears_fails, bears_passes}
 use Rattle.slink_feed.specs.Intake.{IsOfFeed, is_of, places_of, pushed}
-use Rattle.slink_feed.specs.Rings.{BearsNone, IsBearer}
+use Rattle.slink_feed.specs.Rings.{IsOfNoPlace, IsPlaceOf}
 use Rattle.slink_feed.specs.Window.{Window, with_record}
 use Rattle.slink_feed.proofs.Items.{within_is}
 
@@ -49,18 +49,18 @@ window_of (v ∷ ws) (suc k) p h = window_of ws k p h
 
 -- a record of 512 bytes is of the feed where a ring is of its place
 pub of_feed : (feed : List Window) (bytes whole : List ℕ) (k : ℕ) → length bytes ≡ 512 → whole ≡ bytes
-    → IsBearer feed whole k → IsOfFeed (places_of feed) bytes
+    → IsPlaceOf feed whole k → IsOfFeed (places_of feed) bytes
 of_feed feed bytes whole k size same b =
     let at : (w : Window) × (slice_get feed k ≡ Some w) = within_is feed k b.within in
     (size, k, at.0.place, place_at feed k at.0 at.1, subst (λ r. Bears r at.0.place) same (b.bears at.0 at.1))
 
-pub not_of_feed : (feed : List Window) (bytes whole : List ℕ) → whole ≡ bytes → BearsNone feed whole
+pub not_of_feed : (feed : List Window) (bytes whole : List ℕ) → whole ≡ bytes → IsOfNoPlace feed whole
     → ¬ (IsOfFeed (places_of feed) bytes)
 not_of_feed feed bytes whole same none of =
     let at : (w : Window) × (slice_get feed of.1 ≡ Some w) × (w.place ≡ of.2) = window_of feed of.1 of.2 of.3 in
     none of.1 at.0 at.1 (subst (Bears whole) (sym at.2) (subst (λ r. Bears r of.2) (sym same) of.4))
 
-pub pushed_is : (feed new : List Window) (bytes whole : List ℕ) (k : ℕ) → whole ≡ bytes → IsBearer feed whole k
+pub pushed_is : (feed new : List Window) (bytes whole : List ℕ) (k : ℕ) → whole ≡ bytes → IsPlaceOf feed whole k
     → ((w : Window) → slice_get feed k ≡ Some w → new ≡ set feed k (with_record w whole)) → new ≡ pushed feed bytes
 pushed_is feed new bytes whole k same b done =
     let at : (w : Window) × (slice_get feed k ≡ Some w) = within_is feed k b.within in

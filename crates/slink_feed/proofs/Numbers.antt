@@ -16,9 +16,9 @@ use Rattle.slink_feed.specs.declared.dialogue.Event.{Event}
 use Rattle.slink_feed.specs.declared.dialogue.Stage.{Stage}
 use Rattle.slink_feed.specs.declared.dialogue.Stage.TheVariants.{Unlinked, Station, Number, Packets, Ended}
 use Rattle.slink_feed.specs.declared.dialogue.Wanted.{Wanted}
-use Rattle.slink_feed.specs.Dialogue.{Talk, Wants, Whole, Reply, Packet, End, Garbage, answer_of, at_packet, bearer}
+use Rattle.slink_feed.specs.Dialogue.{Talk, Wants, Whole, Reply, Packet, End, Garbage, answer_of, at_packet, place_of}
 use Rattle.slink_feed.specs.Dialogue.{ahead_of, is_ahead, is_taken}
-use Rattle.slink_feed.specs.Dialogue.{ended, read_at, if_wanted, is_borne, next_at, next_set, sends_line, requests_number}
+use Rattle.slink_feed.specs.Dialogue.{ended, read_at, if_wanted, is_of_wanted, next_at, next_set, sends_line, requests_number}
 use Rattle.slink_feed.specs.Dialogue.{requests_place, to_answer, to_place, reported, want_at, with_next}
 use Rattle.slink_feed.specs.Holding.{AreRising, GoBy, IsNext, Rise, Turn, connects, brings, numbers_in, numbers_of}
 use Rattle.slink_feed.specs.Holding.{talk_after, turned}
@@ -130,34 +130,34 @@ moved_wanted k j n bytes t w (Some want) at is =
     moved_if k j n bytes t w (is_taken t.holes want n) want at is (taken_next t.holes want n)
 
 -- the first place that a record carries is one of the places
-borne_some : (bytes : List ℕ) (o : Option Wanted) → is_borne bytes o ≡ true → (w : Wanted) × (o ≡ Some w)
-borne_some bytes None h = absurd (let bad : false ≡ true = h in cc bad)
-borne_some bytes (Some w) h = (w, refl)
+matched_some : (bytes : List ℕ) (o : Option Wanted) → is_of_wanted bytes o ≡ true → (w : Wanted) × (o ≡ Some w)
+matched_some bytes None h = absurd (let bad : false ≡ true = h in cc bad)
+matched_some bytes (Some w) h = (w, refl)
 
 pub get_want : (wants : Wants) (k : ℕ) → get_or wants k None ≡ want_at wants k
 get_want [] k = refl
 get_want (x ∷ xs) zero = refl
 get_want (x ∷ xs) (suc k) = get_want xs k
 
-pub bearer_some : (wants : Wants) (bytes : List ℕ) (j : ℕ) → bearer wants bytes ≡ Some j
+pub place_some : (wants : Wants) (bytes : List ℕ) (j : ℕ) → place_of wants bytes ≡ Some j
     → (w : Wanted) × (want_at wants j ≡ Some w)
-bearer_some wants bytes j h =
-    let first : ℕ = position_or_len (is_borne bytes) wants in
+place_some wants bytes j h =
+    let first : ℕ = position_or_len (is_of_wanted bytes) wants in
     elim (leb_tells (suc first) (length wants)) [
       | inl lt ↦ let at : Some first ≡ Some j = sym (ap (λ b. if b then Some first else None) lt.0) ∙ h in
           let same : first ≡ j = cc at in
-          let passes : is_borne bytes (get_or wants first None) ≡ true =
-          passes_at_first (is_borne bytes) wants None (omega (arith, lt.1)) in
-          borne_some bytes (want_at wants j)
-          (ap (is_borne bytes) (sym (ap (λ i. get_or wants i None) same ∙ get_want wants j)) ∙ passes)
+          let passes : is_of_wanted bytes (get_or wants first None) ≡ true =
+          passes_at_first (is_of_wanted bytes) wants None (omega (arith, lt.1)) in
+          matched_some bytes (want_at wants j)
+          (ap (is_of_wanted bytes) (sym (ap (λ i. get_or wants i None) same ∙ get_want wants j)) ∙ passes)
       | inr ge ↦ absurd (let bad : None ≡ Some j = sym (ap (λ b. if b then Some first else None) ge.0) ∙ h in cc bad)
     ]
 
-moved_packet : (k n : ℕ) (bytes : List ℕ) (t : Talk) (o : Option ℕ) → bearer t.wants bytes ≡ o
+moved_packet : (k n : ℕ) (bytes : List ℕ) (t : Talk) (o : Option ℕ) → place_of t.wants bytes ≡ o
     → Moved k t (at_packet o n bytes t)
 moved_packet k n bytes t None is = moved_end k t endings.Foreign
 moved_packet k n bytes t (Some j) is = let some : (w : Wanted) × (want_at t.wants j ≡ Some w) =
-    bearer_some t.wants bytes j is in moved_wanted k j n bytes t some.0 (next_at t.wants j) some.1 refl
+    place_some t.wants bytes j is in moved_wanted k j n bytes t some.0 (next_at t.wants j) some.1 refl
 
 moved_read : (k : ℕ) (t : Talk) (stage : Stage) (w : Whole) → Moved k t (read_at stage t w)
 moved_read k t (Station j) (Reply line) = moved_answer k j t (requests_number j t) (answer_of line) (stays refl refl)
@@ -169,7 +169,7 @@ moved_read k t (Number j) (Reply line) =
 moved_read k t (Number j) Garbage = moved_end k t endings.Garbage
 moved_read k t (Number j) (Packet n r) = stays refl refl
 moved_read k t (Number j) End = stays refl refl
-moved_read k t Packets (Packet n bytes) = moved_packet k n bytes t (bearer t.wants bytes) refl
+moved_read k t Packets (Packet n bytes) = moved_packet k n bytes t (place_of t.wants bytes) refl
 moved_read k t Packets End = moved_end k t endings.End
 moved_read k t Packets Garbage = moved_end k t endings.Garbage
 moved_read k t Packets (Reply line) = stays refl refl
@@ -223,7 +223,7 @@ kept_read t (Number j) (Reply line) =
 kept_read t (Number j) Garbage = refl
 kept_read t (Number j) (Packet n r) = refl
 kept_read t (Number j) End = refl
-kept_read t Packets (Packet n bytes) = kept_packet n bytes t (bearer t.wants bytes)
+kept_read t Packets (Packet n bytes) = kept_packet n bytes t (place_of t.wants bytes)
 kept_read t Packets End = refl
 kept_read t Packets Garbage = refl
 kept_read t Packets (Reply line) = refl

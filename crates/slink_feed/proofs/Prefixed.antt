@@ -17,7 +17,7 @@ use Rattle.slink_feed.specs.declared.dialogue.Stage.{Stage}
 use Rattle.slink_feed.specs.declared.dialogue.Stage.TheVariants.{Packets}
 use Rattle.slink_feed.specs.Cutting.{IsBegun, IsWhole}
 use Rattle.slink_feed.specs.Delivered.{AreWanted, Numbered, all_packets, record_events}
-use Rattle.slink_feed.specs.Dialogue.{Talk, Whole, Packet, at_packet, bearer, ended, is_ahead, read, read_at, if_wanted}
+use Rattle.slink_feed.specs.Dialogue.{Talk, Whole, Packet, at_packet, place_of, ended, is_ahead, read, read_at, if_wanted}
 use Rattle.slink_feed.specs.Dialogue.{next_at, reported}
 use Rattle.slink_feed.specs.Listening.{AreBrought, Brought, Listening, Reads, bytes_of, events_of, talk_after, event_if_any}
 use Rattle.slink_feed.proofs.Received.{begun_none}
@@ -45,7 +45,7 @@ wanted_reported (Some want) k n bytes t is =
     ap (λ b. if b || (t.holes && is_ahead want n) then reported k n bytes t else ended (endings.Gap k want n) t)
     (same_here n want is)
 
-packet_read : (t : Talk) (r : Numbered) → t.stage ≡ Packets → bearer t.wants r.bytes ≡ Some r.place
+packet_read : (t : Talk) (r : Numbered) → t.stage ≡ Packets → place_of t.wants r.bytes ≡ Some r.place
     → IfSome (next_at t.wants r.place) (λ want. r.number ≡ want)
     → read t (Packet r.number r.bytes) ≡ reported r.place r.number r.bytes t
 packet_read t r at bears wanted =

@@ -12,7 +12,7 @@ use Rattle.slink_feed.specs.Holding.{GoBy}
 use Rattle.slink_feed.specs.Reporter.{Reporting, first_lines, hole_line, hole_lines, if_other, lines_of, reporting_of}
 use Rattle.slink_feed.specs.Reporter.{reporting_past}
 use Rattle.slink_feed.specs.Reported.{AreOf, HasReported, numbers_at}
-use Rattle.slink_feed.proofs.Numbers.{bearer_some, next_here, next_other}
+use Rattle.slink_feed.proofs.Numbers.{place_some, next_here, next_other}
 use Rattle.slink_feed.proofs.Reported.{of_same, places_next}
 
 -- no first record is to be reported
@@ -72,7 +72,7 @@ quiet_lines t last (r ∷ rs) quiet of go =
     let m : ℕ = (r.number + 1) % 2 ^ 24 in
     let past : Reporting = reporting_past t p r.number in
     let wants : Wants = with_next t.wants p m in
-    let some : (w : Wanted) × (want_at t.wants p ≡ Some w) = bearer_some t.wants r.bytes p of.1 in
+    let some : (w : Wanted) × (want_at t.wants p ≡ Some w) = place_some t.wants r.bytes p of.1 in
     let parts : IfSome (next_at t.wants p) (λ x. r.number ≡ x) × GoBy false (Some m) (numbers_at p rs) (last p) =
     go_parts (next_at t.wants p) r.number (numbers_at p rs) (last p)
     (go_here p r rs (next_at t.wants p) (last p) refl (go p)) in

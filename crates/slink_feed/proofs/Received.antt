@@ -12,7 +12,7 @@ use Rattle.slink_feed.specs.declared.dialogue.Stage.{Stage}
 use Rattle.slink_feed.specs.declared.dialogue.Stage.TheVariants.{Unlinked, Station, Number, Packets, Ended}
 use Rattle.slink_feed.specs.Cutting.{IsBegun, IsReply, IsWhole, IsWholePacket, IsWholeReply, nothing}
 use Rattle.slink_feed.specs.private.Parts.{IsPacketPart, IsReplyPart}
-use Rattle.slink_feed.specs.Dialogue.{Talk, Whole, Reply, Packet, End, Garbage, at_packet, bearer, ended, read}
+use Rattle.slink_feed.specs.Dialogue.{Talk, Whole, Reply, Packet, End, Garbage, at_packet, place_of, ended, read}
 use Rattle.slink_feed.specs.Dialogue.{read_at}
 use Rattle.slink_feed.specs.Listening.{AreBrought, AwaitsReply, Brings, Brought, IsLinked, Listening, Reads, begun}
 use Rattle.slink_feed.specs.Listening.{bytes_of}
@@ -78,7 +78,7 @@ packet_whole t bytes w at is = subst (λ (s : Stage). IsWhole s bytes w) (sym at
 
 pub packet_brings : (t d talk : Talk) (bytes slice kept : List ℕ) (part : Part) (x e : Event) → t.stage ≡ Packets
     → IsPacketPart bytes part → part ≡ parts.Whole → slice ≡ bytes
-    → ((n : ℕ) × (r : List ℕ) × IsPacket slice n r × (at_packet (bearer t.wants r) n r t ≡ (talk, e))) → d ≡ talk
+    → ((n : ℕ) × (r : List ℕ) × IsPacket slice n r × (at_packet (place_of t.wants r) n r t ≡ (talk, e))) → d ≡ talk
     → x ≡ e → kept ≡ []
     → Brings t bytes (record { talk = d; kept = kept }) x
 packet_brings t d talk bytes slice kept part x e at is whole_part same packet same_talk same_event none =
@@ -89,7 +89,7 @@ packet_brings t d talk bytes slice kept part x e at is whole_part same packet sa
 
 -- a packet at the start of bytes, whose record is wanted
 pub leading_brings : (t new : Talk) (bytes packet r : List ℕ) (n k : ℕ) → t.stage ≡ Packets → packet ≡ take 520 bytes
-    → 520 ≤ length bytes → IsPacket packet n r → at_packet (bearer t.wants r) n r t ≡ (new, events.Record k n r)
+    → 520 ≤ length bytes → IsPacket packet n r → at_packet (place_of t.wants r) n r t ≡ (new, events.Record k n r)
     → Brings t (take 520 bytes) (record { talk = new; kept = [] }) (events.Record k n r)
 leading_brings t new bytes packet r n k at same long is h =
     let w : Whole = Packet n r in

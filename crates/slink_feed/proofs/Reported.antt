@@ -17,21 +17,21 @@ use Rattle.slink_feed.specs.declared.dialogue.Stage.TheVariants.{Unlinked, Stati
 use Rattle.slink_feed.specs.declared.dialogue.Wanted.{Wanted}
 use Rattle.slink_feed.specs.Cutting.{IsWhole}
 use Rattle.slink_feed.specs.Delivered.{Numbered}
-use Rattle.slink_feed.specs.Dialogue.{Talk, Wants, Whole, Reply, Packet, End, Garbage, answer_of, at_packet, bearer}
+use Rattle.slink_feed.specs.Dialogue.{Talk, Wants, Whole, Reply, Packet, End, Garbage, answer_of, at_packet, place_of}
 use Rattle.slink_feed.specs.Dialogue.{is_taken}
-use Rattle.slink_feed.specs.Dialogue.{ended, read, read_at, if_wanted, is_borne, next_at, next_set, requests_number}
+use Rattle.slink_feed.specs.Dialogue.{ended, read, read_at, if_wanted, is_of_wanted, next_at, next_set, requests_number}
 use Rattle.slink_feed.specs.Dialogue.{requests_place, to_answer, to_place, reported, want_at}
 use Rattle.slink_feed.specs.Holding.{GoBy, GoOn, IsNext}
 use Rattle.slink_feed.specs.Listening.{AreBrought, Brought, Listening, Reads, events_of, talk_after, event_if_any}
 use Rattle.slink_feed.specs.Reported.{AreOf, HasReported, bytes_in, numbers_at, places_of, record_in, records_reported}
-use Rattle.slink_feed.proofs.Numbers.{Moved, moves, stays, bearer_some, get_want, go_on_more, kept_read, moved_reported}
+use Rattle.slink_feed.proofs.Numbers.{Moved, moves, stays, place_some, get_want, go_on_more, kept_read, moved_reported}
 use Rattle.slink_feed.proofs.Numbers.{taken_next}
 
 -- what comes of a whole: nothing is reported; or a record, of the place that it carries and of the number that this
 -- wants
 pub data Comes (t : Talk) (x : Talk × Event) : Type 0 where
   nothing : records_reported (event_if_any x.1) ≡ [] → x.0.wants ≡ t.wants → Comes t x
-  a_record : (k n : ℕ) (bytes : List ℕ) → length bytes ≡ 512 → bearer t.wants bytes ≡ Some k
+  a_record : (k n : ℕ) (bytes : List ℕ) → length bytes ≡ 512 → place_of t.wants bytes ≡ Some k
       → IfSome (next_at t.wants k) (λ want. IsNext t.holes want n)
       → x ≡ reported k n bytes t → Comes t x
 
@@ -53,20 +53,20 @@ comes_answer k t next Refusal comes = comes_end t (endings.Refused k)
 comes_answer k t next Neither comes = comes_end t endings.Garbage
 
 comes_if : (k n : ℕ) (bytes : List ℕ) (t : Talk) (b : Bool) (want : ℕ) → length bytes ≡ 512
-    → bearer t.wants bytes ≡ Some k → next_at t.wants k ≡ Some want → (b ≡ true → IsNext t.holes want n)
+    → place_of t.wants bytes ≡ Some k → next_at t.wants k ≡ Some want → (b ≡ true → IsNext t.holes want n)
     → Comes t (if b then reported k n bytes t else ended (endings.Gap k want n) t)
 comes_if k n bytes t true want long bears is same =
     a_record k n bytes long bears (subst (λ o. IfSome o (λ x. IsNext t.holes x n)) (sym is) (same refl)) refl
 comes_if k n bytes t false want long bears is same = comes_end t (endings.Gap k want n)
 
 comes_wanted : (k n : ℕ) (bytes : List ℕ) (t : Talk) (o : Option ℕ) → length bytes ≡ 512
-    → bearer t.wants bytes ≡ Some k → next_at t.wants k ≡ o → Comes t (if_wanted o k n bytes t)
+    → place_of t.wants bytes ≡ Some k → next_at t.wants k ≡ o → Comes t (if_wanted o k n bytes t)
 comes_wanted k n bytes t None long bears is =
     a_record k n bytes long bears (subst (λ o. IfSome o (λ x. IsNext t.holes x n)) (sym is) tt) refl
 comes_wanted k n bytes t (Some want) long bears is =
     comes_if k n bytes t (is_taken t.holes want n) want long bears is (taken_next t.holes want n)
 
-comes_packet : (n : ℕ) (bytes : List ℕ) (t : Talk) (o : Option ℕ) → length bytes ≡ 512 → bearer t.wants bytes ≡ o
+comes_packet : (n : ℕ) (bytes : List ℕ) (t : Talk) (o : Option ℕ) → length bytes ≡ 512 → place_of t.wants bytes ≡ o
     → Comes t (at_packet o n bytes t)
 comes_packet n bytes t None long bears = comes_end t endings.Foreign
 comes_packet n bytes t (Some k) long bears = comes_wanted k n bytes t (next_at t.wants k) long bears refl
@@ -88,7 +88,7 @@ comes_read t (Number j) bytes Garbage is = comes_end t endings.Garbage
 comes_read t (Number j) bytes (Packet n r) is = absurd is
 comes_read t (Number j) bytes End is = absurd is
 comes_read t Packets bytes (Packet n r) is =
-    comes_packet n r t (bearer t.wants r) (record_long bytes r is.0.2 is.1) refl
+    comes_packet n r t (place_of t.wants r) (record_long bytes r is.0.2 is.1) refl
 comes_read t Packets bytes End is = comes_end t endings.End
 comes_read t Packets bytes Garbage is = comes_end t endings.Garbage
 comes_read t Packets bytes (Reply line) is = absurd is
@@ -103,33 +103,33 @@ is_place bytes (Some p) = bytes_eq (slice_range bytes 8 13) p.station && bytes_e
 abbrev place_of : Option Wanted → Option Fields
 place_of o = option_map (λ (w : Wanted). w.place) o
 
-borne_place : (bytes : List ℕ) (o : Option Wanted) → is_borne bytes o ≡ is_place bytes (place_of o)
-borne_place bytes None = refl
-borne_place bytes (Some w) = refl
+matched_there : (bytes : List ℕ) (o : Option Wanted) → is_of_wanted bytes o ≡ is_place bytes (place_of o)
+matched_there bytes None = refl
+matched_there bytes (Some w) = refl
 
 first_place : (bytes : List ℕ) (wants : Wants)
-    → position_or_len (is_borne bytes) wants ≡ position_or_len (is_place bytes) (map place_of wants)
+    → position_or_len (is_of_wanted bytes) wants ≡ position_or_len (is_place bytes) (map place_of wants)
 first_place bytes [] = refl
 first_place bytes (o ∷ wants) =
-    ap (λ b. cond (not b) (1 + position_or_len (is_borne bytes) wants) 0) (borne_place bytes o)
+    ap (λ b. cond (not b) (1 + position_or_len (is_of_wanted bytes) wants) 0) (matched_there bytes o)
     ∙ ap (λ n. cond (not (is_place bytes (place_of o))) (1 + n) 0) (first_place bytes wants)
 
-bearer_place : (wants : Wants) (bytes : List ℕ) → bearer wants bytes ≡ position (is_place bytes) (places_of wants)
-bearer_place wants bytes =
+place_there : (wants : Wants) (bytes : List ℕ) → place_of wants bytes ≡ position (is_place bytes) (places_of wants)
+place_there wants bytes =
     ap (λ m. cond (nat_lt m (length wants)) (Some m) None) (first_place bytes wants)
     ∙ ap (λ l. cond (nat_lt (position_or_len (is_place bytes) (map place_of wants)) l)
     (Some (position_or_len (is_place bytes) (map place_of wants))) None) (sym (length-map wants place_of))
 
 -- The same places carry the same records.
-bearer_same : (old new : Wants) (bytes : List ℕ) → places_of new ≡ places_of old → bearer new bytes ≡ bearer old bytes
-bearer_same old new bytes same = bearer_place new bytes
-    ∙ (ap (position (is_place bytes)) same ∙ sym (bearer_place old bytes))
+place_same : (old new : Wants) (bytes : List ℕ) → places_of new ≡ places_of old → place_of new bytes ≡ place_of old bytes
+place_same old new bytes same = place_there new bytes
+    ∙ (ap (position (is_place bytes)) same ∙ sym (place_there old bytes))
 
 pub of_same : (old new : Wants) (records : List Numbered) → places_of new ≡ places_of old → AreOf new records
     → AreOf old records
 of_same old new [] same are = tt
 of_same old new (r ∷ rs) same are =
-    (are.0, sym (bearer_same old new r.bytes same) ∙ are.1, of_same old new rs same are.2)
+    (are.0, sym (place_same old new r.bytes same) ∙ are.1, of_same old new rs same are.2)
 
 of_both : (wants : Wants) (some more : List Numbered) → AreOf wants some → AreOf wants more → AreOf wants (some ++ more)
 of_both wants [] more are too = too
@@ -183,11 +183,11 @@ go_one j k n bytes t moved =
           (sym (append-nil here ∙ one)) (go_on_more t.holes (next_at t.wants j) last m [] wanted next)
     ]
 
-reported_record : (k n : ℕ) (bytes : List ℕ) (t : Talk) → length bytes ≡ 512 → bearer t.wants bytes ≡ Some k
+reported_record : (k n : ℕ) (bytes : List ℕ) (t : Talk) → length bytes ≡ 512 → place_of t.wants bytes ≡ Some k
     → IfSome (next_at t.wants k) (λ want. IsNext t.holes want n)
     → HasReported t.holes t.wants (reported k n bytes t).0.wants (record { place = k; number = n; bytes = bytes } ∷ [])
 reported_record k n bytes t long bears wanted =
-    let some : (w : Wanted) × (want_at t.wants k ≡ Some w) = bearer_some t.wants bytes k bears in record {
+    let some : (w : Wanted) × (want_at t.wants k ≡ Some w) = place_some t.wants bytes k bears in record {
       places = places_next t.wants k ((n + 1) % 2 ^ 24) (want_at t.wants k) refl;
       are_of = (long, bears, tt);
       go_on = λ j. go_one j k n bytes t (moved_reported j k n bytes t some.0 some.1 wanted);

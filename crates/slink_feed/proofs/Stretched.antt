@@ -5,10 +5,10 @@ use Rattle.std.specs.List.{position_or_len}
 use Rattle.std.proofs.lemmas.List.{length-set}
 use Rattle.slink_wire.specs.Packet.{packet_bytes}
 use Rattle.slink_feed.specs.declared.dialogue.Wanted.{Wanted}
-use Rattle.slink_feed.specs.Delivered.{AreBorne, AreWanted, all_packets, joined, numbered}
-use Rattle.slink_feed.specs.Dialogue.{Talk, Wants, bearer, is_borne, next_at, next_set, reported, want_at, with_next}
+use Rattle.slink_feed.specs.Delivered.{AreOfPlace, AreWanted, all_packets, joined, numbered}
+use Rattle.slink_feed.specs.Dialogue.{Talk, Wants, place_of, is_of_wanted, next_at, next_set, reported, want_at, with_next}
 use Rattle.slink_feed.specs.Sending.{packets_from}
-use Rattle.slink_feed.proofs.Numbers.{bearer_some, next_here}
+use Rattle.slink_feed.proofs.Numbers.{place_some, next_here}
 
 -- a place that wants another number is still the same place
 first_same : (p : Option Wanted → Bool) (wants : Wants) (k : ℕ) (w : Wanted) (o : Option Wanted)
@@ -17,28 +17,28 @@ first_same p [] k w o at same = refl
 first_same p (x ∷ xs) zero w o at same = ap (λ t. cond (not t) (1 + position_or_len p xs) 0) (same ∙ ap p (sym at))
 first_same p (x ∷ xs) (suc k) w o at same = ap (λ n. cond (not (p x)) (1 + n) 0) (first_same p xs k w o at same)
 
-bearer_set : (wants : Wants) (k n : ℕ) (bytes : List ℕ) (o : Option Wanted) → want_at wants k ≡ o
-    → bearer (next_set o wants k n) bytes ≡ bearer wants bytes
-bearer_set wants k n bytes None at = refl
-bearer_set wants k n bytes (Some w) at =
+place_set : (wants : Wants) (k n : ℕ) (bytes : List ℕ) (o : Option Wanted) → want_at wants k ≡ o
+    → place_of (next_set o wants k n) bytes ≡ place_of wants bytes
+place_set wants k n bytes None at = refl
+place_set wants k n bytes (Some w) at =
     let o : Option Wanted = Some (record { place = w.place; next = Some n }) in
-    let first : position_or_len (is_borne bytes) (set wants k o) ≡ position_or_len (is_borne bytes) wants =
-    first_same (is_borne bytes) wants k w o at refl in
+    let first : position_or_len (is_of_wanted bytes) (set wants k o) ≡ position_or_len (is_of_wanted bytes) wants =
+    first_same (is_of_wanted bytes) wants k w o at refl in
     ap (λ m. cond (nat_lt m (length (set wants k o))) (Some m) None) first
-    ∙ ap (λ l. cond (nat_lt (position_or_len (is_borne bytes) wants) l) (Some (position_or_len (is_borne bytes) wants))
+    ∙ ap (λ l. cond (nat_lt (position_or_len (is_of_wanted bytes) wants) l) (Some (position_or_len (is_of_wanted bytes) wants))
     None) (length-set wants k o)
 
-borne_set : (wants : Wants) (k n : ℕ) (rs : List (List ℕ)) → AreBorne wants k rs → AreBorne (with_next wants k n) k rs
-borne_set wants k n [] are = tt
-borne_set wants k n (r ∷ rs) are =
-    (are.0, bearer_set wants k n r (want_at wants k) refl ∙ are.1, borne_set wants k n rs are.2)
+matched_set : (wants : Wants) (k n : ℕ) (rs : List (List ℕ)) → AreOfPlace wants k rs → AreOfPlace (with_next wants k n) k rs
+matched_set wants k n [] are = tt
+matched_set wants k n (r ∷ rs) are =
+    (are.0, place_set wants k n r (want_at wants k) refl ∙ are.1, matched_set wants k n rs are.2)
 
-pub stretch_wanted : (k g : ℕ) (rs : List (List ℕ)) (t : Talk) → AreBorne t.wants k rs
+pub stretch_wanted : (k g : ℕ) (rs : List (List ℕ)) (t : Talk) → AreOfPlace t.wants k rs
     → IfSome (next_at t.wants k) (λ want. g % 2 ^ 24 ≡ want) → AreWanted t (numbered k g rs)
 stretch_wanted k g [] t are wanted = tt
 stretch_wanted k g (r ∷ rs) t are wanted =
     let n : ℕ = (g % 2 ^ 24 + 1) % 2 ^ 24 in
-    let some : (w : Wanted) × (want_at t.wants k ≡ Some w) = bearer_some t.wants r k are.1 in
+    let some : (w : Wanted) × (want_at t.wants k ≡ Some w) = place_some t.wants r k are.1 in
     let next : next_at (with_next t.wants k n) k ≡ Some n =
     next_here t.wants k n (want_at t.wants k) some.0 refl some.1 in
     let same : (g + 1) % 2 ^ 24 ≡ n = omega arith in (
@@ -46,7 +46,7 @@ stretch_wanted k g (r ∷ rs) t are wanted =
       omega arith,
       are.1,
       wanted,
-      stretch_wanted k (g + 1) rs (reported k (g % 2 ^ 24) r t).0 (borne_set t.wants k n rs are.2)
+      stretch_wanted k (g + 1) rs (reported k (g % 2 ^ 24) r t).0 (matched_set t.wants k n rs are.2)
           (subst (λ o. IfSome o (λ want. (g + 1) % 2 ^ 24 ≡ want)) (sym next) same),
     )
 

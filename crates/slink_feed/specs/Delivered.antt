@@ -3,7 +3,7 @@ use Rattle.std.specs.Prelude.{◌≡◌, ℕ, ◌+◌, ◌%◌, ◌^◌, ◌<◌
 use Rattle.slink_wire.specs.Packet.{packet_bytes}
 use Rattle.slink_feed.specs.declared.dialogue.Event.{Event}
 use Rattle.slink_feed.specs.declared.dialogue.Event.TheVariants as events
-use Rattle.slink_feed.specs.Dialogue.{Talk, Wants, bearer, next_at, reported}
+use Rattle.slink_feed.specs.Dialogue.{Talk, Wants, place_of, next_at, reported}
 
 -- a record of the place at an index, with its number modulo 2^24
 pub record Numbered : Type 0 where
@@ -14,7 +14,7 @@ pub record Numbered : Type 0 where
 -- Each is a record of the place that it carries, and of the number that this place then wants, if it wants one.
 abbrev pub AreWanted : Talk → List Numbered → Type 0
 AreWanted t [] = Unit {0}
-AreWanted t (r ∷ rs) = (length r.bytes ≡ 512) × (r.number < 2 ^ 24) × (bearer t.wants r.bytes ≡ Some r.place)
+AreWanted t (r ∷ rs) = (length r.bytes ≡ 512) × (r.number < 2 ^ 24) × (place_of t.wants r.bytes ≡ Some r.place)
     × IfSome (next_at t.wants r.place) (λ want. r.number ≡ want)
     × AreWanted (reported r.place r.number r.bytes t).0 rs
 
@@ -34,9 +34,9 @@ numbered k number [] = []
 numbered k number (r ∷ rs) = record { place = k; number = number % 2 ^ 24; bytes = r } ∷ numbered k (number + 1) rs
 
 -- Each has 512 bytes, and carries this place as the first of those that are requested.
-abbrev pub AreBorne : Wants → ℕ → List (List ℕ) → Type 0
-AreBorne wants k [] = Unit {0}
-AreBorne wants k (r ∷ rs) = (length r ≡ 512) × (bearer wants r ≡ Some k) × AreBorne wants k rs
+abbrev pub AreOfPlace : Wants → ℕ → List (List ℕ) → Type 0
+AreOfPlace wants k [] = Unit {0}
+AreOfPlace wants k (r ∷ rs) = (length r ≡ 512) × (place_of wants r ≡ Some k) × AreOfPlace wants k rs
 
 -- packets, one after another
 abbrev pub joined : List (List ℕ) → List ℕ

@@ -106,14 +106,14 @@ to_answer Refusal k next t = ended (endings.Refused k) t
 to_answer Neither k next t = ended endings.Garbage t
 
 -- whether a record's header has the station and network of a place
-abbrev pub is_borne : List ℕ → Option Wanted → Bool
-is_borne bytes None = false
-is_borne bytes (Some w) = bytes_eq (slice_range bytes 8 13) w.place.station
+abbrev pub is_of_wanted : List ℕ → Option Wanted → Bool
+is_of_wanted bytes None = false
+is_of_wanted bytes (Some w) = bytes_eq (slice_range bytes 8 13) w.place.station
     && bytes_eq (slice_range bytes 18 20) w.place.network
 
 -- the first place that a record carries
-abbrev pub bearer : Wants → List ℕ → Option ℕ
-bearer wants bytes = position (is_borne bytes) wants
+abbrev pub place_of : Wants → List ℕ → Option ℕ
+place_of wants bytes = position (is_of_wanted bytes) wants
 
 -- A record is reported, and the next number is wanted of its place.
 abbrev pub next_set : Option Wanted → Wants → ℕ → ℕ → Wants
@@ -159,7 +159,7 @@ read_at (Station k) t (Reply line) = to_answer (answer_of line) k (requests_numb
 read_at (Station k) t Garbage = ended endings.Garbage t
 read_at (Number k) t (Reply line) = to_answer (answer_of line) k (requests_place (k + 1) t) t
 read_at (Number k) t Garbage = ended endings.Garbage t
-read_at Packets t (Packet number bytes) = at_packet (bearer t.wants bytes) number bytes t
+read_at Packets t (Packet number bytes) = at_packet (place_of t.wants bytes) number bytes t
 read_at Packets t End = ended endings.End t
 read_at Packets t Garbage = ended endings.Garbage t
 read_at stage t whole = (t, events.None)

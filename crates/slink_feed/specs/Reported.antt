@@ -5,7 +5,7 @@ use Rattle.slink_wire.specs.Place.{Fields}
 use Rattle.slink_feed.specs.declared.dialogue.Event.{Event}
 use Rattle.slink_feed.specs.declared.dialogue.Event.TheVariants as events
 use Rattle.slink_feed.specs.Delivered.{Numbered}
-use Rattle.slink_feed.specs.Dialogue.{Wants, bearer, next_at}
+use Rattle.slink_feed.specs.Dialogue.{Wants, place_of, next_at}
 use Rattle.slink_feed.specs.Holding.{GoBy}
 
 -- the record that an event reports, where it is one
@@ -37,7 +37,7 @@ bytes_in (r ∷ rs) = r.bytes ++ bytes_in rs
 -- Each has 512 bytes, and carries its place as the first of those that are requested.
 abbrev pub AreOf : Wants → List Numbered → Type 0
 AreOf wants [] = Unit {0}
-AreOf wants (r ∷ rs) = (length r.bytes ≡ 512) × (bearer wants r.bytes ≡ Some r.place) × AreOf wants rs
+AreOf wants (r ∷ rs) = (length r.bytes ≡ 512) × (place_of wants r.bytes ≡ Some r.place) × AreOf wants rs
 
 -- the places that are requested
 abbrev pub places_of : Wants → List (Option Fields)

@@ -20,14 +20,14 @@ abbrev pub station_at : List Window → List ℕ → Option (List ℕ) → Optio
 station_at feed sta net = position_from (λ w. matches w.place sta net) 0 feed
 
 -- the first ring whose place a record carries
-pub record IsBearer (feed : List Window) (bytes : List ℕ) (k : ℕ) : Type 0 where
+pub record IsPlaceOf (feed : List Window) (bytes : List ℕ) (k : ℕ) : Type 0 where
   pub within : k < length feed
   pub bears : ForSome (slice_get feed k) (λ w. Bears bytes w.place)
   pub first : (j : ℕ) (w : Window) → j < k → slice_get feed j ≡ Some w → ¬ (Bears bytes w.place)
 
 -- A record carries the place of no ring.
-abbrev pub BearsNone : List Window → List ℕ → Type 0
-BearsNone feed bytes = (k : ℕ) (w : Window) → slice_get feed k ≡ Some w → ¬ (Bears bytes w.place)
+abbrev pub IsOfNoPlace : List Window → List ℕ → Type 0
+IsOfNoPlace feed bytes = (k : ℕ) (w : Window) → slice_get feed k ≡ Some w → ¬ (Bears bytes w.place)
 
 module _ {X : Type 0} where
   -- what stands in slots

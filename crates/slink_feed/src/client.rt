@@ -8,7 +8,7 @@ ghost use Rattle.slink_feed.specs.Cutting.{IsReply};
 ghost use Rattle.slink_feed.specs.private.Parts.{IsPacketPart, IsReplyPart};
 ghost use Rattle.slink_feed.specs.declared.dialogue.Ending.{Ending};
 ghost use Rattle.slink_feed.specs.declared.dialogue.Event.{Event};
-ghost use Rattle.slink_feed.specs.Dialogue.{Talk, at_packet, bearer, event_of, next_at, requests_place};
+ghost use Rattle.slink_feed.specs.Dialogue.{Talk, at_packet, place_of, event_of, next_at, requests_place};
 ghost use Rattle.slink_feed.specs.Fetching.{turn_at};
 ghost use Rattle.slink_feed.specs.Listening.{AwaitsReply, Brings, IsLinked, Reads, new_client, event_if_any};
 
@@ -269,7 +269,7 @@ fn read_leading<'a>(dialogue: &mut Dialogue, bytes: &'a [u8]) -> Option<(usize, 
 fn read_packet(dialogue: &mut Dialogue, bytes: &[u8]) -> Event
     requires { (n : ℕ) × HasHead bytes.now n × (length bytes.now ≡ 520) }
     ensures read { (n : ℕ) × (r : List ℕ) × IsPacket bytes.now n r
-        × (at_packet (bearer dialogue.old.wants r) n r dialogue.old ≡ (dialogue.new, result)) }
+        × (at_packet (place_of dialogue.old.wants r) n r dialogue.old ≡ (dialogue.new, result)) }
     ensures reported { result ≢ Event.None }
 {
     let Some(packet) = bytes.first_chunk() else {

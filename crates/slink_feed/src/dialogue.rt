@@ -2,9 +2,9 @@
 ghost use Rattle.std.specs.Prelude.{◌≡◌, ◌≢◌, ◌+◌, ◌%◌, ◌^◌, ◌<◌, ◌≤◌, IfNone, IfSome, length};
 ghost use Rattle.slink_wire.specs.Request.{IsSpelled};
 ghost use Rattle.slink_wire.specs.Place.{AreNumbers};
-ghost use Rattle.slink_feed.specs.Dialogue.{IsStage, Reply, answer_of, at_packet, bearer, ended, event_of};
+ghost use Rattle.slink_feed.specs.Dialogue.{IsStage, Reply, answer_of, at_packet, place_of, ended, event_of};
 ghost use Rattle.slink_feed.specs.Dialogue.{is_ahead, is_taken};
-ghost use Rattle.slink_feed.specs.Dialogue.{read, if_wanted, is_borne, next_at, sends_line, requests_number, requests_place};
+ghost use Rattle.slink_feed.specs.Dialogue.{read, if_wanted, is_of_wanted, next_at, sends_line, requests_number, requests_place};
 ghost use Rattle.slink_feed.specs.Dialogue.{to_answer, want_at, wants_of, with_next};
 ghost use Rattle.slink_feed.specs.Listening.{AwaitsReply};
 
@@ -150,8 +150,8 @@ impl Model for Dialogue {
 }
 
 /// Whether a record's header has the station and network of a place that is wanted.
-fn is_borne(bytes: &[u8; 512], want: &Option<Wanted>) -> bool
-    ensures { result ≡ is_borne bytes.now want.now }
+fn is_of_wanted(bytes: &[u8; 512], want: &Option<Wanted>) -> bool
+    ensures { result ≡ is_of_wanted bytes.now want.now }
 {
     match want {
         Some(wanted) => wanted.place.bears(bytes),
@@ -313,10 +313,10 @@ impl Dialogue {
     /// Takes a packet, by its number modulo 2^24 and its record, and returns the event that it makes.
     pub(crate) fn read_packet(&mut self, number: u32, bytes: &[u8; 512]) -> Event
         requires { number < 2 ^ 24 }
-        ensures read { at_packet (bearer self.old.wants bytes.now) number bytes.now self.old ≡ (self.new, result) }
+        ensures read { at_packet (place_of self.old.wants bytes.now) number bytes.now self.old ≡ (self.new, result) }
         ensures reported { result ≢ Event.None }
     {
-        match self.bearer(bytes) {
+        match self.place_of(bytes) {
             Some(k) => self.read_record(k, number, bytes),
             None => self.end(Ending::Foreign),
         }
@@ -345,11 +345,11 @@ impl Dialogue {
     /// Takes a packet whose record is wanted, and returns the index of its place. Another packet changes nothing.
     pub(crate) fn read_wanted(&mut self, number: u32, bytes: &[u8; 512]) -> Option<usize>
         requires { number < 2 ^ 24 }
-        ensures read { IfSome result (λ k. at_packet (bearer self.old.wants bytes.now) number bytes.now self.old
+        ensures read { IfSome result (λ k. at_packet (place_of self.old.wants bytes.now) number bytes.now self.old
             ≡ (self.new, Event.Record k number bytes.now)) }
         ensures unread { IfNone result (self.new ≡ self.old) }
     {
-        let k = match self.bearer(bytes) {
+        let k = match self.place_of(bytes) {
             Some(k) => k,
             None => return None,
         };
@@ -395,11 +395,11 @@ impl Dialogue {
     }
 
     /// The index of the first place whose station and network a record's header has.
-    fn bearer(&self, bytes: &[u8; 512]) -> Option<usize>
-        ensures value { result ≡ bearer self.now.wants bytes.now }
+    fn place_of(&self, bytes: &[u8; 512]) -> Option<usize>
+        ensures value { result ≡ place_of self.now.wants bytes.now }
         ensures most { IfSome result (λ k. k < 16) }
     {
-        self.wants.iter().position(|want| is_borne(bytes, want))
+        self.wants.iter().position(|want| is_of_wanted(bytes, want))
     }
 
     /// Takes nothing more of the link.

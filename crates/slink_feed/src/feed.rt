@@ -6,7 +6,7 @@ ghost use Rattle.std.specs.Bool.{OnFalse, OnTrue};
 ghost use Rattle.slink_wire.specs.Place.{Bears};
 ghost use Rattle.slink_feed.specs.Fault.{IsFeedFault};
 ghost use Rattle.slink_feed.specs.Intake.{IsOfFeed, places_of, pushed};
-ghost use Rattle.slink_feed.specs.Rings.{BearsNone, HasPlace, IsBearer, LacksPlace, station_at};
+ghost use Rattle.slink_feed.specs.Rings.{IsOfNoPlace, HasPlace, IsPlaceOf, LacksPlace, station_at};
 ghost use Rattle.slink_feed.specs.Session.{Fits, State};
 ghost use Rattle.slink_feed.specs.Window.{Shows, Window, with_record};
 
@@ -145,10 +145,10 @@ impl<A: Allocator> Feed<A> {
     }
 
     /// Returns the index of the first ring whose station and network a record carries in its header, if there is one.
-    pub fn bearer(&self, bytes: &[u8; 512]) -> Option<usize>
-        ensures some { IfSome result (IsBearer self.now bytes.now) }
+    pub fn place_of(&self, bytes: &[u8; 512]) -> Option<usize>
+        ensures some { IfSome result (IsPlaceOf self.now bytes.now) }
         ensures most { IfSome result (λ k. k < 16) }
-        ensures none { result ≡ None → BearsNone self.now bytes.now }
+        ensures none { result ≡ None → IsOfNoPlace self.now bytes.now }
     {
         for k in 0..self.len() {
             if self.ring(k).place().bears(bytes) {
@@ -168,7 +168,7 @@ impl<A: Allocator> Feed<A> {
     pub fn take_record(&mut self, bytes: &[u8], number: u64) -> Result<usize, InputFault>
         requires { (k : ℕ) (w : Window) → slice_get self.old k ≡ Some w → w.next < 2 ^ 63 }
         ensures of { OnOk result (IsOfFeed (places_of self.old) bytes.now) }
-        ensures bearer { IfOk result (IsBearer self.old bytes.now) }
+        ensures place_of { IfOk result (IsPlaceOf self.old bytes.now) }
         ensures pushed { OnOk result (self.new ≡ pushed self.old bytes.now) }
         ensures others { IfOk result (λ k. (j : ℕ) → j ≢ k → slice_get self.new j ≡ slice_get self.old j) }
         ensures most { IfOk result (λ k. k < 16) }
@@ -179,7 +179,7 @@ impl<A: Allocator> Feed<A> {
         let Some(whole) = bytes.as_array::<512>() else {
             return Err(InputFault::Foreign(number));
         };
-        match self.bearer(whole) {
+        match self.place_of(whole) {
             Some(k) => {
                 self.push(k, whole);
                 Ok(k)

@@ -5,7 +5,7 @@ ghost use Rattle.slink_wire.specs.declared.lines.What.{What};
 ghost use Rattle.slink_wire.specs.declared.reply.Reply.{Reply};
 ghost use Rattle.slink_feed.specs.declared.dialogue.Event.{Event};
 ghost use Rattle.slink_feed.specs.declared.grant.Grant.{Grant};
-ghost use Rattle.slink_feed.specs.Delivered.{AreBorne, AreWanted, Numbered, all_packets, joined, numbered};
+ghost use Rattle.slink_feed.specs.Delivered.{AreOfPlace, AreWanted, Numbered, all_packets, joined, numbered};
 ghost use Rattle.slink_feed.specs.Delivered.{record_events};
 ghost use Rattle.slink_feed.specs.Dialogue.{Talk, next_at};
 ghost use Rattle.slink_feed.specs.declared.grant.Mode.{Mode};
@@ -81,7 +81,7 @@ pub fn whole_packets_are_reported()
 /// reported.
 pub fn a_stretch_is_wanted()
     ensures wanted { (k number : ℕ) (records : List (List ℕ)) (t : Talk)
-        → AreBorne t.wants k records → IfSome (next_at t.wants k) (λ want. number % 2 ^ 24 ≡ want)
+        → AreOfPlace t.wants k records → IfSome (next_at t.wants k) (λ want. number % 2 ^ 24 ≡ want)
         → AreWanted t (numbered k number records) }
     ensures packets { (k number : ℕ) (records : List (List ℕ))
         → all_packets (numbered k number records) ≡ joined (packets_from number records) }

@@ -20,7 +20,7 @@ use Rattle.slink_feed.specs.declared.session.Phase.TheVariants.{Granted, Chosen,
 use Rattle.slink_model.specs.Counted.{Gained, undelivered, events_upon, on_item, part, talk_upon, wholes, with_event}
 use Rattle.slink_model.specs.Counted.{with_events}
 use Rattle.slink_feed.specs.Cutting.{IsBegun, IsWhole}
-use Rattle.slink_feed.specs.Dialogue.{Talk, Wants, Reply, Packet, End, at_packet, bearer, ended, read, read_at}
+use Rattle.slink_feed.specs.Dialogue.{Talk, Wants, Reply, Packet, End, at_packet, place_of, ended, read, read_at}
 use Rattle.slink_feed.specs.Dialogue.{next_at, next_set, numbered, says, to_place, reported, want_at, with_next}
 use Rattle.slink_feed.specs.Listening.{AreBrought, IsLinked, events_of, talk_after, event_if_any}
 use Rattle.slink_feed.specs.Session.{Grants, State, grant_at}
@@ -41,9 +41,9 @@ use Rattle.slink_model.proofs.OneWorld.{reported_events}
 use Rattle.slink_model.proofs.Outcomes.{packet_length}
 use Rattle.slink_wire.proofs.RequestLines.{end_line, station_line}
 use Rattle.slink_model.proofs.Requested.{also_at, number_line}
-use Rattle.slink_model.proofs.Shaken.{called_next, bearer_found, lacks_end, some_if, suited_next, suited_wanted}
+use Rattle.slink_model.proofs.Shaken.{called_next, place_found, lacks_end, some_if, suited_next, suited_wanted}
 use Rattle.slink_model.proofs.Shaken.{want_slot}
-use Rattle.slink_model.proofs.Shaking.{AreCalled, AreBorne, AreSent, IsSuited, Shakes, asks_end, asks_number}
+use Rattle.slink_model.proofs.Shaking.{AreCalled, AreOfPlace, AreSent, IsSuited, Shakes, asks_end, asks_number}
 use Rattle.slink_model.proofs.Shaking.{asks_place}
 use Rattle.slink_model.proofs.Shaking.{has_none, has_number, has_place, streams}
 use Rattle.slink_feed.proofs.Wholes.{prefix_begun}
@@ -77,7 +77,7 @@ module _ (places : Places) (differ : Differ places) (codes_are : (k : ℕ) (p : 
   pub record Streams (grants : Grants) (phase : Phase) (t : Talk) (items : List Item) : Type 0 where
     pub stage : t.stage ≡ Packets
     pub called : AreCalled places t.wants
-    pub borne : AreBorne places items
+    pub matched : AreOfPlace places items
     pub suited : (k : ℕ) → IsSuited (next_at t.wants k) (grant_at grants k) (of_place k items)
     pub sent : AreSent items
     pub ends : EndsIn phase items
@@ -120,8 +120,8 @@ module _ (places : Places) (differ : Differ places) (codes_are : (k : ℕ) (p : 
     abbrev x : ℕ
     x = (m + 1) % 2 ^ 24
 
-    found : (bearer t.wants r ≡ Some k) × (v : Wanted) × (want_at t.wants k ≡ Some v)
-    found = bearer_found places differ codes_are t.wants k s.borne.0.0 r s.called s.borne.0.1 s.borne.0.3
+    found : (place_of t.wants r ≡ Some k) × (v : Wanted) × (want_at t.wants k ≡ Some v)
+    found = place_found places differ codes_are t.wants k s.matched.0.0 r s.called s.matched.0.1 s.matched.0.3
 
     of_k : of_place k (Carried k n r ∷ rest) ≡ (n, r) ∷ of_place k rest
     of_k = ap (λ b. b ++ of_place k rest) (carried_here k n r)
@@ -153,7 +153,7 @@ module _ (places : Places) (differ : Differ places) (codes_are : (k : ℕ) (p : 
         record {
           stage = s.stage;
           called = called_next places differ codes_are t.wants k x found.1 found.2 (omega arith) s.called;
-          borne = s.borne.1;
+          matched = s.matched.1;
           suited = λ i. elim (same_or_not i k) [
             | inl q ↦ subst (λ y. IsSuited (next_at ws y) (grant_at grants y) (of_place y rest)) (sym q)
                 (subst (λ (o : Option ℕ). IsSuited o (grant_at grants k) (of_place k rest)) (sym next_k)
@@ -171,7 +171,7 @@ module _ (places : Places) (differ : Differ places) (codes_are : (k : ℕ) (p : 
         let h' : Prefix grants phase (read t (Packet m r)).0 ws bs p =
         subst (λ (y : Talk × Event). Prefix grants phase y.0 ws bs p) (sym packet_reported) h in
         record {
-          are = (at_stage t (Carried k n r) s.stage (carried_whole k n r s.borne.0.2), h'.are);
+          are = (at_stage t (Carried k n r) s.stage (carried_whole k n r s.matched.0.2), h'.are);
           is_begun = h'.is_begun;
           unwritten = λ f g. ap (λ (z : Gained). z.to_server)
               (reported_events f (read t (Packet m r)).1 (events_of (read t (Packet m r)).0 (map brought_of ws)) g)
@@ -215,7 +215,7 @@ module _ (places : Places) (differ : Differ places) (codes_are : (k : ℕ) (p : 
       (part (d - size) rest)
       (streamed_prefix rest grants phase (reported k (n % 2 ^ 24) r t).0 (d - size)
       (packet_next grants phase t k n r rest s)))
-      (λ lt. none_prefix grants phase t (Carried k n r) rest d (carried_whole k n r s.borne.0.2) lt s)
+      (λ lt. none_prefix grants phase t (Carried k n r) rest d (carried_whole k n r s.matched.0.2) lt s)
   streamed_prefix (Finished ∷ []) grants phase t d s =
       whole_or Finished [] d (λ ws bs p. Prefix grants phase t ws bs p) (λ fits. end_prefix grants phase t s)
       (λ lt. none_prefix grants phase t Finished [] d refl lt s)
@@ -223,7 +223,7 @@ module _ (places : Places) (differ : Differ places) (codes_are : (k : ℕ) (p : 
 
   -- what is on its way once a client has read
   pub record Left (s : State) (taken : List ℕ) (t : Talk) (way : List ℕ) (items : List Item) : Type 0 where
-    pub borne : AreBorne places items
+    pub matched : AreOfPlace places items
     pub suited : (k : ℕ) → IsSuited (next_at t.wants k) (grant_at s.grants k) (of_place k items)
     pub shakes : Shakes t s.phase taken way items
     pub ends : EndsIn s.phase items
@@ -268,7 +268,7 @@ module _ (places : Places) (differ : Differ places) (codes_are : (k : ℕ) (p : 
       after = λ f g same _. subst
           (λ (y : Talk × Event). Left s taken y.0 (with_events f (event_if_any y.1 ++ []) g).to_server []) (sym h)
           (subst (λ b. Left s taken (record t { stage = stage }) (b ++ request_bytes request) []) (sym same)
-          (record { borne = tt; suited = suited; shakes = shakes; ends = tt }));
+          (record { matched = tt; suited = suited; shakes = shakes; ends = tt }));
       quiet = λ f g same over. absurd (over (subst (λ (y : Talk × Event). IsLinked y.0.stage) (sym h) linked));
     }
 
@@ -324,7 +324,7 @@ module _ (places : Places) (differ : Differ places) (codes_are : (k : ℕ) (p : 
         reported) refl)
 
     -- by who has sent what
-    module _ (items : List Item) (d : ℕ) (called : AreCalled places t.wants) (borne : AreBorne places items)
+    module _ (items : List Item) (d : ℕ) (called : AreCalled places t.wants) (matched : AreOfPlace places items)
         (suited : (k : ℕ) → IsSuited (next_at t.wants k) (grant_at s.grants k) (of_place k items))
         (ends : EndsIn s.phase items)
         (shakes : Shakes t s.phase taken way items) where
@@ -332,7 +332,7 @@ module _ (places : Places) (differ : Differ places) (codes_are : (k : ℕ) (p : 
       Result is = Outcome s taken way t (wholes d is) (undelivered d is) (part d is)
 
       left : Left s taken t way items
-      left = record { borne = borne; suited = suited; shakes = shakes; ends = ends }
+      left = record { matched = matched; suited = suited; shakes = shakes; ends = ends }
 
       empty : items ≡ [] → IsLinked t.stage → Result items
       empty none linked = subst Result (sym none)
@@ -386,7 +386,7 @@ module _ (places : Places) (differ : Differ places) (codes_are : (k : ℕ) (p : 
       by_shakes (streams stage later sent written) =
           let prefix : Prefix s.grants s.phase t (wholes d items) (undelivered d items) (part d items) =
           streamed_prefix items s.grants s.phase t d
-          (record { stage = stage; called = called; borne = borne; suited = suited; sent = sent; ends = ends }) in
+          (record { stage = stage; called = called; matched = matched; suited = suited; sent = sent; ends = ends }) in
           record {
             are = prefix.are;
             is_begun = prefix.is_begun;
@@ -400,7 +400,7 @@ module _ (places : Places) (differ : Differ places) (codes_are : (k : ℕ) (p : 
                 prefix.unwritten f g ∙ same in
                 subst (λ b. Left s taken (talk_after t (map brought_of (wholes d items))) b (undelivered d items))
                 (sym same_way) (record {
-                  borne = u.borne;
+                  matched = u.matched;
                   suited = u.suited;
                   shakes = streams u.stage later u.sent written;
                   ends = u.ends;

@@ -32,7 +32,7 @@ use Rattle.slink_model.specs.Whole.{HoldsMore, HoldsWhole, KeepsLink, held_count
 use Rattle.slink_model.specs.World.{AllHappen, Differ, Happens, IsOf, Lists, Numbers, WorldState, opening, with_one}
 use Rattle.slink_model.proofs.CountedRead.{unlinked_upon}
 use Rattle.slink_model.proofs.CountedPackets.{behind_replies}
-use Rattle.slink_model.proofs.CountedShape.{AreFacts, LinkFacts, borne_prefix, sent_prefix, wholes_behind}
+use Rattle.slink_model.proofs.CountedShape.{AreFacts, LinkFacts, matched_prefix, sent_prefix, wholes_behind}
 use Rattle.slink_model.proofs.CountedWorld.{IsWorld, counted_streamed, facts_of, next_world, opening_shown}
 use Rattle.slink_model.proofs.CountedWorld.{the_counted_world}
 use Rattle.slink_model.proofs.Counting.{item_some, whole_or}
@@ -40,7 +40,7 @@ use Rattle.slink_feed.proofs.Items.{is_within}
 use Rattle.slink_model.proofs.OneWorld.{Keeps, linked_or, step_keeps}
 use Rattle.slink_model.proofs.Outcomes.{packet_length}
 use Rattle.slink_model.proofs.Pushed.{one_more}
-use Rattle.slink_model.proofs.Shaking.{AreBorne, AreSent, Shakes, asks_end, asks_number, asks_place, has_none}
+use Rattle.slink_model.proofs.Shaking.{AreOfPlace, AreSent, Shakes, asks_end, asks_number, asks_place, has_none}
 use Rattle.slink_model.proofs.Shaking.{has_number, has_place, streams}
 use Rattle.slink_model.proofs.Sparing.{WorldTalks, opening_talks, step_talks}
 use Rattle.slink_model.proofs.Worlds.{AreOf, each_of}
@@ -172,21 +172,21 @@ wide_step setup c Cut = refl
 
 -- what packets bring
 module _ (places : Places) (f : Numbers) where
-  held_packets : (is : List Item) (t : Talk) (g : Gained) → t.stage ≡ Packets → AreSent is → AreBorne places is
+  held_packets : (is : List Item) (t : Talk) (g : Gained) → t.stage ≡ Packets → AreSent is → AreOfPlace places is
       → length g.held ≡ length places → IsLinked (talk_upon t is).stage
       → HoldsMore g.held is (with_events f (events_upon t is) g).held
-  held_packets [] t g p sent borne wide linked = holds_none g.held
-  held_packets (Accepted ∷ is) t g p sent borne wide linked = absurd sent.0
-  held_packets (Refused ∷ is) t g p sent borne wide linked = absurd sent.0
-  held_packets (Greeted ∷ is) t g p sent borne wide linked = absurd sent.0
-  held_packets (Carried j n r ∷ is) t g p sent borne wide linked =
+  held_packets [] t g p sent matched wide linked = holds_none g.held
+  held_packets (Accepted ∷ is) t g p sent matched wide linked = absurd sent.0
+  held_packets (Refused ∷ is) t g p sent matched wide linked = absurd sent.0
+  held_packets (Greeted ∷ is) t g p sent matched wide linked = absurd sent.0
+  held_packets (Carried j n r ∷ is) t g p sent matched wide linked =
       let x : Talk × Event = reported j (n % 2 ^ 24) r t in
       let h : on_item t.stage (Carried j n r) t ≡ x = ap (λ (s : Stage). on_item s (Carried j n r) t) p in
-      let within : j < length places = is_within places j borne.0.0 borne.0.1 in
+      let within : j < length places = is_within places j matched.0.0 matched.0.1 in
       let lt : j < length g.held = omega (arith, within, wide) in
       let more : Gained = with_event f x.1 g in
       let rest : HoldsMore more.held is (with_events f (events_upon x.0 is) more).held =
-      held_packets is x.0 more p sent.1 borne.1 (wide_event f x.1 g ∙ wide)
+      held_packets is x.0 more p sent.1 matched.1 (wide_event f x.1 g ∙ wide)
       (subst (λ (y : Talk × Event). IsLinked (talk_upon y.0 is).stage) h linked) in
       subst (λ (y : Talk × Event). HoldsMore g.held (Carried j n r ∷ is)
       (with_events f (events_upon y.0 is) (with_event f y.1 g)).held) (sym h) (record {
@@ -194,7 +194,7 @@ module _ (places : Places) (f : Numbers) where
             ∙ append_assoc (get_or g.held k []) (record_in k (Carried j n r)) (records_in k is));
         count = omega (arith, rest.count, one_counted g.held j r lt);
       })
-  held_packets (Finished ∷ is) t g p sent borne wide linked =
+  held_packets (Finished ∷ is) t g p sent matched wide linked =
       let x : Talk × Event = ended endings.End t in
       let h : on_item t.stage Finished t ≡ x = ap (λ (s : Stage). on_item s Finished t) p in
       absurd (subst (λ (u : Talk). IsLinked u.stage) (unlinked_upon x.0 is (λ l. l)).0
@@ -208,7 +208,7 @@ placed f k (Some w) t g = refl
 
 -- what comes of bytes that come to a client
 module _ (places : Places) (f : Numbers) (t : Talk) (g : Gained) (e : ℕ) (its : List Item)
-    (borne : AreBorne places its) (wide : length g.held ≡ length places) where
+    (matched : AreOfPlace places its) (wide : length g.held ≡ length places) where
   abbrev Brings : List Item → Type 0
   Brings ws = IsLinked (talk_upon t ws).stage → HoldsMore g.held ws (with_events f (events_upon t ws) g).held
 
@@ -249,7 +249,7 @@ module _ (places : Places) (f : Numbers) (t : Talk) (g : Gained) (e : ℕ) (its 
       let split : its ≡ wholes e its ++ undelivered e its = wholes_behind its e in
       held_packets places f (wholes e its) t g stage
       (sent_prefix (wholes e its) (undelivered e its) (subst AreSent split sends))
-      (borne_prefix places (wholes e its) (undelivered e its) (subst (AreBorne places) split borne)) wide linked
+      (matched_prefix places (wholes e its) (undelivered e its) (subst (AreOfPlace places) split matched)) wide linked
 
 -- While more is taken of a link, the client holds what it held before, and the records of what is whole.
 abbrev pub Held : Lists → Talk → Lists → Option CountedLink → Type 0
@@ -297,7 +297,7 @@ read_held old places n c (Some l) wide f h same = λ linked. elim (linked_or c.t
       let e : ℕ = part l.delivered l.sent + n in
       let g : Gained = record { held = c.held; start = c.start; to_server = l.written } in
       let more : HoldsMore c.held (wholes e its) (gained_by n c l).held =
-      brings places l.first_sent c.talk g e its facts.borne wide facts.phase facts.taken facts.way facts.shakes
+      brings places l.first_sent c.talk g e its facts.matched wide facts.phase facts.taken facts.way facts.shakes
       linked in
       subst (λ (ws : List Item). HoldsMore old ws (gained_by n c l).held) (sym (wholes_after l.sent l.delivered n))
       (holds_both old c.held (gained_by n c l).held (wholes l.delivered l.sent) (wholes e its) (h there) more)

@@ -160,7 +160,7 @@ module _ (places : Places) (differ : Differ places) (codes : (k : ℕ) (p : Fiel
       let rest : List ℕ = take (part e its) (way_bytes (undelivered e its)) in
       let out : Outcome places differ codes l.session.state before l.to_server w.client.talk (wholes e its)
       (undelivered e its) (part e its)
-      = read_outcome places differ codes l.session.state before l.to_server w.client.talk its e called pin.flows.borne
+      = read_outcome places differ codes l.session.state before l.to_server w.client.talk its e called pin.flows.matched
       pin.flows.suited pin.ends pin.shakes in
       let x : ReadAllOf l.first_sent (taking w l) (take n l.to_client) (taking v m) =
       read_all l.first_sent (taking w l) (take n l.to_client) (taking v m) h.reads keeps in
@@ -194,7 +194,7 @@ module _ (places : Places) (differ : Differ places) (codes : (k : ℕ) (p : Fiel
         flows = record {
           flow = ap (λ b. b ++ m.to_client) outputs_now
               ∙ (ap (λ b. rest ++ b) way_now ∙ take-append-drop (part e its) (way_bytes (undelivered e its)));
-          borne = left.borne;
+          matched = left.matched;
           suited = left.suited;
         };
         shakes = left.shakes;

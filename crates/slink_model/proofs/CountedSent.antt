@@ -27,8 +27,8 @@ use Rattle.slink_feed.proofs.Items.{put_here, put_there, same_or_not}
 use Rattle.slink_model.proofs.Lined.{IsAnswered}
 use Rattle.slink_model.proofs.OneWorld.{linked_or}
 use Rattle.slink_model.proofs.Requested.{also_at}
-use Rattle.slink_model.proofs.Shaking.{AreBorne, AreRinged, AreSent, IsSuited, streams}
-use Rattle.slink_model.proofs.Sparing.{borne_more, sent_more, slot_within, streaming_is, suited_more, window_sound}
+use Rattle.slink_model.proofs.Shaking.{AreOfPlace, AreRinged, AreSent, IsSuited, streams}
+use Rattle.slink_model.proofs.Sparing.{matched_more, sent_more, slot_within, streaming_is, suited_more, window_sound}
 use Rattle.slink_model.proofs.Waiting.{answered_few}
 
 -- what is sent goes after what was
@@ -84,9 +84,9 @@ module _ (places : Places) (client : Listening) (feed : List Window) (ringed : A
         | inr over ↦ answered_few before l.to_server (counts.quiet over awake)
       ]
 
-  shut : (o : Sent) (ys : List Item) → s.phase ≡ Streaming → sent_bytes o ≡ way_bytes ys → AreBorne places ys
+  shut : (o : Sent) (ys : List Item) → s.phase ≡ Streaming → sent_bytes o ≡ way_bytes ys → AreOfPlace places ys
       → AreSent ys → ((i : ℕ) → of_place i ys ≡ []) → EndsIn Closed ys → Goes (at Closed s.grants, o) ys
-  shut o ys phase bytes borne sent none ends = record {
+  shut o ys phase bytes matched sent none ends = record {
     bytes = bytes;
     awake = λ a. absurd (a refl);
     few = λ _. settled phase;
@@ -97,7 +97,7 @@ module _ (places : Places) (client : Listening) (feed : List Window) (ringed : A
         record {
           flows = record {
             flow = flow_more client.kept l.to_client (sent_bytes o) its ys bytes pin.flows.flow;
-            borne = borne_more places its ys pin.flows.borne borne;
+            matched = matched_more places its ys pin.flows.matched matched;
             suited = λ i. subst (IsSuited (next_at client.talk.wants i) (grant_at s.grants i))
                 (sym (carries_none i its ys (none i))) (pin.flows.suited i);
           };
@@ -129,7 +129,7 @@ module _ (places : Places) (client : Listening) (feed : List Window) (ringed : A
               flows = record {
                 flow = flow_more client.kept l.to_client (packet_bytes (g.position % 2 ^ 24) r) its item
                     (sym (append-nil (packet_bytes (g.position % 2 ^ 24) r))) pin.flows.flow;
-                borne = borne_more places its item pin.flows.borne (
+                matched = matched_more places its item pin.flows.matched (
                   (p.0, p.1, sound.0, subst (Bears r) p.2 sound.1),
                   tt,
                 );

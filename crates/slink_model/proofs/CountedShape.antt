@@ -26,7 +26,7 @@ use Rattle.slink_model.proofs.Counts.{EndsIn}
 use Rattle.slink_feed.proofs.Items.{is_within, within_is}
 use Rattle.slink_model.proofs.OneWorld.{linked_or}
 use Rattle.slink_model.proofs.Requested.{also_at}
-use Rattle.slink_model.proofs.Shaking.{AreCalled, AreBorne, AreSent, IsBorne, IsSent, Shakes, asks_end, asks_number}
+use Rattle.slink_model.proofs.Shaking.{AreCalled, AreOfPlace, AreSent, IsBorne, IsSent, Shakes, asks_end, asks_number}
 use Rattle.slink_model.proofs.Shaking.{asks_place, has_none, has_number, has_place, streams}
 
 -- how many replies a client read that waits for this
@@ -58,7 +58,7 @@ pub record LinkFacts (places : Places) (talk : Talk) (c : CountedLink) : Type 0 
   pub taken : List ℕ
   pub way : List ℕ
   pub shakes : Shakes talk phase taken way (undelivered c.delivered c.sent)
-  pub borne : AreBorne places (undelivered c.delivered c.sent)
+  pub matched : AreOfPlace places (undelivered c.delivered c.sent)
   pub ends : EndsIn phase (undelivered c.delivered c.sent)
   pub few : c.delivered ≤ length (way_bytes c.sent)
 
@@ -111,17 +111,17 @@ all_there (suc m) d none = whole_or Accepted (replicate m Accepted ++ []) d (λ 
     (λ lt none. absurd (let bad : Accepted ∷ (replicate m Accepted ++ []) ≡ [] = none in cc bad)) none
 
 -- what a client reads that goes on to await packets
-read_packets : (places : Places) (is : List Item) (t : Talk) → t.stage ≡ Packets → AreSent is → AreBorne places is
+read_packets : (places : Places) (is : List Item) (t : Talk) → t.stage ≡ Packets → AreSent is → AreOfPlace places is
     → IsLinked (talk_upon t is).stage → ArePackets is × ((talk_upon t is).stage ≡ Packets)
-read_packets places [] t p sent borne linked = (tt, p)
-read_packets places (i ∷ is) t p sent borne linked =
+read_packets places [] t p sent matched linked = (tt, p)
+read_packets places (i ∷ is) t p sent matched linked =
     let same : (on_item t.stage i t).0 ≡ (on_item Packets i t).0 = ap (λ (s : Stage). (on_item s i t).0) p in
     elim (linked_or (on_item t.stage i t).0.stage) [
       | inl there ↦
           let next : ((on_item Packets i t).0.stage ≡ Packets) × (ArePackets is → ArePackets (i ∷ is)) =
-          one_read i sent.0 borne.0 (subst (λ (u : Talk). IsLinked u.stage) same there) in
+          one_read i sent.0 matched.0 (subst (λ (u : Talk). IsLinked u.stage) same there) in
           let rest : ArePackets is × ((talk_upon (on_item t.stage i t).0 is).stage ≡ Packets) =
-          read_packets places is (on_item t.stage i t).0 (ap (λ (u : Talk). u.stage) same ∙ next.0) sent.1 borne.1
+          read_packets places is (on_item t.stage i t).0 (ap (λ (u : Talk). u.stage) same ∙ next.0) sent.1 matched.1
           linked in
           (next.1 rest.0, rest.1)
       | inr over ↦ absurd (over
@@ -130,11 +130,11 @@ read_packets places (i ∷ is) t p sent borne linked =
   where
     one_read : (i : Item) → IsSent i → IsBorne places i → IsLinked (on_item Packets i t).0.stage
         → ((on_item Packets i t).0.stage ≡ Packets) × (ArePackets is → ArePackets (i ∷ is))
-    one_read Accepted sent borne there = absurd sent
-    one_read Refused sent borne there = absurd sent
-    one_read Greeted sent borne there = absurd sent
-    one_read (Carried k n r) sent borne there = (p, λ are. (borne.2, are))
-    one_read Finished sent borne there = absurd there
+    one_read Accepted sent matched there = absurd sent
+    one_read Refused sent matched there = absurd sent
+    one_read Greeted sent matched there = absurd sent
+    one_read (Carried k n r) sent matched there = (p, λ are. (matched.2, are))
+    one_read Finished sent matched there = absurd there
 
 -- the items that are whole, and the others
 pub wholes_behind : (is : List Item) (d : ℕ) → is ≡ wholes d is ++ undelivered d is
@@ -147,9 +147,9 @@ pub sent_prefix : (xs ys : List Item) → AreSent (xs ++ ys) → AreSent xs
 sent_prefix [] ys h = tt
 sent_prefix (x ∷ xs) ys h = (h.0, sent_prefix xs ys h.1)
 
-pub borne_prefix : (places : Places) (xs ys : List Item) → AreBorne places (xs ++ ys) → AreBorne places xs
-borne_prefix places [] ys h = tt
-borne_prefix places (x ∷ xs) ys h = (h.0, borne_prefix places xs ys h.1)
+pub matched_prefix : (places : Places) (xs ys : List Item) → AreOfPlace places (xs ++ ys) → AreOfPlace places xs
+matched_prefix places [] ys h = tt
+matched_prefix places (x ∷ xs) ys h = (h.0, matched_prefix places xs ys h.1)
 
 packets_more : (xs ys : List Item) → ArePackets xs → ArePackets ys → ArePackets (xs ++ ys)
 packets_more [] ys a b = b
@@ -207,7 +207,7 @@ module _ (places : Places) (talk : Talk) (called : AreCalled places talk.wants) 
       let split : its ≡ ws ++ undelivered d l.sent = wholes_behind its e ∙ ap (λ (x : List Item). ws ++ x) (sym same) in
       let read : ArePackets ws × ((talk_upon talk ws).stage ≡ Packets) =
       read_packets places ws talk p (sent_prefix ws (undelivered d l.sent) (subst AreSent split sent))
-      (borne_prefix places ws (undelivered d l.sent) (subst (AreBorne places) split f.borne)) linked in
+      (matched_prefix places ws (undelivered d l.sent) (subst (AreOfPlace places) split f.matched)) linked in
       let prefix : List Item = (h.are p).0 in
       subst (λ (s : Stage). Shape places s l.sent d) (p ∙ sym read.1) (record {
         packets = h.packets;
@@ -359,7 +359,7 @@ packets_sent talk phase taken way is p (asks_end k stage at asks none) = subst A
 packets_sent talk phase taken way is p (streams stage later sent reported) = sent
 
 items_are : (places : Places) (phase : Phase) (prefix is : List Item) → ArePackets prefix → AreSent is
-    → AreBorne places is → EndsIn phase is → AreItems (prefix ++ is)
+    → AreOfPlace places is → EndsIn phase is → AreItems (prefix ++ is)
 items_are places phase [] [] a s b e = tt
 items_are places phase [] (Accepted ∷ is) a s b e = absurd s.0
 items_are places phase [] (Refused ∷ is) a s b e = absurd s.0
@@ -386,6 +386,6 @@ streamed_of places talk (Some l) f h = λ p.
       sent_is = x.sent_is ∙ ap (λ m. replicate m Accepted ++ x.packets) count;
       are = subst AreItems (sym (x.are p).1)
           (items_are places y.phase (x.are p).0 its (x.are p).2
-          (packets_sent talk y.phase y.taken y.way its p y.shakes) y.borne y.ends);
+          (packets_sent talk y.phase y.taken y.way its p y.shakes) y.matched y.ends);
       replies = omega (arith, x.done, count);
     }

@@ -251,7 +251,7 @@ module _ (setup : Setup) (differ : Differ setup.places.items) (codes : (k : ℕ)
         taken = take c.taken c.written;
         way = l.to_server;
         shakes = pin.shakes;
-        borne = pin.flows.borne;
+        matched = pin.flows.matched;
         ends = pin.ends;
         few = k.delivered_few;
       }

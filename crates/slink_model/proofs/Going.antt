@@ -25,7 +25,7 @@ use Rattle.slink_model.proofs.Items.{carried_here, carried_there}
 use Rattle.slink_feed.proofs.Items.{same_or_not, within_is}
 use Rattle.slink_model.proofs.Linked.{any}
 use Rattle.slink_model.proofs.Outcomes.{packet_length, same_cut}
-use Rattle.slink_model.proofs.Shaking.{AreBorne, IsBorne, IsSuited, LinkTalks}
+use Rattle.slink_model.proofs.Shaking.{AreOfPlace, IsBorne, IsSuited, LinkTalks}
 use Rattle.slink_model.proofs.Sparing.{IsTalking, WorldTalks, talks_after}
 use Rattle.slink_model.proofs.Worlds.{last_lacks, ties_after}
 
@@ -100,7 +100,7 @@ module _ (places : Places) (differ : Differ places) where
   first_many x y xs ys p q same e j more = absurd (omega (arith, same))
 
   -- the same bytes carry as many records of each place
-  same_many : (xs ys : List Item) → AreBorne places xs → AreBorne places ys → way_bytes xs ≡ way_bytes ys → (j : ℕ)
+  same_many : (xs ys : List Item) → AreOfPlace places xs → AreOfPlace places ys → way_bytes xs ≡ way_bytes ys → (j : ℕ)
       → length (of_place j xs) ≡ length (of_place j ys)
   same_many [] [] p q e j = refl
   same_many [] (y ∷ ys) p q e j =
@@ -112,20 +112,20 @@ module _ (places : Places) (differ : Differ places) where
       (λ f. same_many xs ys p.1 q.1 f j)
 
   -- what is carried was pushed, and so carries its place
-  each_borne : (items : List Item) → AreWhole items → ((k n : ℕ) (r : List ℕ) (prefix back : List (ℕ × List ℕ))
+  each_matched : (items : List Item) → AreWhole items → ((k n : ℕ) (r : List ℕ) (prefix back : List (ℕ × List ℕ))
       → of_place k items ≡ prefix ++ (n, r) ∷ back → (p : Fields × Option ℕ) × (slice_get places k ≡ Some p)
-      × (length r ≡ 512) × Bears r p.0) → AreBorne places items
-  each_borne [] are each = tt
-  each_borne (Accepted ∷ is) are each = (tt, each_borne is are each)
-  each_borne (Refused ∷ is) are each = (tt, each_borne is are each)
-  each_borne (Greeted ∷ is) are each = (tt, each_borne is are each)
-  each_borne (Carried k n r ∷ is) are each = (
+      × (length r ≡ 512) × Bears r p.0) → AreOfPlace places items
+  each_matched [] are each = tt
+  each_matched (Accepted ∷ is) are each = (tt, each_matched is are each)
+  each_matched (Refused ∷ is) are each = (tt, each_matched is are each)
+  each_matched (Greeted ∷ is) are each = (tt, each_matched is are each)
+  each_matched (Carried k n r ∷ is) are each = (
     each k n r [] (of_place k is) (ap (λ b. b ++ of_place k is) (carried_here k n r)),
-    each_borne is are.1 (λ i m x prefix back e. each i m x (carried_of i (Carried k n r) ++ prefix) back
+    each_matched is are.1 (λ i m x prefix back e. each i m x (carried_of i (Carried k n r) ++ prefix) back
         (ap (λ b. carried_of i (Carried k n r) ++ b) e
         ∙ sym (append_assoc (carried_of i (Carried k n r)) prefix ((m, x) ∷ back)))),
   )
-  each_borne (Finished ∷ is) are each = (tt, each_borne is are each)
+  each_matched (Finished ∷ is) are each = (tt, each_matched is are each)
 
 -- a record among those that come next was pushed
 next_at_split : (first : ℕ) (F : List (List ℕ)) (n : ℕ) (prefix back : List (ℕ × List ℕ)) (m : ℕ) (r : List ℕ)
@@ -170,8 +170,8 @@ module _ (places : Places) (differ : Differ places) (codes : (k : ℕ) (p : Fiel
       let both : IsTalking places differ codes w.client (Some l) =
       subst (IsTalking places differ codes w.client) is talks.link in
       let talk : LinkTalks places w.client l.session l.to_server l.to_client = both.0 linked in
-      let borne : AreBorne places ties.items =
-      each_borne places differ ties.items ties.are_whole (λ k n r prefix back e.
+      let matched : AreOfPlace places ties.items =
+      each_matched places differ ties.items ties.are_whole (λ k n r prefix back e.
       let lt : k < length places =
       elim (cases_lt k (length places)) [
         | inl below ↦ below
@@ -203,7 +203,7 @@ module _ (places : Places) (differ : Differ places) (codes : (k : ℕ) (p : Fiel
             (subst (IsOnWay any first (get_or w.pushed k []) (get_or w.held k []) (number_at w.start k)
             (number_at l.first_sent k) (grant_at l.session.state.grants k)) here (ties.places_are k lt)))
             (talk.flows.suited k)
-            (sym (ap length here) ∙ same_many places differ ties.items talk.items borne talk.flows.borne
+            (sym (ap length here) ∙ same_many places differ ties.items talk.items matched talk.flows.matched
             (sym (ties.flow linked) ∙ talk.flows.flow) k);
       }
 

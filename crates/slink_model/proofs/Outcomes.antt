@@ -21,7 +21,7 @@ use Rattle.slink_feed.specs.declared.dialogue.Stage.{Stage}
 use Rattle.slink_feed.specs.declared.dialogue.Stage.TheVariants.{Unlinked, Station, Number, Packets, Ended}
 use Rattle.slink_feed.specs.declared.dialogue.Wanted.{Wanted}
 use Rattle.slink_feed.specs.Cutting.{IsWhole}
-use Rattle.slink_feed.specs.Dialogue.{Talk, Whole, Reply, Packet, End, Garbage, answer_of, at_packet, bearer, ended}
+use Rattle.slink_feed.specs.Dialogue.{Talk, Whole, Reply, Packet, End, Garbage, answer_of, at_packet, place_of, ended}
 use Rattle.slink_feed.specs.Dialogue.{event_of, is_ahead, is_taken, read, read_at, if_wanted, next_at, requests_number}
 use Rattle.slink_feed.specs.Dialogue.{requests_place, to_answer}
 use Rattle.slink_feed.specs.Dialogue.{to_place, reported, want_at, with_next}
@@ -159,7 +159,7 @@ module _ (t : Talk) (bytes way : List ℕ) (new : Listening) (e : Event) (plain 
   has_reply items line k next Neither a is h quiet read none = has_ended items endings.Garbage read none
 
   has_reported : (items : List Item) (n j : ℕ) (r : List ℕ) (k m : ℕ) (rest : List Item) → items ≡ Carried k m r ∷ rest
-      → way ≡ way_bytes rest → n ≡ m % 2 ^ 24 → bearer t.wants r ≡ Some j
+      → way ≡ way_bytes rest → n ≡ m % 2 ^ 24 → place_of t.wants r ≡ Some j
       → ((w : ℕ) → next_at t.wants j ≡ Some w → n ≡ w) → reported j n r t ≡ (new.talk, e) → new.kept ≡ []
       → Outcome t items bytes way new e
   has_reported items n j r k m rest is left number at wanted read none =
@@ -172,7 +172,7 @@ module _ (t : Talk) (bytes way : List ℕ) (new : Listening) (e : Event) (plain 
 
   -- a packet of a place that is there
   has_wanted : (items : List Item) (n j : ℕ) (r : List ℕ) (k m : ℕ) (rest : List Item) (o : Option ℕ)
-      → items ≡ Carried k m r ∷ rest → way ≡ way_bytes rest → n ≡ m % 2 ^ 24 → bearer t.wants r ≡ Some j
+      → items ≡ Carried k m r ∷ rest → way ≡ way_bytes rest → n ≡ m % 2 ^ 24 → place_of t.wants r ≡ Some j
       → next_at t.wants j ≡ o
       → if_wanted o j n r t ≡ (new.talk, e) → new.kept ≡ [] → Outcome t items bytes way new e
   has_wanted items n j r k m rest None is left number at next read none =
@@ -197,7 +197,7 @@ module _ (t : Talk) (bytes way : List ℕ) (new : Listening) (e : Event) (plain 
 
   -- a packet that is read
   has_packet : (items : List Item) (n : ℕ) (r : List ℕ) (o : Option ℕ) → AreWhole items → IsPacket bytes n r
-      → length bytes ≡ 520 → bytes ++ way ≡ way_bytes items → bearer t.wants r ≡ o
+      → length bytes ≡ 520 → bytes ++ way ≡ way_bytes items → place_of t.wants r ≡ o
       → at_packet o n r t ≡ (new.talk, e) → new.kept ≡ [] → Outcome t items bytes way new e
   has_packet items n r None are is long h at read none = has_ended items endings.Foreign read none
   has_packet items n r (Some j) are is long h at read none =
@@ -221,7 +221,7 @@ module _ (t : Talk) (bytes way : List ℕ) (new : Listening) (e : Event) (plain 
   has_whole (Number k) items Garbage are h is read none = has_ended items endings.Garbage read none
   has_whole Packets items (Reply line) are h is read none = absurd is
   has_whole Packets items (Packet n r) are h is read none =
-      has_packet items n r (bearer t.wants r) are is.0 is.1 h refl read none
+      has_packet items n r (place_of t.wants r) are is.0 is.1 h refl read none
   has_whole Packets items End are h is read none = has_ended items endings.End read none
   has_whole Packets items Garbage are h is read none = has_ended items endings.Garbage read none
   has_whole (Ended ending) items w are h is read none = absurd is

@@ -25,8 +25,8 @@ use Rattle.slink_feed.specs.declared.dialogue.Wanted.{Wanted}
 use Rattle.slink_feed.specs.declared.grant.Grant.{Grant}
 use Rattle.slink_feed.specs.declared.session.Phase.TheVariants.{Chosen, Granted, Closed}
 use Rattle.slink_feed.specs.Cutting.{IsReply, IsWhole, LacksEnd}
-use Rattle.slink_feed.specs.Dialogue.{Talk, Wants, Whole, Reply, Packet, End, at_packet, bearer, ended, event_of, read}
-use Rattle.slink_feed.specs.Dialogue.{read_at, is_borne, next_at, next_set, numbered, requests_number, requests_place}
+use Rattle.slink_feed.specs.Dialogue.{Talk, Wants, Whole, Reply, Packet, End, at_packet, place_of, ended, event_of, read}
+use Rattle.slink_feed.specs.Dialogue.{read_at, is_of_wanted, next_at, next_set, numbered, requests_number, requests_place}
 use Rattle.slink_feed.specs.Dialogue.{to_place, reported, want_at, with_next}
 use Rattle.slink_feed.specs.Listening.{Brings, IsLinked, Listening, begun, whole}
 use Rattle.slink_feed.specs.Serving.{Standing}
@@ -45,9 +45,9 @@ use Rattle.slink_feed.proofs.OneReading.{one_prefix, seen_same}
 use Rattle.slink_model.proofs.Outcomes.{packet_length}
 use Rattle.slink_wire.proofs.RequestLines.{end_line, station_line}
 use Rattle.slink_model.proofs.Requested.{also_at, by_cases, first_found, number_line}
-use Rattle.slink_model.proofs.Shaking.{AreCalled, AreBorne, AreSent, Flows, IsQuiet, IsSuited, LinkTalks, Shakes}
+use Rattle.slink_model.proofs.Shaking.{AreCalled, AreOfPlace, AreSent, Flows, IsQuiet, IsSuited, LinkTalks, Shakes}
 use Rattle.slink_model.proofs.Shaking.{asks_end, asks_number, asks_place, has_none, has_number, has_place, streams}
-use Rattle.slink_model.proofs.Taken.{borne_is, same_client}
+use Rattle.slink_model.proofs.Taken.{matched_is, same_client}
 use Rattle.slink_feed.proofs.Wholes.{begun_no_whole, one_whole}
 
 lacks_byte : (bytes : List ℕ) (j : ℕ) → Lacks 10 bytes → slice_get bytes j ≡ Some 10 → ⊥
@@ -129,25 +129,25 @@ suited_next want (Some g) n r rest s = (
 module _ (places : Places) (differ : Differ places) (codes_are : (k : ℕ) (p : Fields × Option ℕ)
     → slice_get places k ≡ Some p → IsField 5 p.0.station × IsField 2 p.0.network) where
   -- A record's place is found.
-  pub bearer_found : (wants : Wants) (k : ℕ) (p : Fields × Option ℕ) (r : List ℕ) → AreCalled places wants
-      → slice_get places k ≡ Some p → Bears r p.0 → (bearer wants r ≡ Some k) × (w : Wanted)
+  pub place_found : (wants : Wants) (k : ℕ) (p : Fields × Option ℕ) (r : List ℕ) → AreCalled places wants
+      → slice_get places k ≡ Some p → Bears r p.0 → (place_of wants r ≡ Some k) × (w : Wanted)
       × (want_at wants k ≡ Some w)
-  bearer_found wants k p r called here bears =
+  place_found wants k p r called here bears =
       let at_k : (w : Wanted) × (want_at wants k ≡ Some w) × (p.0 ≡ w.place) =
       also_at (λ (q : Fields × Option ℕ). q.0) (λ (w : Wanted). w.place) (slice_get places k) (want_at wants k) p
       (sym (called.alike k)) here in
-      let borne : Bears r at_k.0.place = subst (Bears r) at_k.2 bears in
-      let passes : is_borne r (Some at_k.0) ≡ true = bears_passes at_k.0.place r borne in
-      let first : position_from (is_borne r) 0 wants ≡ Some (0 + k) =
-      first_found (is_borne r) 0 k wants (Some at_k.0) (want_slot (slice_get wants k) at_k.0 at_k.1) passes
-      (λ j y lt at_j. by_cases (is_borne r y) (λ is.
-      let v : (w : Wanted) × (y ≡ Some w) × Bears r w.place = borne_is r y is in
+      let matched : Bears r at_k.0.place = subst (Bears r) at_k.2 bears in
+      let passes : is_of_wanted r (Some at_k.0) ≡ true = bears_passes at_k.0.place r matched in
+      let first : position_from (is_of_wanted r) 0 wants ≡ Some (0 + k) =
+      first_found (is_of_wanted r) 0 k wants (Some at_k.0) (want_slot (slice_get wants k) at_k.0 at_k.1) passes
+      (λ j y lt at_j. by_cases (is_of_wanted r y) (λ is.
+      let v : (w : Wanted) × (y ≡ Some w) × Bears r w.place = matched_is r y is in
       let q : (x : Fields × Option ℕ) × (slice_get places j ≡ Some x) × (v.0.place ≡ x.0) =
       also_at (λ (w : Wanted). w.place) (λ (x : Fields × Option ℕ). x.0) (want_at wants j) (slice_get places j) v.0
       (called.alike j) (ap (λ o. unwrap_or o None) at_j ∙ v.1) in
       let same : j ≡ k = differ j k q.0 p q.1 here (one_place r q.0.0 p.0 (subst (Bears r) q.2 v.2) bears) in
       omega (arith, lt, same))) in (
-        position_from-zero (is_borne r) wants ∙ (first ∙ ap (λ n. Some n) (let e : 0 + k ≡ k = omega arith in e)),
+        position_from-zero (is_of_wanted r) wants ∙ (first ∙ ap (λ n. Some n) (let e : 0 + k ≡ k = omega arith in e)),
         at_k.0,
         at_k.1,
       )
@@ -241,7 +241,7 @@ module _ (places : Places) (differ : Differ places) (codes_are : (k : ℕ) (p : 
           taken = taken;
           held = held;
           items = [];
-          flows = record { flow = refl; borne = tt; suited = suited };
+          flows = record { flow = refl; matched = tt; suited = suited };
           shakes = shakes;
         } in
         let done : ClientTalks (record { talk = talk; kept = [] }) (t.to_server ++ request_bytes request) [] =
@@ -336,14 +336,14 @@ module _ (places : Places) (differ : Differ places) (codes_are : (k : ℕ) (p : 
     packet_talks t new bytes left e w k n r rest l spared called stage later sent answered one is h none =
         let m : ℕ = n % 2 ^ 24 in
         let x : ℕ = (m + 1) % 2 ^ 24 in
-        let borne : ((p : Fields × Option ℕ) × (slice_get places k ≡ Some p) × (length r ≡ 512) × Bears r p.0)
-        × AreBorne places rest = subst (AreBorne places) one l.flows.borne in
-        let first : (at_packet (bearer t.client.talk.wants r) m r t.client.talk ≡ (new.talk, e))
+        let matched : ((p : Fields × Option ℕ) × (slice_get places k ≡ Some p) × (length r ≡ 512) × Bears r p.0)
+        × AreOfPlace places rest = subst (AreOfPlace places) one l.flows.matched in
+        let first : (at_packet (place_of t.client.talk.wants r) m r t.client.talk ≡ (new.talk, e))
         × (left ≡ way_bytes rest) =
         first_read Packets t.client bytes left w (Packet m r) (Carried k n r) rest (new.talk, e) stage
-        (l.flows.flow ∙ ap way_bytes one) (read_back m r (omega arith), packet_length m r borne.0.2) is h in
-        let found : (bearer t.client.talk.wants r ≡ Some k) × (v : Wanted) × (want_at t.client.talk.wants k ≡ Some v) =
-        bearer_found t.client.talk.wants k borne.0.0 r called borne.0.1 borne.0.3 in
+        (l.flows.flow ∙ ap way_bytes one) (read_back m r (omega arith), packet_length m r matched.0.2) is h in
+        let found : (place_of t.client.talk.wants r ≡ Some k) × (v : Wanted) × (want_at t.client.talk.wants k ≡ Some v) =
+        place_found t.client.talk.wants k matched.0.0 r called matched.0.1 matched.0.3 in
         let of_k : of_place k l.items ≡ (n, r) ∷ of_place k rest = ap (of_place k) one
         ∙ ap (λ b. b ++ of_place k rest) (carried_here k n r) in
         let suited_k : IsSuited (next_at t.client.talk.wants k) (grant_at session.state.grants k)
@@ -390,7 +390,7 @@ module _ (places : Places) (differ : Differ places) (codes_are : (k : ℕ) (p : 
           taken = l.taken;
           held = l.held;
           items = rest;
-          flows = record { flow = refl; borne = borne.1; suited = suited };
+          flows = record { flow = refl; matched = matched.1; suited = suited };
           shakes = streams stage later sent answered;
         } in
         let done : ClientTalks (record { talk = talk; kept = [] }) t.to_server (way_bytes rest) =
@@ -480,7 +480,7 @@ module _ (places : Places) (differ : Differ places) (codes_are : (k : ℕ) (p : 
           items = l.items;
           flows = record {
             flow = append_assoc t.client.kept bytes left ∙ l.flows.flow;
-            borne = l.flows.borne;
+            matched = l.flows.matched;
             suited = l.flows.suited;
           };
           shakes = l.shakes;

@@ -48,9 +48,9 @@ IsBorne places (Carried k n r) = (p : Fields × Option ℕ) × (slice_get places
     × Bears r p.0
 IsBorne places Finished = Unit {0}
 
-abbrev pub AreBorne : Places → List Item → Type 0
-AreBorne places [] = Unit {0}
-AreBorne places (i ∷ is) = IsBorne places i × AreBorne places is
+abbrev pub AreOfPlace : Places → List Item → Type 0
+AreOfPlace places [] = Unit {0}
+AreOfPlace places (i ∷ is) = IsBorne places i × AreOfPlace places is
 
 -- what is sent once lines are no longer answered
 abbrev pub IsSent : Item → Type 0
@@ -78,7 +78,7 @@ IsSuited want (Some g) rest = (n : ℕ) × AreFrom n rest × (g.position ≡ n +
 pub record Flows (places : Places) (client : Listening) (grants : List (Option Grant)) (way : List ℕ)
     (items : List Item) : Type 0 where
   pub flow : client.kept ++ way ≡ way_bytes items
-  pub borne : AreBorne places items
+  pub matched : AreOfPlace places items
   pub suited : (k : ℕ) → IsSuited (next_at client.talk.wants k) (grant_at grants k) (of_place k items)
 
 -- where the session stands when a place is requested: at the beginning, or after the grant of the place before
@@ -138,12 +138,12 @@ module _ (places : Places) (differ : Differ places) (codes : (k : ℕ) (p : Fiel
 
   -- a reply goes on its way after nothing
   pub replied : (grants new : Grants) (way : List ℕ) (items : List Item) (reply : Reply) → items ≡ []
-      → ((k : ℕ) → IsSuited (next_at client.talk.wants k) (grant_at new k) []) → AreBorne places (items_of reply)
+      → ((k : ℕ) → IsSuited (next_at client.talk.wants k) (grant_at new k) []) → AreOfPlace places (items_of reply)
       → Flows places client grants way items → Flows places client new (way ++ reply_bytes reply) (items_of reply)
-  replied grants new way items reply none suits borne f = record {
+  replied grants new way items reply none suits matched f = record {
     flow = flow_more client.kept way (reply_bytes reply) [] (items_of reply) (reply_items reply) (f.flow
         ∙ ap way_bytes none);
-    borne = borne;
+    matched = matched;
     suited = λ k. subst (IsSuited (next_at client.talk.wants k) (grant_at new k)) (sym (reply_carries k reply))
         (suits k);
   }

@@ -37,17 +37,17 @@ use Rattle.slink_model.proofs.Lined.{IsAnswered, begins_asking}
 use Rattle.slink_wire.proofs.RequestLines.{station_line}
 use Rattle.slink_model.proofs.Requested.{also_at}
 use Rattle.slink_model.proofs.Shaken.{ClientTalks, reads_talks}
-use Rattle.slink_model.proofs.Shaking.{AreCalled, AreBorne, AreFrom, AreRinged, AreSent, Flows, IsSuited, IsQuiet}
+use Rattle.slink_model.proofs.Shaking.{AreCalled, AreOfPlace, AreFrom, AreRinged, AreSent, Flows, IsSuited, IsQuiet}
 use Rattle.slink_model.proofs.Shaking.{LinkTalks}
 use Rattle.slink_model.proofs.Shaking.{Shakes, asks_end, asks_number, asks_place, has_none, has_number, has_place}
 use Rattle.slink_model.proofs.Shaking.{serves_talks, streams}
 use Rattle.slink_feed.proofs.Wanting.{short_all}
 use Rattle.slink_model.proofs.Worlds.{AreOf, each_of, none_granted, none_wanted, sound_more}
 
-pub borne_more : (places : Places) (xs ys : List Item) → AreBorne places xs → AreBorne places ys
-    → AreBorne places (xs ++ ys)
-borne_more places [] ys p q = q
-borne_more places (x ∷ xs) ys p q = (p.0, borne_more places xs ys p.1 q)
+pub matched_more : (places : Places) (xs ys : List Item) → AreOfPlace places xs → AreOfPlace places ys
+    → AreOfPlace places (xs ++ ys)
+matched_more places [] ys p q = q
+matched_more places (x ∷ xs) ys p q = (p.0, matched_more places xs ys p.1 q)
 
 pub sent_more : (xs ys : List Item) → AreSent xs → AreSent ys → AreSent (xs ++ ys)
 sent_more [] ys p q = q
@@ -140,9 +140,9 @@ module _ (places : Places) (differ : Differ places) (codes_are : (k : ℕ) (p : 
     none_sent s way l = subst (Stands s) (sym (append-nil way)) l
 
     shut : (s : State) (way more : List ℕ) (items : List Item) → s.phase ≡ Streaming → more ≡ way_bytes items
-        → AreBorne places items → AreSent items → ((k : ℕ) → of_place k items ≡ []) → Stands s way
+        → AreOfPlace places items → AreSent items → ((k : ℕ) → of_place k items ≡ []) → Stands s way
         → Stands (at Closed s.grants) (way ++ more)
-    shut s way more items phase bytes borne sent none l =
+    shut s way more items phase bytes matched sent none l =
         let now : (client.talk.stage ≡ Packets) × AreSent l.items
         × (¬ (s.phase ≡ Closed) → IsAnswered l.taken to_server) =
         streaming_is client.talk s.phase l.taken to_server l.items (λ b. subst IsBefore phase b) l.shakes in
@@ -152,7 +152,7 @@ module _ (places : Places) (differ : Differ places) (codes_are : (k : ℕ) (p : 
           items = l.items ++ items;
           flows = record {
             flow = flow_more client.kept way more l.items items bytes l.flows.flow;
-            borne = borne_more places l.items items l.flows.borne borne;
+            matched = matched_more places l.items items l.flows.matched matched;
             suited = λ k. subst (IsSuited (next_at client.talk.wants k) (grant_at s.grants k))
                 (sym (carries_none k l.items items (none k))) (l.flows.suited k);
           };
@@ -180,7 +180,7 @@ module _ (places : Places) (differ : Differ places) (codes_are : (k : ℕ) (p : 
           flows = record {
             flow = flow_more client.kept way (packet_bytes (g.position % 2 ^ 24) r) l.items item
                 (sym (append-nil (packet_bytes (g.position % 2 ^ 24) r))) l.flows.flow;
-            borne = borne_more places l.items item l.flows.borne ((p.0, p.1, sound.0, subst (Bears r) p.2 sound.1), tt);
+            matched = matched_more places l.items item l.flows.matched ((p.0, p.1, sound.0, subst (Bears r) p.2 sound.1), tt);
             suited = λ i. elim (same_or_not i k) [
               | inl e ↦ subst (λ y. IsSuited (next_at client.talk.wants y) (grant_at (set s.grants k (Some h)) y)
                   (of_place y (l.items ++ item))) (sym e)
@@ -307,7 +307,7 @@ module _ (places : Places) (differ : Differ places) (codes_are : (k : ℕ) (p : 
         says = ap (λ (o : Option Wanted). to_place o 0 talk) first.1;
         flows = record {
           flow = refl;
-          borne = tt;
+          matched = tt;
           suited = λ k. subst (λ (o : Option Grant). IsSuited (next_at talk.wants k) o [])
               (sym (ap (λ (s : State). grant_at s.grants k) state ∙ none_granted places 0 16 k)) refl;
         };

@@ -12,7 +12,7 @@ use Rattle.slink_feed.specs.declared.dialogue.Event.{Event}
 use Rattle.slink_feed.specs.declared.dialogue.Event.TheVariants as events
 use Rattle.slink_feed.specs.declared.dialogue.Wanted.{Wanted}
 use Rattle.slink_feed.specs.declared.grant.Grant.{Grant}
-use Rattle.slink_feed.specs.Dialogue.{Talk, Wants, bearer, is_borne, next_at, next_set, want_at, with_next}
+use Rattle.slink_feed.specs.Dialogue.{Talk, Wants, place_of, is_of_wanted, next_at, next_set, want_at, with_next}
 use Rattle.slink_feed.specs.Listening.{Brings, IsLinked, Listening}
 use Rattle.slink_feed.specs.Session.{State, grant_at}
 use Rattle.slink_feed.proofs.Reporting.{kept_event}
@@ -58,17 +58,17 @@ module _ {X : Type 0} (p : X → Bool) where
       let e : j - 0 ≡ j = omega arith in
       (all.1, ap (slice_get xs) (sym e) ∙ all.2, all.3)
 
-pub borne_is : (r : List ℕ) (o : Option Wanted) → is_borne r o ≡ true → (w : Wanted) × (o ≡ Some w) × Bears r w.place
-borne_is r None h = absurd (let bad : false ≡ true = h in cc bad)
-borne_is r (Some w) h = (w, refl, passes_bears w.place r h)
+pub matched_is : (r : List ℕ) (o : Option Wanted) → is_of_wanted r o ≡ true → (w : Wanted) × (o ≡ Some w) × Bears r w.place
+matched_is r None h = absurd (let bad : false ≡ true = h in cc bad)
+matched_is r (Some w) h = (w, refl, passes_bears w.place r h)
 
 -- the place that carries a record
-bearer_is : (wants : Wants) (r : List ℕ) (j : ℕ) → bearer wants r ≡ Some j
+place_is : (wants : Wants) (r : List ℕ) (j : ℕ) → place_of wants r ≡ Some j
     → (w : Wanted) × (slice_get wants j ≡ Some (Some w)) × Bears r w.place
-bearer_is wants r j h =
-    let at : (o : Option Wanted) × (slice_get wants j ≡ Some o) × (is_borne r o ≡ true) =
-    found (is_borne r) wants j h in
-    let is : (w : Wanted) × (at.0 ≡ Some w) × Bears r w.place = borne_is r at.0 at.2 in
+place_is wants r j h =
+    let at : (o : Option Wanted) × (slice_get wants j ≡ Some o) × (is_of_wanted r o ≡ true) =
+    found (is_of_wanted r) wants j h in
+    let is : (w : Wanted) × (at.0 ≡ Some w) × Bears r w.place = matched_is r at.0 at.2 in
     (is.0, at.1 ∙ ap (λ o. Some o) is.1, is.2)
 
 quiet_held : (f : Numbers) (e : Event) (t : Taking) → reported_of e ≡ None → ((noted f e t).held ≡ t.held)
@@ -284,7 +284,7 @@ module _ (places : Places) (first : ℕ) (pushed : Lists) (state : State) (first
   -- The record of the first packet on the way is held. It is of the place that carries it.
   taken_ties : (client new : Listening) (held : Lists) (start : Numbers) (way left : List ℕ) (k j n : ℕ) (r : List ℕ)
       (rest : List Item) → (c : ClientTies client held start way)
-      → c.link.items ≡ Carried k n r ∷ rest → left ≡ way_bytes rest → bearer client.talk.wants r ≡ Some j
+      → c.link.items ≡ Carried k n r ∷ rest → left ≡ way_bytes rest → place_of client.talk.wants r ≡ Some j
       → ((x : ℕ) → next_at client.talk.wants j ≡ Some x → n % 2 ^ 24 ≡ x)
       → new.talk.wants ≡ with_next client.talk.wants j ((n % 2 ^ 24 + 1) % 2 ^ 24)
       → new.talk.holes ≡ client.talk.holes → new.kept ≡ []
@@ -303,12 +303,12 @@ module _ (places : Places) (first : ℕ) (pushed : Lists) (state : State) (first
       (subst (IsOnWay (few k) first (get_or pushed k []) (get_or held k []) (number_at start k)
       (number_at first_sent k) (grant_at state.grants k)) of_k (c.link.places_are k lt)) in
       let q : (p : Fields × Option ℕ) × (slice_get places k ≡ Some p) = within_is places k lt in
-      let borne : (length r ≡ 512) × Bears r q.0.0 = sound k q.0 q.1 top.2 r top.3 in
+      let matched : (length r ≡ 512) × Bears r q.0.0 = sound k q.0 q.1 top.2 r top.3 in
       let b : (w : Wanted) × (slice_get client.talk.wants j ≡ Some (Some w)) × Bears r w.place =
-      bearer_is client.talk.wants r j bears in
+      place_is client.talk.wants r j bears in
       let pw : (p : Fields × Option ℕ) × (slice_get places j ≡ Some p) × (b.0.place ≡ p.0) =
       c.wanted j b.0 (ap (λ o. unwrap_or o None) b.1) in
-      let same : k ≡ j = differ k j q.0 pw.0 q.1 pw.1 (one_place r q.0.0 pw.0.0 borne.1 (subst (Bears r) pw.2 b.2)) in
+      let same : k ≡ j = differ k j q.0 pw.0 q.1 pw.1 (one_place r q.0.0 pw.0.0 matched.1 (subst (Bears r) pw.2 b.2)) in
       taken_at client new held start way left j n r rest b.0 pw.0 top.0 c (is ∙ ap (λ i. Carried i n r ∷ rest) same)
       flow (is_within places j pw.0 pw.1) pw.1 pw.2 b.1
       (subst (λ i. grant_at state.grants i ≡ Some top.0) same top.1) wanted wants holes none

@@ -14,7 +14,7 @@ use Rattle.slink_feed.specs.declared.grant.Grant.{Grant}
 use Rattle.slink_feed.specs.declared.dialogue.Wanted.{Wanted}
 use Rattle.slink_feed.specs.declared.session.Phase.{Phase}
 use Rattle.slink_feed.specs.declared.session.Phase.TheVariants.{Fresh, Chosen, Granted, Streaming, Closed}
-use Rattle.slink_feed.specs.Dialogue.{Talk, Wants, bearer, next_at, want_at, with_next}
+use Rattle.slink_feed.specs.Dialogue.{Talk, Wants, place_of, next_at, want_at, with_next}
 use Rattle.slink_feed.specs.Listening.{IsLinked, Listening}
 use Rattle.slink_feed.specs.Session.{State, grant_at, IsBefore}
 use Rattle.slink_feed.specs.Window.{Shows, Window, oldest_of}
@@ -117,7 +117,7 @@ pub data Outcome (t : Talk) (items : List Item) (bytes way : List ℕ) (new : Li
   says : (rest : List Item) → items ≡ Accepted ∷ rest → way ≡ way_bytes rest → new.talk.wants ≡ t.wants → new.kept ≡ []
       → reported_of e ≡ None → Outcome t items bytes way new e
   takes : (k j n : ℕ) (r : List ℕ) (rest : List Item) → items ≡ Carried k n r ∷ rest → way ≡ way_bytes rest
-      → bearer t.wants r ≡ Some j → ((w : ℕ) → next_at t.wants j ≡ Some w → n % 2 ^ 24 ≡ w)
+      → place_of t.wants r ≡ Some j → ((w : ℕ) → next_at t.wants j ≡ Some w → n % 2 ^ 24 ≡ w)
       → new.talk ≡ record t { wants = with_next t.wants j ((n % 2 ^ 24 + 1) % 2 ^ 24) } → new.kept ≡ []
       → reported_of e ≡ Some (record { index = j; number = n % 2 ^ 24; bytes = r }) → Outcome t items bytes way new e
   ends : (ending : Ending) → new.talk ≡ record t { stage = Ended ending } → new.kept ≡ [] → reported_of e ≡ None

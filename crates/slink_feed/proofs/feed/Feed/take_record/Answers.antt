@@ -6,20 +6,20 @@ pub push-requires : goal.push-requires
 push-requires g c = (
   search rules,
   (
-    c.in-Some-bearer.ensures.some.within,
-    (c.in-Some-bearer.ensures.some.bears, λ w there. c.requires c.in-Some-bearer.k w there),
+    c.in-Some-place_of.ensures.some.within,
+    (c.in-Some-place_of.ensures.some.bears, λ w there. c.requires c.in-Some-place_of.k w there),
   ),
 )
 
-pub returns-in-Some-bearer-clause-of : goal.returns-in-Some-bearer-clause-of
-returns-in-Some-bearer-clause-of g c =
-    of_feed c.args.self.now c.args.bytes.now c.in-Some.whole.now c.in-Some-bearer.k c.in-Some.ensures.cases.long
-    c.in-Some.ensures.cases.same c.in-Some-bearer.ensures.some
+pub returns-in-Some-place_of-clause-of : goal.returns-in-Some-place_of-clause-of
+returns-in-Some-place_of-clause-of g c =
+    of_feed c.args.self.now c.args.bytes.now c.in-Some.whole.now c.in-Some-place_of.k c.in-Some.ensures.cases.long
+    c.in-Some.ensures.cases.same c.in-Some-place_of.ensures.some
 
-pub returns-in-Some-bearer-clause-pushed : goal.returns-in-Some-bearer-clause-pushed
-returns-in-Some-bearer-clause-pushed g c =
-    pushed_is c.args.self.now c.push.new.self c.args.bytes.now c.in-Some.whole.now c.in-Some-bearer.k
-    c.in-Some.ensures.cases.same c.in-Some-bearer.ensures.some c.push.ensures.pushed
+pub returns-in-Some-place_of-clause-pushed : goal.returns-in-Some-place_of-clause-pushed
+returns-in-Some-place_of-clause-pushed g c =
+    pushed_is c.args.self.now c.push.new.self c.args.bytes.now c.in-Some.whole.now c.in-Some-place_of.k
+    c.in-Some.ensures.cases.same c.in-Some-place_of.ensures.some c.push.ensures.pushed
 
 pub returns-in-None-clause-foreign : goal.returns-in-None-clause-foreign
 returns-in-None-clause-foreign g c =

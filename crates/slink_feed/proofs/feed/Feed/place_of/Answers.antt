@@ -1,7 +1,7 @@
 use Rattle.std.proofs.Common.{arith}
 use Rattle.slink_feed.proofs.Items.{is_within}
 use Rattle.slink_feed.proofs.Places.{bears_by, bears_not, none_more}
-use Rattle.slink_feed.proofs.feed.Feed.bearer.Goals as goal
+use Rattle.slink_feed.proofs.feed.Feed.place_of.Goals as goal
 
 pub returns-then-bears-clause-some : goal.returns-then-bears-clause-some
 returns-then-bears-clause-some g c = record {
