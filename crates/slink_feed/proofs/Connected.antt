@@ -28,7 +28,7 @@ use Rattle.slink_feed.specs.Rounds.{Attending, Gives, SendsAll, all_sent, place_
 use Rattle.slink_feed.specs.Running.{HasStream, Stands, StandsFor}
 use Rattle.slink_feed.specs.Sending.{AreCalled, AreShown, Called, IsReadFrom, packet_in, packets_of}
 use Rattle.slink_feed.specs.Serving.{Answers, IsAnswer, Serves, Standing, Takes, none_served, piece_served}
-use Rattle.slink_feed.specs.Session.{IsBefore, State, all_done, answered_in, at_next, grant_at, in_streaming, packet_at}
+use Rattle.slink_feed.specs.Session.{IsBefore, State, has_sent_all, answered_in, at_next, grant_at, in_streaming, packet_at}
 use Rattle.slink_feed.specs.Session.{reply_at_next, sent, sent_bytes, sent_in, sent_of}
 use Rattle.slink_feed.specs.Window.{Shows, Window, record_at}
 use Rattle.slink_feed.proofs.Closing.{Open, open_or}
@@ -45,8 +45,8 @@ on_next t true on = inr refl
 on_next t false on = inl on
 
 on_from : (feed : List Window) (t : State) (place : ℕ) (h : Grant) (w : Window) (b : Bool) → t.phase ≡ Streaming
-    → IsOn (if b then at_next (all_done feed t.grants) t else packet_at t place h (record_at w h.position)).0.phase
-on_from feed t place h w true on = on_next t (all_done feed t.grants) on
+    → IsOn (if b then at_next (has_sent_all feed t.grants) t else packet_at t place h (record_at w h.position)).0.phase
+on_from feed t place h w true on = on_next t (has_sent_all feed t.grants) on
 on_from feed t place h w false on = on_packet t place h (record_at w h.position) on
 
 on_of : (feed : List Window) (t : State) (place : ℕ) (o : Option Grant) (r : Option Window) → t.phase ≡ Streaming
@@ -98,8 +98,8 @@ bare_next k place t false at_k = record { none = none_either (place == k); stays
 
 bare_from : (k place : ℕ) (feed : List Window) (h : Grant) (t : State) (w : Window) (b : Bool)
     → grant_at t.grants k ≡ None → grant_at t.grants place ≡ Some h
-    → Bare k place (if b then at_next (all_done feed t.grants) t else packet_at t place h (record_at w h.position))
-bare_from k place feed h t w true at_k at_place = bare_next k place t (all_done feed t.grants) at_k
+    → Bare k place (if b then at_next (has_sent_all feed t.grants) t else packet_at t place h (record_at w h.position))
+bare_from k place feed h t w true at_k at_place = bare_next k place t (has_sent_all feed t.grants) at_k
 bare_from k place feed h t w false at_k at_place = bare_packet k place h t (record_at w h.position) at_k at_place
 
 bare_of : (k place : ℕ) (feed : List Window) (t : State) (o : Option Grant) (r : Option Window)

@@ -2,7 +2,7 @@
 use Rattle.std.proofs.Common.{◌≡◌, ℕ, ◌+◌, ◌<◌, ◌≤◌, zero, suc, refl, sym, ap, subst, ◌∙◌, arith, add-one, Bool, true}
 use Rattle.std.proofs.Common.{false, ◌&&◌, List, [], ◌∷◌, length, take, take_all, Some, None, slice_get}
 use Rattle.std.specs.List.{list_all, zip}
-use Rattle.slink_feed.specs.Session.{Grants, all_done, grant_at, is_done}
+use Rattle.slink_feed.specs.Session.{Grants, has_sent_all, grant_at, has_sent}
 use Rattle.slink_feed.specs.Window.{Window}
 
 both : (p q : Bool) → (p && q) ≡ true → (p ≡ true) × (q ≡ true)
@@ -21,32 +21,32 @@ same_some v w e = cc e
 
 -- what was called of the first k places
 abbrev pub first_done : List Window → Grants → ℕ → Bool
-first_done feed grants k = list_all (λ p. is_done p.0 p.1) (take k (zip feed grants))
+first_done feed grants k = list_all (λ p. has_sent p.0 p.1) (take k (zip feed grants))
 
 done_next : (ws : List Window) (gs : Grants) (k : ℕ) (w : Window) → slice_get ws k ≡ Some w
-    → is_done w (grant_at gs k) ≡ true → first_done ws gs k ≡ true → first_done ws gs (suc k) ≡ true
+    → has_sent w (grant_at gs k) ≡ true → first_done ws gs k ≡ true → first_done ws gs (suc k) ≡ true
 done_next [] gs k w here d before = refl
 done_next (v ∷ ws) [] k w here d before = refl
 done_next (v ∷ ws) (o ∷ gs) zero w here d before =
-    join (is_done v o) true (ap (λ x. is_done x o) (same_some v w here) ∙ d) refl
+    join (has_sent v o) true (ap (λ x. has_sent x o) (same_some v w here) ∙ d) refl
 done_next (v ∷ ws) (o ∷ gs) (suc k) w here d before =
-    let each : (is_done v o ≡ true) × (first_done ws gs k ≡ true) = both (is_done v o) (first_done ws gs k) before in
-    join (is_done v o) (first_done ws gs (suc k)) each.0 (done_next ws gs k w here d each.1)
+    let each : (has_sent v o ≡ true) × (first_done ws gs k ≡ true) = both (has_sent v o) (first_done ws gs k) before in
+    join (has_sent v o) (first_done ws gs (suc k)) each.0 (done_next ws gs k w here d each.1)
 
 pub done_more : (ws : List Window) (gs : Grants) (k : ℕ) (w : Window) (t : Bool) → slice_get ws k ≡ Some w
-    → t ≡ is_done w (grant_at gs k) → t ≡ true → first_done ws gs k ≡ true → first_done ws gs (k + 1) ≡ true
+    → t ≡ has_sent w (grant_at gs k) → t ≡ true → first_done ws gs k ≡ true → first_done ws gs (k + 1) ≡ true
 done_more ws gs k w t here d passes before = rw (add-one k) (done_next ws gs k w here (sym d ∙ passes) before)
 
 not_done_at : (ws : List Window) (gs : Grants) (k : ℕ) (w : Window) → slice_get ws k ≡ Some w
-    → is_done w (grant_at gs k) ≡ false → all_done ws gs ≡ false
+    → has_sent w (grant_at gs k) ≡ false → has_sent_all ws gs ≡ false
 not_done_at [] gs k w here d = absurd (let bad : None ≡ Some w = here in cc bad)
 not_done_at (v ∷ ws) [] k w here d = absurd (let bad : true ≡ false = d in cc bad)
 not_done_at (v ∷ ws) (o ∷ gs) zero w here d =
-    ap (λ t. t && all_done ws gs) (ap (λ x. is_done x o) (same_some v w here) ∙ d)
-not_done_at (v ∷ ws) (o ∷ gs) (suc k) w here d = one_fails (is_done v o) (all_done ws gs) (not_done_at ws gs k w here d)
+    ap (λ t. t && has_sent_all ws gs) (ap (λ x. has_sent x o) (same_some v w here) ∙ d)
+not_done_at (v ∷ ws) (o ∷ gs) (suc k) w here d = one_fails (has_sent v o) (has_sent_all ws gs) (not_done_at ws gs k w here d)
 
 pub not_done : (ws : List Window) (gs : Grants) (k : ℕ) (w : Window) (t : Bool) → slice_get ws k ≡ Some w
-    → t ≡ is_done w (grant_at gs k) → t ≡ false → all_done ws gs ≡ false
+    → t ≡ has_sent w (grant_at gs k) → t ≡ false → has_sent_all ws gs ≡ false
 not_done ws gs k w t here d fails = not_done_at ws gs k w here (sym d ∙ fails)
 
 zip_bound : (ws : List Window) (gs : Grants) → length (zip ws gs) ≤ length ws
@@ -55,9 +55,9 @@ zip_bound (v ∷ ws) [] = omega arith
 zip_bound (v ∷ ws) (o ∷ gs) = let more : length (zip ws gs) ≤ length ws = zip_bound ws gs in omega (arith, more)
 
 pub done_all : (ws : List Window) (gs : Grants) (k : ℕ) → length ws ≤ k → first_done ws gs k ≡ true
-    → all_done ws gs ≡ true
+    → has_sent_all ws gs ≡ true
 done_all ws gs k e before =
-    subst (λ xs. list_all (λ p. is_done p.0 p.1) xs ≡ true)
+    subst (λ xs. list_all (λ p. has_sent p.0 p.1) xs ≡ true)
     (take_all k (zip ws gs) (omega (arith, e, zip_bound ws gs))) before
 
 pub some_at : (ws : List Window) (k : ℕ) → k < length ws → (w : Window) × (slice_get ws k ≡ Some w)

@@ -8,7 +8,7 @@ use Rattle.slink_feed.specs.declared.session.Phase.{Phase}
 use Rattle.slink_feed.specs.declared.session.Phase.TheVariants.{Fresh, Chosen, Granted, Streaming, Closed}
 use Rattle.slink_feed.specs.declared.session.Sent.{Sent}
 use Rattle.slink_feed.specs.declared.session.Sent.TheVariants as sents
-use Rattle.slink_feed.specs.Session.{AreReached, Grants, State, all_done, at_next, grant_at, packet_at, sent, sent_from}
+use Rattle.slink_feed.specs.Session.{AreReached, Grants, State, has_sent_all, at_next, grant_at, packet_at, sent, sent_from}
 use Rattle.slink_feed.specs.Session.{sent_in, sent_of}
 use Rattle.slink_feed.specs.Window.{Window, oldest_of, record_at}
 use Rattle.slink_feed.proofs.Reached.{position_reached}
@@ -110,12 +110,12 @@ moved_from : (feed : List Window) (s : State) (k : ℕ) (g : Grant) (w : Window)
     → Moves feed s (sent_from feed s k g w)
 moved_from feed s k g w is at here within few = elim (eqb_tells g.position w.next) [
   | inl same ↦
-      let e : sent_from feed s k g w ≡ at_next (all_done feed s.grants) s =
-      ap (λ b. if b then at_next (all_done feed s.grants) s else packet_at s k g (record_at w g.position)) same.0 in
-      subst (Moves feed s) (sym e) (moved_next feed s (all_done feed s.grants) is)
+      let e : sent_from feed s k g w ≡ at_next (has_sent_all feed s.grants) s =
+      ap (λ b. if b then at_next (has_sent_all feed s.grants) s else packet_at s k g (record_at w g.position)) same.0 in
+      subst (Moves feed s) (sym e) (moved_next feed s (has_sent_all feed s.grants) is)
   | inr other ↦
       let e : sent_from feed s k g w ≡ packet_at s k g (record_at w g.position) =
-      ap (λ b. if b then at_next (all_done feed s.grants) s else packet_at s k g (record_at w g.position))
+      ap (λ b. if b then at_next (has_sent_all feed s.grants) s else packet_at s k g (record_at w g.position))
       other.0 in
       subst (Moves feed s) (sym e) (moved_packet feed s k g w (record_at w g.position) is at here
       (omega (arith, within, other.1)) refl (λ bytes p. few bytes (ap (λ (x : State × Sent). x.1) e ∙ p)))

@@ -21,7 +21,7 @@ use Rattle.slink_feed.specs.Connection.{AreAlike, EmittedAlike}
 use Rattle.slink_feed.specs.Rounds.{Attending, FailsToSend, Gives, HasWaited, SendsAll, all_sent, place_after}
 use Rattle.slink_feed.specs.Running.{Stands, StandsFor}
 use Rattle.slink_feed.specs.Serving.{Serves, Standing}
-use Rattle.slink_feed.specs.Session.{State, all_done, at_next, grant_at, packet_at, sent, sent_bytes, sent_in, sent_of}
+use Rattle.slink_feed.specs.Session.{State, has_sent_all, at_next, grant_at, packet_at, sent, sent_bytes, sent_in, sent_of}
 use Rattle.slink_feed.specs.Turns.{reported_once}
 use Rattle.slink_feed.specs.Window.{Window, record_at}
 use Rattle.slink_feed.proofs.Closing.{Open, standings_same}
@@ -42,8 +42,8 @@ idle_packet s k g None = λ e. absurd (let bad : sents.Overrun ≡ sents.Wait = 
 idle_packet s k g (Some bytes) = λ e. cc e
 
 idle_from : (feed : List Window) (s : State) (k : ℕ) (g : Grant) (w : Window) (b : Bool)
-    → Idle s (if b then at_next (all_done feed s.grants) s else packet_at s k g (record_at w g.position))
-idle_from feed s k g w true = idle_next s (all_done feed s.grants)
+    → Idle s (if b then at_next (has_sent_all feed s.grants) s else packet_at s k g (record_at w g.position))
+idle_from feed s k g w true = idle_next s (has_sent_all feed s.grants)
 idle_from feed s k g w false = idle_packet s k g (record_at w g.position)
 
 idle_of : (feed : List Window) (s : State) (k : ℕ) (o : Option Grant) (r : Option Window)

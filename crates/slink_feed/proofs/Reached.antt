@@ -7,7 +7,7 @@ use Rattle.slink_feed.specs.declared.grant.Grant.{Grant}
 use Rattle.slink_feed.specs.declared.session.Phase.{Phase}
 use Rattle.slink_feed.specs.declared.session.Phase.TheVariants.{Streaming}
 use Rattle.slink_feed.specs.declared.session.Sent.{Sent}
-use Rattle.slink_feed.specs.Session.{AreReached, Grants, IsReached, State, all_done, at_next, grant_at, packet_at, sent}
+use Rattle.slink_feed.specs.Session.{AreReached, Grants, IsReached, State, has_sent_all, at_next, grant_at, packet_at, sent}
 use Rattle.slink_feed.specs.Session.{sent_from, sent_in, sent_of}
 use Rattle.slink_feed.specs.Window.{Window, record_at}
 
@@ -65,10 +65,10 @@ sent_is feed s k g w o x phase read is here e =
 -- what is sent at the ring's next record
 pub sent_at_next : (feed : List Window) (s : State) (k : ℕ) (g : Grant) (w : Window) (n : ℕ) → s.phase ≡ Streaming
     → grant_at s.grants k ≡ Some g → slice_get feed k ≡ Some w → n ≡ w.next → g.position ≡ n
-    → sent feed s k ≡ at_next (all_done feed s.grants) s
+    → sent feed s k ≡ at_next (has_sent_all feed s.grants) s
 sent_at_next feed s k g w n is granted here next at = elim (eqb_tells g.position w.next) [
-  | inl same ↦ sent_is feed s k g w (Some g) (at_next (all_done feed s.grants) s) is (sym granted) refl here
-      (ap (λ b. if b then at_next (all_done feed s.grants) s else packet_at s k g (record_at w g.position)) same.0)
+  | inl same ↦ sent_is feed s k g w (Some g) (at_next (has_sent_all feed s.grants) s) is (sym granted) refl here
+      (ap (λ b. if b then at_next (has_sent_all feed s.grants) s else packet_at s k g (record_at w g.position)) same.0)
   | inr other ↦ absurd (other.1 (at ∙ next))
 ]
 
@@ -79,6 +79,6 @@ pub sent_by_record : (feed : List Window) (s : State) (k : ℕ) (g : Grant) (w :
 sent_by_record feed s k g w o is granted here read off = elim (eqb_tells g.position w.next) [
   | inl same ↦ absurd (off same.1)
   | inr other ↦ sent_is feed s k g w (Some g) (packet_at s k g o) is (sym granted) refl here
-      (ap (λ b. if b then at_next (all_done feed s.grants) s else packet_at s k g (record_at w g.position)) other.0
+      (ap (λ b. if b then at_next (has_sent_all feed s.grants) s else packet_at s k g (record_at w g.position)) other.0
       ∙ ap (packet_at s k g) (sym read))
 ]

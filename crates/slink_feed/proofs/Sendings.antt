@@ -16,7 +16,7 @@ use Rattle.slink_feed.specs.declared.session.Phase.TheVariants.{Streaming, Close
 use Rattle.slink_feed.specs.declared.session.Sent.{Sent}
 use Rattle.slink_feed.specs.declared.session.Sent.TheVariants as Sents
 use Rattle.slink_feed.specs.Serving.{IsAnswer}
-use Rattle.slink_feed.specs.Session.{Grants, State, all_done, answered_in, at_next, grant_at, in_streaming, packet_at}
+use Rattle.slink_feed.specs.Session.{Grants, State, has_sent_all, answered_in, at_next, grant_at, in_streaming, packet_at}
 use Rattle.slink_feed.specs.Session.{sent, sent_in, sent_of}
 use Rattle.slink_feed.specs.Sending.{AreCalled, AreShown, Called, IsReadFrom, IsStretch, packet_in, packets_from}
 use Rattle.slink_feed.specs.Sending.{packets_of}
@@ -138,9 +138,9 @@ step_next k place g feed t false at_k on = quiet (none_either (place == k)) at_k
 step_from : (k place : ℕ) (g h : Grant) (feed : List Window) (t : State) (w : Window) (b : Bool)
     → grant_at t.grants k ≡ Some g → grant_at t.grants place ≡ Some h → slice_get feed place ≡ Some w
     → t.phase ≡ Streaming
-    → Stepped k g feed place (if b then at_next (all_done feed t.grants) t else packet_at t place h
+    → Stepped k g feed place (if b then at_next (has_sent_all feed t.grants) t else packet_at t place h
     (record_at w h.position))
-step_from k place g h feed t w true at_k at_place here on = step_next k place g feed t (all_done feed t.grants) at_k on
+step_from k place g h feed t w true at_k at_place here on = step_next k place g feed t (has_sent_all feed t.grants) at_k on
 step_from k place g h feed t w false at_k at_place here on =
     step_packet k place g h feed t w (record_at w h.position) at_k at_place here refl on
 

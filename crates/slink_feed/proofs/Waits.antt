@@ -10,7 +10,7 @@ use Rattle.slink_feed.specs.declared.session.Phase.TheVariants.{Streaming}
 use Rattle.slink_feed.specs.declared.session.Phase.TheVariants as Phases
 use Rattle.slink_feed.specs.declared.session.Sent.{Sent}
 use Rattle.slink_feed.specs.declared.session.Sent.TheVariants.{Closed, Done, Overrun, Packet, Wait}
-use Rattle.slink_feed.specs.Session.{Grants, IsAtNext, IsWaiting, State, all_done, at_next, grant_at, is_done}
+use Rattle.slink_feed.specs.Session.{Grants, IsAtNext, IsWaiting, State, has_sent_all, at_next, grant_at, has_sent}
 use Rattle.slink_feed.specs.Session.{packet_at, sent, sent_in, sent_of}
 use Rattle.slink_feed.specs.Window.{Window, record_at}
 use Rattle.slink_feed.specs.Grant.{is_fetch}
@@ -20,7 +20,7 @@ use Rattle.slink_feed.proofs.Reached.{sent_at_next, sent_by_record}
 -- a place at its ring's next record, where not all are done
 waits_at : (feed : List Window) (s : State) (k : ℕ) (w : Window) (o : Option Grant) → s.phase ≡ Streaming
     → grant_at s.grants k ≡ o → slice_get feed k ≡ Some w → IsAtNext feed s.grants k
-    → all_done feed s.grants ≡ false → sent feed s k ≡ (s, Wait)
+    → has_sent_all feed s.grants ≡ false → sent feed s k ≡ (s, Wait)
 waits_at feed s k w None phase granted here at unfinished =
     ap (λ (p : Phase). sent_in p feed s k) phase
     ∙ ap (λ (h : Option Grant). sent_of feed s k h (slice_get feed k)) granted
@@ -29,7 +29,7 @@ waits_at feed s k w (Some g) phase granted here at unfinished =
 
 -- where each place that has a grant is at its ring's next record, and not all are done
 pub waits_all : (feed : List Window) (s : State) → s.phase ≡ Streaming
-    → ((k : ℕ) → k < length feed → IsAtNext feed s.grants k) → all_done feed s.grants ≡ false → IsWaiting feed s
+    → ((k : ℕ) → k < length feed → IsAtNext feed s.grants k) → has_sent_all feed s.grants ≡ false → IsWaiting feed s
 waits_all feed s phase at unfinished k lt =
     let here = some_at feed k lt in
     waits_at feed s k here.0 (grant_at s.grants k) phase refl here.1 (at k lt) unfinished
@@ -84,7 +84,7 @@ sends_off feed s k phase lt off waits =
 
 -- where one place has a grant, is at its ring's next record, and all are done
 sends_end : (feed : List Window) (s : State) (k : ℕ) (g : Grant) → s.phase ≡ Streaming → k < length feed
-    → grant_at s.grants k ≡ Some g → IsAtNext feed s.grants k → all_done feed s.grants ≡ true → ¬ (IsWaiting feed s)
+    → grant_at s.grants k ≡ Some g → IsAtNext feed s.grants k → has_sent_all feed s.grants ≡ true → ¬ (IsWaiting feed s)
 sends_end feed s k g phase lt granted at done waits =
     let here = some_at feed k lt in
     no_wait_done s (sym (sent_at_next feed s k g here.0 (here.0).next phase granted here.1 refl
@@ -93,7 +93,7 @@ sends_end feed s k g phase lt granted at done waits =
 -- where each place that has a grant is at its ring's next record, and one has a grant: by whether all are done
 pub waits_unless_done : (feed : List Window) (s : State) (k : ℕ) (g : Grant) (t : Bool) → s.phase ≡ Streaming
     → k < length feed → grant_at s.grants k ≡ Some g → ((j : ℕ) → j < length feed → IsAtNext feed s.grants j)
-    → t ≡ all_done feed s.grants → (not t ≡ true) ↔ IsWaiting feed s
+    → t ≡ has_sent_all feed s.grants → (not t ≡ true) ↔ IsWaiting feed s
 waits_unless_done feed s k g true phase lt granted at done = (
   λ is. absurd (let bad : false ≡ true = is in cc bad),
   λ waits. absurd (sends_end feed s k g phase lt granted (at k lt) (sym done) waits),
@@ -130,7 +130,7 @@ due_open true b e = e
 due_open false b e = refl
 
 open_at : (feed : List Window) (gs : Grants) (k : ℕ) (w : Window) (o : Option Grant) → grant_at gs k ≡ o
-    → slice_get feed k ≡ Some w → ¬ (IsAtNext feed gs k) → is_done w o ≡ false
+    → slice_get feed k ≡ Some w → ¬ (IsAtNext feed gs k) → has_sent w o ≡ false
 open_at feed gs k w None granted here off =
     absurd (off (λ g v other there. absurd (let bad : None ≡ Some g = sym granted ∙ other in cc bad)))
 open_at feed gs k w (Some g) granted here off = elim (eqb_tells g.position w.next) [
@@ -139,10 +139,10 @@ open_at feed gs k w (Some g) granted here off = elim (eqb_tells g.position w.nex
 ]
 
 unfinished : (feed : List Window) (gs : Grants) (k : ℕ) → k < length feed → ¬ (IsAtNext feed gs k)
-    → all_done feed gs ≡ false
+    → has_sent_all feed gs ≡ false
 unfinished feed gs k lt off =
     let here = some_at feed k lt in
-    not_done feed gs k here.0 (is_done here.0 (grant_at gs k)) here.1 refl
+    not_done feed gs k here.0 (has_sent here.0 (grant_at gs k)) here.1 refl
     (open_at feed gs k here.0 (grant_at gs k) refl here.1 off)
 
 -- While the next record of a place is due, or left its ring, nothing is sent of those at their rings' next records,

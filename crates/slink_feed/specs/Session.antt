@@ -128,12 +128,12 @@ abbrev pub ended : State → State × Reply
 ended s = (at Closed s.grants, reply_at_next s.phase)
 
 -- A place without a grant is done, and so is one that fetches, once it has the last record.
-abbrev pub is_done : Window → Option Grant → Bool
-is_done w None = true
-is_done w (Some g) = is_fetch g.mode && (g.position == w.next)
+abbrev pub has_sent : Window → Option Grant → Bool
+has_sent w None = true
+has_sent w (Some g) = is_fetch g.mode && (g.position == w.next)
 
-abbrev pub all_done : List Window → Grants → Bool
-all_done feed grants = list_all (λ p. is_done p.0 p.1) (zip feed grants)
+abbrev pub has_sent_all : List Window → Grants → Bool
+has_sent_all feed grants = list_all (λ p. has_sent p.0 p.1) (zip feed grants)
 
 -- at the next record's number
 abbrev pub at_next : Bool → State → State × Sent
@@ -150,7 +150,7 @@ packet_at s k g (Some bytes) = (
 
 abbrev pub sent_from : List Window → State → ℕ → Grant → Window → State × Sent
 sent_from feed s k g w =
-    if g.position == w.next then at_next (all_done feed s.grants) s else packet_at s k g (record_at w g.position)
+    if g.position == w.next then at_next (has_sent_all feed s.grants) s else packet_at s k g (record_at w g.position)
 
 abbrev pub sent_of : List Window → State → ℕ → Option Grant → Option Window → State × Sent
 sent_of feed s k None ring = (s, Sents.Wait)

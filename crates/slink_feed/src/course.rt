@@ -8,8 +8,8 @@ ghost use Rattle.slink_feed.specs.declared.grant.Grant.{Grant};
 ghost use Rattle.slink_feed.specs.declared.session.Phase.{Phase};
 ghost use Rattle.slink_feed.specs.declared.session.Sent.{Sent};
 ghost use Rattle.slink_feed.specs.Serving.{IsAnswer};
-ghost use Rattle.slink_feed.specs.Session.{AreReached, Fits, all_done, answered, called, at, at_next, chosen, ended};
-ghost use Rattle.slink_feed.specs.Session.{grant_at, in_chosen, in_fresh, in_granted, in_streaming, is_done, sent};
+ghost use Rattle.slink_feed.specs.Session.{AreReached, Fits, has_sent_all, answered, called, at, at_next, chosen, ended};
+ghost use Rattle.slink_feed.specs.Session.{grant_at, in_chosen, in_fresh, in_granted, in_streaming, has_sent, sent};
 ghost use Rattle.slink_feed.specs.Session.{IsAtNext, IsWaiting, sent_without};
 ghost use Rattle.slink_feed.specs.Window.{record_at};
 
@@ -196,7 +196,7 @@ impl Course {
                 has_grant = true;
             }
         }
-        !has_grant || !self.is_done(feed)
+        !has_grant || !self.has_sent_all(feed)
     }
 
     /// Whether a record of a place is due, or was, and left its ring.
@@ -221,11 +221,11 @@ impl Course {
 
     /// Closes where all that was granted is fetched.
     fn at_next<A: Allocator>(&mut self, feed: &Feed<A>) -> Unsent
-        ensures sent { at_next (all_done feed.now self.old.grants) self.old ≡ (self.new, sent_without result) }
+        ensures sent { at_next (has_sent_all feed.now self.old.grants) self.old ≡ (self.new, sent_without result) }
         ensures grants { self.new.grants ≡ self.old.grants }
         ensures phase { (self.new.phase ≡ self.old.phase) ⊎ (self.new.phase ≡ Phase.Closed) }
     {
-        if !self.is_done(feed) {
+        if !self.has_sent_all(feed) {
             return Unsent::Wait;
         }
         self.phase = Phase::Closed;
@@ -233,11 +233,11 @@ impl Course {
     }
 
     /// Whether all that was granted is fetched.
-    pub(crate) fn is_done<A: Allocator>(&self, feed: &Feed<A>) -> bool
-        ensures { result ≡ all_done feed.now self.now.grants }
+    pub(crate) fn has_sent_all<A: Allocator>(&self, feed: &Feed<A>) -> bool
+        ensures { result ≡ has_sent_all feed.now self.now.grants }
     {
         for k in 0..feed.len() {
-            if !self.is_place_done(feed, k) {
+            if !self.has_sent_place(feed, k) {
                 return false;
             }
         }
@@ -245,9 +245,9 @@ impl Course {
     }
 
     /// Whether what was granted of a place is fetched.
-    fn is_place_done<A: Allocator>(&self, feed: &Feed<A>, k: usize) -> bool
+    fn has_sent_place<A: Allocator>(&self, feed: &Feed<A>, k: usize) -> bool
         requires { k < length feed.now }
-        ensures { ForSome (slice_get feed.now k) (λ w. result ≡ is_done w (grant_at self.now.grants k)) }
+        ensures { ForSome (slice_get feed.now k) (λ w. result ≡ has_sent w (grant_at self.now.grants k)) }
     {
         match self.grant_of(k) {
             Some(grant) => grant.is_fetched(feed.ring(k).next()),

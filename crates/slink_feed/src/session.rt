@@ -9,7 +9,7 @@ ghost use Rattle.slink_feed.specs.declared.grant.Grant.{Grant};
 ghost use Rattle.slink_feed.specs.Window.{Window};
 ghost use Rattle.slink_feed.specs.Running.{Stands};
 ghost use Rattle.slink_feed.specs.Serving.{Answers, TakesWhole};
-ghost use Rattle.slink_feed.specs.Session.{Fits, IsAtNext, IsWaiting, all_done, at, grant_at, sent, sent_bytes};
+ghost use Rattle.slink_feed.specs.Session.{Fits, IsAtNext, IsWaiting, has_sent_all, at, grant_at, sent, sent_bytes};
 ghost use Rattle.slink_feed.specs.Session.{sent_without};
 
 use crate::course::Course;
@@ -227,9 +227,9 @@ impl Session {
     ///
     /// It is lent the same feed at every call, whose rings keep their indices.
     pub fn has_sent_all<A: Allocator>(&self, feed: &Feed<A>) -> bool
-        ensures { result ≡ all_done feed.now self.now.state.grants }
+        ensures { result ≡ has_sent_all feed.now self.now.state.grants }
     {
-        self.course.is_done(feed)
+        self.course.has_sent_all(feed)
     }
 
     /// Does nothing. Where it is called, a proof knows that the session stands for the stream that its link brought,

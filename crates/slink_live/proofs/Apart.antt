@@ -4,7 +4,7 @@ use Rattle.std.proofs.Common.{Bool, ◌&&◌, List, [], ◌∷◌, length, Optio
 use Rattle.slink_feed.specs.declared.grant.Grant.{Grant}
 use Rattle.slink_feed.specs.declared.session.Phase.{Phase}
 use Rattle.slink_feed.specs.declared.session.Phase.TheVariants as Phases
-use Rattle.slink_feed.specs.Session.{Grants, IsWaiting, State, all_done, at_next, grant_at, is_done, packet_at, sent}
+use Rattle.slink_feed.specs.Session.{Grants, IsWaiting, State, has_sent_all, at_next, grant_at, has_sent, packet_at, sent}
 use Rattle.slink_feed.specs.Session.{sent_in, sent_of}
 use Rattle.slink_feed.specs.Window.{Window, record_at}
 use Rattle.slink_live.specs.declared.places.Places.{Places}
@@ -31,12 +31,12 @@ alike_by old new gs same k = elim (granted_or (grant_at gs k)) [
 same_some : (v w : Window) → Some v ≡ Some w → v ≡ w
 same_some v w e = cc e
 
-one_done : (w v : Window) (o : Option Grant) → (o ≡ None) ⊎ (Some v ≡ Some w) → is_done v o ≡ is_done w o
-one_done w v o (inl none) = ap (is_done v) none ∙ sym (ap (is_done w) none)
-one_done w v o (inr same) = ap (λ (x : Window). is_done x o) (same_some v w same)
+one_done : (w v : Window) (o : Option Grant) → (o ≡ None) ⊎ (Some v ≡ Some w) → has_sent v o ≡ has_sent w o
+one_done w v o (inl none) = ap (has_sent v) none ∙ sym (ap (has_sent w) none)
+one_done w v o (inr same) = ap (λ (x : Window). has_sent x o) (same_some v w same)
 
 done_alike : (ws vs : List Window) (gs : Grants) → length vs ≡ length ws → AreAlike ws vs gs
-    → all_done vs gs ≡ all_done ws gs
+    → has_sent_all vs gs ≡ has_sent_all ws gs
 done_alike [] [] gs long alike = refl
 done_alike [] (v ∷ vs) gs long alike = absurd (omega (arith, long))
 done_alike (w ∷ ws) [] gs long alike = absurd (omega (arith, long))
@@ -45,7 +45,7 @@ done_alike (w ∷ ws) (v ∷ vs) (o ∷ gs) long alike =
     ap₂ (λ (a b : Bool). a && b) (one_done w v o (alike 0))
     (done_alike ws vs gs (omega (arith, long)) (λ k. alike (suc k)))
 
-module _ (old new : List Window) (s : State) (done : all_done new s.grants ≡ all_done old s.grants) (k : ℕ) where
+module _ (old new : List Window) (s : State) (done : has_sent_all new s.grants ≡ has_sent_all old s.grants) (k : ℕ) where
   alike_ring : (g : Grant) (r : Option Window) → sent_of new s k (Some g) r ≡ sent_of old s k (Some g) r
   alike_ring g None = refl
   alike_ring g (Some w) =

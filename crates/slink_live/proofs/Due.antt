@@ -8,7 +8,7 @@ use Rattle.slink_feed.specs.declared.session.Phase.{Phase}
 use Rattle.slink_feed.specs.declared.session.Phase.TheVariants as Phases
 use Rattle.slink_feed.specs.declared.session.Sent.{Sent}
 use Rattle.slink_feed.specs.declared.session.Sent.TheVariants as Sents
-use Rattle.slink_feed.specs.Session.{Grants, IsAtNext, IsWaiting, State, all_done, at_next, grant_at, sent, sent_bytes}
+use Rattle.slink_feed.specs.Session.{Grants, IsAtNext, IsWaiting, State, has_sent_all, at_next, grant_at, sent, sent_bytes}
 use Rattle.slink_feed.specs.Session.{sent_in, sent_of}
 use Rattle.slink_feed.specs.Window.{Window}
 use Rattle.slink_feed.proofs.Done.{some_at}
@@ -155,9 +155,9 @@ closed_of feed s t k a None granted streams lt at given sends =
     ∙ ap (λ (o : Option Grant). sent_of feed s k o (slice_get feed k)) granted))
 closed_of feed s t k a (Some g) granted streams lt at given sends =
     let here = some_at feed k lt in
-    let is : sent feed s k ≡ at_next (all_done feed s.grants) s =
+    let is : sent feed s k ≡ at_next (has_sent_all feed s.grants) s =
     sent_at_next feed s k g here.0 (here.0).next streams granted here.1 refl (at g here.0 granted here.1) in
-    closed_next (all_done feed s.grants) s t a (sym is ∙ given) (λ e. sends (is ∙ e))
+    closed_next (has_sent_all feed s.grants) s t a (sym is ∙ given) (λ e. sends (is ∙ e))
 
 pub gives_end : (feed : List Window) (k : ℕ) (old new : LinkState) → Gives feed k old new
     → old.session.state.phase ≡ Phases.Streaming → k < length feed → IsAtNext feed old.session.state.grants k

@@ -12,7 +12,7 @@ use Rattle.slink_feed.specs.declared.session.Phase.TheVariants as Phases
 use Rattle.slink_feed.specs.declared.session.Sent.{Sent}
 use Rattle.slink_feed.specs.declared.session.Sent.TheVariants as Sents
 use Rattle.slink_feed.specs.Serving.{Standing}
-use Rattle.slink_feed.specs.Session.{State, all_done, at_next, grant_at, packet_at, sent, sent_in, sent_of}
+use Rattle.slink_feed.specs.Session.{State, has_sent_all, at_next, grant_at, packet_at, sent, sent_in, sent_of}
 use Rattle.slink_feed.specs.Window.{Window, record_at}
 use Rattle.slink_feed.proofs.Items.{put_there}
 use Rattle.slink_live.specs.Fairness.{HasDue, IsAmong, TakesTurns, no_more, next_called}
@@ -46,8 +46,8 @@ leaves_packet s k g (Some bytes) j ne = record {
 }
 
 leaves_if : (b : Bool) (feed : List Window) (s : State) (k : ℕ) (g : Grant) (w : Window) (j : ℕ) → j ≢ k
-    → Leaves j s (if b then at_next (all_done feed s.grants) s else packet_at s k g (record_at w g.position)).0
-leaves_if true feed s k g w j ne = leaves_next (all_done feed s.grants) s j
+    → Leaves j s (if b then at_next (has_sent_all feed s.grants) s else packet_at s k g (record_at w g.position)).0
+leaves_if true feed s k g w j ne = leaves_next (has_sent_all feed s.grants) s j
 leaves_if false feed s k g w j ne = leaves_packet s k g (record_at w g.position) j ne
 
 leaves_of : (feed : List Window) (s : State) (k : ℕ) (o : Option Grant) (r : Option Window) (j : ℕ) → j ≢ k
@@ -98,7 +98,7 @@ due_packet s k g (Some bytes) x =
     sent_some (packet_bytes (g.position % 2 ^ 24) bytes) (ap (λ (p : State × Sent). p.1) x)
 
 due_if : (b : Bool) (feed : List Window) (s : State) (k : ℕ) (g : Grant) (w : Window) → b ≡ false
-    → (if b then at_next (all_done feed s.grants) s else packet_at s k g (record_at w g.position)) ≢ (s, Sents.Wait)
+    → (if b then at_next (has_sent_all feed s.grants) s else packet_at s k g (record_at w g.position)) ≢ (s, Sents.Wait)
 due_if true feed s k g w e is = let bad : true ≡ false = e in cc bad
 due_if false feed s k g w e is = due_packet s k g (record_at w g.position) is
 
@@ -245,8 +245,8 @@ Goes p = (p.0.phase ≡ Phases.Streaming) ⊎ (p.0.phase ≡ Phases.Closed)
 
 streams_if : (b : Bool) (feed : List Window) (s : State) (k : ℕ) (g : Grant) (w : Window)
     → s.phase ≡ Phases.Streaming
-    → Goes (if b then at_next (all_done feed s.grants) s else packet_at s k g (record_at w g.position))
-streams_if true feed s k g w streams = streams_next (all_done feed s.grants) s streams
+    → Goes (if b then at_next (has_sent_all feed s.grants) s else packet_at s k g (record_at w g.position))
+streams_if true feed s k g w streams = streams_next (has_sent_all feed s.grants) s streams
 streams_if false feed s k g w streams = streams_packet s k g (record_at w g.position) streams
 
 streams_of : (feed : List Window) (s : State) (k : ℕ) (o : Option Grant) (r : Option Window)

@@ -8,7 +8,7 @@ use Rattle.slink_feed.specs.declared.session.Phase.{Phase}
 use Rattle.slink_feed.specs.declared.session.Phase.TheVariants as Phases
 use Rattle.slink_feed.specs.declared.session.Sent.{Sent}
 use Rattle.slink_feed.specs.declared.session.Sent.TheVariants as Sents
-use Rattle.slink_feed.specs.Session.{State, all_done, at_next, grant_at, packet_at, sent, sent_in}
+use Rattle.slink_feed.specs.Session.{State, has_sent_all, at_next, grant_at, packet_at, sent, sent_in}
 use Rattle.slink_feed.specs.Session.{sent_of}
 use Rattle.slink_feed.specs.Window.{Window, record_at}
 
@@ -28,8 +28,8 @@ answer_packet s k g (Some bytes) =
     sends (λ e. cc e) (λ a is. inr (packet_bytes (g.position % 2 ^ 24) bytes, sym is))
 
 answer_if : (b : Bool) (feed : List Window) (s : State) (k : ℕ) (g : Grant) (w : Window)
-    → Answer s (if b then at_next (all_done feed s.grants) s else packet_at s k g (record_at w g.position))
-answer_if true feed s k g w = answer_next (all_done feed s.grants) s
+    → Answer s (if b then at_next (has_sent_all feed s.grants) s else packet_at s k g (record_at w g.position))
+answer_if true feed s k g w = answer_next (has_sent_all feed s.grants) s
 answer_if false feed s k g w = answer_packet s k g (record_at w g.position)
 
 answer_of : (feed : List Window) (s : State) (k : ℕ) (o : Option Grant) (r : Option Window)

@@ -5,7 +5,7 @@ ghost use Rattle.std.specs.Bool.{OnFalse, OnTrue};
 ghost use Rattle.slink_feed.specs.declared.session.Phase.{Phase};
 ghost use Rattle.slink_feed.specs.declared.session.Sent.{Sent};
 ghost use Rattle.slink_feed.specs.Serving.{Serves};
-ghost use Rattle.slink_feed.specs.Session.{Fits, IsAtNext, IsWaiting, all_done, sent};
+ghost use Rattle.slink_feed.specs.Session.{Fits, IsAtNext, IsWaiting, has_sent_all, sent};
 ghost use Rattle.slink_feed.specs.Window.{Window};
 ghost use Rattle.slink_live.specs.Awake.{HasLeft, HasRoom, IsClosable, IsFilled, IsLost, MustClose};
 ghost use Rattle.slink_live.specs.Story.{Asks, IsEarlier, IsNew};
@@ -322,7 +322,7 @@ impl Link {
 
     /// Whether all that was requested is sent, and no record that comes is requested.
     fn has_sent_all(&self, feed: &Feed) -> bool
-        ensures { result ≡ all_done feed.now self.now.session.state.grants }
+        ensures { result ≡ has_sent_all feed.now self.now.session.state.grants }
     {
         self.session.has_sent_all(feed)
     }

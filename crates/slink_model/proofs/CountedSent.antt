@@ -14,7 +14,7 @@ use Rattle.slink_feed.specs.declared.session.Sent.TheVariants as sents
 use Rattle.slink_model.specs.Counted.{CountedLink, undelivered, carried_at, items_sent, sent_by}
 use Rattle.slink_feed.specs.Dialogue.{next_at}
 use Rattle.slink_feed.specs.Listening.{Listening}
-use Rattle.slink_feed.specs.Session.{IsBefore, State, all_done, at, at_next, grant_at, packet_at, sent, sent_bytes}
+use Rattle.slink_feed.specs.Session.{IsBefore, State, has_sent_all, at, at_next, grant_at, packet_at, sent, sent_bytes}
 use Rattle.slink_feed.specs.Session.{sent_in, sent_of}
 use Rattle.slink_model.specs.Ties.{Item, Accepted, Refused, Greeted, Carried, Finished, Places, of_place, way_bytes}
 use Rattle.slink_feed.specs.Window.{Window, record_at}
@@ -183,8 +183,8 @@ module _ (places : Places) (client : Listening) (feed : List Window) (ringed : A
   in_stream None ring phase grant here = nothing_sent sents.Wait refl refl
   in_stream (Some g) None phase grant here = nothing_sent sents.Wait refl refl
   in_stream (Some g) (Some w) phase grant here =
-      choice (g.position == w.next) (at_next (all_done feed s.grants) s) (packet_at s k g (record_at w g.position))
-      (at_end (all_done feed s.grants) phase) (at_ring g w (record_at w g.position) phase grant here refl)
+      choice (g.position == w.next) (at_next (has_sent_all feed s.grants) s) (packet_at s k g (record_at w g.position))
+      (at_end (has_sent_all feed s.grants) phase) (at_ring g w (record_at w g.position) phase grant here refl)
 
   in_phase : (phase : Phase) → s.phase ≡ phase → GoesOn (sent_in phase feed s k)
   in_phase Fresh is = nothing_sent sents.Wait refl refl

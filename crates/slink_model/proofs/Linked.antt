@@ -12,7 +12,7 @@ use Rattle.slink_feed.specs.declared.session.Phase.TheVariants.{Fresh, Chosen, G
 use Rattle.slink_feed.specs.declared.session.Sent.{Sent}
 use Rattle.slink_feed.specs.Listening.{Listening}
 use Rattle.slink_feed.specs.Dialogue.{next_at}
-use Rattle.slink_feed.specs.Session.{Grants, IsBefore, State, all_done, at, at_next, grant_at, packet_at, sent}
+use Rattle.slink_feed.specs.Session.{Grants, IsBefore, State, has_sent_all, at, at_next, grant_at, packet_at, sent}
 use Rattle.slink_feed.specs.Session.{sent_bytes, sent_in, sent_of}
 use Rattle.slink_model.specs.Ties.{AllHold, AreShown, AreWhole, Carried, Finished, Holds, IsGranted, IsNear, IsOnWay}
 use Rattle.slink_model.specs.Ties.{Item, Leaves, LinkTies, Places, dropped, given, items_of, of_place, same, way_bytes}
@@ -269,9 +269,9 @@ module _ (places : Places) (first : ℕ) (windows : List Window) (pushed : Lists
   streamed s first_sent way k (Some g) None lt most phase grant here long l =
       nothing_sent s first_sent way s (λ b. b) refl l
   streamed s first_sent way k (Some g) (Some w) lt most phase grant here long l =
-      choice (Goes first_sent s.grants k way) (g.position == w.next) (at_next (all_done windows s.grants) s)
+      choice (Goes first_sent s.grants k way) (g.position == w.next) (at_next (has_sent_all windows s.grants) s)
       (packet_at s k g (record_at w g.position))
-      (at_end s first_sent way k (all_done windows s.grants) l)
+      (at_end s first_sent way k (has_sent_all windows s.grants) l)
       (at_ring s first_sent way k g w (record_at w g.position) lt most phase grant here
       (λ r e. long w g.position r here e) refl l)
 

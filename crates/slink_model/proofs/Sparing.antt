@@ -21,7 +21,7 @@ use Rattle.slink_model.specs.declared.world.Step.TheVariants.{Append, Connect, T
 use Rattle.slink_feed.specs.Dialogue.{Talk, next_at, requests_place, to_place, want_at, wanted_of, wants_of}
 use Rattle.slink_feed.specs.Listening.{IsLinked, Listening}
 use Rattle.slink_feed.specs.Serving.{Standing}
-use Rattle.slink_feed.specs.Session.{Grants, IsBefore, State, all_done, at, at_next, grant_at, packet_at, sent}
+use Rattle.slink_feed.specs.Session.{Grants, IsBefore, State, has_sent_all, at, at_next, grant_at, packet_at, sent}
 use Rattle.slink_feed.specs.Session.{sent_bytes, sent_in, sent_of}
 use Rattle.slink_model.specs.Spared.{AreAskable, IsSpared}
 use Rattle.slink_model.specs.Stretch.{IsSchedule, IsSound}
@@ -220,8 +220,8 @@ module _ (places : Places) (differ : Differ places) (codes_are : (k : ℕ) (p : 
     in_stream s way k None ring phase grant here l = none_sent s way l
     in_stream s way k (Some g) None phase grant here l = none_sent s way l
     in_stream s way k (Some g) (Some w) phase grant here l =
-        choice (Goes way) (g.position == w.next) (at_next (all_done feed s.grants) s)
-        (packet_at s k g (record_at w g.position)) (at_end s way (all_done feed s.grants) phase l)
+        choice (Goes way) (g.position == w.next) (at_next (has_sent_all feed s.grants) s)
+        (packet_at s k g (record_at w g.position)) (at_end s way (has_sent_all feed s.grants) phase l)
         (at_ring s way k g w (record_at w g.position) phase grant here refl l)
 
     in_phase : (phase : Phase) (s : State) (way : List ℕ) (k : ℕ) → s.phase ≡ phase → Stands s way
