@@ -22,7 +22,7 @@ use Rattle.slink_feed.specs.declared.turn.LinkFault.{LinkFault}
 use Rattle.slink_feed.specs.declared.turn.Turn.{Turn}
 use Rattle.slink_feed.specs.Attending.{Attends, IsServeFault, RepliesToAll, at_read, at_reply, at_send, is_at_end}
 use Rattle.slink_feed.specs.Attending.{is_closed, replies}
-use Rattle.slink_feed.specs.Connection.{FailsInTurn, SendsStretches, ShowPushed, TakesTurns, bytes_sent, fails_later}
+use Rattle.slink_feed.specs.Connection.{FailsInTurn, SendsSlices, ShowPushed, TakesTurns, bytes_sent, fails_later}
 use Rattle.slink_feed.specs.Connection.{fails_now, no_turn, turn_taken}
 use Rattle.slink_feed.specs.Rounds.{Attending, Gives, SendsAll, all_sent, place_after}
 use Rattle.slink_feed.specs.Running.{HasStream, Stands, StandsFor}
@@ -32,7 +32,7 @@ use Rattle.slink_feed.specs.Session.{IsBefore, State, has_sent_all, answered_in,
 use Rattle.slink_feed.specs.Session.{reply_at_next, sent, sent_bytes, sent_in, sent_of}
 use Rattle.slink_feed.specs.Window.{Shows, Window, record_at}
 use Rattle.slink_feed.proofs.Closing.{Open, open_or}
-use Rattle.slink_feed.proofs.Sendings.{IsOn, answer_read, read_grants, read_on, none_either, set_other, stretch_sent}
+use Rattle.slink_feed.proofs.Sendings.{IsOn, answer_read, read_grants, read_on, none_either, set_other, slice_sent}
 
 -- A session streams on, or is closed, once it was called.
 on_packet : (t : State) (place : ℕ) (h : Grant) (o : Option (List ℕ)) → t.phase ≡ Streaming
@@ -177,13 +177,13 @@ record Wrote (feeds : List (List Window)) (s : State) (bytes : List ℕ) : Type 
 nothing_wrote : (s : State) → Wrote [] s []
 nothing_wrote s = record { called = []; are_called = tt; bytes_are = refl; shown = λ k first pushed shown. tt }
 
-stretches : (feeds : List (List Window)) (s : State) (bytes : List ℕ) → IsOn s.phase → Wrote feeds s bytes
-    → SendsStretches feeds s bytes
-stretches feeds s bytes on w = record {
+slices : (feeds : List (List Window)) (s : State) (bytes : List ℕ) → IsOn s.phase → Wrote feeds s bytes
+    → SendsSlices feeds s bytes
+slices feeds s bytes on w = record {
   called = w.called;
   are_called = w.are_called;
   bytes_are = w.bytes_are;
-  stretch = λ k first pushed g at_k shown. stretch_sent k first pushed w.called s g on at_k w.are_called
+  slice = λ k first pushed g at_k shown. slice_sent k first pushed w.called s g on at_k w.are_called
       (w.shown k first pushed shown);
   none = λ k at_k. none_sent k w.called s on at_k w.are_called;
 }
@@ -398,18 +398,18 @@ stream_of s stands = elim (open_or s.state.phase) [
 
 pub turns_sent : (feeds : List (List Window)) (old new : Attending) → old.session.state.phase ≡ Streaming
     → Stands old.session → TakesTurns old feeds new
-    → (bytes : List ℕ) × (new.written.bytes ≡ old.written.bytes ++ bytes) × SendsStretches feeds old.session.state bytes
+    → (bytes : List ℕ) × (new.written.bytes ≡ old.written.bytes ++ bytes) × SendsSlices feeds old.session.state bytes
 turns_sent feeds old new on stands turns =
     let w : AllWrote feeds old new = turns_wrote feeds old new turns (inl on) (stream_of old.session stands) in
-    (w.0, w.1, stretches feeds old.session.state w.0 (inl on) w.2)
+    (w.0, w.1, slices feeds old.session.state w.0 (inl on) w.2)
 
 pub turns_failed : (feeds : List (List Window)) (old new : Attending) → old.session.state.phase ≡ Streaming
     → Stands old.session → FailsInTurn old feeds new
     → (bytes prefix : List ℕ) × IsPrefixOf prefix bytes × (new.written.bytes ≡ old.written.bytes ++ prefix)
-    × SendsStretches feeds old.session.state bytes
+    × SendsSlices feeds old.session.state bytes
 turns_failed feeds old new on stands turns =
     let w : PrefixWrote feeds old new = fails_wrote feeds old new turns (inl on) (stream_of old.session stands) in
-    (w.0, w.1, w.2, w.3, stretches feeds old.session.state w.0 (inl on) w.4)
+    (w.0, w.1, w.2, w.3, slices feeds old.session.state w.0 (inl on) w.4)
 
 -- before records are sent
 before_in : (p : Phase) (feed : List Window) (s : State) (k : ℕ) → IsBefore p → sent_in p feed s k ≡ (s, sents.Wait)

@@ -26,7 +26,7 @@ pub mod Reporting
 pub mod Sendings
 pub mod Sendoffs
 pub mod Slots
-pub mod Stretched
+pub mod SlicesWanted
 pub mod Stands
 pub mod Reported
 pub mod ReportLines

@@ -18,7 +18,7 @@ use Rattle.slink_feed.specs.declared.session.Sent.TheVariants as Sents
 use Rattle.slink_feed.specs.Serving.{IsAnswer}
 use Rattle.slink_feed.specs.Session.{Grants, State, has_sent_all, answered_in, at_next, grant_at, in_streaming, packet_at}
 use Rattle.slink_feed.specs.Session.{sent, sent_in, sent_of}
-use Rattle.slink_feed.specs.Sending.{AreCalled, AreShown, Called, IsReadFrom, IsStretch, packet_in, packets_from}
+use Rattle.slink_feed.specs.Sending.{AreCalled, AreShown, Called, IsReadFrom, IsSlice, packet_in, packets_from}
 use Rattle.slink_feed.specs.Sending.{packets_of}
 use Rattle.slink_feed.specs.Window.{Shows, Window, oldest_of, record_at}
 
@@ -72,10 +72,10 @@ drop_next (y ∷ ys) zero x h = let same : Some y ≡ Some x = h in let one : y 
 drop_next (y ∷ ys) (suc i) x h = drop_next ys i x h
 
 -- one packet more before a stretch
-stretch_more : (first p : ℕ) (pushed packets : List (List ℕ)) (x : List ℕ) → first ≤ p
-    → slice_get pushed (p - first) ≡ Some x → IsStretch first pushed (p + 1) packets
-    → IsStretch first pushed p (packet_bytes (p % 2 ^ 24) x ∷ packets)
-stretch_more first p pushed packets x above here rest =
+slice_more : (first p : ℕ) (pushed packets : List (List ℕ)) (x : List ℕ) → first ≤ p
+    → slice_get pushed (p - first) ≡ Some x → IsSlice first pushed (p + 1) packets
+    → IsSlice first pushed p (packet_bytes (p % 2 ^ 24) x ∷ packets)
+slice_more first p pushed packets x above here rest =
     let i : ℕ = p - first in
     let next : p + 1 - first ≡ suc i = omega (arith, above) in
     ap (λ ps. packet_bytes (p % 2 ^ 24) x ∷ ps) (rest
@@ -175,34 +175,34 @@ same_here n = elim (eqb_tells n n) [ inl same ↦ same.0 | inr other ↦ absurd 
 sent_more : (k first : ℕ) (pushed : List (List ℕ)) (a : Called) (packets : List (List ℕ)) (g : Grant) (w : Window)
     (n : ℕ) (bytes : List ℕ) → a.place ≡ k → a.answer ≡ Sents.Packet (packet_bytes (g.position % 2 ^ 24) bytes)
     → Shows w first (take n pushed) → record_at w g.position ≡ Some bytes
-    → IsStretch first pushed (g.position + 1) packets
-    → IsStretch first pushed g.position ((if a.place == k then packet_in a.answer else []) ++ packets)
+    → IsSlice first pushed (g.position + 1) packets
+    → IsSlice first pushed g.position ((if a.place == k then packet_in a.answer else []) ++ packets)
 sent_more k first pushed a packets g w n bytes same is shows read rest =
     let shown : (first ≤ g.position) × (slice_get pushed (g.position - first) ≡ Some bytes) =
     shown_at w first n g.position pushed bytes shows read in
     let one : (if a.place == k then packet_in a.answer else []) ≡ packet_bytes (g.position % 2 ^ 24) bytes ∷ [] =
     ap (λ j. if j == k then packet_in a.answer else []) same
     ∙ (ap (λ b. if b then packet_in a.answer else []) (same_here k) ∙ ap packet_in is) in
-    subst (λ ps. IsStretch first pushed g.position (ps ++ packets)) (sym one)
-    (stretch_more first g.position pushed packets bytes shown.0 shown.1 rest)
+    subst (λ ps. IsSlice first pushed g.position (ps ++ packets)) (sym one)
+    (slice_more first g.position pushed packets bytes shown.0 shown.1 rest)
 
-pub stretch_sent : (k first : ℕ) (pushed : List (List ℕ)) (more : List Called) (s : State) (g : Grant) → IsOn s.phase
+pub slice_sent : (k first : ℕ) (pushed : List (List ℕ)) (more : List Called) (s : State) (g : Grant) → IsOn s.phase
     → grant_at s.grants k ≡ Some g → AreCalled s more → AreShown k first pushed more
-    → IsStretch first pushed g.position (packets_of k more)
-stretch_sent k first pushed [] s g on at_k called shown = refl
-stretch_sent k first pushed (a ∷ more) s g on at_k called shown =
+    → IsSlice first pushed g.position (packets_of k more)
+slice_sent k first pushed [] s g on at_k called shown = refl
+slice_sent k first pushed (a ∷ more) s g on at_k called shown =
     let t : State = called.0 in
     let grant : grant_at t.grants k ≡ Some g = ap (λ gs. grant_at gs k) (read_grants s t called.1) ∙ at_k in
     elim (step_sent k a.place g a.feed t grant (read_on s t called.1 on)) [
-      | quiet none stays goes ↦ subst (λ ps. IsStretch first pushed g.position (ps ++ packets_of k more))
+      | quiet none stays goes ↦ subst (λ ps. IsSlice first pushed g.position (ps ++ packets_of k more))
           (sym (ap (λ y. if a.place == k then packet_in y else []) (sym called.2) ∙ none))
-          (stretch_sent k first pushed more (sent a.feed t a.place).0 g goes stays called.3 shown.1)
+          (slice_sent k first pushed more (sent a.feed t a.place).0 g goes stays called.3 shown.1)
       | went w bytes same is here read stays goes ↦
           let both : Some shown.0.0 ≡ Some w = sym shown.0.2 ∙ here in
           let one : shown.0.0 ≡ w = cc both in
           sent_more k first pushed a (packets_of k more) g w shown.0.1 bytes same (sym called.2 ∙ is)
           (subst (λ (v : Window). Shows v first (take shown.0.1 pushed)) one shown.0.3) read
-          (stretch_sent k first pushed more (sent a.feed t a.place).0
+          (slice_sent k first pushed more (sent a.feed t a.place).0
           (record { mode = g.mode; position = g.position + 1 }) goes stays called.3 shown.1)
     ]
 

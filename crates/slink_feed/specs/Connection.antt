@@ -7,7 +7,7 @@ use Rattle.slink_feed.specs.declared.turn.LinkFault.{LinkFault}
 use Rattle.slink_feed.specs.declared.turn.Turn.{Turn}
 use Rattle.slink_feed.specs.Attending.{Attends, IsServeFault}
 use Rattle.slink_feed.specs.Rounds.{Attending}
-use Rattle.slink_feed.specs.Sending.{AreCalled, Called, IsStretch, packets_of}
+use Rattle.slink_feed.specs.Sending.{AreCalled, Called, IsSlice, packets_of}
 use Rattle.slink_feed.specs.Session.{State, grant_at, sent_bytes}
 use Rattle.slink_feed.specs.Window.{Shows, Window}
 
@@ -43,12 +43,12 @@ bytes_sent (a ∷ more) = sent_bytes a.answer ++ bytes_sent more
 -- of
 -- each place that has a grant are those of a stretch of its pushed records from the grant on, and there is none of any
 -- other place.
-pub record SendsStretches (feeds : List (List Window)) (s : State) (bytes : List ℕ) : Type 0 where
+pub record SendsSlices (feeds : List (List Window)) (s : State) (bytes : List ℕ) : Type 0 where
   pub called : List Called
   pub are_called : AreCalled s called
   pub bytes_are : bytes ≡ bytes_sent called
-  pub stretch : (k first : ℕ) (pushed : List (List ℕ)) (g : Grant) → grant_at s.grants k ≡ Some g
-      → ShowPushed k first pushed feeds → IsStretch first pushed g.position (packets_of k called)
+  pub slice : (k first : ℕ) (pushed : List (List ℕ)) (g : Grant) → grant_at s.grants k ≡ Some g
+      → ShowPushed k first pushed feeds → IsSlice first pushed g.position (packets_of k called)
   pub none : (k : ℕ) → grant_at s.grants k ≡ None → packets_of k called ≡ []
 
 -- Two steps came to the same: the session stands so, and the link accepted the same bytes. What a session holds that is

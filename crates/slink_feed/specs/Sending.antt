@@ -49,6 +49,6 @@ packets_from number [] = []
 packets_from number (r ∷ rs) = packet_bytes (number % 2 ^ 24) r ∷ packets_from (number + 1) rs
 
 -- The packets are those of a stretch of the pushed records that begins at a number, one after another.
-abbrev pub IsStretch : ℕ → List (List ℕ) → ℕ → List (List ℕ) → Type 0
-IsStretch first pushed number packets =
+abbrev pub IsSlice : ℕ → List (List ℕ) → ℕ → List (List ℕ) → Type 0
+IsSlice first pushed number packets =
     packets ≡ packets_from number (take (length packets) (drop (number - first) pushed))

@@ -4,7 +4,7 @@ ghost use Rattle.mseed_stream.specs.Device.{BytesRead, IsPrefixOf};
 ghost use Rattle.slink_feed.specs.declared.turn.LinkFault.{LinkFault};
 ghost use Rattle.slink_feed.specs.declared.turn.Turn.{Turn};
 ghost use Rattle.slink_feed.specs.Attending.{Attends, IsServeFault};
-ghost use Rattle.slink_feed.specs.Connection.{AreAlike, FailsInTurn, SendsStretches, TakesTurns, EmittedAlike};
+ghost use Rattle.slink_feed.specs.Connection.{AreAlike, FailsInTurn, SendsSlices, TakesTurns, EmittedAlike};
 ghost use Rattle.slink_feed.specs.Rounds.{Attending, SendsAll};
 ghost use Rattle.slink_feed.specs.Running.{Stands};
 ghost use Rattle.slink_feed.specs.Session.{IsBefore};
@@ -31,15 +31,15 @@ pub fn one_turn()
 /// whatever the link gives, are packets, and `END` where all that was requested was sent. The packets of each place
 /// with a grant are a stretch of its records from the grant on, and no other place has any. Before that moment there
 /// are none.
-pub fn turns_send_stretches()
+pub fn turns_send_slices()
     ensures before { (feed : List Window) (old new : Attending) → IsBefore old.session.state.phase
         → SendsAll feed old new → (new.session ≡ old.session) × (new.written.bytes ≡ old.written.bytes) }
     ensures taken { (feeds : List (List Window)) (old new : Attending) → old.session.state.phase ≡ Phase.Streaming
         → Stands old.session → TakesTurns old feeds new
         → (bytes : List ℕ) × (new.written.bytes ≡ old.written.bytes ++ bytes)
-        × SendsStretches feeds old.session.state bytes }
+        × SendsSlices feeds old.session.state bytes }
     // Where the link failed in the last step, it accepted a prefix of such bytes.
     ensures failed { (feeds : List (List Window)) (old new : Attending) → old.session.state.phase ≡ Phase.Streaming
         → Stands old.session → FailsInTurn old feeds new → (bytes prefix : List ℕ) × IsPrefixOf prefix bytes
-        × (new.written.bytes ≡ old.written.bytes ++ prefix) × SendsStretches feeds old.session.state bytes }
+        × (new.written.bytes ≡ old.written.bytes ++ prefix) × SendsSlices feeds old.session.state bytes }
 {}

@@ -12,7 +12,7 @@ ghost use Rattle.slink_feed.specs.declared.grant.Mode.{Mode};
 ghost use Rattle.slink_feed.specs.Grant.{grant_of};
 ghost use Rattle.slink_feed.specs.Holding.{AreRising, GoOn, Turn, numbers_of, talk_after};
 ghost use Rattle.slink_feed.specs.Listening.{Listening, Reads};
-ghost use Rattle.slink_feed.specs.Sending.{AreCalled, AreShown, Called, IsReadFrom, IsStretch, packets_from};
+ghost use Rattle.slink_feed.specs.Sending.{AreCalled, AreShown, Called, IsReadFrom, IsSlice, packets_from};
 ghost use Rattle.slink_feed.specs.Sending.{packets_of};
 ghost use Rattle.slink_feed.specs.Serving.{IsAnswer};
 ghost use Rattle.slink_feed.specs.Session.{State, grant_at};
@@ -41,11 +41,11 @@ pub fn granted_after_the_last()
 
 /// What one session sends of a place is a stretch of the records that were pushed there, from its grant on: whatever is
 /// pushed, sent and requested meanwhile.
-pub fn a_stretch_is_sent()
-    ensures stretch { (k first : ℕ) (pushed : List (List ℕ)) (called : List Called) (s : State) (g : Grant)
+pub fn a_slice_is_sent()
+    ensures slice { (k first : ℕ) (pushed : List (List ℕ)) (called : List Called) (s : State) (g : Grant)
         → s.phase ≡ Phase.Streaming → grant_at s.grants k ≡ Some g
         → AreCalled s called → AreShown k first pushed called
-        → IsStretch first pushed g.position (packets_of k called) }
+        → IsSlice first pushed g.position (packets_of k called) }
     // Lines leave a session that streams as it is, or close it.
     ensures lines { (feed : List Window) (s new : State) (what : What) (reply : Reply)
         → s.phase ≡ Phase.Streaming → IsAnswer feed s what new reply → IsReadFrom s new }
@@ -79,7 +79,7 @@ pub fn whole_packets_are_reported()
 /// A stretch of a place's records is wanted where it begins with the number that the place wants, or the place wants
 /// none: so of what a session sends to such a client, on a link that is cut off at any byte, the whole packets are
 /// reported.
-pub fn a_stretch_is_wanted()
+pub fn a_slice_is_wanted()
     ensures wanted { (k number : ℕ) (records : List (List ℕ)) (t : Talk)
         → AreOfPlace t.wants k records → IfSome (next_at t.wants k) (λ want. number % 2 ^ 24 ≡ want)
         → AreWanted t (numbered k number records) }

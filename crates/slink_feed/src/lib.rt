@@ -20,15 +20,15 @@ mod session;
 mod turn;
 
 pub use client::Client;
-pub use connection::{one_turn, turns_send_stretches};
+pub use connection::{one_turn, turns_send_slices};
 pub use dialogue::{Answer, Bytes, Ending, Event, Stage, Wanted};
 pub use feed::{Feed, FeedFault};
 pub use fetching::{Room, fetch_turn, fetch_turn_in, fetch_turn_reporting};
 pub use grant::{Grant, Mode};
 pub use input::InputFault;
 pub use law::{
-    a_stretch_is_sent, a_stretch_is_wanted, each_record_once, granted_after_the_last,
-    no_record_twice, one_reading, whole_packets_are_reported,
+    a_slice_is_sent, a_slice_is_wanted, each_record_once, granted_after_the_last, no_record_twice,
+    one_reading, whole_packets_are_reported,
 };
 pub use reported::wants_move_by_records;
 pub use reporter::Reporter;

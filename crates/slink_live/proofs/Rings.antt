@@ -8,7 +8,7 @@ use Rattle.slink_feed.proofs.Items.{shows_more}
 use Rattle.slink_feed.specs.Intake.{is_of, places_of, pushed}
 use Rattle.slink_feed.proofs.Intakes.{places_pushed}
 use Rattle.slink_live.specs.Input.{fed}
-use Rattle.slink_live.specs.Stretches.{is_first, records_at}
+use Rattle.slink_live.specs.Slices.{is_first, records_at}
 
 abbrev one_if : Bool → List ℕ → List (List ℕ)
 one_if t r = if t then r ∷ [] else []

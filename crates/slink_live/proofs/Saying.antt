@@ -21,14 +21,14 @@ use Rattle.slink_feed.specs.Session.{State}
 use Rattle.slink_feed.specs.Session.{sent, sent_bytes, sent_in}
 use Rattle.slink_feed.specs.Window.{Shows, Window}
 use Rattle.slink_feed.proofs.Connected.{on_sent, read_further, reply_none}
-use Rattle.slink_feed.proofs.Sendings.{IsOn, answer_read, read_on, stretch_sent}
+use Rattle.slink_feed.proofs.Sendings.{IsOn, answer_read, read_on, slice_sent}
 use Rattle.slink_feed.specs.Intake.{places_of}
 use Rattle.slink_live.specs.Happening.{Happening, Received, Emitted, input_of}
 use Rattle.slink_live.specs.Input.{IsFed, IsInput, fed}
 use Rattle.slink_live.specs.Story.{Asks, IsServed, Story, story, none_called, one_called, no_event, elsewhere}
 use Rattle.slink_live.specs.Story.{opens}
 use Rattle.slink_live.specs.Story.{hears, asks, takes, goes}
-use Rattle.slink_live.specs.Stretches.{SaysStretches, all_replies, is_first, records_at, replies_alone, streams}
+use Rattle.slink_live.specs.Slices.{ProducesSlices, all_replies, is_first, records_at, replies_alone, streams}
 use Rattle.slink_live.proofs.Inputs.{input_grows}
 use Rattle.slink_live.proofs.Rings.{shows_fed}
 use Rattle.slink_live.proofs.Slots.{input_append}
@@ -284,16 +284,16 @@ module _ (start : List Window) where
 
   says : (log : List Happening) (records : List (List ℕ)) (rest : List ℕ) (t : State) (produced : List ℕ)
       → IsInput (places_of start) (input_of log) records rest → Produced start log t produced
-      → SaysStretches start records produced
+      → ProducesSlices start records produced
   says log records rest t produced input (only_replies rs off is) = replies_alone rs is
   says log records rest t produced input (has_streamed rs s u xs begun to read on from is) =
       streams rs s xs begun (are_called s u xs to) is
-      (λ k first w pushed g here shows granted. stretch_sent k first
+      (λ k first w pushed g here shows granted. slice_sent k first
       (pushed ++ records_at k (places_of start) records) xs s g (inl begun) granted (are_called s u xs to)
       (shown log records rest k first w pushed input here shows xs from))
 
   pub link_says : (k : ℕ) (log : List Happening) (t : Story) (records : List (List ℕ)) (rest : List ℕ)
       → IsServed start k log (Some t) → IsInput (places_of start) (input_of log) records rest
-      → SaysStretches start records t.produced
+      → ProducesSlices start records t.produced
   link_says k log t records rest served input =
       says log records rest t.session.state t.produced input (story_tells k log (Some t) served).0

@@ -5,5 +5,5 @@ pub mod Served
 pub mod Awake
 pub mod Turns
 pub mod Fairness
-pub mod Stretches
+pub mod Slices
 pub mod private

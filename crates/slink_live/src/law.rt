@@ -10,7 +10,7 @@ ghost use Rattle.slink_live.specs.Fairness.{HasDue, IsAmong, TakesTurns};
 ghost use Rattle.slink_live.specs.Happening.{Happening, input_of, those_of};
 ghost use Rattle.slink_live.specs.Input.{IsFed, IsInput, fed};
 ghost use Rattle.slink_live.specs.Story.{Asks, IsServed, IsTurn, Story};
-ghost use Rattle.slink_live.specs.Stretches.{SaysStretches, records_at};
+ghost use Rattle.slink_live.specs.Slices.{ProducesSlices, records_at};
 
 /// Of a link only what happened in its slot matters, and the input.
 pub fn no_other_link_matters()
@@ -47,10 +47,10 @@ pub fn input_in_order()
 /// What a link's session says, to the link's own lines and over the records of the input so far, is as slink_feed has
 /// it of one link alone: replies, and then packets, of which those of each place are a stretch of its records from the
 /// grant on. Whatever the other links say and take, and in whatever order.
-pub fn a_link_is_sent_stretches()
+pub fn a_link_is_sent_slices()
     ensures { (start : List Window) (k : ℕ) (log : List Happening) (reported : Story) (records : List (List ℕ))
         (rest : List ℕ) → IsServed start k log (Some reported) → IsInput (places_of start) (input_of log) records rest
-        → SaysStretches start records reported.produced }
+        → ProducesSlices start records reported.produced }
 {}
 
 /// A link's session is called in turns. Between two calls for a place, while nothing comes, each other place that has a

@@ -7,13 +7,13 @@ use Rattle.slink_model.specs.declared.world.Setup.{Setup}
 use Rattle.slink_model.specs.declared.world.Step.{Step}
 use Rattle.slink_model.specs.declared.world.Step.TheVariants.{Append, Connect, ToServer, ToClient, Send, Cut}
 use Rattle.slink_feed.specs.Dialogue.{next_at}
-use Rattle.slink_model.specs.Stretch.{HoldsStretches, IsSchedule, LackFew, LacksFew}
+use Rattle.slink_model.specs.Slice.{HoldsSlices, IsSchedule, LackFew, LacksFew}
 use Rattle.slink_model.specs.Ties.{Holds, Places, WorldTies}
 use Rattle.slink_feed.specs.Window.{Window}
 use Rattle.slink_model.specs.World.{AllHappen, Differ, Happens, Lists, Numbers, WorldState, number_at, opening}
 use Rattle.slink_model.specs.World.{pushed_to, with_one}
 use Rattle.slink_feed.proofs.Items.{same_or_not, set_here, set_there}
-use Rattle.slink_model.proofs.Worlds.{AreOf, each_of, nothing_at, opening_ties, step_ties, stretch_held}
+use Rattle.slink_model.proofs.Worlds.{AreOf, each_of, nothing_at, opening_ties, step_ties, slice_held}
 
 no_number : (numbers : Numbers) (k s : ℕ) → number_at numbers k ≡ Some s → k < length numbers
 no_number [] k s h = absurd (let bad : None ≡ Some s = h in cc bad)
@@ -95,5 +95,5 @@ brief_lacks setup steps now run is brief =
     omega (arith, none, brief))
 
 pub brief_held : (setup : Setup) (steps : List Step) (now : WorldState) → AllHappen (opening setup) steps now
-    → IsSchedule setup steps → length steps < 2 ^ 24 → HoldsStretches setup.places.items setup.first now
-brief_held setup steps now run is brief = stretch_held setup steps now run is (brief_lacks setup steps now run is brief)
+    → IsSchedule setup steps → length steps < 2 ^ 24 → HoldsSlices setup.places.items setup.first now
+brief_held setup steps now run is brief = slice_held setup steps now run is (brief_lacks setup steps now run is brief)

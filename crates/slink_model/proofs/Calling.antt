@@ -28,7 +28,7 @@ use Rattle.slink_feed.specs.Rings.{station_at}
 use Rattle.slink_feed.specs.Serving.{Answers, Serves, Standing, none_served, piece_served}
 use Rattle.slink_feed.specs.Session.{Grants, IsBefore, State, answered, called, at, chosen, grant_at, granted}
 use Rattle.slink_model.specs.Spared.{AreAskable}
-use Rattle.slink_model.specs.Stretch.{IsSchedule, LackFew, Resumes}
+use Rattle.slink_model.specs.Slice.{IsSchedule, LackFew, Resumes}
 use Rattle.slink_model.specs.Ties.{Item, Accepted, Refused, Leaves, Places, item_bytes, way_bytes}
 use Rattle.slink_feed.specs.Window.{Window}
 use Rattle.slink_model.specs.World.{AllHappen, Both, Differ, Happens, IsServed, LinkState, WorldState, opening}

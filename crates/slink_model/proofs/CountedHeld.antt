@@ -25,7 +25,7 @@ use Rattle.slink_model.specs.Counted.{undelivered, counted_after, counted_openin
 use Rattle.slink_model.specs.Counted.{gained_by, read_by, if_come, items_sent, news, on_item, part, sent_by, served_by}
 use Rattle.slink_model.specs.Counted.{taken_by, talk_upon, waits, wholes, windows_of, with_event, with_events}
 use Rattle.slink_model.specs.Spared.{AreAskable}
-use Rattle.slink_model.specs.Stretch.{IsSchedule, IsSound}
+use Rattle.slink_model.specs.Slice.{IsSchedule, IsSound}
 use Rattle.slink_model.specs.Ties.{Item, Accepted, Refused, Greeted, Carried, Finished, Places, item_bytes, items_of}
 use Rattle.slink_model.specs.Ties.{way_bytes}
 use Rattle.slink_model.specs.Whole.{HoldsMore, HoldsWhole, KeepsLink, held_count, packet_count, record_in, records_in}

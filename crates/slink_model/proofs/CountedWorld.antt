@@ -18,7 +18,7 @@ use Rattle.slink_feed.specs.Dialogue.{Talk, to_place}
 use Rattle.slink_feed.specs.Listening.{Listening}
 use Rattle.slink_feed.specs.Session.{State, at}
 use Rattle.slink_model.specs.Spared.{AreAskable}
-use Rattle.slink_model.specs.Stretch.{IsSchedule}
+use Rattle.slink_model.specs.Slice.{IsSchedule}
 use Rattle.slink_model.specs.Ties.{Places}
 use Rattle.slink_feed.specs.Window.{Window, window, with_record}
 use Rattle.slink_model.specs.World.{AllHappen, Both, Connects, Differ, Happens, IsRead, IsOf, IsServed, LinkState}

@@ -16,7 +16,7 @@ use Rattle.slink_model.specs.Going.{GoesOn}
 use Rattle.slink_feed.specs.Listening.{IsLinked}
 use Rattle.slink_feed.specs.Session.{grant_at}
 use Rattle.slink_model.specs.Spared.{AreAskable}
-use Rattle.slink_model.specs.Stretch.{IsSchedule, LackFew, LacksFew}
+use Rattle.slink_model.specs.Slice.{IsSchedule, LackFew, LacksFew}
 use Rattle.slink_model.specs.Ties.{AreNext, AreWhole, Holds, IsLinkTied, IsOnWay, Item, Accepted, Refused, Greeted}
 use Rattle.slink_model.specs.Ties.{Carried, Finished, LinkTies, Places, WorldTies, carried_of, of_place, way_bytes}
 use Rattle.slink_model.specs.World.{AllHappen, Differ, LinkState, WorldState, number_at, opening}

@@ -23,7 +23,7 @@ use Rattle.slink_feed.specs.Listening.{talk_after, event_if_any, whole}
 use Rattle.slink_feed.specs.Serving.{Serves, Standing}
 use Rattle.slink_feed.specs.Session.{State}
 use Rattle.slink_model.specs.Spared.{AreAskable}
-use Rattle.slink_model.specs.Stretch.{IsSchedule}
+use Rattle.slink_model.specs.Slice.{IsSchedule}
 use Rattle.slink_model.specs.Ties.{Places}
 use Rattle.slink_feed.specs.Window.{Window}
 use Rattle.slink_model.specs.World.{AllHappen, Both, Connects, Delivers, Differ, Happens, Reads, IsRead, IsServed}

@@ -24,7 +24,7 @@ use Rattle.slink_model.specs.declared.world.Step.TheVariants.{Append, Connect, T
 use Rattle.slink_model.specs.Pushed.{appended, appended_by}
 use Rattle.slink_model.specs.Ties.{Holds}
 use Rattle.slink_feed.specs.Dialogue.{next_at}
-use Rattle.slink_model.specs.Stretch.{HoldsStretches}
+use Rattle.slink_model.specs.Slice.{HoldsSlices}
 use Rattle.slink_model.specs.World.{AllHappen, IsOf, WorldState, number_at, opening}
 use Rattle.slink_model.specs.Relay.{ComesThrough, IsHeldAs, IsOfChannel, IsOfOne, IsRelay, fed}
 use Rattle.mseed_pack.specs.declared.options.Options.{Options}
@@ -362,17 +362,17 @@ Pushes = (setup : Setup) (steps : List Step) (now : WorldState) → AllHappen (o
 
 -- what is held of the one place
 holds_first : (setup : Setup) (codes : List ℕ) → IsOfChannel setup codes → (w : WorldState)
-    → HoldsStretches setup.places.items setup.first w
+    → HoldsSlices setup.places.items setup.first w
     → Holds setup.first (get_or w.pushed 0 []) (next_at w.client.talk.wants 0) (get_or w.held 0 [])
     (number_at w.start 0)
-holds_first setup codes of w holds = holds.stretch 0 (let e : length setup.places.items ≡ 1 = ap length of.places in
+holds_first setup codes of w holds = holds.slice 0 (let e : length setup.places.items ≡ 1 = ap length of.places in
     omega (arith, e))
 
 pub held_among : Pushes → (s : Trace) (setup : Setup) → IsOfChannel setup s.codes
     → (steps : List Step) (rs : List (List ℕ)) (all : List Step) (w : WorldState) (held : List (List ℕ)) → ReadsAs s rs
     → All IsOfOne steps
     → all ≡ fed steps rs → All (IsOf setup.places.items) all → AllHappen (opening setup) all w
-    → HoldsStretches setup.places.items setup.first w → held ≡ get_or w.held 0 [] → IsAmong s rs held
+    → HoldsSlices setup.places.items setup.first w → held ≡ get_or w.held 0 [] → IsAmong s rs held
 held_among pushes s setup of steps rs all w held reads one is ofs run holds same =
     let pushed : get_or w.pushed 0 [] ≡ appended 0 (fed steps rs) = pushes setup all w run ofs 0 ∙ ap (appended 0) is in
     let cut = between rs (get_or w.pushed 0 []) (get_or w.held 0 []) steps setup.first (next_at w.client.talk.wants 0)
@@ -382,7 +382,7 @@ held_among pushes s setup of steps rs all w held reads one is ofs run holds same
 pub held_are_few : Pushes → (setup : Setup) (codes : List ℕ) → IsOfChannel setup codes
     → (all : List Step) (w : WorldState) (held : List (List ℕ)) (n : ℕ) → length all < n
     → All (IsOf setup.places.items) all → AllHappen (opening setup) all w
-    → HoldsStretches setup.places.items setup.first w → held ≡ get_or w.held 0 [] → length held < n
+    → HoldsSlices setup.places.items setup.first w → held ≡ get_or w.held 0 [] → length held < n
 held_are_few pushes setup codes of all w held n lt ofs run holds same =
     let few : length (get_or w.held 0 []) ≤ length all =
     held_few (get_or w.pushed 0 []) (get_or w.held 0 []) all setup.first (next_at w.client.talk.wants 0)

@@ -12,7 +12,7 @@ use Rattle.slink_model.specs.declared.world.Step.{Step}
 use Rattle.slink_feed.specs.Dialogue.{next_at}
 use Rattle.slink_feed.specs.Grant.{grant_of}
 use Rattle.slink_feed.specs.Session.{grant_at, granted}
-use Rattle.slink_model.specs.Stretch.{IsCarried, IsSchedule, LackFew, LacksFew, Resumes, resumed}
+use Rattle.slink_model.specs.Slice.{IsCarried, IsSchedule, LackFew, LacksFew, Resumes, resumed}
 use Rattle.slink_model.specs.Ties.{AreNext, Holds, IsLinkTied, IsOnWay, Places, WorldTies, of_place}
 use Rattle.slink_feed.specs.Window.{Shows, Window, ahead_of, oldest_of, resolve_of}
 use Rattle.slink_model.specs.World.{AllHappen, LinkState, WorldState, number_at, opening}
@@ -124,7 +124,7 @@ carried_at places first w l t is =
       none = λ k lt e. none_way any first (get_or w.pushed k []) (get_or w.held k []) (number_at w.start k)
           (number_at l.first_sent k) (grant_at l.session.state.grants k) (of_place k tied.1.items) e
           (tied.1.places_are k lt);
-      stretch = λ k g lt e. some_way any first (get_or w.pushed k []) (get_or w.held k []) (number_at w.start k)
+      slice = λ k g lt e. some_way any first (get_or w.pushed k []) (get_or w.held k []) (number_at w.start k)
           (number_at l.first_sent k) g (of_place k tied.1.items)
           (subst (λ (o : Option Grant). IsOnWay any first (get_or w.pushed k []) (get_or w.held k [])
           (number_at w.start k) (number_at l.first_sent k) o (of_place k tied.1.items)) e (tied.1.places_are k lt));
@@ -138,5 +138,5 @@ module _ (setup : Setup) (steps : List Step) (now : WorldState) (run : AllHappen
       (last_lacks setup.first steps (opening setup) now run lacks)
 
   -- After any steps what is on its way is carried.
-  pub stretch_carried : (l : LinkState) → now.link ≡ Some l → IsCarried setup.places.items setup.first now l
-  stretch_carried l e = carried_at setup.places.items setup.first now l (ties_after setup steps now run is lacks) e
+  pub slice_carried : (l : LinkState) → now.link ≡ Some l → IsCarried setup.places.items setup.first now l
+  slice_carried l e = carried_at setup.places.items setup.first now l (ties_after setup steps now run is lacks) e

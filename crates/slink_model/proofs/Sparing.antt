@@ -24,7 +24,7 @@ use Rattle.slink_feed.specs.Serving.{Standing}
 use Rattle.slink_feed.specs.Session.{Grants, IsBefore, State, has_sent_all, at, at_next, grant_at, packet_at, sent}
 use Rattle.slink_feed.specs.Session.{sent_bytes, sent_in, sent_of}
 use Rattle.slink_model.specs.Spared.{AreAskable, IsSpared}
-use Rattle.slink_model.specs.Stretch.{IsSchedule, IsSound}
+use Rattle.slink_model.specs.Slice.{IsSchedule, IsSound}
 use Rattle.slink_model.specs.Ties.{AreSound, Item, Carried, Finished, Places, of_place, way_bytes}
 use Rattle.slink_feed.specs.Window.{Window, oldest_of, record_at, with_record}
 use Rattle.slink_model.specs.World.{AllHappen, Both, Connects, Differ, Happens, IsRead, IsOf, IsServed, LinkState}

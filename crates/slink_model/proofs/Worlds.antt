@@ -14,7 +14,7 @@ use Rattle.slink_feed.specs.Dialogue.{Talk, Wants, next_at, requests_place, want
 use Rattle.slink_feed.specs.Listening.{Listening}
 use Rattle.slink_feed.specs.Serving.{Standing}
 use Rattle.slink_feed.specs.Session.{Grants, State, grant_at, sent_in}
-use Rattle.slink_model.specs.Stretch.{HoldsStretches, IsSchedule, IsSound, LackFew, LacksFew}
+use Rattle.slink_model.specs.Slice.{HoldsSlices, IsSchedule, IsSound, LackFew, LacksFew}
 use Rattle.slink_feed.proofs.Numbers.{kept_place}
 use Rattle.slink_model.specs.Ties.{AllHold, AreOfPlaces, AreShown, AreSound, AreWanted, Holds, IsLinkTied, IsOnWay}
 use Rattle.slink_model.specs.Ties.{LinkTies, Places, WantFirst, WorldTies, of_place}
@@ -454,5 +454,5 @@ module _ (setup : Setup) (steps : List Step) (now : WorldState) (run : AllHappen
       (each_of setup.places.items steps is.of_places is.sound) lacks (opening_ties setup is.capacity)
 
   -- After any steps one stretch of its records is held of each place.
-  pub stretch_held : HoldsStretches setup.places.items setup.first now
-  stretch_held = record { stretch = ties_after.holds; wanted = ties_after.want_first }
+  pub slice_held : HoldsSlices setup.places.items setup.first now
+  slice_held = record { slice = ties_after.holds; wanted = ties_after.want_first }

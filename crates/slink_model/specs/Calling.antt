@@ -7,7 +7,7 @@ use Rattle.slink_feed.specs.declared.grant.Grant.{Grant}
 use Rattle.slink_feed.specs.Dialogue.{next_at}
 use Rattle.slink_feed.specs.Listening.{IsLinked}
 use Rattle.slink_feed.specs.Session.{called, grant_at, granted}
-use Rattle.slink_model.specs.Stretch.{resumed}
+use Rattle.slink_model.specs.Slice.{resumed}
 use Rattle.slink_feed.specs.Window.{Window}
 use Rattle.slink_model.specs.World.{LinkState, WorldState, number_at}
 

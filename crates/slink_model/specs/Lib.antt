@@ -1,7 +1,7 @@
 pub mod World
 pub mod Running
 pub mod Ties
-pub mod Stretch
+pub mod Slice
 pub mod Spared
 pub mod Calling
 pub mod Pushed

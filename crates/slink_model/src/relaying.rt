@@ -10,9 +10,9 @@ ghost use Rattle.slink_model.specs.private.Relaying.{FailsToPackAll, IsAmong, Is
 ghost use Rattle.slink_model.specs.declared.world.Step.{Step};
 ghost use Rattle.slink_model.specs.declared.relaying.RelayFault.{RelayFault};
 
+use crate::law::pushes_what_is_appended;
 use crate::memory_sink::MemorySink;
 use crate::schedule::run_schedule;
-use crate::stretch::pushes_what_is_appended;
 use crate::world::{Setup, Step};
 use mseed_audit::{NotContinuous, Series, series};
 use mseed_pack::{Options, PackFault, a_stretch_reads_back, one_length, pack};

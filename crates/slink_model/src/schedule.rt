@@ -8,7 +8,7 @@ ghost use Rattle.slink_model.specs.Going.{GoesOn};
 ghost use Rattle.slink_feed.specs.Listening.{IsLinked};
 ghost use Rattle.slink_model.specs.Running.{IsRunning};
 ghost use Rattle.slink_model.specs.Spared.{HaveCodes, IsSpared};
-ghost use Rattle.slink_model.specs.Stretch.{HoldsStretches, IsCarried, LackFew, Resumes};
+ghost use Rattle.slink_model.specs.Slice.{HoldsSlices, IsCarried, LackFew, Resumes};
 ghost use Rattle.slink_model.specs.World.{AllHappen, Differ, Happens, IsOf, LinkState, WorldState, empty_window};
 ghost use Rattle.slink_model.specs.World.{lists_of, opening, seen};
 
@@ -122,10 +122,10 @@ pub fn run_schedule(alloc: Global, setup: &Setup, steps: &[Step]) -> Result<Worl
     // are lacking.
     ensures slices { IfOk result (λ w. (run : AllHappen (opening setup.now) steps.now (seen w))
         → LackFew setup.now.first (opening setup.now) steps.now (seen w) run
-        → HoldsStretches setup.now.places.items setup.now.first (seen w)) }
+        → HoldsSlices setup.now.places.items setup.now.first (seen w)) }
     // So it is after fewer than 2^24 steps.
     ensures brief { IfOk result (λ w. AllHappen (opening setup.now) steps.now (seen w) → length steps.now < 2 ^ 24
-        → HoldsStretches setup.now.places.items setup.now.first (seen w)) }
+        → HoldsSlices setup.now.places.items setup.now.first (seen w)) }
     // A client that comes again is then granted the record after the last one held exactly where it can be, and no
     // other.
     ensures resumes { IfOk result (λ w. (run : AllHappen (opening setup.now) steps.now (seen w))

@@ -7,15 +7,15 @@ use Rattle.slink_model.specs.declared.world.Step.TheVariants.{Append}
 use Rattle.slink_model.specs.Running.{AreRings}
 use Rattle.slink_model.specs.World.{AllHappen, WorldState, opening, seen}
 use Rattle.slink_model.specs.Spared.{AreAskable}
-use Rattle.slink_model.specs.Stretch.{IsSchedule, IsSound}
+use Rattle.slink_model.specs.Slice.{IsSchedule, IsSound}
 use Rattle.slink_model.proofs.Briefly.{brief_held}
 use Rattle.slink_model.proofs.Calling.{answered_after}
 use Rattle.slink_model.proofs.CountedWorld.{the_counted_world}
 use Rattle.slink_model.proofs.Going.{goes_on_after}
 use Rattle.slink_feed.proofs.Items.{same_or_not}
-use Rattle.slink_model.proofs.Worlds.{schedule_is, stretch_held}
+use Rattle.slink_model.proofs.Worlds.{schedule_is, slice_held}
 use Rattle.slink_model.proofs.OneWorld.{one_world}
-use Rattle.slink_model.proofs.Resumed.{resume_granted, stretch_carried}
+use Rattle.slink_model.proofs.Resumed.{resume_granted, slice_carried}
 use Rattle.slink_model.proofs.Sparing.{client_spared}
 use Rattle.slink_model.proofs.Stepping.{happens_more, opening_rings, possible, rings_on}
 use Rattle.slink_model.proofs.schedule.run_schedule.Goals as goal
@@ -76,10 +76,10 @@ returns c =
     record {
       happen = happens;
       counted = λ some. the_counted_world c.args.setup.now c.args.steps.now now happens schedule (askable some);
-      slices = λ run lacks. stretch_held c.args.setup.now c.args.steps.now now run schedule lacks;
+      slices = λ run lacks. slice_held c.args.setup.now c.args.steps.now now run schedule lacks;
       brief = λ run brief. brief_held c.args.setup.now c.args.steps.now now run schedule brief;
       resumes = λ run lacks. resume_granted c.args.setup.now c.args.steps.now now run schedule lacks;
-      carried = λ run lacks l is. stretch_carried c.args.setup.now c.args.steps.now now run schedule lacks l is;
+      carried = λ run lacks l is. slice_carried c.args.setup.now c.args.steps.now now run schedule lacks l is;
       answers = λ run lacks some n next l m. answered_after c.args.setup.now c.args.steps.now now run schedule
           (askable some) lacks n next l m;
       goes_on = λ run lacks some l at linked. goes_on_after c.args.setup.now c.args.steps.now now run schedule

@@ -1,7 +1,7 @@
 use Rattle.std.proofs.Common.{ℕ, ◌+◌, ◌^◌, ◌<◌, [], drop, get_or}
 use Rattle.slink_model.specs.declared.world.Step.TheVariants.{Append}
 use Rattle.slink_model.specs.Running.{AreRings, IsRunning}
-use Rattle.slink_model.specs.Stretch.{IsSound}
+use Rattle.slink_model.specs.Slice.{IsSound}
 use Rattle.slink_model.specs.World.{AllHappen, WorldState, opening, seen}
 use Rattle.slink_model.proofs.schedule.run_schedule.Given as goal
 

@@ -44,8 +44,8 @@ pub record IsSchedule (setup : Setup) (steps : List Step) : Type 0 where
   pub sound : All IsSound steps
 
 -- Of each place one stretch of its records is held; while none is, the number that was wanted first is wanted still.
-pub record HoldsStretches (places : List (Fields × Option ℕ)) (first : ℕ) (w : WorldState) : Type 0 where
-  pub stretch : (k : ℕ) → k < length places
+pub record HoldsSlices (places : List (Fields × Option ℕ)) (first : ℕ) (w : WorldState) : Type 0 where
+  pub slice : (k : ℕ) → k < length places
       → Holds first (slice_index_or w.pushed k []) (next_at w.client.talk.wants k)
       (slice_index_or w.held k []) (number_at w.start k)
   pub wanted : WantFirst places w.client.talk.wants w.start
@@ -68,6 +68,6 @@ pub record IsCarried (places : List (Fields × Option ℕ)) (first : ℕ) (w : W
   pub items : List Item
   pub bytes : IsLinked w.client.talk.stage → w.client.kept ++ l.to_client ≡ way_bytes items
   pub none : (k : ℕ) → k < length places → grant_at l.session.state.grants k ≡ None → of_place k items ≡ []
-  pub stretch : (k : ℕ) (g : Grant) → k < length places → grant_at l.session.state.grants k ≡ Some g
+  pub slice : (k : ℕ) (g : Grant) → k < length places → grant_at l.session.state.grants k ≡ Some g
       → (n : ℕ) × (first ≤ n) × AreNext first (slice_index_or w.pushed k []) n (of_place k items)
       × (g.position ≡ n + length (of_place k items))

@@ -7,7 +7,7 @@ use Rattle.slink_wire.specs.Reply.{reply_bytes}
 use Rattle.slink_feed.specs.declared.grant.Grant.{Grant}
 use Rattle.slink_feed.specs.declared.session.Phase.TheVariants.{Streaming}
 use Rattle.slink_feed.specs.Connection.{bytes_sent}
-use Rattle.slink_feed.specs.Sending.{AreCalled, Called, IsStretch, packets_of}
+use Rattle.slink_feed.specs.Sending.{AreCalled, Called, IsSlice, packets_of}
 use Rattle.slink_feed.specs.Session.{State, grant_at}
 use Rattle.slink_feed.specs.Window.{Shows, Window}
 use Rattle.slink_feed.specs.Intake.{is_of, places_of}
@@ -30,11 +30,11 @@ all_replies (r ∷ rs) = reply_bytes r ++ all_replies rs
 -- Of an input of these records a session sent these bytes: replies; and, once it streamed from this state on, packets,
 -- and `END` where all that was requested was sent. The packets of each place that has a grant are those of a stretch of
 -- its records from the grant on, whatever the ring had in the beginning.
-pub data SaysStretches (start : List Window) (records : List (List ℕ)) (produced : List ℕ) : Type 0 where
-  replies_alone : (replies : List Reply) → produced ≡ all_replies replies → SaysStretches start records produced
+pub data ProducesSlices (start : List Window) (records : List (List ℕ)) (produced : List ℕ) : Type 0 where
+  replies_alone : (replies : List Reply) → produced ≡ all_replies replies → ProducesSlices start records produced
   streams : (replies : List Reply) (s : State) (called : List Called) → s.phase ≡ Streaming → AreCalled s called
       → produced ≡ all_replies replies ++ bytes_sent called
       → ((k first : ℕ) (w : Window) (pushed : List (List ℕ)) (g : Grant) → slice_get start k ≡ Some w
       → Shows w first pushed → grant_at s.grants k ≡ Some g
-      → IsStretch first (pushed ++ records_at k (places_of start) records) g.position (packets_of k called))
-      → SaysStretches start records produced
+      → IsSlice first (pushed ++ records_at k (places_of start) records) g.position (packets_of k called))
+      → ProducesSlices start records produced

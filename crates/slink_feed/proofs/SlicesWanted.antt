@@ -33,10 +33,10 @@ matched_set wants k n [] are = tt
 matched_set wants k n (r ∷ rs) are =
     (are.0, place_set wants k n r (want_at wants k) refl ∙ are.1, matched_set wants k n rs are.2)
 
-pub stretch_wanted : (k g : ℕ) (rs : List (List ℕ)) (t : Talk) → AreOfPlace t.wants k rs
+pub slice_wanted : (k g : ℕ) (rs : List (List ℕ)) (t : Talk) → AreOfPlace t.wants k rs
     → IfSome (next_at t.wants k) (λ want. g % 2 ^ 24 ≡ want) → AreWanted t (numbered k g rs)
-stretch_wanted k g [] t are wanted = tt
-stretch_wanted k g (r ∷ rs) t are wanted =
+slice_wanted k g [] t are wanted = tt
+slice_wanted k g (r ∷ rs) t are wanted =
     let n : ℕ = (g % 2 ^ 24 + 1) % 2 ^ 24 in
     let some : (w : Wanted) × (want_at t.wants k ≡ Some w) = place_some t.wants r k are.1 in
     let next : next_at (with_next t.wants k n) k ≡ Some n =
@@ -46,10 +46,10 @@ stretch_wanted k g (r ∷ rs) t are wanted =
       omega arith,
       are.1,
       wanted,
-      stretch_wanted k (g + 1) rs (reported k (g % 2 ^ 24) r t).0 (matched_set t.wants k n rs are.2)
+      slice_wanted k (g + 1) rs (reported k (g % 2 ^ 24) r t).0 (matched_set t.wants k n rs are.2)
           (subst (λ o. IfSome o (λ want. (g + 1) % 2 ^ 24 ≡ want)) (sym next) same),
     )
 
-pub stretch_packets : (k g : ℕ) (rs : List (List ℕ)) → all_packets (numbered k g rs) ≡ joined (packets_from g rs)
-stretch_packets k g [] = refl
-stretch_packets k g (r ∷ rs) = ap (λ ps. packet_bytes (g % 2 ^ 24) r ++ ps) (stretch_packets k (g + 1) rs)
+pub slice_packets : (k g : ℕ) (rs : List (List ℕ)) → all_packets (numbered k g rs) ≡ joined (packets_from g rs)
+slice_packets k g [] = refl
+slice_packets k g (r ∷ rs) = ap (λ ps. packet_bytes (g % 2 ^ 24) r ++ ps) (slice_packets k (g + 1) rs)

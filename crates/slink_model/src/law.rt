@@ -11,7 +11,7 @@ ghost use Rattle.slink_model.specs.Going.{GoesOn};
 ghost use Rattle.slink_feed.specs.Listening.{IsLinked};
 ghost use Rattle.slink_model.specs.Pushed.{appended};
 ghost use Rattle.slink_model.specs.Spared.{AreAskable, IsSpared};
-ghost use Rattle.slink_model.specs.Stretch.{HoldsStretches, IsCarried, IsSchedule, LackFew, Resumes};
+ghost use Rattle.slink_model.specs.Slice.{HoldsSlices, IsCarried, IsSchedule, LackFew, Resumes};
 ghost use Rattle.slink_model.specs.Ties.{Accepted, Finished, Item};
 ghost use Rattle.slink_model.specs.Whole.{HoldsMore, HoldsWhole, KeepsLink};
 ghost use Rattle.slink_model.specs.World.{AllHappen, Happens, IsOf, LinkState, WorldState, opening};
@@ -20,11 +20,11 @@ ghost use Rattle.slink_model.specs.World.{AllHappen, Happens, IsOf, LinkState, W
 /// in their order and each once; and the number of the record after the last one is wanted next.
 ///
 /// Links may be cut after any byte. At no moment may 2^24 records or more be lacking of a place where one is held.
-#[tactic(auto, using(crate::proofs::Worlds::stretch_held))]
+#[tactic(auto, using(crate::proofs::Worlds::slice_held))]
 pub fn holds_one_slice()
     ensures slices { (setup : Setup) (steps : List Step) (now : WorldState) (run : AllHappen (opening setup) steps now)
         → IsSchedule setup steps → LackFew setup.first (opening setup) steps now run
-        → HoldsStretches setup.places.items setup.first now }
+        → HoldsSlices setup.places.items setup.first now }
 {}
 
 /// After any steps of a schedule, a client that holds something of a place, and asks for the number that it wants next,
@@ -51,8 +51,8 @@ pub fn answers_the_number_wanted()
 
 /// After any steps of a schedule, while a client takes from its link, what is on its way to it are replies and packets,
 /// and the packets of a place are a stretch of its records, up to the position of its grant.
-#[tactic(auto, using(crate::proofs::Resumed::stretch_carried))]
-pub fn carries_a_stretch()
+#[tactic(auto, using(crate::proofs::Resumed::slice_carried))]
+pub fn carries_a_slice()
     ensures carried { (setup : Setup) (steps : List Step) (now : WorldState) (run : AllHappen (opening setup) steps now)
         → IsSchedule setup steps → LackFew setup.first (opening setup) steps now run
         → (l : LinkState) → now.link ≡ Some l → IsCarried setup.places.items setup.first now l }

@@ -1,5 +1,5 @@
 use Rattle.slink_model.proofs.CountedHeld.{holds_counted, holds_whole}
-use Rattle.slink_model.proofs.stretch.holds_whole_packets.Goals as goal
+use Rattle.slink_model.proofs.law.holds_whole_packets.Goals as goal
 
 pub returns-clause-whole : goal.returns-clause-whole
 returns-clause-whole c = holds_whole

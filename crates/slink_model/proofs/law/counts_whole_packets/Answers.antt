@@ -1,5 +1,5 @@
 use Rattle.slink_model.proofs.CountedPackets.{counted_ended, counted_ending, counted_packets}
-use Rattle.slink_model.proofs.stretch.counts_whole_packets.Goals as goal
+use Rattle.slink_model.proofs.law.counts_whole_packets.Goals as goal
 
 pub returns-clause-whole : goal.returns-clause-whole
 returns-clause-whole c = counted_packets
