@@ -21,8 +21,8 @@ open_or (Granted k) = inr (λ e. let bad : Granted k ≡ Closed = e in cc bad)
 open_or Streaming = inr (λ e. let bad : Streaming ≡ Closed = e in cc bad)
 open_or Closed = inl refl
 
-pub nothing_behind : (way : List ℕ) (reply : Reply) → reply ≡ replies.Nothing → way ++ reply_bytes reply ≡ way
-nothing_behind way reply none = ap (λ r. way ++ reply_bytes r) none ∙ append-nil way
+pub nothing_after : (way : List ℕ) (reply : Reply) → reply ≡ replies.Nothing → way ++ reply_bytes reply ≡ way
+nothing_after way reply none = ap (λ r. way ++ reply_bytes r) none ∙ append-nil way
 
 module _ (feed : List Window) where
   -- a closed session stays
@@ -34,7 +34,7 @@ module _ (feed : List Window) where
       let after : (v ≡ now) × (sent ≡ w ++ reply_bytes reply) =
       shut_on now others (w ++ reply_bytes reply) v sent more
       (subst (λ (x : Standing). x.state.phase ≡ Closed) (sym same.1) shut) in
-      (after.0 ∙ same.1, after.1 ∙ nothing_behind w reply same.0)
+      (after.0 ∙ same.1, after.1 ∙ nothing_after w reply same.0)
 
 -- what a session comes to is one
 pub held_same : (a b : Held) (stream : List ℕ) → IsHeld a stream → IsHeld b stream → a ≡ b

@@ -239,7 +239,7 @@ module _ (old now new : Fetching) (bytes : List ℕ) (offset used : ℕ) (event 
         linked = linked some;
         failing = prefix_further f g h (joined_by given so_far.reported) (given event)
             (joined_by given (so_far.reported ++ event ∷ [])) count cut.more joined total emitted cut.failing;
-        behind = omega (arith, total);
+        beyond = omega (arith, total);
         other = subst (λ (w : BytesWritten). Emitted o w (joined_by others so_far.reported)) (sym cut.other) other;
       }
 

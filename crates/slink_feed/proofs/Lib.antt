@@ -1,6 +1,6 @@
 pub mod Answered
 pub mod Attended
-pub mod Behind
+pub mod GrantedAfter
 pub mod Connected
 pub mod Deliveries
 pub mod Done

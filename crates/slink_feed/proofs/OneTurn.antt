@@ -123,8 +123,8 @@ module _ (feed : List Window) where
   waits_stay zero p last u v gives = gives.1
   waits_stay (suc m) p last u v gives = waits_stay m (place_after feed p) last u v (waits_next m p last u v gives)
 
-  behind_is : (p : ℕ) → p + 1 < length feed → place_after feed p ≡ p + 1
-  behind_is p lt = elim (eqb_tells (p + 1) (length feed)) [
+  after_is : (p : ℕ) → p + 1 < length feed → place_after feed p ≡ p + 1
+  after_is p lt = elim (eqb_tells (p + 1) (length feed)) [
     | inl same ↦ absurd (omega (arith, lt, same.1))
     | inr other ↦ ap (λ b. if b then 0 else p + 1) other.0
   ]
@@ -137,7 +137,7 @@ module _ (feed : List Window) where
     | inr other ↦
         let less : p + 1 ≤ k = omega (arith, above, other.1) in
         waits_above m (p + 1) last k u v (subst (λ j. Gives feed j u (replicate m sents.Wait) last v)
-        (behind_is p (omega (arith, less, lt))) (waits_next m p last u v gives)) less lt (omega (arith, far))
+        (after_is p (omega (arith, less, lt))) (waits_next m p last u v gives)) less lt (omega (arith, far))
   ]
 
   waits_below : (m p last k : ℕ) (u v : State) → Gives feed p u (replicate m sents.Wait) last v → k < p
@@ -151,7 +151,7 @@ module _ (feed : List Window) where
     | inr other ↦
         let less : p + 1 < length feed = omega (arith, lt, other.1) in
         waits_below m (p + 1) last k u v (subst (λ j. Gives feed j u (replicate m sents.Wait) last v)
-        (behind_is p less) (waits_next m p last u v gives)) (omega (arith, below)) less (omega (arith, far))
+        (after_is p less) (waits_next m p last u v gives)) (omega (arith, below)) less (omega (arith, far))
   ]
 
   waits_all : (p last k : ℕ) (u v : State) → Gives feed p u (replicate (length feed) sents.Wait) last v
@@ -252,28 +252,28 @@ sent_once feed old a b p q =
     }
 
 -- A link that failed at a write accepted no more than what came before and a part of that.
-last_behind : (given more rest : List Sent) (last x : Sent) → given ++ last ∷ [] ≡ more ++ x ∷ rest
+last_after : (given more rest : List Sent) (last x : Sent) → given ++ last ∷ [] ≡ more ++ x ∷ rest
     → (some : List Sent) × (given ≡ more ++ some)
-last_behind given [] rest last x e = (given, refl)
-last_behind [] (y ∷ []) rest last x e = absurd (let bad : [] ≡ x ∷ rest = cc e in cc bad)
-last_behind [] (y ∷ z ∷ more) rest last x e = absurd (let bad : [] ≡ z ∷ (more ++ x ∷ rest) = cc e in cc bad)
-last_behind (g ∷ given) (y ∷ more) rest last x e =
+last_after given [] rest last x e = (given, refl)
+last_after [] (y ∷ []) rest last x e = absurd (let bad : [] ≡ x ∷ rest = cc e in cc bad)
+last_after [] (y ∷ z ∷ more) rest last x e = absurd (let bad : [] ≡ z ∷ (more ++ x ∷ rest) = cc e in cc bad)
+last_after (g ∷ given) (y ∷ more) rest last x e =
     let heads : g ≡ y = cc e in
     let tails : given ++ last ∷ [] ≡ more ++ x ∷ rest = cc e in
-    let one : (some : List Sent) × (given ≡ more ++ some) = last_behind given more rest last x tails in
+    let one : (some : List Sent) × (given ≡ more ++ some) = last_after given more rest last x tails in
     (one.0, ap (λ z. z ∷ given) heads ∙ ap (λ zs. y ∷ zs) one.1)
 
 -- the first of two such runs isn't shorter
 failed_alike : (feed : List Window) (p q n : ℕ) (u v : State) (a given : List Sent) (last : Sent)
     → n < length (all_sent a) → length (all_sent given) ≤ n → GoesFurther feed a p u (given ++ last ∷ []) q v
     → (v ≡ u) × (all_sent (given ++ last ∷ []) ≡ all_sent a)
-failed_alike feed p q n u v a given last part behind ([], same, more) = (more.1, ap all_sent (same ∙ append-nil a))
-failed_alike feed p q n u v a given last part behind (x ∷ rest, same, more) =
-    let some : (xs : List Sent) × (given ≡ a ++ xs) = last_behind given a rest last x same in
+failed_alike feed p q n u v a given last part beyond ([], same, more) = (more.1, ap all_sent (same ∙ append-nil a))
+failed_alike feed p q n u v a given last part beyond (x ∷ rest, same, more) =
+    let some : (xs : List Sent) × (given ≡ a ++ xs) = last_after given a rest last x same in
     let long : length (all_sent given) ≡ length (all_sent a) + length (all_sent some.0) =
     ap (λ g. length (all_sent g)) some.1
     ∙ (ap length (all_joined a some.0) ∙ length-append (all_sent a) (all_sent some.0)) in
-    absurd (omega (arith, part, behind, long))
+    absurd (omega (arith, part, beyond, long))
 
 pub sending_failed_once : (feed : List Window) (old a b : Attending) (n : ℕ) → FailsToSend feed old a n
     → FailsToSend feed old b n → AreAlike a b
@@ -284,11 +284,11 @@ sending_failed_once feed old a b n p q =
     elim (one_run feed 0 p.place q.place old.session.state a.session.state b.session.state x y p.gives q.gives) [
       | inl far ↦ (let one : (b.session.state ≡ a.session.state)
           × (all_sent y ≡ all_sent x) =
-          failed_alike feed p.place q.place n a.session.state b.session.state x q.given q.last p.written.part q.behind
+          failed_alike feed p.place q.place n a.session.state b.session.state x q.given q.last p.written.part q.beyond
           far in
           (sym one.0, sym one.1))
       | inr far ↦ failed_alike feed q.place p.place n b.session.state a.session.state y p.given p.last q.written.part
-          p.behind far
+          p.beyond far
     ] in
     record {
       state = both.0;
@@ -339,20 +339,20 @@ replied_alike : (feed : List Window) (old m n a b : Attending) (bytes more : Lis
     → GoesOn feed old m → GoesOn feed old n → more ≡ bytes → RepliesToAll feed m a bytes → RepliesToAll feed n b more
     → AreAlike a b
 replied_alike feed old m n a b bytes more stands g h same p q =
-    let behind : SentAlike old m n = sent_alike feed old m n stands g h in
+    let beyond : SentAlike old m n = sent_alike feed old m n stands g h in
     let other : Serves feed m.session bytes m.written.bytes b.session b.written.bytes =
-    subst (λ (s : Standing). Serves feed s bytes m.written.bytes b.session b.written.bytes) behind.session
-    (subst (λ w. Serves feed n.session bytes w b.session b.written.bytes) (sym behind.alike.bytes)
+    subst (λ (s : Standing). Serves feed s bytes m.written.bytes b.session b.written.bytes) beyond.session
+    (subst (λ w. Serves feed n.session bytes w b.session b.written.bytes) (sym beyond.alike.bytes)
     (subst (λ bs. Serves feed n.session bs n.written.bytes b.session b.written.bytes) same q.serves)) in
     let one : Same feed a.session b.session a.written.bytes b.written.bytes =
-    served_once feed m.session a.session b.session behind.stream bytes m.written.bytes a.written.bytes b.written.bytes
-    (λ _. behind.held) behind.fits p.serves other in
+    served_once feed m.session a.session b.session beyond.stream bytes m.written.bytes a.written.bytes b.written.bytes
+    (λ _. beyond.held) beyond.fits p.serves other in
     record {
       state = one.state;
       held = one.held;
       bytes = one.out;
       failures = p.failures
-          ∙ (behind.alike.failures ∙ sym q.failures);
+          ∙ (beyond.alike.failures ∙ sym q.failures);
     }
 
 pub turned_once : (feed : List Window) (old a b : Attending) (before after : BytesRead) (t u : Turn)
@@ -388,11 +388,11 @@ cut_alike : (feed : List Window) (old m n a b : Attending) (bytes more : List �
     → length b.written.bytes ≡ length old.written.bytes + count
     → EmittedAlike a b
 cut_alike feed old m n a b bytes more count stands g h same p q long short =
-    let behind : SentAlike old m n = sent_alike feed old m n stands g h in
+    let beyond : SentAlike old m n = sent_alike feed old m n stands g h in
     let other : Serves feed m.session q.prefix m.written.bytes q.before.session q.before.written.bytes =
     subst (λ (s : Standing). Serves feed s q.prefix m.written.bytes q.before.session q.before.written.bytes)
-    behind.session
-    (subst (λ w. Serves feed n.session q.prefix w q.before.session q.before.written.bytes) (sym behind.alike.bytes)
+    beyond.session
+    (subst (λ w. Serves feed n.session q.prefix w q.before.session q.before.written.bytes) (sym beyond.alike.bytes)
     q.replies.serves) in
     let total : length (p.before.written.bytes ++ take p.count (reply_bytes p.reply))
     ≡ length (q.before.written.bytes ++ take q.count (reply_bytes q.reply)) =
@@ -400,18 +400,18 @@ cut_alike feed old m n a b bytes more count stands g h same p q long short =
     let one : (a.session.state ≡ b.session.state)
     × (p.before.written.bytes ++ take p.count (reply_bytes p.reply) ≡ q.before.written.bytes ++ take q.count
     (reply_bytes q.reply)) =
-    cut_in_once feed m.session p.before.session q.before.session a.session b.session behind.stream bytes p.prefix
+    cut_in_once feed m.session p.before.session q.before.session a.session b.session beyond.stream bytes p.prefix
     p.piece p.rest q.prefix q.piece q.rest m.written.bytes p.before.written.bytes q.before.written.bytes p.reply q.reply
     p.count
     q.count
-    (λ _. behind.held) behind.fits (p.bytes_are ∙ append_assoc p.prefix p.piece p.rest) p.replies.serves
+    (λ _. beyond.held) beyond.fits (p.bytes_are ∙ append_assoc p.prefix p.piece p.rest) p.replies.serves
     p.takes p.written.part (sym same ∙ (q.bytes_are ∙ append_assoc q.prefix q.piece q.rest)) other q.takes
     q.written.part
     total in
     record {
       state = one.0;
       bytes = p.written.bytes ∙ (one.1 ∙ sym q.written.bytes);
-      failures = p.written.failures ∙ (ap (λ n. n + 1) (p.replies.failures ∙ (behind.alike.failures
+      failures = p.written.failures ∙ (ap (λ n. n + 1) (p.replies.failures ∙ (beyond.alike.failures
           ∙ sym q.replies.failures))
           ∙ sym q.written.failures);
     }

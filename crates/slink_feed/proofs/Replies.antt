@@ -7,7 +7,7 @@ use Rattle.std.proofs.lemmas.Bool.Decides.{eqb_tells}
 use Rattle.std.proofs.lemmas.List.{nil_from_length}
 use Rattle.std.proofs.lemmas.Option.{slice_get_past}
 use Rattle.slink_feed.specs.Cutting.{IsReply, IsReplyBegun, LacksEnd}
-use Rattle.slink_feed.specs.private.Parts.{ends_behind, ends_reply}
+use Rattle.slink_feed.specs.private.Parts.{ends_line, ends_reply}
 use Rattle.slink_feed.proofs.Prefixes.{get_left, get_here}
 
 same_byte : (a b : ℕ) → (a == b) ≡ true → a ≡ b
@@ -20,14 +20,14 @@ both : (p q : Bool) → (p && q) ≡ true → (p ≡ true) × (q ≡ true)
 both true q h = (refl, h)
 both false q h = absurd (let bad : false ≡ true = h in cc bad)
 
-ends_both : (o : Option ℕ) (b : ℕ) → ends_behind o b ≡ true → (o ≡ Some 13) × (b ≡ 10)
+ends_both : (o : Option ℕ) (b : ℕ) → ends_line o b ≡ true → (o ≡ Some 13) × (b ≡ 10)
 ends_both None b h = absurd (let bad : false ≡ true = h in cc bad)
 ends_both (Some last) b h = let parts : ((last == 13) ≡ true) × ((b == 10) ≡ true) = both (last == 13) (b == 10) h in
     (ap (λ x. Some x) (same_byte last 13 parts.0), same_byte b 10 parts.1)
 
-both_pass : (o : Option ℕ) (b : ℕ) → ends_behind o b ≡ false → o ≡ Some 13 → b ≡ 10 → ⊥
+both_pass : (o : Option ℕ) (b : ℕ) → ends_line o b ≡ false → o ≡ Some 13 → b ≡ 10 → ⊥
 both_pass o b h last here = let bad : true ≡ false =
-    sym (ap (λ p. ends_behind p b) last ∙ ap (λ c. ends_behind (Some 13) c) here) ∙ h in cc bad
+    sym (ap (λ p. ends_line p b) last ∙ ap (λ c. ends_line (Some 13) c) here) ∙ h in cc bad
 
 -- one byte more, which ends nothing
 pub lacks_more : (xs : List ℕ) (b : ℕ) → LacksEnd xs → ends_reply xs b ≡ false → LacksEnd (xs ++ b ∷ [])

@@ -123,8 +123,8 @@ words_more (x ∷ xs) (suc i) d lt =
     ∙ sym (append_assoc (word_of x) (words_of (take i xs)) (word_of (get_or xs i d))))
 
 -- the places after the first
-pub behind_first : (ws : Wants) → take (length ws - 1) (drop 1 ws) ≡ drop 1 ws
-behind_first ws = take_all (length ws - 1) (drop 1 ws) (omega (arith, length-drop 1 ws))
+pub after_the_first : (ws : Wants) → take (length ws - 1) (drop 1 ws) ≡ drop 1 ws
+after_the_first ws = take_all (length ws - 1) (drop 1 ws) (omega (arith, length-drop 1 ws))
 
 pub first_is : (ws : Wants) (o : Option Wanted) → 0 < length ws → o ≡ get_or ws 0 o → o ≡ want_at ws 0
 first_is [] o some is = absurd (omega (arith, some))

@@ -52,10 +52,10 @@ pub takes_both : (a b c : BytesWritten) (some more : List Numbered) → Emitted 
 takes_both a b c some more p q = elim q [
   | all emitted ↦ all (subst (Emitted a c) (sym (bytes_both some more))
       (emitted_both a b c (bytes_in some) (bytes_in more) p emitted))
-  | but_last prefix last n is behind emitted ↦
+  | but_last prefix last n is beyond emitted ↦
       but_last (some ++ prefix) last (length (bytes_in some) + n) (ap (λ rs. some ++ rs) is
       ∙ sym (append_assoc some prefix (last ∷ [])))
-      (omega (arith, behind, ap length (bytes_both some prefix), length-append (bytes_in some) (bytes_in prefix)))
+      (omega (arith, beyond, ap length (bytes_both some prefix), length-append (bytes_in some) (bytes_in prefix)))
       (subst (λ bytes. EmittedPrefix a c bytes (length (bytes_in some) + n)) (sym (bytes_both some more))
       (emitted_prefix a b c (bytes_in some) (bytes_in more) n p emitted))
 ]
@@ -66,7 +66,7 @@ pub all_taken : (rs : List Numbered) (a b : BytesWritten) → TakesRecords rs a 
 all_taken rs a b takes fine =
     elim takes [
       | all emitted ↦ emitted
-      | but_last prefix last n is behind emitted ↦
+      | but_last prefix last n is beyond emitted ↦
           absurd (omega (arith, emitted.failures, fine))
     ]
 
@@ -129,10 +129,10 @@ lines_more t (r ∷ rs) more =
     ap (λ ls. here ++ ls) (lines_more past rs more)
     ∙ sym (append_assoc here (lines_of past rs) (lines_of (reporting_after past rs) more))
 
-behind_more : (t : Reporting) (some more : List Numbered)
+after_more : (t : Reporting) (some more : List Numbered)
     → reporting_after t (some ++ more) ≡ reporting_after (reporting_after t some) more
-behind_more t [] more = refl
-behind_more t (r ∷ rs) more = behind_more (reporting_past t r.place r.number) rs more
+after_more t [] more = refl
+after_more t (r ∷ rs) more = after_more (reporting_past t r.place r.number) rs more
 
 -- Records that are reported and taken, one after another.
 pub handed_over_none : (a : Outputs) → AreHandedOver [] a a
@@ -142,7 +142,7 @@ pub handed_over_both : (some more : List Numbered) (a b c : Outputs) → AreHand
     → b.output.failures ≡ a.output.failures → AreHandedOver more b c → AreHandedOver (some ++ more) a c
 handed_over_both some more a b c p fine q = record {
   emitted = takes_both a.output b.output c.output some more (all_taken some a.output b.output p.emitted fine) q.emitted;
-  reporting = q.reporting ∙ (ap (λ t. reporting_after t more) p.reporting ∙ sym (behind_more a.reporting some more));
+  reporting = q.reporting ∙ (ap (λ t. reporting_after t more) p.reporting ∙ sym (after_more a.reporting some more));
   lines = subst (λ ls. AreReported ls a.errors c.errors) (sym (lines_more a.reporting some more))
       (lines_both (lines_of a.reporting some) (lines_of (reporting_after a.reporting some) more) a.errors b.errors c.errors
       p.lines (subst (λ t. AreReported (lines_of t more) b.errors c.errors) p.reporting q.lines));

@@ -153,7 +153,7 @@ module _ (feed : List Window) (old now new : Attending) (k waits_now written : �
         written = prefix_further old.written now.written new.written (all_sent so_far.given) (sent_bytes x.1)
             (all_sent (so_far.given ++ x.1 ∷ [])) after cut.more (all_more so_far.given x.1) counted so_far.emitted
             cut.written;
-        behind = omega (arith, counted);
+        beyond = omega (arith, counted);
       }
 
   pub not_sent : (fault : LinkFault) → IsWriteFault fault now.written new.written (sent_bytes x.1) written

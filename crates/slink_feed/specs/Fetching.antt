@@ -87,7 +87,7 @@ pub record FailsAtLast (given others : Event → List ℕ) (old new : Listening)
   pub takes : Takes old new bytes (reported ++ last ∷ [])
   pub linked : IsLinked new.talk.stage
   pub failing : EmittedPrefix failing_old failing_new (joined_by given (reported ++ last ∷ [])) count
-  pub behind : length (joined_by given reported) ≤ count
+  pub beyond : length (joined_by given reported) ≤ count
   pub other : Emitted other_old other_new (joined_by others reported)
 
 -- The link failed within the line of the last event.

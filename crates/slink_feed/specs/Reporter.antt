@@ -71,20 +71,20 @@ reporting_after t [] = t
 reporting_after t (r ∷ rs) = reporting_after (reporting_past t r.place r.number) rs
 
 -- the arguments that name a number, where one is known
-abbrev pub number_behind : List ℕ → Option ℕ → List ℕ
-number_behind name None = []
-number_behind name (Some n) = name ++ hexadecimal 6 n
+abbrev pub named_number : List ℕ → Option ℕ → List ℕ
+named_number name None = []
+named_number name (Some n) = name ++ hexadecimal 6 n
 
 -- the options that name the first place
 abbrev pub options_of : Option Wanted → List ℕ
 options_of None = []
 options_of (Some w) = codes " --network " ++ code_in w.place.network ++ codes " --station " ++ code_in w.place.station
-    ++ number_behind (codes " --from ") w.next
+    ++ named_number (codes " --from ") w.next
 
 -- the word that names a further place
 abbrev pub word_of : Option Wanted → List ℕ
 word_of None = []
-word_of (Some w) = codes " " ++ label_of w.place ++ number_behind (codes ":") w.next
+word_of (Some w) = codes " " ++ label_of w.place ++ named_number (codes ":") w.next
 
 abbrev pub words_of : Wants → List ℕ
 words_of [] = []

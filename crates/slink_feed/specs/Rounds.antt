@@ -53,4 +53,4 @@ pub record FailsToSend (feed : List Window) (old new : Attending) (count : ℕ) 
   pub gives : Gives feed 0 old.session.state (given ++ last ∷ []) place new.session.state
   pub held : new.session.held ≡ old.session.held
   pub written : EmittedPrefix old.written new.written (all_sent (given ++ last ∷ [])) count
-  pub behind : length (all_sent given) ≤ count
+  pub beyond : length (all_sent given) ≤ count

@@ -4,10 +4,10 @@ ghost use Rattle.mseed_stream.specs.Telling.{Tells};
 ghost use Rattle.slink_feed.specs.Dialogue.{want_at, with_next};
 ghost use Rattle.slink_feed.specs.Reporter.{AreReported, first_line, first_lines, hole_line, hole_lines, if_other};
 ghost use Rattle.slink_feed.specs.Reporter.{lines_at};
-ghost use Rattle.slink_feed.specs.Reporter.{next_line, next_line_of, number_behind, options_of, reporting_of};
+ghost use Rattle.slink_feed.specs.Reporter.{next_line, next_line_of, named_number, options_of, reporting_of};
 ghost use Rattle.slink_feed.specs.Reporter.{reporting_past};
 ghost use Rattle.slink_feed.specs.Reporter.{wants_left, word_of};
-ghost use Rattle.slink_feed.specs.private.Lines.{PutsBehind};
+ghost use Rattle.slink_feed.specs.private.Lines.{Appends};
 
 use crate::client::Client;
 use crate::dialogue::Wanted;
@@ -60,7 +60,7 @@ fn hole_line(place: &Place, want: u32, got: u32) -> Line
 /// Appends a number to a line, after its name, where it is known.
 fn put_number(line: &mut Line, name: &[u8], number: Option<u32>)
     requires { length line.old.items + length name.now + 6 ≤ 320 }
-    ensures { PutsBehind line.old.items line.new.items (number_behind name.now number) (length name.now + 6) }
+    ensures { Appends line.old.items line.new.items (named_number name.now number) (length name.now + 6) }
 {
     if let Some(number) = number {
         put(line, name);
@@ -71,7 +71,7 @@ fn put_number(line: &mut Line, name: &[u8], number: Option<u32>)
 /// Appends the options that name the first place to a line.
 fn put_options(line: &mut Line, want: &Option<Wanted>)
     requires { length line.old.items + 43 ≤ 320 }
-    ensures { PutsBehind line.old.items line.new.items (options_of want.now) 43 }
+    ensures { Appends line.old.items line.new.items (options_of want.now) 43 }
 {
     if let Some(wanted) = want {
         put(line, b" --network ");
@@ -85,7 +85,7 @@ fn put_options(line: &mut Line, want: &Option<Wanted>)
 /// Appends the argument that names a further place to a line.
 fn put_word(line: &mut Line, want: &Option<Wanted>)
     requires { length line.old.items + 16 ≤ 320 }
-    ensures { PutsBehind line.old.items line.new.items (word_of want.now) 16 }
+    ensures { Appends line.old.items line.new.items (word_of want.now) 16 }
 {
     if let Some(wanted) = want {
         put(line, b" ");

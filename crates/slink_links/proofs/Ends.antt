@@ -50,7 +50,7 @@ pub all_reported : (firsts : Bool) (end : FetchEnd) (old new : Listening) (t u :
 all_reported firsts end old new t u o p a b c d f begun ended next =
     let records : List Numbered = f.fetched.records in
     let first : Reporting = reporting_of old.talk.wants firsts in
-    let behind : u ≡ reporting_after first records =
+    let beyond : u ≡ reporting_after first records =
     f.handed_over.reporting ∙ ap (λ (x : Reporting). reporting_after x records) begun in record {
       reported = b;
       ended = c;
@@ -58,5 +58,5 @@ all_reported firsts end old new t u o p a b c d f begun ended next =
       end_line = ended;
       next = subst (λ (x : Reporting). AreReported (next_lines firsts
           (wants_left (is_unwritten end) x.last new.talk.wants)) c
-          d) behind next;
+          d) beyond next;
     }

@@ -67,16 +67,16 @@ records_last es e = records_both es (e ∷ []) ∙ ap (λ rs. records_reported e
 -- a line that wasn't taken whole
 unwritten_none : (es : List Event) (e : Event) (n : ℕ) → n < length (lines_written (es ++ e ∷ []))
     → length (lines_written es) ≤ n → records_reported (es ++ e ∷ []) ≡ records_reported es
-unwritten_none es e n part behind =
+unwritten_none es e n part beyond =
     let long : 0 < length (line_written e) =
-    omega (arith, part, behind, ap length (lines_both es e), length-append (lines_written es) (line_written e)) in
+    omega (arith, part, beyond, ap length (lines_both es e), length-append (lines_written es) (line_written e)) in
     records_last es e ∙ (ap (λ rs. records_reported es ++ rs) (line_alone e long) ∙ append-nil (records_reported es))
 
 -- a record that wasn't taken whole
 left_unwritten : (es : List Event) (e : Event) (n : ℕ) (old new : BytesWritten)
     → EmittedPrefix old new (bytes_reported (es ++ e ∷ [])) n
     → length (bytes_reported es) ≤ n → TakesRecords (records_reported (es ++ e ∷ [])) old new
-left_unwritten es e n old new emitted behind =
+left_unwritten es e n old new emitted beyond =
     let whole : bytes_reported (es ++ e ∷ []) ≡ bytes_in (records_reported es) ++ bytes_in (record_in e) =
     reported_bytes (es ++ e ∷ []) ∙ (ap bytes_in (records_last es e)
     ∙ bytes_both (records_reported es) (record_in e)) in
@@ -84,10 +84,10 @@ left_unwritten es e n old new emitted behind =
     (bytes_in (record_in e)) =
     ap length whole ∙ length-append (bytes_in (records_reported es)) (bytes_in (record_in e)) in
     let long : 0 < length (record_reported e) =
-    omega (arith, emitted.part, behind, sum, ap length (reported_bytes es), ap length (record_bytes e)) in
+    omega (arith, emitted.part, beyond, sum, ap length (reported_bytes es), ap length (record_bytes e)) in
     let last : (r : Numbered) × (record_in e ≡ r ∷ []) = record_alone e long in
     but_last (records_reported es) last.0 n (records_last es e ∙ ap (λ rs. records_reported es ++ rs) last.1)
-    (omega (arith, behind, ap length (reported_bytes es)))
+    (omega (arith, beyond, ap length (reported_bytes es)))
     (subst (λ bytes. EmittedPrefix old new bytes n) (reported_bytes (es ++ e ∷ [])) emitted)
 
 -- By no bytes nothing changes.
@@ -246,7 +246,7 @@ turned_err (faults.Write n) old new s0 s1 w0 w1 h0 h1 f reading linked =
           x.takes.prefix (λ goes. absurd (some_end LinkFailed goes));
       reported = x.reported ++ x.last ∷ [];
       reads = x.takes.reads;
-      emitted = subst (λ rs. TakesRecords rs w0 w1) (sym (unwritten_none x.reported x.last n x.failing.part x.behind))
+      emitted = subst (λ rs. TakesRecords rs w0 w1) (sym (unwritten_none x.reported x.last n x.failing.part x.beyond))
           (all emitted);
       stands = inl (linked_unended new.talk.stage x.linked);
       failures = emitted.failures ∙ omega arith;
@@ -258,7 +258,7 @@ turned_err (faults.Output n) old new s0 s1 w0 w1 h0 h1 f reading linked =
           x.takes.prefix (λ goes. absurd (some_end WriteFailed goes));
       reported = x.reported ++ x.last ∷ [];
       reads = x.takes.reads;
-      emitted = left_unwritten x.reported x.last n w0 w1 x.failing x.behind;
+      emitted = left_unwritten x.reported x.last n w0 w1 x.failing x.beyond;
       stands = linked_unended new.talk.stage x.linked;
       failures = x.failing.failures;
     }
@@ -451,12 +451,12 @@ fetched_none now a = record {
   handed_over = handed_over_none a;
 }
 
-stands_behind : (end : FetchEnd) (a b c : Listening) → StandsAt LinkFailed a b → StandsAt end b c → StandsAt end a c
-stands_behind Done a b c before stands = stands
-stands_behind Refused a b c before stands = stands
-stands_behind BadFeed a b c before stands = stands
-stands_behind WriteFailed a b c before stands = stands
-stands_behind LinkFailed a b c before stands = elim stands [
+stands_after : (end : FetchEnd) (a b c : Listening) → StandsAt LinkFailed a b → StandsAt end b c → StandsAt end a c
+stands_after Done a b c before stands = stands
+stands_after Refused a b c before stands = stands
+stands_after BadFeed a b c before stands = stands
+stands_after WriteFailed a b c before stands = stands
+stands_after LinkFailed a b c before stands = elim stands [
   | inl there ↦ inl there
   | inr same ↦ subst (λ (x : Listening). IsUnended x.talk.stage ⊎ (x ≡ a)) (sym same) before
 ]
@@ -479,7 +479,7 @@ fetched_both end a b c s t u x y =
         moved = moved_by a.talk.holes a.talk.wants c.talk.wants (p.records ++ q.records) reported;
         holes = q.holes ∙ p.holes;
         emitted = takes_both s.output t.output u.output p.records q.records emitted q.emitted;
-        stands = stands_behind end a b c p.stands q.stands;
+        stands = stands_after end a b c p.stands q.stands;
         failures = omega (arith, p.failures, q.failures);
       };
       handed_over = handed_over_both p.records q.records s t u x.handed_over fine y.handed_over;

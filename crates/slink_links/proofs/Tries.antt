@@ -14,32 +14,32 @@ use Rattle.slink_links.specs.declared.fetching.FetchEnd.{FetchEnd}
 use Rattle.slink_links.specs.declared.fetching.FetchEnd.TheVariants.{LinkFailed}
 use Rattle.slink_links.specs.Fetched.{Calls, HasBrought, HasFetched, HasPaused, HasTried, HaveFailed, WasFetchedOver}
 use Rattle.slink_links.specs.Fetched.{dialled, none, one_more, output_failures, tried, undialled}
-use Rattle.slink_links.specs.Pauses.{pause_behind, pauses_from, pauses_since}
+use Rattle.slink_links.specs.Pauses.{pause_after, pauses_from, pauses_since}
 use Rattle.slink_feed.proofs.Reporting.{all_taken}
 
 -- behind how many pauses the next one comes
-abbrev pub behind_after : ℕ → List Bool → ℕ
-behind_after n [] = n
-behind_after n (received ∷ tries) = behind_after (pauses_since received n + 1) tries
+abbrev pub after_after : ℕ → List Bool → ℕ
+after_after n [] = n
+after_after n (received ∷ tries) = after_after (pauses_since received n + 1) tries
 
 pauses_more : (n : ℕ) (tries : List Bool) (received : Bool) → pauses_from n (tries ++ received ∷ [])
-    ≡ pauses_from n tries ++ pause_behind (pauses_since received (behind_after n tries)) ∷ []
+    ≡ pauses_from n tries ++ pause_after (pauses_since received (after_after n tries)) ∷ []
 pauses_more n [] received = refl
 pauses_more n (t ∷ ts) received =
-    ap (λ ps. pause_behind (pauses_since t n) ∷ ps) (pauses_more (pauses_since t n + 1) ts received)
+    ap (λ ps. pause_after (pauses_since t n) ∷ ps) (pauses_more (pauses_since t n + 1) ts received)
 
-behind_more : (n : ℕ) (tries : List Bool) (received : Bool) → behind_after n (tries ++ received ∷ [])
-    ≡ pauses_since received (behind_after n tries) + 1
-behind_more n [] received = refl
-behind_more n (t ∷ ts) received = behind_more (pauses_since t n + 1) ts received
+after_more : (n : ℕ) (tries : List Bool) (received : Bool) → after_after n (tries ++ received ∷ [])
+    ≡ pauses_since received (after_after n tries) + 1
+after_more n [] received = refl
+after_more n (t ∷ ts) received = after_more (pauses_since t n + 1) ts received
 
 since_most : (received : Bool) (n : ℕ) → pauses_since received n ≤ n
 since_most true n = omega arith
 since_most false n = omega arith
 
-behind_most : (n : ℕ) (tries : List Bool) → behind_after n tries ≤ n + length tries
-behind_most n [] = omega arith
-behind_most n (t ∷ ts) = omega (arith, since_most t n, behind_most (pauses_since t n + 1) ts)
+after_most : (n : ℕ) (tries : List Bool) → after_after n tries ≤ n + length tries
+after_most n [] = omega arith
+after_most n (t ∷ ts) = omega (arith, since_most t n, after_most (pauses_since t n + 1) ts)
 
 -- Whether a link brought a record shows in what the output accepted.
 false_true : false ≡ true → ⊥
@@ -100,7 +100,7 @@ pub record AreTried (old now : Listening) (a b : BytesWritten) (before after : C
   pub dials : after.dials ≡ before.dials + length tries
   pub given_back : after.given_back ≡ before.given_back ++ links
   pub called : after.called ≡ before.called ++ pauses_from 0 tries
-  pub counted : count ≡ behind_after 0 tries
+  pub counted : count ≡ after_after 0 tries
 
 pub nothing_tried : (now : Listening) (written : BytesWritten) (calls : Calls)
     → AreTried now now written written calls calls 0
@@ -116,12 +116,12 @@ nothing_tried now written calls = record {
 
 pub few_counted : (old now : Listening) (a b : BytesWritten) (before after : Calls) (count : ℕ)
     → AreTried old now a b before after count → before.dials + count ≤ after.dials
-few_counted old now a b before after count p = omega (arith, p.counted, p.dials, behind_most 0 p.tries)
+few_counted old now a b before after count p = omega (arith, p.counted, p.dials, after_most 0 p.tries)
 
 pub tried_more : (received : Bool) (old now new : Listening) (a b c : BytesWritten) (before mid after : Calls)
     (count next : ℕ) → AreTried old now a b before mid count
     → HasTried LinkFailed received now new mid.given_back after.given_back b c → after.dials ≡ mid.dials + 1
-    → after.called ≡ mid.called ++ pause_behind (pauses_since received count) ∷ []
+    → after.called ≡ mid.called ++ pause_after (pauses_since received count) ∷ []
     → next ≡ pauses_since received count + 1 → AreTried old new a c before after next
 tried_more received old now new a b c before mid after count next p q dials called is = record {
   tries = p.tries ++ received ∷ [];
@@ -130,12 +130,12 @@ tried_more received old now new a b c before mid after count next p q dials call
   dials = omega (arith, dials, p.dials, length-append p.tries (received ∷ []));
   given_back = q.given_back ∙ (ap (λ xs. xs ++ q.links) p.given_back
       ∙ append_assoc before.given_back p.links q.links);
-  called = called ∙ (ap (λ xs. xs ++ pause_behind (pauses_since received count) ∷ []) p.called
-      ∙ (append_assoc before.called (pauses_from 0 p.tries) (pause_behind (pauses_since received count) ∷ [])
+  called = called ∙ (ap (λ xs. xs ++ pause_after (pauses_since received count) ∷ []) p.called
+      ∙ (append_assoc before.called (pauses_from 0 p.tries) (pause_after (pauses_since received count) ∷ [])
       ∙ ap (λ xs. before.called ++ xs)
-      (ap (λ n. pauses_from 0 p.tries ++ pause_behind (pauses_since received n) ∷ []) p.counted
+      (ap (λ n. pauses_from 0 p.tries ++ pause_after (pauses_since received n) ∷ []) p.counted
       ∙ sym (pauses_more 0 p.tries received))));
-  counted = is ∙ (ap (λ n. pauses_since received n + 1) p.counted ∙ sym (behind_more 0 p.tries received));
+  counted = is ∙ (ap (λ n. pauses_since received n + 1) p.counted ∙ sym (after_more 0 p.tries received));
 }
 
 pub tried_last : (end : FetchEnd) (received : Bool) (old now new : Listening) (a b c : BytesWritten)

@@ -117,8 +117,8 @@ next_lines false wants = []
 next_lines true wants = next_line_of wants ∷ []
 
 -- what is wanted next after these records: what the client wants, and a record again that wasn't taken whole
-abbrev pub left_behind : Bool → FetchEnd → List Numbered → Wants → Wants → Wants
-left_behind firsts end records old new =
+abbrev pub wants_at_end : Bool → FetchEnd → List Numbered → Wants → Wants → Wants
+wants_at_end firsts end records old new =
     wants_left (is_unwritten end) (reporting_after (reporting_of old firsts) records).last new
 
 -- Standard error accepted the lines of these records, each before the output accepted a byte of it; then the line that
@@ -129,7 +129,7 @@ pub record ReportsOfAll (firsts : Bool) (end : FetchEnd) (records : List Numbere
   pub ended : BytesWritten
   pub lines : AreReported (lines_of (reporting_of old firsts) records) before reported
   pub end_line : ReportsOfFetch end reported ended
-  pub next : AreReported (next_lines firsts (left_behind firsts end records old new)) ended after
+  pub next : AreReported (next_lines firsts (wants_at_end firsts end records old new)) ended after
 
 -- how a fetch ends by the event at which a client stopped
 abbrev pub stopped_by : Event → FetchEnd

@@ -2,8 +2,8 @@
 use Rattle.std.specs.Prelude.{ℕ, ◌+◌, Bool, true, false, List, [], ◌∷◌, unwrap_or, slice_get}
 
 -- how long a pause is after so many, in tenths of a second: twice as long each time, up to five seconds
-abbrev pub pause_behind : ℕ → ℕ
-pause_behind n = unwrap_or (slice_get (1 ∷ 2 ∷ 4 ∷ 8 ∷ 16 ∷ 32 ∷ []) n) 50
+abbrev pub pause_after : ℕ → ℕ
+pause_after n = unwrap_or (slice_get (1 ∷ 2 ∷ 4 ∷ 8 ∷ 16 ∷ 32 ∷ []) n) 50
 
 -- Where a try brought a record, the pauses begin anew.
 abbrev pub pauses_since : Bool → ℕ → ℕ
@@ -14,4 +14,4 @@ pauses_since false n = n
 abbrev pub pauses_from : ℕ → List Bool → List ℕ
 pauses_from n [] = []
 pauses_from n (received ∷ tries) =
-    pause_behind (pauses_since received n) ∷ pauses_from (pauses_since received n + 1) tries
+    pause_after (pauses_since received n) ∷ pauses_from (pauses_since received n + 1) tries

@@ -13,7 +13,7 @@ ghost use Rattle.slink_links.specs.Fetched.{FetchesReporting, HasTried, ReportsO
 ghost use Rattle.slink_links.specs.Fetched.{end_by, fetch_status, is_unwritten, next_lines, stopped_by};
 
 use crate::dial::Dial;
-use crate::pause::{Pause, wait_behind};
+use crate::pause::{Pause, wait_after};
 use crate::serving::TURNS;
 use crate::settle::Settle;
 use crate::status::{DONE, FAULT};
@@ -168,7 +168,7 @@ fn fetch_links<D: Dial, P: Pause, W: Sink, E: Sink>(
         if end != FetchEnd::LinkFailed || left == 0 {
             return end;
         }
-        count = wait_behind(received, count, waits);
+        count = wait_after(received, count, waits);
     }
 }
 

@@ -65,7 +65,7 @@ impl<S: Write> Gathering<S> {
     /// # Errors
     ///
     /// As for [`Gathering::write_gathered`].
-    fn write_behind(&mut self, bytes: &[u8]) -> io::Result<usize>
+    fn write_further(&mut self, bytes: &[u8]) -> io::Result<usize>
         ensures { IfOk result (λ n. n ≤ length bytes.now) }
     {
         self.write_gathered()?;
@@ -89,10 +89,10 @@ impl<S: Read + Write> Read for Gathering<S> {
 impl<S: Write> Write for Gathering<S> {
     fn write(&mut self, bytes: &[u8]) -> io::Result<usize> {
         if bytes.len() != PACKET {
-            return self.write_behind(bytes);
+            return self.write_further(bytes);
         }
         if self.count > ROOM - PACKET {
-            return self.write_behind(bytes);
+            return self.write_further(bytes);
         }
         self.bytes[self.count..self.count + PACKET].copy_from_slice(bytes);
         self.count += PACKET;

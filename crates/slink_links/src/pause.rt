@@ -1,6 +1,6 @@
 //! What waits between the tries of a fetch.
 ghost use Rattle.std.specs.Prelude.{◌≡◌, ◌+◌, ◌<◌, ◌^◌, ◌∷◌, ◌++◌, ℕ, List, []};
-ghost use Rattle.slink_links.specs.Pauses.{pause_behind, pauses_since};
+ghost use Rattle.slink_links.specs.Pauses.{pause_after, pauses_since};
 
 use mseed_stream::Tally;
 use std::thread;
@@ -49,8 +49,8 @@ const FIRST: [u8; 6] = [1, 2, 4, 8, 16, 32];
 const LONGEST: u8 = 50;
 
 /// How long a pause is after so many.
-fn pause_behind(count: usize) -> u8
-    ensures { result ≡ pause_behind count }
+fn pause_after(count: usize) -> u8
+    ensures { result ≡ pause_after count }
 {
     match FIRST.get(count) {
         Some(tenths) => *tenths,
@@ -60,12 +60,12 @@ fn pause_behind(count: usize) -> u8
 
 /// Waits after a try that brought a record or didn't, and after so many pauses. The answer is after how many the
 /// next one comes.
-pub(crate) fn wait_behind<P: Pause>(received: bool, count: usize, waits: &mut P) -> usize
+pub(crate) fn wait_after<P: Pause>(received: bool, count: usize, waits: &mut P) -> usize
     requires { count + 1 < 2 ^ 64 }
-    ensures called { P.called waits.new ≡ P.called waits.old ++ pause_behind (pauses_since received count) ∷ [] }
+    ensures called { P.called waits.new ≡ P.called waits.old ++ pause_after (pauses_since received count) ∷ [] }
     ensures next { result ≡ pauses_since received count + 1 }
 {
     let count = if received { 0 } else { count };
-    waits.pause(pause_behind(count));
+    waits.pause(pause_after(count));
     count + 1
 }

@@ -78,7 +78,7 @@ due_before feed s t k j a ne e d =
       ring = d.ring;
       granted = sym l.grant ∙ d.granted;
       there = d.there;
-      behind = d.behind;
+      beyond = d.beyond;
     }
 
 due_back : (feed : List Window) (j : ℕ) (s : State) (ring : ℕ) (ks : List ℕ) (t : State) (turn : ℕ)
@@ -107,7 +107,7 @@ no_match a b ne = elim (eqb_tells a b) [ inl same ↦ absurd (ne same.1) | inr o
 
 pub due_sends : (feed : List Window) (s : State) (j : ℕ) → HasDue feed s j → ¬ (Waits feed s j)
 due_sends feed s j d waits =
-    due_if (d.grant.position == d.ring.next) feed s j d.grant d.ring (no_match d.grant.position d.ring.next d.behind)
+    due_if (d.grant.position == d.ring.next) feed s j d.grant d.ring (no_match d.grant.position d.ring.next d.beyond)
     (sym (ap (λ (p : Phase). sent_in p feed s j) d.streams
     ∙ (ap (λ (o : Option Grant). sent_of feed s j o (slice_get feed j)) d.granted
     ∙ ap (λ (r : Option Window). sent_of feed s j (Some d.grant) r) d.there)) ∙ waits)
@@ -119,19 +119,19 @@ IsAhead k ring j = ((k < ring) × (ring ≤ j)) ⊎ ((j < k) × (k < ring)) ⊎ 
 ahead_first : (k j : ℕ) → j ≢ k → IsAhead k (k + 1) j
 ahead_first k j ne = elim (leb_tells j k) [
   | inl before ↦ inr (inl (omega (arith, before.1, ne), omega arith))
-  | inr behind ↦ inl (omega arith, omega (arith, behind.1))
+  | inr beyond ↦ inl (omega arith, omega (arith, beyond.1))
 ]
 
 ahead_on : (k ring j m : ℕ) → IsAhead k ring j → ¬ (IsEarlier ring j m) → j ≢ m → IsAhead k (m + 1) j
 ahead_on k ring j m (inl one) none ne = elim (leb_tells ring m) [
   | inr before ↦ absurd (none (inr (inl (before.1, one.1))))
-  | inl behind ↦ elim (leb_tells m j) [
+  | inl beyond ↦ elim (leb_tells m j) [
     | inr passed ↦ absurd (none (inl (one.1, passed.1)))
-    | inl still ↦ inl (omega (arith, one.0, behind.1), omega (arith, still.1, ne))
+    | inl still ↦ inl (omega (arith, one.0, beyond.1), omega (arith, still.1, ne))
   ]
 ]
 ahead_on k ring j m (inr (inl two)) none ne = elim (leb_tells ring m) [
-  | inl behind ↦ inr (inl (two.0, omega (arith, two.1, behind.1)))
+  | inl beyond ↦ inr (inl (two.0, omega (arith, two.1, beyond.1)))
   | inr before ↦ elim (leb_tells m j) [
     | inr passed ↦ absurd (none (inr (inr (before.1, passed.1))))
     | inl still ↦ inr (inr (two.0, omega (arith, still.1, ne)))
@@ -166,7 +166,7 @@ among j [] = inr (λ x. x)
 among j (k ∷ ks) = elim (eqb_tells j k) [
   | inl same ↦ inl (inl same.1)
   | inr other ↦ elim (among j ks) [
-    | inl behind ↦ inl (inr behind)
+    | inl beyond ↦ inl (inr beyond)
     | inr none ↦ inr (λ x. elim x [ inl e ↦ other.1 e | inr y ↦ none y ])
   ]
 ]

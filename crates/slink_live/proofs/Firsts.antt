@@ -21,28 +21,28 @@ shifted_from n p j le =
     let same : p + (j - p) ≡ j = omega (arith, le) in
     sym (ap (bit_at n) same) ∙ shifted n p (j - p)
 
-none_behind : (n p j : ℕ) → n / 2 ^ p ≡ 0 → p ≤ j → bit_at n j ≡ 0
-none_behind n p j none le = shifted_from n p j le ∙ (ap (λ x. bit_at x (j - p)) none ∙ bit_at-zero (j - p))
+none_after : (n p j : ℕ) → n / 2 ^ p ≡ 0 → p ≤ j → bit_at n j ≡ 0
+none_after n p j none le = shifted_from n p j le ∙ (ap (λ x. bit_at x (j - p)) none ∙ bit_at-zero (j - p))
 
-pub few_behind : (rest p k : ℕ) → (32 ≤ p → rest ≡ 0) → bit_at rest k ≡ 1 → p < 32
-few_behind rest p k none has = elim (leb_tells 32 p) [
+pub few_after : (rest p k : ℕ) → (32 ≤ p → rest ≡ 0) → bit_at rest k ≡ 1 → p < 32
+few_after rest p k none has = elim (leb_tells 32 p) [
   | inl le ↦ absurd (not_both (bit_at rest k) (ap (λ n. bit_at n k) (none le.1) ∙ bit_at-zero k) has)
   | inr few ↦ omega (arith, few.1)
 ]
 
 module _ (n p k : ℕ) where
-  pub has_behind : bit_at (n / 2 ^ p) k ≡ 1 → bit_at n (p + k) ≡ 1
-  has_behind has = shifted n p k ∙ has
+  pub has_after : bit_at (n / 2 ^ p) k ≡ 1 → bit_at n (p + k) ≡ 1
+  has_after has = shifted n p k ∙ has
 
-  pub first_behind : ((i : ℕ) → i < k → bit_at (n / 2 ^ p) i ≡ 0) → (j : ℕ) → IsEarlier p j (p + k)
+  pub first_beyond : ((i : ℕ) → i < k → bit_at (n / 2 ^ p) i ≡ 0) → (j : ℕ) → IsEarlier p j (p + k)
       → ¬ (bit_at n j ≡ 1)
-  first_behind none j (inl one) =
+  first_beyond none j (inl one) =
       not_both (bit_at n j) (shifted_from n p j one.0 ∙ none (j - p) (omega (arith, one.0, one.1)))
-  first_behind none j (inr (inl two)) = absurd (omega (arith, two.0))
-  first_behind none j (inr (inr three)) = absurd (omega (arith, three.0))
+  first_beyond none j (inr (inl two)) = absurd (omega (arith, two.0))
+  first_beyond none j (inr (inr three)) = absurd (omega (arith, three.0))
 
   pub first_before : n / 2 ^ p ≡ 0 → ((i : ℕ) → i < k → bit_at n i ≡ 0) → (j : ℕ) → IsEarlier p j k
       → ¬ (bit_at n j ≡ 1)
-  first_before behind none j (inl one) = not_both (bit_at n j) (none_behind n p j behind one.0)
-  first_before behind none j (inr (inl two)) = not_both (bit_at n j) (none_behind n p j behind two.1)
-  first_before behind none j (inr (inr three)) = not_both (bit_at n j) (none j three.1)
+  first_before beyond none j (inl one) = not_both (bit_at n j) (none_after n p j beyond one.0)
+  first_before beyond none j (inr (inl two)) = not_both (bit_at n j) (none_after n p j beyond two.1)
+  first_before beyond none j (inr (inr three)) = not_both (bit_at n j) (none j three.1)

@@ -15,8 +15,8 @@ drop_seam (x ∷ xs) ys = drop_seam xs ys
 leading_is : (places : List Fields) (r xs : List ℕ) → IsOf places r → take 512 (r ++ xs) ≡ r
 leading_is places r xs of = ap (λ n. take n (r ++ xs)) (sym of.size) ∙ take-append_seam r xs
 
-behind_is : (places : List Fields) (r xs : List ℕ) → IsOf places r → drop 512 (r ++ xs) ≡ xs
-behind_is places r xs of = ap (λ n. drop n (r ++ xs)) (sym of.size) ∙ drop_seam r xs
+after_is : (places : List Fields) (r xs : List ℕ) → IsOf places r → drop 512 (r ++ xs) ≡ xs
+after_is places r xs of = ap (λ n. drop n (r ++ xs)) (sym of.size) ∙ drop_seam r xs
 
 -- the records of a prefix are a prefix of the records
 grown : (places : List Fields) (rs others : List (List ℕ)) (rest left more : List ℕ)
@@ -35,8 +35,8 @@ grown places (r ∷ rs) (q ∷ qs) rest left more a b none e =
     sym (append_assoc r (concat rs ++ rest) more) ∙ (ap (λ z. z ++ more) (sym (append_assoc r (concat rs) rest))
     ∙ (e ∙ append_assoc q (concat qs) left)) in
     let same : r ≡ q = sym (leading_is places r x a.0) ∙ (ap (take 512) both ∙ leading_is places q y b.0) in
-    let behind : x ≡ y = sym (behind_is places r x a.0) ∙ (ap (drop 512) both ∙ behind_is places q y b.0) in
-    let further : (tail : List (List ℕ)) × (qs ≡ rs ++ tail) = grown places rs qs rest left more a.1 b.1 none behind in
+    let beyond : x ≡ y = sym (after_is places r x a.0) ∙ (ap (drop 512) both ∙ after_is places q y b.0) in
+    let further : (tail : List (List ℕ)) × (qs ≡ rs ++ tail) = grown places rs qs rest left more a.1 b.1 none beyond in
     (further.0, ap (λ z. z ∷ qs) (sym same) ∙ ap (λ zs. r ∷ zs) further.1)
 
 pub input_grows : (places : List Fields) (bytes more : List ℕ) (rs others : List (List ℕ)) (rest left : List ℕ)

@@ -96,7 +96,7 @@ waiting_not_lost feed s waits lost =
       ring = lost.place.ring;
       granted = lost.place.granted;
       there = lost.place.there;
-      behind = λ e. omega (arith, e, lost.place.left);
+      beyond = λ e. omega (arith, e, lost.place.left);
     }) (waits lost.k (slice_get_within feed lost.k lost.place.ring lost.place.there))
 
 pub closed_not_lost : (feed : List Window) (s : State) → s.phase ≡ Closed → ¬ (IsLost feed s)

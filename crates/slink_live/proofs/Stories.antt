@@ -16,19 +16,19 @@ use Rattle.slink_live.specs.Story.{takes, goes}
 use Rattle.slink_live.specs.private.Calling.{HasFilled, HasReceived, HasTaken}
 
 -- with something stated before
-serves_behind : (feed : List Window) (s last : Standing) (bytes way all x : List ℕ) → Serves feed s bytes way last all
+serves_after : (feed : List Window) (s last : Standing) (bytes way all x : List ℕ) → Serves feed s bytes way last all
     → Serves feed s bytes (x ++ way) last (x ++ all)
-serves_behind feed s last bytes way all x (none_served t w) = none_served t (x ++ w)
-serves_behind feed s last bytes way all x (piece_served t now u bs piece rest w a reply split taking more) =
+serves_after feed s last bytes way all x (none_served t w) = none_served t (x ++ w)
+serves_after feed s last bytes way all x (piece_served t now u bs piece rest w a reply split taking more) =
     piece_served t now u bs piece rest (x ++ w) (x ++ a) reply split taking
     (subst (λ y. Serves feed now rest y u (x ++ a)) (sym (append_assoc x w (reply_bytes reply)))
-    (serves_behind feed now u rest (w ++ reply_bytes reply) a x more))
+    (serves_after feed now u rest (w ++ reply_bytes reply) a x more))
 
-asks_behind : (feed : List Window) (s : Standing) (ring : ℕ) (way x : List ℕ) (last : Standing) (turn : ℕ)
+asks_after : (feed : List Window) (s : Standing) (ring : ℕ) (way x : List ℕ) (last : Standing) (turn : ℕ)
     (all : List ℕ) → Asks feed s ring way last turn all → Asks feed s ring (x ++ way) last turn (x ++ all)
-asks_behind feed s ring way x last turn all none_called = none_called
-asks_behind feed s ring way x last turn all (one_called now t m k answer on a before first given held is) =
-    one_called now t m k answer (x ++ on) (x ++ a) (asks_behind feed s ring way x now m on before) first given held
+asks_after feed s ring way x last turn all none_called = none_called
+asks_after feed s ring way x last turn all (one_called now t m k answer on a before first given held is) =
+    one_called now t m k answer (x ++ on) (x ++ a) (asks_after feed s ring way x now m on before) first given held
     (ap (λ y. x ++ y) is ∙ sym (append_assoc x on (sent_bytes answer)))
 
 -- called, and then called on
@@ -93,7 +93,7 @@ module _ (start : List Window) (k : ℕ) where
       emitted,
       subst (λ (n : ℕ). IsServed start k last (Some (story h.1.session n (emitted ++ h.1.pending) emitted))) (sym h.6)
           (hears log last feed l.session h.1.session l.ring h.0 (emitted ++ l.pending) (emitted ++ h.1.pending) emitted
-          served fed (serves_behind feed l.session h.1.session h.0 l.pending h.1.pending emitted h.4) h.3),
+          served fed (serves_after feed l.session h.1.session h.0 l.pending h.1.pending emitted h.4) h.3),
     ))
 
     pub taken_story : (l : LinkState) → HasTaken k (Some l) new log last → IsStory start k (Some l) log
@@ -138,5 +138,5 @@ module _ (start : List Window) (k : ℕ) where
   filled_story log new feed l fed h = link_story log log new l h.0 h.1 (λ emitted served. (
     emitted,
     asks log feed l.session h.0.session l.ring h.0.ring (emitted ++ l.pending) (emitted ++ h.0.pending) emitted served
-        fed (asks_behind feed l.session l.ring l.pending emitted h.0.session h.0.ring h.0.pending h.2),
+        fed (asks_after feed l.session l.ring l.pending emitted h.0.session h.0.ring h.0.pending h.2),
   ))

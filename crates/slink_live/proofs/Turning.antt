@@ -22,15 +22,15 @@ waits_more feed s from k before here j least lt = elim (eqb_tells j k) [
 ]
 
 -- from the place whose turn it is on
-pub turn_behind : (feed : List Window) (s : State) (ring k : ℕ) → ring ≤ k → k < length feed
+pub turn_then : (feed : List Window) (s : State) (ring k : ℕ) → ring ≤ k → k < length feed
     → ((j : ℕ) → ring ≤ j → j < k → Waits feed s j) → ¬ (Waits feed s k) → IsTurn feed s ring k
-turn_behind feed s ring k behind lt waits sends = record {
+turn_then feed s ring k beyond lt waits sends = record {
   within = lt;
   sends = sends;
   first = λ j within earlier. elim earlier [
     | inl side ↦ waits j side.0 side.1
-    | inr (inl wrong) ↦ absurd (omega (arith, behind, wrong.0))
-    | inr (inr wrong) ↦ absurd (omega (arith, behind, wrong.0))
+    | inr (inl wrong) ↦ absurd (omega (arith, beyond, wrong.0))
+    | inr (inr wrong) ↦ absurd (omega (arith, beyond, wrong.0))
   ];
 }
 
@@ -38,12 +38,12 @@ turn_behind feed s ring k behind lt waits sends = record {
 pub turn_before : (feed : List Window) (s : State) (ring k : ℕ) → k < ring → k < length feed
     → ((j : ℕ) → ring ≤ j → j < length feed → Waits feed s j) → ((j : ℕ) → j < k → Waits feed s j)
     → ¬ (Waits feed s k) → IsTurn feed s ring k
-turn_before feed s ring k before lt behind waits sends = record {
+turn_before feed s ring k before lt beyond waits sends = record {
   within = lt;
   sends = sends;
   first = λ j within earlier. elim earlier [
     | inl wrong ↦ absurd (omega (arith, before, wrong.0, wrong.1))
-    | inr (inl other) ↦ behind j other.1 within
+    | inr (inl other) ↦ beyond j other.1 within
     | inr (inr side) ↦ waits j side.1
   ];
 }
@@ -62,15 +62,15 @@ module _ (feed : List Window) (first now new : LinkState) (n k : ℕ) (begins : 
   given : Gives feed k first new
   given = subst (λ (x : LinkState). Gives feed k x new) same g
 
-  pub asked_behind : n ≤ k → ((j : ℕ) → n ≤ j → j < k → Waits feed first.session.state j)
+  pub asked_after : n ≤ k → ((j : ℕ) → n ≤ j → j < k → Waits feed first.session.state j)
       → Asks feed first.session first.ring first.pending new.session new.ring new.pending
-  asked_behind behind waits = gives_asks feed first new k given
+  asked_after beyond waits = gives_asks feed first new k given
       (subst (λ (p : ℕ). IsTurn feed first.session.state p k) begins
-      (turn_behind feed first.session.state n k behind lt waits given.sends))
+      (turn_then feed first.session.state n k beyond lt waits given.sends))
 
   pub asked_before : k < n → ((j : ℕ) → n ≤ j → j < length feed → Waits feed first.session.state j)
       → ((j : ℕ) → j < k → Waits feed first.session.state j)
       → Asks feed first.session first.ring first.pending new.session new.ring new.pending
-  asked_before before behind waits = gives_asks feed first new k given
+  asked_before before beyond waits = gives_asks feed first new k given
       (subst (λ (p : ℕ). IsTurn feed first.session.state p k) begins
-      (turn_before feed first.session.state n k before lt behind waits given.sends))
+      (turn_before feed first.session.state n k before lt beyond waits given.sends))

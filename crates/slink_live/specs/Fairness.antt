@@ -21,7 +21,7 @@ pub record HasDue (feed : List Window) (s : State) (j : ℕ) : Type 0 where
   pub ring : Window
   pub granted : grant_at s.grants j ≡ Some grant
   pub there : slice_get feed j ≡ Some ring
-  pub behind : grant.position ≢ ring.next
+  pub beyond : grant.position ≢ ring.next
 
 abbrev pub IsAmong : ℕ → List ℕ → Type 0
 IsAmong j [] = ⊥

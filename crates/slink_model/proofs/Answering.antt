@@ -18,7 +18,7 @@ use Rattle.slink_model.proofs.Lined.{IsAnswered, IsAsking, IsRead, bytes_more, m
 use Rattle.slink_model.proofs.Lined.{the_line}
 use Rattle.slink_model.proofs.Requested.{request_answered}
 use Rattle.slink_model.proofs.Shaking.{IsQuiet}
-use Rattle.slink_feed.proofs.Closing.{Open, open_or, nothing_behind, shut_on}
+use Rattle.slink_feed.proofs.Closing.{Open, open_or, nothing_after, shut_on}
 
 -- a line can't be reported and awaited
 pub not_both : (line taken way : List ℕ) → IsAsking line taken way → IsAnswered taken way → ⊥
@@ -75,7 +75,7 @@ module _ (feed : List Window) where
       ∙ ap (λ b. taken ++ b) (sym split) in
       record {
         state = after.state ∙ same.0;
-        sent = after.sent ∙ nothing_behind w reply same.1;
+        sent = after.sent ∙ nothing_after w reply same.1;
         held = subst (IsHeld v.held) all_taken after.held;
         reported = subst (λ b. IsAnswered b rest) all_taken after.reported;
       }
@@ -123,7 +123,7 @@ module _ (feed : List Window) where
         → Comes last (way ++ reply_bytes reply) all ((taken ++ piece) ++ others) rest)
         → Comes last way all ((taken ++ piece) ++ others) rest
     piece_on now last taken piece others rest way all reply More held is (nothing asks) more next =
-        subst (λ b. Comes last b all ((taken ++ piece) ++ others) rest) (nothing_behind way reply is.1) (next asks is.0)
+        subst (λ b. Comes last b all ((taken ++ piece) ++ others) rest) (nothing_after way reply is.1) (next asks is.0)
     piece_on now last taken piece others rest way all reply (Line l) held is (the_line items same reported) more next =
         let it : answered feed s (requested request) ≡ (now.state, reply) =
         request_answered feed s now.state items request reply same known is in

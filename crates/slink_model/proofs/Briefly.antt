@@ -59,15 +59,15 @@ step_pushes w v (ToClient n) i h = same_long v.pushed w.pushed i h.pushed
 step_pushes w v (Send k) i h = same_long v.pushed w.pushed i (ap (λ (x : WorldState). x.pushed) h)
 step_pushes w v Cut i h = same_long v.pushed w.pushed i (ap (λ (x : WorldState). x.pushed) h)
 
-started_behind : (first s : ℕ) (F : List (List ℕ)) (next : Option ℕ) (held : List (List ℕ))
+started_after : (first s : ℕ) (F : List (List ℕ)) (next : Option ℕ) (held : List (List ℕ))
     → Holds first F next held (Some s) → first ≤ s
-started_behind first s F next held h = omega (arith, h.3)
+started_after first s F next held h = omega (arith, h.3)
 
 lacks_few : (places : Places) (first : ℕ) (w : WorldState) → WorldTies places first w
     → ((i : ℕ) → length (get_or w.pushed i []) < 2 ^ 24) → LacksFew first w
 lacks_few places first w t short k s is =
     let lt : k < length places = omega (arith, no_number w.start k s is, t.long.3) in
-    let from : first ≤ s = started_behind first s (get_or w.pushed k []) (next_at w.client.talk.wants k)
+    let from : first ≤ s = started_after first s (get_or w.pushed k []) (next_at w.client.talk.wants k)
     (get_or w.held k [])
     (subst (Holds first (get_or w.pushed k []) (next_at w.client.talk.wants k) (get_or w.held k [])) is
     (t.holds k lt)) in

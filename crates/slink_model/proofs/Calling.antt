@@ -86,7 +86,7 @@ module _ (feed : List Window) where
 -- what the answers to the three lines leave
 pub ready_for_open : (k : ℕ) (phase : Phase) → IsReadyFor k phase → Open phase
 ready_for_open k phase (inl fresh) = open_at phase Fresh fresh.1 tt
-ready_for_open k phase (inr behind) = open_at phase (Granted behind.0) behind.2 tt
+ready_for_open k phase (inr beyond) = open_at phase (Granted beyond.0) beyond.2 tt
 
 pub chosen_open : (s new : State) (reply : Reply) (k : ℕ) → chosen (Some k) s ≡ (new, reply)
     → (new.grants ≡ set s.grants k None) × Open new.phase
@@ -295,7 +295,7 @@ module _ (places : Places) (differ : Differ places) (codes : (k : ℕ) (p : Fiel
     reply = reply;
     written = sent ∙ ap (λ b. b ++ reply_bytes reply) none;
     number = is;
-    behind = λ start ring held here.
+    beyond = λ start ring held here.
         sym (resumes k start ring (mode places differ codes w t l) l.session.state held here) ∙ is;
   }
 

@@ -31,8 +31,8 @@ use Rattle.slink_model.specs.Ties.{way_bytes}
 use Rattle.slink_model.specs.Whole.{HoldsMore, HoldsWhole, KeepsLink, held_count, packet_count, record_in, records_in}
 use Rattle.slink_model.specs.World.{AllHappen, Differ, Happens, IsOf, Lists, Numbers, WorldState, opening, with_one}
 use Rattle.slink_model.proofs.CountedRead.{unlinked_upon}
-use Rattle.slink_model.proofs.CountedPackets.{behind_replies}
-use Rattle.slink_model.proofs.CountedShape.{AreFacts, LinkFacts, matched_prefix, sent_prefix, wholes_behind}
+use Rattle.slink_model.proofs.CountedPackets.{after_replies}
+use Rattle.slink_model.proofs.CountedShape.{AreFacts, LinkFacts, matched_prefix, sent_prefix, wholes_beyond}
 use Rattle.slink_model.proofs.CountedWorld.{IsWorld, counted_streamed, facts_of, next_world, opening_shown}
 use Rattle.slink_model.proofs.CountedWorld.{the_counted_world}
 use Rattle.slink_model.proofs.Counting.{item_some, whole_or}
@@ -246,7 +246,7 @@ module _ (places : Places) (f : Numbers) (t : Talk) (g : Gained) (e : ℕ) (its 
       (ap (λ (s : Stage). (with_event f (on_item s Refused t).1 g).held) stage) (λ j. refl) refl
   brings phase taken way (asks_end k stage at asks none) = nothing none
   brings phase taken way (streams stage later sends written) = λ linked.
-      let split : its ≡ wholes e its ++ undelivered e its = wholes_behind its e in
+      let split : its ≡ wholes e its ++ undelivered e its = wholes_beyond its e in
       held_packets places f (wholes e its) t g stage
       (sent_prefix (wholes e its) (undelivered e its) (subst AreSent split sends))
       (matched_prefix places (wholes e its) (undelivered e its) (subst (AreOfPlace places) split matched)) wide linked
@@ -439,7 +439,7 @@ whole_counted places old held l few h s =
     let whole : AreWhole e (wholes e s.packets) (take (e / 520) s.packets) =
     items_whole e s.packets s.are (omega (arith, few, long)) in
     let split : wholes l.delivered l.sent ≡ replicate (2 * places) Accepted ++ wholes e s.packets =
-    ap (wholes l.delivered) s.sent_is ∙ behind_replies places l.delivered s.packets s.replies in
+    ap (wholes l.delivered) s.sent_is ∙ after_replies places l.delivered s.packets s.replies in
     let count : packet_count (wholes l.delivered l.sent) ≡ e / 520 =
     ap packet_count split ∙ (counted_replies (2 * places) (wholes e s.packets) ∙ whole.whole) in
     record {

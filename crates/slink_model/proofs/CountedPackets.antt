@@ -71,10 +71,10 @@ packets_ended (Carried k n r ∷ ps) e are all =
 packets_ended (Finished ∷ ps) e are all = absurd are
 
 -- after the replies
-pub behind_replies : (places delivered : ℕ) (ps : List Item) → 8 * places ≤ delivered
+pub after_replies : (places delivered : ℕ) (ps : List Item) → 8 * places ≤ delivered
     → wholes delivered (replicate (2 * places) Accepted ++ ps) ≡ replicate (2 * places) Accepted ++ wholes
     (delivered - 8 * places) ps
-behind_replies places delivered ps le =
+after_replies places delivered ps le =
     replies_whole (2 * places) delivered ps (omega (arith, le))
     ∙ ap (λ e. replicate (2 * places) Accepted ++ wholes e ps)
     (let e : delivered - 4 * (2 * places) ≡ delivered - 8 * places = omega arith in e)
@@ -83,7 +83,7 @@ pub counted_packets : (places delivered : ℕ) (packets : List Item) → ArePack
     → wholes delivered (replicate (2 * places) Accepted ++ packets) ≡ replicate (2 * places) Accepted ++ take
     ((delivered - 8 * places) / 520) packets
 counted_packets places delivered packets are le =
-    behind_replies places delivered packets le
+    after_replies places delivered packets le
     ∙ ap (λ ps. replicate (2 * places) Accepted ++ ps) (packets_whole packets (delivered - 8 * places) are)
 
 pub counted_ending : (places delivered : ℕ) (packets : List Item) → ArePackets packets → 8 * places ≤ delivered
@@ -91,7 +91,7 @@ pub counted_ending : (places delivered : ℕ) (packets : List Item) → ArePacke
     → wholes delivered (replicate (2 * places) Accepted ++ (packets ++ Finished ∷ [])) ≡ replicate (2 * places)
     Accepted ++ take ((delivered - 8 * places) / 520) packets
 counted_ending places delivered packets are le lt =
-    behind_replies places delivered (packets ++ Finished ∷ []) le
+    after_replies places delivered (packets ++ Finished ∷ []) le
     ∙ ap (λ ps. replicate (2 * places) Accepted ++ ps)
     (packets_ending packets (delivered - 8 * places) are (omega (arith, le, lt)))
 
@@ -100,6 +100,6 @@ pub counted_ended : (places delivered : ℕ) (packets : List Item) → ArePacket
     → wholes delivered (replicate (2 * places) Accepted ++ (packets ++ Finished ∷ [])) ≡ replicate (2 * places)
     Accepted ++ (packets ++ Finished ∷ [])
 counted_ended places delivered packets are le =
-    behind_replies places delivered (packets ++ Finished ∷ []) (omega (arith, le))
+    after_replies places delivered (packets ++ Finished ∷ []) (omega (arith, le))
     ∙ ap (λ ps. replicate (2 * places) Accepted ++ ps)
     (packets_ended packets (delivered - 8 * places) are (omega (arith, le)))

@@ -22,7 +22,7 @@ use Rattle.slink_model.specs.Ties.{Item, Places, way_bytes}
 use Rattle.slink_model.specs.World.{Differ, IsRead, LinkState, Numbers, Taking, WorldState, taking}
 use Rattle.slink_feed.proofs.Closing.{Open}
 use Rattle.slink_model.proofs.Counted.{Left, Outcome, read_outcome}
-use Rattle.slink_model.proofs.Counting.{brought_of, drop_behind, drop_on, kept_part, left_after, take_wholes}
+use Rattle.slink_model.proofs.Counting.{brought_of, drop_after, drop_on, kept_part, left_after, take_wholes}
 use Rattle.slink_model.proofs.Counts.{Counts, Pinned, pinned_as}
 use Rattle.slink_model.proofs.Lined.{IsAnswered}
 use Rattle.slink_feed.proofs.OneReading.{one_brought}
@@ -164,7 +164,7 @@ module _ (places : Places) (differ : Differ places) (codes : (k : ℕ) (p : Fiel
       pin.flows.suited pin.ends pin.shakes in
       let x : ReadAllOf l.first_sent (taking w l) (take n l.to_client) (taking v m) =
       read_all l.first_sent (taking w l) (take n l.to_client) (taking v m) h.reads keeps in
-      let way : l.to_client ≡ drop p all = tie.to_client ∙ drop_behind c.sent c.delivered in
+      let way : l.to_client ≡ drop p all = tie.to_client ∙ drop_after c.sent c.delivered in
       let kept : w.client.kept ≡ take p all =
       kept_part w.client.kept c.sent c.delivered (ap (λ b. w.client.kept ++ b) (sym tie.to_client)
       ∙ pin.flows.flow) in
@@ -189,7 +189,7 @@ module _ (places : Places) (differ : Differ places) (codes : (k : ℕ) (p : Fiel
       let outputs_now : v.client.kept ≡ rest = sym (append-nil v.client.kept)
       ∙ (ap (λ b. v.client.kept ++ b) (sym (x.all on)) ∙ one.1) in
       let way_now : m.to_client ≡ drop (part e its) (way_bytes (undelivered e its)) =
-      h.left ∙ (ap (drop n) way ∙ (drop-drop n p all ∙ drop_behind its e)) in
+      h.left ∙ (ap (drop n) way ∙ (drop-drop n p all ∙ drop_after its e)) in
       record {
         flows = record {
           flow = ap (λ b. b ++ m.to_client) outputs_now

@@ -20,7 +20,7 @@ use Rattle.slink_model.specs.Ties.{Item, Accepted, Refused, Greeted, Carried, Fi
 use Rattle.slink_feed.specs.Window.{Window, record_at}
 use Rattle.slink_model.specs.World.{LinkState, Numbers, first_after, sent_on}
 use Rattle.slink_feed.proofs.Closing.{Open}
-use Rattle.slink_model.proofs.Counting.{behind_more}
+use Rattle.slink_model.proofs.Counting.{after_more}
 use Rattle.slink_model.proofs.Counts.{Counts, EndsIn, Pinned, pinned_as}
 use Rattle.slink_model.proofs.Items.{carried_here, carried_there, carries_none, flow_more, of_more, way_more}
 use Rattle.slink_feed.proofs.Items.{put_here, put_there, same_or_not}
@@ -228,7 +228,7 @@ module _ (places : Places) (client : Listening) (feed : List Window) (ringed : A
         linked = λ there. pinned_as places client x.0 before before l.to_server l.to_server
             (l.to_client ++ sent_bytes x.1) (l.to_client ++ sent_bytes x.1) (its ++ ys)
             (undelivered c.delivered (c.sent ++ ys))
-            refl refl refl (sym (behind_more c.sent ys c.delivered counts.delivered_few))
+            refl refl refl (sym (after_more c.sent ys c.delivered counts.delivered_few))
             (go.pinned (counts.linked there));
         quiet = λ over a. counts.quiet over (go.awake a);
         over = go.few;

@@ -21,7 +21,7 @@ use Rattle.slink_model.specs.Ties.{way_bytes}
 use Rattle.slink_feed.specs.Window.{Window}
 use Rattle.slink_model.specs.World.{written}
 use Rattle.slink_model.proofs.CountedRead.{unlinked_upon}
-use Rattle.slink_model.proofs.Counting.{behind_more, left_after, whole_or}
+use Rattle.slink_model.proofs.Counting.{after_more, left_after, whole_or}
 use Rattle.slink_model.proofs.Counts.{EndsIn}
 use Rattle.slink_feed.proofs.Items.{is_within, within_is}
 use Rattle.slink_model.proofs.OneWorld.{linked_or}
@@ -74,7 +74,7 @@ AreShaped places talk (Some c) = IsLinked talk.stage → Shape places talk.stage
 shape_more : (places : Places) (talk : Talk) (sent ys : List Item) (d : ℕ) → d ≤ length (way_bytes sent)
     → Shape places talk.stage sent d → Shape places talk.stage (sent ++ ys) d
 shape_more places talk sent ys d few h =
-    let b : undelivered d (sent ++ ys) ≡ undelivered d sent ++ ys = behind_more sent ys d few in
+    let b : undelivered d (sent ++ ys) ≡ undelivered d sent ++ ys = after_more sent ys d few in
     record {
       packets = h.packets ++ ys;
       sent_is = ap (λ (x : List Item). x ++ ys) h.sent_is
@@ -137,11 +137,11 @@ read_packets places (i ∷ is) t p sent matched linked =
     one_read Finished sent matched there = absurd there
 
 -- the items that are whole, and the others
-pub wholes_behind : (is : List Item) (d : ℕ) → is ≡ wholes d is ++ undelivered d is
-wholes_behind [] d = refl
-wholes_behind (i ∷ is) d =
+pub wholes_beyond : (is : List Item) (d : ℕ) → is ≡ wholes d is ++ undelivered d is
+wholes_beyond [] d = refl
+wholes_beyond (i ∷ is) d =
     whole_or i is d (λ ws bs p. i ∷ is ≡ ws ++ bs)
-    (λ fits. ap (λ xs. i ∷ xs) (wholes_behind is (d - length (item_bytes i)))) (λ lt. refl)
+    (λ fits. ap (λ xs. i ∷ xs) (wholes_beyond is (d - length (item_bytes i)))) (λ lt. refl)
 
 pub sent_prefix : (xs ys : List Item) → AreSent (xs ++ ys) → AreSent xs
 sent_prefix [] ys h = tt
@@ -204,7 +204,7 @@ module _ (places : Places) (talk : Talk) (called : AreCalled places talk.wants) 
       → IsLinked (talk_upon talk (wholes e its)).stage → Shape places (talk_upon talk (wholes e its)).stage l.sent d
   packets_read p sent same linked =
       let ws : List Item = wholes e its in
-      let split : its ≡ ws ++ undelivered d l.sent = wholes_behind its e ∙ ap (λ (x : List Item). ws ++ x) (sym same) in
+      let split : its ≡ ws ++ undelivered d l.sent = wholes_beyond its e ∙ ap (λ (x : List Item). ws ++ x) (sym same) in
       let read : ArePackets ws × ((talk_upon talk ws).stage ≡ Packets) =
       read_packets places ws talk p (sent_prefix ws (undelivered d l.sent) (subst AreSent split sent))
       (matched_prefix places ws (undelivered d l.sent) (subst (AreOfPlace places) split f.matched)) linked in

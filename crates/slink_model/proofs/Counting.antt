@@ -61,11 +61,11 @@ taken_past xs ys d le = ap (λ n. take n (xs ++ ys)) (let e : d ≡ length xs + 
     ∙ take-append-add xs ys (d - length xs)
 
 -- what isn't delivered
-pub drop_behind : (is : List Item) (d : ℕ) → drop d (way_bytes is) ≡ drop (part d is) (way_bytes (undelivered d is))
-drop_behind [] zero = refl
-drop_behind [] (suc d) = refl
-drop_behind (i ∷ is) d = whole_or i is d (λ ws bs p. drop d (way_bytes (i ∷ is)) ≡ drop p (way_bytes bs))
-    (λ le. past (item_bytes i) (way_bytes is) d le ∙ drop_behind is (d - length (item_bytes i))) (λ lt. refl)
+pub drop_after : (is : List Item) (d : ℕ) → drop d (way_bytes is) ≡ drop (part d is) (way_bytes (undelivered d is))
+drop_after [] zero = refl
+drop_after [] (suc d) = refl
+drop_after (i ∷ is) d = whole_or i is d (λ ws bs p. drop d (way_bytes (i ∷ is)) ≡ drop p (way_bytes bs))
+    (λ le. past (item_bytes i) (way_bytes is) d le ∙ drop_after is (d - length (item_bytes i))) (λ lt. refl)
 
 -- what is
 pub take_wholes : (is : List Item) (d : ℕ)
@@ -81,37 +81,37 @@ take_wholes (i ∷ is) d =
     (λ lt. refl)
 
 -- what goes after stays after
-pub behind_more : (xs ys : List Item) (d : ℕ) → d ≤ length (way_bytes xs)
+pub after_more : (xs ys : List Item) (d : ℕ) → d ≤ length (way_bytes xs)
     → undelivered d (xs ++ ys) ≡ undelivered d xs ++ ys
-behind_more [] [] d le = refl
-behind_more [] (y ∷ ys) d le =
+after_more [] [] d le = refl
+after_more [] (y ∷ ys) d le =
     whole_or y ys d (λ ws bs p. bs ≡ y ∷ ys) (λ fits. absurd (omega (arith, le, fits, item_some y))) (λ lt. refl)
-behind_more (x ∷ xs) ys d le = elim (leb_tells (length (item_bytes x)) d) [
+after_more (x ∷ xs) ys d le = elim (leb_tells (length (item_bytes x)) d) [
   | inl fits ↦ ap (λ t. if t then undelivered (d - length (item_bytes x)) (xs ++ ys) else x ∷ (xs ++ ys)) fits.0
-      ∙ (behind_more xs ys (d - length (item_bytes x))
+      ∙ (after_more xs ys (d - length (item_bytes x))
       (omega (arith, le, fits.1, length-append (item_bytes x) (way_bytes xs)))
       ∙ ap (λ t. (if t then undelivered (d - length (item_bytes x)) xs else x ∷ xs) ++ ys) (sym fits.0))
   | inr short ↦ ap (λ t. if t then undelivered (d - length (item_bytes x)) (xs ++ ys) else x ∷ (xs ++ ys)) short.0
       ∙ ap (λ t. (if t then undelivered (d - length (item_bytes x)) xs else x ∷ xs) ++ ys) (sym short.0)
 ]
 
-pub behind_all : (is : List Item) (d : ℕ) → length (way_bytes is) ≤ d → undelivered d is ≡ []
-behind_all [] d le = refl
-behind_all (i ∷ is) d le =
+pub after_all : (is : List Item) (d : ℕ) → length (way_bytes is) ≤ d → undelivered d is ≡ []
+after_all [] d le = refl
+after_all (i ∷ is) d le =
     whole_or i is d (λ ws bs p. bs ≡ [])
-    (λ fits. behind_all is (d - length (item_bytes i))
+    (λ fits. after_all is (d - length (item_bytes i))
     (omega (arith, le, fits, length-append (item_bytes i) (way_bytes is))))
     (λ lt. absurd (omega (arith, le, lt, length-append (item_bytes i) (way_bytes is))))
 
 -- what is left of what was left
-pub behind_on : (is : List Item) (d n : ℕ) → undelivered (d + n) is ≡ undelivered (part d is + n) (undelivered d is)
-behind_on [] d n = refl
-behind_on (i ∷ is) d n = elim (leb_tells (length (item_bytes i)) d) [
+pub after_on : (is : List Item) (d n : ℕ) → undelivered (d + n) is ≡ undelivered (part d is + n) (undelivered d is)
+after_on [] d n = refl
+after_on (i ∷ is) d n = elim (leb_tells (length (item_bytes i)) d) [
   | inl fits ↦ elim (leb_tells (length (item_bytes i)) (d + n)) [
     | inl more ↦ ap (λ t. if t then undelivered (d + n - length (item_bytes i)) is else i ∷ is) more.0
         ∙ (ap (λ m. undelivered m is) (let e : d + n - length (item_bytes i) ≡ (d - length (item_bytes i)) + n = omega
         (arith, fits.1) in e)
-        ∙ (behind_on is (d - length (item_bytes i)) n
+        ∙ (after_on is (d - length (item_bytes i)) n
         ∙ ap (λ t. undelivered ((if t then part (d - length (item_bytes i)) is else d) + n)
         (if t then undelivered (d - length (item_bytes i)) is else i ∷ is)) (sym fits.0)))
     | inr less ↦ absurd (omega (arith, fits.1, less.1))
@@ -126,9 +126,9 @@ pub left_after : (is : List Item) (d n : ℕ) → d ≤ length (way_bytes is)
 left_after is d n le = elim (leb_tells (d + n) (length (way_bytes is))) [
   | inl few ↦ ap (λ m. undelivered m is)
       (let e : min (d + n) (length (way_bytes is)) ≡ d + n = omega (arith, few.1) in e)
-      ∙ behind_on is d n
-  | inr many ↦ behind_all is (min (d + n) (length (way_bytes is))) (omega (arith, many.1))
-      ∙ (sym (behind_all is (d + n) (omega (arith, many.1))) ∙ behind_on is d n)
+      ∙ after_on is d n
+  | inr many ↦ after_all is (min (d + n) (length (way_bytes is))) (omega (arith, many.1))
+      ∙ (sym (after_all is (d + n) (omega (arith, many.1))) ∙ after_on is d n)
 ]
 
 -- what is kept of a stream that goes on with what isn't delivered
@@ -136,5 +136,5 @@ pub kept_part : (kept : List ℕ) (is : List Item) (d : ℕ) → kept ++ drop d 
     → kept ≡ take (part d is) (way_bytes (undelivered d is))
 kept_part kept is d flow =
     let w : List ℕ = way_bytes (undelivered d is) in
-    append_cancel_right kept (take (part d is) w) (drop (part d is) w) (ap (λ b. kept ++ b) (sym (drop_behind is d))
+    append_cancel_right kept (take (part d is) w) (drop (part d is) w) (ap (λ b. kept ++ b) (sym (drop_after is d))
     ∙ (flow ∙ sym (take-append-drop (part d is) w)))

@@ -34,7 +34,7 @@ use Rattle.slink_model.specs.World.{Differ, IsServed, LinkState}
 use Rattle.slink_model.proofs.Answering.{Comes, IsOn, called_on, it_came, not_yet, quiet_on}
 use Rattle.slink_feed.proofs.Closing.{Open, open_or, shut_on}
 use Rattle.slink_model.proofs.Calling.{chosen_open, granted_open, open_at, ready_for_open}
-use Rattle.slink_model.proofs.Counting.{behind_more, drop_on, take_on}
+use Rattle.slink_model.proofs.Counting.{after_more, drop_on, take_on}
 use Rattle.slink_model.proofs.Items.{reply_items, way_more}
 use Rattle.slink_model.proofs.Lined.{IsAnswered, IsAsking}
 use Rattle.slink_model.proofs.OneWorld.{linked_or}
@@ -233,7 +233,7 @@ module _ (places : Places) (differ : Differ places) (codes : (k : ℕ) (p : Fiel
               m.to_server (l.to_client ++ reply_bytes reply) m.to_client (items ++ items_of reply)
               (undelivered c.delivered (c.sent ++ items_of reply))
               (sym take_now) (sym served.left) (sym sent)
-              (sym (behind_more c.sent (items_of reply) c.delivered counts.delivered_few)) (pinned there);
+              (sym (after_more c.sent (items_of reply) c.delivered counts.delivered_few)) (pinned there);
           quiet = λ over awake. subst (λ b. IsAnswered b m.to_server) (sym take_now)
               (subst (IsAnswered (before ++ bytes)) (sym served.left) (quiet over awake));
           over = λ shut. subst (λ b. length b ≤ 1) (sym served.left) (few shut);

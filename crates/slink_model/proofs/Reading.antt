@@ -46,8 +46,8 @@ pub bytes_read : (old new : Listening) (bytes : List ℕ) (used : ℕ) (event : 
     → (old.talk.stage ≡ Unlinked → (used ≡ length bytes) × (event ≡ events.None) × (new ≡ old))
     → ((ending : Ending) → old.talk.stage ≡ Ended ending → (used ≡ 0) × (event ≡ event_of ending) × (new ≡ old))
     → BytesRead old bytes used new event
-bytes_read old new bytes used event brings all before behind =
-    record { brings = brings; all = all; unlinked = before; ended = behind }
+bytes_read old new bytes used event brings all before beyond =
+    record { brings = brings; all = all; unlinked = before; ended = beyond }
 
 nothing_noted : (first_sent : Numbers) (ending : Ending) (t : Taking) → noted first_sent (event_of ending) t ≡ t
 nothing_noted first_sent endings.End t = refl

@@ -292,8 +292,8 @@ module _ (places : Places) (differ : Differ places) (codes : (k : ℕ) (p : Fiel
   place_chosen s new reply k w ready found is = elim ready [
     | inl fresh ↦ ap (λ (o : Option ℕ). chosen o s) (sym found)
         ∙ in_phase Fresh s new reply (requests.Station w.place) fresh.1 is
-    | inr behind ↦ ap (λ (o : Option ℕ). chosen o s) (sym found)
-        ∙ in_phase (Granted behind.0) s new reply (requests.Station w.place) behind.2 is
+    | inr beyond ↦ ap (λ (o : Option ℕ). chosen o s) (sym found)
+        ∙ in_phase (Granted beyond.0) s new reply (requests.Station w.place) beyond.2 is
   ]
 
   pub number_granted : (s new : State) (reply : Reply) (k : ℕ) (mode : Mode) (number : Option ℕ) → s.phase ≡ Chosen k
@@ -466,7 +466,7 @@ module _ (places : Places) (differ : Differ places) (codes : (k : ℕ) (p : Fiel
       → Shakes client.talk s.state.phase taken way items → Shakes client.talk s.state.phase now_taken rest items
   shut_shaken s taken now_taken way rest items shut (asks_place k w stage want ready asks none) = absurd (elim ready [
     | inl fresh ↦ before_open s.state.phase Fresh fresh.1 tt shut
-    | inr behind ↦ before_open s.state.phase (Granted behind.0) behind.2 tt shut
+    | inr beyond ↦ before_open s.state.phase (Granted beyond.0) beyond.2 tt shut
   ])
   shut_shaken s taken now_taken way rest items shut (has_place k stage phase reported one) =
       absurd (before_open s.state.phase (Chosen k) phase tt shut)

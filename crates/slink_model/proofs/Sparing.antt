@@ -85,7 +85,7 @@ pub streaming_is : (talk : Talk) (phase : Phase) (taken way : List ℕ) (items :
 streaming_is talk phase taken way items later (asks_place k w stage want ready asks none) =
     absurd (elim ready [
       | inl fresh ↦ before_no phase Fresh fresh.1 tt later
-      | inr behind ↦ before_no phase (Granted behind.0) behind.2 tt later
+      | inr beyond ↦ before_no phase (Granted beyond.0) beyond.2 tt later
     ])
 streaming_is talk phase taken way items later (has_place k stage is reported one) =
     absurd (before_no phase (Chosen k) is tt later)

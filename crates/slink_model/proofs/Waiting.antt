@@ -32,27 +32,27 @@ no_lines : (lines : List (List ℕ)) (w : List ℕ) → w ≡ 10 ∷ written_byt
 no_lines [] w e none = omega (arith, ap length e)
 no_lines (l ∷ lines) w e none = absurd (omega (arith, none))
 
-behind_lf : (lines : List (List ℕ)) (z w : List ℕ) → z ++ w ≡ 10 ∷ written_bytes lines → reported z ≡ length lines
+after_lf : (lines : List (List ℕ)) (z w : List ℕ) → z ++ w ≡ 10 ∷ written_bytes lines → reported z ≡ length lines
     → ((u : List ℕ) → u ++ w ≡ written_bytes lines → reported u ≡ length lines → length w ≤ 1) → length w ≤ 1
-behind_lf lines [] w e all more = no_lines lines w e (sym none_reported ∙ all)
-behind_lf lines (x ∷ u) w e all more =
+after_lf lines [] w e all more = no_lines lines w e (sym none_reported ∙ all)
+after_lf lines (x ∷ u) w e all more =
     let first : x ≡ 10 = cc e in
     let others : u ++ w ≡ written_bytes lines = cc e in
     more u others (ap (λ (s : Spelled). length s.lines) (sym (lines_lf u))
     ∙ (ap (λ b. reported (b ∷ u)) (sym first) ∙ all))
 
-behind_cr : (line : List ℕ) (lines : List (List ℕ)) (z w : List ℕ) → IsLine line
+after_cr : (line : List ℕ) (lines : List (List ℕ)) (z w : List ℕ) → IsLine line
     → z ++ w ≡ 13 ∷ 10 ∷ written_bytes lines
     → reported (line ++ z) ≡ suc (length lines)
     → ((u : List ℕ) → u ++ w ≡ written_bytes lines → reported u ≡ length lines → length w ≤ 1) → length w ≤ 1
-behind_cr line lines [] w is e all more = absurd (omega
+after_cr line lines [] w is e all more = absurd (omega
     (arith, line_unreported line is, ap reported (append-nil line), all))
-behind_cr line lines (x ∷ z) w is e all more =
+after_cr line lines (x ∷ z) w is e all more =
     let first : x ≡ 13 = cc e in
     let others : z ++ w ≡ 10 ∷ written_bytes lines = cc e in
     let count : suc (reported z) ≡ suc (length lines) = sym (one_reported line z is)
     ∙ (ap (λ b. reported (line ++ b ∷ z)) (sym first) ∙ all) in
-    behind_lf lines z w others (omega (arith, count)) more
+    after_lf lines z w others (omega (arith, count)) more
 
 few_left : (lines : List (List ℕ)) (t w : List ℕ) → AreLines lines → t ++ w ≡ written_bytes lines
     → reported t ≡ length lines
@@ -60,7 +60,7 @@ few_left : (lines : List (List ℕ)) (t w : List ℕ) → AreLines lines → t +
 few_left [] t w are e all = omega (arith, ap length e, length-append t w)
 few_left (line ∷ lines) t w are e all = elim (prefixes t line w (13 ∷ 10 ∷ written_bytes lines) e) [
   | inl more ↦ absurd (omega (arith, prefix_unreported line t more.0 are.0 more.1, all))
-  | inr more ↦ behind_cr line lines more.0 w are.0
+  | inr more ↦ after_cr line lines more.0 w are.0
       (append_cancel_left line (more.0 ++ w) (13 ∷ 10 ∷ written_bytes lines) (sym (append_assoc line more.0 w)
       ∙ (ap (λ b. b ++ w) (sym more.1) ∙ e)))
       (ap reported (sym more.1) ∙ all) (λ u same count. few_left lines u w are.1 same count)

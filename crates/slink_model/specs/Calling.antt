@@ -29,7 +29,7 @@ pub record IsAnswered (w : WorldState) (k : ℕ) (l m : LinkState) : Type 0 wher
     m.session.state,
     reply,
   )
-  pub behind : (start : ℕ) (ring : Window) → number_at w.start k ≡ Some start → slice_get w.windows k ≡ Some ring
+  pub beyond : (start : ℕ) (ring : Window) → number_at w.start k ≡ Some start → slice_get w.windows k ≡ Some ring
       → granted w.client.talk.mode k (resumed ring (start + length (slice_index_or w.held k []))) l.session.state
       ≡ (m.session.state, reply)
 

@@ -194,7 +194,7 @@ fn resolves(ring: &Ring) -> bool {
 }
 
 #[test]
-fn finds_records_behind_the_last_number(rt: HostRuntime) {
+fn finds_records_after_the_last_number(rt: HostRuntime) {
     let feed = three_pushed(&rt, rt.alloc(), 0xFF_FFFE);
     assert!(rt; feed.len() != 0 && resolves(feed.ring(0)));
 }

@@ -17,7 +17,7 @@ fn with_header(header: &[u8; 8]) -> [u8; 520] {
 }
 
 /// The number of a packet that begins so, if it is one.
-fn number_behind(header: &[u8; 8]) -> Option<u32> {
+fn named_number(header: &[u8; 8]) -> Option<u32> {
     match Packet::read(&with_header(header)) {
         Ok((number, _)) => Some(number),
         Err(_) => None,
@@ -41,7 +41,7 @@ fn writes_and_reads_packets(rt: HostRuntime) {
     let written = Packet::write(16_777_215, &[7; 512]);
     assert_eq!(rt; &written[..10], b"SLFFFFFF\x07\x07".as_slice());
     for (header, wanted) in &HEADERS {
-        assert!(rt; number_behind(header) == *wanted, "{header:?}");
+        assert!(rt; named_number(header) == *wanted, "{header:?}");
     }
 }
 

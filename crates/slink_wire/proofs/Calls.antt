@@ -11,12 +11,12 @@ reported More before after h = h.0 ∙ sym (append-nil (lines_of before).lines)
 reported (Line line) before after h = h.0
 reported TooLong before after h = h.0 ∙ sym (append-nil (lines_of before).lines)
 
-behind : (stream : List ℕ) (calls : List Call) → AreCalls stream calls
+beyond : (stream : List ℕ) (calls : List Call) → AreCalls stream calls
     → (lines_of (stream ++ bytes_in calls)).lines ≡ (lines_of stream).lines ++ lines_in calls
-behind stream [] h = ap (λ s. (lines_of s).lines) (append-nil stream) ∙ sym (append-nil (lines_of stream).lines)
-behind stream (call ∷ calls) h =
+beyond stream [] h = ap (λ s. (lines_of s).lines) (append-nil stream) ∙ sym (append-nil (lines_of stream).lines)
+beyond stream (call ∷ calls) h =
     ap (λ s. (lines_of s).lines) (sym (append_assoc stream call.bytes (bytes_in calls)))
-    ∙ (behind (stream ++ call.bytes) calls h.1
+    ∙ (beyond (stream ++ call.bytes) calls h.1
     ∙ (ap (λ ls. ls ++ lines_in calls) (reported call.what stream (stream ++ call.bytes) h.0)
     ∙ append_assoc (lines_of stream).lines (line_in call.what) (lines_in calls)))
 
@@ -25,7 +25,7 @@ unfolding lines_of
 no_lines = refl
 
 pub calls_yield : (calls : List Call) → AreCalls [] calls → lines_in calls ≡ (lines_of (bytes_in calls)).lines
-calls_yield calls h = sym (behind [] calls h ∙ ap (λ ls. ls ++ lines_in calls) no_lines)
+calls_yield calls h = sym (beyond [] calls h ∙ ap (λ ls. ls ++ lines_in calls) no_lines)
 
 pub calls_alike : (a b : List Call) → AreCalls [] a → AreCalls [] b → bytes_in a ≡ bytes_in b → lines_in a ≡ lines_in b
 calls_alike a b p q e = calls_yield a p ∙ (ap (λ s. (lines_of s).lines) e ∙ sym (calls_yield b q))

@@ -44,11 +44,11 @@ pub station_written : (station network : List ℕ) → IsField 5 station → IsF
 station_written station network p q =
     let sta : List ℕ = code_in station in
     let net : List ℕ = code_in network in
-    let behind : words (sta ++ 32 ∷ net) ≡ sta ∷ net ∷ [] = words_then sta net p.0.0 (without 32 refl sta p.0.2)
+    let beyond : words (sta ++ 32 ∷ net) ≡ sta ∷ net ∷ [] = words_then sta net p.0.0 (without 32 refl sta p.0.2)
     ∙ ap (λ ws. sta ∷ ws) (words_last net q.0.0 (without 32 refl net q.0.2)) in
     let line : words (codes "STATION " ++ sta ++ codes " " ++ net) ≡ codes "STATION" ∷ sta ∷ net ∷ [] =
     ap (λ x. words (codes "STATION " ++ x)) (append_assoc sta (32 ∷ []) net)
     ∙ (words_then (codes "STATION") (sta ++ 32 ∷ net) (omega arith) refl
-    ∙ ap (λ ws. codes "STATION" ∷ ws) behind) in
+    ∙ ap (λ ws. codes "STATION" ∷ ws) beyond) in
     subst (λ ws. IsRow (Station station (Some network)) (folded ws)) (sym line)
     (inl (sta, net, p.0, q.0, sym p.1, sym q.1, refl))

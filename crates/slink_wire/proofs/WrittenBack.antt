@@ -50,16 +50,16 @@ split_none (x ∷ xs) h =
     ∙ ap (onto_first x) (split_none xs parts.1)
 
 -- before these lines
-abbrev pub behind : List ℕ → Spelled → Spelled
-behind line s = record s { lines = line ∷ s.lines }
+abbrev pub beyond : List ℕ → Spelled → Spelled
+beyond line s = record s { lines = line ∷ s.lines }
 
 line_first : (line : List ℕ) (s : Spelled) → 0 < length line
-    → record s { lines = unless_empty line ++ s.lines } ≡ behind line s
+    → record s { lines = unless_empty line ++ s.lines } ≡ beyond line s
 line_first [] s some = absurd (omega (arith, some))
 line_first (x ∷ xs) s some = refl
 
 line_spelled : (line : List ℕ) (ps : List (List ℕ)) → HasPiece ps → IsLine line
-    → spelled_by (line ∷ ps) ≡ behind line (spelled_by ps)
+    → spelled_by (line ∷ ps) ≡ beyond line (spelled_by ps)
 line_spelled line [] has is = absurd has
 line_spelled line (p ∷ ps) has is =
     ap (λ l. if nat_lt 255 (length l) then too_long else with_piece l (p ∷ ps) (spelled_by (p ∷ ps))) (is.no_lf)
@@ -67,7 +67,7 @@ line_spelled line (p ∷ ps) has is =
     (not_long (length line) is.short) ∙ line_first line (spelled_by (p ∷ ps)) is.some)
 
 -- a line, and what is behind its CR
-pub lines_then : (line rest : List ℕ) → IsLine line → lines_of (line ++ 13 ∷ rest) ≡ behind line (lines_of rest)
+pub lines_then : (line rest : List ℕ) → IsLine line → lines_of (line ++ 13 ∷ rest) ≡ beyond line (lines_of rest)
 unfolding lines_of
 lines_then line rest is = ap spelled_by (split_then line rest is.no_cr)
     ∙ line_spelled line (slice_split (λ b. b == 13) rest) (has_piece (λ b. b == 13) rest) is
@@ -122,10 +122,10 @@ prefix_reported line t z lines is e =
     (let long : length line ≡ length (t ++ z) = ap length e in omega (arith, long, length-append t z, is.short)))
 
 -- what stands behind a line's CR
-behind_reported : (z w rest : List ℕ) (lines : List (List ℕ)) → z ++ w ≡ 10 ∷ rest
+after_reported : (z w rest : List ℕ) (lines : List (List ℕ)) → z ++ w ≡ 10 ∷ rest
     → ((u : List ℕ) → u ++ w ≡ rest → SpellsPrefix u lines) → SpellsPrefix z lines
-behind_reported [] w rest lines e more = none_reported [] lines none_quiet
-behind_reported (x ∷ u) w rest lines e more =
+after_reported [] w rest lines e more = none_reported [] lines none_quiet
+after_reported (x ∷ u) w rest lines e more =
     let first : x ≡ 10 = cc e in
     let others : u ++ w ≡ rest = cc e in
     let reported : SpellsPrefix u lines = more u others in
@@ -147,7 +147,7 @@ ended_reported line t (x ∷ z) w rest lines is e left more =
     let first : x ≡ 13 = cc left in
     let others : z ++ w ≡ 10 ∷ rest = cc left in
     subst (λ b. SpellsPrefix b (line ∷ lines)) (sym (e ∙ ap (λ b. line ++ b ∷ z) first))
-    (one_reported line z lines is (behind_reported z w rest lines others more))
+    (one_reported line z lines is (after_reported z w rest lines others more))
 
 pub nothing_left : (t w : List ℕ) → t ++ w ≡ [] → t ≡ []
 nothing_left [] w e = refl
@@ -174,7 +174,7 @@ pub whole_spelled : (lines : List (List ℕ)) → AreLines lines → lines_of (w
 whole_spelled [] are = none_spelled
 whole_spelled (line ∷ lines) are =
     lines_then line (10 ∷ written_bytes lines) are.0
-    ∙ (ap (behind line) (lines_lf (written_bytes lines)) ∙ ap (behind line) (whole_spelled lines are.1))
+    ∙ (ap (beyond line) (lines_lf (written_bytes lines)) ∙ ap (beyond line) (whole_spelled lines are.1))
 
 -- each line that is spelled is one that a stream has as it stands
 choice_lacks : (t : Bool) (xs ys : List ℕ) → Lacks 13 xs → Lacks 13 ys → Lacks 13 (if t then xs else ys)

@@ -2,6 +2,6 @@
 use Rattle.std.specs.Prelude.{◌≡◌, ℕ, ◌+◌, ◌≤◌, List, ◌++◌, length}
 
 -- These bytes were put after a line, at most so many.
-pub record PutsBehind (old new more : List ℕ) (most : ℕ) : Type 0 where
+pub record Appends (old new more : List ℕ) (most : ℕ) : Type 0 where
   pub text : new ≡ old ++ more
   pub short : length new ≤ length old + most

@@ -7,12 +7,12 @@ use Rattle.slink_feed.specs.declared.cutting.Part.TheVariants as parts
 use Rattle.slink_feed.specs.Cutting.{Begins, IsNoPacket, IsNoReply, IsPacketBegun, IsReply, IsReplyBegun}
 
 -- whether a byte is an LF after these, of which the last is a CR
-abbrev pub ends_behind : Option ℕ → ℕ → Bool
-ends_behind None byte = false
-ends_behind (Some last) byte = last == 13 && byte == 10
+abbrev pub ends_line : Option ℕ → ℕ → Bool
+ends_line None byte = false
+ends_line (Some last) byte = last == 13 && byte == 10
 
 abbrev pub ends_reply : List ℕ → ℕ → Bool
-ends_reply bytes byte = ends_behind (slice_get bytes (length bytes - 1)) byte
+ends_reply bytes byte = ends_line (slice_get bytes (length bytes - 1)) byte
 
 -- what the bytes of a reply come to
 abbrev pub IsReplyPart : List ℕ → Part → Type 0

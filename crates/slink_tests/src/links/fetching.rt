@@ -186,7 +186,7 @@ fn goes_on(rt: &impl Abort, alloc: Global, first: &[u8], second: &[u8]) -> bool 
 }
 
 #[test]
-fn goes_on_behind_the_last_record(rt: HostRuntime) {
+fn goes_on_after_the_last_record(rt: HostRuntime) {
     let all = two_packets(&rt, rt.alloc());
     let second = packets(&rt, rt.alloc(), 2..3);
     let first = all.as_slice().get(..8 + 520 + 100).unwrap_or(b"");

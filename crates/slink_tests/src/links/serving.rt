@@ -73,7 +73,7 @@ fn serves_each_connection(rt: HostRuntime) {
 }
 
 /// How many of three links are left after a planned server of so many connections, if all goes well.
-fn left_behind(rt: &impl Abort, alloc: Global, connections: u32) -> Option<usize> {
+fn wants_at_end(rt: &impl Abort, alloc: Global, connections: u32) -> Option<usize> {
     let mut links = Links::new(rt, alloc, &[ASKING, ASKING, ASKING]);
     let plan = serve_plan_of(three_pushed(rt, alloc, 0), connections, 600);
     let mut errors = output(alloc, ALL);
@@ -83,6 +83,6 @@ fn left_behind(rt: &impl Abort, alloc: Global, connections: u32) -> Option<usize
 
 #[test]
 fn serves_as_planned(rt: HostRuntime) {
-    assert!(rt; left_behind(&rt, rt.alloc(), 1) == Some(2));
-    assert!(rt; left_behind(&rt, rt.alloc(), 2) == Some(1));
+    assert!(rt; wants_at_end(&rt, rt.alloc(), 1) == Some(2));
+    assert!(rt; wants_at_end(&rt, rt.alloc(), 2) == Some(1));
 }

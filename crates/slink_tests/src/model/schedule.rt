@@ -105,7 +105,7 @@ fn goes_on(
 }
 
 #[test]
-fn goes_on_behind_the_last_record(rt: HostRuntime) {
+fn goes_on_after_the_last_record(rt: HostRuntime) {
     let records = records();
     let mut steps = one_comes(&rt, rt.alloc(), &records);
     assert!(rt; holds(&rt, rt.alloc(), &steps, &records[..1], 1));

@@ -63,7 +63,7 @@ impl Feed {
 
     /// Writes so many bytes to a pipe.
     pub(crate) fn write(&mut self, pattern: &Pattern, count: usize) {
-        let bytes = pattern.behind(DIRECTION, self.written, count);
+        let bytes = pattern.beyond(DIRECTION, self.written, count);
         if let Some(pipe) = &mut self.pipe
             && let Ok(count) = pipe.write(bytes)
         {

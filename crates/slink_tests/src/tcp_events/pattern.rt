@@ -28,7 +28,7 @@ impl Pattern {
     }
 
     /// So many bytes of one direction, after so many others.
-    pub(crate) fn behind(&self, direction: usize, others: usize, count: usize) -> &[u8] {
+    pub(crate) fn beyond(&self, direction: usize, others: usize, count: usize) -> &[u8] {
         let start = direction.wrapping_mul(83).wrapping_add(others) % PERIOD;
         let end = start.saturating_add(count.min(LONGEST));
         self.bytes.as_slice().get(start..end).unwrap_or(b"")
@@ -36,7 +36,7 @@ impl Pattern {
 
     /// Whether these are the bytes of one direction after so many others: of many, those at both ends.
     pub(crate) fn is(&self, direction: usize, others: usize, bytes: &[u8]) -> bool {
-        let wanted = self.behind(direction, others, bytes.len());
+        let wanted = self.beyond(direction, others, bytes.len());
         let last = bytes.len().saturating_sub(LOOKED_AT);
         bytes.len() == wanted.len()
             && bytes.get(..LOOKED_AT) == wanted.get(..LOOKED_AT)

@@ -154,7 +154,7 @@ impl<S: Read + Write + OpenStream + Drop> Peer<S> {
         if self.has_shut {
             return;
         }
-        let bytes = pattern.behind(self.number.wrapping_mul(2), self.said, count);
+        let bytes = pattern.beyond(self.number.wrapping_mul(2), self.said, count);
         if let Some(stream) = &mut self.stream
             && let Ok(count) = stream.write(bytes)
         {
@@ -209,7 +209,7 @@ impl<S: Read + Write + OpenStream + Drop> Peer<S> {
 
     /// What the device is to write next, so many bytes.
     pub(crate) fn sent<'a>(&self, pattern: &'a Pattern, count: usize) -> &'a [u8] {
-        pattern.behind(
+        pattern.beyond(
             self.number.wrapping_mul(2).wrapping_add(1),
             self.accepted,
             count,

@@ -1,4 +1,4 @@
-use Rattle.slink_feed.proofs.Behind.{granted_lost, granted_there}
+use Rattle.slink_feed.proofs.GrantedAfter.{granted_lost, granted_there}
 use Rattle.slink_feed.proofs.law.granted_after_the_last.Goals as goal
 
 pub returns-clause-there : goal.returns-clause-there

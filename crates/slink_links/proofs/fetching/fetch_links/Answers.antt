@@ -62,8 +62,8 @@ returns-then-ne-clause-paused g c =
     before mid after c.links.count c.links.invariant.tried c.try_link-end.ensures.tried
     c.try_link-end.ensures.dialled refl
 
-pub wait_behind-count-requires : goal.wait_behind-count-requires
-wait_behind-count-requires g c =
+pub wait_after-count-requires : goal.wait_after-count-requires
+wait_after-count-requires g c =
     let before : Calls = calls_of (g.D.Dial.calls c.args.dialler.now) (g.D.Dial.given_back c.args.dialler.now)
     (g.P.Pause.called c.args.waits.now) in
     let mid : Calls = calls_of (g.D.Dial.calls c.links.dialler) (g.D.Dial.given_back c.links.dialler)
@@ -96,7 +96,7 @@ links-preserved g c =
     (g.P.Pause.called c.links.waits) in
     let after : Calls = calls_of (g.D.Dial.calls c.try_link-end.new.dialler)
     (g.D.Dial.given_back c.try_link-end.new.dialler)
-    (g.P.Pause.called c.wait_behind-count.new.waits) in
+    (g.P.Pause.called c.wait_after-count.new.waits) in
     record {
       fetched = fetched_both LinkFailed c.args.client.now now new
           (outputs (g.W.Sink.written c.args.output.now) (g.E.Sink.written c.args.errors.now) c.args.reporter.now.reporting)
@@ -112,8 +112,8 @@ links-preserved g c =
           (subst (λ end. HasReadEach end now new links_now links_new written_now written_new)
           same c.try_link-end.ensures.read);
       tried = tried_more c.try_link-end.result.1 c.args.client.now now new first written_now written_new before mid
-          after c.links.count c.wait_behind-count.result c.links.invariant.tried
+          after c.links.count c.wait_after-count.result c.links.invariant.tried
           (subst (λ end. HasTried end c.try_link-end.result.1 now new links_now links_new written_now written_new)
-          same c.try_link-end.ensures.tried) c.try_link-end.ensures.dialled c.wait_behind-count.ensures.called
-          c.wait_behind-count.ensures.next;
+          same c.try_link-end.ensures.tried) c.try_link-end.ensures.dialled c.wait_after-count.ensures.called
+          c.wait_after-count.ensures.next;
     }

@@ -3,7 +3,7 @@ use Rattle.mseed_stream.specs.Telling.{Tells}
 use Rattle.slink_feed.specs.declared.dialogue.Wanted.{Wanted}
 use Rattle.slink_feed.specs.Dialogue.{Wants, want_at}
 use Rattle.slink_feed.specs.Reporter.{next_line, next_line_of}
-use Rattle.slink_feed.proofs.ReportLines.{behind_first, first_is}
+use Rattle.slink_feed.proofs.ReportLines.{after_the_first, first_is}
 use Rattle.slink_feed.proofs.reporter.Reporter.report_next.Goals as goal
 
 pub returns : goal.returns
@@ -13,7 +13,7 @@ returns g c =
     let first : c.index-all-0.result ≡ want_at wants 0 = first_is wants c.index-all-0.result some c.index-all-0.is in
     let line : next_line c.index-all-0.result (take (length wants - 1) (drop 1 wants)) ≡ next_line_of wants =
     ap (λ (o : Option Wanted). next_line o (take (length wants - 1) (drop 1 wants))) first
-    ∙ ap (λ (ws : Wants). next_line (want_at wants 0) ws) (behind_first wants) in
+    ∙ ap (λ (ws : Wants). next_line (want_at wants 0) ws) (after_the_first wants) in
     subst (λ (ws : Wants). Tells (next_line_of ws) (g.E.Sink.written c.args.errors.now)
     (g.E.Sink.written c.report.new.errors)) c.wants_left-wants.ensures
     (subst (λ (l : List ℕ). Tells l (g.E.Sink.written c.args.errors.now) (g.E.Sink.written c.report.new.errors))

@@ -11,6 +11,6 @@ invariant-loop-k l = record {
 abbrev pub invariant-loop-k-2 : goal.invariant-loop-k-2
 invariant-loop-k-2 l = record {
   same : l.self ≡ l.fn.self;
-  behind : (j : ℕ) → l.ring ≤ j → j < length l.feed → Waits l.feed l.fn.self.session.state j;
+  beyond : (j : ℕ) → l.ring ≤ j → j < length l.feed → Waits l.feed l.fn.self.session.state j;
   waits : (j : ℕ) → j < l.k → Waits l.feed l.fn.self.session.state j;
 }

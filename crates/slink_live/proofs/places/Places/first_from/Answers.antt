@@ -1,7 +1,7 @@
 use Rattle.std.proofs.Common.{◌≡◌, ◌∙◌, ◌/◌, ◌^◌, ◌<◌, ℕ, ap, arith, subst, sym, IfSome, Option, Some, None}
 use Rattle.std.specs.Int.{bit_at}
 use Rattle.slink_live.specs.Story.{IsEarlier}
-use Rattle.slink_live.proofs.Firsts.{few_behind, first_before, first_behind, has_behind}
+use Rattle.slink_live.proofs.Firsts.{few_after, first_before, first_beyond, has_after}
 use Rattle.slink_live.proofs.places.Places.first_from.Goals as goal
 
 if_some : (o : Option ℕ) (P Q : ℕ → Type 0) → ((k : ℕ) → P k → Q k) → IfSome o P → IfSome o Q
@@ -12,7 +12,7 @@ pub overflow_add-result : goal.overflow_add-result
 overflow_add-result c =
     omega (
       arith,
-      few_behind c.bits_from-rest.result c.args.from c.in-Some.k c.bits_from-rest.ensures.none c.in-Some.ensures.some.0,
+      few_after c.bits_from-rest.result c.args.from c.in-Some.k c.bits_from-rest.ensures.none c.in-Some.ensures.some.0,
       c.in-Some.ensures.few,
     )
 
@@ -20,14 +20,14 @@ pub returns-in-Some-clause-some : goal.returns-in-Some-clause-some
 returns-in-Some-clause-some c =
     let rest : c.bits_from-rest.result ≡ c.args.self.bits / 2 ^ c.args.from =
     c.bits_from-rest.ensures.value ∙ ap (λ n. n / 2 ^ c.args.from) c.from-bits.ensures in
-    has_behind c.args.self.bits c.args.from c.in-Some.k
+    has_after c.args.self.bits c.args.from c.in-Some.k
     (subst (λ n. bit_at n c.in-Some.k ≡ 1) rest c.in-Some.ensures.some.0)
 
 pub returns-in-Some-clause-first : goal.returns-in-Some-clause-first
 returns-in-Some-clause-first c =
     let rest : c.bits_from-rest.result ≡ c.args.self.bits / 2 ^ c.args.from =
     c.bits_from-rest.ensures.value ∙ ap (λ n. n / 2 ^ c.args.from) c.from-bits.ensures in
-    first_behind c.args.self.bits c.args.from c.in-Some.k
+    first_beyond c.args.self.bits c.args.from c.in-Some.k
     (subst (λ n. (i : ℕ) → i < c.in-Some.k → bit_at n i ≡ 0) rest c.in-Some.ensures.some.1)
 
 pub returns-in-None-clause-first : goal.returns-in-None-clause-first
