@@ -64,5 +64,5 @@ pub begun_awake : (feed : List Window) (links : List (Option LinkState)) → Are
     → IsAwake (begun feed links) []
 begun_awake feed links none some = record {
   each = λ k l e. absurd (no_link links k l none e);
-  is_told = record { links = sym (free_at links 0 some (none 0)); left = refl };
+  is_reported = record { links = sym (free_at links 0 some (none 0)); left = refl };
 }

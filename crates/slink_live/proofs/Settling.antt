@@ -13,11 +13,11 @@ use Rattle.slink_live.specs.declared.places.Places.{Places}
 use Rattle.slink_live.specs.declared.ready.Interest.{Interest}
 use Rattle.slink_live.specs.declared.ready.Event.{Event}
 use Rattle.slink_live.specs.declared.ready.Event.TheVariants as events
-use Rattle.slink_live.specs.Awake.{Goes, IsAwake, IsAwakeIn, IsClosedRightly, IsSettled, IsTold, has_free}
+use Rattle.slink_live.specs.Awake.{Goes, IsAwake, IsAwakeIn, IsClosedRightly, IsSettled, IsReported, has_free}
 use Rattle.slink_live.specs.Awake.{further, is_lost}
 use Rattle.slink_live.specs.Happening.{Happening, Input, Opened, Received, Emitted, Gone, Next, Missed, Wants}
 use Rattle.slink_live.specs.Happening.{WantsLinks}
-use Rattle.slink_live.specs.Happening.{Left, first_interest, is_left, told, told_by, wants_links}
+use Rattle.slink_live.specs.Happening.{Left, first_interest, is_left, last_interest, interest_after, wants_links}
 use Rattle.slink_live.specs.Served.{IntakeState, IsServing, IsSound, LinkState, ServerState}
 use Rattle.slink_live.specs.Story.{IsNew}
 use Rattle.slink_live.specs.Turns.{Closes}
@@ -25,14 +25,14 @@ use Rattle.slink_live.specs.private.Calling.{HasFilled, HasReceived, HasTaken, I
 use Rattle.slink_live.specs.private.Granting.{LeavesOut, StaysBut}
 use Rattle.slink_live.specs.private.Keeping.{KeepsServing, Settles, Tends, TendsAll, TendsAnew, TendsBut}
 use Rattle.slink_live.proofs.Apart.{settled_apart}
-use Rattle.slink_live.proofs.Slots.{closes_both, closes_told, not_self, quiet_serving}
+use Rattle.slink_live.proofs.Slots.{closes_both, closes_reported, not_self, quiet_serving}
 use Rattle.slink_live.proofs.Steps.{closed_keeps, ended, ended_serving, filled_keeps, received_keeps, same_default}
 use Rattle.slink_live.proofs.Steps.{keeps_both, keeps_from, keeps_quiet, keeps_same, opened_keeps, sound_in}
 use Rattle.slink_live.proofs.Steps.{taken_keeps}
-use Rattle.slink_live.proofs.Tending.{IsUntold, goes_one, goes_same, goes_then, gone_awake, gone_goes, gone_told}
+use Rattle.slink_live.proofs.Tending.{IsUnreported, goes_one, goes_same, goes_then, gone_awake, gone_goes, gone_reported}
 use Rattle.slink_live.proofs.Tending.{left_last, links_last, settles_closes, settles_empty, settles_wants, tends_by}
-use Rattle.slink_live.proofs.Tending.{rest_closes, rest_empty, rest_wants, tends_rest, told_last, untold_none}
-use Rattle.slink_live.proofs.Tending.{untold_one}
+use Rattle.slink_live.proofs.Tending.{rest_closes, rest_empty, rest_wants, tends_rest, interest_last, unreported_none}
+use Rattle.slink_live.proofs.Tending.{unreported_one}
 
 -- A call saw the link in a slot, and the rings of the input.
 module _ {s0 s : ServerState} (same : s0 ≡ s) (j : ℕ) (lt : j < length s0.links) (sound : IsSound s)
@@ -92,7 +92,7 @@ module _ {s0 s : ServerState} (same : s0 ≡ s) (j : ℕ) (lt : j < length s0.li
   pub received_tends : {t : ServerState} {log mid last : List Happening} → HasReceived feed j o new log mid
       → Settles j seen_after t mid last → Tends s t log last
   received_tends {t} {log} {mid} {last} h settles =
-      tends_in (tends_by s0 j new t log mid last (received_some o h ∙ ap is_some stood) (received_untold o h)
+      tends_in (tends_by s0 j new t log mid last (received_some o h ∙ ap is_some stood) (received_unreported o h)
       (received_goes o h) (λ start v. (received_keeps {s0 = s0} {s = s0} refl j lt new (sound_in same sound) rings link
       h).serving
       start v) settles)
@@ -101,10 +101,10 @@ module _ {s0 s : ServerState} (same : s0 ≡ s) (j : ℕ) (lt : j < length s0.li
       received_some None g = ap is_some g.0
       received_some (Some l) g = ap is_some g.2
 
-      received_untold : (x : Option LinkState) → HasReceived feed j x new log mid → IsUntold j log mid
-      received_untold None g = untold_none j log mid g.1
-      received_untold (Some l) g =
-          untold_one j log mid (Received j g.0) (λ k ne w. refl) (λ b. refl) (λ b. refl) g.3
+      received_unreported : (x : Option LinkState) → HasReceived feed j x new log mid → IsUnreported j log mid
+      received_unreported None g = unreported_none j log mid g.1
+      received_unreported (Some l) g =
+          unreported_one j log mid (Received j g.0) (λ k ne w. refl) (λ b. refl) (λ b. refl) g.3
 
       received_goes : (x : Option LinkState) → HasReceived feed j x new log mid → (start : List Window)
           → Goes (IsClosedRightly start) log mid
@@ -115,7 +115,7 @@ module _ {s0 s : ServerState} (same : s0 ≡ s) (j : ℕ) (lt : j < length s0.li
   pub taken_tends : {t : ServerState} {log mid last : List Happening} → HasTaken j o new log mid
       → Settles j seen_after t mid last → Tends s t log last
   taken_tends {t} {log} {mid} {last} h settles =
-      tends_in (tends_by s0 j new t log mid last (taken_some o h ∙ ap is_some stood) (taken_untold o h)
+      tends_in (tends_by s0 j new t log mid last (taken_some o h ∙ ap is_some stood) (taken_unreported o h)
       (taken_goes o h) (λ start v. (taken_keeps {s0 = s0} {s = s0} refl j lt new (sound_in same sound) link h).serving
       start v)
       settles)
@@ -124,10 +124,10 @@ module _ {s0 s : ServerState} (same : s0 ≡ s) (j : ℕ) (lt : j < length s0.li
       taken_some None g = ap is_some g.0
       taken_some (Some l) g = ap is_some g.1
 
-      taken_untold : (x : Option LinkState) → HasTaken j x new log mid → IsUntold j log mid
-      taken_untold None g = untold_none j log mid g.1
-      taken_untold (Some l) g =
-          untold_one j log mid (Emitted j (take g.0 l.pending)) (λ k ne w. refl) (λ b. refl) (λ b. refl) g.2
+      taken_unreported : (x : Option LinkState) → HasTaken j x new log mid → IsUnreported j log mid
+      taken_unreported None g = unreported_none j log mid g.1
+      taken_unreported (Some l) g =
+          unreported_one j log mid (Emitted j (take g.0 l.pending)) (λ k ne w. refl) (λ b. refl) (λ b. refl) g.2
 
       taken_goes : (x : Option LinkState) → HasTaken j x new log mid → (start : List Window)
           → Goes (IsClosedRightly start) log mid
@@ -140,7 +140,7 @@ if_rested : (s : ServerState) (j : ℕ) (o new : Option LinkState) (log mid : Li
     → IfRested s.intake.feed new
 if_rested s j None new log mid a is h room = subst (IfRested s.intake.feed) (sym h.0) tt
 if_rested s j (Some l) new log mid a is h room =
-    let settled : IsSettled s.intake.feed s.has_ended l (told j log) = a.each j l (sym is) in
+    let settled : IsSettled s.intake.feed s.has_ended l (last_interest j log) = a.each j l (sym is) in
     subst (IfRested s.intake.feed) (sym h.1)
     (record { rests = settled.filled room; stays = λ lost. settled.stands (is_lost lost) })
 
@@ -153,7 +153,7 @@ pub rested_tends : {s0 s t : ServerState} (same : s0 ≡ s) (j : ℕ) → j < le
 rested_tends {s0} {s} {t} same j lt sound {o} link new {log} {mid} {last} h room settles =
     let stands : o ≡ get_or s0.links j None = link ∙ sym (same_default s0.links j None o lt) in
     subst (λ (x : ServerState). Tends x t log last) same
-    (tends_rest s0 j new t log mid last (taken_some o h ∙ ap is_some stands) (taken_untold o h) (taken_goes o h)
+    (tends_rest s0 j new t log mid last (taken_some o h ∙ ap is_some stands) (taken_unreported o h) (taken_goes o h)
     (λ start v. (taken_keeps {s0 = s0} {s = s0} refl j lt new (sound_in same sound) link h).serving start v)
     (λ a. settles (subst (IfRested s0.intake.feed) (sym (get_or-set_same s0.links j new None lt))
     (if_rested s0 j o new log mid a stands h room))))
@@ -162,10 +162,10 @@ rested_tends {s0} {s} {t} same j lt sound {o} link new {log} {mid} {last} h room
     taken_some None g = ap is_some g.0
     taken_some (Some l) g = ap is_some g.1
 
-    taken_untold : (x : Option LinkState) → HasTaken j x new log mid → IsUntold j log mid
-    taken_untold None g = untold_none j log mid g.1
-    taken_untold (Some l) g =
-        untold_one j log mid (Emitted j (take g.0 l.pending)) (λ k ne w. refl) (λ b. refl) (λ b. refl) g.2
+    taken_unreported : (x : Option LinkState) → HasTaken j x new log mid → IsUnreported j log mid
+    taken_unreported None g = unreported_none j log mid g.1
+    taken_unreported (Some l) g =
+        unreported_one j log mid (Emitted j (take g.0 l.pending)) (λ k ne w. refl) (λ b. refl) (λ b. refl) g.2
 
     taken_goes : (x : Option LinkState) → HasTaken j x new log mid → (start : List Window)
         → Goes (IsClosedRightly start) log mid
@@ -215,24 +215,24 @@ tends_same s log last e = record {
 }
 
 -- something happened that leaves all that was told
-stays_awake : (s : ServerState) (log last : List Happening) → ((k : ℕ) → told k last ≡ told k log)
+stays_awake : (s : ServerState) (log last : List Happening) → ((k : ℕ) → last_interest k last ≡ last_interest k log)
     → wants_links last ≡ wants_links log → is_left last ≡ is_left log → IsAwake s log → IsAwake s last
 stays_awake s log last each links left a = record {
   each = λ k l is. subst (IsSettled s.intake.feed s.has_ended l) (sym (each k)) (a.each k l is);
-  is_told = record { links = links ∙ a.is_told.links; left = left ∙ a.is_told.left };
+  is_reported = record { links = links ∙ a.is_reported.links; left = left ∙ a.is_reported.left };
 }
 
 pub missed_tends : (s : ServerState) (j : ℕ) (log last : List Happening) → last ≡ log ++ Missed j ∷ []
     → Tends s s log last
 missed_tends s j log last e = record {
-  awake = λ a. stays_awake s log last (λ k. told_last log last (Missed j) e k)
+  awake = λ a. stays_awake s log last (λ k. interest_last log last (Missed j) e k)
       (links_last log last (Missed j) e) (left_last log last (Missed j) e) a;
   closed = λ start v t. goes_one (Missed j) tt e;
 }
 
 pub next_awake : (s : ServerState) (e : Event) (log last : List Happening) → last ≡ log ++ Next e ∷ [] → IsAwake s log
     → IsAwake s last
-next_awake s e log last now a = stays_awake s log last (λ k. told_last log last (Next e) now k)
+next_awake s e log last now a = stays_awake s log last (λ k. interest_last log last (Next e) now k)
     (links_last log last (Next e) now) (left_last log last (Next e) now) a
 
 -- links are told to be wanted, or not, as they are
@@ -240,17 +240,17 @@ pub full_tends : (s : ServerState) (log last : List Happening) → (not s.has_en
     → last ≡ log ++ WantsLinks false ∷ [] → Tends s s log last
 full_tends s log last none e = record {
   awake = λ a. record {
-    each = λ k l is. subst (IsSettled s.intake.feed s.has_ended l) (sym (told_last log last (WantsLinks false) e k))
+    each = λ k l is. subst (IsSettled s.intake.feed s.has_ended l) (sym (interest_last log last (WantsLinks false) e k))
         (a.each k l is);
-    is_told = record {
+    is_reported = record {
       links = links_last log last (WantsLinks false) e ∙ sym none;
-      left = left_last log last (WantsLinks false) e ∙ a.is_told.left;
+      left = left_last log last (WantsLinks false) e ∙ a.is_reported.left;
     };
   };
   closed = λ start v t. goes_one (WantsLinks false) tt e;
 }
 
-opened_other : (j k : ℕ) (w : Interest) → k ≢ j → told_by k w (Opened j) ≡ w
+opened_other : (j k : ℕ) (w : Interest) → k ≢ j → interest_after k w (Opened j) ≡ w
 opened_other j k w ne = ap (λ (t : Bool). if t then first_interest else w) (not_self j k ne)
 
 -- A link was taken into a slot, further ones told to be wanted or not, and then it was settled.
@@ -263,7 +263,7 @@ pub opened_tends : (s : ServerState) (j : ℕ) (new : Option LinkState) (t : Ser
 opened_tends s j new t log opened mid last lt free came now serves settles =
     let wanted : Bool = not s.has_ended && has_free (set s.links j new) in
     let after : ServerState = record s { links = set s.links j new } in
-    let is_told : is_left log ≡ s.has_ended → IsTold after mid = λ left. record {
+    let is_reported : is_left log ≡ s.has_ended → IsReported after mid = λ left. record {
       links = links_last opened mid (WantsLinks wanted) now;
       left = left_last opened mid (WantsLinks wanted) now ∙ (left_last log opened (Opened j) came ∙ left);
     } in
@@ -271,14 +271,14 @@ opened_tends s j new t log opened mid last lt free came now serves settles =
       awake = λ a. record {
         each = λ k. settles.links k (λ ne l is.
             subst (IsSettled s.intake.feed s.has_ended l)
-            (sym (told_last opened mid (WantsLinks wanted) now k
-            ∙ (told_last log opened (Opened j) came k ∙ opened_other j k (told k log) ne)))
+            (sym (interest_last opened mid (WantsLinks wanted) now k
+            ∙ (interest_last log opened (Opened j) came k ∙ opened_other j k (last_interest k log) ne)))
             (a.each k l (sym (get_or-set_other s.links j k new None ne) ∙ is)));
-        is_told = settles.is_told (is_told a.is_told.left);
+        is_reported = settles.is_reported (is_reported a.is_reported.left);
       };
       closed = λ start v told0. goes_then
           (further opened mid (WantsLinks wanted) (goes_one (Opened j) tt came) tt now)
-          (settles.closed start (serves start v) (is_told told0.is_told.left));
+          (settles.closed start (serves start v) (is_reported told0.is_reported.left));
     }
 
 pub opened_in : {s0 s t : ServerState} (same : s0 ≡ s) (j : ℕ) → j < length s0.links → (l : LinkState) → IsSound s
@@ -306,7 +306,7 @@ gone_tends s t j log last earlier lt said is e =
     subst (λ (x : ServerState). Tends s x log last) (sym is) (record {
       awake = λ a. record {
         each = λ k. gone_awake s j log last lt e k (λ ne. a.each k);
-        is_told = gone_told s j log last lt e a.is_told.left;
+        is_reported = gone_reported s j log last lt e a.is_reported.left;
       };
       closed = λ start v told0. gone_goes s j log last lt e start (inl (earlier, said));
     })
@@ -321,18 +321,18 @@ pub input_tends : (s t : ServerState) (intake : IntakeState) (reads : ℕ) (byte
     → TendsBut places (record { intake = intake; links = s.links; has_ended = s.has_ended; reads = reads }) t mid last
     → Tends s t log last
 input_tends s t intake reads bytes places log mid last now long stays serves but =
-    let is_told : IsTold s log
-    → IsTold (record { intake = intake; links = s.links; has_ended = s.has_ended; reads = reads }) mid = λ x. record {
+    let is_reported : IsReported s log
+    → IsReported (record { intake = intake; links = s.links; has_ended = s.has_ended; reads = reads }) mid = λ x. record {
       links = links_last log mid (Input bytes) now ∙ x.links;
       left = left_last log mid (Input bytes) now ∙ x.left;
     } in
     record {
-      awake = λ a. but.awake (is_told a.is_told) (λ k out l is.
-          subst (IsSettled intake.feed s.has_ended l) (sym (told_last log mid (Input bytes) now k))
+      awake = λ a. but.awake (is_reported a.is_reported) (λ k out l is.
+          subst (IsSettled intake.feed s.has_ended l) (sym (interest_last log mid (Input bytes) now k))
           (settled_apart s.intake.feed intake.feed places (get_or s.links k None) l long stays out is s.has_ended
-          (told k log) (a.each k l is)));
+          (last_interest k log) (a.each k l is)));
       closed = λ start v x. goes_then (goes_one (Input bytes) tt now)
-          (but.closed start (serves start v) (is_told x.is_told));
+          (but.closed start (serves start v) (is_reported x.is_reported));
     }
 
 -- It brought bytes that go no further.
@@ -358,8 +358,8 @@ same_ended same = ap ended same
 module _ {log left mid last : List Happening} (went : left ≡ log ++ Left ∷ [])
     (now : mid ≡ left ++ WantsLinks false ∷ []) where
   pub end_closes : Closes mid last → Closes log last
-  end_closes c = closes_both log mid last (closes_both log left mid (closes_told log left Left tt went)
-      (closes_told left mid (WantsLinks false) tt now)) c
+  end_closes c = closes_both log mid last (closes_both log left mid (closes_reported log left Left tt went)
+      (closes_reported left mid (WantsLinks false) tt now)) c
 
   pub end_keeps : {s0 s t : ServerState} → s0 ≡ s → IsSound (ended s) → KeepsServing (ended s0) t mid last
       → KeepsServing (ended s) t log last
@@ -370,32 +370,32 @@ module _ {log left mid last : List Happening} (went : left ≡ log ++ Left ∷ [
 
   pub anew_by : {s0 s t : ServerState} → s0 ≡ s → TendsAll (ended s0) t mid last → TendsAnew (ended s) t log last
   anew_by {s0} same all =
-      let is_told : IsTold (ended s0) mid = record {
+      let is_reported : IsReported (ended s0) mid = record {
         links = links_last left mid (WantsLinks false) now;
         left = left_last left mid (WantsLinks false) now ∙ left_last log left Left went;
       } in
       record {
-        awake = all.awake is_told;
+        awake = all.awake is_reported;
         closed = λ start v. goes_then (further left mid (WantsLinks false) (goes_one Left tt went) tt now)
             (all.closed start (quiet_serving start (ended s0) left mid (WantsLinks false) refl (λ k. refl) now
             (quiet_serving start (ended s0) log left Left refl (λ k. refl) went
-            (subst (λ (x : ServerState). IsServing start x log) (sym (same_ended same)) v))) is_told);
+            (subst (λ (x : ServerState). IsServing start x log) (sym (same_ended same)) v))) is_reported);
       }
 
 -- Slots up to one were settled, where no link slept in some of the others.
 pub record HasSettled (Rests : ℕ → Type 0) (s t : ServerState) (n : ℕ) (log last : List Happening) : Type 0 where
-  pub awake : IsTold s log → ((k : ℕ) → Rests k → IsAwakeIn s log k) → (k : ℕ) → k < n → IsAwakeIn t last k
+  pub awake : IsReported s log → ((k : ℕ) → Rests k → IsAwakeIn s log k) → (k : ℕ) → k < n → IsAwakeIn t last k
   pub still : (k : ℕ) → n ≤ k → IsAwakeIn s log k → IsAwakeIn t last k
   pub rest : (k : ℕ) → n ≤ k → get_or t.links k None ≡ get_or s.links k None
-  pub is_told : IsTold s log → IsTold t last
-  pub closed : (start : List Window) → IsServing start s log → IsTold s log → Goes (IsClosedRightly start) log last
+  pub is_reported : IsReported s log → IsReported t last
+  pub closed : (start : List Window) → IsServing start s log → IsReported s log → Goes (IsClosedRightly start) log last
 
 pub settled_none : (Rests : ℕ → Type 0) (s : ServerState) (log : List Happening) → HasSettled Rests s s 0 log log
 settled_none Rests s log = record {
   awake = λ t rests k lt. absurd (omega (arith, lt));
   still = λ k le a. a;
   rest = λ k le. refl;
-  is_told = λ t. t;
+  is_reported = λ t. t;
   closed = λ start v t. goes_same refl;
 }
 
@@ -406,9 +406,9 @@ settled_more s t u n log mid last keeps h settles = record {
   awake = λ told0 rests k lt. settles.links k (λ ne. h.awake told0 rests k (omega (arith, lt, ne)));
   still = λ k le a. settles.links k (λ ne. h.still k (omega (arith, le)) a);
   rest = λ k le. settles.others k (λ e. omega (arith, le, e)) ∙ h.rest k (omega (arith, le));
-  is_told = λ told0. settles.is_told (h.is_told told0);
+  is_reported = λ told0. settles.is_reported (h.is_reported told0);
   closed = λ start v told0. goes_then (h.closed start v told0)
-      (settles.closed start (keeps.serving start v) (h.is_told told0));
+      (settles.closed start (keeps.serving start v) (h.is_reported told0));
 }
 
 -- one more, in which no link slept
@@ -421,19 +421,19 @@ settled_past s t n log last h here = record {
   ];
   still = λ k le a. h.still k (omega (arith, le)) a;
   rest = λ k le. h.rest k (omega (arith, le));
-  is_told = h.is_told;
+  is_reported = h.is_reported;
   closed = h.closed;
 }
 
 settled_each : {Rests : ℕ → Type 0} (s t : ServerState) (n : ℕ) (log last : List Happening) → length t.links ≤ n
-    → HasSettled Rests s t n log last → IsTold s log → ((k : ℕ) → Rests k → IsAwakeIn s log k) → IsAwake t last
+    → HasSettled Rests s t n log last → IsReported s log → ((k : ℕ) → Rests k → IsAwakeIn s log k) → IsAwake t last
 settled_each s t n log last le h told0 rests = record {
   each = λ k. elim (leb_tells n k) [
     | inr lt ↦ h.awake told0 rests k (omega (arith, lt.1))
     | inl ge ↦ λ l is. absurd (let bad : None ≡ Some l = sym (get_or_past t.links k None (omega (arith, le, ge.1))) ∙ is
         in cc bad)
   ];
-  is_told = h.is_told told0;
+  is_reported = h.is_reported told0;
 }
 
 pub settled_all : (s t : ServerState) (n : ℕ) (log last : List Happening) → length t.links ≤ n

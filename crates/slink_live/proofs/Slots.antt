@@ -14,7 +14,7 @@ use Rattle.slink_live.specs.Input.{IsFed, IsInput}
 use Rattle.slink_live.specs.Served.{IsServing, IsSound, IsStory, LinkState, ServerState, link_state}
 use Rattle.slink_live.specs.Story.{IsNew, elsewhere}
 use Rattle.slink_live.specs.private.Calling.{HasFilled, HasReceived, HasTaken}
-use Rattle.slink_live.specs.Turns.{Closes, IsTelling}
+use Rattle.slink_live.specs.Turns.{Closes, IsReport}
 use Rattle.slink_live.specs.private.Keeping.{KeepsServing}
 use Rattle.slink_live.proofs.Stories.{filled_story, gone_story, received_story, opened_story, story_stays, taken_story}
 
@@ -29,7 +29,7 @@ pub input_quiet : (log : List Happening) (h : Happening) → piece_of h ≡ [] �
 input_quiet log h e = input_append log (h ∷ [])
     ∙ (ap (λ b. input_of log ++ (b ++ [])) e ∙ append-nil (input_of log))
 
-gone_quiet : (h : Happening) → IsTelling h → piece_of h ≡ []
+gone_quiet : (h : Happening) → IsReport h → piece_of h ≡ []
 gone_quiet (Input bytes) g = absurd g
 gone_quiet (Opened k) g = refl
 gone_quiet (Received k bytes) g = refl
@@ -41,7 +41,7 @@ gone_quiet (Wants k interest) g = refl
 gone_quiet (WantsLinks wanted) g = refl
 gone_quiet Left g = refl
 
-all_quiet : (gone : List Happening) → AllByRecursion IsTelling gone → input_of gone ≡ []
+all_quiet : (gone : List Happening) → AllByRecursion IsReport gone → input_of gone ≡ []
 all_quiet [] g = refl
 all_quiet (h ∷ hs) g = ap (λ b. b ++ input_of hs) (gone_quiet h g.0) ∙ all_quiet hs g.1
 
@@ -50,16 +50,16 @@ pub closes_input : (log last : List Happening) → Closes log last → input_of 
 closes_input log last c = ap input_of c.last_is ∙ (input_append log c.gone
     ∙ (ap (λ b. input_of log ++ b) (all_quiet c.gone c.each) ∙ append-nil (input_of log)))
 
-all_gone : (xs ys : List Happening) → AllByRecursion IsTelling xs → AllByRecursion IsTelling ys
-    → AllByRecursion IsTelling (xs ++ ys)
+all_gone : (xs ys : List Happening) → AllByRecursion IsReport xs → AllByRecursion IsReport ys
+    → AllByRecursion IsReport (xs ++ ys)
 all_gone [] ys a b = b
 all_gone (x ∷ xs) ys a b = (a.0, all_gone xs ys a.1 b)
 
 pub closes_none : (log last : List Happening) → last ≡ log → Closes log last
 closes_none log last e = record { gone = []; each = tt; last_is = e ∙ sym (append-nil log) }
 
-pub closes_told : (log last : List Happening) (h : Happening) → IsTelling h → last ≡ log ++ h ∷ [] → Closes log last
-closes_told log last h reporting e = record { gone = h ∷ []; each = (reporting, tt); last_is = e }
+pub closes_reported : (log last : List Happening) (h : Happening) → IsReport h → last ≡ log ++ h ∷ [] → Closes log last
+closes_reported log last h reporting e = record { gone = h ∷ []; each = (reporting, tt); last_is = e }
 
 pub closes_both : (log now last : List Happening) → Closes log now → Closes now last → Closes log last
 closes_both log now last a b = record {

@@ -16,7 +16,7 @@ use Rattle.slink_live.specs.private.Calling.{HasFilled, HasReceived, HasTaken}
 use Rattle.slink_live.specs.Turns.{Closes, ReadsFrom, WritesTo}
 use Rattle.slink_live.specs.private.Keeping.{AnswersFault, KeepsServing}
 use Rattle.slink_live.proofs.Slots.{Turns, filled_turns, gone_turns, opened_turns, received_turns, taken_turns}
-use Rattle.slink_live.proofs.Slots.{closes_both, closes_told, quiet_serving, turns_keep}
+use Rattle.slink_live.proofs.Slots.{closes_both, closes_reported, quiet_serving, turns_keep}
 
 -- what holds of an error holds of what follows from it
 pub if_err : {X E : Type 0} → (r : Result X E) (P Q : E → Type 0) → ((e : E) → P e → Q e) → IfErr r P → IfErr r Q
@@ -235,5 +235,5 @@ closed_keeps s t j log last wanted lt sound is now =
 pub closes_gone : (j : ℕ) (log last : List Happening) (wanted : Bool)
     → last ≡ (log ++ Gone j ∷ []) ++ WantsLinks wanted ∷ [] → Closes log last
 closes_gone j log last wanted now =
-    closes_both log (log ++ Gone j ∷ []) last (closes_told log (log ++ Gone j ∷ []) (Gone j) tt refl)
-    (closes_told (log ++ Gone j ∷ []) last (WantsLinks wanted) tt now)
+    closes_both log (log ++ Gone j ∷ []) last (closes_reported log (log ++ Gone j ∷ []) (Gone j) tt refl)
+    (closes_reported (log ++ Gone j ∷ []) last (WantsLinks wanted) tt now)

@@ -8,10 +8,10 @@ use Rattle.std.proofs.lemmas.List.{set-get_or}
 use Rattle.slink_feed.specs.Window.{Window}
 use Rattle.slink_live.specs.declared.link.Update.TheVariants as settled
 use Rattle.slink_live.specs.declared.ready.Interest.{Interest}
-use Rattle.slink_live.specs.Awake.{Goes, IsAwake, IsAwakeIn, IsClosable, IsClosedRightly, IsSettled, IsTold}
+use Rattle.slink_live.specs.Awake.{Goes, IsAwake, IsAwakeIn, IsClosable, IsClosedRightly, IsSettled, IsReported}
 use Rattle.slink_live.specs.Awake.{IsFirstFree, has_free, nothing, further}
 use Rattle.slink_live.specs.Happening.{Happening, Gone, Wants, WantsLinks, first_interest, is_left, left_by, left_from}
-use Rattle.slink_live.specs.Happening.{links_by, links_from, told, told_by, told_from, wants_links}
+use Rattle.slink_live.specs.Happening.{links_by, links_from, last_interest, interest_after, interest_from, wants_links}
 use Rattle.slink_live.specs.Served.{IsServing, LinkState, ServerState}
 use Rattle.slink_live.specs.private.Calling.{HasFilled, IsOutcome}
 use Rattle.slink_live.specs.private.Keeping.{Settles, Tends}
@@ -19,10 +19,10 @@ use Rattle.slink_live.proofs.Own.{at_self}
 use Rattle.slink_live.proofs.Slots.{not_self}
 
 -- one thing more happened
-told_append : (k : ℕ) (w : Interest) (xs ys : List Happening)
-    → told_from k w (xs ++ ys) ≡ told_from k (told_from k w xs) ys
-told_append k w [] ys = refl
-told_append k w (x ∷ xs) ys = told_append k (told_by k w x) xs ys
+interest_append : (k : ℕ) (w : Interest) (xs ys : List Happening)
+    → interest_from k w (xs ++ ys) ≡ interest_from k (interest_from k w xs) ys
+interest_append k w [] ys = refl
+interest_append k w (x ∷ xs) ys = interest_append k (interest_after k w x) xs ys
 
 links_append : (b : Bool) (xs ys : List Happening) → links_from b (xs ++ ys) ≡ links_from (links_from b xs) ys
 links_append b [] ys = refl
@@ -33,8 +33,8 @@ left_append b [] ys = refl
 left_append b (x ∷ xs) ys = left_append (left_by b x) xs ys
 
 module _ (log last : List Happening) (h : Happening) (e : last ≡ log ++ h ∷ []) where
-  pub told_last : (k : ℕ) → told k last ≡ told_by k (told k log) h
-  told_last k = ap (told k) e ∙ told_append k first_interest log (h ∷ [])
+  pub interest_last : (k : ℕ) → last_interest k last ≡ interest_after k (last_interest k log) h
+  interest_last k = ap (last_interest k) e ∙ interest_append k first_interest log (h ∷ [])
 
   pub links_last : wants_links last ≡ links_by (wants_links log) h
   links_last = ap wants_links e ∙ links_append true log (h ∷ [])
@@ -43,31 +43,31 @@ module _ (log last : List Happening) (h : Happening) (e : last ≡ log ++ h ∷ 
   left_last = ap is_left e ∙ left_append false log (h ∷ [])
 
 -- What happened told the device nothing but of the link in a slot.
-pub record IsUntold (j : ℕ) (log last : List Happening) : Type 0 where
-  pub of_links : (k : ℕ) → k ≢ j → told k last ≡ told k log
+pub record IsUnreported (j : ℕ) (log last : List Happening) : Type 0 where
+  pub of_links : (k : ℕ) → k ≢ j → last_interest k last ≡ last_interest k log
   pub links : wants_links last ≡ wants_links log
   pub left : is_left last ≡ is_left log
 
-pub untold_none : (j : ℕ) (log last : List Happening) → last ≡ log → IsUntold j log last
-untold_none j log last e = record {
-  of_links = λ k ne. ap (told k) e;
+pub unreported_none : (j : ℕ) (log last : List Happening) → last ≡ log → IsUnreported j log last
+unreported_none j log last e = record {
+  of_links = λ k ne. ap (last_interest k) e;
   links = ap wants_links e;
   left = ap is_left e;
 }
 
-pub untold_one : (j : ℕ) (log last : List Happening) (h : Happening)
-    → ((k : ℕ) → k ≢ j → (w : Interest) → told_by k w h ≡ w) → ((b : Bool) → links_by b h ≡ b)
-    → ((b : Bool) → left_by b h ≡ b) → last ≡ log ++ h ∷ [] → IsUntold j log last
-untold_one j log last h of_links links left e = record {
-  of_links = λ k ne. told_last log last h e k ∙ of_links k ne (told k log);
+pub unreported_one : (j : ℕ) (log last : List Happening) (h : Happening)
+    → ((k : ℕ) → k ≢ j → (w : Interest) → interest_after k w h ≡ w) → ((b : Bool) → links_by b h ≡ b)
+    → ((b : Bool) → left_by b h ≡ b) → last ≡ log ++ h ∷ [] → IsUnreported j log last
+unreported_one j log last h of_links links left e = record {
+  of_links = λ k ne. interest_last log last h e k ∙ of_links k ne (last_interest k log);
   links = links_last log last h e ∙ links (wants_links log);
   left = left_last log last h e ∙ left (is_left log);
 }
 
-wants_other : (j k : ℕ) (w v : Interest) → k ≢ j → told_by k v (Wants j w) ≡ v
+wants_other : (j k : ℕ) (w v : Interest) → k ≢ j → interest_after k v (Wants j w) ≡ v
 wants_other j k w v ne = ap (λ (t : Bool). if t then w else v) (not_self j k ne)
 
-wants_self : (j : ℕ) (w v : Interest) → told_by j v (Wants j w) ≡ w
+wants_self : (j : ℕ) (w v : Interest) → interest_after j v (Wants j w) ≡ w
 wants_self j w v = ap (λ (t : Bool). if t then w else v) (at_self j)
 
 -- further things happened
@@ -156,34 +156,34 @@ module _ (s : ServerState) (j : ℕ) (new : Option LinkState) (log last : List H
   abbrev after : ServerState
   after = record s { links = set s.links j new }
 
-  pub beside : (k : ℕ) → k ≢ j → IsUntold j log last → IsAwakeIn s log k → IsAwakeIn after last k
-  beside k ne untold awake l e =
-      subst (IsSettled s.intake.feed s.has_ended l) (sym (untold.of_links k ne))
+  pub beside : (k : ℕ) → k ≢ j → IsUnreported j log last → IsAwakeIn s log k → IsAwakeIn after last k
+  beside k ne unreported awake l e =
+      subst (IsSettled s.intake.feed s.has_ended l) (sym (unreported.of_links k ne))
       (awake l (sym (get_or-set_other s.links j k new None ne) ∙ e))
 
-  pub told_beside : is_some new ≡ is_some (get_or s.links j None) → IsUntold j log last → IsTold s log
-      → IsTold after last
-  told_beside same untold t = record {
-    links = untold.links ∙ (t.links ∙ ap (λ b. not s.has_ended && b) (sym (free_set s.links j new same)));
-    left = untold.left ∙ t.left;
+  pub reported_beside : is_some new ≡ is_some (get_or s.links j None) → IsUnreported j log last → IsReported s log
+      → IsReported after last
+  reported_beside same unreported t = record {
+    links = unreported.links ∙ (t.links ∙ ap (λ b. not s.has_ended && b) (sym (free_set s.links j new same)));
+    left = unreported.left ∙ t.left;
   }
 
-  here : j < length s.links → ((l : LinkState) → new ≡ Some l → IsSettled s.intake.feed s.has_ended l (told j last))
+  here : j < length s.links → ((l : LinkState) → new ≡ Some l → IsSettled s.intake.feed s.has_ended l (last_interest j last))
       → IsAwakeIn after last j
   here lt own l e = own l (sym (get_or-set_same s.links j new None lt) ∙ e)
 
   -- so it was settled
-  module _ (lt : j < length s.links) (untold : IsUntold j log last)
+  module _ (lt : j < length s.links) (unreported : IsUnreported j log last)
       (same : is_some new ≡ is_some (get_or s.links j None))
-      (own : (l : LinkState) → new ≡ Some l → IsSettled s.intake.feed s.has_ended l (told j last)) where
-    settles_by : ((start : List Window) → IsServing start s log → IsTold s log
+      (own : (l : LinkState) → new ≡ Some l → IsSettled s.intake.feed s.has_ended l (last_interest j last)) where
+    settles_by : ((start : List Window) → IsServing start s log → IsReported s log
         → Goes (IsClosedRightly start) log last) → Settles j s after log last
     settles_by closed = record {
       links = λ k awake. elim (eqb_tells j k) [
         | inl is ↦ subst (IsAwakeIn after last) is.1 (here lt own)
-        | inr other ↦ let ne : k ≢ j = λ e. other.1 (sym e) in beside k ne untold (awake ne)
+        | inr other ↦ let ne : k ≢ j = λ e. other.1 (sym e) in beside k ne unreported (awake ne)
       ];
-      is_told = told_beside same untold;
+      is_reported = reported_beside same unreported;
       closed = closed;
       others = λ k ne. get_or-set_other s.links j k new None ne;
     }
@@ -194,7 +194,7 @@ pub settles_empty : (s : ServerState) (j : ℕ) (o new : Option LinkState) (log 
     → IsOutcome s.intake.feed s.has_ended new settled.Empty → last ≡ log
     → Settles j s (record s { links = set s.links j new }) log last
 settles_empty s j o new log last lt is filled out e =
-    settles_by s j new log last lt (untold_none j log last e)
+    settles_by s j new log last lt (unreported_none j log last e)
     (filled_some s.intake.feed o new filled ∙ ap is_some is)
     (λ l some. absurd (let bad : None ≡ Some l = sym (empty_none s.intake.feed s.has_ended new out) ∙ some in cc bad))
     (λ start v t. goes_same e)
@@ -206,10 +206,10 @@ pub settles_wants : (s : ServerState) (j : ℕ) (o new : Option LinkState) (log 
     → Settles j s (record s { links = set s.links j new }) log last
 settles_wants s j o new log last w lt is filled out e =
     settles_by s j new log last lt
-    (untold_one j log last (Wants j w) (λ k ne v. wants_other j k w v ne) (λ b. refl) (λ b. refl) e)
+    (unreported_one j log last (Wants j w) (λ k ne v. wants_other j k w v ne) (λ b. refl) (λ b. refl) e)
     (filled_some s.intake.feed o new filled ∙ ap is_some is)
     (λ l some. subst (IsSettled s.intake.feed s.has_ended l)
-    (sym (told_last log last (Wants j w) e j ∙ wants_self j w (told j log)))
+    (sym (interest_last log last (Wants j w) e j ∙ wants_self j w (last_interest j log)))
     (wants_some s.intake.feed s.has_ended new w l out some))
     (λ start v t. goes_one (Wants j w) tt e)
 
@@ -222,8 +222,8 @@ module _ (s : ServerState) (j : ℕ) (log last : List Happening) (lt : j < lengt
   abbrev gone : List Happening
   gone = log ++ Gone j ∷ []
 
-  told_gone : (k : ℕ) → told k last ≡ told k log
-  told_gone k = told_last gone last (WantsLinks (not s.has_ended)) e k ∙ told_last log gone (Gone j) refl k
+  interest_gone : (k : ℕ) → last_interest k last ≡ last_interest k log
+  interest_gone k = interest_last gone last (WantsLinks (not s.has_ended)) e k ∙ interest_last log gone (Gone j) refl k
 
   pub gone_awake : (k : ℕ) → (k ≢ j → IsAwakeIn s log k) → IsAwakeIn without last k
   gone_awake k awake l is = elim (eqb_tells j k) [
@@ -233,12 +233,12 @@ module _ (s : ServerState) (j : ℕ) (log last : List Happening) (lt : j < lengt
         ∙ subst (λ (i : ℕ). get_or (set s.links j None) i None ≡ Some l) (sym same.1) is in
         cc bad)
     | inr other ↦ let ne : k ≢ j = λ x. other.1 (sym x) in
-        subst (IsSettled s.intake.feed s.has_ended l) (sym (told_gone k))
+        subst (IsSettled s.intake.feed s.has_ended l) (sym (interest_gone k))
         (awake ne l (sym (get_or-set_other s.links j k None None ne) ∙ is))
   ]
 
-  pub gone_told : is_left log ≡ s.has_ended → IsTold without last
-  gone_told left = record {
+  pub gone_reported : is_left log ≡ s.has_ended → IsReported without last
+  gone_reported left = record {
     links = links_last gone last (WantsLinks (not s.has_ended)) e
         ∙ (and_true (not s.has_ended) ∙ ap (λ b. not s.has_ended && b) (sym (free_none s.links j lt)));
     left = left_last gone last (WantsLinks (not s.has_ended)) e ∙ (left_last log gone (Gone j) refl ∙ left);
@@ -259,8 +259,8 @@ settles_closes s j new log last lt within out e serves =
     let l = closes_some s.intake.feed s.has_ended new out in
     record {
       links = λ k awake. gone_awake mid j log last within e k
-          (λ ne. beside s j new log log k ne (untold_none j log log refl) (awake ne));
-      is_told = λ t. gone_told mid j log last within e t.left;
+          (λ ne. beside s j new log log k ne (unreported_none j log log refl) (awake ne));
+      is_reported = λ t. gone_reported mid j log last within e t.left;
       closed = λ start v t. gone_goes mid j log last within e start (inr (record {
         server = mid;
         link = l.0;
@@ -275,27 +275,27 @@ settles_closes s j new log last lt within out e serves =
 
 -- Something happened in a slot, and then it was settled, where no link slept.
 pub tends_rest : (s : ServerState) (j : ℕ) (new : Option LinkState) (t : ServerState) (log mid last : List Happening)
-    → is_some new ≡ is_some (get_or s.links j None) → IsUntold j log mid
+    → is_some new ≡ is_some (get_or s.links j None) → IsUnreported j log mid
     → ((start : List Window) → Goes (IsClosedRightly start) log mid)
     → ((start : List Window) → IsServing start s log → IsServing start (record s { links = set s.links j new }) mid)
     → (IsAwake s log → Settles j (record s { links = set s.links j new }) t mid last) → Tends s t log last
-tends_rest s j new t log mid last same untold went serves settles = record {
+tends_rest s j new t log mid last same unreported went serves settles = record {
   awake = λ a. record {
-    each = λ k. (settles a).links k (λ ne. beside s j new log mid k ne untold (a.each k));
-    is_told = (settles a).is_told (told_beside s j new log mid same untold a.is_told);
+    each = λ k. (settles a).links k (λ ne. beside s j new log mid k ne unreported (a.each k));
+    is_reported = (settles a).is_reported (reported_beside s j new log mid same unreported a.is_reported);
   };
   closed = λ start v a. goes_then (went start)
-      ((settles a).closed start (serves start v) (told_beside s j new log mid same untold a.is_told));
+      ((settles a).closed start (serves start v) (reported_beside s j new log mid same unreported a.is_reported));
 }
 
 -- The same, whether one slept or not.
 pub tends_by : (s : ServerState) (j : ℕ) (new : Option LinkState) (t : ServerState) (log mid last : List Happening)
-    → is_some new ≡ is_some (get_or s.links j None) → IsUntold j log mid
+    → is_some new ≡ is_some (get_or s.links j None) → IsUnreported j log mid
     → ((start : List Window) → Goes (IsClosedRightly start) log mid)
     → ((start : List Window) → IsServing start s log → IsServing start (record s { links = set s.links j new }) mid)
     → Settles j (record s { links = set s.links j new }) t mid last → Tends s t log last
-tends_by s j new t log mid last same untold went serves settles =
-    tends_rest s j new t log mid last same untold went serves (λ a. settles)
+tends_by s j new t log mid last same unreported went serves settles =
+    tends_rest s j new t log mid last same unreported went serves (λ a. settles)
 
 -- The link in a slot was left as it was.
 same_links : (s : ServerState) (j : ℕ) (log last : List Happening)
@@ -307,7 +307,7 @@ same_links s j log last h =
 pub rest_empty : (s : ServerState) (j : ℕ) (log last : List Happening) → j < length s.links
     → IsOutcome s.intake.feed s.has_ended (get_or s.links j None) settled.Empty → last ≡ log → Settles j s s log last
 rest_empty s j log last lt out e =
-    same_links s j log last (settles_by s j (get_or s.links j None) log last lt (untold_none j log last e) refl
+    same_links s j log last (settles_by s j (get_or s.links j None) log last lt (unreported_none j log last e) refl
     (λ l some. absurd (
     let bad : None ≡ Some l =
     sym (empty_none s.intake.feed s.has_ended (get_or s.links j None) out) ∙ some in
@@ -319,9 +319,9 @@ pub rest_wants : (s : ServerState) (j : ℕ) (log last : List Happening) (w : In
     → Settles j s s log last
 rest_wants s j log last w lt out e =
     same_links s j log last (settles_by s j (get_or s.links j None) log last lt
-    (untold_one j log last (Wants j w) (λ k ne v. wants_other j k w v ne) (λ b. refl) (λ b. refl) e) refl
+    (unreported_one j log last (Wants j w) (λ k ne v. wants_other j k w v ne) (λ b. refl) (λ b. refl) e) refl
     (λ l some. subst (IsSettled s.intake.feed s.has_ended l)
-    (sym (told_last log last (Wants j w) e j ∙ wants_self j w (told j log)))
+    (sym (interest_last log last (Wants j w) e j ∙ wants_self j w (last_interest j log)))
     (wants_some s.intake.feed s.has_ended (get_or s.links j None) w l out some))
     (λ start v t. goes_one (Wants j w) tt e))
 
@@ -333,7 +333,7 @@ rest_closes s j log last lt out e =
     let l = closes_some s.intake.feed s.has_ended (get_or s.links j None) out in
     record {
       links = λ k awake. gone_awake s j log last lt e k awake;
-      is_told = λ t. gone_told s j log last lt e t.left;
+      is_reported = λ t. gone_reported s j log last lt e t.left;
       closed = λ start v t. gone_goes s j log last lt e start (inr (record {
         server = s;
         link = l.0;

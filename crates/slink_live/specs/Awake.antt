@@ -7,7 +7,7 @@ use Rattle.slink_feed.specs.Session.{Grants, IsWaiting, State, grant_at}
 use Rattle.slink_feed.specs.Window.{Window, oldest_of}
 use Rattle.slink_live.specs.declared.ready.Interest.{Interest}
 use Rattle.slink_live.specs.declared.ready.Event.TheVariants as events
-use Rattle.slink_live.specs.Happening.{Happening, Gone, Next, is_left, told, wants_links}
+use Rattle.slink_live.specs.Happening.{Happening, Gone, Next, is_left, last_interest, wants_links}
 use Rattle.slink_live.specs.Served.{IsServing, LinkState, ServerState}
 
 -- The next record of a place is no longer in its ring.
@@ -70,7 +70,7 @@ pub record IsSettled (feed : List Window) (has_ended : Bool) (l : LinkState) (in
 -- So it is with the link in a slot, where one stands.
 abbrev pub IsAwakeIn : ServerState → List Happening → ℕ → Type 0
 IsAwakeIn s log k = (l : LinkState) → get_or s.links k None ≡ Some l
-    → IsSettled s.intake.feed s.has_ended l (told k log)
+    → IsSettled s.intake.feed s.has_ended l (last_interest k log)
 
 -- whether a slot is free
 abbrev pub has_free : List (Option LinkState) → Bool
@@ -80,14 +80,14 @@ has_free (Some l ∷ links) = has_free links
 
 -- It was reported to the device that links are wanted exactly where the input is read and a slot is free, and that the
 -- input is read no more exactly where that is so.
-pub record IsTold (s : ServerState) (log : List Happening) : Type 0 where
+pub record IsReported (s : ServerState) (log : List Happening) : Type 0 where
   pub links : wants_links log ≡ (not s.has_ended && has_free s.links)
   pub left : is_left log ≡ s.has_ended
 
 -- No link sleeps.
 pub record IsAwake (s : ServerState) (log : List Happening) : Type 0 where
   pub each : (k : ℕ) → IsAwakeIn s log k
-  pub is_told : IsTold s log
+  pub is_reported : IsReported s log
 
 -- The slot is the first that is free.
 pub record IsFirstFree (links : List (Option LinkState)) (k : ℕ) : Type 0 where

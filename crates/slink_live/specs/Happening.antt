@@ -170,18 +170,18 @@ those_of k (h ∷ hs) = if is_input h || is_at k h then h ∷ those_of k hs else
 abbrev pub first_interest : Interest
 first_interest = record { reads = true; writes = false; is_streaming = false }
 
-abbrev pub told_by : ℕ → Interest → Happening → Interest
-told_by k interest (Opened slot) = if slot == k then first_interest else interest
-told_by k interest (Wants slot new) = if slot == k then new else interest
-told_by k interest _ = interest
+abbrev pub interest_after : ℕ → Interest → Happening → Interest
+interest_after k interest (Opened slot) = if slot == k then first_interest else interest
+interest_after k interest (Wants slot new) = if slot == k then new else interest
+interest_after k interest _ = interest
 
-abbrev pub told_from : ℕ → Interest → List Happening → Interest
-told_from k interest [] = interest
-told_from k interest (h ∷ hs) = told_from k (told_by k interest h) hs
+abbrev pub interest_from : ℕ → Interest → List Happening → Interest
+interest_from k interest [] = interest
+interest_from k interest (h ∷ hs) = interest_from k (interest_after k interest h) hs
 
 -- what was last reported of the link in a slot
-abbrev pub told : ℕ → List Happening → Interest
-told k log = told_from k first_interest log
+abbrev pub last_interest : ℕ → List Happening → Interest
+last_interest k log = interest_from k first_interest log
 
 abbrev pub links_by : Bool → Happening → Bool
 links_by wanted (WantsLinks new) = new

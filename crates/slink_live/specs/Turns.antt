@@ -12,22 +12,22 @@ use Rattle.slink_live.specs.Happening.{Left}
 use Rattle.slink_live.specs.Served.{IsServing, LinkState, ServerState}
 
 -- A link was closed, or something was reported to the device.
-abbrev pub IsTelling : Happening → Type 0
-IsTelling (Input bytes) = ⊥
-IsTelling (Opened k) = ⊥
-IsTelling (Received k bytes) = ⊥
-IsTelling (Emitted k bytes) = ⊥
-IsTelling (Gone k) = Unit {0}
-IsTelling (Next event) = ⊥
-IsTelling (Missed k) = ⊥
-IsTelling (Wants k interest) = Unit {0}
-IsTelling (WantsLinks wanted) = Unit {0}
-IsTelling Left = Unit {0}
+abbrev pub IsReport : Happening → Type 0
+IsReport (Input bytes) = ⊥
+IsReport (Opened k) = ⊥
+IsReport (Received k bytes) = ⊥
+IsReport (Emitted k bytes) = ⊥
+IsReport (Gone k) = Unit {0}
+IsReport (Next event) = ⊥
+IsReport (Missed k) = ⊥
+IsReport (Wants k interest) = Unit {0}
+IsReport (WantsLinks wanted) = Unit {0}
+IsReport Left = Unit {0}
 
 -- Links were closed and things were reported to the device, and nothing else happened.
 pub record Closes (log last : List Happening) : Type 0 where
   pub gone : List Happening
-  pub each : AllByRecursion IsTelling gone
+  pub each : AllByRecursion IsReport gone
   pub last_is : last ≡ log ++ gone
 
 -- This happened, and then links were closed.

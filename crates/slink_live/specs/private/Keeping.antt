@@ -3,7 +3,7 @@ use Rattle.std.specs.Prelude.{◌≡◌, ◌≢◌, ℕ, true, List, None, get_o
 use Rattle.slink_feed.specs.Window.{Window}
 use Rattle.slink_feed.specs.declared.input.InputFault.{InputFault}
 use Rattle.slink_feed.specs.Intake.{places_of}
-use Rattle.slink_live.specs.Awake.{Goes, IsAwake, IsAwakeIn, IsClosedRightly, IsTold}
+use Rattle.slink_live.specs.Awake.{Goes, IsAwake, IsAwakeIn, IsClosedRightly, IsReported}
 use Rattle.slink_live.specs.Happening.{Happening, input_of}
 use Rattle.slink_live.specs.Input.{IsInputFault}
 use Rattle.slink_live.specs.Served.{IsServing, IsSound, ServerState}
@@ -47,9 +47,9 @@ pub record Settles (j : ℕ) (old new : ServerState) (before after : List Happen
   -- No link sleeps that didn't in another slot.
   pub links : (k : ℕ) → (k ≢ j → IsAwakeIn old before k) → IsAwakeIn new after k
   -- What has to be reported to the device has been.
-  pub is_told : IsTold old before → IsTold new after
+  pub is_reported : IsReported old before → IsReported new after
   -- A link is closed by right.
-  pub closed : (start : List Window) → IsServing start old before → IsTold old before
+  pub closed : (start : List Window) → IsServing start old before → IsReported old before
       → Goes (IsClosedRightly start) before after
   -- The other slots are as they were.
   pub others : (k : ℕ) → k ≢ j → get_or new.links k None ≡ get_or old.links k None
@@ -63,8 +63,8 @@ pub record Tends (old new : ServerState) (before after : List Happening) : Type 
 
 -- A step after which no link sleeps, whichever slept before, once what has to be was reported to the device.
 pub record TendsAll (old new : ServerState) (before after : List Happening) : Type 0 where
-  pub awake : IsTold old before → IsAwake new after
-  pub closed : (start : List Window) → IsServing start old before → IsTold old before
+  pub awake : IsReported old before → IsAwake new after
+  pub closed : (start : List Window) → IsServing start old before → IsReported old before
       → Goes (IsClosedRightly start) before after
 
 -- A step after which no link sleeps, also where nothing was reported to the device before.
@@ -74,9 +74,9 @@ pub record TendsAnew (old new : ServerState) (before after : List Happening) : T
 
 -- A step after which no link sleeps, where none slept before but those that are sent records of some of these places.
 pub record TendsBut (places : Places) (old new : ServerState) (before after : List Happening) : Type 0 where
-  pub awake : IsTold old before
+  pub awake : IsReported old before
       → ((k : ℕ) → LeavesOut places (get_or old.links k None) → IsAwakeIn old before k) → IsAwake new after
-  pub closed : (start : List Window) → IsServing start old before → IsTold old before
+  pub closed : (start : List Window) → IsServing start old before → IsReported old before
       → Goes (IsClosedRightly start) before after
 
 -- The input is read no more: what is wrong with it is answered, where something is, and no link sleeps.

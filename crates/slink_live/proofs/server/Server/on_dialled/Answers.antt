@@ -2,7 +2,7 @@ use Rattle.std.proofs.Common.{false, refl}
 use Rattle.slink_live.specs.Happening.{WantsLinks}
 use Rattle.slink_live.specs.Turns.{is_full}
 use Rattle.slink_live.proofs.Settling.{full_tends}
-use Rattle.slink_live.proofs.Slots.{closes_told}
+use Rattle.slink_live.proofs.Slots.{closes_reported}
 use Rattle.slink_live.proofs.Steps.{keeps_quiet, keeps_same}
 use Rattle.slink_live.proofs.server.Server.on_dialled.Goals as goal
 
@@ -14,7 +14,7 @@ returns-in-None-clause-keeps g c =
 pub returns-in-None-clause-called : goal.returns-in-None-clause-called
 returns-in-None-clause-called g c =
     is_full c.in-None.ensures.none
-    (closes_told (g.R.Ready.log c.args.ready.now) (g.R.Ready.log c.wants_links.new.self) (WantsLinks false) tt
+    (closes_reported (g.R.Ready.log c.args.ready.now) (g.R.Ready.log c.wants_links.new.self) (WantsLinks false) tt
     c.wants_links.ensures.log)
 
 pub returns-in-None-clause-tends : goal.returns-in-None-clause-tends

@@ -4,7 +4,7 @@ use Rattle.slink_live.specs.Served.{ServerState}
 use Rattle.slink_live.specs.Turns.{misses, takes}
 use Rattle.slink_live.proofs.Moving.{opened_on, opens_on, within_on}
 use Rattle.slink_live.proofs.Settling.{missed_tends}
-use Rattle.slink_live.proofs.Slots.{closes_both, closes_none, closes_told}
+use Rattle.slink_live.proofs.Slots.{closes_both, closes_none, closes_reported}
 use Rattle.slink_live.proofs.Steps.{keeps_both, keeps_quiet, keeps_same}
 use Rattle.slink_live.proofs.server.Server.take.Goals as goal
 
@@ -34,7 +34,7 @@ returns-then-accept-clause-called g c =
     let opened : List Happening = (g.R.Ready.log c.args.ready.now) ++ Opened c.args.slot ∷ [] in
     takes c.args.slot c.requires.reads c.requires.free
     (closes_both opened (g.R.Ready.log c.wants_links-then-accept.new.self) (g.R.Ready.log c.update.new.ready)
-    (closes_told opened (g.R.Ready.log c.wants_links-then-accept.new.self) (WantsLinks c.wants_links.result) tt
+    (closes_reported opened (g.R.Ready.log c.wants_links-then-accept.new.self) (WantsLinks c.wants_links.result) tt
     (c.wants_links-then-accept.ensures.log
     ∙ ap (λ (x : List Happening). x ++ WantsLinks c.wants_links.result ∷ []) c.if-accept.ensures.log))
     c.update.ensures.closes)

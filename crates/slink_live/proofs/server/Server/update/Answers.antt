@@ -2,7 +2,7 @@ use Rattle.std.proofs.Common.{◌<◌, length, refl, subst, sym}
 use Rattle.slink_live.specs.Served.{ServerState}
 use Rattle.slink_live.specs.Happening.{Wants}
 use Rattle.slink_live.proofs.Moving.{all_fit, closed_on, closes_on, empty_on, filled_on, wants_on}
-use Rattle.slink_live.proofs.Slots.{closes_none, closes_told}
+use Rattle.slink_live.proofs.Slots.{closes_none, closes_reported}
 use Rattle.slink_live.proofs.Steps.{closes_gone, keeps_both, keeps_quiet}
 use Rattle.slink_live.proofs.server.Server.update.Goals as goal
 
@@ -39,7 +39,7 @@ returns-in-Wants-clause-keeps g c =
 
 pub returns-in-Wants-clause-closes : goal.returns-in-Wants-clause-closes
 returns-in-Wants-clause-closes g c =
-    closes_told (g.R.Ready.log c.args.ready.now) (g.R.Ready.log c.wants.new.self)
+    closes_reported (g.R.Ready.log c.args.ready.now) (g.R.Ready.log c.wants.new.self)
     (Wants c.args.slot c.in-Wants.interest) tt c.wants.ensures.log
 
 pub returns-in-Wants-clause-settles : goal.returns-in-Wants-clause-settles

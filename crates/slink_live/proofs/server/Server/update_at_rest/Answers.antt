@@ -1,7 +1,7 @@
 use Rattle.std.proofs.Common.{◌<◌, get_or, length, refl, subst, sym, None}
 use Rattle.slink_live.specs.Served.{ServerState}
 use Rattle.slink_live.specs.Happening.{Wants}
-use Rattle.slink_live.proofs.Slots.{closes_told}
+use Rattle.slink_live.proofs.Slots.{closes_reported}
 use Rattle.slink_live.proofs.Steps.{closed_keeps, closes_gone, keeps_quiet, keeps_same, same_default}
 use Rattle.slink_live.proofs.Settling.{look_closes, look_empty, look_wants}
 use Rattle.slink_live.proofs.server.Server.update_at_rest.Goals as goal
@@ -21,7 +21,7 @@ returns-in-Wants-clause-keeps g c =
 
 pub returns-in-Wants-clause-closes : goal.returns-in-Wants-clause-closes
 returns-in-Wants-clause-closes g c =
-    closes_told (g.R.Ready.log c.args.ready.now) (g.R.Ready.log c.wants.new.self)
+    closes_reported (g.R.Ready.log c.args.ready.now) (g.R.Ready.log c.wants.new.self)
     (Wants c.args.slot c.in-Wants.interest) tt c.wants.ensures.log
 
 pub returns-in-Wants-clause-settles : goal.returns-in-Wants-clause-settles
