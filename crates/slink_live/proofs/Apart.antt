@@ -9,7 +9,7 @@ use Rattle.slink_feed.specs.Session.{sent_in, sent_of}
 use Rattle.slink_feed.specs.Window.{Window, record_at}
 use Rattle.slink_live.specs.declared.places.Places.{Places}
 use Rattle.slink_live.specs.declared.ready.Interest.{Interest}
-use Rattle.slink_live.specs.Awake.{AreSame, IsClosable, IsLost, IsSettled, Sleeps, has_all, is_lost, must_close, waits}
+use Rattle.slink_live.specs.Awake.{AreSame, IsClosable, IsLost, IsUpToDate, Sleeps, has_all, is_lost, must_close, waits}
 use Rattle.slink_live.specs.Awake.{writes}
 use Rattle.slink_live.specs.Served.{LinkState}
 use Rattle.slink_live.specs.private.Granting.{LeavesOut, StaysBut}
@@ -111,22 +111,22 @@ module _ (old new : List Window) (l : LinkState) (long : length new ≡ length o
   sleeps_on w (writes some wants) = writes some wants
   sleeps_on w (waits none wants waiting) = waits none wants (waits_on old new l.session.state long alike waiting)
 
-  settled_on : (has_ended : Bool) (w : Interest) → IsSettled old has_ended l w → IsSettled new has_ended l w
-  settled_on has_ended w settled = record {
-    stands = λ c. settled.stands (was_closable has_ended c);
-    sleeps = sleeps_on w settled.sleeps;
-    filled = λ room. elim (settled.filled room) [
+  updated_on : (has_ended : Bool) (w : Interest) → IsUpToDate old has_ended l w → IsUpToDate new has_ended l w
+  updated_on has_ended w up_to_date = record {
+    stands = λ c. up_to_date.stands (was_closable has_ended c);
+    sleeps = sleeps_on w up_to_date.sleeps;
+    filled = λ room. elim (up_to_date.filled room) [
       | inl waiting ↦ inl (waits_on old new l.session.state long alike waiting)
       | inr shut ↦ inr shut
     ];
-    reads = settled.reads;
-    streams = settled.streams;
+    reads = up_to_date.reads;
+    streams = up_to_date.streams;
   }
 
 -- A link that is sent no records of the places that got some.
-pub settled_apart : (old new : List Window) (places : Places) (o : Option LinkState) (l : LinkState)
+pub updated_apart : (old new : List Window) (places : Places) (o : Option LinkState) (l : LinkState)
     → length new ≡ length old → StaysBut places old new → LeavesOut places o → o ≡ Some l
-    → (has_ended : Bool) (w : Interest) → IsSettled old has_ended l w → IsSettled new has_ended l w
-settled_apart old new places o l long stays out is =
-    settled_on old new l long (λ streams. alike_by old new l.session.state.grants
+    → (has_ended : Bool) (w : Interest) → IsUpToDate old has_ended l w → IsUpToDate new has_ended l w
+updated_apart old new places o l long stays out is =
+    updated_on old new l long (λ streams. alike_by old new l.session.state.grants
     (λ k g granted. stays k (out l is streams k g granted)))

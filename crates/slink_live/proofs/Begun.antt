@@ -8,7 +8,7 @@ use Rattle.slink_live.specs.Awake.{IsAwake}
 use Rattle.slink_live.specs.Served.{AreEmpty, IsBelow, IsServing, IsSound, LinkState, Matches, ServerState}
 use Rattle.slink_live.specs.Story.{no_event}
 use Rattle.slink_live.proofs.Cuts.{short_none}
-use Rattle.slink_live.proofs.Tending.{free_at}
+use Rattle.slink_live.proofs.Reported.{free_at}
 
 abbrev pub begun : List Window → List (Option LinkState) → ServerState
 begun feed links = record {

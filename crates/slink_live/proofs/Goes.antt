@@ -10,10 +10,10 @@ use Rattle.slink_live.specs.Happening.{Happening, Input, Opened, Received, Emitt
 use Rattle.slink_live.specs.Served.{GoesOn, IsServing, IsSound, LinkState, ServerState, StaysUnread}
 use Rattle.slink_live.specs.Turns.{Closes, HasTurns, IsCalled, ReadsFrom, WritesTo, gives_up, is_full, misses, no_turn}
 use Rattle.slink_live.specs.Turns.{one_turn, reads, stays, takes, too_often}
-use Rattle.slink_live.specs.private.Keeping.{AnswersFault, Tends}
-use Rattle.slink_live.proofs.Settling.{next_awake}
+use Rattle.slink_live.specs.private.Keeping.{AnswersFault, KeepsAwake}
+use Rattle.slink_live.proofs.Updating.{next_awake}
 use Rattle.slink_live.proofs.Slots.{closes_input, closes_none, input_append, quiet_serving}
-use Rattle.slink_live.proofs.Tending.{goes_then}
+use Rattle.slink_live.proofs.Reported.{goes_then}
 
 goes_both : (a b c : List Happening) → GoesOn a b → GoesOn b c → GoesOn a c
 goes_both a b c x y = (x.0 ++ y.0, y.1 ∙ (ap (λ z. z ++ y.0) x.1 ∙ append_assoc a x.0 y.0))
@@ -94,7 +94,7 @@ module _ {s t : ServerState} {first log now : List Happening} (e : Event) (so_fa
   -- and it was done
   module _ {u : ServerState} {last : List Happening} {r : Result (Unit {0}) InputFault}
       (answers : AnswersFault t u now last r) (called : IsCalled e t now last)
-      (tends : (earlier : List Happening) → now ≡ earlier ++ Next e ∷ [] → Tends t u now last) where
+      (keeps_awake : (earlier : List Happening) → now ≡ earlier ++ Next e ∷ [] → KeepsAwake t u now last) where
     turned : (start : List Window) → IsServing start s first → IsAwake s first → HasTurns start first last
     turned start v a = one_turn log last t e (so_far.turns start v a) (so_far.serving start v) (so_far.awake a)
         (subst (λ (x : List Happening). IsCalled e t x last) said called)
@@ -113,10 +113,10 @@ module _ {s t : ServerState} {first log now : List Happening} (e : Event) (so_fa
                 closes_input (now ++ came.0) last came.1 ∙ (input_append now came.0
                     ∙ (ap (λ b. input_of now ++ b) (came.2 at.0) ∙ (append-nil (input_of now) ∙ at.1))),
               );
-          awake = λ a. (tends log said).awake (said_awake a);
+          awake = λ a. (keeps_awake log said).awake (said_awake a);
           turns = turned;
           closed = λ start v a. goes_then (said_closed start v a)
-              ((tends log said).closed start (said_serving start v) (said_awake a));
+              ((keeps_awake log said).closed start (said_serving start v) (said_awake a));
         }
 
 -- nothing comes any more
@@ -135,16 +135,16 @@ served_nothing {s} {t} {first} {log} {now} so_far said = record {
 
 -- the input was given up
 pub served_given : {s t u : ServerState} {first log last : List Happening} {r : Result (Unit {0}) InputFault}
-    → HasServed s t first log → AnswersFault t u log last r → Closes log last → Tends t u log last
+    → HasServed s t first log → AnswersFault t u log last r → Closes log last → KeepsAwake t u log last
     → HasServed s u first last
-served_given {s} {t} {u} {first} {log} {last} so_far answers closes tends = record {
+served_given {s} {t} {u} {first} {log} {last} so_far answers closes keeps_awake = record {
   sound = answers.sound;
   serving = λ start v. answers.serving start (so_far.serving start v);
   grows = goes_both first log last so_far.grows (closes.gone, closes.last_is);
   unread = λ ended.
       let at = so_far.unread ended in (answers.kept at.0, closes_input log last closes ∙ at.1);
-  awake = λ a. tends.awake (so_far.awake a);
+  awake = λ a. keeps_awake.awake (so_far.awake a);
   turns = λ start v a. gives_up log last (so_far.turns start v a) closes;
   closed = λ start v a. goes_then (so_far.closed start v a)
-      (tends.closed start (so_far.serving start v) (so_far.awake a));
+      (keeps_awake.closed start (so_far.serving start v) (so_far.awake a));
 }

@@ -9,7 +9,7 @@ pub mod Sends
 pub mod Turning
 pub mod Fairness
 pub mod Losing
-pub mod Tending
+pub mod Reported
 pub mod Apart
 pub mod Moving
 pub mod Granting
@@ -20,5 +20,5 @@ pub mod Stories
 pub mod Slots
 pub mod Takings
 pub mod Steps
-pub mod Settling
+pub mod Updating
 pub mod Goes

@@ -14,22 +14,22 @@ use Rattle.slink_live.specs.Served.{IntakeState, IsServing, IsSound, ServerState
 use Rattle.slink_live.specs.Turns.{Closes}
 use Rattle.slink_live.specs.private.Cutting.{Cuts, CutsOff}
 use Rattle.slink_live.specs.private.Granting.{StaysBut}
-use Rattle.slink_live.specs.private.Keeping.{AnswersFault, EndsInput, KeepsServing, Tends, TendsAnew, TendsBut}
+use Rattle.slink_live.specs.private.Keeping.{AnswersFault, EndsInput, KeepsServing, KeepsAwake, AwakensAnew, AwakensThose}
 use Rattle.slink_live.proofs.Fed.{below_more, places_fed}
 use Rattle.slink_live.proofs.Cuts.{cut_below, cut_few, cut_fits, cuts_on, short_none}
-use Rattle.slink_live.proofs.Settling.{input_ends, input_tends, tends_end, tends_same}
+use Rattle.slink_live.proofs.Updating.{input_ends, input_tends, tends_end, tends_same}
 use Rattle.slink_live.proofs.Slots.{closes_input, closes_none, input_append, story_elsewhere}
 use Rattle.slink_live.proofs.Steps.{answers_end, ended, sound_in}
 
 -- The input is read no more, and what is wrong with it is answered.
 pub ends_input : {s t : ServerState} {log last : List Happening} {r : Result (Unit {0}) InputFault}
-    → KeepsServing (ended s) t log last → Closes log last → TendsAnew (ended s) t log last
+    → KeepsServing (ended s) t log last → Closes log last → AwakensAnew (ended s) t log last
     → IfErr r (λ e. (start : List Window) → IsServing start s log → IsInputFault (places_of start) (input_of last) e)
     → EndsInput s t log last r
-ends_input keeps closes tends fault = record {
+ends_input keeps closes keeps_awake fault = record {
   answers = answers_end keeps fault;
   closes = closes;
-  tends = tends_end tends;
+  keeps_awake = tends_end keeps_awake;
 }
 
 -- It was read no more before.
@@ -37,7 +37,7 @@ pub nothing_ends : (s : ServerState) (log : List Happening) → IsSound s → En
 nothing_ends s log sound = record {
   answers = record { sound = sound; serving = λ start v. v; fault = tt; ended = tt; kept = λ e. e };
   closes = closes_none log log refl;
-  tends = tends_same s log log refl;
+  keeps_awake = tends_same s log log refl;
 }
 
 -- the server, once the input brought bytes
@@ -154,17 +154,17 @@ module _ {s0 s : ServerState} (same : s0 ≡ s) where
     }
 
     pub taken_tends : (places : Places) → Cuts s0.intake bytes new new.kept → length new.kept < 512
-        → StaysBut places s0.intake.feed new.feed → TendsBut places (with_intake s0 new) t mid last
-        → Tends s t log last
-    taken_tends places cuts short stays but = subst (λ (x : ServerState). Tends x t log last) same
+        → StaysBut places s0.intake.feed new.feed → AwakensThose places (with_intake s0 new) t mid last
+        → KeepsAwake s t log last
+    taken_tends places cuts short stays but = subst (λ (x : ServerState). KeepsAwake x t log last) same
         (input_tends s0 t new (s0.reads + 1) bytes places log mid last now
         (ap length cuts.feed_is ∙ fed_length s0.intake.feed cuts.records) stays (λ start v. taken_serving on sound cuts
         (short_none (places_of s0.intake.feed) new.kept short) now start
         (subst (λ (x : ServerState). IsServing start x log) same v) s0.has_ended (λ e. refl)) but)
 
     pub taken_ends : {fault : InputFault} → CutsOff s0.intake bytes new fault
-        → TendsAnew (ended (with_intake s0 new)) t mid last → Tends s t log last
-    taken_ends off anew = subst (λ (x : ServerState). Tends x t log last) same
+        → AwakensAnew (ended (with_intake s0 new)) t mid last → KeepsAwake s t log last
+    taken_ends off anew = subst (λ (x : ServerState). KeepsAwake x t log last) same
         (input_ends s0 (ended (with_intake s0 new)) t bytes log mid last now (λ start v. taken_serving on sound off.cuts
         off.no_further now start (subst (λ (x : ServerState). IsServing start x log) same v) true
         (λ e. absurd (let bad : true ≡ false = e in cc bad))) anew)

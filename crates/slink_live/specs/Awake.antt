@@ -60,7 +60,7 @@ pub data Sleeps (feed : List Window) (l : LinkState) (interest : Interest) : Typ
   waits : l.pending ≡ [] → interest.writes ≡ false → IsWaiting feed l.session.state → Sleeps feed l interest
 
 -- A link stands by right, and what is wanted of it was reported to the device.
-pub record IsSettled (feed : List Window) (has_ended : Bool) (l : LinkState) (interest : Interest) : Type 0 where
+pub record IsUpToDate (feed : List Window) (has_ended : Bool) (l : LinkState) (interest : Interest) : Type 0 where
   pub stands : ¬ (IsClosable feed has_ended l)
   pub sleeps : Sleeps feed l interest
   pub filled : IsFilled feed l
@@ -70,7 +70,7 @@ pub record IsSettled (feed : List Window) (has_ended : Bool) (l : LinkState) (in
 -- So it is with the link in a slot, where one stands.
 abbrev pub IsAwakeIn : ServerState → List Happening → ℕ → Type 0
 IsAwakeIn s log k = (l : LinkState) → get_or s.links k None ≡ Some l
-    → IsSettled s.intake.feed s.has_ended l (last_interest k log)
+    → IsUpToDate s.intake.feed s.has_ended l (last_interest k log)
 
 -- whether a slot is free
 abbrev pub has_free : List (Option LinkState) → Bool

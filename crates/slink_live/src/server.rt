@@ -14,8 +14,8 @@ ghost use Rattle.slink_live.specs.Served.{AreEmpty, GoesOn, IsBelow, IsFinished,
 ghost use Rattle.slink_live.specs.Served.{StaysUnread};
 ghost use Rattle.slink_live.specs.private.Calling.{IfRested};
 ghost use Rattle.slink_live.specs.Turns.{Closes, HasTurns, IsCalled, Opens, ReadsFrom, ReadsInput, WritesTo};
-ghost use Rattle.slink_live.specs.private.Keeping.{AnswersFault, EndsInput, KeepsServing, Settles, Tends, TendsAll};
-ghost use Rattle.slink_live.specs.private.Keeping.{TendsAnew, TendsBut};
+ghost use Rattle.slink_live.specs.private.Keeping.{AnswersFault, EndsInput, KeepsServing, Updates, KeepsAwake, AwakensAll};
+ghost use Rattle.slink_live.specs.private.Keeping.{AwakensAnew, AwakensThose};
 
 use crate::intake::Intake;
 use crate::link::{Link, Update};
@@ -141,8 +141,8 @@ impl Server {
         requires { IsSound self.old }
         ensures answers { AnswersFault self.old self.new (R.log ready.old) (R.log ready.new) result }
         ensures called { IsCalled event self.old (R.log ready.old) (R.log ready.new) }
-        ensures tends { (earlier : List Happening) → R.log ready.old ≡ earlier ++ Next event ∷ []
-            → Tends self.old self.new (R.log ready.old) (R.log ready.new) }
+        ensures keeps_awake { (earlier : List Happening) → R.log ready.old ≡ earlier ++ Next event ∷ []
+            → KeepsAwake self.old self.new (R.log ready.old) (R.log ready.new) }
     {
         match event {
             Event::Input => return self.on_input(ready),
@@ -162,7 +162,7 @@ impl Server {
         requires { IsSound self.old }
         ensures answers { AnswersFault self.old self.new (R.log ready.old) (R.log ready.new) result }
         ensures called { ReadsInput self.old (R.log ready.old) (R.log ready.new) }
-        ensures tends { Tends self.old self.new (R.log ready.old) (R.log ready.new) }
+        ensures keeps_awake { KeepsAwake self.old self.new (R.log ready.old) (R.log ready.new) }
     {
         if self.has_ended {
             return Ok(());
@@ -230,7 +230,7 @@ impl Server {
         ensures keeps { KeepsServing (record self.old { has_ended = true }) self.new (R.log ready.old)
             (R.log ready.new) }
         ensures closes { Closes (R.log ready.old) (R.log ready.new) }
-        ensures tends { TendsAnew (record self.old { has_ended = true }) self.new (R.log ready.old)
+        ensures keeps_awake { AwakensAnew (record self.old { has_ended = true }) self.new (R.log ready.old)
             (R.log ready.new) }
     {
         self.has_ended = true;
@@ -244,7 +244,7 @@ impl Server {
         requires { IsSound self.old }
         ensures keeps { KeepsServing self.old self.new (R.log ready.old) (R.log ready.new) }
         ensures called { Opens self.old (R.log ready.old) (R.log ready.new) }
-        ensures tends { Tends self.old self.new (R.log ready.old) (R.log ready.new) }
+        ensures keeps_awake { KeepsAwake self.old self.new (R.log ready.old) (R.log ready.new) }
     {
         match self.free_slot() {
             Some(slot) => self.take(slot, ready),
@@ -259,7 +259,7 @@ impl Server {
         requires free { IsFirstFree self.old.links slot }
         ensures keeps { KeepsServing self.old self.new (R.log ready.old) (R.log ready.new) }
         ensures called { Opens self.old (R.log ready.old) (R.log ready.new) }
-        ensures tends { Tends self.old self.new (R.log ready.old) (R.log ready.new) }
+        ensures keeps_awake { KeepsAwake self.old self.new (R.log ready.old) (R.log ready.new) }
     {
         if ready.accept(slot) {
             self.links.put(slot, Link::new());
@@ -297,7 +297,7 @@ impl Server {
         requires { IsSound self.old }
         ensures keeps { KeepsServing self.old self.new (R.log ready.old) (R.log ready.new) }
         ensures called { ReadsFrom (get_or self.old.links slot None) slot (R.log ready.old) (R.log ready.new) }
-        ensures tends { Tends self.old self.new (R.log ready.old) (R.log ready.new) }
+        ensures keeps_awake { KeepsAwake self.old self.new (R.log ready.old) (R.log ready.new) }
     {
         if slot < self.links.len() {
             self.links.receive(slot, self.intake.feed(), ready);
@@ -310,7 +310,7 @@ impl Server {
         requires { IsSound self.old }
         ensures keeps { KeepsServing self.old self.new (R.log ready.old) (R.log ready.new) }
         ensures called { WritesTo (get_or self.old.links slot None) slot (R.log ready.old) (R.log ready.new) }
-        ensures tends { Tends self.old self.new (R.log ready.old) (R.log ready.new) }
+        ensures keeps_awake { KeepsAwake self.old self.new (R.log ready.old) (R.log ready.new) }
     {
         if slot < self.links.len() {
             if self.links.send(slot, ready) {
@@ -326,8 +326,8 @@ impl Server {
         requires { IsSound self.old }
         ensures keeps { KeepsServing self.old self.new (R.log ready.old) (R.log ready.new) }
         ensures closes { Closes (R.log ready.old) (R.log ready.new) }
-        ensures tends { (earlier : List Happening) → R.log ready.old ≡ earlier ++ Next (Event.Gone slot) ∷ []
-            → Tends self.old self.new (R.log ready.old) (R.log ready.new) }
+        ensures keeps_awake { (earlier : List Happening) → R.log ready.old ≡ earlier ++ Next (Event.Gone slot) ∷ []
+            → KeepsAwake self.old self.new (R.log ready.old) (R.log ready.new) }
     {
         if slot < self.links.len() {
             self.close(slot, ready);
@@ -351,7 +351,7 @@ impl Server {
         requires { IsSound self.old }
         ensures keeps { KeepsServing self.old self.new (R.log ready.old) (R.log ready.new) }
         ensures closes { Closes (R.log ready.old) (R.log ready.new) }
-        ensures tends { TendsAll self.old self.new (R.log ready.old) (R.log ready.new) }
+        ensures keeps_awake { AwakensAll self.old self.new (R.log ready.old) (R.log ready.new) }
     {
         for slot in 0..self.links.len() {
             self.update(slot, ready);
@@ -364,7 +364,7 @@ impl Server {
         requires { IsSound self.old }
         ensures keeps { KeepsServing self.old self.new (R.log ready.old) (R.log ready.new) }
         ensures closes { Closes (R.log ready.old) (R.log ready.new) }
-        ensures tends { TendsBut places self.old self.new (R.log ready.old) (R.log ready.new) }
+        ensures keeps_awake { AwakensThose places self.old self.new (R.log ready.old) (R.log ready.new) }
     {
         for slot in 0..self.links.len() {
             if self.links.waits_for(slot, places) {
@@ -380,7 +380,7 @@ impl Server {
         requires within { slot < length self.old.links }
         ensures keeps { KeepsServing self.old self.new (R.log ready.old) (R.log ready.new) }
         ensures closes { Closes (R.log ready.old) (R.log ready.new) }
-        ensures settles { Settles slot self.old self.new (R.log ready.old) (R.log ready.new) }
+        ensures updates { Updates slot self.old self.new (R.log ready.old) (R.log ready.new) }
     {
         match self.links.fill(slot, self.intake.feed(), self.has_ended) {
             Update::Empty => {}
@@ -395,8 +395,8 @@ impl Server {
         requires within { slot < length self.old.links }
         ensures keeps { KeepsServing self.old self.new (R.log ready.old) (R.log ready.new) }
         ensures closes { Closes (R.log ready.old) (R.log ready.new) }
-        ensures settles { IfRested self.old.intake.feed (get_or self.old.links slot None)
-            → Settles slot self.old self.new (R.log ready.old) (R.log ready.new) }
+        ensures updates { IfRested self.old.intake.feed (get_or self.old.links slot None)
+            → Updates slot self.old self.new (R.log ready.old) (R.log ready.new) }
     {
         match self.links.look(slot, self.has_ended) {
             Update::Empty => {}

@@ -8,7 +8,7 @@ use Rattle.slink_feed.specs.Session.{Fits, IsWaiting, sent, sent_bytes}
 use Rattle.slink_feed.specs.Window.{Window}
 use Rattle.slink_live.specs.declared.link.Update.{Update}
 use Rattle.slink_live.specs.declared.link.Update.TheVariants.{Empty, Wants, Closes}
-use Rattle.slink_live.specs.Awake.{IsClosable, IsLost, IsSettled}
+use Rattle.slink_live.specs.Awake.{IsClosable, IsLost, IsUpToDate}
 use Rattle.slink_live.specs.Happening.{Happening, Received, Emitted}
 use Rattle.slink_live.specs.Served.{LinkState, link_state}
 use Rattle.slink_live.specs.Story.{Asks}
@@ -58,5 +58,5 @@ IsOutcome feed has_ended None Empty = Unit {0}
 IsOutcome feed has_ended None (Wants interest) = ⊥
 IsOutcome feed has_ended None Closes = ⊥
 IsOutcome feed has_ended (Some l) Empty = ⊥
-IsOutcome feed has_ended (Some l) (Wants interest) = IsSettled feed has_ended l interest
+IsOutcome feed has_ended (Some l) (Wants interest) = IsUpToDate feed has_ended l interest
 IsOutcome feed has_ended (Some l) Closes = IsClosable feed has_ended l

@@ -43,7 +43,7 @@ pub record AnswersFault (old new : ServerState) (before after : List Happening) 
   pub kept : old.has_ended ≡ true → new.has_ended ≡ true
 
 -- A step that settles the link in a slot.
-pub record Settles (j : ℕ) (old new : ServerState) (before after : List Happening) : Type 0 where
+pub record Updates (j : ℕ) (old new : ServerState) (before after : List Happening) : Type 0 where
   -- No link sleeps that didn't in another slot.
   pub links : (k : ℕ) → (k ≢ j → IsAwakeIn old before k) → IsAwakeIn new after k
   -- What has to be reported to the device has been.
@@ -55,25 +55,25 @@ pub record Settles (j : ℕ) (old new : ServerState) (before after : List Happen
   pub others : (k : ℕ) → k ≢ j → get_or new.links k None ≡ get_or old.links k None
 
 -- A step after which no link sleeps, where none slept before.
-pub record Tends (old new : ServerState) (before after : List Happening) : Type 0 where
+pub record KeepsAwake (old new : ServerState) (before after : List Happening) : Type 0 where
   pub awake : IsAwake old before → IsAwake new after
   -- A link is closed by right.
   pub closed : (start : List Window) → IsServing start old before → IsAwake old before
       → Goes (IsClosedRightly start) before after
 
 -- A step after which no link sleeps, whichever slept before, once what has to be was reported to the device.
-pub record TendsAll (old new : ServerState) (before after : List Happening) : Type 0 where
+pub record AwakensAll (old new : ServerState) (before after : List Happening) : Type 0 where
   pub awake : IsReported old before → IsAwake new after
   pub closed : (start : List Window) → IsServing start old before → IsReported old before
       → Goes (IsClosedRightly start) before after
 
 -- A step after which no link sleeps, also where nothing was reported to the device before.
-pub record TendsAnew (old new : ServerState) (before after : List Happening) : Type 0 where
+pub record AwakensAnew (old new : ServerState) (before after : List Happening) : Type 0 where
   pub awake : IsAwake new after
   pub closed : (start : List Window) → IsServing start old before → Goes (IsClosedRightly start) before after
 
 -- A step after which no link sleeps, where none slept before but those that are sent records of some of these places.
-pub record TendsBut (places : Places) (old new : ServerState) (before after : List Happening) : Type 0 where
+pub record AwakensThose (places : Places) (old new : ServerState) (before after : List Happening) : Type 0 where
   pub awake : IsReported old before
       → ((k : ℕ) → LeavesOut places (get_or old.links k None) → IsAwakeIn old before k) → IsAwake new after
   pub closed : (start : List Window) → IsServing start old before → IsReported old before
@@ -84,4 +84,4 @@ pub record EndsInput (old new : ServerState) (before after : List Happening) (re
     : Type 0 where
   pub answers : AnswersFault old new before after result
   pub closes : Closes before after
-  pub tends : Tends old new before after
+  pub keeps_awake : KeepsAwake old new before after

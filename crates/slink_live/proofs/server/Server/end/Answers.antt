@@ -1,5 +1,5 @@
 use Rattle.std.proofs.Common.{ap}
-use Rattle.slink_live.proofs.Settling.{anew_by, end_closes, end_keeps}
+use Rattle.slink_live.proofs.Updating.{anew_by, end_closes, end_keeps}
 use Rattle.slink_live.proofs.Steps.{ended, sound_in}
 use Rattle.slink_live.proofs.server.Server.end.Goals as goal
 
@@ -14,6 +14,6 @@ pub returns-clause-closes : goal.returns-clause-closes
 returns-clause-closes g c =
     end_closes c.leave_input.ensures.log c.wants_links.ensures.log c.update_all.ensures.closes
 
-pub returns-clause-tends : goal.returns-clause-tends
-returns-clause-tends g c =
-    anew_by c.leave_input.ensures.log c.wants_links.ensures.log c.self.view_is c.update_all.ensures.tends
+pub returns-clause-keeps_awake : goal.returns-clause-keeps_awake
+returns-clause-keeps_awake g c =
+    anew_by c.leave_input.ensures.log c.wants_links.ensures.log c.self.view_is c.update_all.ensures.keeps_awake

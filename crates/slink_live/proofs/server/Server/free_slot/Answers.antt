@@ -1,7 +1,7 @@
 use Rattle.std.proofs.Common.{◌≡◌, ◌≢◌, ◌∙◌, ap, arith, length, subst, sym, None, get_or}
 use Rattle.slink_live.specs.Served.{ServerState}
 use Rattle.slink_live.proofs.Steps.{none_at, taken_at, taken_more}
-use Rattle.slink_live.proofs.Tending.{all_taken, none_free}
+use Rattle.slink_live.proofs.Reported.{all_taken, none_free}
 use Rattle.slink_live.proofs.server.Server.free_slot.Goals as goal
 
 pub returns-then-not-is_taken-clause-some : goal.returns-then-not-is_taken-clause-some

@@ -4,7 +4,7 @@ use Rattle.slink_live.proofs.server.Server.on_end.Goals as goal
 
 pub returns : goal.returns
 returns g c =
-    ends_input c.end.ensures.keeps c.end.ensures.closes c.end.ensures.tends
+    ends_input c.end.ensures.keeps c.end.ensures.closes c.end.ensures.keeps_awake
     (if_err c.end-ending.result _ _
     (λ e is start v. cut_off_fault c.self.view_is c.end.ensures.closes start v c.requires c.if-self.false e is)
     c.end-ending.ensures.err)

@@ -3,7 +3,7 @@ use Rattle.slink_live.proofs.server.Server.on_failure.Goals as goal
 
 pub returns : goal.returns
 returns g c =
-    ends_input c.end.ensures.keeps c.end.ensures.closes c.end.ensures.tends
+    ends_input c.end.ensures.keeps c.end.ensures.closes c.end.ensures.keeps_awake
     (λ start v. failed_fault c.self.view_is c.end.ensures.closes start v c.failure-fault.result
     c.failure-fault.ensures)
 

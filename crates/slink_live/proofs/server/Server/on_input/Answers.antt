@@ -1,7 +1,7 @@
 use Rattle.std.proofs.Common.{refl, List, subst, ◌≡◌, ◌≤◌, arith, rules, length, take, true, false}
 use Rattle.slink_live.specs.Happening.{Happening}
 use Rattle.slink_live.specs.Turns.{Closes, reads}
-use Rattle.slink_live.proofs.Settling.{tends_same}
+use Rattle.slink_live.proofs.Updating.{tends_same}
 use Rattle.slink_live.proofs.Steps.{few_records, sound_in}
 use Rattle.slink_live.proofs.Takings.{taken_ends, taken_err, taken_ok, taken_sound, taken_tends}
 use Rattle.slink_live.proofs.server.Server.on_input.Goals as goal
@@ -50,16 +50,16 @@ returns-in-Err-clause-called g c =
     (subst (λ (x : List Happening). Closes x (g.R.Ready.log c.end.new.ready)) c.read_input-count.ensures.log
     c.end.ensures.closes)
 
-pub returns-in-Ok-clause-tends : goal.returns-in-Ok-clause-tends
-returns-in-Ok-clause-tends g c =
+pub returns-in-Ok-clause-keeps_awake : goal.returns-in-Ok-clause-keeps_awake
+returns-in-Ok-clause-keeps_awake g c =
     taken_tends c.self.view_is c.if-self.false c.requires c.read_input-count.ensures.log c.in-Ok.places
-    c.in-Ok.ensures.ok c.in-Ok.ensures.short c.in-Ok.ensures.others c.update_those.ensures.tends
+    c.in-Ok.ensures.ok c.in-Ok.ensures.short c.in-Ok.ensures.others c.update_those.ensures.keeps_awake
 
-pub returns-in-Err-clause-tends : goal.returns-in-Err-clause-tends
-returns-in-Err-clause-tends g c =
+pub returns-in-Err-clause-keeps_awake : goal.returns-in-Err-clause-keeps_awake
+returns-in-Err-clause-keeps_awake g c =
     taken_ends c.self.view_is c.if-self.false c.requires c.read_input-count.ensures.log c.in-Err.ensures.err
-    c.end.ensures.tends
+    c.end.ensures.keeps_awake
 
-pub returns-then-self-clause-tends : goal.returns-then-self-clause-tends
-returns-then-self-clause-tends g c =
+pub returns-then-self-clause-keeps_awake : goal.returns-then-self-clause-keeps_awake
+returns-then-self-clause-keeps_awake g c =
     tends_same c.args.self.now (g.R.Ready.log c.args.ready.now) (g.R.Ready.log c.args.ready.now) refl

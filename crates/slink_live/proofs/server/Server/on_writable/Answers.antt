@@ -1,6 +1,6 @@
 use Rattle.std.proofs.Common.{arith, refl}
 use Rattle.slink_live.proofs.Moving.{rests_on, still_within, taken_on, takes_on, writes_on}
-use Rattle.slink_live.proofs.Settling.{tends_same}
+use Rattle.slink_live.proofs.Updating.{tends_same}
 use Rattle.slink_live.proofs.Steps.{keeps_both}
 use Rattle.slink_live.proofs.server.Server.on_writable.Goals as goal
 
@@ -30,10 +30,10 @@ returns-then-send-clause-called g c =
     writes_on c.self.view_is c.args.slot (omega (arith, c.if-slot-len.true, c.len.ensures)) c.requires
     c.send.ensures.taken c.update_at_rest.ensures.closes
 
-pub returns-then-send-clause-tends : goal.returns-then-send-clause-tends
-returns-then-send-clause-tends g c =
+pub returns-then-send-clause-keeps_awake : goal.returns-then-send-clause-keeps_awake
+returns-then-send-clause-keeps_awake g c =
     rests_on c.self.view_is c.args.slot (omega (arith, c.if-slot-len.true, c.len.ensures)) c.requires
-    c.send.ensures.taken c.if-send.ensures.rests c.update_at_rest.ensures.settles
+    c.send.ensures.taken c.if-send.ensures.rests c.update_at_rest.ensures.updates
 
 pub returns-else-send-clause-keeps : goal.returns-else-send-clause-keeps
 returns-else-send-clause-keeps g c =
@@ -45,11 +45,11 @@ returns-else-send-clause-called g c =
     writes_on c.self.view_is c.args.slot (omega (arith, c.if-slot-len.true, c.len.ensures)) c.requires
     c.send.ensures.taken c.update.ensures.closes
 
-pub returns-else-send-clause-tends : goal.returns-else-send-clause-tends
-returns-else-send-clause-tends g c =
+pub returns-else-send-clause-keeps_awake : goal.returns-else-send-clause-keeps_awake
+returns-else-send-clause-keeps_awake g c =
     takes_on c.self.view_is c.args.slot (omega (arith, c.if-slot-len.true, c.len.ensures)) c.requires
-    c.send.ensures.taken c.update.ensures.settles
+    c.send.ensures.taken c.update.ensures.updates
 
-pub returns-else-slot-len-clause-tends : goal.returns-else-slot-len-clause-tends
-returns-else-slot-len-clause-tends g c =
+pub returns-else-slot-len-clause-keeps_awake : goal.returns-else-slot-len-clause-keeps_awake
+returns-else-slot-len-clause-keeps_awake g c =
     tends_same c.args.self.now (g.R.Ready.log c.args.ready.now) (g.R.Ready.log c.args.ready.now) refl

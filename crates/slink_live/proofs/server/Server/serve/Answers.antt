@@ -29,7 +29,7 @@ pub returns-in_err-step-in_default : goal.returns-in_err-step-in_default
 returns-in_err-step-in_default g c =
     let p = err_from_is_err_and c.from_residual.result c.from_residual.ensures.1 in
     let on = served_on c.next.result c.loop-turn.invariant c.next.ensures.log c.step.ensures.answers
-    c.step.ensures.called c.step.ensures.tends in
+    c.step.ensures.called c.step.ensures.keeps_awake in
     let answers = c.in_err-step-in_default.ensures.answers in
     record {
       sound = on.sound;
@@ -48,12 +48,12 @@ returns-in_err-step-in_default g c =
 pub loop-turn-preserved : goal.loop-turn-preserved
 loop-turn-preserved g c =
     served_on c.next.result c.loop-turn.invariant c.next.ensures.log c.step.ensures.answers c.step.ensures.called
-    c.step.ensures.tends
+    c.step.ensures.keeps_awake
 
 pub returns : goal.returns
 returns g c =
     let answers = c.give_up.ensures.answers in
-    let on = served_given c.loop-turn.invariant answers c.give_up.ensures.closes c.give_up.ensures.tends in
+    let on = served_given c.loop-turn.invariant answers c.give_up.ensures.closes c.give_up.ensures.keeps_awake in
     record {
       sound = on.sound;
       serving = on.serving;

@@ -1,6 +1,6 @@
 use Rattle.std.proofs.Common.{◌∙◌, ◌++◌, ◌∷◌, [], ap, refl, subst, sym}
 use Rattle.slink_live.specs.Happening.{Next}
-use Rattle.slink_live.proofs.Settling.{tends_same}
+use Rattle.slink_live.proofs.Updating.{tends_same}
 use Rattle.slink_live.specs.declared.ready.Event.{Event}
 use Rattle.slink_live.specs.Turns.{IsCalled}
 use Rattle.slink_live.proofs.server.Server.step.Goals as goal
@@ -10,12 +10,12 @@ returns-in-Input-clause-called g c =
     subst (λ (e : Event). IsCalled e c.args.self.now (g.R.Ready.log c.args.ready.now)
     (g.R.Ready.log c.on_input.new.ready)) (sym c.in-Input.is) c.on_input.ensures.called
 
-pub returns-in-Gone-clause-tends : goal.returns-in-Gone-clause-tends
-returns-in-Gone-clause-tends g c earlier said =
-    c.on_gone.ensures.tends earlier (said ∙ ap (λ (e : Event). earlier ++ Next e ∷ []) c.in-Gone.is)
+pub returns-in-Gone-clause-keeps_awake : goal.returns-in-Gone-clause-keeps_awake
+returns-in-Gone-clause-keeps_awake g c earlier said =
+    c.on_gone.ensures.keeps_awake earlier (said ∙ ap (λ (e : Event). earlier ++ Next e ∷ []) c.in-Gone.is)
 
-pub returns-in-Nothing-clause-tends : goal.returns-in-Nothing-clause-tends
-returns-in-Nothing-clause-tends g c earlier said =
+pub returns-in-Nothing-clause-keeps_awake : goal.returns-in-Nothing-clause-keeps_awake
+returns-in-Nothing-clause-keeps_awake g c earlier said =
     tends_same c.args.self.now (g.R.Ready.log c.args.ready.now) (g.R.Ready.log c.args.ready.now) refl
 
 pub returns-in-Dialled-clause-called : goal.returns-in-Dialled-clause-called

@@ -3,7 +3,7 @@ use Rattle.slink_live.specs.Happening.{Happening, Missed, Opened, WantsLinks}
 use Rattle.slink_live.specs.Served.{ServerState}
 use Rattle.slink_live.specs.Turns.{misses, takes}
 use Rattle.slink_live.proofs.Moving.{opened_on, opens_on, within_on}
-use Rattle.slink_live.proofs.Settling.{missed_tends}
+use Rattle.slink_live.proofs.Updating.{missed_tends}
 use Rattle.slink_live.proofs.Slots.{closes_both, closes_none, closes_reported}
 use Rattle.slink_live.proofs.Steps.{keeps_both, keeps_quiet, keeps_same}
 use Rattle.slink_live.proofs.server.Server.take.Goals as goal
@@ -39,13 +39,13 @@ returns-then-accept-clause-called g c =
     ∙ ap (λ (x : List Happening). x ++ WantsLinks c.wants_links.result ∷ []) c.if-accept.ensures.log))
     c.update.ensures.closes)
 
-pub returns-then-accept-clause-tends : goal.returns-then-accept-clause-tends
-returns-then-accept-clause-tends g c =
+pub returns-then-accept-clause-keeps_awake : goal.returns-then-accept-clause-keeps_awake
+returns-then-accept-clause-keeps_awake g c =
     opens_on c.self.view_is c.args.slot
     (subst (λ (x : ServerState). c.args.slot < length x.links) (sym c.self.view_is) c.requires.free.within)
     c.requires.sound c.new.result c.put.ensures c.requires.free.free c.new.ensures.session c.new.ensures.pending
     c.new.ensures.ring (c.new.ensures.fits c.args.self.now.intake.feed) c.if-accept.ensures.log
-    c.wants_links-then-accept.ensures.log c.wants_links.ensures c.update.ensures.settles
+    c.wants_links-then-accept.ensures.log c.wants_links.ensures c.update.ensures.updates
 
 pub returns-else-accept-clause-keeps : goal.returns-else-accept-clause-keeps
 returns-else-accept-clause-keeps g c =
@@ -58,7 +58,7 @@ returns-else-accept-clause-called g c =
     (closes_none ((g.R.Ready.log c.args.ready.now) ++ Missed c.args.slot ∷ []) (g.R.Ready.log c.accept.new.self)
     c.if-accept.ensures.log)
 
-pub returns-else-accept-clause-tends : goal.returns-else-accept-clause-tends
-returns-else-accept-clause-tends g c =
+pub returns-else-accept-clause-keeps_awake : goal.returns-else-accept-clause-keeps_awake
+returns-else-accept-clause-keeps_awake g c =
     missed_tends c.args.self.now c.args.slot (g.R.Ready.log c.args.ready.now) (g.R.Ready.log c.accept.new.self)
     c.if-accept.ensures.log

@@ -24,8 +24,8 @@ pub returns-in-Empty-clause-closes : goal.returns-in-Empty-clause-closes
 returns-in-Empty-clause-closes g c =
     closes_none (g.R.Ready.log c.args.ready.now) (g.R.Ready.log c.args.ready.now) refl
 
-pub returns-in-Empty-clause-settles : goal.returns-in-Empty-clause-settles
-returns-in-Empty-clause-settles g c =
+pub returns-in-Empty-clause-updates : goal.returns-in-Empty-clause-updates
+returns-in-Empty-clause-updates g c =
     empty_on c.self.view_is c.args.slot
     (subst (λ (x : ServerState). c.args.slot < length x.links) (sym c.self.view_is) c.requires.within)
     c.requires.sound c.feed.ensures c.in-Empty.ensures
@@ -42,8 +42,8 @@ returns-in-Wants-clause-closes g c =
     closes_reported (g.R.Ready.log c.args.ready.now) (g.R.Ready.log c.wants.new.self)
     (Wants c.args.slot c.in-Wants.interest) tt c.wants.ensures.log
 
-pub returns-in-Wants-clause-settles : goal.returns-in-Wants-clause-settles
-returns-in-Wants-clause-settles g c =
+pub returns-in-Wants-clause-updates : goal.returns-in-Wants-clause-updates
+returns-in-Wants-clause-updates g c =
     wants_on c.self.view_is c.args.slot
     (subst (λ (x : ServerState). c.args.slot < length x.links) (sym c.self.view_is) c.requires.within)
     c.requires.sound c.in-Wants.interest c.feed.ensures c.in-Wants.ensures c.wants.ensures.log
@@ -61,8 +61,8 @@ pub returns-in-Closes-clause-closes : goal.returns-in-Closes-clause-closes
 returns-in-Closes-clause-closes g c =
     closes_gone c.args.slot (g.R.Ready.log c.args.ready.now) (g.R.Ready.log c.close.new.ready) _ c.close.ensures.log
 
-pub returns-in-Closes-clause-settles : goal.returns-in-Closes-clause-settles
-returns-in-Closes-clause-settles g c =
+pub returns-in-Closes-clause-updates : goal.returns-in-Closes-clause-updates
+returns-in-Closes-clause-updates g c =
     closes_on c.self.view_is c.args.slot
     (subst (λ (x : ServerState). c.args.slot < length x.links) (sym c.self.view_is) c.requires.within)
     c.requires.sound c.close.ensures.links c.close.ensures.log c.feed.ensures c.in-Closes.ensures

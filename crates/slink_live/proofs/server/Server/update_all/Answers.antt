@@ -1,6 +1,6 @@
 use Rattle.std.proofs.Common.{arith, ap, length, refl}
 use Rattle.slink_live.specs.Served.{ServerState}
-use Rattle.slink_live.proofs.Settling.{settled_all, settled_more, settled_none}
+use Rattle.slink_live.proofs.Updating.{updated_all, updated_more, updated_none}
 use Rattle.slink_live.proofs.Slots.{closes_both, closes_none}
 use Rattle.slink_live.proofs.Steps.{keeps_both, keeps_same}
 use Rattle.slink_live.proofs.server.Server.update_all.Goals as goal
@@ -9,7 +9,7 @@ pub loop-slot-init : goal.loop-slot-init
 loop-slot-init g c = record {
   keeps = keeps_same c.args.self.now _ _ refl c.requires;
   closes = closes_none (g.R.Ready.log c.args.ready.now) (g.R.Ready.log c.args.ready.now) refl;
-  settled = settled_none (λ k. ⊥) c.args.self.now (g.R.Ready.log c.args.ready.now);
+  up_to_date = updated_none (λ k. ⊥) c.args.self.now (g.R.Ready.log c.args.ready.now);
 }
 
 pub update-requires : goal.update-requires
@@ -29,14 +29,14 @@ loop-slot-preserved g c = record {
   keeps = keeps_both c.loop-slot.invariant.keeps c.update.ensures.keeps;
   closes = closes_both (g.R.Ready.log c.args.ready.now) (g.R.Ready.log c.loop-slot.ready)
       (g.R.Ready.log c.update.new.ready) c.loop-slot.invariant.closes c.update.ensures.closes;
-  settled = settled_more c.args.self.now c.loop-slot.self c.update.new.self c.loop-slot.slot
+  up_to_date = updated_more c.args.self.now c.loop-slot.self c.update.new.self c.loop-slot.slot
       (g.R.Ready.log c.args.ready.now) (g.R.Ready.log c.loop-slot.ready) (g.R.Ready.log c.update.new.ready)
-      c.loop-slot.invariant.keeps c.loop-slot.invariant.settled c.update.ensures.settles;
+      c.loop-slot.invariant.keeps c.loop-slot.invariant.up_to_date c.update.ensures.updates;
 }
 
-pub returns-clause-tends : goal.returns-clause-tends
-returns-clause-tends g c =
-    settled_all c.args.self.now c.loop-slot.self c.loop-slot.slot (g.R.Ready.log c.args.ready.now)
+pub returns-clause-keeps_awake : goal.returns-clause-keeps_awake
+returns-clause-keeps_awake g c =
+    updated_all c.args.self.now c.loop-slot.self c.loop-slot.slot (g.R.Ready.log c.args.ready.now)
     (g.R.Ready.log c.loop-slot.ready)
     (omega (
       arith,
@@ -44,4 +44,4 @@ returns-clause-tends g c =
       c.len-slot-end.ensures,
       c.loop-slot.invariant.keeps.stays.slots,
       ap (λ (s : ServerState). length s.links) c.self.view_is,
-    )) c.loop-slot.invariant.settled
+    )) c.loop-slot.invariant.up_to_date

@@ -3,11 +3,11 @@ use Rattle.slink_live.specs.Served.{ServerState}
 use Rattle.slink_live.specs.Happening.{Wants}
 use Rattle.slink_live.proofs.Slots.{closes_reported}
 use Rattle.slink_live.proofs.Steps.{closed_keeps, closes_gone, keeps_quiet, keeps_same, same_default}
-use Rattle.slink_live.proofs.Settling.{look_closes, look_empty, look_wants}
+use Rattle.slink_live.proofs.Updating.{look_closes, look_empty, look_wants}
 use Rattle.slink_live.proofs.server.Server.update_at_rest.Goals as goal
 
-pub returns-in-Empty-clause-settles : goal.returns-in-Empty-clause-settles
-returns-in-Empty-clause-settles g c =
+pub returns-in-Empty-clause-updates : goal.returns-in-Empty-clause-updates
+returns-in-Empty-clause-updates g c =
     look_empty c.self.view_is c.args.slot
     (subst (λ (x : ServerState). c.args.slot < length x.links) (sym c.self.view_is) c.requires.within)
     (same_default c.self.inside.links c.args.slot None (get_or c.self.inside.links c.args.slot None)
@@ -24,8 +24,8 @@ returns-in-Wants-clause-closes g c =
     closes_reported (g.R.Ready.log c.args.ready.now) (g.R.Ready.log c.wants.new.self)
     (Wants c.args.slot c.in-Wants.interest) tt c.wants.ensures.log
 
-pub returns-in-Wants-clause-settles : goal.returns-in-Wants-clause-settles
-returns-in-Wants-clause-settles g c =
+pub returns-in-Wants-clause-updates : goal.returns-in-Wants-clause-updates
+returns-in-Wants-clause-updates g c =
     look_wants c.self.view_is c.args.slot
     (subst (λ (x : ServerState). c.args.slot < length x.links) (sym c.self.view_is) c.requires.within)
     (same_default c.self.inside.links c.args.slot None (get_or c.self.inside.links c.args.slot None)
@@ -43,8 +43,8 @@ pub returns-in-Closes-clause-closes : goal.returns-in-Closes-clause-closes
 returns-in-Closes-clause-closes g c =
     closes_gone c.args.slot (g.R.Ready.log c.args.ready.now) (g.R.Ready.log c.close.new.ready) _ c.close.ensures.log
 
-pub returns-in-Closes-clause-settles : goal.returns-in-Closes-clause-settles
-returns-in-Closes-clause-settles g c =
+pub returns-in-Closes-clause-updates : goal.returns-in-Closes-clause-updates
+returns-in-Closes-clause-updates g c =
     look_closes c.self.view_is c.args.slot
     (subst (λ (x : ServerState). c.args.slot < length x.links) (sym c.self.view_is) c.requires.within)
     (same_default c.self.inside.links c.args.slot None (get_or c.self.inside.links c.args.slot None)

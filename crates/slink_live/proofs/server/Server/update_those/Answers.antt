@@ -1,7 +1,7 @@
 use Rattle.std.proofs.Common.{arith, ap, length, refl, subst, None, get_or}
 use Rattle.slink_live.specs.Served.{ServerState}
 use Rattle.slink_live.specs.private.Granting.{LeavesOut}
-use Rattle.slink_live.proofs.Settling.{settled_but, settled_more, settled_none, settled_past}
+use Rattle.slink_live.proofs.Updating.{updated_but, updated_more, updated_none, updated_past}
 use Rattle.slink_live.proofs.Slots.{closes_both, closes_none}
 use Rattle.slink_live.proofs.Steps.{keeps_both, keeps_same}
 use Rattle.slink_live.proofs.server.Server.update_those.Goals.{then-waits_for, else-waits_for}
@@ -11,7 +11,7 @@ pub loop-slot-init : goal.loop-slot-init
 loop-slot-init g c = record {
   keeps = keeps_same c.args.self.now _ _ refl c.requires;
   closes = closes_none (g.R.Ready.log c.args.ready.now) (g.R.Ready.log c.args.ready.now) refl;
-  settled = settled_none (λ k. LeavesOut c.args.places (get_or c.args.self.now.links k None)) c.args.self.now
+  up_to_date = updated_none (λ k. LeavesOut c.args.places (get_or c.args.self.now.links k None)) c.args.self.now
       (g.R.Ready.log c.args.ready.now);
 }
 
@@ -27,9 +27,9 @@ update-requires g c = record {
   );
 }
 
-pub returns-clause-tends : goal.returns-clause-tends
-returns-clause-tends g c =
-    settled_but c.args.places c.args.self.now c.loop-slot.self c.loop-slot.slot (g.R.Ready.log c.args.ready.now)
+pub returns-clause-keeps_awake : goal.returns-clause-keeps_awake
+returns-clause-keeps_awake g c =
+    updated_but c.args.places c.args.self.now c.loop-slot.self c.loop-slot.slot (g.R.Ready.log c.args.ready.now)
     (g.R.Ready.log c.loop-slot.ready)
     (omega (
       arith,
@@ -37,7 +37,7 @@ returns-clause-tends g c =
       c.len-slot-end.ensures,
       c.loop-slot.invariant.keeps.stays.slots,
       ap (λ (s : ServerState). length s.links) c.self.view_is,
-    )) c.loop-slot.invariant.settled
+    )) c.loop-slot.invariant.up_to_date
 
 pub loop-slot-preserved : goal.loop-slot-preserved
 loop-slot-preserved g c = elim c.if-waits_for.branch [
@@ -45,16 +45,16 @@ loop-slot-preserved g c = elim c.if-waits_for.branch [
     keeps = keeps_both c.loop-slot.invariant.keeps w.update.ensures.keeps;
     closes = closes_both (g.R.Ready.log c.args.ready.now) (g.R.Ready.log c.loop-slot.ready)
         (g.R.Ready.log w.update.new.ready) c.loop-slot.invariant.closes w.update.ensures.closes;
-    settled = settled_more c.args.self.now c.loop-slot.self w.update.new.self c.loop-slot.slot
+    up_to_date = updated_more c.args.self.now c.loop-slot.self w.update.new.self c.loop-slot.slot
         (g.R.Ready.log c.args.ready.now) (g.R.Ready.log c.loop-slot.ready) (g.R.Ready.log w.update.new.ready)
-        c.loop-slot.invariant.keeps c.loop-slot.invariant.settled w.update.ensures.settles;
+        c.loop-slot.invariant.keeps c.loop-slot.invariant.up_to_date w.update.ensures.updates;
   })
   | else-waits_for w ↦ rw (w.self-is, w.ready-is) (record {
     keeps = c.loop-slot.invariant.keeps;
     closes = c.loop-slot.invariant.closes;
-    settled = settled_past c.args.self.now c.loop-slot.self c.loop-slot.slot (g.R.Ready.log c.args.ready.now)
-        (g.R.Ready.log c.loop-slot.ready) c.loop-slot.invariant.settled
-        (subst (LeavesOut c.args.places) (c.loop-slot.invariant.settled.rest c.loop-slot.slot (omega arith))
+    up_to_date = updated_past c.args.self.now c.loop-slot.self c.loop-slot.slot (g.R.Ready.log c.args.ready.now)
+        (g.R.Ready.log c.loop-slot.ready) c.loop-slot.invariant.up_to_date
+        (subst (LeavesOut c.args.places) (c.loop-slot.invariant.up_to_date.rest c.loop-slot.slot (omega arith))
         (subst (λ (x : ServerState). LeavesOut c.args.places (get_or x.links c.loop-slot.slot None))
         c.self-in-loop-slot.view_is w.if-waits_for.ensures));
   })

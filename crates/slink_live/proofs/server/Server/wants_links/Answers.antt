@@ -1,5 +1,5 @@
 use Rattle.std.proofs.Common.{◌∙◌}
-use Rattle.slink_live.proofs.Tending.{wants_if}
+use Rattle.slink_live.proofs.Reported.{wants_if}
 use Rattle.slink_live.proofs.server.Server.wants_links.Goals as goal
 
 pub returns : goal.returns

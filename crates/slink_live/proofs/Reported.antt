@@ -6,15 +6,15 @@ use Rattle.std.specs.Option.{is_some}
 use Rattle.std.proofs.lemmas.Bool.Decides.{eqb_tells}
 use Rattle.std.proofs.lemmas.List.{set-get_or}
 use Rattle.slink_feed.specs.Window.{Window}
-use Rattle.slink_live.specs.declared.link.Update.TheVariants as settled
+use Rattle.slink_live.specs.declared.link.Update.TheVariants as up_to_date
 use Rattle.slink_live.specs.declared.ready.Interest.{Interest}
-use Rattle.slink_live.specs.Awake.{Goes, IsAwake, IsAwakeIn, IsClosable, IsClosedRightly, IsSettled, IsReported}
+use Rattle.slink_live.specs.Awake.{Goes, IsAwake, IsAwakeIn, IsClosable, IsClosedRightly, IsUpToDate, IsReported}
 use Rattle.slink_live.specs.Awake.{IsFirstFree, has_free, nothing, further}
 use Rattle.slink_live.specs.Happening.{Happening, Gone, Wants, WantsLinks, first_interest, is_left, left_by, left_from}
 use Rattle.slink_live.specs.Happening.{links_by, links_from, last_interest, interest_after, interest_from, wants_links}
 use Rattle.slink_live.specs.Served.{IsServing, LinkState, ServerState}
 use Rattle.slink_live.specs.private.Calling.{HasFilled, IsOutcome}
-use Rattle.slink_live.specs.private.Keeping.{Settles, Tends}
+use Rattle.slink_live.specs.private.Keeping.{Updates, KeepsAwake}
 use Rattle.slink_live.proofs.Own.{at_self}
 use Rattle.slink_live.proofs.Slots.{not_self}
 
@@ -130,19 +130,19 @@ and_true true = refl
 and_true false = refl
 
 -- an outcome of a link
-empty_none : (feed : List Window) (has_ended : Bool) (o : Option LinkState) → IsOutcome feed has_ended o settled.Empty
+empty_none : (feed : List Window) (has_ended : Bool) (o : Option LinkState) → IsOutcome feed has_ended o up_to_date.Empty
     → o ≡ None
 empty_none feed has_ended None out = refl
 empty_none feed has_ended (Some l) out = absurd out
 
 wants_some : (feed : List Window) (has_ended : Bool) (o : Option LinkState) (w : Interest) (l : LinkState)
-    → IsOutcome feed has_ended o (settled.Wants w) → o ≡ Some l → IsSettled feed has_ended l w
+    → IsOutcome feed has_ended o (up_to_date.Wants w) → o ≡ Some l → IsUpToDate feed has_ended l w
 wants_some feed has_ended None w l out e = absurd out
 wants_some feed has_ended (Some m) w l out e =
     let same : m ≡ l = let both : Some m ≡ Some l = e in cc both in
-    subst (λ (x : LinkState). IsSettled feed has_ended x w) same out
+    subst (λ (x : LinkState). IsUpToDate feed has_ended x w) same out
 
-closes_some : (feed : List Window) (has_ended : Bool) (o : Option LinkState) → IsOutcome feed has_ended o settled.Closes
+closes_some : (feed : List Window) (has_ended : Bool) (o : Option LinkState) → IsOutcome feed has_ended o up_to_date.Closes
     → (l : LinkState) × (o ≡ Some l) × IsClosable feed has_ended l
 closes_some feed has_ended None out = absurd out
 closes_some feed has_ended (Some l) out = (l, refl, out)
@@ -158,7 +158,7 @@ module _ (s : ServerState) (j : ℕ) (new : Option LinkState) (log last : List H
 
   pub beside : (k : ℕ) → k ≢ j → IsUnreported j log last → IsAwakeIn s log k → IsAwakeIn after last k
   beside k ne unreported awake l e =
-      subst (IsSettled s.intake.feed s.has_ended l) (sym (unreported.of_links k ne))
+      subst (IsUpToDate s.intake.feed s.has_ended l) (sym (unreported.of_links k ne))
       (awake l (sym (get_or-set_other s.links j k new None ne) ∙ e))
 
   pub reported_beside : is_some new ≡ is_some (get_or s.links j None) → IsUnreported j log last → IsReported s log
@@ -168,17 +168,17 @@ module _ (s : ServerState) (j : ℕ) (new : Option LinkState) (log last : List H
     left = unreported.left ∙ t.left;
   }
 
-  here : j < length s.links → ((l : LinkState) → new ≡ Some l → IsSettled s.intake.feed s.has_ended l (last_interest j last))
+  here : j < length s.links → ((l : LinkState) → new ≡ Some l → IsUpToDate s.intake.feed s.has_ended l (last_interest j last))
       → IsAwakeIn after last j
   here lt own l e = own l (sym (get_or-set_same s.links j new None lt) ∙ e)
 
   -- so it was settled
   module _ (lt : j < length s.links) (unreported : IsUnreported j log last)
       (same : is_some new ≡ is_some (get_or s.links j None))
-      (own : (l : LinkState) → new ≡ Some l → IsSettled s.intake.feed s.has_ended l (last_interest j last)) where
-    settles_by : ((start : List Window) → IsServing start s log → IsReported s log
-        → Goes (IsClosedRightly start) log last) → Settles j s after log last
-    settles_by closed = record {
+      (own : (l : LinkState) → new ≡ Some l → IsUpToDate s.intake.feed s.has_ended l (last_interest j last)) where
+    updates_by : ((start : List Window) → IsServing start s log → IsReported s log
+        → Goes (IsClosedRightly start) log last) → Updates j s after log last
+    updates_by closed = record {
       links = λ k awake. elim (eqb_tells j k) [
         | inl is ↦ subst (IsAwakeIn after last) is.1 (here lt own)
         | inr other ↦ let ne : k ≢ j = λ e. other.1 (sym e) in beside k ne unreported (awake ne)
@@ -189,26 +189,26 @@ module _ (s : ServerState) (j : ℕ) (new : Option LinkState) (log last : List H
     }
 
 -- no link stands there
-pub settles_empty : (s : ServerState) (j : ℕ) (o new : Option LinkState) (log last : List Happening)
+pub updates_empty : (s : ServerState) (j : ℕ) (o new : Option LinkState) (log last : List Happening)
     → j < length s.links → o ≡ get_or s.links j None → HasFilled s.intake.feed o new
-    → IsOutcome s.intake.feed s.has_ended new settled.Empty → last ≡ log
-    → Settles j s (record s { links = set s.links j new }) log last
-settles_empty s j o new log last lt is filled out e =
-    settles_by s j new log last lt (unreported_none j log last e)
+    → IsOutcome s.intake.feed s.has_ended new up_to_date.Empty → last ≡ log
+    → Updates j s (record s { links = set s.links j new }) log last
+updates_empty s j o new log last lt is filled out e =
+    updates_by s j new log last lt (unreported_none j log last e)
     (filled_some s.intake.feed o new filled ∙ ap is_some is)
     (λ l some. absurd (let bad : None ≡ Some l = sym (empty_none s.intake.feed s.has_ended new out) ∙ some in cc bad))
     (λ start v t. goes_same e)
 
 -- it stands
-pub settles_wants : (s : ServerState) (j : ℕ) (o new : Option LinkState) (log last : List Happening) (w : Interest)
+pub updates_wants : (s : ServerState) (j : ℕ) (o new : Option LinkState) (log last : List Happening) (w : Interest)
     → j < length s.links → o ≡ get_or s.links j None → HasFilled s.intake.feed o new
-    → IsOutcome s.intake.feed s.has_ended new (settled.Wants w) → last ≡ log ++ Wants j w ∷ []
-    → Settles j s (record s { links = set s.links j new }) log last
-settles_wants s j o new log last w lt is filled out e =
-    settles_by s j new log last lt
+    → IsOutcome s.intake.feed s.has_ended new (up_to_date.Wants w) → last ≡ log ++ Wants j w ∷ []
+    → Updates j s (record s { links = set s.links j new }) log last
+updates_wants s j o new log last w lt is filled out e =
+    updates_by s j new log last lt
     (unreported_one j log last (Wants j w) (λ k ne v. wants_other j k w v ne) (λ b. refl) (λ b. refl) e)
     (filled_some s.intake.feed o new filled ∙ ap is_some is)
-    (λ l some. subst (IsSettled s.intake.feed s.has_ended l)
+    (λ l some. subst (IsUpToDate s.intake.feed s.has_ended l)
     (sym (interest_last log last (Wants j w) e j ∙ wants_self j w (last_interest j log)))
     (wants_some s.intake.feed s.has_ended new w l out some))
     (λ start v t. goes_one (Wants j w) tt e)
@@ -233,7 +233,7 @@ module _ (s : ServerState) (j : ℕ) (log last : List Happening) (lt : j < lengt
         ∙ subst (λ (i : ℕ). get_or (set s.links j None) i None ≡ Some l) (sym same.1) is in
         cc bad)
     | inr other ↦ let ne : k ≢ j = λ x. other.1 (sym x) in
-        subst (IsSettled s.intake.feed s.has_ended l) (sym (interest_gone k))
+        subst (IsUpToDate s.intake.feed s.has_ended l) (sym (interest_gone k))
         (awake ne l (sym (get_or-set_other s.links j k None None ne) ∙ is))
   ]
 
@@ -248,13 +248,13 @@ module _ (s : ServerState) (j : ℕ) (log last : List Happening) (lt : j < lengt
   gone_goes start right = further gone last (WantsLinks (not s.has_ended)) (goes_one (Gone j) right refl) tt e
 
 -- it is to be closed, and so it was
-pub settles_closes : (s : ServerState) (j : ℕ) (new : Option LinkState) (log last : List Happening)
+pub updates_closes : (s : ServerState) (j : ℕ) (new : Option LinkState) (log last : List Happening)
     → j < length s.links → j < length (set s.links j new)
-    → IsOutcome s.intake.feed s.has_ended new settled.Closes
+    → IsOutcome s.intake.feed s.has_ended new up_to_date.Closes
     → last ≡ (log ++ Gone j ∷ []) ++ WantsLinks (not s.has_ended) ∷ []
     → ((start : List Window) → IsServing start s log → IsServing start (record s { links = set s.links j new }) log)
-    → Settles j s (record s { links = set (set s.links j new) j None }) log last
-settles_closes s j new log last lt within out e serves =
+    → Updates j s (record s { links = set (set s.links j new) j None }) log last
+updates_closes s j new log last lt within out e serves =
     let mid : ServerState = record s { links = set s.links j new } in
     let l = closes_some s.intake.feed s.has_ended new out in
     record {
@@ -278,14 +278,14 @@ pub tends_rest : (s : ServerState) (j : ℕ) (new : Option LinkState) (t : Serve
     → is_some new ≡ is_some (get_or s.links j None) → IsUnreported j log mid
     → ((start : List Window) → Goes (IsClosedRightly start) log mid)
     → ((start : List Window) → IsServing start s log → IsServing start (record s { links = set s.links j new }) mid)
-    → (IsAwake s log → Settles j (record s { links = set s.links j new }) t mid last) → Tends s t log last
-tends_rest s j new t log mid last same unreported went serves settles = record {
+    → (IsAwake s log → Updates j (record s { links = set s.links j new }) t mid last) → KeepsAwake s t log last
+tends_rest s j new t log mid last same unreported went serves updates = record {
   awake = λ a. record {
-    each = λ k. (settles a).links k (λ ne. beside s j new log mid k ne unreported (a.each k));
-    is_reported = (settles a).is_reported (reported_beside s j new log mid same unreported a.is_reported);
+    each = λ k. (updates a).links k (λ ne. beside s j new log mid k ne unreported (a.each k));
+    is_reported = (updates a).is_reported (reported_beside s j new log mid same unreported a.is_reported);
   };
   closed = λ start v a. goes_then (went start)
-      ((settles a).closed start (serves start v) (reported_beside s j new log mid same unreported a.is_reported));
+      ((updates a).closed start (serves start v) (reported_beside s j new log mid same unreported a.is_reported));
 }
 
 -- The same, whether one slept or not.
@@ -293,21 +293,21 @@ pub tends_by : (s : ServerState) (j : ℕ) (new : Option LinkState) (t : ServerS
     → is_some new ≡ is_some (get_or s.links j None) → IsUnreported j log mid
     → ((start : List Window) → Goes (IsClosedRightly start) log mid)
     → ((start : List Window) → IsServing start s log → IsServing start (record s { links = set s.links j new }) mid)
-    → Settles j (record s { links = set s.links j new }) t mid last → Tends s t log last
-tends_by s j new t log mid last same unreported went serves settles =
-    tends_rest s j new t log mid last same unreported went serves (λ a. settles)
+    → Updates j (record s { links = set s.links j new }) t mid last → KeepsAwake s t log last
+tends_by s j new t log mid last same unreported went serves updates =
+    tends_rest s j new t log mid last same unreported went serves (λ a. updates)
 
 -- The link in a slot was left as it was.
 same_links : (s : ServerState) (j : ℕ) (log last : List Happening)
-    → Settles j s (record s { links = set s.links j (get_or s.links j None) }) log last → Settles j s s log last
+    → Updates j s (record s { links = set s.links j (get_or s.links j None) }) log last → Updates j s s log last
 same_links s j log last h =
-    subst (λ (links : List (Option LinkState)). Settles j s (record s { links = links }) log last)
+    subst (λ (links : List (Option LinkState)). Updates j s (record s { links = links }) log last)
     (set-get_or s.links j None) h
 
 pub rest_empty : (s : ServerState) (j : ℕ) (log last : List Happening) → j < length s.links
-    → IsOutcome s.intake.feed s.has_ended (get_or s.links j None) settled.Empty → last ≡ log → Settles j s s log last
+    → IsOutcome s.intake.feed s.has_ended (get_or s.links j None) up_to_date.Empty → last ≡ log → Updates j s s log last
 rest_empty s j log last lt out e =
-    same_links s j log last (settles_by s j (get_or s.links j None) log last lt (unreported_none j log last e) refl
+    same_links s j log last (updates_by s j (get_or s.links j None) log last lt (unreported_none j log last e) refl
     (λ l some. absurd (
     let bad : None ≡ Some l =
     sym (empty_none s.intake.feed s.has_ended (get_or s.links j None) out) ∙ some in
@@ -315,20 +315,20 @@ rest_empty s j log last lt out e =
     (λ start v t. goes_same e))
 
 pub rest_wants : (s : ServerState) (j : ℕ) (log last : List Happening) (w : Interest) → j < length s.links
-    → IsOutcome s.intake.feed s.has_ended (get_or s.links j None) (settled.Wants w) → last ≡ log ++ Wants j w ∷ []
-    → Settles j s s log last
+    → IsOutcome s.intake.feed s.has_ended (get_or s.links j None) (up_to_date.Wants w) → last ≡ log ++ Wants j w ∷ []
+    → Updates j s s log last
 rest_wants s j log last w lt out e =
-    same_links s j log last (settles_by s j (get_or s.links j None) log last lt
+    same_links s j log last (updates_by s j (get_or s.links j None) log last lt
     (unreported_one j log last (Wants j w) (λ k ne v. wants_other j k w v ne) (λ b. refl) (λ b. refl) e) refl
-    (λ l some. subst (IsSettled s.intake.feed s.has_ended l)
+    (λ l some. subst (IsUpToDate s.intake.feed s.has_ended l)
     (sym (interest_last log last (Wants j w) e j ∙ wants_self j w (last_interest j log)))
     (wants_some s.intake.feed s.has_ended (get_or s.links j None) w l out some))
     (λ start v t. goes_one (Wants j w) tt e))
 
 pub rest_closes : (s : ServerState) (j : ℕ) (log last : List Happening) → j < length s.links
-    → IsOutcome s.intake.feed s.has_ended (get_or s.links j None) settled.Closes
+    → IsOutcome s.intake.feed s.has_ended (get_or s.links j None) up_to_date.Closes
     → last ≡ (log ++ Gone j ∷ []) ++ WantsLinks (not s.has_ended) ∷ []
-    → Settles j s (record s { links = set s.links j None }) log last
+    → Updates j s (record s { links = set s.links j None }) log last
 rest_closes s j log last lt out e =
     let l = closes_some s.intake.feed s.has_ended (get_or s.links j None) out in
     record {

@@ -8,12 +8,12 @@ use Rattle.std.proofs.lemmas.List.{get_or_past}
 use Rattle.slink_feed.specs.Session.{Fits}
 use Rattle.slink_feed.specs.Window.{Window}
 use Rattle.slink_live.specs.declared.link.Update.{Update}
-use Rattle.slink_live.specs.declared.link.Update.TheVariants as settled
+use Rattle.slink_live.specs.declared.link.Update.TheVariants as up_to_date
 use Rattle.slink_live.specs.declared.places.Places.{Places}
 use Rattle.slink_live.specs.declared.ready.Interest.{Interest}
 use Rattle.slink_live.specs.declared.ready.Event.{Event}
 use Rattle.slink_live.specs.declared.ready.Event.TheVariants as events
-use Rattle.slink_live.specs.Awake.{Goes, IsAwake, IsAwakeIn, IsClosedRightly, IsSettled, IsReported, has_free}
+use Rattle.slink_live.specs.Awake.{Goes, IsAwake, IsAwakeIn, IsClosedRightly, IsUpToDate, IsReported, has_free}
 use Rattle.slink_live.specs.Awake.{further, is_lost}
 use Rattle.slink_live.specs.Happening.{Happening, Input, Opened, Received, Emitted, Gone, Next, Missed, Wants}
 use Rattle.slink_live.specs.Happening.{WantsLinks}
@@ -23,16 +23,16 @@ use Rattle.slink_live.specs.Story.{IsNew}
 use Rattle.slink_live.specs.Turns.{Closes}
 use Rattle.slink_live.specs.private.Calling.{HasFilled, HasReceived, HasTaken, IfRested, IsOutcome}
 use Rattle.slink_live.specs.private.Granting.{LeavesOut, StaysBut}
-use Rattle.slink_live.specs.private.Keeping.{KeepsServing, Settles, Tends, TendsAll, TendsAnew, TendsBut}
-use Rattle.slink_live.proofs.Apart.{settled_apart}
+use Rattle.slink_live.specs.private.Keeping.{KeepsServing, Updates, KeepsAwake, AwakensAll, AwakensAnew, AwakensThose}
+use Rattle.slink_live.proofs.Apart.{updated_apart}
 use Rattle.slink_live.proofs.Slots.{closes_both, closes_reported, not_self, quiet_serving}
 use Rattle.slink_live.proofs.Steps.{closed_keeps, ended, ended_serving, filled_keeps, received_keeps, same_default}
 use Rattle.slink_live.proofs.Steps.{keeps_both, keeps_from, keeps_quiet, keeps_same, opened_keeps, sound_in}
 use Rattle.slink_live.proofs.Steps.{taken_keeps}
-use Rattle.slink_live.proofs.Tending.{IsUnreported, goes_one, goes_same, goes_then, gone_awake, gone_goes, gone_reported}
-use Rattle.slink_live.proofs.Tending.{left_last, links_last, settles_closes, settles_empty, settles_wants, tends_by}
-use Rattle.slink_live.proofs.Tending.{rest_closes, rest_empty, rest_wants, tends_rest, interest_last, unreported_none}
-use Rattle.slink_live.proofs.Tending.{unreported_one}
+use Rattle.slink_live.proofs.Reported.{IsUnreported, goes_one, goes_same, goes_then, gone_awake, gone_goes, gone_reported}
+use Rattle.slink_live.proofs.Reported.{left_last, links_last, updates_closes, updates_empty, updates_wants, tends_by}
+use Rattle.slink_live.proofs.Reported.{rest_closes, rest_empty, rest_wants, tends_rest, interest_last, unreported_none}
+use Rattle.slink_live.proofs.Reported.{unreported_one}
 
 -- A call saw the link in a slot, and the rings of the input.
 module _ {s0 s : ServerState} (same : s0 ≡ s) (j : ℕ) (lt : j < length s0.links) (sound : IsSound s)
@@ -44,34 +44,34 @@ module _ {s0 s : ServerState} (same : s0 ≡ s) (j : ℕ) (lt : j < length s0.li
   stood : o ≡ get_or s0.links j None
   stood = link ∙ sym (same_default s0.links j None o lt)
 
-  settles_in : {t : ServerState} {log last : List Happening} → Settles j s0 t log last → Settles j s t log last
-  settles_in {t} {log} {last} h = subst (λ (x : ServerState). Settles j x t log last) same h
+  updates_in : {t : ServerState} {log last : List Happening} → Updates j s0 t log last → Updates j s t log last
+  updates_in {t} {log} {last} h = subst (λ (x : ServerState). Updates j x t log last) same h
 
   filled_in : HasFilled feed o new → HasFilled s0.intake.feed o new
   filled_in h = subst (λ (f : List Window). HasFilled f o new) rings h
 
-  pub seen_empty : {log last : List Happening} → HasFilled feed o new → IsOutcome feed s0.has_ended new settled.Empty
-      → last ≡ log → Settles j s seen_after log last
-  seen_empty {log} {last} filled out e = settles_in (settles_empty s0 j o new log last lt stood (filled_in filled)
-      (subst (λ (f : List Window). IsOutcome f s0.has_ended new settled.Empty) rings out) e)
+  pub seen_empty : {log last : List Happening} → HasFilled feed o new → IsOutcome feed s0.has_ended new up_to_date.Empty
+      → last ≡ log → Updates j s seen_after log last
+  seen_empty {log} {last} filled out e = updates_in (updates_empty s0 j o new log last lt stood (filled_in filled)
+      (subst (λ (f : List Window). IsOutcome f s0.has_ended new up_to_date.Empty) rings out) e)
 
   pub seen_wants : {log last : List Happening} (w : Interest) → HasFilled feed o new
-      → IsOutcome feed s0.has_ended new (settled.Wants w) → last ≡ log ++ Wants j w ∷ []
-      → Settles j s seen_after log last
-  seen_wants {log} {last} w filled out e = settles_in (settles_wants s0 j o new log last w lt stood (filled_in filled)
-      (subst (λ (f : List Window). IsOutcome f s0.has_ended new (settled.Wants w)) rings out) e)
+      → IsOutcome feed s0.has_ended new (up_to_date.Wants w) → last ≡ log ++ Wants j w ∷ []
+      → Updates j s seen_after log last
+  seen_wants {log} {last} w filled out e = updates_in (updates_wants s0 j o new log last w lt stood (filled_in filled)
+      (subst (λ (f : List Window). IsOutcome f s0.has_ended new (up_to_date.Wants w)) rings out) e)
 
   within : j < length (set s0.links j new)
   within = omega (arith, lt, length-set s0.links j new)
 
   pub seen_closes : {t : ServerState} {log last : List Happening} → HasFilled feed o new
-      → IsOutcome feed s0.has_ended new settled.Closes → t ≡ record seen_after
+      → IsOutcome feed s0.has_ended new up_to_date.Closes → t ≡ record seen_after
       { links = set (set s0.links j new) j None }
-      → last ≡ (log ++ Gone j ∷ []) ++ WantsLinks (not s0.has_ended) ∷ [] → Settles j s t log last
+      → last ≡ (log ++ Gone j ∷ []) ++ WantsLinks (not s0.has_ended) ∷ [] → Updates j s t log last
   seen_closes {t} {log} {last} filled out is e =
-      settles_in (subst (λ (x : ServerState). Settles j s0 x log last) (sym is)
-      (settles_closes s0 j new log last lt within
-      (subst (λ (f : List Window). IsOutcome f s0.has_ended new settled.Closes) rings out) e
+      updates_in (subst (λ (x : ServerState). Updates j s0 x log last) (sym is)
+      (updates_closes s0 j new log last lt within
+      (subst (λ (f : List Window). IsOutcome f s0.has_ended new up_to_date.Closes) rings out) e
       (λ start v. (filled_keeps {s0 = s0} {s = s0} refl j lt new {log = log} {last = log} (sound_in same sound) rings
       link filled refl).serving
       start v)))
@@ -85,17 +85,17 @@ module _ {s0 s : ServerState} (same : s0 ≡ s) (j : ℕ) (lt : j < length s0.li
       (filled_keeps {s0 = s0} {s = s0} refl j lt new {log = log} {last = log} (sound_in same sound) rings link filled
       refl).sound is e
 
-  tends_in : {t : ServerState} {log last : List Happening} → Tends s0 t log last → Tends s t log last
-  tends_in {t} {log} {last} h = subst (λ (x : ServerState). Tends x t log last) same h
+  tends_in : {t : ServerState} {log last : List Happening} → KeepsAwake s0 t log last → KeepsAwake s t log last
+  tends_in {t} {log} {last} h = subst (λ (x : ServerState). KeepsAwake x t log last) same h
 
   -- the link was read
   pub received_tends : {t : ServerState} {log mid last : List Happening} → HasReceived feed j o new log mid
-      → Settles j seen_after t mid last → Tends s t log last
-  received_tends {t} {log} {mid} {last} h settles =
+      → Updates j seen_after t mid last → KeepsAwake s t log last
+  received_tends {t} {log} {mid} {last} h updates =
       tends_in (tends_by s0 j new t log mid last (received_some o h ∙ ap is_some stood) (received_unreported o h)
       (received_goes o h) (λ start v. (received_keeps {s0 = s0} {s = s0} refl j lt new (sound_in same sound) rings link
       h).serving
-      start v) settles)
+      start v) updates)
     where
       received_some : (x : Option LinkState) → HasReceived feed j x new log mid → is_some new ≡ is_some x
       received_some None g = ap is_some g.0
@@ -113,12 +113,12 @@ module _ {s0 s : ServerState} (same : s0 ≡ s) (j : ℕ) (lt : j < length s0.li
 
   -- it took bytes
   pub taken_tends : {t : ServerState} {log mid last : List Happening} → HasTaken j o new log mid
-      → Settles j seen_after t mid last → Tends s t log last
-  taken_tends {t} {log} {mid} {last} h settles =
+      → Updates j seen_after t mid last → KeepsAwake s t log last
+  taken_tends {t} {log} {mid} {last} h updates =
       tends_in (tends_by s0 j new t log mid last (taken_some o h ∙ ap is_some stood) (taken_unreported o h)
       (taken_goes o h) (λ start v. (taken_keeps {s0 = s0} {s = s0} refl j lt new (sound_in same sound) link h).serving
       start v)
-      settles)
+      updates)
     where
       taken_some : (x : Option LinkState) → HasTaken j x new log mid → is_some new ≡ is_some x
       taken_some None g = ap is_some g.0
@@ -140,22 +140,22 @@ if_rested : (s : ServerState) (j : ℕ) (o new : Option LinkState) (log mid : Li
     → IfRested s.intake.feed new
 if_rested s j None new log mid a is h room = subst (IfRested s.intake.feed) (sym h.0) tt
 if_rested s j (Some l) new log mid a is h room =
-    let settled : IsSettled s.intake.feed s.has_ended l (last_interest j log) = a.each j l (sym is) in
+    let up_to_date : IsUpToDate s.intake.feed s.has_ended l (last_interest j log) = a.each j l (sym is) in
     subst (IfRested s.intake.feed) (sym h.1)
-    (record { rests = settled.filled room; stays = λ lost. settled.stands (is_lost lost) })
+    (record { rests = up_to_date.filled room; stays = λ lost. up_to_date.stands (is_lost lost) })
 
 -- it took bytes, and nothing more is due to it
 pub rested_tends : {s0 s t : ServerState} (same : s0 ≡ s) (j : ℕ) → j < length s0.links → IsSound s
     → {o : Option LinkState} → o ≡ get_or s0.links j o → (new : Option LinkState) → {log mid last : List Happening}
     → HasTaken j o new log mid → IfSome o (λ l. length l.pending + 520 ≤ 6240)
     → (IfRested s0.intake.feed (get_or (set s0.links j new) j None)
-    → Settles j (record s0 { links = set s0.links j new }) t mid last) → Tends s t log last
-rested_tends {s0} {s} {t} same j lt sound {o} link new {log} {mid} {last} h room settles =
+    → Updates j (record s0 { links = set s0.links j new }) t mid last) → KeepsAwake s t log last
+rested_tends {s0} {s} {t} same j lt sound {o} link new {log} {mid} {last} h room updates =
     let stands : o ≡ get_or s0.links j None = link ∙ sym (same_default s0.links j None o lt) in
-    subst (λ (x : ServerState). Tends x t log last) same
+    subst (λ (x : ServerState). KeepsAwake x t log last) same
     (tends_rest s0 j new t log mid last (taken_some o h ∙ ap is_some stands) (taken_unreported o h) (taken_goes o h)
     (λ start v. (taken_keeps {s0 = s0} {s = s0} refl j lt new (sound_in same sound) link h).serving start v)
-    (λ a. settles (subst (IfRested s0.intake.feed) (sym (get_or-set_same s0.links j new None lt))
+    (λ a. updates (subst (IfRested s0.intake.feed) (sym (get_or-set_same s0.links j new None lt))
     (if_rested s0 j o new log mid a stands h room))))
   where
     taken_some : (x : Option LinkState) → HasTaken j x new log mid → is_some new ≡ is_some x
@@ -189,26 +189,26 @@ module _ {s0 s : ServerState} (same : s0 ≡ s) (j : ℕ) (lt : j < length s0.li
   within_in : j < length s.links
   within_in = subst (λ (x : ServerState). j < length x.links) same lt
 
-  pub look_empty : {log last : List Happening} → result ≡ settled.Empty → last ≡ log
-      → IfRested s.intake.feed (get_or s.links j None) → Settles j s s log last
+  pub look_empty : {log last : List Happening} → result ≡ up_to_date.Empty → last ≡ log
+      → IfRested s.intake.feed (get_or s.links j None) → Updates j s s log last
   look_empty {log} {last} is e rested = rest_empty s j log last within_in
       (subst (IsOutcome s.intake.feed s.has_ended (get_or s.links j None)) is (outcome_in rested)) e
 
-  pub look_wants : {log last : List Happening} (w : Interest) → result ≡ settled.Wants w → last ≡ log ++ Wants j w ∷ []
-      → IfRested s.intake.feed (get_or s.links j None) → Settles j s s log last
+  pub look_wants : {log last : List Happening} (w : Interest) → result ≡ up_to_date.Wants w → last ≡ log ++ Wants j w ∷ []
+      → IfRested s.intake.feed (get_or s.links j None) → Updates j s s log last
   look_wants {log} {last} w is e rested = rest_wants s j log last w within_in
       (subst (IsOutcome s.intake.feed s.has_ended (get_or s.links j None)) is (outcome_in rested)) e
 
-  pub look_closes : {t : ServerState} {log last : List Happening} → result ≡ settled.Closes
+  pub look_closes : {t : ServerState} {log last : List Happening} → result ≡ up_to_date.Closes
       → t ≡ record s { links = set s.links j None }
       → last ≡ (log ++ Gone j ∷ []) ++ WantsLinks (not s.has_ended) ∷ []
-      → IfRested s.intake.feed (get_or s.links j None) → Settles j s t log last
+      → IfRested s.intake.feed (get_or s.links j None) → Updates j s t log last
   look_closes {t} {log} {last} is ends e rested =
-      subst (λ (x : ServerState). Settles j s x log last) (sym ends) (rest_closes s j log last within_in
+      subst (λ (x : ServerState). Updates j s x log last) (sym ends) (rest_closes s j log last within_in
       (subst (IsOutcome s.intake.feed s.has_ended (get_or s.links j None)) is (outcome_in rested)) e)
 
 -- nothing happened
-pub tends_same : (s : ServerState) (log last : List Happening) → last ≡ log → Tends s s log last
+pub tends_same : (s : ServerState) (log last : List Happening) → last ≡ log → KeepsAwake s s log last
 tends_same s log last e = record {
   awake = λ a. subst (IsAwake s) (sym e) a;
   closed = λ start v t. goes_same e;
@@ -218,12 +218,12 @@ tends_same s log last e = record {
 stays_awake : (s : ServerState) (log last : List Happening) → ((k : ℕ) → last_interest k last ≡ last_interest k log)
     → wants_links last ≡ wants_links log → is_left last ≡ is_left log → IsAwake s log → IsAwake s last
 stays_awake s log last each links left a = record {
-  each = λ k l is. subst (IsSettled s.intake.feed s.has_ended l) (sym (each k)) (a.each k l is);
+  each = λ k l is. subst (IsUpToDate s.intake.feed s.has_ended l) (sym (each k)) (a.each k l is);
   is_reported = record { links = links ∙ a.is_reported.links; left = left ∙ a.is_reported.left };
 }
 
 pub missed_tends : (s : ServerState) (j : ℕ) (log last : List Happening) → last ≡ log ++ Missed j ∷ []
-    → Tends s s log last
+    → KeepsAwake s s log last
 missed_tends s j log last e = record {
   awake = λ a. stays_awake s log last (λ k. interest_last log last (Missed j) e k)
       (links_last log last (Missed j) e) (left_last log last (Missed j) e) a;
@@ -237,10 +237,10 @@ next_awake s e log last now a = stays_awake s log last (λ k. interest_last log 
 
 -- links are told to be wanted, or not, as they are
 pub full_tends : (s : ServerState) (log last : List Happening) → (not s.has_ended && has_free s.links) ≡ false
-    → last ≡ log ++ WantsLinks false ∷ [] → Tends s s log last
+    → last ≡ log ++ WantsLinks false ∷ [] → KeepsAwake s s log last
 full_tends s log last none e = record {
   awake = λ a. record {
-    each = λ k l is. subst (IsSettled s.intake.feed s.has_ended l) (sym (interest_last log last (WantsLinks false) e k))
+    each = λ k l is. subst (IsUpToDate s.intake.feed s.has_ended l) (sym (interest_last log last (WantsLinks false) e k))
         (a.each k l is);
     is_reported = record {
       links = links_last log last (WantsLinks false) e ∙ sym none;
@@ -259,8 +259,8 @@ pub opened_tends : (s : ServerState) (j : ℕ) (new : Option LinkState) (t : Ser
     → opened ≡ log ++ Opened j ∷ []
     → mid ≡ opened ++ WantsLinks (not s.has_ended && has_free (set s.links j new)) ∷ []
     → ((start : List Window) → IsServing start s log → IsServing start (record s { links = set s.links j new }) mid)
-    → Settles j (record s { links = set s.links j new }) t mid last → Tends s t log last
-opened_tends s j new t log opened mid last lt free came now serves settles =
+    → Updates j (record s { links = set s.links j new }) t mid last → KeepsAwake s t log last
+opened_tends s j new t log opened mid last lt free came now serves updates =
     let wanted : Bool = not s.has_ended && has_free (set s.links j new) in
     let after : ServerState = record s { links = set s.links j new } in
     let is_reported : is_left log ≡ s.has_ended → IsReported after mid = λ left. record {
@@ -269,16 +269,16 @@ opened_tends s j new t log opened mid last lt free came now serves settles =
     } in
     record {
       awake = λ a. record {
-        each = λ k. settles.links k (λ ne l is.
-            subst (IsSettled s.intake.feed s.has_ended l)
+        each = λ k. updates.links k (λ ne l is.
+            subst (IsUpToDate s.intake.feed s.has_ended l)
             (sym (interest_last opened mid (WantsLinks wanted) now k
             ∙ (interest_last log opened (Opened j) came k ∙ opened_other j k (last_interest k log) ne)))
             (a.each k l (sym (get_or-set_other s.links j k new None ne) ∙ is)));
-        is_reported = settles.is_reported (is_reported a.is_reported.left);
+        is_reported = updates.is_reported (is_reported a.is_reported.left);
       };
       closed = λ start v told0. goes_then
           (further opened mid (WantsLinks wanted) (goes_one (Opened j) tt came) tt now)
-          (settles.closed start (serves start v) (is_reported told0.is_reported.left));
+          (updates.closed start (serves start v) (is_reported told0.is_reported.left));
     }
 
 pub opened_in : {s0 s t : ServerState} (same : s0 ≡ s) (j : ℕ) → j < length s0.links → (l : LinkState) → IsSound s
@@ -286,24 +286,24 @@ pub opened_in : {s0 s t : ServerState} (same : s0 ≡ s) (j : ℕ) → j < lengt
     → Fits s.intake.feed l.session.state → {log opened mid last : List Happening} {wanted : Bool}
     → opened ≡ log ++ Opened j ∷ [] → mid ≡ opened ++ WantsLinks wanted ∷ []
     → wanted ≡ (not s0.has_ended && has_free (set s0.links j (Some l)))
-    → Settles j (record s0 { links = set s0.links j (Some l) }) t mid last → Tends s t log last
+    → Updates j (record s0 { links = set s0.links j (Some l) }) t mid last → KeepsAwake s t log last
 opened_in {s0} {s} {t} same j lt l sound free fresh none begins fits {log} {opened} {mid} {last} {wanted} came now is
-    settles =
-    subst (λ (x : ServerState). Tends x t log last) same
+    updates =
+    subst (λ (x : ServerState). KeepsAwake x t log last) same
     (opened_tends s0 j (Some l) t log opened mid last lt
     (subst (λ (x : ServerState). get_or x.links j None ≡ None) (sym same) free) came
     (now ∙ ap (λ b. opened ++ WantsLinks b ∷ []) is)
     (λ start v. (keeps_quiet (WantsLinks wanted) refl (λ k. refl) now
     (opened_keeps {s0 = s0} {s = s0} refl j lt (Some l) {log = log} {last = opened} (sound_in same sound) l refl
     (subst (λ (x : ServerState). get_or x.links j None ≡ None) (sym same) free) fresh none begins
-    (subst (λ (x : ServerState). Fits x.intake.feed l.session.state) (sym same) fits) came)).serving start v) settles)
+    (subst (λ (x : ServerState). Fits x.intake.feed l.session.state) (sym same) fits) came)).serving start v) updates)
 
 -- a link that is gone was closed
 pub gone_tends : (s t : ServerState) (j : ℕ) (log last earlier : List Happening) → j < length s.links
     → log ≡ earlier ++ Next (events.Gone j) ∷ [] → t ≡ record s { links = set s.links j None }
-    → last ≡ (log ++ Gone j ∷ []) ++ WantsLinks (not s.has_ended) ∷ [] → Tends s t log last
+    → last ≡ (log ++ Gone j ∷ []) ++ WantsLinks (not s.has_ended) ∷ [] → KeepsAwake s t log last
 gone_tends s t j log last earlier lt said is e =
-    subst (λ (x : ServerState). Tends s x log last) (sym is) (record {
+    subst (λ (x : ServerState). KeepsAwake s x log last) (sym is) (record {
       awake = λ a. record {
         each = λ k. gone_awake s j log last lt e k (λ ne. a.each k);
         is_reported = gone_reported s j log last lt e a.is_reported.left;
@@ -318,8 +318,8 @@ pub input_tends : (s t : ServerState) (intake : IntakeState) (reads : ℕ) (byte
     → StaysBut places s.intake.feed intake.feed
     → ((start : List Window) → IsServing start s log
     → IsServing start (record { intake = intake; links = s.links; has_ended = s.has_ended; reads = reads }) mid)
-    → TendsBut places (record { intake = intake; links = s.links; has_ended = s.has_ended; reads = reads }) t mid last
-    → Tends s t log last
+    → AwakensThose places (record { intake = intake; links = s.links; has_ended = s.has_ended; reads = reads }) t mid last
+    → KeepsAwake s t log last
 input_tends s t intake reads bytes places log mid last now long stays serves but =
     let is_reported : IsReported s log
     → IsReported (record { intake = intake; links = s.links; has_ended = s.has_ended; reads = reads }) mid = λ x. record {
@@ -328,8 +328,8 @@ input_tends s t intake reads bytes places log mid last now long stays serves but
     } in
     record {
       awake = λ a. but.awake (is_reported a.is_reported) (λ k out l is.
-          subst (IsSettled intake.feed s.has_ended l) (sym (interest_last log mid (Input bytes) now k))
-          (settled_apart s.intake.feed intake.feed places (get_or s.links k None) l long stays out is s.has_ended
+          subst (IsUpToDate intake.feed s.has_ended l) (sym (interest_last log mid (Input bytes) now k))
+          (updated_apart s.intake.feed intake.feed places (get_or s.links k None) l long stays out is s.has_ended
           (last_interest k log) (a.each k l is)));
       closed = λ start v x. goes_then (goes_one (Input bytes) tt now)
           (but.closed start (serves start v) (is_reported x.is_reported));
@@ -337,15 +337,15 @@ input_tends s t intake reads bytes places log mid last now long stays serves but
 
 -- It brought bytes that go no further.
 pub input_ends : (s x t : ServerState) (bytes : List ℕ) (log mid last : List Happening) → mid ≡ log ++ Input bytes ∷ []
-    → ((start : List Window) → IsServing start s log → IsServing start x mid) → TendsAnew x t mid last
-    → Tends s t log last
+    → ((start : List Window) → IsServing start s log → IsServing start x mid) → AwakensAnew x t mid last
+    → KeepsAwake s t log last
 input_ends s x t bytes log mid last now serves anew = record {
   awake = λ a. anew.awake;
   closed = λ start v told0. goes_then (goes_one (Input bytes) tt now) (anew.closed start (serves start v));
 }
 
 -- it is read no more
-pub tends_end : {s t : ServerState} {log last : List Happening} → TendsAnew (ended s) t log last → Tends s t log last
+pub tends_end : {s t : ServerState} {log last : List Happening} → AwakensAnew (ended s) t log last → KeepsAwake s t log last
 tends_end {s} {t} {log} anew = record {
   awake = λ a. anew.awake;
   closed = λ start v told0. anew.closed start (ended_serving start s log v);
@@ -368,7 +368,7 @@ module _ {log left mid last : List Happening} (went : left ≡ log ++ Left ∷ [
       (keeps_quiet Left refl (λ k. refl) went
       (keeps_same (ended s0) log log refl (sound_in (same_ended same) sound)))) x)
 
-  pub anew_by : {s0 s t : ServerState} → s0 ≡ s → TendsAll (ended s0) t mid last → TendsAnew (ended s) t log last
+  pub anew_by : {s0 s t : ServerState} → s0 ≡ s → AwakensAll (ended s0) t mid last → AwakensAnew (ended s) t log last
   anew_by {s0} same all =
       let is_reported : IsReported (ended s0) mid = record {
         links = links_last left mid (WantsLinks false) now;
@@ -383,15 +383,15 @@ module _ {log left mid last : List Happening} (went : left ≡ log ++ Left ∷ [
       }
 
 -- Slots up to one were settled, where no link slept in some of the others.
-pub record HasSettled (Rests : ℕ → Type 0) (s t : ServerState) (n : ℕ) (log last : List Happening) : Type 0 where
+pub record HasUpdated (Rests : ℕ → Type 0) (s t : ServerState) (n : ℕ) (log last : List Happening) : Type 0 where
   pub awake : IsReported s log → ((k : ℕ) → Rests k → IsAwakeIn s log k) → (k : ℕ) → k < n → IsAwakeIn t last k
   pub still : (k : ℕ) → n ≤ k → IsAwakeIn s log k → IsAwakeIn t last k
   pub rest : (k : ℕ) → n ≤ k → get_or t.links k None ≡ get_or s.links k None
   pub is_reported : IsReported s log → IsReported t last
   pub closed : (start : List Window) → IsServing start s log → IsReported s log → Goes (IsClosedRightly start) log last
 
-pub settled_none : (Rests : ℕ → Type 0) (s : ServerState) (log : List Happening) → HasSettled Rests s s 0 log log
-settled_none Rests s log = record {
+pub updated_none : (Rests : ℕ → Type 0) (s : ServerState) (log : List Happening) → HasUpdated Rests s s 0 log log
+updated_none Rests s log = record {
   awake = λ t rests k lt. absurd (omega (arith, lt));
   still = λ k le a. a;
   rest = λ k le. refl;
@@ -399,22 +399,22 @@ settled_none Rests s log = record {
   closed = λ start v t. goes_same refl;
 }
 
-pub settled_more : {Rests : ℕ → Type 0} (s t u : ServerState) (n : ℕ) (log mid last : List Happening)
-    → KeepsServing s t log mid → HasSettled Rests s t n log mid → Settles n t u mid last
-    → HasSettled Rests s u (n + 1) log last
-settled_more s t u n log mid last keeps h settles = record {
-  awake = λ told0 rests k lt. settles.links k (λ ne. h.awake told0 rests k (omega (arith, lt, ne)));
-  still = λ k le a. settles.links k (λ ne. h.still k (omega (arith, le)) a);
-  rest = λ k le. settles.others k (λ e. omega (arith, le, e)) ∙ h.rest k (omega (arith, le));
-  is_reported = λ told0. settles.is_reported (h.is_reported told0);
+pub updated_more : {Rests : ℕ → Type 0} (s t u : ServerState) (n : ℕ) (log mid last : List Happening)
+    → KeepsServing s t log mid → HasUpdated Rests s t n log mid → Updates n t u mid last
+    → HasUpdated Rests s u (n + 1) log last
+updated_more s t u n log mid last keeps h updates = record {
+  awake = λ told0 rests k lt. updates.links k (λ ne. h.awake told0 rests k (omega (arith, lt, ne)));
+  still = λ k le a. updates.links k (λ ne. h.still k (omega (arith, le)) a);
+  rest = λ k le. updates.others k (λ e. omega (arith, le, e)) ∙ h.rest k (omega (arith, le));
+  is_reported = λ told0. updates.is_reported (h.is_reported told0);
   closed = λ start v told0. goes_then (h.closed start v told0)
-      (settles.closed start (keeps.serving start v) (h.is_reported told0));
+      (updates.closed start (keeps.serving start v) (h.is_reported told0));
 }
 
 -- one more, in which no link slept
-pub settled_past : {Rests : ℕ → Type 0} (s t : ServerState) (n : ℕ) (log last : List Happening)
-    → HasSettled Rests s t n log last → Rests n → HasSettled Rests s t (n + 1) log last
-settled_past s t n log last h here = record {
+pub updated_past : {Rests : ℕ → Type 0} (s t : ServerState) (n : ℕ) (log last : List Happening)
+    → HasUpdated Rests s t n log last → Rests n → HasUpdated Rests s t (n + 1) log last
+updated_past s t n log last h here = record {
   awake = λ told0 rests k lt. elim (eqb_tells k n) [
     | inl same ↦ subst (IsAwakeIn t last) (sym same.1) (h.still n (omega arith) (rests n here))
     | inr other ↦ h.awake told0 rests k (omega (arith, lt, other.1))
@@ -425,9 +425,9 @@ settled_past s t n log last h here = record {
   closed = h.closed;
 }
 
-settled_each : {Rests : ℕ → Type 0} (s t : ServerState) (n : ℕ) (log last : List Happening) → length t.links ≤ n
-    → HasSettled Rests s t n log last → IsReported s log → ((k : ℕ) → Rests k → IsAwakeIn s log k) → IsAwake t last
-settled_each s t n log last le h told0 rests = record {
+updated_each : {Rests : ℕ → Type 0} (s t : ServerState) (n : ℕ) (log last : List Happening) → length t.links ≤ n
+    → HasUpdated Rests s t n log last → IsReported s log → ((k : ℕ) → Rests k → IsAwakeIn s log k) → IsAwake t last
+updated_each s t n log last le h told0 rests = record {
   each = λ k. elim (leb_tells n k) [
     | inr lt ↦ h.awake told0 rests k (omega (arith, lt.1))
     | inl ge ↦ λ l is. absurd (let bad : None ≡ Some l = sym (get_or_past t.links k None (omega (arith, le, ge.1))) ∙ is
@@ -436,16 +436,16 @@ settled_each s t n log last le h told0 rests = record {
   is_reported = h.is_reported told0;
 }
 
-pub settled_all : (s t : ServerState) (n : ℕ) (log last : List Happening) → length t.links ≤ n
-    → HasSettled (λ k. ⊥) s t n log last → TendsAll s t log last
-settled_all s t n log last le h = record {
-  awake = λ told0. settled_each s t n log last le h told0 (λ k none. absurd none);
+pub updated_all : (s t : ServerState) (n : ℕ) (log last : List Happening) → length t.links ≤ n
+    → HasUpdated (λ k. ⊥) s t n log last → AwakensAll s t log last
+updated_all s t n log last le h = record {
+  awake = λ told0. updated_each s t n log last le h told0 (λ k none. absurd none);
   closed = h.closed;
 }
 
-pub settled_but : (places : Places) (s t : ServerState) (n : ℕ) (log last : List Happening) → length t.links ≤ n
-    → HasSettled (λ k. LeavesOut places (get_or s.links k None)) s t n log last → TendsBut places s t log last
-settled_but places s t n log last le h = record {
-  awake = λ told0 rests. settled_each s t n log last le h told0 rests;
+pub updated_but : (places : Places) (s t : ServerState) (n : ℕ) (log last : List Happening) → length t.links ≤ n
+    → HasUpdated (λ k. LeavesOut places (get_or s.links k None)) s t n log last → AwakensThose places s t log last
+updated_but places s t n log last le h = record {
+  awake = λ told0 rests. updated_each s t n log last le h told0 rests;
   closed = h.closed;
 }
