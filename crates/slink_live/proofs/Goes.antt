@@ -75,21 +75,21 @@ served_first s log sound = record {
 
 -- the device said what can be done next
 module _ {s t : ServerState} {first log now : List Happening} (e : Event) (so_far : HasServed s t first log)
-    (said : now ≡ log ++ Next e ∷ []) where
-  pub said_serving : (start : List Window) → IsServing start s first → IsServing start t now
-  said_serving start v = quiet_serving start t log now (Next e) refl (λ k. refl) said (so_far.serving start v)
+    (handled : now ≡ log ++ Next e ∷ []) where
+  pub handled_serving : (start : List Window) → IsServing start s first → IsServing start t now
+  handled_serving start v = quiet_serving start t log now (Next e) refl (λ k. refl) handled (so_far.serving start v)
 
-  said_awake : IsAwake s first → IsAwake t now
-  said_awake a = next_awake t e log now said (so_far.awake a)
+  handled_awake : IsAwake s first → IsAwake t now
+  handled_awake a = next_awake t e log now handled (so_far.awake a)
 
-  said_closed : (start : List Window) → IsServing start s first → IsAwake s first
+  handled_closed : (start : List Window) → IsServing start s first → IsAwake s first
       → Goes (IsClosedRightly start) first now
-  said_closed start v a = further log now (Next e) (so_far.closed start v a) tt said
+  handled_closed start v a = further log now (Next e) (so_far.closed start v a) tt handled
 
-  said_unread : s.has_ended ≡ true → (t.has_ended ≡ true) × (input_of now ≡ input_of first)
-  said_unread ended =
+  handled_unread : s.has_ended ≡ true → (t.has_ended ≡ true) × (input_of now ≡ input_of first)
+  handled_unread ended =
       let at = so_far.unread ended in
-      (at.0, ap input_of said ∙ (input_append log (Next e ∷ []) ∙ (append-nil (input_of log) ∙ at.1)))
+      (at.0, ap input_of handled ∙ (input_append log (Next e ∷ []) ∙ (append-nil (input_of log) ∙ at.1)))
 
   -- and it was done
   module _ {u : ServerState} {last : List Happening} {r : Result (Unit {0}) InputFault}
@@ -97,40 +97,40 @@ module _ {s t : ServerState} {first log now : List Happening} (e : Event) (so_fa
       (keeps_awake : (earlier : List Happening) → now ≡ earlier ++ Next e ∷ [] → KeepsAwake t u now last) where
     turned : (start : List Window) → IsServing start s first → IsAwake s first → HasTurns start first last
     turned start v a = one_turn log last t e (so_far.turns start v a) (so_far.serving start v) (so_far.awake a)
-        (subst (λ (x : List Happening). IsCalled e t x last) said called)
+        (subst (λ (x : List Happening). IsCalled e t x last) handled called)
 
     pub served_on : HasServed s u first last
     served_on =
         let came : ComesTo t now last = comes_to e t now last called in
         record {
           sound = answers.sound;
-          serving = λ start v. answers.serving start (said_serving start v);
-          grows = goes_both first log last so_far.grows (goes_both log now last (Next e ∷ [], said)
+          serving = λ start v. answers.serving start (handled_serving start v);
+          grows = goes_both first log last so_far.grows (goes_both log now last (Next e ∷ [], handled)
               (came.0 ++ came.1.gone, came.1.last_is ∙ append_assoc now came.0 came.1.gone));
           unread = λ ended.
-              let at = said_unread ended in (
+              let at = handled_unread ended in (
                 answers.kept at.0,
                 closes_input (now ++ came.0) last came.1 ∙ (input_append now came.0
                     ∙ (ap (λ b. input_of now ++ b) (came.2 at.0) ∙ (append-nil (input_of now) ∙ at.1))),
               );
-          awake = λ a. (keeps_awake log said).awake (said_awake a);
+          awake = λ a. (keeps_awake log handled).awake (handled_awake a);
           turns = turned;
-          closed = λ start v a. goes_then (said_closed start v a)
-              ((keeps_awake log said).closed start (said_serving start v) (said_awake a));
+          closed = λ start v a. goes_then (handled_closed start v a)
+              ((keeps_awake log handled).closed start (handled_serving start v) (handled_awake a));
         }
 
 -- nothing comes any more
 pub served_nothing : {s t : ServerState} {first log now : List Happening} → HasServed s t first log
     → now ≡ log ++ Next events.Nothing ∷ [] → HasServed s t first now
-served_nothing {s} {t} {first} {log} {now} so_far said = record {
+served_nothing {s} {t} {first} {log} {now} so_far handled = record {
   sound = so_far.sound;
-  serving = said_serving events.Nothing so_far said;
-  grows = goes_both first log now so_far.grows (Next events.Nothing ∷ [], said);
-  unread = said_unread events.Nothing so_far said;
-  awake = said_awake events.Nothing so_far said;
+  serving = handled_serving events.Nothing so_far handled;
+  grows = goes_both first log now so_far.grows (Next events.Nothing ∷ [], handled);
+  unread = handled_unread events.Nothing so_far handled;
+  awake = handled_awake events.Nothing so_far handled;
   turns = λ start v a. one_turn log now t events.Nothing (so_far.turns start v a) (so_far.serving start v)
-      (so_far.awake a) (closes_none (log ++ Next events.Nothing ∷ []) now said);
-  closed = said_closed events.Nothing so_far said;
+      (so_far.awake a) (closes_none (log ++ Next events.Nothing ∷ []) now handled);
+  closed = handled_closed events.Nothing so_far handled;
 }
 
 -- the input was given up

@@ -3,8 +3,8 @@ pub mod Cuts
 pub mod Rings
 pub mod Inputs
 pub mod Own
-pub mod Saying
-pub mod Hearing
+pub mod Producing
+pub mod Receiving
 pub mod Sends
 pub mod Turning
 pub mod Fairness

@@ -60,10 +60,10 @@ module _ {s0 s : ServerState} (same : s0 ≡ s) (j : ℕ) (lt : j < length s0.li
     reads_on {feed} {log} {mid} {last} rings c closes =
         reads_at same j lt c.link log mid last rings o_is c.happened closes
 
-    pub hears_on : {feed : List Window} {t : ServerState} {log mid last : List Happening} → feed ≡ s0.intake.feed
+    pub receives_on : {feed : List Window} {t : ServerState} {log mid last : List Happening} → feed ≡ s0.intake.feed
         → Changes j (λ o l. HasReceived feed j o l log mid) s0.links links → Updates j (moved links) t mid last
         → KeepsAwake s t log last
-    hears_on {feed} {t} {log} {mid} {last} rings c updates =
+    receives_on {feed} {t} {log} {mid} {last} rings c updates =
         received_tends same j lt sound rings o_is c.link c.happened
         (subst (λ (x : List (Option LinkState)). Updates j (record s0 { links = x }) t mid last) c.is updates)
 

@@ -9,7 +9,7 @@ use Rattle.slink_live.specs.Happening.{WantsLinks, Left, input_of, is_at, is_inp
 use Rattle.slink_live.specs.Happening.{piece_of}
 use Rattle.slink_live.specs.Happening.{those_of}
 use Rattle.slink_live.specs.Input.{IsFed}
-use Rattle.slink_live.specs.Story.{IsServed, Story, no_event, elsewhere, opens, hears, asks, takes, goes}
+use Rattle.slink_live.specs.Story.{IsServed, Story, no_event, elsewhere, opens, receives, asks, takes, goes}
 
 if_leading : (t : Bool) (h : Happening) (xs ys : List Happening)
     → (if t then h ∷ (xs ++ ys) else xs ++ ys) ≡ (if t then h ∷ xs else xs) ++ ys
@@ -79,8 +79,8 @@ module _ (start : List Window) (k : ℕ) where
   own_story log o (opens before now t s fresh e) =
       opens (those_of k before) (those_of k now) t (own_story before None s) fresh
       (those_more k before now (Opened k) e (at_self k))
-  own_story log o (hears before now feed t new ring bytes produced all emitted s fed serves e) =
-      hears (those_of k before) (those_of k now) feed t new ring bytes produced all emitted (own_story before _ s)
+  own_story log o (receives before now feed t new ring bytes produced all emitted s fed serves e) =
+      receives (those_of k before) (those_of k now) feed t new ring bytes produced all emitted (own_story before _ s)
       (fed_those before feed fed) serves (those_more k before now (Received k bytes) e (at_self k))
   own_story log o (asks now feed t new ring turn produced all emitted s fed called) =
       asks (those_of k now) feed t new ring turn produced all emitted (own_story now _ s) (fed_those now feed fed)
@@ -140,8 +140,8 @@ module _ (start : List Window) (k : ℕ) where
       moment b now h x e (elsewhere b now h x s other e) (each_moment b x s) before after split
   each_moment log o (opens b now t s fresh e) before after split =
       moment b now (Opened k) _ e (opens b now t s fresh e) (each_moment b None s) before after split
-  each_moment log o (hears b now feed t new ring bytes produced all emitted s fed serves e) before after split =
-      moment b now (Received k bytes) _ e (hears b now feed t new ring bytes produced all emitted s fed serves e)
+  each_moment log o (receives b now feed t new ring bytes produced all emitted s fed serves e) before after split =
+      moment b now (Received k bytes) _ e (receives b now feed t new ring bytes produced all emitted s fed serves e)
       (each_moment b _ s) before after split
   each_moment log o (asks now feed t new ring turn produced all emitted s fed called) before after split =
       each_moment now _ s before after split

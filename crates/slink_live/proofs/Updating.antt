@@ -302,13 +302,13 @@ opened_in {s0} {s} {t} same j lt l sound free fresh none begins fits {log} {open
 pub gone_tends : (s t : ServerState) (j : ℕ) (log last earlier : List Happening) → j < length s.links
     → log ≡ earlier ++ Next (events.Gone j) ∷ [] → t ≡ record s { links = set s.links j None }
     → last ≡ (log ++ Gone j ∷ []) ++ WantsLinks (not s.has_ended) ∷ [] → KeepsAwake s t log last
-gone_tends s t j log last earlier lt said is e =
+gone_tends s t j log last earlier lt handled is e =
     subst (λ (x : ServerState). KeepsAwake s x log last) (sym is) (record {
       awake = λ a. record {
         each = λ k. gone_awake s j log last lt e k (λ ne. a.each k);
         is_reported = gone_reported s j log last lt e a.is_reported.left;
       };
-      closed = λ start v told0. gone_goes s j log last lt e start (inl (earlier, said));
+      closed = λ start v told0. gone_goes s j log last lt e start (inl (earlier, handled));
     })
 
 -- The input brought bytes, and then the links of their places were settled.

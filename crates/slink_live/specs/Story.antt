@@ -55,7 +55,7 @@ pub data IsServed (start : List Window) (k : ℕ) : List Happening → Option St
       → is_at k h ≡ false → now ≡ before ++ h ∷ [] → IsServed start k now o
   opens : (before now : List Happening) (s : Standing) → IsServed start k before None → IsNew s
       → now ≡ before ++ Opened k ∷ [] → IsServed start k now (Some (story s 0 [] []))
-  hears : (before now : List Happening) (feed : List Window) (s new : Standing) (ring : ℕ)
+  receives : (before now : List Happening) (feed : List Window) (s new : Standing) (ring : ℕ)
       (bytes produced all emitted : List ℕ) → IsServed start k before (Some (story s ring produced emitted))
       → IsFed start (input_of before) feed → Serves feed s bytes produced new all
       → now ≡ before ++ Received k bytes ∷ [] → IsServed start k now (Some (story new ring all emitted))

@@ -1,6 +1,6 @@
 use Rattle.std.proofs.Common.{◌≡◌, ◌+◌, ◌-◌, ◌*◌, ◌≤◌, length}
 use Rattle.slink_feed.specs.Session.{Fits}
-use Rattle.slink_live.proofs.Hearing.{Leads}
+use Rattle.slink_live.proofs.Receiving.{Leads}
 use Rattle.slink_live.proofs.link.Link.receive.Given as goal
 
 abbrev pub invariant-loop-start : goal.invariant-loop-start

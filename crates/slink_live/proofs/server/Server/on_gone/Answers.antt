@@ -17,12 +17,12 @@ returns-then-slot-len-clause-closes g c =
     closes_gone c.args.slot (g.R.Ready.log c.args.ready.now) (g.R.Ready.log c.close.new.ready) _ c.close.ensures.log
 
 pub returns-then-slot-len-clause-keeps_awake : goal.returns-then-slot-len-clause-keeps_awake
-returns-then-slot-len-clause-keeps_awake g c earlier said =
+returns-then-slot-len-clause-keeps_awake g c earlier handled =
     gone_tends c.args.self.now c.close.new.self c.args.slot (g.R.Ready.log c.args.ready.now)
     (g.R.Ready.log c.close.new.ready) earlier
-    (omega (arith, c.if-slot-len.true, c.len.ensures, ap (λ (s : ServerState). length s.links) c.self.view_is)) said
+    (omega (arith, c.if-slot-len.true, c.len.ensures, ap (λ (s : ServerState). length s.links) c.self.view_is)) handled
     c.close.ensures.links c.close.ensures.log
 
 pub returns-else-slot-len-clause-keeps_awake : goal.returns-else-slot-len-clause-keeps_awake
-returns-else-slot-len-clause-keeps_awake g c earlier said =
+returns-else-slot-len-clause-keeps_awake g c earlier handled =
     tends_same c.args.self.now (g.R.Ready.log c.args.ready.now) (g.R.Ready.log c.args.ready.now) refl

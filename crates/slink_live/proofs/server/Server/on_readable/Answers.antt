@@ -1,5 +1,5 @@
 use Rattle.std.proofs.Common.{arith, refl}
-use Rattle.slink_live.proofs.Moving.{all_fit, hears_on, reads_on, received_on, still_within}
+use Rattle.slink_live.proofs.Moving.{all_fit, receives_on, reads_on, received_on, still_within}
 use Rattle.slink_live.proofs.Updating.{tends_same}
 use Rattle.slink_live.proofs.Steps.{keeps_both}
 use Rattle.slink_live.proofs.server.Server.on_readable.Goals as goal
@@ -31,7 +31,7 @@ returns-then-slot-len-clause-called g c =
 
 pub returns-then-slot-len-clause-keeps_awake : goal.returns-then-slot-len-clause-keeps_awake
 returns-then-slot-len-clause-keeps_awake g c =
-    hears_on c.self.view_is c.args.slot (omega (arith, c.if-slot-len.true, c.len.ensures)) c.requires c.feed.ensures
+    receives_on c.self.view_is c.args.slot (omega (arith, c.if-slot-len.true, c.len.ensures)) c.requires c.feed.ensures
     c.receive.ensures c.update.ensures.updates
 
 pub returns-else-slot-len-clause-keeps_awake : goal.returns-else-slot-len-clause-keeps_awake

@@ -2,7 +2,7 @@ use Rattle.std.proofs.Common.{◌∙◌, ◌++◌, ◌∷◌, [], ap, inr}
 use Rattle.std.proofs.lemmas.Result.{err_from_is_err_and}
 use Rattle.slink_live.specs.declared.ready.Event.{Event}
 use Rattle.slink_live.specs.Happening.{Next}
-use Rattle.slink_live.proofs.Goes.{said_serving, served_first, served_given, served_nothing, served_on}
+use Rattle.slink_live.proofs.Goes.{handled_serving, served_first, served_given, served_nothing, served_on}
 use Rattle.slink_live.proofs.server.Server.serve.Goals as goal
 
 pub loop-turn-init : goal.loop-turn-init
@@ -36,7 +36,7 @@ returns-in_err-step-in_default g c =
       serving = on.serving;
       over = rw p.1 tt;
       fault = rw (p.1, p.2) (λ start v. answers.fault start
-          (said_serving c.next.result c.loop-turn.invariant c.next.ensures.log start v));
+          (handled_serving c.next.result c.loop-turn.invariant c.next.ensures.log start v));
       ended = rw p.1 answers.ended;
       grows = on.grows;
       unread = on.unread;

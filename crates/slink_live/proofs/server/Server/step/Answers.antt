@@ -11,11 +11,11 @@ returns-in-Input-clause-called g c =
     (g.R.Ready.log c.on_input.new.ready)) (sym c.in-Input.is) c.on_input.ensures.called
 
 pub returns-in-Gone-clause-keeps_awake : goal.returns-in-Gone-clause-keeps_awake
-returns-in-Gone-clause-keeps_awake g c earlier said =
-    c.on_gone.ensures.keeps_awake earlier (said ∙ ap (λ (e : Event). earlier ++ Next e ∷ []) c.in-Gone.is)
+returns-in-Gone-clause-keeps_awake g c earlier handled =
+    c.on_gone.ensures.keeps_awake earlier (handled ∙ ap (λ (e : Event). earlier ++ Next e ∷ []) c.in-Gone.is)
 
 pub returns-in-Nothing-clause-keeps_awake : goal.returns-in-Nothing-clause-keeps_awake
-returns-in-Nothing-clause-keeps_awake g c earlier said =
+returns-in-Nothing-clause-keeps_awake g c earlier handled =
     tends_same c.args.self.now (g.R.Ready.log c.args.ready.now) (g.R.Ready.log c.args.ready.now) refl
 
 pub returns-in-Dialled-clause-called : goal.returns-in-Dialled-clause-called
