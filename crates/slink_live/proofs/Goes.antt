@@ -8,8 +8,8 @@ use Rattle.slink_live.specs.declared.ready.Event.TheVariants as events
 use Rattle.slink_live.specs.Awake.{Goes, IsAwake, IsClosedRightly, further, nothing}
 use Rattle.slink_live.specs.Happening.{Happening, Input, Opened, Received, Emitted, Missed, Next, input_of}
 use Rattle.slink_live.specs.Served.{GoesOn, IsServing, IsSound, LinkState, ServerState, StaysUnread}
-use Rattle.slink_live.specs.Turns.{Closes, HasTurns, IsCalled, ReadsFrom, WritesTo, gives_up, is_full, misses, no_turn}
-use Rattle.slink_live.specs.Turns.{one_turn, reads, stays, takes, too_often}
+use Rattle.slink_live.specs.Turns.{Closes, HasSteps, IsCalled, ReadsFrom, WritesTo, gives_up, is_full, misses, no_step}
+use Rattle.slink_live.specs.Turns.{one_step, reads, stays, takes, too_often}
 use Rattle.slink_live.specs.private.Keeping.{AnswersFault, KeepsAwake}
 use Rattle.slink_live.proofs.Updating.{next_awake}
 use Rattle.slink_live.proofs.Slots.{closes_input, closes_none, input_append, quiet_serving}
@@ -58,7 +58,7 @@ pub record HasServed (s t : ServerState) (first log : List Happening) : Type 0 w
   pub grows : GoesOn first log
   pub unread : StaysUnread s t first log
   pub awake : IsAwake s first → IsAwake t log
-  pub turns : (start : List Window) → IsServing start s first → IsAwake s first → HasTurns start first log
+  pub turns : (start : List Window) → IsServing start s first → IsAwake s first → HasSteps start first log
   pub closed : (start : List Window) → IsServing start s first → IsAwake s first
       → Goes (IsClosedRightly start) first log
 
@@ -69,7 +69,7 @@ served_first s log sound = record {
   grows = ([], sym (append-nil log));
   unread = λ ended. (ended, refl);
   awake = λ a. a;
-  turns = λ start v a. no_turn;
+  turns = λ start v a. no_step;
   closed = λ start v a. nothing;
 }
 
@@ -95,8 +95,8 @@ module _ {s t : ServerState} {first log now : List Happening} (e : Event) (so_fa
   module _ {u : ServerState} {last : List Happening} {r : Result (Unit {0}) InputFault}
       (answers : AnswersFault t u now last r) (called : IsCalled e t now last)
       (keeps_awake : (earlier : List Happening) → now ≡ earlier ++ Next e ∷ [] → KeepsAwake t u now last) where
-    turned : (start : List Window) → IsServing start s first → IsAwake s first → HasTurns start first last
-    turned start v a = one_turn log last t e (so_far.turns start v a) (so_far.serving start v) (so_far.awake a)
+    turned : (start : List Window) → IsServing start s first → IsAwake s first → HasSteps start first last
+    turned start v a = one_step log last t e (so_far.turns start v a) (so_far.serving start v) (so_far.awake a)
         (subst (λ (x : List Happening). IsCalled e t x last) handled called)
 
     pub served_on : HasServed s u first last
@@ -128,7 +128,7 @@ served_nothing {s} {t} {first} {log} {now} so_far handled = record {
   grows = goes_both first log now so_far.grows (Next events.Nothing ∷ [], handled);
   unread = handled_unread events.Nothing so_far handled;
   awake = handled_awake events.Nothing so_far handled;
-  turns = λ start v a. one_turn log now t events.Nothing (so_far.turns start v a) (so_far.serving start v)
+  turns = λ start v a. one_step log now t events.Nothing (so_far.turns start v a) (so_far.serving start v)
       (so_far.awake a) (closes_none (log ++ Next events.Nothing ∷ []) now handled);
   closed = handled_closed events.Nothing so_far handled;
 }

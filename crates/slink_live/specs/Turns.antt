@@ -69,8 +69,8 @@ IsCalled events.Nothing s log last = Closes log last
 
 -- From what had happened on, the device was asked again and again what can be done next. Each time no link slept, and
 -- what it said came to its call; at last, it may be, the input was given up.
-pub data HasTurns (start : List Window) (first : List Happening) : List Happening → Type 0 where
-  no_turn : HasTurns start first first
-  one_turn : (log last : List Happening) (s : ServerState) (e : Event) → HasTurns start first log
-      → IsServing start s log → IsAwake s log → IsCalled e s (log ++ Next e ∷ []) last → HasTurns start first last
-  gives_up : (log last : List Happening) → HasTurns start first log → Closes log last → HasTurns start first last
+pub data HasSteps (start : List Window) (first : List Happening) : List Happening → Type 0 where
+  no_step : HasSteps start first first
+  one_step : (log last : List Happening) (s : ServerState) (e : Event) → HasSteps start first log
+      → IsServing start s log → IsAwake s log → IsCalled e s (log ++ Next e ∷ []) last → HasSteps start first last
+  gives_up : (log last : List Happening) → HasSteps start first log → Closes log last → HasSteps start first last

@@ -13,7 +13,7 @@ ghost use Rattle.slink_live.specs.Input.{IsInputFault};
 ghost use Rattle.slink_live.specs.Served.{AreEmpty, GoesOn, IsBelow, IsFinished, IsServing, IsSound, ServerState};
 ghost use Rattle.slink_live.specs.Served.{StaysUnread};
 ghost use Rattle.slink_live.specs.private.Calling.{IfRested};
-ghost use Rattle.slink_live.specs.Turns.{Closes, HasTurns, IsCalled, Opens, ReadsFrom, ReadsInput, WritesTo};
+ghost use Rattle.slink_live.specs.Turns.{Closes, HasSteps, IsCalled, Opens, ReadsFrom, ReadsInput, WritesTo};
 ghost use Rattle.slink_live.specs.private.Keeping.{AnswersFault, EndsInput, KeepsServing, Updates, KeepsAwake, AwakensAll};
 ghost use Rattle.slink_live.specs.private.Keeping.{AwakensAnew, AwakensThose};
 
@@ -116,8 +116,8 @@ impl Server {
         ensures unread { StaysUnread self.old self.new (R.log ready.old) (R.log ready.new) }
 
         // No link sleeps: so it is each time that the device is asked what can be done next, and what it says is done.
-        ensures turns { (start : List Window) → IsServing start self.old (R.log ready.old)
-            → IsAwake self.old (R.log ready.old) → HasTurns start (R.log ready.old) (R.log ready.new) }
+        ensures steps { (start : List Window) → IsServing start self.old (R.log ready.old)
+            → IsAwake self.old (R.log ready.old) → HasSteps start (R.log ready.old) (R.log ready.new) }
         ensures awake { IsAwake self.old (R.log ready.old) → IsAwake self.new (R.log ready.new) }
         // A link is closed by right.
         ensures closed { (start : List Window) → IsServing start self.old (R.log ready.old)

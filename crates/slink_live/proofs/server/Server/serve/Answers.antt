@@ -20,7 +20,7 @@ returns-in-Nothing g c =
       ended = tt;
       grows = on.grows;
       unread = on.unread;
-      turns = on.turns;
+      steps = on.turns;
       awake = on.awake;
       closed = on.closed;
     }
@@ -40,7 +40,7 @@ returns-in_err-step-in_default g c =
       ended = rw p.1 answers.ended;
       grows = on.grows;
       unread = on.unread;
-      turns = on.turns;
+      steps = on.turns;
       awake = on.awake;
       closed = on.closed;
     }
@@ -62,7 +62,7 @@ returns g c =
       ended = answers.ended;
       grows = on.grows;
       unread = on.unread;
-      turns = on.turns;
+      steps = on.turns;
       awake = on.awake;
       closed = on.closed;
     }
