@@ -44,12 +44,12 @@ pub trait Ready {
     ghost log: { Self → List Happening };
 
     // Nothing comes any more.
-    ghost is_over: { Self → Bool };
+    ghost has_failed: { Self → Bool };
 
     /// Returns what can be done next. A link that is `Readable` or `Writable` may have no bytes, or no room, after all.
     fn next(&mut self) -> Event
         ensures log { log self.new ≡ log self.old ++ Next result ∷ [] }
-        ensures over { result ≡ Event.Nothing → is_over self.new ≡ true };
+        ensures failed { result ≡ Event.Nothing → has_failed self.new ≡ true };
 
     /// Reads once from the input into `buf`, and returns the number of bytes; 0 where there are none now.
     fn read_input(&mut self, buf: &mut [u8]) -> usize

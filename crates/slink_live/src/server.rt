@@ -106,7 +106,7 @@ impl Server {
         ensures sound { IsSound self.new }
         ensures serving { (start : List Window) → IsServing start self.old (R.log ready.old)
             → IsServing start self.new (R.log ready.new) }
-        ensures over { OnOk result (IsFinished self.new ⊎ (R.is_over ready.new ≡ true)) }
+        ensures failed { OnOk result (IsFinished self.new ⊎ (R.has_failed ready.new ≡ true)) }
         ensures fault { IfErr result (λ e. (start : List Window) → IsServing start self.old (R.log ready.old)
             → IsInputFault (places_of start) (input_of (R.log ready.new)) e) }
         ensures ended { IfErr result (λ _. self.new.has_ended ≡ true) }

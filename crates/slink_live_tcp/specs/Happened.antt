@@ -8,5 +8,5 @@ abbrev pub happened : {C I : Type 0} → Tcp C I → List Happening
 happened t = t.log.all
 
 -- nothing comes any more
-abbrev pub is_over : {C I : Type 0} → Tcp C I → Bool
-is_over t = t.is_over
+abbrev pub has_failed : {C I : Type 0} → Tcp C I → Bool
+has_failed t = t.has_failed

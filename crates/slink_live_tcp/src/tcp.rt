@@ -1,6 +1,6 @@
 //! An input, a listener and its links, by one wait for all of them.
 ghost use Rattle.std.specs.Prelude.{◌≡◌, ◌≤◌, [], IfOk, IfSome, length, true};
-ghost use Rattle.slink_live_tcp.specs.Happened.{happened, is_over};
+ghost use Rattle.slink_live_tcp.specs.Happened.{happened, has_failed};
 
 use crate::door::Door;
 use crate::guards::Guards;
@@ -59,7 +59,7 @@ pub struct Tcp<'a, C: Clock, I: Drop> {
     cursor: usize,
     is_busy: bool,
     looked_at: Option<Instant>,
-    is_over: bool,
+    has_failed: bool,
     log: Log,
 }
 
@@ -135,7 +135,7 @@ impl<'a, C: Net + Clock, I: Read + AsRawFd + Drop> Tcp<'a, C, I> {
             cursor: 0,
             is_busy: false,
             looked_at: None,
-            is_over: false,
+            has_failed: false,
             log: Log::new(),
         })
     }
@@ -153,9 +153,9 @@ impl<C: Clock, I: Read + AsRawFd + Drop> Tcp<'_, C, I> {
 
     /// Whether the system failed to say what is ready, so that nothing comes any more.
     pub fn has_failed(&self) -> bool
-        ensures { result ≡ is_over self.now }
+        ensures { result ≡ has_failed self.now }
     {
-        self.is_over
+        self.has_failed
     }
 
     /// Waits until each link that was closed has what was written to it, or was given time to: before the program ends.
@@ -172,7 +172,7 @@ impl<C: Clock, I: Read + AsRawFd + Drop> Tcp<'_, C, I> {
     /// What can be done next: in this round, or in one that follows once the system has said what is ready.
     fn next_event(&mut self) -> Event
         ensures log { self.new.log ≡ self.old.log }
-        ensures over { result ≡ Event.Nothing → is_over self.new ≡ true }
+        ensures failed { result ≡ Event.Nothing → has_failed self.new ≡ true }
     {
         for round in 0..u64::MAX {
             if let Some(event) = self.in_round() {
@@ -182,7 +182,7 @@ impl<C: Clock, I: Read + AsRawFd + Drop> Tcp<'_, C, I> {
                 break;
             }
         }
-        self.is_over = true;
+        self.has_failed = true;
         Event::Nothing
     }
 
@@ -362,11 +362,11 @@ impl<C: Clock, I: Read + AsRawFd + Drop> Tcp<'_, C, I> {
 }
 
 impl<C: Clock, I: Read + AsRawFd + Drop> Ready for Tcp<'_, C, I> {
-    ghost use Rattle.slink_live_tcp.specs.Happened.{happened, is_over};
+    ghost use Rattle.slink_live_tcp.specs.Happened.{happened, has_failed};
 
     ghost log = { happened };
 
-    ghost is_over = { is_over };
+    ghost has_failed = { has_failed };
 
     fn next(&mut self) -> Event {
         let event = self.next_event();

@@ -37,7 +37,7 @@ struct Script {
     noise: Noise,
     left: u32,
     is_left: bool,
-    is_over: bool,
+    has_failed: bool,
     log: Log,
 }
 
@@ -45,10 +45,10 @@ impl Script {
     /// What can be done next.
     fn next_event(&mut self) -> Event
         ensures log { self.new.log ≡ self.old.log }
-        ensures over { result ≡ Event.Nothing → self.new.is_over ≡ true }
+        ensures over { result ≡ Event.Nothing → self.new.has_failed ≡ true }
     {
         if self.left == 0 {
-            self.is_over = true;
+            self.has_failed = true;
             return Event::Nothing;
         }
         self.left -= 1;
@@ -135,7 +135,7 @@ fn copy(from: &[u8], most: usize, to: &mut [u8]) -> usize
 impl Ready for Script {
     ghost log = { λ s. s.log.all };
 
-    ghost is_over = { λ s. s.is_over };
+    ghost has_failed = { λ s. s.has_failed };
 
     fn next(&mut self) -> Event {
         let event = self.next_event();
@@ -280,7 +280,7 @@ fn script_of(rt: &impl Abort, alloc: Global, input: Vec<u8>, seed: u64) -> Scrip
         noise: Noise::new(seed),
         left: 100_000,
         is_left: false,
-        is_over: false,
+        has_failed: false,
         log: Log::new(),
     }
 }

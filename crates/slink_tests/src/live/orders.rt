@@ -51,7 +51,7 @@ struct Order {
     given: usize,
     number: u32,
     digest: u64,
-    is_over: bool,
+    has_failed: bool,
     log: Log,
 }
 
@@ -69,7 +69,7 @@ impl Order {
             given: 0,
             number: 0,
             digest: 0xcbf2_9ce4_8422_2325,
-            is_over: false,
+            has_failed: false,
             log: Log::new(),
         }
     }
@@ -77,10 +77,10 @@ impl Order {
     /// What can be done next.
     fn next_event(&mut self) -> Event
         ensures log { self.new.log ≡ self.old.log }
-        ensures over { result ≡ Event.Nothing → self.new.is_over ≡ true }
+        ensures over { result ≡ Event.Nothing → self.new.has_failed ≡ true }
     {
         if self.left == 0 {
-            self.is_over = true;
+            self.has_failed = true;
             return Event::Nothing;
         }
         self.left -= 1;
@@ -100,7 +100,7 @@ impl Order {
     /// Goes into the digest.
     fn digest(&mut self, word: u64)
         ensures log { self.new.log ≡ self.old.log }
-        ensures over { self.new.is_over ≡ self.old.is_over }
+        ensures over { self.new.has_failed ≡ self.old.has_failed }
     {
         self.digest = (self.digest ^ word).wrapping_mul(0x0000_0100_0000_01b3);
         self.digest ^= self.digest >> 29;
@@ -178,7 +178,7 @@ fn record(station: &[u8; 3], number: u32) -> [u8; 512] {
 impl Ready for Order {
     ghost log = { λ o. o.log.all };
 
-    ghost is_over = { λ o. o.is_over };
+    ghost has_failed = { λ o. o.has_failed };
 
     fn next(&mut self) -> Event {
         let event = self.next_event();

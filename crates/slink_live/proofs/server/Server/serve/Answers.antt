@@ -15,7 +15,7 @@ returns-in-Nothing g c =
     record {
       sound = on.sound;
       serving = on.serving;
-      over = inr (c.next.ensures.over c.in-Nothing.is);
+      failed = inr (c.next.ensures.failed c.in-Nothing.is);
       fault = tt;
       ended = tt;
       grows = on.grows;
@@ -34,7 +34,7 @@ returns-in_err-step-in_default g c =
     record {
       sound = on.sound;
       serving = on.serving;
-      over = rw p.1 tt;
+      failed = rw p.1 tt;
       fault = rw (p.1, p.2) (λ start v. answers.fault start
           (handled_serving c.next.result c.loop-turn.invariant c.next.ensures.log start v));
       ended = rw p.1 answers.ended;
@@ -57,7 +57,7 @@ returns g c =
     record {
       sound = on.sound;
       serving = on.serving;
-      over = tt;
+      failed = tt;
       fault = λ start v. answers.fault start (c.loop-turn.invariant.serving start v);
       ended = answers.ended;
       grows = on.grows;
