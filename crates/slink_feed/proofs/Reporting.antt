@@ -167,16 +167,16 @@ reports_both old now new a b c p fine q = record {
 }
 
 -- What one who reports records has reported, one call after another.
-pub told_none : (t : Talk) (reporter : ReporterState) (output errors : BytesWritten)
+pub noted_none : (t : Talk) (reporter : ReporterState) (output errors : BytesWritten)
     → ReportsRecords t t reporter reporter output output errors errors
-told_none t reporter output errors = record {
+noted_none t reporter output errors = record {
   received = nothing_noted reporter.received output;
   reports = reports_none t (outputs output errors reporter.reporting);
 }
 
-pub told_both : (old now new : Talk) (r s t : ReporterState) (a b c d e f : BytesWritten) → ReportsRecords old now r s a b d e
+pub noted_both : (old now new : Talk) (r s t : ReporterState) (a b c d e f : BytesWritten) → ReportsRecords old now r s a b d e
     → b.failures ≡ a.failures → ReportsRecords now new s t b c e f → ReportsRecords old new r t a c d f
-told_both old now new r s t a b c d e f p fine q = record {
+noted_both old now new r s t a b c d e f p fine q = record {
   received = notes_both r.received s.received t.received a b c fine p.received q.received;
   reports = reports_both old now new (outputs a d r.reporting) (outputs b e s.reporting) (outputs c f t.reporting) p.reports fine
       q.reports;

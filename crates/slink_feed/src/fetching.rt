@@ -119,7 +119,7 @@ fn read<L: Sink, W: Sink, E: Sink>(
     ensures fault { IfErr result
         (λ fault. FailsAt fault (fetching client.old (L.written link.old) (W.written output.old))
         (fetching client.new (L.written link.new) (W.written output.new)) bytes.now) }
-    ensures told { ReportsRecords client.old.talk client.new.talk reporter.old reporter.new (W.written output.old)
+    ensures noted { ReportsRecords client.old.talk client.new.talk reporter.old reporter.new (W.written output.old)
         (W.written output.new) (E.written errors.old) (E.written errors.new) }
     ensures beside { L.beside link.new ≡ L.beside link.old }
 {

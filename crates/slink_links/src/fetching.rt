@@ -259,7 +259,7 @@ fn take_turns<S: Settle, W: Sink, E: Sink>(
     ensures taken { HasTakenAll (fetching client.old (S.written link.old) (W.written output.old)) (S.read link.old)
         result
         (fetching client.new (S.written link.new) (W.written output.new)) (S.read link.new) }
-    ensures told { ReportsRecords client.old.talk client.new.talk reporter.old reporter.new (W.written output.old)
+    ensures noted { ReportsRecords client.old.talk client.new.talk reporter.old reporter.new (W.written output.old)
         (W.written output.new) (E.written errors.old) (E.written errors.new) }
 {
     for turn in 0..TURNS {
@@ -285,7 +285,7 @@ fn take_turn<S: Settle, W: Sink, E: Sink>(
         (W.written output.new) }
     ensures by { IsTurnBy result (fetching client.old (S.written link.old) (W.written output.old))
         (fetching client.new (S.written link.new) (W.written output.new)) (S.read link.old) (S.read link.new) }
-    ensures told { ReportsRecords client.old.talk client.new.talk reporter.old reporter.new (W.written output.old)
+    ensures noted { ReportsRecords client.old.talk client.new.talk reporter.old reporter.new (W.written output.old)
         (W.written output.new) (E.written errors.old) (E.written errors.new) }
 {
     let turn = fetch_turn_in(client, link, output, errors, reporter, room);

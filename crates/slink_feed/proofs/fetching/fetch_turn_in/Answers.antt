@@ -3,7 +3,7 @@ use Rattle.mseed_stream.specs.Device.{BytesWritten}
 use Rattle.slink_feed.specs.Fetching.{fetching}
 use Rattle.slink_feed.specs.Turns.{reported_once}
 use Rattle.slink_feed.proofs.Deliveries.{closed_turn}
-use Rattle.slink_feed.proofs.Reporting.{told_none}
+use Rattle.slink_feed.proofs.Reporting.{noted_none}
 use Rattle.slink_feed.proofs.fetching.fetch_turn_in.Goals as goal
 
 pub returns-then-count-eq0 : goal.returns-then-count-eq0
@@ -17,8 +17,8 @@ returns-then-count-eq0 g c =
         fault = search rules;
         reading = c.has_reading.ensures;
       };
-      reported = told_none _ _ _ _;
+      reported = noted_none _ _ _ _;
     }
 
 pub returns-in-Err : goal.returns-in-Err
-returns-in-Err g c = record { turn = search rules; reported = told_none _ _ _ _ }
+returns-in-Err g c = record { turn = search rules; reported = noted_none _ _ _ _ }

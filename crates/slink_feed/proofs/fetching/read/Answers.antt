@@ -2,14 +2,14 @@ use Rattle.std.proofs.Common.{◌∙◌, refl}
 use Rattle.std.proofs.lemmas.Result.{err_from_is_err_and}
 use Rattle.slink_feed.proofs.Deliveries.{all_delivered, fails_here, nothing_so_far, one_more, piece_of}
 use Rattle.slink_feed.proofs.Noting.{notes_both}
-use Rattle.slink_feed.proofs.Reporting.{reports_cut, reports_received, told_none}
+use Rattle.slink_feed.proofs.Reporting.{reports_cut, reports_received, noted_none}
 use Rattle.slink_feed.proofs.Sendoffs.{passed_on}
 use Rattle.slink_feed.proofs.fetching.read.Goals as goal
 
 pub loop-offset-init : goal.loop-offset-init
 loop-offset-init g c = record {
   so_far = nothing_so_far _ c.args.bytes.now;
-  told = told_none c.args.client.now.talk c.args.reporter.now (g.W.Sink.written c.args.output.now)
+  noted = noted_none c.args.client.now.talk c.args.reporter.now (g.W.Sink.written c.args.output.now)
       (g.E.Sink.written c.args.errors.now);
   beside = refl;
 }
@@ -24,12 +24,12 @@ returns-in_err-incoming-clause-fault g c =
     c.in_err-incoming.ensures.fault.event c.if-not-is_linked.ensures.yes c.in_err-incoming.ensures.fault.comes)
     c.in_err-incoming.field-0.0 c.in_err-incoming.ensures.fault.cut)
 
-pub returns-in_err-incoming-clause-told : goal.returns-in_err-incoming-clause-told
-returns-in_err-incoming-clause-told g c = record {
+pub returns-in_err-incoming-clause-noted : goal.returns-in_err-incoming-clause-noted
+returns-in_err-incoming-clause-noted g c = record {
   received = notes_both _ _ _ _ _ _ c.loop-offset.invariant.so_far.output.failures
-      c.loop-offset.invariant.told.received c.take_next.ensures.received;
+      c.loop-offset.invariant.noted.received c.take_next.ensures.received;
   reports = reports_cut _ _ c.in_err-incoming.field-0.0 c.loop-offset.counts _ _ _ _ _ refl refl
-      c.loop-offset.invariant.told.reports c.loop-offset.invariant.so_far.output.failures
+      c.loop-offset.invariant.noted.reports c.loop-offset.invariant.so_far.output.failures
       c.in_err-incoming.ensures.fault;
 }
 
@@ -40,11 +40,11 @@ loop-offset-preserved g c = record {
       (piece_of _ _ c.args.bytes.now c.loop-offset.offset c.in_ok-incoming.incoming.used
       c.in_ok-incoming.ensures.ok.event c.if-not-is_linked.ensures.yes c.in_ok-incoming.ensures.ok.comes)
       c.in_ok-incoming.incoming.counts c.in_ok-incoming.ensures.ok.done;
-  told = record {
+  noted = record {
     received = notes_both _ _ _ _ _ _ c.loop-offset.invariant.so_far.output.failures
-        c.loop-offset.invariant.told.received c.take_next.ensures.received;
+        c.loop-offset.invariant.noted.received c.take_next.ensures.received;
     reports = reports_received _ _ c.in_ok-incoming.incoming.used c.loop-offset.counts
-        c.in_ok-incoming.incoming.counts _ _ _ _ _ refl refl c.loop-offset.invariant.told.reports
+        c.in_ok-incoming.incoming.counts _ _ _ _ _ refl refl c.loop-offset.invariant.noted.reports
         c.loop-offset.invariant.so_far.output.failures c.in_ok-incoming.ensures.ok;
   };
   beside = c.take_next.ensures.beside ∙ c.loop-offset.invariant.beside;

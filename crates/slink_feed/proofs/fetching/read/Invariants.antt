@@ -9,7 +9,7 @@ invariant-loop-offset g l = record {
   so_far : SoFar (fetching l.fn.client (g.L.Sink.written l.fn.link) (g.W.Sink.written l.fn.output))
       (fetching l.client (g.L.Sink.written l.link) (g.W.Sink.written l.output)) l.bytes l.offset l.counts.written
       l.counts.output;
-  told : ReportsRecords l.fn.client.talk l.client.talk l.fn.reporter l.reporter (g.W.Sink.written l.fn.output)
+  noted : ReportsRecords l.fn.client.talk l.client.talk l.fn.reporter l.reporter (g.W.Sink.written l.fn.output)
       (g.W.Sink.written l.output) (g.E.Sink.written l.fn.errors) (g.E.Sink.written l.errors);
   beside : g.L.Sink.beside l.link ≡ g.L.Sink.beside l.fn.link;
 }

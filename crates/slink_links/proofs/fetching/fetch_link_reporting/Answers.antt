@@ -29,7 +29,7 @@ returns-in-Ok-clause-fetched g c =
     (g.S.Source.read c.take_turns.new.link) (g.W.Sink.written c.args.output.now)
     (g.W.Sink.written c.take_turns.new.output)
     c.connect-line.ensures.written c.connect-line.ensures.reads c.take_turns.ensures.turned)
-    c.take_turns.ensures.told.reports
+    c.take_turns.ensures.noted.reports
 
 pub returns-in-Ok-clause-read : goal.returns-in-Ok-clause-read
 returns-in-Ok-clause-read g c =

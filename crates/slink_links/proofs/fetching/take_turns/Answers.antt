@@ -2,7 +2,7 @@ use Rattle.std.proofs.Common.{◌≡◌, ◌+◌, ℕ, None, Some, arith, subst}
 use Rattle.slink_feed.specs.Fetching.{Fetching, fetching}
 use Rattle.slink_links.specs.Fetched.{HasTakenTurns, for_long, more, none, to_the_end}
 use Rattle.slink_links.proofs.Fetches.{turn_to, turned_both, turned_none, turned_out, turned_reading, turned_to}
-use Rattle.slink_feed.proofs.Reporting.{told_both, told_none}
+use Rattle.slink_feed.proofs.Reporting.{noted_both, noted_none}
 use Rattle.slink_links.proofs.fetching.take_turns.Goals as goal
 
 pub loop-turn-init : goal.loop-turn-init
@@ -10,7 +10,7 @@ loop-turn-init g c = record {
   turned = turned_none c.args.client.now (g.S.Source.read c.args.link.now) (g.W.Sink.written c.args.output.now)
       c.requires.linked;
   taken = none;
-  told = told_none c.args.client.now.talk c.args.reporter.now (g.W.Sink.written c.args.output.now)
+  noted = noted_none c.args.client.now.talk c.args.reporter.now (g.W.Sink.written c.args.output.now)
       (g.E.Sink.written c.args.errors.now);
 }
 
@@ -33,10 +33,10 @@ returns-in-Some-clause-taken g c =
 fine : {m n : ℕ} → m ≡ n + 0 → m ≡ n
 fine e = omega (arith, e)
 
-pub returns-in-Some-clause-told : goal.returns-in-Some-clause-told
-returns-in-Some-clause-told g c =
-    told_both _ _ _ _ _ _ _ _ _ _ _ _ c.loop-turn.invariant.told (fine c.loop-turn.invariant.turned.failures)
-    c.take_turn.ensures.told
+pub returns-in-Some-clause-noted : goal.returns-in-Some-clause-noted
+returns-in-Some-clause-noted g c =
+    noted_both _ _ _ _ _ _ _ _ _ _ _ _ c.loop-turn.invariant.noted (fine c.loop-turn.invariant.turned.failures)
+    c.take_turn.ensures.noted
 
 pub loop-turn-preserved : goal.loop-turn-preserved
 loop-turn-preserved g c = record {
@@ -44,8 +44,8 @@ loop-turn-preserved g c = record {
       (turned_to _ _ _ _ _ _ _ _ c.in_default.is c.take_turn.ensures.turned);
   taken = more c.loop-turn.turn _ _ _ _ c.loop-turn.invariant.taken
       (turn_to _ _ _ _ _ _ c.in_default.is c.take_turn.ensures.by);
-  told = told_both _ _ _ _ _ _ _ _ _ _ _ _ c.loop-turn.invariant.told (fine c.loop-turn.invariant.turned.failures)
-      c.take_turn.ensures.told;
+  noted = noted_both _ _ _ _ _ _ _ _ _ _ _ _ c.loop-turn.invariant.noted (fine c.loop-turn.invariant.turned.failures)
+      c.take_turn.ensures.noted;
 }
 
 pub returns-clause-turned : goal.returns-clause-turned

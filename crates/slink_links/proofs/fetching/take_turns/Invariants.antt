@@ -6,7 +6,7 @@ use Rattle.slink_links.proofs.fetching.take_turns.Given as goal
 
 abbrev pub invariant-loop-turn : goal.invariant-loop-turn
 invariant-loop-turn g l = record {
-  told : ReportsRecords l.fn.client.talk l.client.talk l.fn.reporter l.reporter (g.W.Sink.written l.fn.output)
+  noted : ReportsRecords l.fn.client.talk l.client.talk l.fn.reporter l.reporter (g.W.Sink.written l.fn.output)
       (g.W.Sink.written l.output) (g.E.Sink.written l.fn.errors) (g.E.Sink.written l.errors);
   turned : HasTurned None l.fn.client l.client (g.S.Source.read l.fn.link) (g.S.Source.read l.link)
       (g.W.Sink.written l.fn.output) (g.W.Sink.written l.output);
