@@ -5,11 +5,11 @@ ghost use Rattle.mseed_stream.specs.Exchanges.{Exchange, exchange};
 ghost use Rattle.slink_links.specs.Out.{AreOut};
 ghost use Rattle.slink_links.specs.Served.{has_failed};
 
-use crate::settle::Settle;
+use crate::handshake::EndsHandshake;
 
 /// Where links come from, one after another: each is given back before the next one is requested.
 pub trait Accept {
-    type Link: Settle + Drop;
+    type Link: EndsHandshake + Drop;
 
     // How many calls were made so far.
     ghost calls: { Self → ℕ };

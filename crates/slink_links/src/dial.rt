@@ -4,11 +4,11 @@ ghost use Rattle.mseed_stream.specs.Device.{nothing_read, nothing_written};
 ghost use Rattle.mseed_stream.specs.Exchanges.{Exchange, exchange};
 ghost use Rattle.slink_links.specs.Out.{AreOut};
 
-use crate::settle::Settle;
+use crate::handshake::EndsHandshake;
 
 /// Where links are requested, one after another: each is given back before the next one is requested.
 pub trait Dial {
-    type Link: Settle + Drop;
+    type Link: EndsHandshake + Drop;
 
     // How many calls were made so far.
     ghost calls: { Self → ℕ };

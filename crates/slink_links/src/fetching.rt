@@ -13,9 +13,9 @@ ghost use Rattle.slink_links.specs.Fetched.{FetchesReporting, HasTried, ReportsO
 ghost use Rattle.slink_links.specs.Fetched.{end_by, fetch_status, is_unwritten, next_lines, stopped_by};
 
 use crate::dial::Dial;
+use crate::handshake::EndsHandshake;
 use crate::pause::{Pause, wait_after};
 use crate::serving::TURNS;
-use crate::settle::Settle;
 use crate::status::{DONE, FAULT};
 use mseed_stream::{Counted, Sink, report, write_all_of};
 use slink_feed::{Client, Event, LinkFault, Reporter, Room, Turn, fetch_turn_in};
@@ -203,7 +203,11 @@ fn try_link<D: Dial, W: Sink, E: Sink>(
 }
 
 /// Fetches over one link, and answers how it ended. The output takes the records that the link brought, and no others.
-pub fn fetch_link<S: Settle, W: Sink>(client: &mut Client, link: &mut S, output: &mut W) -> FetchEnd
+pub fn fetch_link<S: EndsHandshake, W: Sink>(
+    client: &mut Client,
+    link: &mut S,
+    output: &mut W,
+) -> FetchEnd
     ensures fetched { HasFetched result client.old client.new (W.written output.old) (W.written output.new) }
     ensures read { HasReadLink client.old client.new (S.read link.old) (S.read link.new) (W.written output.old)
         (W.written output.new) }
@@ -219,7 +223,7 @@ pub fn fetch_link<S: Settle, W: Sink>(client: &mut Client, link: &mut S, output:
 
 /// Fetches over one link as [`fetch_link`], reports each record before it is written, and notes that the output
 /// accepted one.
-fn fetch_link_reporting<S: Settle, W: Sink, E: Sink>(
+fn fetch_link_reporting<S: EndsHandshake, W: Sink, E: Sink>(
     client: &mut Client,
     link: &mut S,
     output: &mut W,
@@ -244,7 +248,7 @@ fn fetch_link_reporting<S: Settle, W: Sink, E: Sink>(
 }
 
 /// Takes turns with a link until it ends, or until many were taken.
-fn take_turns<S: Settle, W: Sink, E: Sink>(
+fn take_turns<S: EndsHandshake, W: Sink, E: Sink>(
     client: &mut Client,
     link: &mut S,
     output: &mut W,
@@ -271,7 +275,7 @@ fn take_turns<S: Settle, W: Sink, E: Sink>(
 }
 
 /// Takes a turn with a link, and answers how the fetch ends by it, if it does.
-fn take_turn<S: Settle, W: Sink, E: Sink>(
+fn take_turn<S: EndsHandshake, W: Sink, E: Sink>(
     client: &mut Client,
     link: &mut S,
     output: &mut W,
@@ -289,14 +293,14 @@ fn take_turn<S: Settle, W: Sink, E: Sink>(
         (W.written output.new) (E.written errors.old) (E.written errors.new) }
 {
     let turn = fetch_turn_in(client, link, output, errors, reporter, room);
-    settle(client, link);
+    end_handshake(client, link);
     end_by(&turn)
 }
 
 /// Informs the link where the handshake is over.
-fn settle<S: Settle>(client: &Client, link: &S) {
+fn end_handshake<S: EndsHandshake>(client: &Client, link: &S) {
     if client.is_streaming() {
-        link.settle();
+        link.end_handshake();
     }
 }
 

@@ -23,7 +23,7 @@ pub(crate) struct Patient<'a, C: Clock, S: OpenStream> {
     stream: S,
     limits: Limits,
     start: Instant,
-    is_settled: Cell<bool>,
+    is_streaming: Cell<bool>,
 }
 
 impl<'a, C: Clock, S: OpenStream + Drop> Patient<'a, C, S> {
@@ -38,7 +38,7 @@ impl<'a, C: Clock, S: OpenStream + Drop> Patient<'a, C, S> {
             stream,
             limits,
             start: Instant::now(clock)?,
-            is_settled: Cell::new(false),
+            is_streaming: Cell::new(false),
         })
     }
 
@@ -48,8 +48,8 @@ impl<'a, C: Clock, S: OpenStream + Drop> Patient<'a, C, S> {
     }
 
     /// The handshake is over: from here on each call has a time of its own.
-    pub(crate) fn settle(&self) {
-        if !self.is_settled.replace(true) && self.limits.all.is_some() {
+    pub(crate) fn end_handshake(&self) {
+        if !self.is_streaming.replace(true) && self.limits.all.is_some() {
             let _ = self.stream.set_read_timeout(self.limits.reads);
             let _ = self.stream.set_write_timeout(self.limits.all);
         }
@@ -64,7 +64,7 @@ impl<'a, C: Clock, S: OpenStream + Drop> Patient<'a, C, S> {
         let Some(limit) = self.limits.all else {
             return Ok(());
         };
-        if self.is_settled.get() {
+        if self.is_streaming.get() {
             return Ok(());
         }
         let left = limit.saturating_sub(self.start.elapsed(self.clock)?);

@@ -4,7 +4,7 @@ ghost use Rattle.slink_links.specs.Out.{AreOut};
 ghost use Rattle.slink_links.specs.Served.{HasServed, HasServedEach, IsServed};
 
 use crate::accept::Accept;
-use crate::settle::Settle;
+use crate::handshake::EndsHandshake;
 use crate::status::{DONE, FAULT};
 use mseed_stream::{Sink, report};
 use slink_feed::{Feed, LinkFault, Session, Turn, serve_turn};
@@ -90,13 +90,16 @@ fn serve_next<B: Allocator, A: Accept>(feed: &Feed<B>, acceptor: &mut A) -> bool
 /// # Errors
 ///
 /// Why the link failed.
-pub fn serve_link<B: Allocator, S: Settle>(feed: &Feed<B>, link: &mut S) -> Result<(), LinkFault>
+pub fn serve_link<B: Allocator, S: EndsHandshake>(
+    feed: &Feed<B>,
+    link: &mut S,
+) -> Result<(), LinkFault>
     ensures { IsServed feed.now result (S.read link.old) (S.read link.new) (S.written link.old) (S.written link.new) }
 {
     let mut session = Session::new();
     for turn in 0..TURNS {
         match serve_turn(&mut session, feed, link)? {
-            Turn::Goes => settle(&session, link),
+            Turn::Goes => end_handshake(&session, link),
             Turn::Closed | Turn::Ended | Turn::Stopped(_) => break,
         }
     }
@@ -104,8 +107,8 @@ pub fn serve_link<B: Allocator, S: Settle>(feed: &Feed<B>, link: &mut S) -> Resu
 }
 
 /// Informs the link where the handshake is over.
-fn settle<S: Settle>(session: &Session, link: &S) {
+fn end_handshake<S: EndsHandshake>(session: &Session, link: &S) {
     if session.is_streaming() {
-        link.settle();
+        link.end_handshake();
     }
 }

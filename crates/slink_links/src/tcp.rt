@@ -12,11 +12,11 @@ use crate::closing::close;
 use crate::dial::Dial;
 use crate::fetching::FetchEnd;
 use crate::gathering::Gathering;
+use crate::handshake::EndsHandshake;
 use crate::patient::{Limits, Patient};
 use crate::pause::Sleeper;
 use crate::plan::{FetchPlan, ServePlan};
 use crate::planned::{fetch_planned, serve_planned};
-use crate::settle::Settle;
 use crate::status::FAULT;
 use mseed_stream::{Counted, Exchanges, Sink, Tally, report};
 use slink_wire::{Address, Host, Name, Timeout};
@@ -49,16 +49,17 @@ fn link_over<'a, C: Clock, S: OpenStream + Drop>(
     Patient::new(clock, stream, limits)
 }
 
-impl<C: Clock, S: Read + Write + OpenStream + Drop> Settle
+impl<C: Clock, S: Read + Write + OpenStream + Drop> EndsHandshake
     for Counted<Gathering<Patient<'_, C, S>>> {
-    fn settle(&self) {
-        self.get_ref().stream().settle();
+    fn end_handshake(&self) {
+        self.get_ref().stream().end_handshake();
     }
 }
 
-impl<C: Clock, S: Read + Write + OpenStream + Drop> Settle for Counted<Ahead<Patient<'_, C, S>>> {
-    fn settle(&self) {
-        self.get_ref().stream().settle();
+impl<C: Clock, S: Read + Write + OpenStream + Drop> EndsHandshake
+    for Counted<Ahead<Patient<'_, C, S>>> {
+    fn end_handshake(&self) {
+        self.get_ref().stream().end_handshake();
     }
 }
 

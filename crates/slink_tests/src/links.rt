@@ -12,7 +12,7 @@ mod tcp;
 use crate::model::record;
 use mseed_stream::{Counted, Duplex, Exchanges, Failed, Sink, Source, Tally};
 use slink_feed::{Client, Feed};
-use slink_links::{Accept, Dial, FetchPlan, Pause, ServePlan, Settle};
+use slink_links::{Accept, Dial, EndsHandshake, FetchPlan, Pause, ServePlan};
 use slink_wire::{Address, Host, Packet, Timeout};
 use std::alloc::Global;
 use std::io;
@@ -111,7 +111,7 @@ impl Duplex for Link<'_> {
     ghost writes_apart = { λ l. refl };
 }
 
-impl Settle for Link<'_> {}
+impl EndsHandshake for Link<'_> {}
 
 /// What is to wait, and doesn't.
 #[derive(Drop)]

@@ -62,8 +62,8 @@ fn outcome<N: Net>(
         }
     }
     world.catch_up();
-    world.settle(false);
-    world.settle(true);
+    world.end_handshake(false);
+    world.end_handshake(true);
     world.rest();
     world.part();
     Ok((world.seen, world.wrong))
