@@ -51,12 +51,12 @@ impl<I: Read + AsRawFd + Drop> Input<I> {
     }
 
     /// An event says that it may have bytes, or be at its end.
-    pub(crate) fn may(&mut self) {
+    pub(crate) fn set_ready(&mut self) {
         self.may_read = true;
     }
 
     /// What can be done with it. How it ended is reported once.
-    pub(crate) fn news(&mut self) -> Option<Event>
+    pub(crate) fn readiness(&mut self) -> Option<Event>
         ensures { IfSome result (λ event. event ≡ Event.Nothing → ⊥) }
     {
         match self.stage {

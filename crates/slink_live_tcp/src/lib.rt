@@ -1,10 +1,10 @@
 //! Standard input and links over TCP, by one wait for all of them.
 #![tactic(auto)]
 
-mod door;
+mod acceptor;
+mod draining;
 mod guards;
 mod input;
-mod leaving;
 mod round;
 mod slot;
 mod tcp;

@@ -18,7 +18,7 @@ const LONG: usize = 5_720;
 
 /// A stream, what the server wants of it, and what may be had.
 #[derive(Drop)]
-struct Line {
+struct Connection {
     stream: TcpStream,
     interest: Interest,
     may_read: bool,
@@ -35,12 +35,12 @@ struct Line {
 /// A slot for a link.
 #[derive(Drop)]
 pub(crate) struct Slot {
-    line: Option<Line>,
+    connection: Option<Connection>,
 }
 
 /// What can be done with the link in a slot.
 #[derive(Clone, Copy, Debug, PartialEq, Eq)]
-pub(crate) enum News {
+pub(crate) enum Readiness {
     /// Nothing can be done.
     None,
     /// The link may have bytes.
@@ -51,7 +51,7 @@ pub(crate) enum News {
     Gone,
 }
 
-impl Line {
+impl Connection {
     /// Whether it has only so much time: in the handshake, and while it takes nothing though there is something to
     /// write.
     fn is_timed(&self) -> bool {
@@ -100,15 +100,15 @@ impl Line {
     }
 
     /// What can be done. A write comes before a read.
-    fn news(&self) -> News {
+    fn readiness(&self) -> Readiness {
         if self.is_gone || self.is_at_end && !self.interest.writes {
-            News::Gone
+            Readiness::Gone
         } else if self.interest.writes && self.may_write {
-            News::Writable
+            Readiness::Writable
         } else if self.interest.reads && self.may_read && !self.is_at_end {
-            News::Readable
+            Readiness::Readable
         } else {
-            News::None
+            Readiness::None
         }
     }
 
@@ -164,12 +164,12 @@ impl Line {
 impl Slot {
     /// A slot without a link.
     pub(crate) fn new() -> Slot {
-        Slot { line: None }
+        Slot { connection: None }
     }
 
     /// Takes a link, of which a read and a write are tried at once.
     pub(crate) fn open(&mut self, stream: TcpStream) {
-        self.line = Some(Line {
+        self.connection = Some(Connection {
             stream,
             interest: FIRST_INTEREST,
             may_read: true,
@@ -183,49 +183,49 @@ impl Slot {
 
     /// The stream of the link, which stands here no more.
     pub(crate) fn leave(&mut self) -> Option<TcpStream> {
-        match self.line.take() {
-            Some(line) => Some(line.stream),
+        match self.connection.take() {
+            Some(connection) => Some(connection.stream),
             None => None,
         }
     }
 
     /// What the server wants, and whether that is something else than before.
     pub(crate) fn wants(&mut self, interest: Interest) -> bool {
-        match &mut self.line {
-            Some(line) => line.wants(interest),
+        match &mut self.connection {
+            Some(connection) => connection.wants(interest),
             None => false,
         }
     }
 
     /// Notes what an event reports of the link.
-    pub(crate) fn may(&mut self, reads: bool, writes: bool) {
-        if let Some(line) = &mut self.line {
-            line.may_read = line.may_read || reads;
-            line.may_write = line.may_write || writes;
+    pub(crate) fn set_ready(&mut self, reads: bool, writes: bool) {
+        if let Some(connection) = &mut self.connection {
+            connection.may_read = connection.may_read || reads;
+            connection.may_write = connection.may_write || writes;
         }
     }
 
     /// Whether it has only so much time.
     pub(crate) fn is_timed(&self) -> bool {
-        match &self.line {
-            Some(line) => line.is_timed(),
+        match &self.connection {
+            Some(connection) => connection.is_timed(),
             None => false,
         }
     }
 
     /// Takes note of the time, and answers whether the link has waited for too long.
     pub(crate) fn look_at(&mut self, now: Instant, limit: Duration) -> bool {
-        match &mut self.line {
-            Some(line) => line.look_at(now, limit),
+        match &mut self.connection {
+            Some(connection) => connection.look_at(now, limit),
             None => false,
         }
     }
 
     /// What can be done.
-    pub(crate) fn news(&self) -> News {
-        match &self.line {
-            Some(line) => line.news(),
-            None => News::None,
+    pub(crate) fn readiness(&self) -> Readiness {
+        match &self.connection {
+            Some(connection) => connection.readiness(),
+            None => Readiness::None,
         }
     }
 
@@ -233,8 +233,12 @@ impl Slot {
     pub(crate) fn read(&mut self, buf: &mut [u8]) -> usize
         ensures { result ≤ length buf.new }
     {
-        match &mut self.line {
-            Some(line) => if buf.is_empty() { 0 } else { line.read(buf) },
+        match &mut self.connection {
+            Some(connection) => if buf.is_empty() {
+                0
+            } else {
+                connection.read(buf)
+            },
             None => 0,
         }
     }
@@ -243,11 +247,11 @@ impl Slot {
     pub(crate) fn write(&mut self, bytes: &[u8]) -> usize
         ensures { result ≤ length bytes.now }
     {
-        match &mut self.line {
-            Some(line) => if bytes.is_empty() {
+        match &mut self.connection {
+            Some(connection) => if bytes.is_empty() {
                 0
             } else {
-                line.write(bytes)
+                connection.write(bytes)
             },
             None => 0,
         }

@@ -2,12 +2,12 @@
 ghost use Rattle.std.specs.Prelude.{◌≡◌, ◌≤◌, [], IfOk, IfSome, length, true};
 ghost use Rattle.slink_live_tcp.specs.Happened.{happened, has_failed};
 
-use crate::door::Door;
+use crate::acceptor::Acceptor;
+use crate::draining::Draining;
 use crate::guards::Guards;
 use crate::input::{INPUT, Input};
-use crate::leaving::Departures;
 use crate::round::Round;
-use crate::slot::{News, Slot};
+use crate::slot::{Readiness, Slot};
 use mio::net::TcpListener;
 use mio::{Events, Poll, Token};
 use slink_live::{Event, Interest, Log, Ready};
@@ -50,10 +50,10 @@ pub struct Tcp<'a, C: Clock, I: Drop> {
     poll: Poll,
     events: Events,
     input: Input<I>,
-    door: Door,
+    acceptor: Acceptor,
     timeout: Option<Duration>,
     slots: Vec<Slot>,
-    departures: Departures,
+    draining: Draining,
     round: Round,
     // The next token of the round, and whether the round found something.
     cursor: usize,
@@ -73,11 +73,11 @@ fn slots(alloc: Global, count: usize) -> io::Result<Vec<Slot>> {
 }
 
 /// A listener that is waited for.
-fn door_at<N: Net>(host: &N, address: SocketAddr, poll: &Poll) -> io::Result<Door> {
+fn acceptor_at<N: Net>(host: &N, address: SocketAddr, poll: &Poll) -> io::Result<Acceptor> {
     let mut listener = TcpListener::bind(host, address)?;
     poll.registry()
         .register(&mut listener, Token(LISTENER), mio::Interest::READABLE)?;
-    Ok(Door::new(listener))
+    Ok(Acceptor::new(listener))
 }
 
 /// A round with the tokens of the input and of the listener.
@@ -89,11 +89,11 @@ fn first_round(alloc: Global, count: usize) -> io::Result<Round> {
 }
 
 /// Slots for so many links, room for those of them that leave, and a round with room for the tokens of all.
-fn places(alloc: Global, clients: usize) -> io::Result<(Vec<Slot>, Departures, Round)> {
+fn slots_for(alloc: Global, clients: usize) -> io::Result<(Vec<Slot>, Draining, Round)> {
     let end = FIRST.saturating_add(clients);
     let slots = slots(alloc, clients)?;
-    let departures = Departures::new(alloc, end, clients)?;
-    Ok((slots, departures, first_round(alloc, end)?))
+    let draining = Draining::new(alloc, end, clients)?;
+    Ok((slots, draining, first_round(alloc, end)?))
 }
 
 /// What waits, and the listener that is waited for. No socket takes the descriptor of a standard stream that is closed.
@@ -101,12 +101,12 @@ fn waiting<N: Net>(
     host: &N,
     alloc: Global,
     address: SocketAddr,
-) -> io::Result<(Guards, Poll, Events, Door)> {
+) -> io::Result<(Guards, Poll, Events, Acceptor)> {
     let guards = Guards::new(host, alloc)?;
     let poll = Poll::new(host)?;
     let events = Events::with_capacity(alloc, EVENTS)?;
-    let door = door_at(host, address, &poll)?;
-    Ok((guards, poll, events, door))
+    let acceptor = acceptor_at(host, address, &poll)?;
+    Ok((guards, poll, events, acceptor))
 }
 
 impl<'a, C: Net + Clock, I: Read + AsRawFd + Drop> Tcp<'a, C, I> {
@@ -118,8 +118,8 @@ impl<'a, C: Net + Clock, I: Read + AsRawFd + Drop> Tcp<'a, C, I> {
     pub fn bind(host: &'a C, alloc: Global, plan: Plan, input: I) -> io::Result<Tcp<'a, C, I>>
         ensures { IfOk result (λ t. happened t ≡ []) }
     {
-        let (guards, poll, events, door) = waiting(host, alloc, plan.address)?;
-        let (slots, departures, round) = places(alloc, plan.clients)?;
+        let (guards, poll, events, acceptor) = waiting(host, alloc, plan.address)?;
+        let (slots, draining, round) = slots_for(alloc, plan.clients)?;
         let input = Input::new(input, &guards, poll.registry());
         Ok(Tcp {
             clock: host,
@@ -127,10 +127,10 @@ impl<'a, C: Net + Clock, I: Read + AsRawFd + Drop> Tcp<'a, C, I> {
             poll,
             events,
             input,
-            door,
+            acceptor,
             timeout: plan.timeout,
             slots,
-            departures,
+            draining,
             round,
             cursor: 0,
             is_busy: false,
@@ -148,7 +148,7 @@ impl<C: Clock, I: Read + AsRawFd + Drop> Tcp<'_, C, I> {
     ///
     /// Where the system doesn't say.
     pub fn address(&self) -> io::Result<SocketAddr> {
-        self.door.address()
+        self.acceptor.address()
     }
 
     /// Whether the system failed to say what is ready, so that nothing comes any more.
@@ -163,7 +163,7 @@ impl<C: Clock, I: Read + AsRawFd + Drop> Tcp<'_, C, I> {
         ensures { happened self.new ≡ happened self.old }
     {
         for round in 0..u64::MAX {
-            if self.departures.is_empty() || self.ask().is_err() {
+            if self.draining.is_empty() || self.ask().is_err() {
                 return;
             }
         }
@@ -210,21 +210,21 @@ impl<C: Clock, I: Read + AsRawFd + Drop> Tcp<'_, C, I> {
         ensures some { IfSome result (λ event. event ≡ Event.Nothing → ⊥) }
     {
         if token == INPUT {
-            return self.input.news();
+            return self.input.readiness();
         }
         if token == LISTENER {
-            return if self.door.is_dialled() {
+            return if self.acceptor.is_dialled() {
                 Some(Event::Dialled)
             } else {
                 None
             };
         }
         let slot = token - FIRST;
-        match self.slots.get(slot)?.news() {
-            News::None => None,
-            News::Readable => Some(Event::Readable(slot)),
-            News::Writable => Some(Event::Writable(slot)),
-            News::Gone => Some(Event::Gone(slot)),
+        match self.slots.get(slot)?.readiness() {
+            Readiness::None => None,
+            Readiness::Readable => Some(Event::Readable(slot)),
+            Readiness::Writable => Some(Event::Writable(slot)),
+            Readiness::Gone => Some(Event::Gone(slot)),
         }
     }
 
@@ -234,7 +234,7 @@ impl<C: Clock, I: Read + AsRawFd + Drop> Tcp<'_, C, I> {
             return Some(Duration::ZERO);
         }
         let is_timed = self.timeout.is_some() && self.slots.iter().any(|slot| slot.is_timed());
-        if is_timed || !self.departures.is_empty() || self.door.is_short() {
+        if is_timed || !self.draining.is_empty() || self.acceptor.is_short() {
             Some(Duration::from_millis(TICK))
         } else {
             None
@@ -264,15 +264,15 @@ impl<C: Clock, I: Read + AsRawFd + Drop> Tcp<'_, C, I> {
         for event in self.events.iter() {
             let Token(token) = event.token();
             if token == INPUT {
-                self.input.may();
+                self.input.set_ready();
             } else if token == LISTENER {
-                self.door.may();
+                self.acceptor.set_ready();
             } else if token - FIRST < self.slots.len() {
                 let reads = event.is_readable() || event.is_read_closed() || event.is_error();
                 let writes = event.is_writable() || event.is_write_closed();
-                self.slots[token - FIRST].may(reads, writes);
+                self.slots[token - FIRST].set_ready(reads, writes);
             } else {
-                self.departures.may(token);
+                self.draining.set_ready(token);
             }
             self.round.add(token);
         }
@@ -286,16 +286,16 @@ impl<C: Clock, I: Read + AsRawFd + Drop> Tcp<'_, C, I> {
     fn look_at_time(&mut self) -> io::Result<()>
         ensures { self.new.log ≡ self.old.log }
     {
-        if self.timeout.is_none() && self.departures.is_empty() && !self.door.is_short() {
+        if self.timeout.is_none() && self.draining.is_empty() && !self.acceptor.is_short() {
             return Ok(());
         }
         let now = Instant::now(self.clock)?;
-        if !self.departures.is_empty() {
-            self.departures.drain(now);
+        if !self.draining.is_empty() {
+            self.draining.drain(now);
         }
         if self.is_due(now) {
             self.looked_at = Some(now);
-            self.door.try_again();
+            self.acceptor.try_again();
             self.round.add(LISTENER);
             self.give_up(now);
         }
@@ -330,7 +330,7 @@ impl<C: Clock, I: Read + AsRawFd + Drop> Tcp<'_, C, I> {
         if slot >= self.slots.len() {
             return false;
         }
-        let Some(mut stream) = self.door.accept() else {
+        let Some(mut stream) = self.acceptor.accept() else {
             return false;
         };
         let token = slot.saturating_add(FIRST);
@@ -349,14 +349,14 @@ impl<C: Clock, I: Read + AsRawFd + Drop> Tcp<'_, C, I> {
     }
 
     /// Closes the link in a slot so that what was written to it comes through.
-    fn let_go(&mut self, slot: usize)
+    fn retire(&mut self, slot: usize)
         ensures { self.new.log ≡ self.old.log }
     {
         if slot < self.slots.len()
             && let Some(stream) = self.slots[slot].leave()
             && let Ok(now) = Instant::now(self.clock)
         {
-            self.departures.add(stream, self.poll.registry(), now);
+            self.draining.add(stream, self.poll.registry(), now);
         }
     }
 }
@@ -416,7 +416,7 @@ impl<C: Clock, I: Read + AsRawFd + Drop> Ready for Tcp<'_, C, I> {
     }
 
     fn close(&mut self, slot: usize) {
-        self.let_go(slot);
+        self.retire(slot);
         self.log.gone(slot);
     }
 
@@ -428,7 +428,7 @@ impl<C: Clock, I: Read + AsRawFd + Drop> Ready for Tcp<'_, C, I> {
     }
 
     fn wants_links(&mut self, wanted: bool) {
-        self.door.wants(wanted);
+        self.acceptor.wants(wanted);
         self.round.add(LISTENER);
         self.log.wants_links(wanted);
     }

@@ -7,7 +7,7 @@ use std::net::SocketAddr;
 
 /// A listener, and whether somebody may dial there.
 #[derive(Drop)]
-pub(crate) struct Door {
+pub(crate) struct Acceptor {
     listener: TcpListener,
     may_accept: bool,
     wants_links: bool,
@@ -15,10 +15,10 @@ pub(crate) struct Door {
     is_short: bool,
 }
 
-impl Door {
+impl Acceptor {
     /// A door at which links are wanted.
-    pub(crate) fn new(listener: TcpListener) -> Door {
-        Door {
+    pub(crate) fn new(listener: TcpListener) -> Acceptor {
+        Acceptor {
             listener,
             may_accept: true,
             wants_links: true,
@@ -36,7 +36,7 @@ impl Door {
     }
 
     /// An event says that somebody dials.
-    pub(crate) fn may(&mut self) {
+    pub(crate) fn set_ready(&mut self) {
         self.may_accept = true;
     }
 

@@ -19,13 +19,13 @@ const ROOM: usize = 1024;
 
 /// A stream on which nothing is written any more.
 #[derive(Drop)]
-struct Leaving {
+struct DrainingStream {
     stream: TcpStream,
     since: Instant,
     may_read: bool,
 }
 
-impl Leaving {
+impl DrainingStream {
     /// Whether it stays: the other side hasn't closed it, sent too many bytes, or had its time.
     fn stays(&mut self, now: Instant) -> bool {
         if now.saturating_duration_since(self.since) >= Duration::from_secs(PATIENCE) {
@@ -50,14 +50,14 @@ impl Leaving {
 /// Streams that are let go of once the other side has closed them. The system resets a stream that is closed while a
 /// byte of it is unread, or to which one comes later, and then drops what the other side hasn't received.
 #[derive(Drop)]
-pub(crate) struct Departures {
-    streams: Vec<Option<Leaving>>,
+pub(crate) struct Draining {
+    streams: Vec<Option<DrainingStream>>,
     // The token of the first stream.
     first: usize,
     count: usize,
 }
 
-impl Departures {
+impl Draining {
     /// Room for so many streams, whose tokens begin with this one.
     ///
     /// # Errors
@@ -68,7 +68,7 @@ impl Departures {
         for stream in 0..count {
             streams.push(None)?;
         }
-        Ok(Departures {
+        Ok(Draining {
             streams,
             first,
             count: 0,
@@ -86,7 +86,7 @@ impl Departures {
                 .reregister(&mut stream, token, Interest::READABLE)
                 .is_ok()
         {
-            self.streams[index] = Some(Leaving {
+            self.streams[index] = Some(DrainingStream {
                 stream,
                 since,
                 may_read: true,
@@ -108,10 +108,10 @@ impl Departures {
     }
 
     /// An event says that the stream with a token may have bytes, or be at its end.
-    pub(crate) fn may(&mut self, token: usize) {
+    pub(crate) fn set_ready(&mut self, token: usize) {
         let index = token.saturating_sub(self.first);
-        if let Some(Some(leaving)) = self.streams.get_mut(index) {
-            leaving.may_read = true;
+        if let Some(Some(draining_stream)) = self.streams.get_mut(index) {
+            draining_stream.may_read = true;
         }
     }
 
@@ -124,7 +124,7 @@ impl Departures {
     pub(crate) fn drain(&mut self, now: Instant) {
         for index in 0..self.streams.len() {
             let stays = match &mut self.streams[index] {
-                Some(leaving) => leaving.stays(now),
+                Some(draining_stream) => draining_stream.stays(now),
                 None => true,
             };
             if !stays {
