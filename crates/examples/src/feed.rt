@@ -66,7 +66,7 @@ pub fn push_to_feed(feed: &mut Feed, bytes: &[u8; 512]) -> bool {
 
 /// The number that a record gets in the first ring whose place it carries.
 pub fn number_to_be(feed: &Feed, bytes: &[u8; 512]) -> Option<u64> {
-    let k = feed.bearer(bytes)?;
+    let k = feed.place_of(bytes)?;
     Some(feed.ring(k).next())
 }
 

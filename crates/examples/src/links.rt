@@ -6,7 +6,7 @@ ghost use Rattle.slink_links.specs.Served.{IsServed};
 use mseed_stream::Sink;
 use slink_feed::{Client, Feed, LinkFault};
 use slink_links::{
-    Accept, Dial, FetchEnd, FetchPlan, Pause, ServePlan, Settle, fetch, fetch_all, fetch_link,
+    Accept, Dial, FetchEnd, FetchPlan, Pause, ServePlan, EndsHandshake, fetch, fetch_all, fetch_link,
     fetch_planned, serve, serve_all, serve_link, serve_planned,
 };
 use slink_wire::{Address, Host, Timeout};
@@ -84,14 +84,14 @@ pub fn fetch_plan<D: Dial, P: Pause, W: Sink, E: Sink>(
 }
 
 /// Serves one link, until nothing more is to be sent.
-pub fn serve_over<S: Settle>(feed: &Feed, link: &mut S) -> Result<(), LinkFault>
+pub fn serve_over<S: EndsHandshake>(feed: &Feed, link: &mut S) -> Result<(), LinkFault>
     ensures { IsServed feed.now result (S.read link.old) (S.read link.new) (S.written link.old) (S.written link.new) }
 {
     serve_link(feed, link)
 }
 
 /// Fetches over one link; whether the server has sent all that was requested.
-pub fn fetch_over<S: Settle, W: Sink>(client: &mut Client, link: &mut S, output: &mut W) -> bool {
+pub fn fetch_over<S: EndsHandshake, W: Sink>(client: &mut Client, link: &mut S, output: &mut W) -> bool {
     fetch_link(client, link, output) == FetchEnd::Done
 }
 
@@ -122,8 +122,8 @@ pub fn is_there<D: Dial>(dialler: &mut D) -> bool
 }
 
 /// Tells a link that its handshake is over.
-pub fn settled<S: Settle>(link: S) -> S {
-    link.settle();
+pub fn settled<S: EndsHandshake>(link: S) -> S {
+    link.end_handshake();
     link
 }
 

@@ -24,7 +24,7 @@ pub(crate) struct Links<'a> {
     // The slot that is looked at first, and whether the input has ended.
     first: usize,
     is_ended: bool,
-    is_over: bool,
+    has_failed: bool,
     digest: Digest,
     log: Log,
 }
@@ -61,7 +61,7 @@ impl<'a> Links<'a> {
             interest,
             first: 0,
             is_ended: false,
-            is_over: false,
+            has_failed: false,
             digest: Digest::new(),
             log: Log::new(),
         })
@@ -87,7 +87,7 @@ impl<'a> Links<'a> {
     /// then it ends, and then nothing comes any more.
     fn any_event(&mut self) -> Event
         ensures log { self.new.log ≡ self.old.log }
-        ensures over { result ≡ Event.Nothing → self.new.is_over ≡ true }
+        ensures failed { result ≡ Event.Nothing → self.new.has_failed ≡ true }
     {
         if self.dialled < self.most {
             return Event::Dialled;
@@ -102,7 +102,7 @@ impl<'a> Links<'a> {
             self.is_ended = true;
             return Event::InputEnded;
         }
-        self.is_over = true;
+        self.has_failed = true;
         Event::Nothing
     }
 
@@ -110,7 +110,7 @@ impl<'a> Links<'a> {
     fn next_event(&mut self) -> Option<Event>
         ensures event { IfSome result (λ event. event ≢ Event.Nothing) }
         ensures log { self.new.log ≡ self.old.log }
-        ensures over { self.new.is_over ≡ self.old.is_over }
+        ensures failed { self.new.has_failed ≡ self.old.has_failed }
     {
         let (slot, event) = self.ready_slot()?;
         self.first = slot;
@@ -152,7 +152,7 @@ impl<'a> Links<'a> {
 impl Ready for Links<'_> {
     ghost log = { λ s. s.log.all };
 
-    ghost is_over = { λ s. s.is_over };
+    ghost has_failed = { λ s. s.has_failed };
 
     fn next(&mut self) -> Event {
         let event = self.any_event();
