@@ -28,7 +28,8 @@ use Rattle.slink_feed.specs.Rounds.{Attending, Gives, SendsAll, all_sent, place_
 use Rattle.slink_feed.specs.Running.{HasStream, Stands, StandsFor}
 use Rattle.slink_feed.specs.Sending.{AreCalled, AreShown, Called, IsReadFrom, packet_in, packets_of}
 use Rattle.slink_feed.specs.Serving.{Answers, IsAnswer, Serves, Standing, Takes, none_served, piece_served}
-use Rattle.slink_feed.specs.Session.{IsBefore, State, has_sent_all, answered_in, at_next, grant_at, in_streaming, packet_at}
+use Rattle.slink_feed.specs.Session.{IsBefore, State, has_sent_all, answered_in, at_next, grant_at, in_streaming}
+use Rattle.slink_feed.specs.Session.{packet_at}
 use Rattle.slink_feed.specs.Session.{reply_at_next, sent, sent_bytes, sent_in, sent_of}
 use Rattle.slink_feed.specs.Window.{Shows, Window, record_at}
 use Rattle.slink_feed.proofs.Closing.{Open, open_or}

@@ -76,7 +76,8 @@ joined_more given [] fs = refl
 joined_more given (e ∷ es) fs = ap (λ s. given e ++ s) (joined_more given es fs)
     ∙ sym (append_assoc (given e) (joined_by given es) (joined_by given fs))
 
-joined_event : (given : Event → List ℕ) (e : Event) → given events.None ≡ [] → joined_by given (event_if_any e) ≡ given e
+joined_event : (given : Event → List ℕ) (e : Event) → given events.None ≡ []
+    → joined_by given (event_if_any e) ≡ given e
 joined_event given events.None none = sym none
 joined_event given (events.Say line) none = append-nil (given (events.Say line))
 joined_event given (events.Record k n r) none = append-nil (given (events.Record k n r))
@@ -92,7 +93,8 @@ joined_once given es e none = joined_more given es (event_if_any e)
     ∙ ap (λ s. joined_by given es ++ s) (joined_event given e none)
 
 -- an event that gives something
-some_event : (given : Event → List ℕ) (e : Event) → given events.None ≡ [] → 0 < length (given e) → event_if_any e ≡ e ∷ []
+some_event : (given : Event → List ℕ) (e : Event) → given events.None ≡ [] → 0 < length (given e)
+    → event_if_any e ≡ e ∷ []
 some_event given events.None none some = absurd (omega (arith, some, ap length none))
 some_event given (events.Say line) none some = refl
 some_event given (events.Record k n r) none some = refl

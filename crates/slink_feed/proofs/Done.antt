@@ -43,7 +43,8 @@ not_done_at [] gs k w here d = absurd (let bad : None ≡ Some w = here in cc ba
 not_done_at (v ∷ ws) [] k w here d = absurd (let bad : true ≡ false = d in cc bad)
 not_done_at (v ∷ ws) (o ∷ gs) zero w here d =
     ap (λ t. t && has_sent_all ws gs) (ap (λ x. has_sent x o) (same_some v w here) ∙ d)
-not_done_at (v ∷ ws) (o ∷ gs) (suc k) w here d = one_fails (has_sent v o) (has_sent_all ws gs) (not_done_at ws gs k w here d)
+not_done_at (v ∷ ws) (o ∷ gs) (suc k) w here d = one_fails (has_sent v o) (has_sent_all ws gs)
+    (not_done_at ws gs k w here d)
 
 pub not_done : (ws : List Window) (gs : Grants) (k : ℕ) (w : Window) (t : Bool) → slice_get ws k ≡ Some w
     → t ≡ has_sent w (grant_at gs k) → t ≡ false → has_sent_all ws gs ≡ false

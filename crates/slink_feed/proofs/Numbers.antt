@@ -18,7 +18,8 @@ use Rattle.slink_feed.specs.declared.dialogue.Stage.TheVariants.{Unlinked, Stati
 use Rattle.slink_feed.specs.declared.dialogue.Wanted.{Wanted}
 use Rattle.slink_feed.specs.Dialogue.{Talk, Wants, Whole, Reply, Packet, End, Garbage, answer_of, at_packet, place_of}
 use Rattle.slink_feed.specs.Dialogue.{ahead_of, is_ahead, is_taken}
-use Rattle.slink_feed.specs.Dialogue.{ended, read_at, if_wanted, is_of_wanted, next_at, next_set, sends_line, requests_number}
+use Rattle.slink_feed.specs.Dialogue.{ended, read_at, if_wanted, is_of_wanted, next_at, next_set, sends_line}
+use Rattle.slink_feed.specs.Dialogue.{requests_number}
 use Rattle.slink_feed.specs.Dialogue.{requests_place, to_answer, to_place, reported, want_at, with_next}
 use Rattle.slink_feed.specs.Holding.{AreRising, GoBy, IsNext, Rise, Turn, connects, brings, numbers_in, numbers_of}
 use Rattle.slink_feed.specs.Holding.{talk_after, turned}

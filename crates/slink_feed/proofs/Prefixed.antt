@@ -17,9 +17,11 @@ use Rattle.slink_feed.specs.declared.dialogue.Stage.{Stage}
 use Rattle.slink_feed.specs.declared.dialogue.Stage.TheVariants.{Packets}
 use Rattle.slink_feed.specs.Cutting.{IsBegun, IsWhole}
 use Rattle.slink_feed.specs.Delivered.{AreWanted, Numbered, all_packets, record_events}
-use Rattle.slink_feed.specs.Dialogue.{Talk, Whole, Packet, at_packet, place_of, ended, is_ahead, read, read_at, if_wanted}
+use Rattle.slink_feed.specs.Dialogue.{Talk, Whole, Packet, at_packet, place_of, ended, is_ahead, read, read_at}
+use Rattle.slink_feed.specs.Dialogue.{if_wanted}
 use Rattle.slink_feed.specs.Dialogue.{next_at, reported}
-use Rattle.slink_feed.specs.Listening.{AreBrought, Brought, Listening, Reads, bytes_of, events_of, talk_after, event_if_any}
+use Rattle.slink_feed.specs.Listening.{AreBrought, Brought, Listening, Reads, bytes_of, events_of, talk_after}
+use Rattle.slink_feed.specs.Listening.{event_if_any}
 use Rattle.slink_feed.proofs.Received.{begun_none}
 use Rattle.slink_feed.proofs.Wholes.{prefix_begun}
 

@@ -7,7 +7,8 @@ use Rattle.slink_feed.specs.declared.grant.Grant.{Grant}
 use Rattle.slink_feed.specs.declared.session.Phase.{Phase}
 use Rattle.slink_feed.specs.declared.session.Phase.TheVariants.{Streaming}
 use Rattle.slink_feed.specs.declared.session.Sent.{Sent}
-use Rattle.slink_feed.specs.Session.{AreReached, Grants, IsReached, State, has_sent_all, at_next, grant_at, packet_at, sent}
+use Rattle.slink_feed.specs.Session.{AreReached, Grants, IsReached, State, has_sent_all, at_next, grant_at, packet_at}
+use Rattle.slink_feed.specs.Session.{sent}
 use Rattle.slink_feed.specs.Session.{sent_from, sent_in, sent_of}
 use Rattle.slink_feed.specs.Window.{Window, record_at}
 

@@ -121,7 +121,8 @@ place_there wants bytes =
     (Some (position_or_len (is_place bytes) (map place_of wants))) None) (sym (length-map wants place_of))
 
 -- The same places carry the same records.
-place_same : (old new : Wants) (bytes : List ℕ) → places_of new ≡ places_of old → place_of new bytes ≡ place_of old bytes
+place_same : (old new : Wants) (bytes : List ℕ) → places_of new ≡ places_of old
+    → place_of new bytes ≡ place_of old bytes
 place_same old new bytes same = place_there new bytes
     ∙ (ap (position (is_place bytes)) same ∙ sym (place_there old bytes))
 

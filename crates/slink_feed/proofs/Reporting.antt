@@ -14,8 +14,10 @@ use Rattle.slink_feed.specs.Dialogue.{Talk, read}
 use Rattle.slink_feed.specs.Fetching.{Fetching, line_written, record_reported}
 use Rattle.slink_feed.specs.Listening.{Brings, Listening, begun, event_if_any, whole}
 use Rattle.slink_feed.specs.private.Delivery.{FailsToTakeNext, TakesNext, IsDelivered, IsUndelivered}
-use Rattle.slink_feed.specs.Reports.{AreHandedOver, Outputs, Reports, TakesRecords, ReportsRecords, all, but_last, outputs}
-use Rattle.slink_feed.specs.Reporter.{ReporterState, AreReported, Reporting, lines_at, lines_of, none, one, reporting_after}
+use Rattle.slink_feed.specs.Reports.{AreHandedOver, Outputs, Reports, TakesRecords, ReportsRecords, all, but_last}
+use Rattle.slink_feed.specs.Reports.{outputs}
+use Rattle.slink_feed.specs.Reporter.{ReporterState, AreReported, Reporting, lines_at, lines_of, none, one}
+use Rattle.slink_feed.specs.Reporter.{reporting_after}
 use Rattle.slink_feed.specs.Reporter.{reporting_past}
 use Rattle.slink_feed.specs.Reported.{HasReported, bytes_in, record_in, records_reported}
 use Rattle.slink_feed.specs.Turns.{Emitted, EmittedPrefix}
@@ -144,7 +146,8 @@ handed_over_both some more a b c p fine q = record {
   emitted = takes_both a.output b.output c.output some more (all_taken some a.output b.output p.emitted fine) q.emitted;
   reporting = q.reporting ∙ (ap (λ t. reporting_after t more) p.reporting ∙ sym (after_more a.reporting some more));
   lines = subst (λ ls. AreReported ls a.errors c.errors) (sym (lines_more a.reporting some more))
-      (lines_both (lines_of a.reporting some) (lines_of (reporting_after a.reporting some) more) a.errors b.errors c.errors
+      (lines_both (lines_of a.reporting some) (lines_of (reporting_after a.reporting some) more) a.errors b.errors
+      c.errors
       p.lines (subst (λ t. AreReported (lines_of t more) b.errors c.errors) p.reporting q.lines));
 }
 
@@ -174,11 +177,13 @@ noted_none t reporter output errors = record {
   reports = reports_none t (outputs output errors reporter.reporting);
 }
 
-pub noted_both : (old now new : Talk) (r s t : ReporterState) (a b c d e f : BytesWritten) → ReportsRecords old now r s a b d e
+pub noted_both : (old now new : Talk) (r s t : ReporterState) (a b c d e f : BytesWritten)
+    → ReportsRecords old now r s a b d e
     → b.failures ≡ a.failures → ReportsRecords now new s t b c e f → ReportsRecords old new r t a c d f
 noted_both old now new r s t a b c d e f p fine q = record {
   received = notes_both r.received s.received t.received a b c fine p.received q.received;
-  reports = reports_both old now new (outputs a d r.reporting) (outputs b e s.reporting) (outputs c f t.reporting) p.reports fine
+  reports = reports_both old now new (outputs a d r.reporting) (outputs b e s.reporting)
+      (outputs c f t.reporting) p.reports fine
       q.reports;
 }
 

@@ -16,7 +16,8 @@ use Rattle.slink_feed.specs.declared.session.Phase.TheVariants.{Streaming, Close
 use Rattle.slink_feed.specs.declared.session.Sent.{Sent}
 use Rattle.slink_feed.specs.declared.session.Sent.TheVariants as Sents
 use Rattle.slink_feed.specs.Serving.{IsAnswer}
-use Rattle.slink_feed.specs.Session.{Grants, State, has_sent_all, answered_in, at_next, grant_at, in_streaming, packet_at}
+use Rattle.slink_feed.specs.Session.{Grants, State, has_sent_all, answered_in, at_next, grant_at, in_streaming}
+use Rattle.slink_feed.specs.Session.{packet_at}
 use Rattle.slink_feed.specs.Session.{sent, sent_in, sent_of}
 use Rattle.slink_feed.specs.Sending.{AreCalled, AreShown, Called, IsReadFrom, IsSlice, packet_in, packets_from}
 use Rattle.slink_feed.specs.Sending.{packets_of}
@@ -140,7 +141,8 @@ step_from : (k place : ℕ) (g h : Grant) (feed : List Window) (t : State) (w : 
     → t.phase ≡ Streaming
     → Stepped k g feed place (if b then at_next (has_sent_all feed t.grants) t else packet_at t place h
     (record_at w h.position))
-step_from k place g h feed t w true at_k at_place here on = step_next k place g feed t (has_sent_all feed t.grants) at_k on
+step_from k place g h feed t w true at_k at_place here on = step_next k place g feed t
+    (has_sent_all feed t.grants) at_k on
 step_from k place g h feed t w false at_k at_place here on =
     step_packet k place g h feed t w (record_at w h.position) at_k at_place here refl on
 

@@ -6,7 +6,8 @@ use Rattle.std.proofs.lemmas.List.{length-set}
 use Rattle.slink_wire.specs.Packet.{packet_bytes}
 use Rattle.slink_feed.specs.declared.dialogue.Wanted.{Wanted}
 use Rattle.slink_feed.specs.Delivered.{AreOfPlace, AreWanted, all_packets, joined, numbered}
-use Rattle.slink_feed.specs.Dialogue.{Talk, Wants, place_of, is_of_wanted, next_at, next_set, reported, want_at, with_next}
+use Rattle.slink_feed.specs.Dialogue.{Talk, Wants, place_of, is_of_wanted, next_at, next_set, reported, want_at}
+use Rattle.slink_feed.specs.Dialogue.{with_next}
 use Rattle.slink_feed.specs.Sending.{packets_from}
 use Rattle.slink_feed.proofs.Numbers.{place_some, next_here}
 
@@ -25,10 +26,12 @@ place_set wants k n bytes (Some w) at =
     let first : position_or_len (is_of_wanted bytes) (set wants k o) ≡ position_or_len (is_of_wanted bytes) wants =
     first_same (is_of_wanted bytes) wants k w o at refl in
     ap (λ m. cond (nat_lt m (length (set wants k o))) (Some m) None) first
-    ∙ ap (λ l. cond (nat_lt (position_or_len (is_of_wanted bytes) wants) l) (Some (position_or_len (is_of_wanted bytes) wants))
+    ∙ ap (λ l. cond (nat_lt (position_or_len (is_of_wanted bytes) wants) l) (Some (position_or_len
+    (is_of_wanted bytes) wants))
     None) (length-set wants k o)
 
-matched_set : (wants : Wants) (k n : ℕ) (rs : List (List ℕ)) → AreOfPlace wants k rs → AreOfPlace (with_next wants k n) k rs
+matched_set : (wants : Wants) (k n : ℕ) (rs : List (List ℕ)) → AreOfPlace wants k rs
+    → AreOfPlace (with_next wants k n) k rs
 matched_set wants k n [] are = tt
 matched_set wants k n (r ∷ rs) are =
     (are.0, place_set wants k n r (want_at wants k) refl ∙ are.1, matched_set wants k n rs are.2)

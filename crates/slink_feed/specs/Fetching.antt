@@ -92,7 +92,8 @@ pub record FailsAtLast (given others : Event → List ℕ) (old new : Listening)
 
 -- The link failed within the line of the last event.
 abbrev pub FailsToWriteLine : Fetching → Fetching → List ℕ → ℕ → Type 0
-FailsToWriteLine old new bytes count = FailsAtLast line_written record_reported old.client new.client bytes count old.written
+FailsToWriteLine old new bytes count = FailsAtLast line_written record_reported old.client new.client bytes count
+    old.written
     new.written old.output new.output
 
 -- The output failed within the record of the last event.

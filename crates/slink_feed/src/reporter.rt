@@ -239,7 +239,8 @@ impl Reporter {
     /// Reports the record of the place at an index, with its number: it is about to be written.
     pub(crate) fn note<E: Sink>(&mut self, k: usize, number: u32, errors: &mut E)
         ensures reporting { self.new ≡ record self.old { reporting = reporting_past self.old.reporting k number } }
-        ensures lines { AreReported (lines_at self.old.reporting k number) (E.written errors.old) (E.written errors.new) }
+        ensures lines { AreReported (lines_at self.old.reporting k number) (E.written errors.old)
+            (E.written errors.new) }
     {
         let want = self.want(k);
         report_hole(&want, number, errors);

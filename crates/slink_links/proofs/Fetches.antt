@@ -16,7 +16,8 @@ use Rattle.slink_feed.specs.declared.turn.LinkFault.TheVariants as faults
 use Rattle.slink_feed.specs.declared.turn.Turn.{Turn}
 use Rattle.slink_feed.specs.Delivered.{Numbered}
 use Rattle.slink_feed.specs.Dialogue.{Talk, Wants, requests_place, to_place, want_at}
-use Rattle.slink_feed.specs.Fetching.{Delivers, FailsToWriteLine, FailsToWrite, Fetches, Fetching, IsFetchFault, ReadsOn}
+use Rattle.slink_feed.specs.Fetching.{Delivers, FailsToWriteLine, FailsToWrite, Fetches, Fetching, IsFetchFault}
+use Rattle.slink_feed.specs.Fetching.{ReadsOn}
 use Rattle.slink_feed.specs.Fetching.{TakesTurn, bytes_reported}
 use Rattle.slink_feed.specs.Fetching.{fetching, line_written, lines_written, record_reported, turn_after, turn_of}
 use Rattle.slink_feed.specs.Listening.{IsLinked, Listening, Reads}
@@ -345,11 +346,13 @@ written_linked : (t : Talk) (o : Option Wanted) → IsLinked (to_place o 0 t).0.
 written_linked t None = tt
 written_linked t (Some w) = tt
 
-pub connected_linked : (old : Talk) (new : Talk) (event : Event) → requests_place 0 old ≡ (new, event) → IsLinked new.stage
+pub connected_linked : (old : Talk) (new : Talk) (event : Event) → requests_place 0 old ≡ (new, event)
+    → IsLinked new.stage
 connected_linked old new event says =
     subst (λ (t : Talk). IsLinked t.stage) (ap (λ p. p.0) says) (written_linked old (want_at old.wants 0))
 
-connected_unended : (old : Talk) (new : Talk) (event : Event) → requests_place 0 old ≡ (new, event) → IsUnended new.stage
+connected_unended : (old : Talk) (new : Talk) (event : Event) → requests_place 0 old ≡ (new, event)
+    → IsUnended new.stage
 connected_unended old new event says = linked_unended new.stage (connected_linked old new event says)
 
 pub connected_wants : (old : Talk) (new : Talk) (event : Event) → requests_place 0 old ≡ (new, event)

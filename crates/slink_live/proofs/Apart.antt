@@ -4,7 +4,8 @@ use Rattle.std.proofs.Common.{Bool, ◌&&◌, List, [], ◌∷◌, length, Optio
 use Rattle.slink_feed.specs.declared.grant.Grant.{Grant}
 use Rattle.slink_feed.specs.declared.session.Phase.{Phase}
 use Rattle.slink_feed.specs.declared.session.Phase.TheVariants as Phases
-use Rattle.slink_feed.specs.Session.{Grants, IsWaiting, State, has_sent_all, at_next, grant_at, has_sent, packet_at, sent}
+use Rattle.slink_feed.specs.Session.{Grants, IsWaiting, State, has_sent_all, at_next, grant_at, has_sent, packet_at}
+use Rattle.slink_feed.specs.Session.{sent}
 use Rattle.slink_feed.specs.Session.{sent_in, sent_of}
 use Rattle.slink_feed.specs.Window.{Window, record_at}
 use Rattle.slink_live.specs.declared.places.Places.{Places}
@@ -45,7 +46,8 @@ done_alike (w ∷ ws) (v ∷ vs) (o ∷ gs) long alike =
     ap₂ (λ (a b : Bool). a && b) (one_done w v o (alike 0))
     (done_alike ws vs gs (omega (arith, long)) (λ k. alike (suc k)))
 
-module _ (old new : List Window) (s : State) (done : has_sent_all new s.grants ≡ has_sent_all old s.grants) (k : ℕ) where
+module _ (old new : List Window) (s : State) (done : has_sent_all new s.grants ≡ has_sent_all old s.grants)
+    (k : ℕ) where
   alike_ring : (g : Grant) (r : Option Window) → sent_of new s k (Some g) r ≡ sent_of old s k (Some g) r
   alike_ring g None = refl
   alike_ring g (Some w) =

@@ -4,7 +4,7 @@ use Rattle.std.proofs.Common.{length, length-set, set, not, ◌&&◌, Bool, Opti
 use Rattle.slink_feed.specs.Session.{Fits}
 use Rattle.slink_feed.specs.Window.{Window}
 use Rattle.slink_live.specs.declared.link.Update.{Update}
-use Rattle.slink_live.specs.declared.link.Update.TheVariants as up_to_date
+use Rattle.slink_live.specs.declared.link.Update.TheVariants as outcomes
 use Rattle.slink_live.specs.declared.ready.Interest.{Interest}
 use Rattle.slink_live.specs.Awake.{has_free}
 use Rattle.slink_live.specs.Happening.{Happening, Gone, Opened, Wants, WantsLinks}
@@ -14,9 +14,9 @@ use Rattle.slink_live.specs.Turns.{Closes, ReadsFrom, WritesTo}
 use Rattle.slink_live.specs.private.Calling.{HasFilled, HasReceived, HasTaken, IfRested, IsOutcome}
 use Rattle.slink_live.specs.private.Granting.{Changes}
 use Rattle.slink_live.specs.private.Keeping.{KeepsServing, Updates, KeepsAwake}
-use Rattle.slink_live.proofs.Updating.{closes_keeps, opened_in, received_tends, rested_tends, seen_closes}
+use Rattle.slink_live.proofs.Updating.{closes_keeps, opened_in, received_awake, rested_awake, seen_closes}
 use Rattle.slink_live.proofs.Updating.{seen_empty, seen_wants}
-use Rattle.slink_live.proofs.Updating.{taken_tends}
+use Rattle.slink_live.proofs.Updating.{taken_awake}
 use Rattle.slink_live.proofs.Steps.{filled_keeps, opened_keeps, reads_at, received_keeps, same_default, sound_in}
 use Rattle.slink_live.proofs.Steps.{taken_keeps}
 use Rattle.slink_live.proofs.Steps.{writes_at}
@@ -64,7 +64,7 @@ module _ {s0 s : ServerState} (same : s0 ≡ s) (j : ℕ) (lt : j < length s0.li
         → Changes j (λ o l. HasReceived feed j o l log mid) s0.links links → Updates j (moved links) t mid last
         → KeepsAwake s t log last
     receives_on {feed} {t} {log} {mid} {last} rings c updates =
-        received_tends same j lt sound rings o_is c.link c.happened
+        received_awake same j lt sound rings o_is c.link c.happened
         (subst (λ (x : List (Option LinkState)). Updates j (record s0 { links = x }) t mid last) c.is updates)
 
     -- it took bytes
@@ -80,7 +80,7 @@ module _ {s0 s : ServerState} (same : s0 ≡ s) (j : ℕ) (lt : j < length s0.li
     pub takes_on : {t : ServerState} {log mid last : List Happening}
         → Changes j (λ o l. HasTaken j o l log mid) s0.links links → Updates j (moved links) t mid last
         → KeepsAwake s t log last
-    takes_on {t} {log} {mid} {last} c updates = taken_tends same j lt sound {feed = s0.intake.feed} refl o_is c.link
+    takes_on {t} {log} {mid} {last} c updates = taken_awake same j lt sound {feed = s0.intake.feed} refl o_is c.link
         c.happened
         (subst (λ (x : List (Option LinkState)). Updates j (record s0 { links = x }) t mid last) c.is updates)
 
@@ -88,7 +88,7 @@ module _ {s0 s : ServerState} (same : s0 ≡ s) (j : ℕ) (lt : j < length s0.li
         → Changes j (λ o l. HasTaken j o l log mid) s0.links links
         → IfSome (get_or s0.links j None) (λ l. length l.pending + 520 ≤ 6240)
         → (IfRested s0.intake.feed (get_or links j None) → Updates j (moved links) t mid last) → KeepsAwake s t log last
-    rests_on {t} {log} {mid} {last} c room updates = rested_tends same j lt sound o_is c.link c.happened room
+    rests_on {t} {log} {mid} {last} c room updates = rested_awake same j lt sound o_is c.link c.happened room
         (subst (λ (x : List (Option LinkState)). IfRested s0.intake.feed (get_or x j None)
         → Updates j (record s0 { links = x }) t mid last) c.is updates)
 
@@ -119,13 +119,13 @@ module _ {s0 s : ServerState} (same : s0 ≡ s) (j : ℕ) (lt : j < length s0.li
         (filled_keeps same j lt c.link sound rings o_is c.happened.0 refl)
 
     pub empty_on : {feed : List Window} {log : List Happening} → feed ≡ s0.intake.feed
-        → IsFilled links feed up_to_date.Empty
+        → IsFilled links feed outcomes.Empty
         → Updates j s (moved links) log log
     empty_on {feed} {log} rings c = by_set (λ x. Updates j s x log log) c.link c.is
         (seen_empty same j lt sound rings o_is c.link c.happened.0 c.happened.1 refl)
 
     pub wants_on : {feed : List Window} {log last : List Happening} (w : Interest) → feed ≡ s0.intake.feed
-        → IsFilled links feed (up_to_date.Wants w) → last ≡ log ++ Wants j w ∷ [] → Updates j s (moved links) log last
+        → IsFilled links feed (outcomes.Wants w) → last ≡ log ++ Wants j w ∷ [] → Updates j s (moved links) log last
     wants_on {feed} {log} {last} w rings c e = by_set (λ x. Updates j s x log last) c.link c.is
         (seen_wants same j lt sound rings o_is c.link w c.happened.0 c.happened.1 e)
 
@@ -136,12 +136,12 @@ module _ {s0 s : ServerState} (same : s0 ≡ s) (j : ℕ) (lt : j < length s0.li
 
     pub closes_on : {t : ServerState} {log last : List Happening} → t ≡ record s0 { links = set links j None }
         → last ≡ (log ++ Gone j ∷ []) ++ WantsLinks (not s0.has_ended) ∷ [] → {feed : List Window}
-        → feed ≡ s0.intake.feed → IsFilled links feed up_to_date.Closes → Updates j s t log last
+        → feed ≡ s0.intake.feed → IsFilled links feed outcomes.Closes → Updates j s t log last
     closes_on ends e rings c = seen_closes same j lt sound rings o_is c.link c.happened.0 c.happened.1
         (ends_at ends c.link c.is) e
 
     pub closed_on : {t : ServerState} {log last : List Happening} → t ≡ record s0 { links = set links j None }
         → last ≡ (log ++ Gone j ∷ []) ++ WantsLinks (not s0.has_ended) ∷ [] → {feed : List Window}
-        → feed ≡ s0.intake.feed → IsFilled links feed up_to_date.Closes → KeepsServing (moved links) t log last
+        → feed ≡ s0.intake.feed → IsFilled links feed outcomes.Closes → KeepsServing (moved links) t log last
     closed_on {t} {log} {last} ends e rings c = by_set (λ x. KeepsServing x t log last) c.link c.is
         (closes_keeps same j lt sound rings o_is c.link c.happened.0 (ends_at ends c.link c.is) e)

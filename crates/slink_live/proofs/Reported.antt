@@ -6,7 +6,7 @@ use Rattle.std.specs.Option.{is_some}
 use Rattle.std.proofs.lemmas.Bool.Decides.{eqb_tells}
 use Rattle.std.proofs.lemmas.List.{set-get_or}
 use Rattle.slink_feed.specs.Window.{Window}
-use Rattle.slink_live.specs.declared.link.Update.TheVariants as up_to_date
+use Rattle.slink_live.specs.declared.link.Update.TheVariants as outcomes
 use Rattle.slink_live.specs.declared.ready.Interest.{Interest}
 use Rattle.slink_live.specs.Awake.{Goes, IsAwake, IsAwakeIn, IsClosable, IsClosedRightly, IsUpToDate, IsReported}
 use Rattle.slink_live.specs.Awake.{IsFirstFree, has_free, nothing, further}
@@ -130,19 +130,21 @@ and_true true = refl
 and_true false = refl
 
 -- an outcome of a link
-empty_none : (feed : List Window) (has_ended : Bool) (o : Option LinkState) → IsOutcome feed has_ended o up_to_date.Empty
+empty_none : (feed : List Window) (has_ended : Bool) (o : Option LinkState)
+    → IsOutcome feed has_ended o outcomes.Empty
     → o ≡ None
 empty_none feed has_ended None out = refl
 empty_none feed has_ended (Some l) out = absurd out
 
 wants_some : (feed : List Window) (has_ended : Bool) (o : Option LinkState) (w : Interest) (l : LinkState)
-    → IsOutcome feed has_ended o (up_to_date.Wants w) → o ≡ Some l → IsUpToDate feed has_ended l w
+    → IsOutcome feed has_ended o (outcomes.Wants w) → o ≡ Some l → IsUpToDate feed has_ended l w
 wants_some feed has_ended None w l out e = absurd out
 wants_some feed has_ended (Some m) w l out e =
     let same : m ≡ l = let both : Some m ≡ Some l = e in cc both in
     subst (λ (x : LinkState). IsUpToDate feed has_ended x w) same out
 
-closes_some : (feed : List Window) (has_ended : Bool) (o : Option LinkState) → IsOutcome feed has_ended o up_to_date.Closes
+closes_some : (feed : List Window) (has_ended : Bool) (o : Option LinkState)
+    → IsOutcome feed has_ended o outcomes.Closes
     → (l : LinkState) × (o ≡ Some l) × IsClosable feed has_ended l
 closes_some feed has_ended None out = absurd out
 closes_some feed has_ended (Some l) out = (l, refl, out)
@@ -168,7 +170,8 @@ module _ (s : ServerState) (j : ℕ) (new : Option LinkState) (log last : List H
     left = unreported.left ∙ t.left;
   }
 
-  here : j < length s.links → ((l : LinkState) → new ≡ Some l → IsUpToDate s.intake.feed s.has_ended l (last_interest j last))
+  here : j < length s.links → ((l : LinkState) → new ≡ Some l
+      → IsUpToDate s.intake.feed s.has_ended l (last_interest j last))
       → IsAwakeIn after last j
   here lt own l e = own l (sym (get_or-set_same s.links j new None lt) ∙ e)
 
@@ -191,7 +194,7 @@ module _ (s : ServerState) (j : ℕ) (new : Option LinkState) (log last : List H
 -- no link stands there
 pub updates_empty : (s : ServerState) (j : ℕ) (o new : Option LinkState) (log last : List Happening)
     → j < length s.links → o ≡ get_or s.links j None → HasFilled s.intake.feed o new
-    → IsOutcome s.intake.feed s.has_ended new up_to_date.Empty → last ≡ log
+    → IsOutcome s.intake.feed s.has_ended new outcomes.Empty → last ≡ log
     → Updates j s (record s { links = set s.links j new }) log last
 updates_empty s j o new log last lt is filled out e =
     updates_by s j new log last lt (unreported_none j log last e)
@@ -202,7 +205,7 @@ updates_empty s j o new log last lt is filled out e =
 -- it stands
 pub updates_wants : (s : ServerState) (j : ℕ) (o new : Option LinkState) (log last : List Happening) (w : Interest)
     → j < length s.links → o ≡ get_or s.links j None → HasFilled s.intake.feed o new
-    → IsOutcome s.intake.feed s.has_ended new (up_to_date.Wants w) → last ≡ log ++ Wants j w ∷ []
+    → IsOutcome s.intake.feed s.has_ended new (outcomes.Wants w) → last ≡ log ++ Wants j w ∷ []
     → Updates j s (record s { links = set s.links j new }) log last
 updates_wants s j o new log last w lt is filled out e =
     updates_by s j new log last lt
@@ -250,7 +253,7 @@ module _ (s : ServerState) (j : ℕ) (log last : List Happening) (lt : j < lengt
 -- it is to be closed, and so it was
 pub updates_closes : (s : ServerState) (j : ℕ) (new : Option LinkState) (log last : List Happening)
     → j < length s.links → j < length (set s.links j new)
-    → IsOutcome s.intake.feed s.has_ended new up_to_date.Closes
+    → IsOutcome s.intake.feed s.has_ended new outcomes.Closes
     → last ≡ (log ++ Gone j ∷ []) ++ WantsLinks (not s.has_ended) ∷ []
     → ((start : List Window) → IsServing start s log → IsServing start (record s { links = set s.links j new }) log)
     → Updates j s (record s { links = set (set s.links j new) j None }) log last
@@ -274,12 +277,12 @@ updates_closes s j new log last lt within out e serves =
     }
 
 -- Something happened in a slot, and then it was settled, where no link slept.
-pub tends_rest : (s : ServerState) (j : ℕ) (new : Option LinkState) (t : ServerState) (log mid last : List Happening)
+pub awake_rest : (s : ServerState) (j : ℕ) (new : Option LinkState) (t : ServerState) (log mid last : List Happening)
     → is_some new ≡ is_some (get_or s.links j None) → IsUnreported j log mid
     → ((start : List Window) → Goes (IsClosedRightly start) log mid)
     → ((start : List Window) → IsServing start s log → IsServing start (record s { links = set s.links j new }) mid)
     → (IsAwake s log → Updates j (record s { links = set s.links j new }) t mid last) → KeepsAwake s t log last
-tends_rest s j new t log mid last same unreported went serves updates = record {
+awake_rest s j new t log mid last same unreported went serves updates = record {
   awake = λ a. record {
     each = λ k. (updates a).links k (λ ne. beside s j new log mid k ne unreported (a.each k));
     is_reported = (updates a).is_reported (reported_beside s j new log mid same unreported a.is_reported);
@@ -289,13 +292,13 @@ tends_rest s j new t log mid last same unreported went serves updates = record {
 }
 
 -- The same, whether one slept or not.
-pub tends_by : (s : ServerState) (j : ℕ) (new : Option LinkState) (t : ServerState) (log mid last : List Happening)
+pub awake_by : (s : ServerState) (j : ℕ) (new : Option LinkState) (t : ServerState) (log mid last : List Happening)
     → is_some new ≡ is_some (get_or s.links j None) → IsUnreported j log mid
     → ((start : List Window) → Goes (IsClosedRightly start) log mid)
     → ((start : List Window) → IsServing start s log → IsServing start (record s { links = set s.links j new }) mid)
     → Updates j (record s { links = set s.links j new }) t mid last → KeepsAwake s t log last
-tends_by s j new t log mid last same unreported went serves updates =
-    tends_rest s j new t log mid last same unreported went serves (λ a. updates)
+awake_by s j new t log mid last same unreported went serves updates =
+    awake_rest s j new t log mid last same unreported went serves (λ a. updates)
 
 -- The link in a slot was left as it was.
 same_links : (s : ServerState) (j : ℕ) (log last : List Happening)
@@ -305,7 +308,7 @@ same_links s j log last h =
     (set-get_or s.links j None) h
 
 pub rest_empty : (s : ServerState) (j : ℕ) (log last : List Happening) → j < length s.links
-    → IsOutcome s.intake.feed s.has_ended (get_or s.links j None) up_to_date.Empty → last ≡ log → Updates j s s log last
+    → IsOutcome s.intake.feed s.has_ended (get_or s.links j None) outcomes.Empty → last ≡ log → Updates j s s log last
 rest_empty s j log last lt out e =
     same_links s j log last (updates_by s j (get_or s.links j None) log last lt (unreported_none j log last e) refl
     (λ l some. absurd (
@@ -315,7 +318,7 @@ rest_empty s j log last lt out e =
     (λ start v t. goes_same e))
 
 pub rest_wants : (s : ServerState) (j : ℕ) (log last : List Happening) (w : Interest) → j < length s.links
-    → IsOutcome s.intake.feed s.has_ended (get_or s.links j None) (up_to_date.Wants w) → last ≡ log ++ Wants j w ∷ []
+    → IsOutcome s.intake.feed s.has_ended (get_or s.links j None) (outcomes.Wants w) → last ≡ log ++ Wants j w ∷ []
     → Updates j s s log last
 rest_wants s j log last w lt out e =
     same_links s j log last (updates_by s j (get_or s.links j None) log last lt
@@ -326,7 +329,7 @@ rest_wants s j log last w lt out e =
     (λ start v t. goes_one (Wants j w) tt e))
 
 pub rest_closes : (s : ServerState) (j : ℕ) (log last : List Happening) → j < length s.links
-    → IsOutcome s.intake.feed s.has_ended (get_or s.links j None) up_to_date.Closes
+    → IsOutcome s.intake.feed s.has_ended (get_or s.links j None) outcomes.Closes
     → last ≡ (log ++ Gone j ∷ []) ++ WantsLinks (not s.has_ended) ∷ []
     → Updates j s (record s { links = set s.links j None }) log last
 rest_closes s j log last lt out e =

@@ -10,7 +10,8 @@ use Rattle.slink_feed.specs.Window.{Window}
 use Rattle.slink_live.specs.Happening.{Happening, Opened, Gone, input_of}
 use Rattle.slink_live.specs.Input.{IsFed}
 use Rattle.slink_live.specs.Served.{IsStory, LinkState, Matches, link_state}
-use Rattle.slink_live.specs.Story.{Asks, IsNew, IsServed, IsTurn, Story, story, none_called, one_called, opens, receives}
+use Rattle.slink_live.specs.Story.{Asks, IsNew, IsServed, IsTurn, Story, story, none_called, one_called, opens}
+use Rattle.slink_live.specs.Story.{receives}
 use Rattle.slink_live.specs.Story.{asks}
 use Rattle.slink_live.specs.Story.{takes, goes}
 use Rattle.slink_live.specs.private.Calling.{HasFilled, HasReceived, HasTaken}
@@ -92,7 +93,8 @@ module _ (start : List Window) (k : ℕ) where
     received_story feed l fed h = link_story l h.1 h.2 (λ emitted served. (
       emitted,
       subst (λ (n : ℕ). IsServed start k last (Some (story h.1.session n (emitted ++ h.1.pending) emitted))) (sym h.6)
-          (receives log last feed l.session h.1.session l.ring h.0 (emitted ++ l.pending) (emitted ++ h.1.pending) emitted
+          (receives log last feed l.session h.1.session l.ring h.0 (emitted ++ l.pending) (emitted
+          ++ h.1.pending) emitted
           served fed (serves_after feed l.session h.1.session h.0 l.pending h.1.pending emitted h.4) h.3),
     ))
 

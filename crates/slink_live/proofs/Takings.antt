@@ -14,10 +14,11 @@ use Rattle.slink_live.specs.Served.{IntakeState, IsServing, IsSound, ServerState
 use Rattle.slink_live.specs.Turns.{Closes}
 use Rattle.slink_live.specs.private.Cutting.{Cuts, CutsOff}
 use Rattle.slink_live.specs.private.Granting.{StaysBut}
-use Rattle.slink_live.specs.private.Keeping.{AnswersFault, EndsInput, KeepsServing, KeepsAwake, AwakensAnew, AwakensThose}
+use Rattle.slink_live.specs.private.Keeping.{AnswersFault, EndsInput, KeepsServing, KeepsAwake, AwakensAnew}
+use Rattle.slink_live.specs.private.Keeping.{AwakensThose}
 use Rattle.slink_live.proofs.Fed.{below_more, places_fed}
 use Rattle.slink_live.proofs.Cuts.{cut_below, cut_few, cut_fits, cuts_on, short_none}
-use Rattle.slink_live.proofs.Updating.{input_ends, input_tends, tends_end, tends_same}
+use Rattle.slink_live.proofs.Updating.{input_ends, input_awake, awake_end, awake_same}
 use Rattle.slink_live.proofs.Slots.{closes_input, closes_none, input_append, story_elsewhere}
 use Rattle.slink_live.proofs.Steps.{answers_end, ended, sound_in}
 
@@ -29,7 +30,7 @@ pub ends_input : {s t : ServerState} {log last : List Happening} {r : Result (Un
 ends_input keeps closes keeps_awake fault = record {
   answers = answers_end keeps fault;
   closes = closes;
-  keeps_awake = tends_end keeps_awake;
+  keeps_awake = awake_end keeps_awake;
 }
 
 -- It was read no more before.
@@ -37,7 +38,7 @@ pub nothing_ends : (s : ServerState) (log : List Happening) → IsSound s → En
 nothing_ends s log sound = record {
   answers = record { sound = sound; serving = λ start v. v; fault = tt; ended = tt; kept = λ e. e };
   closes = closes_none log log refl;
-  keeps_awake = tends_same s log log refl;
+  keeps_awake = awake_same s log log refl;
 }
 
 -- the server, once the input brought bytes
@@ -153,11 +154,11 @@ module _ {s0 s : ServerState} (same : s0 ≡ s) where
       kept = λ e. x.stays.has_ended;
     }
 
-    pub taken_tends : (places : Places) → Cuts s0.intake bytes new new.kept → length new.kept < 512
+    pub taken_awake : (places : Places) → Cuts s0.intake bytes new new.kept → length new.kept < 512
         → StaysBut places s0.intake.feed new.feed → AwakensThose places (with_intake s0 new) t mid last
         → KeepsAwake s t log last
-    taken_tends places cuts short stays but = subst (λ (x : ServerState). KeepsAwake x t log last) same
-        (input_tends s0 t new (s0.reads + 1) bytes places log mid last now
+    taken_awake places cuts short stays but = subst (λ (x : ServerState). KeepsAwake x t log last) same
+        (input_awake s0 t new (s0.reads + 1) bytes places log mid last now
         (ap length cuts.feed_is ∙ fed_length s0.intake.feed cuts.records) stays (λ start v. taken_serving on sound cuts
         (short_none (places_of s0.intake.feed) new.kept short) now start
         (subst (λ (x : ServerState). IsServing start x log) same v) s0.has_ended (λ e. refl)) but)

@@ -8,7 +8,7 @@ use Rattle.std.proofs.lemmas.List.{get_or_past}
 use Rattle.slink_feed.specs.Session.{Fits}
 use Rattle.slink_feed.specs.Window.{Window}
 use Rattle.slink_live.specs.declared.link.Update.{Update}
-use Rattle.slink_live.specs.declared.link.Update.TheVariants as up_to_date
+use Rattle.slink_live.specs.declared.link.Update.TheVariants as outcomes
 use Rattle.slink_live.specs.declared.places.Places.{Places}
 use Rattle.slink_live.specs.declared.ready.Interest.{Interest}
 use Rattle.slink_live.specs.declared.ready.Event.{Event}
@@ -29,9 +29,10 @@ use Rattle.slink_live.proofs.Slots.{closes_both, closes_reported, not_self, quie
 use Rattle.slink_live.proofs.Steps.{closed_keeps, ended, ended_serving, filled_keeps, received_keeps, same_default}
 use Rattle.slink_live.proofs.Steps.{keeps_both, keeps_from, keeps_quiet, keeps_same, opened_keeps, sound_in}
 use Rattle.slink_live.proofs.Steps.{taken_keeps}
-use Rattle.slink_live.proofs.Reported.{IsUnreported, goes_one, goes_same, goes_then, gone_awake, gone_goes, gone_reported}
-use Rattle.slink_live.proofs.Reported.{left_last, links_last, updates_closes, updates_empty, updates_wants, tends_by}
-use Rattle.slink_live.proofs.Reported.{rest_closes, rest_empty, rest_wants, tends_rest, interest_last, unreported_none}
+use Rattle.slink_live.proofs.Reported.{IsUnreported, goes_one, goes_same, goes_then, gone_awake, gone_goes}
+use Rattle.slink_live.proofs.Reported.{gone_reported}
+use Rattle.slink_live.proofs.Reported.{left_last, links_last, updates_closes, updates_empty, updates_wants, awake_by}
+use Rattle.slink_live.proofs.Reported.{rest_closes, rest_empty, rest_wants, awake_rest, interest_last, unreported_none}
 use Rattle.slink_live.proofs.Reported.{unreported_one}
 
 -- A call saw the link in a slot, and the rings of the input.
@@ -50,28 +51,28 @@ module _ {s0 s : ServerState} (same : s0 ≡ s) (j : ℕ) (lt : j < length s0.li
   filled_in : HasFilled feed o new → HasFilled s0.intake.feed o new
   filled_in h = subst (λ (f : List Window). HasFilled f o new) rings h
 
-  pub seen_empty : {log last : List Happening} → HasFilled feed o new → IsOutcome feed s0.has_ended new up_to_date.Empty
+  pub seen_empty : {log last : List Happening} → HasFilled feed o new → IsOutcome feed s0.has_ended new outcomes.Empty
       → last ≡ log → Updates j s seen_after log last
   seen_empty {log} {last} filled out e = updates_in (updates_empty s0 j o new log last lt stood (filled_in filled)
-      (subst (λ (f : List Window). IsOutcome f s0.has_ended new up_to_date.Empty) rings out) e)
+      (subst (λ (f : List Window). IsOutcome f s0.has_ended new outcomes.Empty) rings out) e)
 
   pub seen_wants : {log last : List Happening} (w : Interest) → HasFilled feed o new
-      → IsOutcome feed s0.has_ended new (up_to_date.Wants w) → last ≡ log ++ Wants j w ∷ []
+      → IsOutcome feed s0.has_ended new (outcomes.Wants w) → last ≡ log ++ Wants j w ∷ []
       → Updates j s seen_after log last
   seen_wants {log} {last} w filled out e = updates_in (updates_wants s0 j o new log last w lt stood (filled_in filled)
-      (subst (λ (f : List Window). IsOutcome f s0.has_ended new (up_to_date.Wants w)) rings out) e)
+      (subst (λ (f : List Window). IsOutcome f s0.has_ended new (outcomes.Wants w)) rings out) e)
 
   within : j < length (set s0.links j new)
   within = omega (arith, lt, length-set s0.links j new)
 
   pub seen_closes : {t : ServerState} {log last : List Happening} → HasFilled feed o new
-      → IsOutcome feed s0.has_ended new up_to_date.Closes → t ≡ record seen_after
+      → IsOutcome feed s0.has_ended new outcomes.Closes → t ≡ record seen_after
       { links = set (set s0.links j new) j None }
       → last ≡ (log ++ Gone j ∷ []) ++ WantsLinks (not s0.has_ended) ∷ [] → Updates j s t log last
   seen_closes {t} {log} {last} filled out is e =
       updates_in (subst (λ (x : ServerState). Updates j s0 x log last) (sym is)
       (updates_closes s0 j new log last lt within
-      (subst (λ (f : List Window). IsOutcome f s0.has_ended new up_to_date.Closes) rings out) e
+      (subst (λ (f : List Window). IsOutcome f s0.has_ended new outcomes.Closes) rings out) e
       (λ start v. (filled_keeps {s0 = s0} {s = s0} refl j lt new {log = log} {last = log} (sound_in same sound) rings
       link filled refl).serving
       start v)))
@@ -85,14 +86,14 @@ module _ {s0 s : ServerState} (same : s0 ≡ s) (j : ℕ) (lt : j < length s0.li
       (filled_keeps {s0 = s0} {s = s0} refl j lt new {log = log} {last = log} (sound_in same sound) rings link filled
       refl).sound is e
 
-  tends_in : {t : ServerState} {log last : List Happening} → KeepsAwake s0 t log last → KeepsAwake s t log last
-  tends_in {t} {log} {last} h = subst (λ (x : ServerState). KeepsAwake x t log last) same h
+  awake_in : {t : ServerState} {log last : List Happening} → KeepsAwake s0 t log last → KeepsAwake s t log last
+  awake_in {t} {log} {last} h = subst (λ (x : ServerState). KeepsAwake x t log last) same h
 
   -- the link was read
-  pub received_tends : {t : ServerState} {log mid last : List Happening} → HasReceived feed j o new log mid
+  pub received_awake : {t : ServerState} {log mid last : List Happening} → HasReceived feed j o new log mid
       → Updates j seen_after t mid last → KeepsAwake s t log last
-  received_tends {t} {log} {mid} {last} h updates =
-      tends_in (tends_by s0 j new t log mid last (received_some o h ∙ ap is_some stood) (received_unreported o h)
+  received_awake {t} {log} {mid} {last} h updates =
+      awake_in (awake_by s0 j new t log mid last (received_some o h ∙ ap is_some stood) (received_unreported o h)
       (received_goes o h) (λ start v. (received_keeps {s0 = s0} {s = s0} refl j lt new (sound_in same sound) rings link
       h).serving
       start v) updates)
@@ -112,10 +113,10 @@ module _ {s0 s : ServerState} (same : s0 ≡ s) (j : ℕ) (lt : j < length s0.li
       received_goes (Some l) g start = goes_one (Received j g.0) tt g.3
 
   -- it took bytes
-  pub taken_tends : {t : ServerState} {log mid last : List Happening} → HasTaken j o new log mid
+  pub taken_awake : {t : ServerState} {log mid last : List Happening} → HasTaken j o new log mid
       → Updates j seen_after t mid last → KeepsAwake s t log last
-  taken_tends {t} {log} {mid} {last} h updates =
-      tends_in (tends_by s0 j new t log mid last (taken_some o h ∙ ap is_some stood) (taken_unreported o h)
+  taken_awake {t} {log} {mid} {last} h updates =
+      awake_in (awake_by s0 j new t log mid last (taken_some o h ∙ ap is_some stood) (taken_unreported o h)
       (taken_goes o h) (λ start v. (taken_keeps {s0 = s0} {s = s0} refl j lt new (sound_in same sound) link h).serving
       start v)
       updates)
@@ -145,15 +146,15 @@ if_rested s j (Some l) new log mid a is h room =
     (record { rests = up_to_date.filled room; stays = λ lost. up_to_date.stands (is_lost lost) })
 
 -- it took bytes, and nothing more is due to it
-pub rested_tends : {s0 s t : ServerState} (same : s0 ≡ s) (j : ℕ) → j < length s0.links → IsSound s
+pub rested_awake : {s0 s t : ServerState} (same : s0 ≡ s) (j : ℕ) → j < length s0.links → IsSound s
     → {o : Option LinkState} → o ≡ get_or s0.links j o → (new : Option LinkState) → {log mid last : List Happening}
     → HasTaken j o new log mid → IfSome o (λ l. length l.pending + 520 ≤ 6240)
     → (IfRested s0.intake.feed (get_or (set s0.links j new) j None)
     → Updates j (record s0 { links = set s0.links j new }) t mid last) → KeepsAwake s t log last
-rested_tends {s0} {s} {t} same j lt sound {o} link new {log} {mid} {last} h room updates =
+rested_awake {s0} {s} {t} same j lt sound {o} link new {log} {mid} {last} h room updates =
     let stands : o ≡ get_or s0.links j None = link ∙ sym (same_default s0.links j None o lt) in
     subst (λ (x : ServerState). KeepsAwake x t log last) same
-    (tends_rest s0 j new t log mid last (taken_some o h ∙ ap is_some stands) (taken_unreported o h) (taken_goes o h)
+    (awake_rest s0 j new t log mid last (taken_some o h ∙ ap is_some stands) (taken_unreported o h) (taken_goes o h)
     (λ start v. (taken_keeps {s0 = s0} {s = s0} refl j lt new (sound_in same sound) link h).serving start v)
     (λ a. updates (subst (IfRested s0.intake.feed) (sym (get_or-set_same s0.links j new None lt))
     (if_rested s0 j o new log mid a stands h room))))
@@ -189,17 +190,18 @@ module _ {s0 s : ServerState} (same : s0 ≡ s) (j : ℕ) (lt : j < length s0.li
   within_in : j < length s.links
   within_in = subst (λ (x : ServerState). j < length x.links) same lt
 
-  pub look_empty : {log last : List Happening} → result ≡ up_to_date.Empty → last ≡ log
+  pub look_empty : {log last : List Happening} → result ≡ outcomes.Empty → last ≡ log
       → IfRested s.intake.feed (get_or s.links j None) → Updates j s s log last
   look_empty {log} {last} is e rested = rest_empty s j log last within_in
       (subst (IsOutcome s.intake.feed s.has_ended (get_or s.links j None)) is (outcome_in rested)) e
 
-  pub look_wants : {log last : List Happening} (w : Interest) → result ≡ up_to_date.Wants w → last ≡ log ++ Wants j w ∷ []
+  pub look_wants : {log last : List Happening} (w : Interest) → result ≡ outcomes.Wants w
+      → last ≡ log ++ Wants j w ∷ []
       → IfRested s.intake.feed (get_or s.links j None) → Updates j s s log last
   look_wants {log} {last} w is e rested = rest_wants s j log last w within_in
       (subst (IsOutcome s.intake.feed s.has_ended (get_or s.links j None)) is (outcome_in rested)) e
 
-  pub look_closes : {t : ServerState} {log last : List Happening} → result ≡ up_to_date.Closes
+  pub look_closes : {t : ServerState} {log last : List Happening} → result ≡ outcomes.Closes
       → t ≡ record s { links = set s.links j None }
       → last ≡ (log ++ Gone j ∷ []) ++ WantsLinks (not s.has_ended) ∷ []
       → IfRested s.intake.feed (get_or s.links j None) → Updates j s t log last
@@ -208,8 +210,8 @@ module _ {s0 s : ServerState} (same : s0 ≡ s) (j : ℕ) (lt : j < length s0.li
       (subst (IsOutcome s.intake.feed s.has_ended (get_or s.links j None)) is (outcome_in rested)) e)
 
 -- nothing happened
-pub tends_same : (s : ServerState) (log last : List Happening) → last ≡ log → KeepsAwake s s log last
-tends_same s log last e = record {
+pub awake_same : (s : ServerState) (log last : List Happening) → last ≡ log → KeepsAwake s s log last
+awake_same s log last e = record {
   awake = λ a. subst (IsAwake s) (sym e) a;
   closed = λ start v t. goes_same e;
 }
@@ -222,9 +224,9 @@ stays_awake s log last each links left a = record {
   is_reported = record { links = links ∙ a.is_reported.links; left = left ∙ a.is_reported.left };
 }
 
-pub missed_tends : (s : ServerState) (j : ℕ) (log last : List Happening) → last ≡ log ++ Missed j ∷ []
+pub missed_awake : (s : ServerState) (j : ℕ) (log last : List Happening) → last ≡ log ++ Missed j ∷ []
     → KeepsAwake s s log last
-missed_tends s j log last e = record {
+missed_awake s j log last e = record {
   awake = λ a. stays_awake s log last (λ k. interest_last log last (Missed j) e k)
       (links_last log last (Missed j) e) (left_last log last (Missed j) e) a;
   closed = λ start v t. goes_one (Missed j) tt e;
@@ -236,11 +238,12 @@ next_awake s e log last now a = stays_awake s log last (λ k. interest_last log 
     (links_last log last (Next e) now) (left_last log last (Next e) now) a
 
 -- links are told to be wanted, or not, as they are
-pub full_tends : (s : ServerState) (log last : List Happening) → (not s.has_ended && has_free s.links) ≡ false
+pub full_awake : (s : ServerState) (log last : List Happening) → (not s.has_ended && has_free s.links) ≡ false
     → last ≡ log ++ WantsLinks false ∷ [] → KeepsAwake s s log last
-full_tends s log last none e = record {
+full_awake s log last none e = record {
   awake = λ a. record {
-    each = λ k l is. subst (IsUpToDate s.intake.feed s.has_ended l) (sym (interest_last log last (WantsLinks false) e k))
+    each = λ k l is. subst (IsUpToDate s.intake.feed s.has_ended l) (sym (interest_last log last
+        (WantsLinks false) e k))
         (a.each k l is);
     is_reported = record {
       links = links_last log last (WantsLinks false) e ∙ sym none;
@@ -254,13 +257,13 @@ opened_other : (j k : ℕ) (w : Interest) → k ≢ j → interest_after k w (Op
 opened_other j k w ne = ap (λ (t : Bool). if t then first_interest else w) (not_self j k ne)
 
 -- A link was taken into a slot, further ones told to be wanted or not, and then it was settled.
-pub opened_tends : (s : ServerState) (j : ℕ) (new : Option LinkState) (t : ServerState)
+pub opened_awake : (s : ServerState) (j : ℕ) (new : Option LinkState) (t : ServerState)
     (log opened mid last : List Happening) → j < length s.links → get_or s.links j None ≡ None
     → opened ≡ log ++ Opened j ∷ []
     → mid ≡ opened ++ WantsLinks (not s.has_ended && has_free (set s.links j new)) ∷ []
     → ((start : List Window) → IsServing start s log → IsServing start (record s { links = set s.links j new }) mid)
     → Updates j (record s { links = set s.links j new }) t mid last → KeepsAwake s t log last
-opened_tends s j new t log opened mid last lt free came now serves updates =
+opened_awake s j new t log opened mid last lt free came now serves updates =
     let wanted : Bool = not s.has_ended && has_free (set s.links j new) in
     let after : ServerState = record s { links = set s.links j new } in
     let is_reported : is_left log ≡ s.has_ended → IsReported after mid = λ left. record {
@@ -290,7 +293,7 @@ pub opened_in : {s0 s t : ServerState} (same : s0 ≡ s) (j : ℕ) → j < lengt
 opened_in {s0} {s} {t} same j lt l sound free fresh none begins fits {log} {opened} {mid} {last} {wanted} came now is
     updates =
     subst (λ (x : ServerState). KeepsAwake x t log last) same
-    (opened_tends s0 j (Some l) t log opened mid last lt
+    (opened_awake s0 j (Some l) t log opened mid last lt
     (subst (λ (x : ServerState). get_or x.links j None ≡ None) (sym same) free) came
     (now ∙ ap (λ b. opened ++ WantsLinks b ∷ []) is)
     (λ start v. (keeps_quiet (WantsLinks wanted) refl (λ k. refl) now
@@ -299,10 +302,10 @@ opened_in {s0} {s} {t} same j lt l sound free fresh none begins fits {log} {open
     (subst (λ (x : ServerState). Fits x.intake.feed l.session.state) (sym same) fits) came)).serving start v) updates)
 
 -- a link that is gone was closed
-pub gone_tends : (s t : ServerState) (j : ℕ) (log last earlier : List Happening) → j < length s.links
+pub removed_awake : (s t : ServerState) (j : ℕ) (log last earlier : List Happening) → j < length s.links
     → log ≡ earlier ++ Next (events.Gone j) ∷ [] → t ≡ record s { links = set s.links j None }
     → last ≡ (log ++ Gone j ∷ []) ++ WantsLinks (not s.has_ended) ∷ [] → KeepsAwake s t log last
-gone_tends s t j log last earlier lt handled is e =
+removed_awake s t j log last earlier lt handled is e =
     subst (λ (x : ServerState). KeepsAwake s x log last) (sym is) (record {
       awake = λ a. record {
         each = λ k. gone_awake s j log last lt e k (λ ne. a.each k);
@@ -312,17 +315,24 @@ gone_tends s t j log last earlier lt handled is e =
     })
 
 -- The input brought bytes, and then the links of their places were settled.
-pub input_tends : (s t : ServerState) (intake : IntakeState) (reads : ℕ) (bytes : List ℕ) (places : Places)
+pub input_awake : (s t : ServerState) (intake : IntakeState) (reads : ℕ) (bytes : List ℕ) (places : Places)
     (log mid last : List Happening)
     → mid ≡ log ++ Input bytes ∷ [] → length intake.feed ≡ length s.intake.feed
     → StaysBut places s.intake.feed intake.feed
     → ((start : List Window) → IsServing start s log
     → IsServing start (record { intake = intake; links = s.links; has_ended = s.has_ended; reads = reads }) mid)
-    → AwakensThose places (record { intake = intake; links = s.links; has_ended = s.has_ended; reads = reads }) t mid last
+    → AwakensThose places (record {
+      intake = intake;
+      links = s.links;
+      has_ended = s.has_ended;
+      reads =
+          reads;
+    }) t mid last
     → KeepsAwake s t log last
-input_tends s t intake reads bytes places log mid last now long stays serves but =
+input_awake s t intake reads bytes places log mid last now long stays serves but =
     let is_reported : IsReported s log
-    → IsReported (record { intake = intake; links = s.links; has_ended = s.has_ended; reads = reads }) mid = λ x. record {
+    → IsReported (record { intake = intake; links = s.links; has_ended = s.has_ended; reads = reads }) mid =
+    λ x. record {
       links = links_last log mid (Input bytes) now ∙ x.links;
       left = left_last log mid (Input bytes) now ∙ x.left;
     } in
@@ -345,8 +355,9 @@ input_ends s x t bytes log mid last now serves anew = record {
 }
 
 -- it is read no more
-pub tends_end : {s t : ServerState} {log last : List Happening} → AwakensAnew (ended s) t log last → KeepsAwake s t log last
-tends_end {s} {t} {log} anew = record {
+pub awake_end : {s t : ServerState} {log last : List Happening} → AwakensAnew (ended s) t log last
+    → KeepsAwake s t log last
+awake_end {s} {t} {log} anew = record {
   awake = λ a. anew.awake;
   closed = λ start v told0. anew.closed start (ended_serving start s log v);
 }

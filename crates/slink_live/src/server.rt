@@ -14,7 +14,8 @@ ghost use Rattle.slink_live.specs.Served.{AreEmpty, GoesOn, IsBelow, IsFinished,
 ghost use Rattle.slink_live.specs.Served.{StaysUnread};
 ghost use Rattle.slink_live.specs.private.Calling.{IfRested};
 ghost use Rattle.slink_live.specs.Turns.{Closes, HasSteps, IsCalled, Opens, ReadsFrom, ReadsInput, WritesTo};
-ghost use Rattle.slink_live.specs.private.Keeping.{AnswersFault, EndsInput, KeepsServing, Updates, KeepsAwake, AwakensAll};
+ghost use Rattle.slink_live.specs.private.Keeping.{AnswersFault, EndsInput, KeepsServing, Updates, KeepsAwake};
+ghost use Rattle.slink_live.specs.private.Keeping.{AwakensAll};
 ghost use Rattle.slink_live.specs.private.Keeping.{AwakensAnew, AwakensThose};
 
 use crate::intake::Intake;

@@ -25,8 +25,10 @@ use Rattle.slink_feed.specs.declared.dialogue.Wanted.{Wanted}
 use Rattle.slink_feed.specs.declared.grant.Grant.{Grant}
 use Rattle.slink_feed.specs.declared.session.Phase.TheVariants.{Chosen, Granted, Closed}
 use Rattle.slink_feed.specs.Cutting.{IsReply, IsWhole, LacksEnd}
-use Rattle.slink_feed.specs.Dialogue.{Talk, Wants, Whole, Reply, Packet, End, at_packet, place_of, ended, event_of, read}
-use Rattle.slink_feed.specs.Dialogue.{read_at, is_of_wanted, next_at, next_set, numbered, requests_number, requests_place}
+use Rattle.slink_feed.specs.Dialogue.{Talk, Wants, Whole, Reply, Packet, End, at_packet, place_of, ended, event_of}
+use Rattle.slink_feed.specs.Dialogue.{read}
+use Rattle.slink_feed.specs.Dialogue.{read_at, is_of_wanted, next_at, next_set, numbered, requests_number}
+use Rattle.slink_feed.specs.Dialogue.{requests_place}
 use Rattle.slink_feed.specs.Dialogue.{to_place, reported, want_at, with_next}
 use Rattle.slink_feed.specs.Listening.{Brings, IsLinked, Listening, begun, whole}
 use Rattle.slink_feed.specs.Serving.{Standing}
@@ -342,7 +344,8 @@ module _ (places : Places) (differ : Differ places) (codes_are : (k : ℕ) (p : 
         × (left ≡ way_bytes rest) =
         first_read Packets t.client bytes left w (Packet m r) (Carried k n r) rest (new.talk, e) stage
         (l.flows.flow ∙ ap way_bytes one) (read_back m r (omega arith), packet_length m r matched.0.2) is h in
-        let found : (place_of t.client.talk.wants r ≡ Some k) × (v : Wanted) × (want_at t.client.talk.wants k ≡ Some v) =
+        let found : (place_of t.client.talk.wants r ≡ Some k) × (v : Wanted) ×
+        (want_at t.client.talk.wants k ≡ Some v) =
         place_found t.client.talk.wants k matched.0.0 r called matched.0.1 matched.0.3 in
         let of_k : of_place k l.items ≡ (n, r) ∷ of_place k rest = ap (of_place k) one
         ∙ ap (λ b. b ++ of_place k rest) (carried_here k n r) in

@@ -180,7 +180,16 @@ module _ (places : Places) (differ : Differ places) (codes_are : (k : ℕ) (p : 
           flows = record {
             flow = flow_more client.kept way (packet_bytes (g.position % 2 ^ 24) r) l.items item
                 (sym (append-nil (packet_bytes (g.position % 2 ^ 24) r))) l.flows.flow;
-            matched = matched_more places l.items item l.flows.matched ((p.0, p.1, sound.0, subst (Bears r) p.2 sound.1), tt);
+            matched = matched_more places l.items item l.flows.matched (
+              (
+                p.0,
+                p.1,
+                sound.0,
+                subst
+                    (Bears r) p.2 sound.1,
+              ),
+              tt,
+            );
             suited = λ i. elim (same_or_not i k) [
               | inl e ↦ subst (λ y. IsSuited (next_at client.talk.wants y) (grant_at (set s.grants k (Some h)) y)
                   (of_place y (l.items ++ item))) (sym e)

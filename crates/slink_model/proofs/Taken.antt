@@ -58,7 +58,8 @@ module _ {X : Type 0} (p : X → Bool) where
       let e : j - 0 ≡ j = omega arith in
       (all.1, ap (slice_get xs) (sym e) ∙ all.2, all.3)
 
-pub matched_is : (r : List ℕ) (o : Option Wanted) → is_of_wanted r o ≡ true → (w : Wanted) × (o ≡ Some w) × Bears r w.place
+pub matched_is : (r : List ℕ) (o : Option Wanted) → is_of_wanted r o ≡ true
+    → (w : Wanted) × (o ≡ Some w) × Bears r w.place
 matched_is r None h = absurd (let bad : false ≡ true = h in cc bad)
 matched_is r (Some w) h = (w, refl, passes_bears w.place r h)
 

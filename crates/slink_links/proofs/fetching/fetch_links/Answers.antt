@@ -21,7 +21,8 @@ links-init g c =
     (g.P.Pause.called c.args.waits.now) in
     record {
       fetched = fetched_none c.args.client.now
-          (outputs (g.W.Sink.written c.args.output.now) (g.E.Sink.written c.args.errors.now) c.args.reporter.now.reporting);
+          (outputs (g.W.Sink.written c.args.output.now) (g.E.Sink.written c.args.errors.now)
+          c.args.reporter.now.reporting);
       some = omega (arith, c.if-tries-eq0.false);
       most = omega arith;
       dialled = refl;
@@ -99,7 +100,8 @@ links-preserved g c =
     (g.P.Pause.called c.wait_after-count.new.waits) in
     record {
       fetched = fetched_both LinkFailed c.args.client.now now new
-          (outputs (g.W.Sink.written c.args.output.now) (g.E.Sink.written c.args.errors.now) c.args.reporter.now.reporting)
+          (outputs (g.W.Sink.written c.args.output.now) (g.E.Sink.written c.args.errors.now)
+          c.args.reporter.now.reporting)
           outputs_now outputs_new c.links.invariant.fetched
           (subst (λ end. FetchesReporting end now new outputs_now outputs_new) same c.try_link-end.ensures.fetched);
       some = omega (arith, c.if-left-eq0.false);

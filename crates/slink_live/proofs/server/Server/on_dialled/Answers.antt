@@ -1,7 +1,7 @@
 use Rattle.std.proofs.Common.{false, refl}
 use Rattle.slink_live.specs.Happening.{WantsLinks}
 use Rattle.slink_live.specs.Turns.{is_full}
-use Rattle.slink_live.proofs.Updating.{full_tends}
+use Rattle.slink_live.proofs.Updating.{full_awake}
 use Rattle.slink_live.proofs.Slots.{closes_reported}
 use Rattle.slink_live.proofs.Steps.{keeps_quiet, keeps_same}
 use Rattle.slink_live.proofs.server.Server.on_dialled.Goals as goal
@@ -19,5 +19,5 @@ returns-in-None-clause-called g c =
 
 pub returns-in-None-clause-keeps_awake : goal.returns-in-None-clause-keeps_awake
 returns-in-None-clause-keeps_awake g c =
-    full_tends c.args.self.now (g.R.Ready.log c.args.ready.now) (g.R.Ready.log c.wants_links.new.self)
+    full_awake c.args.self.now (g.R.Ready.log c.args.ready.now) (g.R.Ready.log c.wants_links.new.self)
     c.in-None.ensures.none c.wants_links.ensures.log

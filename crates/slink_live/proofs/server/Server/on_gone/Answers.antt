@@ -1,6 +1,6 @@
 use Rattle.std.proofs.Common.{ap, arith, length, refl}
 use Rattle.slink_live.specs.Served.{ServerState}
-use Rattle.slink_live.proofs.Updating.{gone_tends, tends_same}
+use Rattle.slink_live.proofs.Updating.{removed_awake, awake_same}
 use Rattle.slink_live.proofs.Steps.{closed_keeps, closes_gone}
 use Rattle.slink_live.proofs.server.Server.on_gone.Goals as goal
 
@@ -18,11 +18,11 @@ returns-then-slot-len-clause-closes g c =
 
 pub returns-then-slot-len-clause-keeps_awake : goal.returns-then-slot-len-clause-keeps_awake
 returns-then-slot-len-clause-keeps_awake g c earlier handled =
-    gone_tends c.args.self.now c.close.new.self c.args.slot (g.R.Ready.log c.args.ready.now)
+    removed_awake c.args.self.now c.close.new.self c.args.slot (g.R.Ready.log c.args.ready.now)
     (g.R.Ready.log c.close.new.ready) earlier
     (omega (arith, c.if-slot-len.true, c.len.ensures, ap (λ (s : ServerState). length s.links) c.self.view_is)) handled
     c.close.ensures.links c.close.ensures.log
 
 pub returns-else-slot-len-clause-keeps_awake : goal.returns-else-slot-len-clause-keeps_awake
 returns-else-slot-len-clause-keeps_awake g c earlier handled =
-    tends_same c.args.self.now (g.R.Ready.log c.args.ready.now) (g.R.Ready.log c.args.ready.now) refl
+    awake_same c.args.self.now (g.R.Ready.log c.args.ready.now) (g.R.Ready.log c.args.ready.now) refl

@@ -1,9 +1,9 @@
 use Rattle.std.proofs.Common.{refl, List, subst, ◌≡◌, ◌≤◌, arith, rules, length, take, true, false}
 use Rattle.slink_live.specs.Happening.{Happening}
 use Rattle.slink_live.specs.Turns.{Closes, reads}
-use Rattle.slink_live.proofs.Updating.{tends_same}
+use Rattle.slink_live.proofs.Updating.{awake_same}
 use Rattle.slink_live.proofs.Steps.{few_records, sound_in}
-use Rattle.slink_live.proofs.Takings.{taken_ends, taken_err, taken_ok, taken_sound, taken_tends}
+use Rattle.slink_live.proofs.Takings.{taken_ends, taken_err, taken_ok, taken_sound, taken_awake}
 use Rattle.slink_live.proofs.server.Server.on_input.Goals as goal
 
 pub take-requires : goal.take-requires
@@ -52,7 +52,7 @@ returns-in-Err-clause-called g c =
 
 pub returns-in-Ok-clause-keeps_awake : goal.returns-in-Ok-clause-keeps_awake
 returns-in-Ok-clause-keeps_awake g c =
-    taken_tends c.self.view_is c.if-self.false c.requires c.read_input-count.ensures.log c.in-Ok.places
+    taken_awake c.self.view_is c.if-self.false c.requires c.read_input-count.ensures.log c.in-Ok.places
     c.in-Ok.ensures.ok c.in-Ok.ensures.short c.in-Ok.ensures.others c.update_those.ensures.keeps_awake
 
 pub returns-in-Err-clause-keeps_awake : goal.returns-in-Err-clause-keeps_awake
@@ -62,4 +62,4 @@ returns-in-Err-clause-keeps_awake g c =
 
 pub returns-then-self-clause-keeps_awake : goal.returns-then-self-clause-keeps_awake
 returns-then-self-clause-keeps_awake g c =
-    tends_same c.args.self.now (g.R.Ready.log c.args.ready.now) (g.R.Ready.log c.args.ready.now) refl
+    awake_same c.args.self.now (g.R.Ready.log c.args.ready.now) (g.R.Ready.log c.args.ready.now) refl

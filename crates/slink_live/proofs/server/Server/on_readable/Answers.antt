@@ -1,6 +1,6 @@
 use Rattle.std.proofs.Common.{arith, refl}
 use Rattle.slink_live.proofs.Moving.{all_fit, receives_on, reads_on, received_on, still_within}
-use Rattle.slink_live.proofs.Updating.{tends_same}
+use Rattle.slink_live.proofs.Updating.{awake_same}
 use Rattle.slink_live.proofs.Steps.{keeps_both}
 use Rattle.slink_live.proofs.server.Server.on_readable.Goals as goal
 
@@ -36,4 +36,4 @@ returns-then-slot-len-clause-keeps_awake g c =
 
 pub returns-else-slot-len-clause-keeps_awake : goal.returns-else-slot-len-clause-keeps_awake
 returns-else-slot-len-clause-keeps_awake g c =
-    tends_same c.args.self.now (g.R.Ready.log c.args.ready.now) (g.R.Ready.log c.args.ready.now) refl
+    awake_same c.args.self.now (g.R.Ready.log c.args.ready.now) (g.R.Ready.log c.args.ready.now) refl

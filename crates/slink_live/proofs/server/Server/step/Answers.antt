@@ -1,6 +1,6 @@
 use Rattle.std.proofs.Common.{◌∙◌, ◌++◌, ◌∷◌, [], ap, refl, subst, sym}
 use Rattle.slink_live.specs.Happening.{Next}
-use Rattle.slink_live.proofs.Updating.{tends_same}
+use Rattle.slink_live.proofs.Updating.{awake_same}
 use Rattle.slink_live.specs.declared.ready.Event.{Event}
 use Rattle.slink_live.specs.Turns.{IsCalled}
 use Rattle.slink_live.proofs.server.Server.step.Goals as goal
@@ -16,7 +16,7 @@ returns-in-Gone-clause-keeps_awake g c earlier handled =
 
 pub returns-in-Nothing-clause-keeps_awake : goal.returns-in-Nothing-clause-keeps_awake
 returns-in-Nothing-clause-keeps_awake g c earlier handled =
-    tends_same c.args.self.now (g.R.Ready.log c.args.ready.now) (g.R.Ready.log c.args.ready.now) refl
+    awake_same c.args.self.now (g.R.Ready.log c.args.ready.now) (g.R.Ready.log c.args.ready.now) refl
 
 pub returns-in-Dialled-clause-called : goal.returns-in-Dialled-clause-called
 returns-in-Dialled-clause-called g c =

@@ -3,7 +3,7 @@ use Rattle.slink_live.specs.Happening.{Happening, Missed, Opened, WantsLinks}
 use Rattle.slink_live.specs.Served.{ServerState}
 use Rattle.slink_live.specs.Turns.{misses, takes}
 use Rattle.slink_live.proofs.Moving.{opened_on, opens_on, within_on}
-use Rattle.slink_live.proofs.Updating.{missed_tends}
+use Rattle.slink_live.proofs.Updating.{missed_awake}
 use Rattle.slink_live.proofs.Slots.{closes_both, closes_none, closes_reported}
 use Rattle.slink_live.proofs.Steps.{keeps_both, keeps_quiet, keeps_same}
 use Rattle.slink_live.proofs.server.Server.take.Goals as goal
@@ -60,5 +60,5 @@ returns-else-accept-clause-called g c =
 
 pub returns-else-accept-clause-keeps_awake : goal.returns-else-accept-clause-keeps_awake
 returns-else-accept-clause-keeps_awake g c =
-    missed_tends c.args.self.now c.args.slot (g.R.Ready.log c.args.ready.now) (g.R.Ready.log c.accept.new.self)
+    missed_awake c.args.self.now c.args.slot (g.R.Ready.log c.args.ready.now) (g.R.Ready.log c.accept.new.self)
     c.if-accept.ensures.log
