@@ -77,7 +77,7 @@ shut_given feed k last s u (a ∷ more) gives shut =
     shut_given feed (place_after feed k) last (sent feed s k).0 u more gives.1 (ap (λ (t : State). t.phase) same
     ∙ shut) ∙ same
 
--- No packet of a place without a grant is sent, and it has none afterwards.
+-- No packet of a station without a grant is sent, and it has none afterwards.
 record Bare (k : ℕ) (place : ℕ) (x : State × Sent) : Type 0 where
   none : (if place == k then packet_in x.1 else []) ≡ []
   stays : grant_at x.0.grants k ≡ None

@@ -1,4 +1,4 @@
--- Whether all places are done, one after another.
+-- Whether all stations are done, one after another.
 use Rattle.std.proofs.Common.{◌≡◌, ℕ, ◌+◌, ◌<◌, ◌≤◌, zero, suc, refl, sym, ap, subst, ◌∙◌, arith, add-one, Bool, true}
 use Rattle.std.proofs.Common.{false, ◌&&◌, List, [], ◌∷◌, length, take, take_all, Some, None, slice_get}
 use Rattle.std.specs.List.{list_all, zip}
@@ -19,7 +19,7 @@ one_fails false q h = refl
 same_some : (v w : Window) → Some v ≡ Some w → v ≡ w
 same_some v w e = cc e
 
--- what was called of the first k places
+-- what was called of the first k stations
 abbrev pub first_done : List Window → Grants → ℕ → Bool
 first_done feed grants k = list_all (λ p. has_sent p.0 p.1) (take k (zip feed grants))
 

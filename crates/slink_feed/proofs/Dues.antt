@@ -15,7 +15,7 @@ use Rattle.slink_feed.specs.Window.{Window, oldest_of, record_at}
 use Rattle.slink_feed.proofs.Reached.{position_reached}
 use Rattle.slink_feed.proofs.Sendings.{read_at}
 
--- of one place: a ring keeps at most so many records
+-- of one station: a ring keeps at most so many records
 abbrev left_at : Window → Option Grant → ℕ
 left_at w None = 0
 left_at w (Some g) = min 1000000 (w.next - g.position)

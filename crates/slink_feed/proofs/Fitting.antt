@@ -28,7 +28,7 @@ within_by : (p : Window → Bool) (i k : ℕ) (w : Window) (ws : List Window) (t
 within_by p i k w ws true more e = let at : i ≡ k = some_is i k e in omega (arith, at)
 within_by p i k w ws false more e = let lt : k < (i + 1) + length ws = more e in omega (arith, lt)
 
--- the first place that passes is a place of the list
+-- the first station that passes is a station of the list
 first_within : (p : Window → Bool) (i k : ℕ) (ws : List Window) → position_from p i ws ≡ Some k → k < i + length ws
 first_within p i k [] e = absurd (let bad : None ≡ Some k = e in cc bad)
 first_within p i k (w ∷ ws) e = within_by p i k w ws (p w) (first_within p (i + 1) k ws) e
@@ -91,7 +91,7 @@ fits_fresh feed s End f = f
 fits_fresh feed s Bye f = (tt, f.1)
 fits_fresh feed s Other f = f
 
--- where a place is chosen, with a grant or without
+-- where a station is chosen, with a grant or without
 fits_when_chosen : (feed : List Window) (k : ℕ) (s : State) (c : Command) → k < length feed → Fits feed s
     → Fits feed (in_chosen feed k s c).0 × Fits feed (in_granted feed k s c).0
 fits_when_chosen feed k s Hello lt f = (f, f)

@@ -1,4 +1,4 @@
--- A client that says a line or tells of a record goes on with its link.
+-- A client that says a line or reports a record goes on with its link.
 use Rattle.std.proofs.Common.{◌≡◌, ◌≢◌, ℕ, ◌+◌, ◌<◌, refl, sym, subst, arith, Bool, true, false, if◌then◌else◌}
 use Rattle.std.proofs.Common.{List, [], length, ap, Option, Some, None}
 use Rattle.slink_feed.specs.declared.dialogue.Answer.{Answer}

@@ -12,7 +12,7 @@ use Rattle.slink_feed.proofs.Items.{within_is}
 same_some : (v w : Window) → Some v ≡ Some w → v ≡ w
 same_some v w e = cc e
 
--- The first ring of its place takes it.
+-- The first ring of its station takes it.
 pushed_at : (feed : List Window) (r : List ℕ) (k : ℕ) (w : Window) → slice_get feed k ≡ Some w → Bears r w.place
     → ((j : ℕ) (v : Window) → j < k → slice_get feed j ≡ Some v → ¬ (Bears r v.place))
     → pushed feed r ≡ set feed k (with_record w r)
@@ -27,7 +27,7 @@ pushed_at (v ∷ ws) r (suc k) w here bears first =
     (bears_fails v.place r (first 0 v (omega arith) refl))
     ∙ ap (λ xs. v ∷ xs) (pushed_at ws r k w here bears (λ j x lt there. first (suc j) x (omega (arith, lt)) there))
 
--- the places stay
+-- the stations stay
 places_if : (t : Bool) (v : Window) (ws xs : List Window) (r : List ℕ) → places_of xs ≡ places_of ws
     → places_of (if t then with_record v r ∷ ws else v ∷ xs) ≡ places_of (v ∷ ws)
 places_if true v ws xs r e = refl
@@ -47,7 +47,7 @@ window_of [] k p h = absurd (let bad : None ≡ Some p = h in cc bad)
 window_of (v ∷ ws) zero p h = (v, refl, (let both : Some v.place ≡ Some p = h in cc both))
 window_of (v ∷ ws) (suc k) p h = window_of ws k p h
 
--- a record of 512 bytes is of the feed where a ring is of its place
+-- a record of 512 bytes is of the feed where a ring is of its station
 pub of_feed : (feed : List Window) (bytes whole : List ℕ) (k : ℕ) → length bytes ≡ 512 → whole ≡ bytes
     → IsPlaceOf feed whole k → IsOfFeed (places_of feed) bytes
 of_feed feed bytes whole k size same b =

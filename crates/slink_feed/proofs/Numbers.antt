@@ -1,4 +1,4 @@
--- The numbers of the records that a client reports a place go up one by one.
+-- The numbers of the records that a client reports a station go up one by one.
 use Rattle.std.proofs.Common.{◌≡◌, ◌≢◌, ℕ, ◌+◌, ◌%◌, ◌^◌, inl, inr, zero, suc, refl, sym, ap, subst, ◌∙◌, arith, Bool}
 use Rattle.std.proofs.Common.{true, false, if◌then◌else◌, List, [], ◌∷◌, ◌++◌, length, set, get_or, Option, Some}
 use Rattle.std.proofs.Common.{None, IfSome, ◌-◌, ◌<◌, ◌≤◌, ◌&&◌, ◌||◌, map, nat_lt}
@@ -24,7 +24,7 @@ use Rattle.slink_feed.specs.Dialogue.{requests_place, to_answer, to_place, repor
 use Rattle.slink_feed.specs.Holding.{AreRising, GoBy, IsNext, Rise, Turn, connects, brings, numbers_in, numbers_of}
 use Rattle.slink_feed.specs.Holding.{talk_after, turned}
 
--- what comes of a step for a place: nothing is reported of it; or a record, of the number that it wants, if any
+-- what comes of a step for a station: nothing is reported of it; or a record, of the number that it wants, if any
 pub data Moved (k : ℕ) (t : Talk) (x : Talk × Event) : Type 0 where
   stays : numbers_in k x.1 ≡ [] → next_at x.0.wants k ≡ next_at t.wants k → Moved k t x
   moves : (n : ℕ) → numbers_in k x.1 ≡ n ∷ [] → IfSome (next_at t.wants k) (λ want. IsNext t.holes want n)
@@ -50,7 +50,7 @@ moved_answer k j t next Granted moved = moved
 moved_answer k j t next Refusal moved = moved_end k t (endings.Refused j)
 moved_answer k j t next Neither moved = moved_end k t endings.Garbage
 
--- what a place wants once another number was written
+-- what a station wants once another number was written
 set_here : (wants : Wants) (k : ℕ) (o : Option Wanted) (w : Wanted) → want_at wants k ≡ Some w
     → want_at (set wants k o) k ≡ o
 set_here [] k o w h = absurd (let bad : None ≡ Some w = h in cc bad)
@@ -130,7 +130,7 @@ moved_wanted k j n bytes t w None at is = moved_reported k j n bytes t w at
 moved_wanted k j n bytes t w (Some want) at is =
     moved_if k j n bytes t w (is_taken t.holes want n) want at is (taken_next t.holes want n)
 
--- the first place that a record carries is one of the places
+-- the first station that a record is of is one of the stations
 matched_some : (bytes : List ℕ) (o : Option Wanted) → is_of_wanted bytes o ≡ true → (w : Wanted) × (o ≡ Some w)
 matched_some bytes None h = absurd (let bad : false ≡ true = h in cc bad)
 matched_some bytes (Some w) h = (w, refl)

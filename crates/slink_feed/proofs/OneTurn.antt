@@ -71,7 +71,7 @@ still_closed : (feed : List Window) (s : State) (k : ℕ) → s.phase ≡ Closed
 still_closed feed s k shut =
     (ap (λ (p : Phase). (sent_in p feed s k).0) shut, ap (λ (p : Phase). sent_bytes (sent_in p feed s k).1) shut)
 
--- Without places there is nothing to give.
+-- Without stations there is nothing to give.
 still_of : (s : State) (k : ℕ) (o : Option Grant) → ((sent_of [] s k o None).0 ≡ s)
     × (sent_bytes (sent_of [] s k o None).1 ≡ [])
 still_of s k None = (refl, refl)
@@ -112,7 +112,7 @@ within_given feed k last s u [] lt gives = omega (arith, lt, gives.0)
 within_given feed k last s u (a ∷ more) lt gives =
     within_given feed (place_after feed k) last (sent feed s k).0 u more (place_within feed k lt) gives.1
 
--- A round in which each place has nothing to give.
+-- A round in which each station has nothing to give.
 module _ (feed : List Window) where
   waits_next : (m p last : ℕ) (u v : State) → Gives feed p u (replicate (suc m) sents.Wait) last v
       → Gives feed (place_after feed p) u (replicate m sents.Wait) last v

@@ -1,4 +1,4 @@
--- Which places the rings of a feed have.
+-- Which stations the rings of a feed have.
 use Rattle.std.proofs.Common.{◌≡◌, ◌≢◌, ℕ, ◌+◌, ◌<◌, ◌≤◌, inl, inr, zero, suc, refl, sym, ap, subst, ◌∙◌, arith}
 use Rattle.std.proofs.Common.{add-one}
 use Rattle.std.proofs.Common.{Bool, true, false, ◌&&◌, nat_eq, List, [], ◌∷◌, length, take, take_all, drop}
@@ -37,7 +37,7 @@ pub lacks_all : (ws : List Window) (k : ℕ) (place : Fields) → k ≡ length w
 lacks_all ws k place e before =
     subst (λ (xs : List Window). LacksPlace xs place) (take_all k ws (omega (arith, e))) before
 
--- the test of two places
+-- the test of two stations
 abbrev fields_eq : Fields → Fields → Bool
 fields_eq a b = pointwise nat_eq a.station b.station && pointwise nat_eq a.network b.network
 
@@ -70,7 +70,7 @@ other_place a b t is h same =
     (text_eq a.station b.station (ap (λ (f : Fields). f.station) same))
     (text_eq a.network b.network (ap (λ (f : Fields). f.network) same))
 
--- The first place that passes, found one after another.
+-- The first station that passes, found one after another.
 drop_next : (ws : List Window) (k : ℕ) (w : Window) → slice_get ws k ≡ Some w → drop k ws ≡ w ∷ drop (suc k) ws
 drop_next [] k w here = absurd (let bad : None ≡ Some w = here in cc bad)
 drop_next (v ∷ ws) zero w here = let same : Some v ≡ Some w = here in let one : v ≡ w = cc same in
@@ -98,7 +98,7 @@ pub none_left : (p : Window → Bool) (feed : List Window) (k : ℕ) (o : Option
 none_left p feed k o past before = before ∙ ap (position_from p k) (drop_of_length-le feed past)
 
 -- Which ring takes a record.
--- one more ring whose place a record doesn't carry
+-- one more ring whose station a record doesn't carry
 pub none_more : (feed : List Window) (r : List ℕ) (k : ℕ) (w : Window) → slice_get feed k ≡ Some w
     → ¬ (Bears r w.place) → ((j : ℕ) (v : Window) → j < k → slice_get feed j ≡ Some v → ¬ (Bears r v.place))
     → (j : ℕ) (v : Window) → j < k + 1 → slice_get feed j ≡ Some v → ¬ (Bears r v.place)

@@ -49,7 +49,7 @@ go_parts : (want : Option ℕ) (n : ℕ) (ns : List ℕ) (last : Option ℕ) →
 go_parts None n ns last go = (tt, go)
 go_parts (Some want) n ns last go = go
 
--- the numbers of a place after the first record
+-- the numbers of a station after the first record
 go_here : (k : ℕ) (r : Numbered) (rs : List Numbered) (want last : Option ℕ) → r.place ≡ k
     → GoBy false want (numbers_at k (r ∷ rs)) last → GoBy false want (r.number ∷ numbers_at k rs) last
 go_here k r rs want last same go = elim (eqb_tells r.place k) [

@@ -82,7 +82,7 @@ lines_reported t k number o first a b c is set hole reported =
     (subst (λ (f : Bool). AreReported (hole_lines o number ++ first_lines f o number) a c) set
     (lines_both (hole_lines o number) (first_lines first o number) a b c hole reported))
 
--- an event that tells of no record
+-- an event that reports no record
 pub reported_quiet : (t : Reporting) (event : Event) (a : BytesWritten) → record_in event ≡ []
     → AreReported (lines_of t (record_in event)) a a
 reported_quiet t event a quiet = subst (λ rs. AreReported (lines_of t rs) a a) (sym quiet) (none a)
@@ -111,7 +111,7 @@ pub reported_four : (t : Reporting) (e : Event) (a : BytesWritten) → (e ≡ ev
     → AreReported (lines_of t (record_in e)) a a
 reported_four t e a h = reported_quiet t e a (quiet_four e h)
 
--- one place more
+-- one station more
 pub words_more : (ws : Wants) (i : ℕ) (d : Option Wanted) → i < length ws
     → words_of (take (i + 1) ws) ≡ words_of (take i ws) ++ word_of (get_or ws i d)
 words_more [] i d lt = absurd (omega (arith, lt))
@@ -122,7 +122,7 @@ words_more (x ∷ xs) (suc i) d lt =
     ∙ (ap (λ ys. word_of x ++ ys) (words_more xs i d (omega (arith, lt)))
     ∙ sym (append_assoc (word_of x) (words_of (take i xs)) (word_of (get_or xs i d))))
 
--- the places after the first
+-- the stations after the first
 pub after_the_first : (ws : Wants) → take (length ws - 1) (drop 1 ws) ≡ drop 1 ws
 after_the_first ws = take_all (length ws - 1) (drop 1 ws) (omega (arith, length-drop 1 ws))
 

@@ -27,7 +27,7 @@ use Rattle.slink_feed.specs.Reported.{AreOf, HasReported, bytes_in, numbers_at, 
 use Rattle.slink_feed.proofs.Numbers.{Moved, moves, stays, place_some, get_want, go_on_more, kept_read, moved_reported}
 use Rattle.slink_feed.proofs.Numbers.{taken_next}
 
--- what comes of a whole: nothing is reported; or a record, of the place that it carries and of the number that this
+-- what comes of a whole: nothing is reported; or a record, of its station and of the number that this
 -- wants
 pub data Comes (t : Talk) (x : Talk × Event) : Type 0 where
   nothing : records_reported (event_if_any x.1) ≡ [] → x.0.wants ≡ t.wants → Comes t x
@@ -95,7 +95,7 @@ comes_read t Packets bytes (Reply line) is = absurd is
 comes_read t Unlinked bytes w is = absurd is
 comes_read t (Ended e) bytes w is = absurd is
 
--- whether a record carries a place
+-- whether a record is of a station
 abbrev is_place : List ℕ → Option Fields → Bool
 is_place bytes None = false
 is_place bytes (Some p) = bytes_eq (slice_range bytes 8 13) p.station && bytes_eq (slice_range bytes 18 20) p.network
@@ -120,7 +120,7 @@ place_there wants bytes =
     ∙ ap (λ l. cond (nat_lt (position_or_len (is_place bytes) (map place_of wants)) l)
     (Some (position_or_len (is_place bytes) (map place_of wants))) None) (sym (length-map wants place_of))
 
--- The same places carry the same records.
+-- The same stations carry the same records.
 place_same : (old new : Wants) (bytes : List ℕ) → places_of new ≡ places_of old
     → place_of new bytes ≡ place_of old bytes
 place_same old new bytes same = place_there new bytes
@@ -263,7 +263,7 @@ go_far n (m ∷ ns) last short on =
     ∙ ap (λ x. Some x) (let e : ((m + 1) % 2 ^ 24 + length ns) % 2 ^ 24 ≡ (n + length (m ∷ ns)) % 2 ^ 24 = omega
     (arith, on.0) in e)
 
--- the number of the records is what a place's number moves by
+-- the number of the records is what a station's number moves by
 pub reported_far : (old new : Wants) (records : List Numbered) (k n : ℕ) → HasReported false old new records
     → n < 2 ^ 24
     → next_at old k ≡ Some n

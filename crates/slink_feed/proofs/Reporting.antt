@@ -83,7 +83,7 @@ record_bytes (events.Gap k want got) = refl
 record_bytes events.Garbage = refl
 record_bytes events.Foreign = refl
 
--- a line that says something tells of no record
+-- a line that says something reports no record
 pub line_alone : (e : Event) → 0 < length (line_written e) → record_in e ≡ []
 line_alone events.None some = refl
 line_alone (events.Say line) some = refl
@@ -94,7 +94,7 @@ line_alone (events.Gap k want got) some = refl
 line_alone events.Garbage some = refl
 line_alone events.Foreign some = refl
 
--- an event with bytes for the output tells of a record
+-- an event with bytes for the output reports a record
 pub record_alone : (e : Event) → 0 < length (record_reported e) → (r : Numbered) × (record_in e ≡ r ∷ [])
 record_alone events.None some = absurd (omega (arith, some))
 record_alone (events.Say line) some = absurd (omega (arith, some))

@@ -1,4 +1,4 @@
--- What one session sends of a place is a stretch of its pushed records.
+-- What one session sends of a station is a slice of its pushed records.
 use Rattle.std.proofs.Common.{◌≡◌, ◌≢◌, ℕ, ◌+◌, ◌-◌, ◌%◌, ◌^◌, ◌≤◌, ◌⊎◌, inl, inr, zero, suc, refl, sym, ap, subst, ◌∙◌}
 use Rattle.std.proofs.Common.{arith, Bool, true, false, ◌==◌, if◌then◌else◌, List, [], ◌∷◌, ◌++◌, length, length-drop}
 use Rattle.std.proofs.Common.{take, drop, set, Option, Some, None, slice_get}
@@ -72,7 +72,7 @@ drop_next [] i x h = absurd (let bad : None ≡ Some x = h in cc bad)
 drop_next (y ∷ ys) zero x h = let same : Some y ≡ Some x = h in let one : y ≡ x = cc same in ap (λ z. z ∷ ys) one
 drop_next (y ∷ ys) (suc i) x h = drop_next ys i x h
 
--- one packet more before a stretch
+-- one packet more before a slice
 slice_more : (first p : ℕ) (pushed packets : List (List ℕ)) (x : List ℕ) → first ≤ p
     → slice_get pushed (p - first) ≡ Some x → IsSlice first pushed (p + 1) packets
     → IsSlice first pushed p (packet_bytes (p % 2 ^ 24) x ∷ packets)
@@ -100,7 +100,7 @@ set_other (x ∷ gs) (suc j) (suc k) o ne = set_other gs j k o (λ e. ne (ap suc
 abbrev pub IsOn : Phase → Type 0
 IsOn phase = (phase ≡ Streaming) ⊎ (phase ≡ Closed)
 
--- A call sends no packet of the place, whose grant stays; or the one at its position, which goes on.
+-- A call sends no packet of the station, whose grant stays; or the one at its position, which goes on.
 data Stepped (k : ℕ) (g : Grant) (feed : List Window) (place : ℕ) (x : State × Sent) : Type 0 where
   quiet : (if place == k then packet_in x.1 else []) ≡ [] → grant_at x.0.grants k ≡ Some g → IsOn x.0.phase
       → Stepped k g feed place x

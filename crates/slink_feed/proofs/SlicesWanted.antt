@@ -1,4 +1,4 @@
--- A stretch of a place's records, from the number on that it wants, is wanted.
+-- A slice of a station's records, from the number on that it wants, is wanted.
 use Rattle.std.proofs.Common.{◌≡◌, ℕ, ◌+◌, ◌%◌, ◌^◌, zero, suc, refl, sym, ap, subst, ◌∙◌, arith, Bool, not, cond}
 use Rattle.std.proofs.Common.{nat_lt, List, [], ◌∷◌, ◌++◌, length, set, Option, Some, None, IfSome}
 use Rattle.std.specs.List.{position_or_len}
@@ -11,7 +11,7 @@ use Rattle.slink_feed.specs.Dialogue.{with_next}
 use Rattle.slink_feed.specs.Sending.{packets_from}
 use Rattle.slink_feed.proofs.Numbers.{place_some, next_here}
 
--- a place that wants another number is still the same place
+-- a station that wants another number is still the same station
 first_same : (p : Option Wanted → Bool) (wants : Wants) (k : ℕ) (w : Wanted) (o : Option Wanted)
     → want_at wants k ≡ Some w → p o ≡ p (Some w) → position_or_len p (set wants k o) ≡ position_or_len p wants
 first_same p [] k w o at same = refl

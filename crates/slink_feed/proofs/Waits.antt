@@ -1,4 +1,4 @@
--- Where nothing is sent of any place.
+-- Where nothing is sent of any station.
 use Rattle.std.proofs.Common.{◌≡◌, ◌≢◌, ℕ, ◌+◌, ◌%◌, ◌^◌, ◌<◌, ◌⊎◌, ◌==◌, ◌&&◌, ◌∙◌, arith, ap, inl, inr, refl, subst}
 use Rattle.std.proofs.Common.{length, sym, List, Option, Some, None, slice_get, Bool, true, false, not, ◌↔◌}
 use Rattle.std.specs.Option.{is_some}
@@ -17,7 +17,7 @@ use Rattle.slink_feed.specs.Grant.{is_fetch}
 use Rattle.slink_feed.proofs.Done.{not_done, some_at}
 use Rattle.slink_feed.proofs.Reached.{sent_at_next, sent_by_record}
 
--- a place at its ring's next record, where not all are done
+-- a station at its ring's next record, where not all are done
 waits_at : (feed : List Window) (s : State) (k : ℕ) (w : Window) (o : Option Grant) → s.phase ≡ Streaming
     → grant_at s.grants k ≡ o → slice_get feed k ≡ Some w → IsAtNext feed s.grants k
     → has_sent_all feed s.grants ≡ false → sent feed s k ≡ (s, Wait)
@@ -27,14 +27,14 @@ waits_at feed s k w None phase granted here at unfinished =
 waits_at feed s k w (Some g) phase granted here at unfinished =
     sent_at_next feed s k g w w.next phase granted here refl (at g w granted here) ∙ ap (λ b. at_next b s) unfinished
 
--- where each place that has a grant is at its ring's next record, and not all are done
+-- where each station that has a grant is at its ring's next record, and not all are done
 pub waits_all : (feed : List Window) (s : State) → s.phase ≡ Streaming
     → ((k : ℕ) → k < length feed → IsAtNext feed s.grants k) → has_sent_all feed s.grants ≡ false → IsWaiting feed s
 waits_all feed s phase at unfinished k lt =
     let here = some_at feed k lt in
     waits_at feed s k here.0 (grant_at s.grants k) phase refl here.1 (at k lt) unfinished
 
--- the first places and the next one
+-- the first stations and the next one
 pub at_next_more : (feed : List Window) (gs : Grants) (k : ℕ) → ((j : ℕ) → j < k → IsAtNext feed gs j)
     → IsAtNext feed gs k → (j : ℕ) → j < k + 1 → IsAtNext feed gs j
 at_next_more feed gs k before here j lt = elim (eqb_tells j k) [
@@ -65,7 +65,7 @@ is_next g h w v e f same =
     let rings : w ≡ v = cc f in
     sym (ap (λ (x : Grant). x.position) grants) ∙ (same ∙ ap (λ (x : Window). x.next) rings)
 
--- where a place isn't at its ring's next record
+-- where a station isn't at its ring's next record
 sends_at : (feed : List Window) (s : State) (k : ℕ) (w : Window) (o : Option Grant) → s.phase ≡ Streaming
     → grant_at s.grants k ≡ o → slice_get feed k ≡ Some w → ¬ (IsAtNext feed s.grants k)
     → sent feed s k ≢ (s, Wait)
@@ -82,7 +82,7 @@ sends_off feed s k phase lt off waits =
     let here = some_at feed k lt in
     sends_at feed s k here.0 (grant_at s.grants k) phase refl here.1 off (waits k lt)
 
--- where one place has a grant, is at its ring's next record, and all are done
+-- where one station has a grant, is at its ring's next record, and all are done
 sends_end : (feed : List Window) (s : State) (k : ℕ) (g : Grant) → s.phase ≡ Streaming → k < length feed
     → grant_at s.grants k ≡ Some g → IsAtNext feed s.grants k → has_sent_all feed s.grants ≡ true → ¬ (IsWaiting feed s)
 sends_end feed s k g phase lt granted at done waits =
@@ -90,7 +90,7 @@ sends_end feed s k g phase lt granted at done waits =
     no_wait_done s (sym (sent_at_next feed s k g here.0 (here.0).next phase granted here.1 refl
     (at g here.0 granted here.1) ∙ ap (λ b. at_next b s) done) ∙ waits k lt)
 
--- where each place that has a grant is at its ring's next record, and one has a grant: by whether all are done
+-- where each station that has a grant is at its ring's next record, and one has a grant: by whether all are done
 pub waits_unless_done : (feed : List Window) (s : State) (k : ℕ) (g : Grant) (t : Bool) → s.phase ≡ Streaming
     → k < length feed → grant_at s.grants k ≡ Some g → ((j : ℕ) → j < length feed → IsAtNext feed s.grants j)
     → t ≡ has_sent_all feed s.grants → (not t ≡ true) ↔ IsWaiting feed s
@@ -103,12 +103,12 @@ waits_unless_done feed s k g false phase lt granted at done = (
   λ waits. refl,
 )
 
--- a session that is closed says so of each place
+-- a session that is closed says so of each station
 pub sends_closed : (feed : List Window) (s : State) → s.phase ≡ Phases.Closed → 0 < length feed → ¬ (IsWaiting feed s)
 sends_closed feed s phase some waits =
     no_wait_closed s (sym (ap (λ (p : Phase). sent_in p feed s 0) phase) ∙ waits 0 some)
 
--- whether a place has a grant
+-- whether a station has a grant
 pub one_granted : (o : Option Grant) → is_some o ≡ true → (h : Grant) × (o ≡ Some h)
 one_granted None is = absurd (let bad : false ≡ true = is in cc bad)
 one_granted (Some h) is = (h, refl)
@@ -124,7 +124,7 @@ none_more gs k before here j lt = elim (eqb_tells j k) [
   | inr other ↦ before j (omega (arith, lt, other.1))
 ]
 
--- a place whose next record is due, or left its ring, is not done
+-- a station whose next record is due, or left its ring, is not done
 due_open : (f b : Bool) → b ≡ false → (f && b) ≡ false
 due_open true b e = e
 due_open false b e = refl
@@ -145,7 +145,7 @@ unfinished feed gs k lt off =
     not_done feed gs k here.0 (has_sent here.0 (grant_at gs k)) here.1 refl
     (open_at feed gs k here.0 (grant_at gs k) refl here.1 off)
 
--- While the next record of a place is due, or left its ring, nothing is sent of those at their rings' next records,
+-- While the next record of a station is due, or left its ring, nothing is sent of those at their rings' next records,
 pub waits_beside : (feed : List Window) (s : State) (m k : ℕ) → s.phase ≡ Streaming → m < length feed
     → ¬ (IsAtNext feed s.grants m) → k < length feed → IsAtNext feed s.grants k → sent feed s k ≡ (s, Wait)
 waits_beside feed s m k phase within off lt at =

@@ -1,4 +1,4 @@
--- The places that a client asks for.
+-- The stations that a client asks for.
 use Rattle.std.proofs.Common.{◌≡◌, ℕ, ◌+◌, ◌-◌, ◌<◌, ◌≤◌, ◌^◌, suc, zero, refl, sym, ap, subst, ◌∙◌, arith, List, []}
 use Rattle.std.proofs.Common.{◌∷◌, ◌++◌, length, map, replicate, take, set, get_or, append_assoc, length-take-le}
 use Rattle.std.proofs.Common.{Option, Some, None, IfSome}
@@ -8,7 +8,7 @@ use Rattle.slink_wire.specs.Place.{AreNumbers, Fields}
 use Rattle.slink_feed.specs.declared.dialogue.Wanted.{Wanted}
 use Rattle.slink_feed.specs.Dialogue.{AreShort, Wants, next_at, want_at, wanted_of, wants_of}
 
--- one place more is written
+-- one station more is written
 pub wanted_more : (places : List (Fields × Option ℕ)) (k : ℕ) (p : Fields × Option ℕ) → k < length places
     → length places ≤ 16 → p ≡ get_or places k p
     → set (map wanted_of (take k places) ++ replicate (16 - k) None) k (wanted_of p) ≡ map wanted_of
@@ -24,7 +24,7 @@ wanted_more places k p lt most read =
     ∙ (ap (λ (q : Fields × Option ℕ). (prefix ++ wanted_of q ∷ []) ++ rest) read
     ∙ ap (λ ws. ws ++ rest) (sym (map_more wanted_of places k p lt)))))
 
--- the number of a place is short
+-- the number of a station is short
 short_number : (m : Option ℕ) → ((n : ℕ) → m ≡ Some n → n < 2 ^ 24) → IfSome m (λ n. n < 2 ^ 24)
 short_number None short = tt
 short_number (Some n) short = short n refl

@@ -26,7 +26,7 @@ pub data FailsInTurn : Attending → List (List Window) → Attending → Type 0
       (turn : Turn)
       → Attends feed a now before after turn → FailsInTurn now feeds b → FailsInTurn a (feed ∷ feeds) b
 
--- At each step the ring of the place shows the last of the records that were pushed so far, which are a prefix of
+-- At each step the ring of the station shows the last of the records that were pushed so far, which are a prefix of
 -- these.
 abbrev pub ShowPushed : ℕ → ℕ → List (List ℕ) → List (List Window) → Type 0
 ShowPushed k first pushed [] = Unit {0}
@@ -41,8 +41,8 @@ bytes_sent (a ∷ more) = sent_bytes a.answer ++ bytes_sent more
 
 -- In these steps a session sent these bytes, of packets, and `END` where all that was requested was sent: the packets
 -- of
--- each place that has a grant are those of a stretch of its pushed records from the grant on, and there is none of any
--- other place.
+-- each station that has a grant are those of a slice of its pushed records from the grant on, and there is none of any
+-- other station.
 pub record SendsSlices (feeds : List (List Window)) (s : State) (bytes : List ℕ) : Type 0 where
   pub called : List Called
   pub are_called : AreCalled s called

@@ -21,18 +21,18 @@ use Rattle.slink_feed.specs.declared.dialogue.Stage.{Stage}
 use Rattle.slink_feed.specs.declared.dialogue.Stage.TheVariants.{Unlinked, Station, Number, Packets, Ended}
 use Rattle.slink_feed.specs.declared.dialogue.Wanted.{Wanted}
 
--- the places that are requested, in their order, and the number that each wants next
+-- the stations that are requested, in their order, and the number that each wants next
 abbrev pub Wants : Type 0
 Wants = List (Option Wanted)
 
--- each of sixteen places that there is
+-- each of sixteen stations that there is
 abbrev pub wanted_of : Fields × Option ℕ → Option Wanted
 wanted_of p = Some (record { place = p.0; next = p.1 })
 
 abbrev pub wants_of : List (Fields × Option ℕ) → Wants
 wants_of places = map wanted_of places ++ replicate (16 - length places) None
 
--- the place at an index, and the number that it wants next
+-- the station at an index, and the number that it wants next
 abbrev pub want_at : Wants → ℕ → Option Wanted
 want_at wants k = unwrap_or (slice_get wants k) None
 
@@ -42,7 +42,7 @@ next_at wants k = option_and_then (λ w. w.next) (want_at wants k)
 abbrev pub AreShort : Wants → Type 0
 AreShort wants = (k n : ℕ) → next_at wants k ≡ Some n → n < 2 ^ 24
 
--- a place of sixteen is requested
+-- a station of sixteen is requested
 abbrev pub IsStage : Stage → Type 0
 IsStage Unlinked = Unit {0}
 IsStage (Station k) = k < 16
@@ -79,7 +79,7 @@ ended ending t = (record t { stage = Ended ending }, event_of ending)
 abbrev pub sends_line : Talk → Stage → Request → Talk × Event
 sends_line t stage request = (record t { stage = stage }, events.Say (record { items = request_bytes request }))
 
--- the STATION of a place; after the last place, the END
+-- the STATION of a station; after the last station, the END
 abbrev pub to_place : Option Wanted → ℕ → Talk → Talk × Event
 to_place (Some w) k t = sends_line t (Station k) (requests.Station w.place)
 to_place None k t = sends_line t Packets requests.End
@@ -87,7 +87,7 @@ to_place None k t = sends_line t Packets requests.End
 abbrev pub requests_place : ℕ → Talk → Talk × Event
 requests_place k t = to_place (want_at t.wants k) k t
 
--- the DATA or FETCH of a place, with the number that it wants next, where it has one
+-- the DATA or FETCH of a station, with the number that it wants next, where it has one
 abbrev pub numbered : Mode → Option ℕ → Request
 numbered modes.Data number = requests.Data number
 numbered modes.Fetch number = requests.Fetch number
@@ -105,17 +105,17 @@ to_answer Granted k next t = next
 to_answer Refusal k next t = ended (endings.Refused k) t
 to_answer Neither k next t = ended endings.Garbage t
 
--- whether a record's header has the station and network of a place
+-- whether a record's header has the codes of a station
 abbrev pub is_of_wanted : List ℕ → Option Wanted → Bool
 is_of_wanted bytes None = false
 is_of_wanted bytes (Some w) = bytes_eq (slice_range bytes 8 13) w.place.station
     && bytes_eq (slice_range bytes 18 20) w.place.network
 
--- the first place that a record carries
+-- the first station that a record is of
 abbrev pub place_of : Wants → List ℕ → Option ℕ
 place_of wants bytes = position (is_of_wanted bytes) wants
 
--- A record is reported, and the next number is wanted of its place.
+-- A record is reported, and the next number is wanted of its station.
 abbrev pub next_set : Option Wanted → Wants → ℕ → ℕ → Wants
 next_set None wants k n = wants
 next_set (Some w) wants k n = slice_set wants k (Some (record { place = w.place; next = Some n }))
@@ -148,7 +148,7 @@ if_wanted None k number bytes t = reported k number bytes t
 if_wanted (Some want) k number bytes t =
     if is_taken t.holes want number then reported k number bytes t else ended (endings.Gap k want number) t
 
--- a packet: its place is sought first
+-- a packet: its station is sought first
 abbrev pub at_packet : Option ℕ → ℕ → List ℕ → Talk → Talk × Event
 at_packet None number bytes t = ended endings.Foreign t
 at_packet (Some k) number bytes t = if_wanted (next_at t.wants k) k number bytes t

@@ -17,7 +17,7 @@ IsRingFault Capacity capacity first = (capacity ≡ 0) ⊎ (1000000 < capacity)
 IsRingFault First capacity first = IsCapacity capacity × (2 ^ 24 ≤ first)
 IsRingFault Memory capacity first = IsCapacity capacity × (first < 2 ^ 24)
 
--- The ring comes back, since there are sixteen already, or else since one has its place.
+-- The ring comes back, since there are sixteen already, or else since one has its station.
 abbrev pub IsFeedFault : {A : Type 0} → FeedFault A → List Window → Window → Type 0
 IsFeedFault (Full back) feed ring = (length feed ≡ 16) × (back ≡ ring)
 IsFeedFault (Double back) feed ring = (length feed < 16) × HasPlace feed ring.place × (back ≡ ring)

@@ -150,7 +150,7 @@ IsFetchFault (faults.Write count) old new before after = IsCutShort old new befo
 IsFetchFault (faults.Output count) old new before after = IsCutShort old new before after (faults.Output count)
 
 -- What a call that takes a step comes to: a step, or what failed in it. The bytes that the client had kept read as what
--- is begun: so the step tells what they read as with those of the link.
+-- is begun: so the step says what they read as with those of the link.
 pub record TakesTurn (result : Result Turn LinkFault) (old new : Fetching) (before after : BytesRead) : Type 0 where
   pub ok : IfOk result (λ turn. Fetches old new before after turn)
   pub fault : IfErr result (λ fault. IsFetchFault fault old new before after)

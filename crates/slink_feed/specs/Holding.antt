@@ -1,4 +1,4 @@
--- What a client reports a place, over any links and whatever they bring.
+-- What a client reports a station, over any links and whatever they bring.
 use Rattle.std.specs.Prelude.{◌⊎◌, Bool, true, false, ◌<◌, ◌≤◌, IfSome, map}
 use Rattle.std.specs.Prelude.{◌≡◌, ℕ, ◌+◌, ◌%◌, ◌^◌, ◌==◌, List, [], ◌∷◌, ◌++◌, Option, Some, None, if◌then◌else◌}
 use Rattle.slink_feed.specs.declared.dialogue.Event.{Event}
@@ -14,7 +14,7 @@ abbrev pub turned : Talk → Turn → Talk × Event
 turned t connects = requests_place 0 t
 turned t (brings w) = read t w
 
--- the numbers of the records that are reported of a place
+-- the numbers of the records that are reported of a station
 abbrev pub numbers_in : ℕ → Event → List ℕ
 numbers_in k events.None = []
 numbers_in k (events.Say bytes) = []
@@ -54,7 +54,7 @@ abbrev pub Rise : ℕ → List ℕ → Type 0
 Rise position [] = Unit {0}
 Rise position (p ∷ ps) = (position ≤ p) × (p < position + 2 ^ 23) × Rise (p + 1) ps
 
--- Numbers are those of positions that go up, from a place's next one on where it wants one.
+-- Numbers are those of positions that go up, from a station's next one on where it wants one.
 pub record AreRising (want : Option ℕ) (numbers : List ℕ) : Type 0 where
   pub first : ℕ
   pub positions : List ℕ

@@ -14,7 +14,7 @@ pub record Listening : Type 0 where
   pub talk : Talk
   pub kept : List ℕ
 
--- a client of these places before its first link, which goes past holes or doesn't
+-- a client of these stations before its first link, which goes past holes or doesn't
 abbrev pub new_client : List (Fields × Option ℕ) → Mode → Bool → Listening
 new_client places mode holes = record {
   talk = record { mode = mode; wants = wants_of places; stage = Unlinked; holes = holes };

@@ -15,8 +15,8 @@ pub data AreReported : List (List ℕ) → BytesWritten → BytesWritten → Typ
   one : (line : List ℕ) (lines : List (List ℕ)) (old now new : BytesWritten) → Yields line old now
       → AreReported lines now new → AreReported (line ∷ lines) old new
 
--- what is reported of records: which number each place wants next, of which places the first record is to be reported,
--- and the last record that was reported, by the index of its place and its number
+-- what is reported of records: which number each station wants next, of which stations the first record is to be
+-- reported, and the last record that was reported, by the index of its station and its number
 pub record Reporting : Type 0 where
   pub wants : List (Option Wanted)
   pub firsts : List Bool
@@ -26,7 +26,7 @@ pub record Reporting : Type 0 where
 abbrev pub reporting_of : Wants → Bool → Reporting
 reporting_of wants firsts = record { wants = wants; firsts = replicate 16 firsts; last = None }
 
--- the line of a place's first record
+-- the line of a station's first record
 abbrev pub first_line : Fields → ℕ → List ℕ
 first_line place number = codes "mseed: first " ++ label_of place ++ codes ":" ++ hexadecimal 6 number ++ codes "\n"
 
@@ -35,7 +35,7 @@ abbrev pub hole_line : Fields → ℕ → ℕ → List ℕ
 hole_line place want got = codes "mseed: hole " ++ label_of place ++ codes " " ++ hexadecimal 6 want ++ codes " "
     ++ hexadecimal 6 got ++ codes "\n"
 
--- the lines of a record of a place
+-- the lines of a record of a station
 abbrev pub if_other : Fields → Option ℕ → ℕ → List (List ℕ)
 if_other place None got = []
 if_other place (Some want) got = if got == want then [] else hole_line place want got ∷ []
@@ -75,13 +75,13 @@ abbrev pub named_number : List ℕ → Option ℕ → List ℕ
 named_number name None = []
 named_number name (Some n) = name ++ hexadecimal 6 n
 
--- the options that name the first place
+-- the options that name the first station
 abbrev pub options_of : Option Wanted → List ℕ
 options_of None = []
 options_of (Some w) = codes " --network " ++ code_in w.place.network ++ codes " --station " ++ code_in w.place.station
     ++ named_number (codes " --from ") w.next
 
--- the word that names a further place
+-- the word that names a further station
 abbrev pub word_of : Option Wanted → List ℕ
 word_of None = []
 word_of (Some w) = codes " " ++ label_of w.place ++ named_number (codes ":") w.next
@@ -90,7 +90,7 @@ abbrev pub words_of : Wants → List ℕ
 words_of [] = []
 words_of (w ∷ ws) = word_of w ++ words_of ws
 
--- the arguments of a `fetch` that goes on with these places
+-- the arguments of a `fetch` that goes on with these stations
 abbrev pub next_line : Option Wanted → Wants → List ℕ
 next_line first others = codes "mseed: next" ++ options_of first ++ words_of others ++ codes "\n"
 

@@ -40,8 +40,8 @@ pub record Reports (old new : Talk) (before after : Outputs) : Type 0 where
   pub holes : new.holes ≡ old.holes
   pub handed_over : AreHandedOver records before after
 
--- A client reported records, each of which a teller reported before the output took it; and the teller noted whether
--- the output accepted some.
+-- A client reported records, each of which a reporter reported before the output took it; and the reporter noted
+-- whether the output accepted some.
 pub record ReportsRecords (old new : Talk) (reporter_old reporter_new : ReporterState)
     (output_old output_new errors_old errors_new : BytesWritten) : Type 0 where
   pub received : Notes reporter_old.received reporter_new.received output_old output_new

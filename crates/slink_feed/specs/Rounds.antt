@@ -1,4 +1,4 @@
--- What a session sends of which a packet of one place after another is requested, round and round.
+-- What a session sends of which a packet of one station after another is requested, round and round.
 use Rattle.std.specs.Prelude.{◌≡◌, ℕ, ◌+◌, ◌≤◌, ◌==◌, ◌⊎◌, List, [], ◌∷◌, ◌++◌, length, replicate, if◌then◌else◌}
 use Rattle.mseed_stream.specs.Device.{BytesWritten}
 use Rattle.slink_feed.specs.declared.session.Phase.TheVariants.{Closed}
@@ -9,12 +9,12 @@ use Rattle.slink_feed.specs.Session.{State, sent, sent_bytes}
 use Rattle.slink_feed.specs.Turns.{Emitted, EmittedPrefix}
 use Rattle.slink_feed.specs.Window.{Window}
 
--- the place after another; after the last place the first one
+-- the station after another; after the last station the first one
 abbrev pub place_after : List Window → ℕ → ℕ
 place_after feed k = if k + 1 == length feed then 0 else k + 1
 
--- Called for a packet of this place, then of the one after it, and so on, a session gives these. It comes to the other
--- place and state.
+-- Called for a packet of this station, then of the one after it, and so on, a session gives these. It comes to the
+-- other station and state.
 abbrev pub Gives : List Window → ℕ → State → List Sent → ℕ → State → Type 0
 Gives feed k s [] last new = (last ≡ k) × (new ≡ s)
 Gives feed k s (a ∷ more) last new =
@@ -34,9 +34,8 @@ pub record Attending : Type 0 where
   pub session : Standing
   pub written : BytesWritten
 
--- A session was called from the first place on, until it is closed or a whole round of the places gives nothing. All
--- that
--- it gave was written.
+-- A session was called from the first station on, until it is closed or a whole round of the stations gives nothing.
+-- All that it gave was written.
 pub record SendsAll (feed : List Window) (old new : Attending) : Type 0 where
   pub given : List Sent
   pub place : ℕ

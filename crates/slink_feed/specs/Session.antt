@@ -22,7 +22,7 @@ use Rattle.slink_feed.specs.Grant.{grant_of, is_fetch}
 use Rattle.slink_feed.specs.Rings.{station_at}
 use Rattle.slink_feed.specs.Window.{Window, record_at}
 
--- the grants, one for each place of the feed that has one
+-- the grants, one for each station of the feed that has one
 abbrev pub Grants : Type 0
 Grants = List (Option Grant)
 
@@ -34,7 +34,7 @@ pub record State : Type 0 where
 abbrev pub at : Phase → Grants → State
 at phase grants = record { phase = phase; grants = grants }
 
--- the grant of a place
+-- the grant of a station
 abbrev pub grant_at : Grants → ℕ → Option Grant
 grant_at grants k = unwrap_or (slice_get grants k) None
 
@@ -46,7 +46,7 @@ IsReached feed k position = (w : Window) × (slice_get feed k ≡ Some w) × (po
 abbrev pub AreReached : List Window → Grants → Type 0
 AreReached feed grants = (k : ℕ) (g : Grant) → grant_at grants k ≡ Some g → IsReached feed k g.position
 
--- The chosen place is one of the feed.
+-- The chosen station is one of the feed.
 abbrev pub IsChosenOf : List Window → Phase → Type 0
 IsChosenOf feed Fresh = Unit {0}
 IsChosenOf feed (Chosen k) = k < length feed
@@ -58,12 +58,12 @@ IsChosenOf feed Closed = Unit {0}
 abbrev pub Fits : List Window → State → Type 0
 Fits feed s = IsChosenOf feed s.phase × AreReached feed s.grants
 
--- STATION: a place that matches is chosen, and has no grant any more
+-- STATION: a station that matches is chosen, and has no grant any more
 abbrev pub chosen : Option ℕ → State → State × Reply
 chosen None s = (s, Replies.Error)
 chosen (Some k) s = (at (Chosen k) (slice_set s.grants k None), Replies.Ok)
 
--- DATA and FETCH: the chosen place has the grant, if there is one
+-- DATA and FETCH: the chosen station has the grant, if there is one
 abbrev pub granted : Mode → ℕ → Option ℕ → State → State × Reply
 granted mode k None s = (s, Replies.Error)
 granted mode k (Some position) s =
@@ -127,7 +127,7 @@ reply_at_next _ = Replies.Error
 abbrev pub ended : State → State × Reply
 ended s = (at Closed s.grants, reply_at_next s.phase)
 
--- A place without a grant is done, and so is one that fetches, once it has the last record.
+-- A station without a grant is done, and so is one that fetches, once it has the last record.
 abbrev pub has_sent : Window → Option Grant → Bool
 has_sent w None = true
 has_sent w (Some g) = is_fetch g.mode && (g.position == w.next)
@@ -164,7 +164,7 @@ sent_in (Granted place) feed s k = (s, Sents.Wait)
 sent_in Streaming feed s k = sent_of feed s k (grant_at s.grants k) (slice_get feed k)
 sent_in Closed feed s k = (s, Sents.Closed)
 
--- what is sent of a place when it is requested, and the state afterwards
+-- what is sent of a station when it is requested, and the state afterwards
 abbrev pub sent : List Window → State → ℕ → State × Sent
 sent feed s k = sent_in s.phase feed s k
 
@@ -183,12 +183,12 @@ sent_without Unsents.Done = Sents.Done
 sent_without Unsents.Overrun = Sents.Overrun
 sent_without Unsents.Closed = Sents.Closed
 
--- The place has no grant, or one at its ring's next record.
+-- The station has no grant, or one at its ring's next record.
 abbrev pub IsAtNext : List Window → Grants → ℕ → Type 0
 IsAtNext feed grants k = (g : Grant) (w : Window) → grant_at grants k ≡ Some g → slice_get feed k ≡ Some w
     → g.position ≡ w.next
 
--- Nothing is sent of any place now.
+-- Nothing is sent of any station now.
 abbrev pub IsWaiting : List Window → State → Type 0
 IsWaiting feed s = (k : ℕ) → k < length feed → sent feed s k ≡ (s, Sents.Wait)
 

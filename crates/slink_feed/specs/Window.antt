@@ -4,7 +4,7 @@ use Rattle.std.specs.Prelude.{◌≡◌, ℕ, ◌+◌, ◌-◌, ◌^◌, ◌%◌
 use Rattle.std.specs.Prelude.{slice_get, nat_lt, nat_le, if◌then◌else◌}
 use Rattle.slink_wire.specs.Place.{Fields}
 
--- the place, the most records that are kept, those that are, and the number of the record that comes next
+-- the station, the most records that are kept, those that are, and the number of the record that comes next
 pub record Window : Type 0 where
   pub place : Fields
   pub capacity : ℕ

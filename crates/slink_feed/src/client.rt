@@ -20,9 +20,9 @@ use arrayvec::ArrayVec;
 use slink_wire::{Packet, Place};
 use std::marker::Model;
 
-/// A client that asks for the records of up to sixteen places over one link, and over another once that is lost.
+/// A client that asks for the records of up to sixteen stations over one link, and over another once that is lost.
 ///
-/// It asks for no memory. A record is wanted once: the number that a place wants next moves by each record that is
+/// It asks for no memory. A record is wanted once: the number that a station wants next moves by each record that is
 /// reported of it, and by nothing else, so that each link goes on after the last record of the one before. A client
 /// that goes past holes leaves records out, and reports none twice.
 #[derive(Drop)]
@@ -43,7 +43,7 @@ impl Model for Client {
 }
 
 impl Client {
-    /// A client of up to sixteen different places, each with the number below 2^24 that it wants first, or none.
+    /// A client of up to sixteen different stations, each with the number below 2^24 that it wants first, or none.
     pub fn new(places: &[(Place, Option<u32>)], mode: Mode) -> Client
         requires count { length places.now ≤ 16 }
         requires numbers { AreNumbers places.now }
@@ -53,7 +53,7 @@ impl Client {
     }
 
     /// A client as by [`Client::new`] that goes past holes: it takes a record too whose number is ahead of the one that
-    /// its place wants, by 1 to 2^23 - 1, modulo 2^24, and wants the one after it next.
+    /// its station wants, by 1 to 2^23 - 1, modulo 2^24, and wants the one after it next.
     pub fn past_holes(places: &[(Place, Option<u32>)], mode: Mode) -> Client
         requires count { length places.now ≤ 16 }
         requires numbers { AreNumbers places.now }
@@ -74,7 +74,7 @@ impl Client {
         }
     }
 
-    /// The number that the place at an index wants next, modulo 2^24, where one was named or came.
+    /// The number that the station at an index wants next, modulo 2^24, where one was named or came.
     pub fn next(&self, k: usize) -> Option<u32>
         ensures value { result ≡ next_at self.now.talk.wants k }
         ensures short { IfSome result (λ n. n < 2 ^ 24) }
@@ -82,7 +82,7 @@ impl Client {
         self.dialogue.next(k)
     }
 
-    /// The places that are requested, each with the number that it wants next.
+    /// The stations that are requested, each with the number that it wants next.
     pub(crate) fn wants(&self) -> &[Option<Wanted>; 16]
         ensures { result.now ≡ self.now.talk.wants }
     {
@@ -137,7 +137,7 @@ impl Client {
     }
 
     /// Takes the packet at the start of bytes, where nothing is kept and its record is wanted, and lends the record
-    /// with the index of its place and its number. Else nothing is taken.
+    /// with the index of its station and its number. Else nothing is taken.
     pub(crate) fn take_record<'a>(&mut self, bytes: &'a [u8]) -> Option<(usize, u32, &'a [u8; 512])>
         ensures brings { IfSome result (λ r. Brings self.old.talk (self.old.kept ++ take 520 bytes.now) self.new
             (Event.Record r.0 r.1 r.2.now)) }

@@ -28,8 +28,8 @@ pub fn one_turn()
 {}
 
 /// From the moment on when a session streams, what its link accepts in steps, with whatever is pushed between them and
-/// whatever the link gives, are packets, and `END` where all that was requested was sent. The packets of each place
-/// with a grant are a stretch of its records from the grant on, and no other place has any. Before that moment there
+/// whatever the link gives, are packets, and `END` where all that was requested was sent. The packets of each station
+/// with a grant are a slice of its records from the grant on, and no other station has any. Before that moment there
 /// are none.
 pub fn turns_send_slices()
     ensures before { (feed : List Window) (old new : Attending) → IsBefore old.session.state.phase

@@ -22,7 +22,7 @@ use slink_wire::{Command, Packet, Reply, What};
 use std::alloc::Allocator;
 use std::marker::Model;
 
-/// The phase of a session, and the grants of the places.
+/// The phase of a session, and the grants of the stations.
 #[derive(Drop)]
 pub(crate) struct Course {
     phase: Phase,
@@ -38,7 +38,7 @@ impl Model for Course {
 }
 
 impl Course {
-    /// A course in which no place is chosen, and none has a grant.
+    /// A course in which no station is chosen, and none has a grant.
     pub(crate) fn new() -> Course
         ensures { result ≡ at Phase.Fresh (replicate 16 None) }
     {
@@ -64,7 +64,7 @@ impl Course {
         matches!(self.phase, Phase::Streaming)
     }
 
-    /// The next packet of the place at an index of the feed.
+    /// The next packet of the station at an index of the feed.
     pub(crate) fn packet<A: Allocator>(&mut self, feed: &Feed<A>, k: usize) -> Sent
         requires in_range { k < length feed.now }
         requires fits { Fits feed.now self.old }
@@ -79,7 +79,7 @@ impl Course {
         }
     }
 
-    /// The record of the next packet of the place at an index of the feed, with its number modulo 2^24.
+    /// The record of the next packet of the station at an index of the feed, with its number modulo 2^24.
     ///
     /// # Errors
     ///
@@ -170,19 +170,19 @@ impl Course {
         }
     }
 
-    /// Whether nothing is sent of any place now.
+    /// Whether nothing is sent of any station now.
     pub(crate) fn is_waiting<A: Allocator>(&self, feed: &Feed<A>) -> bool
         ensures { IsTrue result ↔ IsWaiting feed.now self.now }
     {
         match self.phase {
             Phase::Fresh | Phase::Chosen(_) | Phase::Granted(_) => true,
             Phase::Streaming => self.is_up_to_date(feed),
-            // A call for any place reports that the session is closed.
+            // A call for any station reports that the session is closed.
             Phase::Closed => feed.len() == 0,
         }
     }
 
-    /// Whether a session that sends records sends nothing now: each place that has a grant has all its records, and
+    /// Whether a session that sends records sends nothing now: each station that has a grant has all its records, and
     /// where one has, not all are fetched for good.
     fn is_up_to_date<A: Allocator>(&self, feed: &Feed<A>) -> bool
         requires { self.now.phase ≡ Phase.Streaming }
@@ -200,7 +200,7 @@ impl Course {
         !has_grant || !self.has_sent_all(feed)
     }
 
-    /// Whether a record of a place is due, or was, and left its ring.
+    /// Whether a record of a station is due, or was, and left its ring.
     pub(crate) fn is_due<A: Allocator>(&self, feed: &Feed<A>, k: usize) -> bool
         requires { k < length feed.now }
         ensures yes { OnTrue result ((self.now.phase ≡ Phase.Streaming) × ¬ (IsAtNext feed.now self.now.grants k)) }
@@ -209,7 +209,7 @@ impl Course {
         self.is_streaming() && !self.is_at_next(feed, k)
     }
 
-    /// Whether a place has no grant, or one at its ring's next record.
+    /// Whether a station has no grant, or one at its ring's next record.
     fn is_at_next<A: Allocator>(&self, feed: &Feed<A>, k: usize) -> bool
         requires { k < length feed.now }
         ensures { IsTrue result ↔ IsAtNext feed.now self.now.grants k }
@@ -245,7 +245,7 @@ impl Course {
         true
     }
 
-    /// Whether what was granted of a place is fetched.
+    /// Whether what was granted of a station is fetched.
     fn has_sent_place<A: Allocator>(&self, feed: &Feed<A>, k: usize) -> bool
         requires { k < length feed.now }
         ensures { ForSome (slice_get feed.now k) (λ w. result ≡ has_sent w (grant_at self.now.grants k)) }
@@ -256,7 +256,7 @@ impl Course {
         }
     }
 
-    /// The grant of a place.
+    /// The grant of a station.
     pub(crate) fn grant_of(&self, k: usize) -> Option<Grant>
         ensures { result ≡ grant_at self.now.grants k }
     {
@@ -300,7 +300,7 @@ impl Course {
         }
     }
 
-    /// Answers a command before a place is chosen.
+    /// Answers a command before a station is chosen.
     fn in_fresh<A: Allocator>(&mut self, feed: &Feed<A>, command: Command) -> Reply
         ensures answered { in_fresh feed.now self.old command ≡ (self.new, result) }
     {
@@ -313,7 +313,7 @@ impl Course {
         }
     }
 
-    /// Answers a command where a place is chosen that has no grant.
+    /// Answers a command where a station is chosen that has no grant.
     fn in_chosen<A: Allocator>(&mut self, feed: &Feed<A>, k: usize, command: Command) -> Reply
         requires { k < length feed.now }
         ensures answered { in_chosen feed.now k self.old command ≡ (self.new, result) }
@@ -329,8 +329,8 @@ impl Course {
         }
     }
 
-    /// Answers a command where a place is chosen that has a grant: END begins the records, and any other is answered as
-    /// where it has none.
+    /// Answers a command where a station is chosen that has a grant: END begins the records, and any other is answered
+    /// as where it has none.
     fn in_granted<A: Allocator>(&mut self, feed: &Feed<A>, k: usize, command: Command) -> Reply
         requires { k < length feed.now }
         ensures answered { in_granted feed.now k self.old command ≡ (self.new, result) }
@@ -354,7 +354,7 @@ impl Course {
         }
     }
 
-    /// Chooses a place, whose grant is dropped.
+    /// Chooses a station, whose grant is dropped.
     fn choose(&mut self, k: Option<usize>) -> Reply
         requires { IfSome k (λ k. k < 16) }
         ensures answered { chosen k self.old ≡ (self.new, result) }
@@ -369,7 +369,7 @@ impl Course {
         }
     }
 
-    /// Grants what is requested of the chosen place, if it can be had.
+    /// Grants what is requested of the chosen station, if it can be had.
     fn ask<A: Allocator>(
         &mut self,
         feed: &Feed<A>,

@@ -18,7 +18,7 @@ use std::marker::Model;
 /// A line that a client sends, with its CR LF: at most 32 bytes.
 pub type Bytes = ArrayVec<u8, 32>;
 
-/// A place that is requested.
+/// A station that is requested.
 #[derive(Clone, Copy)]
 pub struct Wanted {
     /// The station whose records are wanted.
@@ -27,14 +27,14 @@ pub struct Wanted {
     pub next: Option<u32>,
 }
 
-/// What a client waits for. Places are named by their indices, counted from 0.
+/// What a client waits for. Stations are named by their indices, counted from 0.
 #[derive(Clone, Copy)]
 pub enum Stage {
     /// A link.
     Unlinked,
-    /// The reply to the STATION of this place.
+    /// The reply to the STATION of this station.
     Station(usize),
-    /// The reply to the DATA or FETCH of this place.
+    /// The reply to the DATA or FETCH of this station.
     Number(usize),
     /// Packets, and the end.
     Packets,
@@ -47,20 +47,20 @@ pub enum Stage {
 pub enum Ending {
     /// The server has sent all that was requested.
     End,
-    /// The server refused this place.
+    /// The server refused this station.
     Refused(usize),
-    /// The packet of another record than the one that is wanted next of a place.
+    /// The packet of another record than the one that is wanted next of a station.
     Gap {
-        /// The index of the place.
+        /// The index of the station.
         place: usize,
-        /// The number that the place wants next, modulo 2^24.
+        /// The number that the station wants next, modulo 2^24.
         want: u32,
         /// The number that came.
         got: u32,
     },
     /// No reply, packet or end.
     Garbage,
-    /// The packet of a record of none of the places.
+    /// The packet of a record of none of the stations.
     Foreign,
 }
 
@@ -71,24 +71,24 @@ pub enum Event {
     None,
     /// These bytes are to be written to the link.
     Say(Bytes),
-    /// A record of the place at this index, with its number modulo 2^24.
+    /// A record of the station at this index, with its number modulo 2^24.
     Record(usize, u32, [u8; 512]),
     /// The server has sent all that was requested.
     End,
-    /// The server refused the place at this index.
+    /// The server refused the station at this index.
     Refused(usize),
-    /// The packet of another record than the one that is wanted next of a place.
+    /// The packet of another record than the one that is wanted next of a station.
     Gap {
-        /// The index of the place.
+        /// The index of the station.
         place: usize,
-        /// The number that the place wants next, modulo 2^24.
+        /// The number that the station wants next, modulo 2^24.
         want: u32,
         /// The number that came.
         got: u32,
     },
     /// No reply, packet or end.
     Garbage,
-    /// The packet of a record of none of the places.
+    /// The packet of a record of none of the stations.
     Foreign,
 }
 
@@ -131,7 +131,7 @@ pub(crate) fn answer_of(line: &[u8]) -> Answer
     }
 }
 
-/// How far a client has come in the handshake and the packets: what it waits for, and what it wants of each place.
+/// How far a client has come in the handshake and the packets: what it waits for, and what it wants of each station.
 #[derive(Drop)]
 pub(crate) struct Dialogue {
     mode: Mode,
@@ -150,7 +150,7 @@ impl Model for Dialogue {
     ghost invariant = { λ d. AreShort d.wants × IsStage d.stage };
 }
 
-/// Whether a record's header has the station and network of a place that is wanted.
+/// Whether a record's header has the codes of a station that is wanted.
 fn is_of_wanted(bytes: &[u8; 512], want: &Option<Wanted>) -> bool
     ensures { result ≡ is_of_wanted bytes.now want.now }
 {
@@ -160,7 +160,7 @@ fn is_of_wanted(bytes: &[u8; 512], want: &Option<Wanted>) -> bool
     }
 }
 
-/// The places that are requested, in their order.
+/// The stations that are requested, in their order.
 fn wants_of(places: &[(Place, Option<u32>)]) -> [Option<Wanted>; 16]
     requires { length places.now ≤ 16 }
     ensures { result ≡ wants_of places.now }
@@ -208,14 +208,14 @@ impl Dialogue {
         self.stage
     }
 
-    /// The places that are requested.
+    /// The stations that are requested.
     pub(crate) fn wants(&self) -> &[Option<Wanted>; 16]
         ensures { result.now ≡ self.now.wants }
     {
         &self.wants
     }
 
-    /// The number of the record that is wanted next of the place at an index, modulo 2^24, if one is.
+    /// The number of the record that is wanted next of the station at an index, modulo 2^24, if one is.
     pub(crate) fn next(&self, k: usize) -> Option<u32>
         ensures value { result ≡ next_at self.now.wants k }
         ensures short { IfSome result (λ n. n < 2 ^ 24) }
@@ -228,7 +228,7 @@ impl Dialogue {
         }
     }
 
-    /// The place at an index, with the number that it wants next.
+    /// The station at an index, with the number that it wants next.
     fn want(&self, k: usize) -> Option<Wanted>
         ensures value { result ≡ want_at self.now.wants k }
         ensures within { IfSome result (λ _. k < 16) }
@@ -249,7 +249,7 @@ impl Dialogue {
         request.bytes()
     }
 
-    /// Returns the STATION line of the place at an index; after the last place, the END line.
+    /// Returns the STATION line of the station at an index; after the last station, the END line.
     pub(crate) fn request_place(&mut self, k: usize) -> Bytes
         ensures { requests_place k self.old ≡ (self.new, Event.Say result) }
     {
@@ -259,7 +259,7 @@ impl Dialogue {
         }
     }
 
-    /// Returns the DATA or FETCH line of a place.
+    /// Returns the DATA or FETCH line of a station.
     fn request_number(&mut self, k: usize) -> Bytes
         requires { k < 16 }
         ensures { requests_number k self.old ≡ (self.new, Event.Say result) }
@@ -285,7 +285,7 @@ impl Dialogue {
         }
     }
 
-    /// Takes the reply to the STATION line of a place.
+    /// Takes the reply to the STATION line of a station.
     fn read_station(&mut self, k: usize, answer: Answer) -> Event
         requires { k < 16 }
         ensures read { to_answer answer k (requests_number k self.old) self.old ≡ (self.new, result) }
@@ -298,7 +298,7 @@ impl Dialogue {
         }
     }
 
-    /// Takes the reply to the DATA or FETCH line of a place.
+    /// Takes the reply to the DATA or FETCH line of a station.
     fn read_number(&mut self, k: usize, answer: Answer) -> Event
         requires { k < 16 }
         ensures read { to_answer answer k (requests_place (k + 1) self.old) self.old ≡ (self.new, result) }
@@ -323,7 +323,7 @@ impl Dialogue {
         }
     }
 
-    /// Takes a record of a place, with its number modulo 2^24.
+    /// Takes a record of a station, with its number modulo 2^24.
     fn read_record(&mut self, k: usize, number: u32, bytes: &[u8; 512]) -> Event
         requires place { k < 16 }
         requires number { number < 2 ^ 24 }
@@ -343,7 +343,7 @@ impl Dialogue {
         }
     }
 
-    /// Takes a packet whose record is wanted, and returns the index of its place. Another packet changes nothing.
+    /// Takes a packet whose record is wanted, and returns the index of its station. Another packet changes nothing.
     pub(crate) fn read_wanted(&mut self, number: u32, bytes: &[u8; 512]) -> Option<usize>
         requires { number < 2 ^ 24 }
         ensures read { IfSome result (λ k. at_packet (place_of self.old.wants bytes.now) number bytes.now self.old
@@ -372,7 +372,7 @@ impl Dialogue {
         number == want || self.holes && is_ahead(want, number)
     }
 
-    /// Wants the record after this one next of a place.
+    /// Wants the record after this one next of a station.
     fn pass(&mut self, k: usize, number: u32)
         requires place { k < 16 }
         requires number { number < 2 ^ 24 }
@@ -381,7 +381,7 @@ impl Dialogue {
         self.want_next(k, (number + 1) % SPAN as u32);
     }
 
-    /// Wants this number next of a place.
+    /// Wants this number next of a station.
     fn want_next(&mut self, k: usize, number: u32)
         requires place { k < 16 }
         requires number { number < 2 ^ 24 }
@@ -395,7 +395,7 @@ impl Dialogue {
         }
     }
 
-    /// The index of the first place whose station and network a record's header has.
+    /// The index of the first station whose codes a record's header has.
     fn place_of(&self, bytes: &[u8; 512]) -> Option<usize>
         ensures value { result ≡ place_of self.now.wants bytes.now }
         ensures most { IfSome result (λ k. k < 16) }

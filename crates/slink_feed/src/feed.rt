@@ -25,11 +25,11 @@ const MOST: usize = 16;
 pub enum FeedFault<A: Allocator = Global> {
     /// The feed has sixteen rings.
     Full(Ring<A>),
-    /// The feed has a ring of this place.
+    /// The feed has a ring of this station.
     Double(Ring<A>),
 }
 
-/// Up to sixteen rings of different places, in the order in which they were added.
+/// Up to sixteen rings of different stations, in the order in which they were added.
 #[derive(Drop)]
 pub struct Feed<A: Allocator = Global> {
     rings: ArrayVec<Option<Ring<A>>, 16>,
@@ -68,11 +68,11 @@ impl<A: Allocator> Feed<A> {
         }
     }
 
-    /// Adds a ring, unless the feed has sixteen already, or one of the same place: then nothing changes.
+    /// Adds a ring, unless the feed has sixteen already, or one of the same station: then nothing changes.
     ///
     /// # Errors
     ///
-    /// `Full` where there are sixteen rings, else `Double` where one has its place. The ring comes back.
+    /// `Full` where there are sixteen rings, else `Double` where one has its station. The ring comes back.
     pub fn add(&mut self, ring: Ring<A>) -> Result<(), FeedFault<A>>
         ensures ok { OnOk result (self.new ≡ self.old ++ ring ∷ []) }
         ensures taken { OnOk result ((length self.old < 16) × LacksPlace self.old ring.place) }
@@ -89,7 +89,7 @@ impl<A: Allocator> Feed<A> {
         Ok(())
     }
 
-    /// Adds the ring of a place that has none yet, where there are fewer than sixteen.
+    /// Adds the ring of a station that has none yet, where there are fewer than sixteen.
     pub fn add_other(&mut self, ring: Ring<A>)
         requires room { length self.old < 16 }
         requires differs { ¬ (HasPlace self.old ring.place) }
@@ -158,12 +158,12 @@ impl<A: Allocator> Feed<A> {
         None
     }
 
-    /// Gives the record of this number of an input, counted from 1, to the first ring of its place, and returns that
+    /// Gives the record of this number of an input, counted from 1, to the first ring of its station, and returns that
     /// ring's index.
     ///
     /// # Errors
     ///
-    /// `Foreign`, with the number, where the record hasn't 512 bytes or is of none of the places. The rings stay as
+    /// `Foreign`, with the number, where the record hasn't 512 bytes or is of none of the stations. The rings stay as
     /// they were then.
     pub fn take_record(&mut self, bytes: &[u8], number: u64) -> Result<usize, InputFault>
         requires { (k : ℕ) (w : Window) → slice_get self.old k ≡ Some w → w.next < 2 ^ 63 }
@@ -188,7 +188,7 @@ impl<A: Allocator> Feed<A> {
         }
     }
 
-    /// The index of the first ring whose place has this station, in this network or in any.
+    /// The index of the first ring of a station with this code, in this network or in any.
     pub(crate) fn find(&self, sta: &[u8; 5], net: Option<[u8; 2]>) -> Option<usize>
         ensures value { result ≡ station_at self.now sta.now net }
         ensures within { IfSome result (λ k. k < length self.now) }
@@ -202,7 +202,7 @@ impl<A: Allocator> Feed<A> {
         None
     }
 
-    /// Whether a ring is of this place.
+    /// Whether a ring is of this station.
     fn has(&self, place: Place) -> bool
         ensures yes { OnTrue result (HasPlace self.now place) }
         ensures no { OnFalse result (LacksPlace self.now place) }

@@ -14,7 +14,7 @@ pub enum Mode {
     Fetch,
 }
 
-/// What a client was granted of one place.
+/// What a client was granted of one station.
 #[derive(Clone, Copy, Debug, PartialEq, Eq)]
 pub struct Grant {
     /// Whether records that come later are sent too.

@@ -6,7 +6,7 @@ use mseed_stream::StreamFault;
 pub enum InputFault {
     /// The input failed, or it ended within a record, or bytes came that begin none; or an allocation was refused.
     Stream(StreamFault),
-    /// The record of this number, counted from 1, hasn't 512 bytes, or is of none of the places.
+    /// The record of this number, counted from 1, hasn't 512 bytes, or is of none of the stations.
     Foreign(u64),
 }
 

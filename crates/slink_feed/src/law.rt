@@ -39,7 +39,7 @@ pub fn granted_after_the_last()
         → w.next < number + 2 ^ 24 → number < oldest_of w → grant_of mode (Some (number % 2 ^ 24)) w ≡ None }
 {}
 
-/// What one session sends of a place is a stretch of the records that were pushed there, from its grant on: whatever is
+/// What one session sends of a station is a slice of the records that were pushed there, from its grant on: whatever is
 /// pushed, sent and requested meanwhile.
 pub fn a_slice_is_sent()
     ensures slice { (k first : ℕ) (pushed : List (List ℕ)) (called : List Called) (s : State) (g : Grant)
@@ -52,15 +52,15 @@ pub fn a_slice_is_sent()
 {}
 
 /// A client that doesn't go past holes reports each record once and in order, over any links and whatever they bring:
-/// the numbers of the records of a place go up one by one, modulo 2^24, from the one that it wants, if any, to the one
-/// before the next that it wants.
+/// the numbers of the records of a station go up one by one, modulo 2^24, from the one that it wants, if any, to the
+/// one before the next that it wants.
 pub fn each_record_once()
     ensures { (k : ℕ) (t : Talk) (turns : List Turn) → t.holes ≡ false
         → GoOn (next_at t.wants k) (numbers_of k t turns) (next_at (talk_after t turns).wants k) }
 {}
 
 /// A client, also one that goes past holes, reports each record at most once and in rising order, over any links and
-/// whatever they bring: the numbers of the records of a place are those of positions that go up from the one that it
+/// whatever they bring: the numbers of the records of a station are those of positions that go up from the one that it
 /// wants, if any, each by less than half of all numbers.
 pub fn no_record_twice()
     ensures { (k : ℕ) (t : Talk) (turns : List Turn) → IfSome (next_at t.wants k) (λ n. n < 2 ^ 24)
@@ -76,9 +76,9 @@ pub fn whole_packets_are_reported()
         (record_events (take (delivered / 520) records)) now }
 {}
 
-/// A stretch of a place's records is wanted where it begins with the number that the place wants, or the place wants
-/// none: so of what a session sends to such a client, on a link that is cut off at any byte, the whole packets are
-/// reported.
+/// A slice of a station's records is wanted where it begins with the number that the station wants, or the station
+/// wants none: so of what a session sends to such a client, on a link that is cut off at any byte, the whole packets
+/// are reported.
 pub fn a_slice_is_wanted()
     ensures wanted { (k number : ℕ) (records : List (List ℕ)) (t : Talk)
         → AreOfPlace t.wants k records → IfSome (next_at t.wants k) (λ want. number % 2 ^ 24 ≡ want)

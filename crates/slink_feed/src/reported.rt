@@ -6,7 +6,7 @@ ghost use Rattle.slink_feed.specs.Dialogue.{Talk, Wants, next_at};
 ghost use Rattle.slink_feed.specs.Listening.{Listening, Reads};
 ghost use Rattle.slink_feed.specs.Reported.{HasReported, numbers_at, records_reported};
 
-/// A client reports whole records of its places, and what a place wants next moves by the records that were
+/// A client reports whole records of its stations, and what a station wants next moves by the records that were
 /// reported of it and by nothing else: over one link, whatever this brings, and so over one link after another. Where
 /// the client doesn't go past holes, it moves by their number.
 pub fn wants_move_by_records()

@@ -17,7 +17,7 @@ use mseed_stream::{Sink, report};
 use slink_wire::{Place, six_digits};
 use std::marker::Model;
 
-/// A line: the longest one names sixteen places.
+/// A line: the longest one names sixteen stations.
 type Line = ArrayVec<u8, 320>;
 
 /// Appends bytes to a line.
@@ -29,7 +29,7 @@ fn put(line: &mut Line, bytes: &[u8])
     let _ = line.try_extend_from_slice(bytes);
 }
 
-/// The line of a place's first record.
+/// The line of a station's first record.
 fn first_line(place: &Place, number: u32) -> Line
     ensures { result.items ≡ first_line place.now number }
 {
@@ -68,7 +68,7 @@ fn put_number(line: &mut Line, name: &[u8], number: Option<u32>)
     }
 }
 
-/// Appends the options that name the first place to a line.
+/// Appends the options that name the first station to a line.
 fn put_options(line: &mut Line, want: &Option<Wanted>)
     requires { length line.old.items + 43 ≤ 320 }
     ensures { Appends line.old.items line.new.items (options_of want.now) 43 }
@@ -82,7 +82,7 @@ fn put_options(line: &mut Line, want: &Option<Wanted>)
     }
 }
 
-/// Appends the argument that names a further place to a line.
+/// Appends the argument that names a further station to a line.
 fn put_word(line: &mut Line, want: &Option<Wanted>)
     requires { length line.old.items + 16 ≤ 320 }
     ensures { Appends line.old.items line.new.items (word_of want.now) 16 }
@@ -94,7 +94,7 @@ fn put_word(line: &mut Line, want: &Option<Wanted>)
     }
 }
 
-/// The arguments of a `fetch` that goes on with these places.
+/// The arguments of a `fetch` that goes on with these stations.
 fn next_line(first: &Option<Wanted>, others: &[Option<Wanted>]) -> Line
     requires { length others.now ≤ 15 }
     ensures { result.items ≡ next_line first.now others.now }
@@ -109,7 +109,7 @@ fn next_line(first: &Option<Wanted>, others: &[Option<Wanted>]) -> Line
     line
 }
 
-/// A copy of the places that are wanted, with the numbers that they want next.
+/// A copy of the stations that are wanted, with the numbers that they want next.
 fn copied(wants: &[Option<Wanted>; 16]) -> [Option<Wanted>; 16]
     ensures { result ≡ wants.now }
 {
@@ -118,7 +118,7 @@ fn copied(wants: &[Option<Wanted>; 16]) -> [Option<Wanted>; 16]
     all
 }
 
-/// Wants this number next of the place at an index, if there is one.
+/// Wants this number next of the station at an index, if there is one.
 fn want_next(wants: &mut [Option<Wanted>; 16], k: usize, number: u32)
     ensures { wants.new ≡ with_next wants.old k number }
 {
@@ -131,7 +131,7 @@ fn want_next(wants: &mut [Option<Wanted>; 16], k: usize, number: u32)
     }
 }
 
-/// Reports a hole, where another number is wanted of a place than the one that came.
+/// Reports a hole, where another number is wanted of a station than the one that came.
 fn report_if_other<E: Sink>(place: &Place, want: Option<u32>, got: u32, errors: &mut E)
     ensures { AreReported (if_other place.now want got) (E.written errors.old) (E.written errors.new) }
 {
@@ -155,7 +155,7 @@ fn report_hole<E: Sink>(want: &Option<Wanted>, number: u32, errors: &mut E)
     }
 }
 
-/// Reports a place's first record.
+/// Reports a station's first record.
 fn report_first<E: Sink>(is_first: bool, want: &Option<Wanted>, number: u32, errors: &mut E)
     ensures { AreReported (first_lines is_first want.now number) (E.written errors.old) (E.written errors.new) }
 {
@@ -170,7 +170,7 @@ fn report_first<E: Sink>(is_first: bool, want: &Option<Wanted>, number: u32, err
 }
 
 /// Reports on standard error each record that is about to be written: that it comes after a hole, and that it is the
-/// first one of its place.
+/// first one of its station.
 #[derive(Drop)]
 pub struct Reporter {
     wants: [Option<Wanted>; 16],
@@ -191,7 +191,7 @@ impl Model for Reporter {
 }
 
 impl Reporter {
-    /// A reporter of the records that a client wants. The first record of each place is reported where `firsts` says
+    /// A reporter of the records that a client wants. The first record of each station is reported where `firsts` says
     /// so, and each hole in any case.
     pub fn new(client: &Client, firsts: bool) -> Reporter
         ensures { result ≡ record { reporting = reporting_of client.now.talk.wants firsts; received = false } }
@@ -204,7 +204,7 @@ impl Reporter {
         }
     }
 
-    /// The place at an index, with the number that it wants next.
+    /// The station at an index, with the number that it wants next.
     fn want(&self, k: usize) -> Option<Wanted>
         ensures { result ≡ want_at self.now.reporting.wants k }
     {
@@ -214,7 +214,7 @@ impl Reporter {
         }
     }
 
-    /// Whether the next record of the place at an index is its first, of which is to be reported.
+    /// Whether the next record of the station at an index is its first, of which is to be reported.
     fn is_first(&self, k: usize) -> bool
         ensures { result ≡ unwrap_or (slice_get self.now.reporting.firsts k) false }
     {
@@ -224,7 +224,7 @@ impl Reporter {
         }
     }
 
-    /// Notes that a record of a place was reported, and which is wanted next.
+    /// Notes that a record of a station was reported, and which is wanted next.
     #[tactic(auto, using(std::proofs::lemmas::List::set_past))]
     fn pass(&mut self, k: usize, number: u32)
         ensures { self.new ≡ record self.old { reporting = reporting_past self.old.reporting k number } }
@@ -236,7 +236,7 @@ impl Reporter {
         self.last = Some((k, number));
     }
 
-    /// Reports the record of the place at an index, with its number: it is about to be written.
+    /// Reports the record of the station at an index, with its number: it is about to be written.
     pub(crate) fn note<E: Sink>(&mut self, k: usize, number: u32, errors: &mut E)
         ensures reporting { self.new ≡ record self.old { reporting = reporting_past self.old.reporting k number } }
         ensures lines { AreReported (lines_at self.old.reporting k number) (E.written errors.old)

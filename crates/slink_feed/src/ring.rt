@@ -53,7 +53,7 @@ impl<A: Allocator> Model for Ring<A> {
 }
 
 impl<A: Allocator> Ring<A> {
-    /// An empty ring of a place: its capacity is from 1 to 1,000,000 records, and its first record's number is below
+    /// An empty ring of a station: its capacity is from 1 to 1,000,000 records, and its first record's number is below
     /// 2^24.
     ///
     /// # Errors
@@ -82,7 +82,7 @@ impl<A: Allocator> Ring<A> {
         }
     }
 
-    /// Takes a record of the ring's place under the next number. The oldest record leaves a full ring.
+    /// Takes a record of the ring's station under the next number. The oldest record leaves a full ring.
     pub fn push(&mut self, bytes: &[u8; 512])
         requires bears { Bears bytes.now self.old.place }
         requires room { self.old.next < 2 ^ 63 }

@@ -20,7 +20,7 @@ use std::alloc::Allocator;
 /// The most bytes that a step reads.
 const ROOM: usize = 512;
 
-/// Takes one step with a session's link: writes the due packets, round and round of the places, one packet a place,
+/// Takes one step with a session's link: writes the due packets, round and round of the stations, one packet a station,
 /// until the session is closed or a whole round gives none. Unless it is closed then, it reads once, at most 512 bytes,
 /// and writes the reply to each line (SeedLink 3, handshaking).
 ///
@@ -120,14 +120,14 @@ fn send_all<A: Allocator, L: Sink>(
     Ok(written)
 }
 
-/// How many bytes were written so far, and how many places in a row had nothing to send.
+/// How many bytes were written so far, and how many stations in a row had nothing to send.
 #[derive(Clone, Copy)]
 pub(crate) struct Given {
     written: usize,
     waits: usize,
 }
 
-/// Writes what is due of a place, after so many bytes. The packet of a record, which its ring lends, is made in room.
+/// Writes what is due of a station, after so many bytes. The packet of a record, which its ring lends, is made in room.
 fn give<A: Allocator, L: Sink>(
     session: &mut Session,
     feed: &Feed<A>,
@@ -165,7 +165,7 @@ fn give<A: Allocator, L: Sink>(
     }
 }
 
-/// How many places in a row had nothing to send, once another one was asked.
+/// How many stations in a row had nothing to send, once another one was asked.
 fn count_waits(unsent: Unsent, waits: usize) -> usize
     requires { waits < 16 }
     ensures { result ≡ waits_after (sent_without unsent) waits }
@@ -176,7 +176,7 @@ fn count_waits(unsent: Unsent, waits: usize) -> usize
     }
 }
 
-/// The index of the place after another; after the last place the first one.
+/// The index of the station after another; after the last station the first one.
 fn next_place<A: Allocator>(feed: &Feed<A>, k: usize) -> usize
     requires { k < length feed.now }
     ensures { result ≡ place_after feed.now k }

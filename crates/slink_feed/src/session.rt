@@ -18,14 +18,14 @@ use slink_wire::{Lines, Reply, Took};
 use std::alloc::Allocator;
 use std::marker::Model;
 
-/// How far a session has come. The places are named by their indices in the feed.
+/// How far a session has come. The stations are named by their indices in the feed.
 #[derive(Clone, Copy, Debug, PartialEq, Eq)]
 pub enum Phase {
-    /// No place is chosen.
+    /// No station is chosen.
     Fresh,
-    /// This place is chosen, and has no grant yet.
+    /// This station is chosen, and has no grant yet.
     Chosen(usize),
-    /// This place is chosen, and has a grant.
+    /// This station is chosen, and has a grant.
     Granted(usize),
     /// Records are sent.
     Streaming,
@@ -33,7 +33,7 @@ pub enum Phase {
     Closed,
 }
 
-/// What a session sends when a packet of a place is requested.
+/// What a session sends when a packet of a station is requested.
 #[derive(Debug, PartialEq, Eq, Drop)]
 pub enum Sent {
     /// The packet of the next record.
@@ -48,7 +48,7 @@ pub enum Sent {
     Closed,
 }
 
-/// Why no record is sent when a packet of a place is requested.
+/// Why no record is sent when a packet of a station is requested.
 #[derive(Clone, Copy, Debug, PartialEq, Eq)]
 pub enum Unsent {
     /// There is none now.
@@ -105,7 +105,7 @@ impl Model for Session {
 }
 
 impl Session {
-    /// The session of a new connection: no place is chosen, and none has a grant.
+    /// The session of a new connection: no station is chosen, and none has a grant.
     pub fn new() -> Session
         ensures state { result.state ≡ at Phase.Fresh (replicate 16 None) }
         ensures fits { (feed : List Window) → Fits feed result.state }
@@ -151,7 +151,7 @@ impl Session {
         (used, self.course.answer_to(feed, what))
     }
 
-    /// Returns the next packet of the place at an index of the feed, or why none is sent.
+    /// Returns the next packet of the station at an index of the feed, or why none is sent.
     ///
     /// It is lent the same feed at every call, whose rings keep their indices.
     pub fn packet<A: Allocator>(&mut self, feed: &Feed<A>, k: usize) -> Sent
@@ -168,7 +168,7 @@ impl Session {
         self.course.packet(feed, k)
     }
 
-    /// Returns the record of the next packet of the place at an index of the feed, with its number modulo 2^24. The
+    /// Returns the record of the next packet of the station at an index of the feed, with its number modulo 2^24. The
     /// session goes on as by [`Session::packet`], and the ring lends the record, so that its packet can be made where
     /// it is to lie.
     ///
@@ -197,7 +197,7 @@ impl Session {
         self.course.next_record(feed, k)
     }
 
-    /// Returns whether nothing is sent of any place now: then [`Session::packet`] gives nothing for any of them.
+    /// Returns whether nothing is sent of any station now: then [`Session::packet`] gives nothing for any of them.
     ///
     /// It is lent the same feed at every call, whose rings keep their indices.
     pub fn is_waiting<A: Allocator>(&self, feed: &Feed<A>) -> bool
@@ -206,10 +206,10 @@ impl Session {
         self.course.is_waiting(feed)
     }
 
-    /// Returns whether a record is due of the place at an index of the feed: the session streams, was granted the
-    /// place, and hasn't sent all records that were pushed to it. Then [`Session::packet`] gives the next one, or
-    /// reports that it left the ring. While a record of one place is due, nothing is sent of the places that have none
-    /// due.
+    /// Returns whether a record is due of the station at an index of the feed: the session streams, was granted the
+    /// station, and hasn't sent all records that were pushed to it. Then [`Session::packet`] gives the next one, or
+    /// reports that it left the ring. While a record of one station is due, nothing is sent of the stations that have
+    /// none due.
     ///
     /// It is lent the same feed at every call, whose rings keep their indices.
     pub fn is_due<A: Allocator>(&self, feed: &Feed<A>, k: usize) -> bool
@@ -257,7 +257,7 @@ impl Session {
         self.course.is_streaming()
     }
 
-    /// Returns the number of the record that is sent next of the place at an index of the feed, where it has a grant.
+    /// Returns the number of the record that is sent next of the station at an index of the feed, where it has a grant.
     pub fn position(&self, k: usize) -> Option<u64>
         ensures { result ≡ option_map (λ (g : Grant). g.position) (grant_at self.now.state.grants k) }
     {

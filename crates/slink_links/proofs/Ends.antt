@@ -14,7 +14,7 @@ use Rattle.slink_feed.proofs.Quiet.{nothing_reported}
 use Rattle.slink_links.specs.declared.fetching.FetchEnd.{FetchEnd}
 use Rattle.slink_links.specs.Fetched.{FetchesReporting, ReportsOfAll, ReportsOfFetch, is_unwritten, next_lines}
 
--- the words of a fetch that goes on, where they are requested
+-- the arguments of a fetch that goes on, where they are requested
 pub next_reported : (called failed unwritten : Bool) (last : Option (ℕ × ℕ)) (wants : Wants) (a b : BytesWritten)
     → called ≡ true → failed ≡ unwritten → Tells (next_line_of (wants_left failed last wants)) a b
     → AreReported (next_lines called (wants_left unwritten last wants)) a b

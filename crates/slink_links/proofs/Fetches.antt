@@ -50,7 +50,7 @@ pub emitted_prefix_as : (a b : BytesWritten) (xs ys : List ℕ) (n : ℕ) → b.
 emitted_prefix_as a b xs ys n bytes within failed same =
     subst (λ zs. EmittedPrefix a b zs n) same (record { bytes = bytes; part = within; failures = failed })
 
--- the bytes of the records that events tell of
+-- the bytes of the records that events report
 reported_bytes : (es : List Event) → bytes_reported es ≡ bytes_in (records_reported es)
 reported_bytes [] = refl
 reported_bytes (e ∷ es) = ap (λ bytes. bytes ++ bytes_reported es) (record_bytes e)
@@ -116,7 +116,7 @@ linked_unended (Number k) linked = tt
 linked_unended Packets linked = tt
 linked_unended (Ended ending) linked = absurd linked
 
--- By a turn that no device failed in, the client goes on, stands at an end, or is to have another link.
+-- By a step that no device failed in, the client goes on, stands at an end, or is to have another link.
 stands_stopped : (ending : Ending) (old new : Listening) → new.talk.stage ≡ Ended ending
     → StandsBy (end_by (Ok (turn_of ending))) old new
 stands_stopped endings.End old new at = at
@@ -264,7 +264,7 @@ turned_err (faults.Output n) old new s0 s1 w0 w1 h0 h1 f reading linked =
       failures = x.failing.failures;
     }
 
--- what one turn comes to
+-- what one step comes to
 pub turned : (r : Result Turn LinkFault) (old new : Listening) (s0 s1 w0 w1 : BytesWritten) (h0 h1 : BytesRead)
     → TakesTurn r (fetching old s0 w0) (fetching new s1 w1) h0 h1 → IsReading old → IsLinked old.talk.stage
     → HasTurned (end_by r) old new h0 h1 w0 w1
@@ -282,7 +282,7 @@ pub turn_to : (e f : Option FetchEnd) (old new : Fetching) (h0 h1 : BytesRead) �
     → IsTurnBy f old new h0 h1
 turn_to e f old new h0 h1 is p = subst (λ end. IsTurnBy end old new h0 h1) is p
 
--- no turn yet
+-- no step yet
 pub turned_none : (now : Listening) (read : BytesRead) (written : BytesWritten) → IsLinked now.talk.stage
     → HasTurned None now now read read written written
 turned_none now read written linked = record {
@@ -308,7 +308,7 @@ stands_on (Some LinkFailed) a b c linked stands =
           (linked_unended b.talk.stage linked))
     ]
 
--- one turn after another
+-- one step after another
 pub turned_both : (end : Option FetchEnd) (a b c : Listening) (h i j : BytesRead) (s t u : BytesWritten)
     → HasTurned None a b h i s t → HasTurned end b c i j t u → HasTurned end a c h j s u
 turned_both end a b c h i j s t u p q =
@@ -324,7 +324,7 @@ turned_both end a b c h i j s t u p q =
       failures = omega (arith, p.failures, q.failures);
     }
 
--- as many turns as there may be
+-- as many steps as there may be
 pub turned_out : (a b : Listening) (h i : BytesRead) (s t : BytesWritten) → HasTurned None a b h i s t
     → HasTurned (Some LinkFailed) a b h i s t
 turned_out a b h i s t p = record {

@@ -18,7 +18,7 @@ use Rattle.slink_feed.specs.declared.turn.Turn.{Turn}
 use Rattle.slink_links.specs.Served.{HasServedEach, HasTakenAll, HasTakenTurns, IsFresh, IsServed, WasServed}
 use Rattle.slink_links.specs.Served.{has_failed, none, more, to_the_end, for_long, to_a_fault}
 
--- a session of its own has taken so many turns
+-- a session of its own has taken so many steps
 pub record IsServing (feed : List Window) (n : ℕ) (read_old read_now : BytesRead)
     (written_old written_now : BytesWritten)
     (now : Standing) : Type 0 where
@@ -106,7 +106,7 @@ serving_more feed n h0 h1 h2 s0 s1 s2 now new p turn a goes = record {
       (subst (Attends feed (attending now s1) (attending new s2) h1 h2) goes a);
 }
 
--- a turn by which a link ends
+-- a step by which a link ends
 abbrev pub Ends : Turn → Type 0
 Ends turn = (turn ≡ Turn.Closed) ⊎ ((turn ≡ Turn.Ended) ⊎ ((event : Event) × (turn ≡ Turn.Stopped event)))
 

@@ -1,4 +1,4 @@
--- Tries, one behind another, and the pauses between them.
+-- Tries, one after another, and the pauses between them.
 use Rattle.std.proofs.Common.{◌≡◌, ℕ, ◌+◌, ◌≤◌, inl, inr, refl, sym, ap, ◌∙◌, arith, Bool, true, false, List}
 use Rattle.std.proofs.Common.{[], ◌∷◌, ◌++◌, append_assoc, append-nil, length, length-append}
 use Rattle.mseed_stream.specs.Device.{BytesWritten}
@@ -17,7 +17,7 @@ use Rattle.slink_links.specs.Fetched.{dialled, none, one_more, output_failures, 
 use Rattle.slink_links.specs.Pauses.{pause_after, pauses_from, pauses_since}
 use Rattle.slink_feed.proofs.Reporting.{all_taken}
 
--- behind how many pauses the next one comes
+-- after how many pauses the next one comes
 abbrev pub after_after : ℕ → List Bool → ℕ
 after_after n [] = n
 after_after n (received ∷ tries) = after_after (pauses_since received n + 1) tries
@@ -92,7 +92,7 @@ tried_none now before after written same = record {
   tried = undialled refl refl refl refl;
 }
 
--- the tries so far, behind each of which was paused
+-- the tries so far, after each of which was paused
 pub record AreTried (old now : Listening) (a b : BytesWritten) (before after : Calls) (count : ℕ) : Type 0 where
   pub tries : List Bool
   pub links : List Exchange

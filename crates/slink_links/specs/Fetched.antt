@@ -27,12 +27,12 @@ use Rattle.slink_links.specs.declared.fetching.FetchEnd.TheVariants.{Done, Refus
 use Rattle.mseed_stream.specs.Telling.{Tells}
 use Rattle.slink_links.specs.Pauses.{pauses_from}
 
--- Where the client doesn't go past holes, the number that a place wanted moved by how many records of it there are.
+-- Where the client doesn't go past holes, the number that a station wanted moved by how many records of it there are.
 abbrev pub HaveMoved : Bool → Wants → Wants → List Numbered → Type 0
 HaveMoved holes old new records = holes ≡ false → (k n : ℕ) → n < 2 ^ 24 → next_at old k ≡ Some n
     → next_at new k ≡ Some ((n + length (numbers_at k records)) % 2 ^ 24)
 
--- what no server sends that serves these places
+-- what no server sends that serves these stations
 abbrev pub IsBad : Ending → Type 0
 IsBad endings.End = ⊥
 IsBad (endings.Refused k) = ⊥
@@ -111,7 +111,7 @@ is_unwritten BadFeed = false
 is_unwritten WriteFailed = true
 is_unwritten LinkFailed = false
 
--- the words of a fetch that goes on, where they are requested
+-- the arguments of a fetch that goes on, where they are requested
 abbrev pub next_lines : Bool → Wants → List (List ℕ)
 next_lines false wants = []
 next_lines true wants = next_line_of wants ∷ []
@@ -122,7 +122,7 @@ wants_at_end firsts end records old new =
     wants_left (is_unwritten end) (reporting_after (reporting_of old firsts) records).last new
 
 -- Standard error accepted the lines of these records, each before the output accepted a byte of it; then the line that
--- says how the fetch ended; and at last, where the first records are reported, the words of a fetch that goes on.
+-- says how the fetch ended; and at last, where the first records are reported, the arguments of a fetch that goes on.
 pub record ReportsOfAll (firsts : Bool) (end : FetchEnd) (records : List Numbered) (old new : Wants)
     (before after : BytesWritten) : Type 0 where
   pub reported : BytesWritten
@@ -142,7 +142,7 @@ stopped_by (events.Gap k want got) = BadFeed
 stopped_by events.Garbage = BadFeed
 stopped_by events.Foreign = BadFeed
 
--- how it ends by what a turn with a link comes to, if it ends
+-- how it ends by what a step with a link comes to, if it ends
 abbrev pub end_by : Result Turn LinkFault → Option FetchEnd
 end_by (Ok turns.Goes) = None
 end_by (Ok turns.Closed) = Some LinkFailed
@@ -195,13 +195,13 @@ pub record HasReadLink (old new : Listening) (read_old read_new : BytesRead)
   pub reads : Reads begun.talk bytes reported new
   pub emitted : TakesRecords (records_reported reported) written_old written_new
 
--- A turn was taken with a link, by which the fetch ends so, or goes on.
+-- A step was taken with a link, by which the fetch ends so, or goes on.
 pub record IsTurnBy (end : Option FetchEnd) (old new : Fetching) (before after : BytesRead) : Type 0 where
   pub turn : Result Turn LinkFault
   pub takes : TakesTurn turn old new before after
   pub ends : end ≡ end_by turn
 
--- So many turns were taken with a link, and the fetch goes on after each.
+-- So many steps were taken with a link, and the fetch goes on after each.
 pub data HasTakenTurns (first : Fetching) (before : BytesRead) : ℕ → Fetching → BytesRead → Type 0 where
   none : HasTakenTurns first before 0 first before
   more : (n : ℕ) (now new : Fetching) (mid after : BytesRead) → HasTakenTurns first before n now mid
@@ -220,7 +220,7 @@ pub record Begins (old begun : Listening) (line : Event) : Type 0 where
   pub says : requests_place 0 old.talk ≡ (begun.talk, line)
   pub kept : begun.kept ≡ []
 
--- The line was written to the link, and turns were taken; or the link failed within the line, and wasn't read.
+-- The line was written to the link, and steps were taken; or the link failed within the line, and wasn't read.
 pub data IsFetchedOver (old : Fetching) (before : BytesRead) : FetchEnd → Fetching → BytesRead → Type 0 where
   by_turns : (end : FetchEnd) (begun : Listening) (line : Event) (written : BytesWritten) (new : Fetching)
       (after : BytesRead)
@@ -232,7 +232,7 @@ pub data IsFetchedOver (old : Fetching) (before : BytesRead) : FetchEnd → Fetc
       → EmittedPrefix old.written written (line_written line) count
       → IsFetchedOver old before LinkFailed (fetching begun written old.output) before
 
--- A link was fetched over from its first byte on: what came over it was read, and turns were taken with it up to the
+-- A link was fetched over from its first byte on: what came over it was read, and steps were taken with it up to the
 -- one by which the fetch ended so.
 pub record WasFetchedOver (end : FetchEnd) (old new : Listening) (link : Exchange)
     (written_old written_new : BytesWritten) : Type
@@ -252,7 +252,7 @@ pub data HasReadLinks : FetchEnd → Listening → Listening → List Exchange �
   over_the_last : (end : FetchEnd) (old new : Listening) (link : Exchange) (a b : BytesWritten)
       → WasFetchedOver end old new link a b → HasReadLinks end old new (link ∷ []) a b
 
--- Some links were given back after those before, and these were fetched over in turn.
+-- Some links were given back after those before, and these were fetched over one after another.
 pub record HasReadEach (end : FetchEnd) (old new : Listening) (before after : List Exchange)
     (written_old written_new : BytesWritten) : Type 0 where
   pub links : List Exchange

@@ -26,9 +26,9 @@ use std::io::sink;
 pub enum FetchEnd {
     /// The server sent `END`: that it has sent all that was requested.
     Done,
-    /// The server refused a place.
+    /// The server refused a station.
     Refused,
-    /// The link brought what no server sends that serves these places.
+    /// The link brought what no server sends that serves these stations.
     BadFeed,
     /// The output failed.
     WriteFailed,
@@ -42,8 +42,8 @@ pub enum FetchEnd {
 /// seconds; a received record begins anew.
 ///
 /// The exit status is answered: 0, or 2 with a line on `errors` that says why not all came. Before each record that
-/// comes after a hole a line is written there; with `tell_next` also before the first record of each place, and, at
-/// the end, the words of a fetch that goes on.
+/// comes after a hole a line is written there; with `tell_next` also before the first record of each station, and, at
+/// the end, the arguments of a fetch that goes on.
 pub fn fetch_all<D: Dial, P: Pause, W: Sink, E: Sink>(
     client: &mut Client,
     tries: u64,
@@ -84,7 +84,7 @@ pub fn fetch_all<D: Dial, P: Pause, W: Sink, E: Sink>(
     fetch_status(end)
 }
 
-/// Writes the words of a fetch that goes on, where they are requested.
+/// Writes the arguments of a fetch that goes on, where they are requested.
 fn report_next_of<E: Sink>(
     is_called: bool,
     reporter: &Reporter,
@@ -211,7 +211,7 @@ pub fn fetch_link<S: EndsHandshake, W: Sink>(
     ensures fetched { HasFetched result client.old client.new (W.written output.old) (W.written output.new) }
     ensures read { HasReadLink client.old client.new (S.read link.old) (S.read link.new) (W.written output.old)
         (W.written output.new) }
-    // The client's first line was written, and then turns were taken, up to the one by which the fetch ends so.
+    // The client's first line was written, and then steps were taken, up to the one by which the fetch ends so.
     ensures turns { IsFetchedOver (fetching client.old (S.written link.old) (W.written output.old)) (S.read link.old)
         result
         (fetching client.new (S.written link.new) (W.written output.new)) (S.read link.new) }
@@ -247,7 +247,7 @@ fn fetch_link_reporting<S: EndsHandshake, W: Sink, E: Sink>(
     }
 }
 
-/// Takes turns with a link until it ends, or until many were taken.
+/// Takes steps with a link until it ends, or until many were taken.
 fn take_turns<S: EndsHandshake, W: Sink, E: Sink>(
     client: &mut Client,
     link: &mut S,
@@ -274,7 +274,7 @@ fn take_turns<S: EndsHandshake, W: Sink, E: Sink>(
     FetchEnd::LinkFailed
 }
 
-/// Takes a turn with a link, and answers how the fetch ends by it, if it does.
+/// Takes a step with a link, and answers how the fetch ends by it, if it does.
 fn take_turn<S: EndsHandshake, W: Sink, E: Sink>(
     client: &mut Client,
     link: &mut S,
@@ -304,7 +304,7 @@ fn end_handshake<S: EndsHandshake>(client: &Client, link: &S) {
     }
 }
 
-/// How a fetch ends by what a turn comes to, if it ends.
+/// How a fetch ends by what a step comes to, if it ends.
 fn end_by(turn: &Result<Turn, LinkFault>) -> Option<FetchEnd>
     ensures { result ≡ end_by turn.now }
 {

@@ -14,7 +14,7 @@ pub struct ServePlan<A: Allocator = Global> {
     pub connections: u32,
     /// How long a client may be silent that has something to say.
     pub timeout: Timeout,
-    /// The records, each in the ring of its place.
+    /// The records, each in the ring of its station.
     pub feed: Feed<A>,
 }
 
@@ -29,8 +29,8 @@ pub struct FetchPlan {
     pub tries: u32,
     /// How long the server may be silent.
     pub timeout: Timeout,
-    /// Whether standard error is informed of the first record of each place and, at the end, of what is wanted next.
+    /// Whether standard error is informed of the first record of each station and, at the end, of what is wanted next.
     pub tell_next: bool,
-    /// A new client, for the places that were requested.
+    /// A new client, for the stations that were requested.
     pub client: Client,
 }

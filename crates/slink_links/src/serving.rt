@@ -10,7 +10,7 @@ use mseed_stream::{Sink, report};
 use slink_feed::{Feed, LinkFault, Session, Turn, serve_turn};
 use std::alloc::Allocator;
 
-/// With one link so many turns are taken at most.
+/// With one link so many steps are taken at most.
 pub const TURNS: u64 = 1 << 40;
 
 /// Serves the feed to so many connections, one after another, each by a session of its own. An `accept` that fails
@@ -85,7 +85,7 @@ fn serve_next<B: Allocator, A: Accept>(feed: &Feed<B>, acceptor: &mut A) -> bool
     }
 }
 
-/// Serves a link by a session of its own, until nothing more is to be sent, or until many turns were taken.
+/// Serves a link by a session of its own, until nothing more is to be sent, or until many steps were taken.
 ///
 /// # Errors
 ///

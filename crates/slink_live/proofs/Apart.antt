@@ -1,4 +1,4 @@
--- What is due to a link is by the rings of the places that it was granted: a record of others changes nothing of it.
+-- What is due to a link is by the rings of the stations that it was granted: a record of others changes nothing of it.
 use Rattle.std.proofs.Common.{◌≡◌, ℕ, suc, ◌⊎◌, ◌==◌, ◌∙◌, ap, ap₂, refl, sym, arith, inl, inr}
 use Rattle.std.proofs.Common.{Bool, ◌&&◌, List, [], ◌∷◌, length, Option, Some, None, slice_get, if◌then◌else◌}
 use Rattle.slink_feed.specs.declared.grant.Grant.{Grant}
@@ -15,7 +15,7 @@ use Rattle.slink_live.specs.Awake.{writes}
 use Rattle.slink_live.specs.Served.{LinkState}
 use Rattle.slink_live.specs.private.Granting.{LeavesOut, StaysBut}
 
--- The rings of the places with a grant are the same.
+-- The rings of the stations with a grant are the same.
 abbrev pub AreAlike : List Window → List Window → Grants → Type 0
 AreAlike old new gs = (k : ℕ) → (grant_at gs k ≡ None) ⊎ (slice_get new k ≡ slice_get old k)
 
@@ -125,7 +125,7 @@ module _ (old new : List Window) (l : LinkState) (long : length new ≡ length o
     streams = up_to_date.streams;
   }
 
--- A link that is sent no records of the places that got some.
+-- A link that is sent no records of the stations that got some.
 pub updated_apart : (old new : List Window) (places : Places) (o : Option LinkState) (l : LinkState)
     → length new ≡ length old → StaysBut places old new → LeavesOut places o → o ≡ Some l
     → (has_ended : Bool) (w : Interest) → IsUpToDate old has_ended l w → IsUpToDate new has_ended l w

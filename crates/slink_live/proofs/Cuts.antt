@@ -216,7 +216,7 @@ cuts_on start reported old new bytes rest to cuts none =
       length-append to.records cuts.records,
     )
 
--- what a scan of all that is kept tells
+-- what a scan of all that is kept says
 pub whole_record : (leading kept : List ℕ) (size : ℕ) → leading ≡ kept → size ≡ 512 → length kept ≤ 512
     → (size ≤ length leading) × IsRecord (take size leading) → (length kept ≡ 512) × IsRecord kept
 whole_record leading kept size same is most h =

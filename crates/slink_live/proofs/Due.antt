@@ -1,4 +1,4 @@
--- Of which places of a link a record is due.
+-- Of which stations of a link a record is due.
 use Rattle.std.proofs.Common.{◌≡◌, ◌≢◌, ◌↔◌, ◌⊎◌, ℕ, ◌+◌, ◌<◌, ◌∙◌, ap, subst, sym, refl, arith, inl, inr, Bool}
 use Rattle.std.proofs.Common.{true, false, List, length, length-append, Option, Some, None, slice_get}
 use Rattle.std.specs.Bool.{OnFalse, OnTrue}
@@ -23,7 +23,7 @@ use Rattle.slink_live.specs.private.Calling.{Gives}
 use Rattle.slink_live.specs.private.Granting.{AreDue, Has}
 use Rattle.slink_live.proofs.Fairness.{leaves, streams_or_closed}
 
--- The first places were looked at.
+-- The first stations were looked at.
 pub record AreDueUpTo (feed : List Window) (s : State) (due : Places) (n : ℕ) : Type 0 where
   pub within : (j : ℕ) → Has due j → (j < n) × (j < 16)
   pub ready : (j : ℕ) → Has due j → ¬ (IsAtNext feed s.grants j)
@@ -88,7 +88,7 @@ same_next : (feed : List Window) (gs hs : Grants) (j : ℕ) → grant_at hs j �
     → IsAtNext feed hs j
 same_next feed gs hs j same at g w granted there = at g w (sym same ∙ granted) there
 
--- A place of which one is due was called.
+-- A station of which one is due was called.
 module _ (feed : List Window) (s t : State) (due : Places) (k : ℕ) (a : Sent) (d : AreDue feed s due) (has : Has due k)
     (given : sent feed s k ≡ (t, a)) where
   other_grant : (j : ℕ) → j ≢ k → grant_at t.grants j ≡ grant_at s.grants j

@@ -1,4 +1,4 @@
--- No place of a link is passed over.
+-- No station of a link is passed over.
 use Rattle.std.proofs.Common.{◌≡◌, ◌≢◌, ℕ, ◌+◌, ◌%◌, ◌^◌, ◌<◌, ◌≤◌, ◌⊎◌, ◌==◌, ◌∙◌, ap, subst, refl, sym, arith, inl}
 use Rattle.std.proofs.Common.{inr}
 use Rattle.std.proofs.Common.{Bool, true, false, List, [], ◌∷◌, ◌++◌, length, Option, Some, None, slice_get}
@@ -19,7 +19,7 @@ use Rattle.slink_live.specs.Fairness.{HasDue, IsAmong, TakesTurns, no_more, next
 use Rattle.slink_live.specs.Story.{Asks, IsEarlier, IsTurn, none_called, one_called}
 use Rattle.slink_live.proofs.Turning.{Waits}
 
--- What a call for a place leaves of the others: the session stays, or only streams on.
+-- What a call for a station leaves of the others: the session stays, or only streams on.
 pub record Leaves (j : ℕ) (s t : State) : Type 0 where
   pub streams : t.phase ≡ Phases.Streaming → s.phase ≡ Phases.Streaming
   pub grant : grant_at t.grants j ≡ grant_at s.grants j
@@ -88,7 +88,7 @@ due_back feed j s ring ks t turn (next_called u now last p q k a more first e on
     due_before feed u now k j a (λ x. none (inl x)) e
     (due_back feed j now (k + 1) more last q on d (λ x. none (inr x)))
 
--- of a place that has a record due something is sent
+-- of a station that has a record due something is sent
 sent_some : (bytes : List ℕ) → Sents.Packet bytes ≢ Sents.Wait
 sent_some bytes x = cc x
 
@@ -112,7 +112,7 @@ due_sends feed s j d waits =
     ∙ (ap (λ (o : Option Grant). sent_of feed s j o (slice_get feed j)) d.granted
     ∙ ap (λ (r : Option Window). sent_of feed s j (Some d.grant) r) d.there)) ∙ waits)
 
--- In a round from after a place on, another one has not been passed.
+-- In a round from after a station on, another one has not been passed.
 abbrev IsAhead : ℕ → ℕ → ℕ → Type 0
 IsAhead k ring j = ((k < ring) × (ring ≤ j)) ⊎ ((j < k) × (k < ring)) ⊎ ((j < k) × (ring ≤ j))
 
@@ -171,7 +171,7 @@ among j (k ∷ ks) = elim (eqb_tells j k) [
   ]
 ]
 
--- Between two calls for a place each other one that has a record due at the second was called.
+-- Between two calls for a station each other one that has a record due at the second was called.
 pub between : (feed : List Window) (s : State) (ring k : ℕ) (mid : List ℕ) (t : State) (turn : ℕ)
     → TakesTurns feed s ring (k ∷ mid) t turn → IsTurn feed t turn k → (j : ℕ) → j ≢ k → HasDue feed t j
     → IsAmong j mid
@@ -201,7 +201,7 @@ asked_turns feed s ring way last turn all (one_called now t m k answer on a befo
     asked_turns feed s ring way now m on before in
     (earlier.0 ++ k ∷ [], turns_last feed s.state ring earlier.0 now.state m t.state k answer earlier.1 first given)
 
--- What a call for a place leaves of that place: where it has no grant, all.
+-- What a call for a station leaves of that station: where it has no grant, all.
 leaves_here : (feed : List Window) (s : State) (k : ℕ) (p : Phase) → grant_at s.grants k ≡ None
     → Leaves k s (sent_in p feed s k).0
 leaves_here feed s k Phases.Fresh none = stays k s
@@ -211,7 +211,7 @@ leaves_here feed s k Phases.Streaming none =
     subst (λ (o : Option Grant). Leaves k s (sent_of feed s k o (slice_get feed k)).0) (sym none) (stays k s)
 leaves_here feed s k Phases.Closed none = stays k s
 
--- A call grants no place,
+-- A call grants no station,
 pub grants_no_more : (feed : List Window) (s t : State) (k j : ℕ) (a : Sent) → sent feed s k ≡ (t, a)
     → grant_at s.grants j ≡ None → grant_at t.grants j ≡ None
 grants_no_more feed s t k j a e none = elim (eqb_tells j k) [

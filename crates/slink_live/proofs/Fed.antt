@@ -12,7 +12,7 @@ use Rattle.slink_live.specs.Served.{IsBelow}
 same_some : (v w : Window) → Some v ≡ Some w → v ≡ w
 same_some v w e = cc e
 
--- the places stay
+-- the stations stay
 pub places_fed : (feed : List Window) (records : List (List ℕ)) → places_of (fed feed records) ≡ places_of feed
 places_fed feed [] = refl
 places_fed feed (r ∷ rs) = places_fed (pushed feed r) rs ∙ places_pushed feed r
@@ -37,7 +37,7 @@ set_below n (x ∷ ws) (suc k) w r here below zero v there = omega (arith, below
 set_below n (x ∷ ws) (suc k) w r here below (suc j) v there =
     set_below n ws k w r here (λ i y e. below (suc i) y e) j v there
 
--- The first ring of its place takes a record, if there is one.
+-- The first ring of its station takes a record, if there is one.
 abbrev PushedOnce : List Window → List Window → List ℕ → Type 0
 PushedOnce feed new r = (new ≡ feed)
     ⊎ ((k : ℕ) × (w : Window) × (slice_get feed k ≡ Some w) × (new ≡ set feed k (with_record w r)))

@@ -1,4 +1,4 @@
--- Which places concern the links in their slots.
+-- Which stations concern the links in their slots.
 use Rattle.std.proofs.Common.{◌≡◌, ℕ, ◌<◌, ◌∙◌, subst, refl, sym, inl, inr}
 use Rattle.std.proofs.Common.{get_or-set_other, get_or-set_same, length-set, List, length, set, get_or}
 use Rattle.std.proofs.Common.{Option, Some, None, IfSome}
@@ -16,7 +16,7 @@ use Rattle.slink_live.specs.private.Granting.{AreCovered, Covers, CoversIn, no_p
 use Rattle.slink_live.proofs.Fairness.{grants_no_more, streams_no_more}
 use Rattle.slink_live.proofs.Steps.{link_fits, same_default}
 
--- one slot changed, and is sent no records of further places
+-- one slot changed, and is sent no records of further stations
 pub covered_still : (links : List (Option LinkState)) (granted : List Places) (j : ℕ) (new : Option LinkState)
     → AreCovered links granted → j < length links → CoversIn (get_or granted j no_places) new
     → AreCovered (set links j new) granted

@@ -73,7 +73,7 @@ module _ (feed : List Window) {l0 l : LinkState} (same : l0 ≡ l) (k : ℕ) whe
       let x : HasLeft feed l0.session.state.grants k = left_out h in
       let bad : Some x.grant.position ≡ None = sym (ap position_of x.granted) ∙ none in cc bad
 
--- no place has left
+-- no station has left
 pub not_left_more : (feed : List Window) (grants : Grants) (k : ℕ) → ((j : ℕ) → j < k → ¬ (HasLeft feed grants j))
     → ¬ (HasLeft feed grants k) → (j : ℕ) → j < k + 1 → ¬ (HasLeft feed grants j)
 not_left_more feed grants k before here j lt = elim (eqb_tells j k) [

@@ -1,4 +1,4 @@
--- What a device was told, and what is closed.
+-- What was reported to a device, and what is closed.
 use Rattle.std.proofs.Common.{◌≡◌, ◌≢◌, ℕ, zero, suc, ◌<◌, ◌≤◌, ◌∙◌, ap, subst, refl, sym, arith, inl, inr}
 use Rattle.std.proofs.Common.{Bool, true, false, not, ◌&&◌, List, [], ◌∷◌, ◌++◌, get_or, length, set, if◌then◌else◌}
 use Rattle.std.proofs.Common.{Option, Some, None, IfNone, IfSome, get_or-set_same, get_or-set_other}
@@ -42,7 +42,7 @@ module _ (log last : List Happening) (h : Happening) (e : last ≡ log ++ h ∷ 
   pub left_last : is_left last ≡ left_by (is_left log) h
   left_last = ap is_left e ∙ left_append false log (h ∷ [])
 
--- What happened told the device nothing but of the link in a slot.
+-- What happened reported to the device nothing but of the link in a slot.
 pub record IsUnreported (j : ℕ) (log last : List Happening) : Type 0 where
   pub of_links : (k : ℕ) → k ≢ j → last_interest k last ≡ last_interest k log
   pub links : wants_links last ≡ wants_links log
@@ -153,7 +153,7 @@ filled_some : (feed : List Window) (o new : Option LinkState) → HasFilled feed
 filled_some feed None new h = ap is_some h
 filled_some feed (Some l) new h = ap is_some h.1
 
--- The link in a slot changed, and the device was told nothing of the others.
+-- The link in a slot changed, and nothing was reported of the others.
 module _ (s : ServerState) (j : ℕ) (new : Option LinkState) (log last : List Happening) where
   abbrev after : ServerState
   after = record s { links = set s.links j new }
@@ -175,7 +175,7 @@ module _ (s : ServerState) (j : ℕ) (new : Option LinkState) (log last : List H
       → IsAwakeIn after last j
   here lt own l e = own l (sym (get_or-set_same s.links j new None lt) ∙ e)
 
-  -- so it was settled
+  -- so it was updated
   module _ (lt : j < length s.links) (unreported : IsUnreported j log last)
       (same : is_some new ≡ is_some (get_or s.links j None))
       (own : (l : LinkState) → new ≡ Some l → IsUpToDate s.intake.feed s.has_ended l (last_interest j last)) where
@@ -276,7 +276,7 @@ updates_closes s j new log last lt within out e serves =
           ∙ get_or-set_other s.links j k new None ne;
     }
 
--- Something happened in a slot, and then it was settled, where no link slept.
+-- Something happened in a slot, and then it was updated, where no link slept.
 pub awake_rest : (s : ServerState) (j : ℕ) (new : Option LinkState) (t : ServerState) (log mid last : List Happening)
     → is_some new ≡ is_some (get_or s.links j None) → IsUnreported j log mid
     → ((start : List Window) → Goes (IsClosedRightly start) log mid)

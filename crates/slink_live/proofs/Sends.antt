@@ -1,4 +1,4 @@
--- What a session gives when it is called for a place.
+-- What a session gives when it is called for a station.
 use Rattle.std.proofs.Common.{◌≡◌, ◌≢◌, ℕ, ◌%◌, ◌^◌, ◌⊎◌, ◌∙◌, ap, refl, sym, inl, inr}
 use Rattle.std.proofs.Common.{Bool, true, false, List, Option, Some, None, slice_get, ◌==◌}
 use Rattle.std.proofs.Common.{if◌then◌else◌}

@@ -9,7 +9,7 @@ use Rattle.slink_live.specs.Served.{LinkState}
 use Rattle.slink_live.specs.Story.{Asks, IsTurn, none_called, one_called}
 use Rattle.slink_live.specs.private.Calling.{Gives}
 
--- nothing is sent of a place
+-- nothing is sent of a station
 abbrev pub Waits : List Window → State → ℕ → Type 0
 Waits feed s j = sent feed s j ≡ (s, Sents.Wait)
 
@@ -21,7 +21,7 @@ waits_more feed s from k before here j least lt = elim (eqb_tells j k) [
   | inr other ↦ before j least (omega (arith, lt, other.1))
 ]
 
--- from the place whose turn it is on
+-- from the station whose turn it is on
 pub turn_then : (feed : List Window) (s : State) (ring k : ℕ) → ring ≤ k → k < length feed
     → ((j : ℕ) → ring ≤ j → j < k → Waits feed s j) → ¬ (Waits feed s k) → IsTurn feed s ring k
 turn_then feed s ring k beyond lt waits sends = record {
@@ -48,7 +48,7 @@ turn_before feed s ring k before lt beyond waits sends = record {
   ];
 }
 
--- what the place whose turn it is gives
+-- what the station whose turn it is gives
 pub gives_asks : (feed : List Window) (old new : LinkState) (k : ℕ) → Gives feed k old new
     → IsTurn feed old.session.state old.ring k
     → Asks feed old.session old.ring old.pending new.session new.ring new.pending

@@ -216,7 +216,7 @@ awake_same s log last e = record {
   closed = λ start v t. goes_same e;
 }
 
--- something happened that leaves all that was told
+-- something happened that leaves all that was reported
 stays_awake : (s : ServerState) (log last : List Happening) → ((k : ℕ) → last_interest k last ≡ last_interest k log)
     → wants_links last ≡ wants_links log → is_left last ≡ is_left log → IsAwake s log → IsAwake s last
 stays_awake s log last each links left a = record {
@@ -237,7 +237,7 @@ pub next_awake : (s : ServerState) (e : Event) (log last : List Happening) → l
 next_awake s e log last now a = stays_awake s log last (λ k. interest_last log last (Next e) now k)
     (links_last log last (Next e) now) (left_last log last (Next e) now) a
 
--- links are told to be wanted, or not, as they are
+-- it is reported whether links are wanted
 pub full_awake : (s : ServerState) (log last : List Happening) → (not s.has_ended && has_free s.links) ≡ false
     → last ≡ log ++ WantsLinks false ∷ [] → KeepsAwake s s log last
 full_awake s log last none e = record {
@@ -256,7 +256,7 @@ full_awake s log last none e = record {
 opened_other : (j k : ℕ) (w : Interest) → k ≢ j → interest_after k w (Opened j) ≡ w
 opened_other j k w ne = ap (λ (t : Bool). if t then first_interest else w) (not_self j k ne)
 
--- A link was taken into a slot, further ones told to be wanted or not, and then it was settled.
+-- A link was taken into a slot, it was reported whether further ones are wanted, and then it was updated.
 pub opened_awake : (s : ServerState) (j : ℕ) (new : Option LinkState) (t : ServerState)
     (log opened mid last : List Happening) → j < length s.links → get_or s.links j None ≡ None
     → opened ≡ log ++ Opened j ∷ []
@@ -314,7 +314,7 @@ removed_awake s t j log last earlier lt handled is e =
       closed = λ start v told0. gone_goes s j log last lt e start (inl (earlier, handled));
     })
 
--- The input brought bytes, and then the links of their places were settled.
+-- The input brought bytes, and then the links of their stations were updated.
 pub input_awake : (s t : ServerState) (intake : IntakeState) (reads : ℕ) (bytes : List ℕ) (places : Places)
     (log mid last : List Happening)
     → mid ≡ log ++ Input bytes ∷ [] → length intake.feed ≡ length s.intake.feed
@@ -393,7 +393,7 @@ module _ {log left mid last : List Happening} (went : left ≡ log ++ Left ∷ [
             (subst (λ (x : ServerState). IsServing start x log) (sym (same_ended same)) v))) is_reported);
       }
 
--- Slots up to one were settled, where no link slept in some of the others.
+-- Slots up to one were updated, where no link slept in some of the others.
 pub record HasUpdated (Rests : ℕ → Type 0) (s t : ServerState) (n : ℕ) (log last : List Happening) : Type 0 where
   pub awake : IsReported s log → ((k : ℕ) → Rests k → IsAwakeIn s log k) → (k : ℕ) → k < n → IsAwakeIn t last k
   pub still : (k : ℕ) → n ≤ k → IsAwakeIn s log k → IsAwakeIn t last k

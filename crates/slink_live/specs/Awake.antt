@@ -10,7 +10,7 @@ use Rattle.slink_live.specs.declared.ready.Event.TheVariants as events
 use Rattle.slink_live.specs.Happening.{Happening, Gone, Next, is_left, last_interest, wants_links}
 use Rattle.slink_live.specs.Served.{IsServing, LinkState, ServerState}
 
--- The next record of a place is no longer in its ring.
+-- The next record of a station is no longer in its ring.
 pub record HasLeft (feed : List Window) (grants : Grants) (k : ℕ) : Type 0 where
   pub ring : Window
   pub grant : Grant
@@ -18,13 +18,13 @@ pub record HasLeft (feed : List Window) (grants : Grants) (k : ℕ) : Type 0 whe
   pub granted : grant_at grants k ≡ Some grant
   pub left : grant.position < oldest_of ring
 
--- It streams, and the next record of a place of its is no longer in the ring.
+-- It streams, and the next record of a station of its is no longer in the ring.
 pub record IsLost (feed : List Window) (s : State) : Type 0 where
   pub streams : s.phase ≡ Streaming
   pub k : ℕ
   pub place : HasLeft feed s.grants k
 
--- The rings of the places that were granted are the same.
+-- The rings of the stations that were granted are the same.
 abbrev pub AreSame : Grants → List Window → List Window → Type 0
 AreSame grants old new = (k : ℕ) (g : Grant) → grant_at grants k ≡ Some g → slice_get new k ≡ slice_get old k
 

@@ -1,4 +1,4 @@
--- The input: records of the places that are served, one after another (own).
+-- The input: records of the stations that are served, one after another (own).
 use Rattle.std.specs.Prelude.{◌≡◌, ℕ, ◌*◌, ◌+◌, ◌<◌, ◌⊎◌, List, [], ◌∷◌, ◌++◌, length, take, slice_get, Some}
 use Rattle.std.specs.List.{AllByRecursion, concat}
 use Rattle.mseed_record.specs.declared.framer.Scan.TheVariants as scans
@@ -11,7 +11,7 @@ use Rattle.slink_feed.specs.Window.{Window}
 use Rattle.slink_feed.specs.declared.input.InputFault.{InputFault}
 use Rattle.slink_feed.specs.declared.input.InputFault.TheVariants.{Stream, Foreign}
 
--- The bytes are a record of 512 bytes, of one of the places.
+-- The bytes are a record of 512 bytes, of one of the stations.
 pub record IsOf (places : List Fields) (bytes : List ℕ) : Type 0 where
   pub size : length bytes ≡ 512
   pub is_record : IsRecord bytes
@@ -40,12 +40,12 @@ pub record IsFedTo (start : List Window) (bytes : List ℕ) (feed : List Window)
 abbrev pub IsFed : List Window → List ℕ → List Window → Type 0
 IsFed start bytes feed = (rest : List ℕ) × IsFedTo start bytes feed rest
 
--- No record of these places begins so: the record that is there isn't one, or one would be longer.
+-- No record of these stations begins so: the record that is there isn't one, or one would be longer.
 abbrev pub IsForeign : List Fields → List ℕ → Type 0
 IsForeign places leading = ((k : ℕ) × Decides leading (scans.Record k) × ¬ (IsOf places (take k leading)))
     ⊎ ((k : ℕ) × Decides leading (scans.Need k) × (512 < k))
 
--- What is wrong with the rest after so many records: bytes that begin no record, or none of these places; a record
+-- What is wrong with the rest after so many records: bytes that begin no record, or none of these stations; a record
 -- that the input ended within; a read that failed, or 2^40 of them.
 abbrev pub IsFaultIn : List Fields → ℕ → List ℕ → InputFault → Type 0
 IsFaultIn places n rest (Stream (Frame offset fault)) = (leading more : List ℕ) × (rest ≡ leading ++ more)

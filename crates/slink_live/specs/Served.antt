@@ -9,7 +9,7 @@ use Rattle.slink_live.specs.Happening.{Happening, input_of}
 use Rattle.slink_live.specs.Input.{IsFedTo}
 use Rattle.slink_live.specs.Story.{IsServed, Story}
 
--- what a server keeps of a link: its session, the place that is called next, and what was sent that the link didn't
+-- what a server keeps of a link: its session, the station that is called next, and what was sent that the link didn't
 -- accept yet
 pub record LinkState : Type 0 where
   pub session : Standing
@@ -48,7 +48,7 @@ pub record IsSound (s : ServerState) : Type 0 where
   pub few : s.intake.records ≤ 8192 * s.reads
   pub few_reads : s.reads ≤ 2 ^ 40
 
--- A slot has a link where the story has one: with its session and the place that is called next, and what that sent
+-- A slot has a link where the story has one: with its session and the station that is called next, and what that sent
 -- and the link didn't accept yet.
 abbrev pub Matches : Option LinkState → Option Story → Type 0
 Matches None None = Unit {0}

@@ -12,7 +12,7 @@ use Rattle.slink_feed.specs.Window.{Window}
 use Rattle.slink_live.specs.Happening.{Happening, Opened, Received, Emitted, Gone, input_of, is_at}
 use Rattle.slink_live.specs.Input.{IsFed}
 
--- a session, the place that is called next, what was sent so far, and what its link accepted of that
+-- a session, the station that is called next, what was sent so far, and what its link accepted of that
 pub record Story : Type 0 where
   pub session : Standing
   pub ring : ℕ
@@ -28,18 +28,18 @@ pub record IsNew (s : Standing) : Type 0 where
   pub state : s.state ≡ at Fresh (replicate 16 None)
   pub held : IsHeld s.held []
 
--- In a round of the places from one on, the place comes before another.
+-- In a round of the stations from one on, the station comes before another.
 abbrev pub IsEarlier : ℕ → ℕ → ℕ → Type 0
 IsEarlier ring j k = ((ring ≤ j) × (j < k)) ⊎ ((k < ring) × (ring ≤ j)) ⊎ ((k < ring) × (j < k))
 
--- It is the first of which something is sent, in a round of the places from one on.
+-- It is the first of which something is sent, in a round of the stations from one on.
 pub record IsTurn (feed : List Window) (s : State) (ring k : ℕ) : Type 0 where
   pub within : k < length feed
   pub sends : ¬ (sent feed s k ≡ (s, Sents.Wait))
   pub first : (j : ℕ) → j < length feed → IsEarlier ring j k → sent feed s j ≡ (s, Sents.Wait)
 
--- A session is called for packets, in turns: each time for the first place of which something is sent, in a round from
--- the one after the place that was called last. What it gives goes on its way.
+-- A session is called for packets, in turns: each time for the first station of which something is sent, in a round
+-- from the one after the station that was called last. What it gives goes on its way.
 pub data Asks (feed : List Window) (s : Standing) (ring : ℕ) (way : List ℕ) : Standing → ℕ → List ℕ → Type 0 where
   none_called : Asks feed s ring way s ring way
   one_called : (now last : Standing) (turn k : ℕ) (answer : Sent) (on all : List ℕ) → Asks feed s ring way now turn on

@@ -1,4 +1,4 @@
-//! The input, cut into records, each of which goes into the ring of its place.
+//! The input, cut into records, each of which goes into the ring of its station.
 ghost use Rattle.std.specs.Prelude.{◌≡◌, ◌+◌, ◌*◌, ◌^◌, ◌<◌, ◌≤◌, ◌++◌, [], IfErr, OnErr};
 ghost use Rattle.std.specs.Prelude.{IfOk, OnOk, length};
 ghost use Rattle.mseed_record.specs.declared.framer.Scan.{Scan};
@@ -63,12 +63,12 @@ impl Intake {
         512 * self.records
     }
 
-    /// Takes bytes of the input, at most 8,192. Each record goes to its ring as soon as it is whole. Returns the places
-    /// that got a record.
+    /// Takes bytes of the input, at most 8,192. Each record goes to its ring as soon as it is whole. Returns the
+    /// stations that got a record.
     ///
     /// # Errors
     ///
-    /// `Stream` where bytes begin no record, `Foreign` where a record hasn't 512 bytes or is of none of the places.
+    /// `Stream` where bytes begin no record, `Foreign` where a record hasn't 512 bytes or is of none of the stations.
     /// What was before them is in the rings.
     pub(crate) fn take(&mut self, bytes: &[u8]) -> Result<Places, InputFault>
         requires short { length self.old.kept < 512 }
@@ -114,7 +114,7 @@ impl Intake {
         }
     }
 
-    /// Looks whether the bytes that are kept are a record, and gives it to its ring. Returns these places, and with
+    /// Looks whether the bytes that are kept are a record, and gives it to its ring. Returns these stations, and with
     /// them that of the record.
     fn look(&mut self, places: Places) -> Result<Places, InputFault>
         requires size { length self.old.kept ≤ 512 }
@@ -133,7 +133,7 @@ impl Intake {
         }
     }
 
-    /// Gives the record that is kept to its ring. Returns these places, and with them that of the record.
+    /// Gives the record that is kept to its ring. Returns these stations, and with them that of the record.
     fn push_kept(&mut self, places: Places) -> Result<Places, InputFault>
         requires whole { length self.old.kept ≡ 512 }
         requires record { IsRecord self.old.kept }

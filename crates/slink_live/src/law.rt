@@ -37,7 +37,7 @@ pub fn input_in_order()
         → (added : List (List ℕ)) × (others ≡ records ++ added) }
     ensures rings { (start : List Window) (bytes : List ℕ) (feed other : List Window)
         → IsFed start bytes feed → IsFed start bytes other → feed ≡ other }
-    // Each ring shows the last of its place's records.
+    // Each ring shows the last of its station's records.
     ensures shows { (start : List Window) (records : List (List ℕ)) (k first : ℕ) (w : Window)
         (pushed : List (List ℕ)) → slice_get start k ≡ Some w → Shows w first pushed
         → (v : Window) × (slice_get (fed start records) k ≡ Some v)
@@ -45,7 +45,7 @@ pub fn input_in_order()
 {}
 
 /// What a link's session says, to the link's own lines and over the records of the input so far, is as slink_feed has
-/// it of one link alone: replies, and then packets, of which those of each place are a stretch of its records from the
+/// it of one link alone: replies, and then packets, of which those of each station are a slice of its records from the
 /// grant on. Whatever the other links say and take, and in whatever order.
 pub fn a_link_is_sent_slices()
     ensures { (start : List Window) (k : ℕ) (log : List Happening) (reported : Story) (records : List (List ℕ))
@@ -53,8 +53,8 @@ pub fn a_link_is_sent_slices()
         → ProducesSlices start records reported.produced }
 {}
 
-/// A link's session is called in turns. Between two calls for a place, while nothing comes, each other place that has a
-/// record due when the second is made was called: a busy station starves no other.
+/// A link's session is called in turns. Between two calls for a station, while nothing comes, each other station that
+/// has a record due when the second is made was called: a busy station starves no other.
 pub fn in_turns()
     ensures turns { (feed : List Window) (s last : Standing) (ring turn : ℕ) (way all : List ℕ)
         → Asks feed s ring way last turn all → (ks : List ℕ) × TakesTurns feed s.state ring ks last.state turn }
@@ -63,8 +63,8 @@ pub fn in_turns()
         → IsAmong j mid }
 {}
 
-/// What is due to a link is by the rings of the places that it was granted: records of other places change nothing of
-/// it, nor of whether the next record of one of its places left its ring.
+/// What is due to a link is by the rings of the stations that it was granted: records of other stations change nothing
+/// of it, nor of whether the next record of one of its stations left its ring.
 pub fn other_places_change_nothing()
     ensures due { (old new : List Window) (s : State) (k : ℕ) → length new ≡ length old → AreSame s.grants old new
         → sent new s k ≡ sent old s k }

@@ -135,7 +135,7 @@ impl Link {
         false
     }
 
-    /// Whether the next record of a place has left its ring.
+    /// Whether the next record of a station has left its ring.
     fn has_left(&self, feed: &Feed, k: usize) -> bool
         requires { k < length feed.now }
         ensures yes { OnTrue result (HasLeft feed.now self.now.session.state.grants k) }
@@ -147,8 +147,8 @@ impl Link {
         }
     }
 
-    /// Whether it is to be closed, once it is filled. A link that lost its place is found here, when records come: one
-    /// that takes nothing is never writable.
+    /// Whether it is to be closed, once it is filled. A link that lost its position is found here, when records come:
+    /// one that takes nothing is never writable.
     pub(crate) fn is_closable(&self, feed: &Feed, has_ended: bool) -> bool
         requires { IsFilled feed.now self.now }
         ensures yes { OnTrue result (IsClosable feed.now has_ended self.now) }
@@ -198,7 +198,7 @@ impl Link {
         }
     }
 
-    /// Of which places it is sent records, once it streams.
+    /// Of which stations it is sent records, once it streams.
     pub(crate) fn granted(&self, feed: &Feed) -> Places
         requires { Fits feed.now self.now.session.state }
         ensures { Covers result self.now }
@@ -240,7 +240,7 @@ impl Link {
         self.pending.queue(bytes);
     }
 
-    /// Asks the session for packets, round and round of the places, as many as there is room for.
+    /// Asks the session for packets, round and round of the stations, as many as there is room for.
     pub(crate) fn fill(&mut self, feed: &Feed)
         requires fits { Fits feed.now self.old.session.state }
         ensures asks { Asks feed.now self.old.session self.old.ring self.old.pending self.new.session self.new.ring
@@ -252,7 +252,7 @@ impl Link {
         if !self.is_streaming() {
             return;
         }
-        // One look tells which places have a record due, most often one of them or none: they alone are asked.
+        // One look shows which stations have a record due, most often one of them or none: they alone are asked.
         let mut due = self.due(feed);
         for ask in 0..ASKS {
             if !self.has_room() {
@@ -268,7 +268,7 @@ impl Link {
         }
     }
 
-    /// The places of which a record is due.
+    /// The stations of which a record is due.
     fn due(&self, feed: &Feed) -> Places
         requires { self.now.session.state.phase ≡ Phase.Streaming }
         ensures { AreDue feed.now self.now.session.state result }
@@ -282,7 +282,7 @@ impl Link {
         due
     }
 
-    /// Whether a record of a place is due.
+    /// Whether a record of a station is due.
     fn is_due(&self, feed: &Feed, k: usize) -> bool
         requires { k < length feed.now }
         ensures yes { OnTrue result ((self.now.session.state.phase ≡ Phase.Streaming)
@@ -293,7 +293,7 @@ impl Link {
         self.session.is_due(feed, k)
     }
 
-    /// The index of the place that is asked next, of those that have a record due.
+    /// The index of the station that is asked next, of those that have a record due.
     fn next_due(&self, due: Places) -> Option<usize>
         ensures some { IfSome result (Has due) }
         ensures first { IfSome result (λ k. (j : ℕ) → IsEarlier self.now.ring j k → ¬ (Has due j)) }
@@ -302,7 +302,7 @@ impl Link {
         due.first_from(self.ring)
     }
 
-    /// Asks for the packet of a place of which a record is due. Returns the places of which one is due then.
+    /// Asks for the packet of a station of which a record is due. Returns the stations of which one is due then.
     fn ask_due(&mut self, feed: &Feed, k: usize, due: Places) -> Places
         requires room { length self.old.pending + 520 ≤ 6240 }
         requires fits { Fits feed.now self.old.session.state }
@@ -343,7 +343,7 @@ impl Link {
         }
     }
 
-    /// Asks for the packet of the next place that has something to send, and returns whether one has.
+    /// Asks for the packet of the next station that has something to send, and returns whether one has.
     fn ask(&mut self, feed: &Feed) -> bool
         requires room { length self.old.pending + 520 ≤ 6240 }
         requires fits { Fits feed.now self.old.session.state }
@@ -372,7 +372,7 @@ impl Link {
         false
     }
 
-    /// Asks for the next packet of a place, and returns whether something is sent of it.
+    /// Asks for the next packet of a station, and returns whether something is sent of it.
     fn ask_at(&mut self, feed: &Feed, k: usize) -> bool
         requires within { k < length feed.now }
         requires few { k < 16 }

@@ -16,7 +16,7 @@ use slink_feed::Feed;
 use std::alloc::{AllocError, Global};
 use std::marker::Model;
 
-/// Links in slots. Beside them stands of each slot which places its link is sent records of, once it streams: a link
+/// Links in slots. Beside them stands of each slot which stations its link is sent records of, once it streams: a link
 /// is large, and a look at all of these reads little memory.
 #[derive(Drop)]
 pub(crate) struct Links {
@@ -48,7 +48,7 @@ fn slots(alloc: Global, count: usize) -> Result<Vec<Option<Link>>, AllocError>
     Ok(slots)
 }
 
-/// No places for each of so many slots.
+/// No stations for each of so many slots.
 fn no_grants(alloc: Global, count: usize) -> Result<Vec<Places>, AllocError>
     ensures count { IfOk result (λ granted. length granted.items ≡ count) }
 {
@@ -60,7 +60,7 @@ fn no_grants(alloc: Global, count: usize) -> Result<Vec<Places>, AllocError>
 }
 
 /// Reads once from the link in a slot, where one stands, as much as there is room for replies, and has its session
-/// answer. The answer is which places it is sent records of then.
+/// answer. The answer is which stations it is sent records of then.
 fn receive<R: Ready>(link: &mut Option<Link>, feed: &Feed, slot: usize, ready: &mut R) -> Places
     requires { IfSome link.old (λ l. Fits feed.now l.session.state) }
     ensures received { HasReceived feed.now slot link.old link.new (R.log ready.old) (R.log ready.new) }
@@ -161,7 +161,7 @@ impl Links {
         self.slots[slot].is_some()
     }
 
-    /// Whether the link in a slot may be sent records of some of these places.
+    /// Whether the link in a slot may be sent records of some of these stations.
     pub(crate) fn waits_for(&self, slot: usize, places: Places) -> bool
         requires { slot < length self.now }
         ensures { OnFalse result (LeavesOut places (get_or self.now slot None)) }

@@ -1,14 +1,14 @@
-//! Some of the places of a feed.
+//! Some of the stations of a feed.
 ghost use Rattle.std.specs.Prelude.{◌≡◌, ◌≢◌, ◌↔◌, ◌/◌, ◌^◌, ◌<◌, ◌≤◌, ℕ, IfNone, IfSome};
 ghost use Rattle.std.specs.Int.{bit_at};
 ghost use Rattle.std.specs.Bool.{OnFalse};
 ghost use Rattle.slink_live.specs.Story.{IsEarlier};
 ghost use Rattle.slink_live.specs.private.Granting.{Has};
 
-/// Some of the places of a feed, which has sixteen at most.
+/// Some of the stations of a feed, which has sixteen at most.
 #[derive(Clone, Copy, Debug, PartialEq, Eq)]
 pub(crate) struct Places {
-    // Bit k is of the place at index k.
+    // Bit k is of the station at index k.
     bits: u16,
 }
 
@@ -34,14 +34,14 @@ fn bits_from(bits: u32, from: usize) -> u32
 }
 
 impl Places {
-    /// No places.
+    /// No stations.
     pub(crate) fn none() -> Places
         ensures { (k : ℕ) → ¬ (Has result k) }
     {
         Places { bits: 0 }
     }
 
-    /// Returns these places, and with them the one at an index.
+    /// Returns these stations, and with them the one at an index.
     pub(crate) fn with(self, k: usize) -> Places
         requires { k < 16 }
         ensures here { Has result k }
@@ -52,7 +52,7 @@ impl Places {
         }
     }
 
-    /// Returns these places without the one at an index.
+    /// Returns these stations without the one at an index.
     pub(crate) fn without(self, k: usize) -> Places
         requires { k < 16 }
         ensures less { (j : ℕ) → Has result j → Has self j × (j ≢ k) }
@@ -63,7 +63,7 @@ impl Places {
         }
     }
 
-    /// Returns the index of the first of these places, in a round that begins at an index.
+    /// Returns the index of the first of these stations, in a round that begins at an index.
     pub(crate) fn first_from(self, from: usize) -> Option<usize>
         ensures some { IfSome result (Has self) }
         ensures first { IfSome result (λ k. (j : ℕ) → IsEarlier from j k → ¬ (Has self j)) }
@@ -77,7 +77,7 @@ impl Places {
         }
     }
 
-    /// Returns whether one of these places is one of others.
+    /// Returns whether one of these stations is one of others.
     pub(crate) fn meets(self, others: Places) -> bool
         ensures { OnFalse result ((k : ℕ) → Has self k → ¬ (Has others k)) }
     {

@@ -359,8 +359,8 @@ impl Server {
         }
     }
 
-    /// Queues what is due to each link that may be sent records of some of these places, and reports what is wanted of
-    /// it, or closes it. The others are as they were.
+    /// Queues what is due to each link that may be sent records of some of these stations, and reports what is wanted
+    /// of it, or closes it. The others are as they were.
     fn update_those<R: Ready>(&mut self, places: Places, ready: &mut R)
         requires { IsSound self.old }
         ensures keeps { KeepsServing self.old self.new (R.log ready.old) (R.log ready.new) }

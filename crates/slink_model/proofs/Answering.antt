@@ -36,7 +36,7 @@ not_both line taken way a b =
     )
 
 module _ (feed : List Window) where
-  -- what a piece tells
+  -- what a piece adds
   reported_more : (s new : State) (reply : Reply) (what : What) → what ≡ More → IsAnswer feed s what new reply
       → (new ≡ s) × (reply ≡ replies.Nothing)
   reported_more s new reply More e is = is

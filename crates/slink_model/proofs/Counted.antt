@@ -272,7 +272,7 @@ module _ (places : Places) (differ : Differ places) (codes_are : (k : ℕ) (p : 
       quiet = λ f g same over. absurd (over (subst (λ (y : Talk × Event). IsLinked y.0.stage) (sym h) linked));
     }
 
-    -- a place is refused
+    -- a station is refused
     refusal_read : (k : ℕ) → Open s.phase → read t (Reply (codes "ERROR")) ≡ on_item t.stage Refused t
         → IsWhole t.stage (item_bytes Refused) (whole_of Refused)
         → read t (Reply (codes "ERROR")) ≡ ended (endings.Refused k) t → IsAnswered taken way

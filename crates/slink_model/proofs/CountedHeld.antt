@@ -95,7 +95,7 @@ wholes_after is d n = elim (leb_tells (d + n) (length (way_bytes is))) [
       ∙ (sym (wholes_all is (d + n) (omega (arith, many.1))) ∙ wholes_on is d n)
 ]
 
--- the records of a place in two lists of items
+-- the records of a station in two lists of items
 in_more : (k : ℕ) (xs ys : List Item) → records_in k (xs ++ ys) ≡ records_in k xs ++ records_in k ys
 in_more k [] ys = refl
 in_more k (x ∷ xs) ys =
@@ -142,7 +142,7 @@ holds_both old mid held xs ys a b = record {
   count = omega (arith, a.count, b.count, counted_more xs ys);
 }
 
--- there stays a list for each place
+-- there stays a list for each station
 wide_event : (f : Numbers) (e : Event) (g : Gained) → length (with_event f e g).held ≡ length g.held
 wide_event f (events.Say line) g = refl
 wide_event f (events.Record k n bytes) g = length-set g.held k (get_or g.held k [] ++ bytes ∷ [])

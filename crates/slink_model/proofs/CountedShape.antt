@@ -1,4 +1,4 @@
--- What a link was sent: two replies to each place, then packets.
+-- What a link was sent: two replies to each station, then packets.
 use Rattle.std.proofs.Common.{◌≡◌, ℕ, ◌+◌, ◌-◌, ◌*◌, ◌<◌, ◌≤◌, inl, inr, zero, suc, refl, sym, ap, subst, ◌∙◌, arith}
 use Rattle.std.proofs.Common.{Bool, true, false, ◌&&◌, not, List, [], ◌∷◌, ◌++◌, append_assoc, length, replicate}
 use Rattle.std.proofs.Common.{Option, Some, None, option_map, slice_get}

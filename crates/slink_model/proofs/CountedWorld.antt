@@ -336,7 +336,7 @@ module _ (setup : Setup) (steps : List Step) (now : WorldState) (run : AllHappen
   pub the_counted_world : IsCounted setup after now
   the_counted_world = is_counted setup schedule.differ askable.codes after now both.0
 
-  -- Packets follow two replies to each place.
+  -- Packets follow two replies to each station.
   pub counted_streamed : AreStreamed (length setup.places.items) after.talk after.link
   counted_streamed = streamed_of setup.places.items after.talk after.link
       (facts_of setup schedule.differ askable.codes after now both.0) both.1

@@ -1,4 +1,4 @@
--- The first packet of a place on its way is that of the record after the last one held.
+-- The first packet of a station on its way is that of the record after the last one held.
 use Rattle.std.proofs.Common.{◌≡◌, ℕ, ◌+◌, ◌-◌, ◌*◌, ◌%◌, ◌^◌, ◌<◌, inl, inr, refl, sym, ap, subst, ◌∙◌, arith, List}
 use Rattle.std.proofs.Common.{[]}
 use Rattle.std.proofs.Common.{◌∷◌, ◌++◌, length, length-append, append_assoc, get_or, drop, Option, Some, None}
@@ -30,7 +30,7 @@ use Rattle.slink_model.proofs.Sparing.{IsTalking, WorldTalks, talks_after}
 use Rattle.slink_model.proofs.Worlds.{last_lacks, ties_after}
 
 module _ (places : Places) (differ : Differ places) where
-  -- two packets of the same bytes carry a record of one place
+  -- two packets of the same bytes carry a record of one station
   one_many : (j ka kb na nb : ℕ) (ra rb : List ℕ) → ka ≡ kb
       → length (carried_of j (Carried ka na ra)) ≡ length (carried_of j (Carried kb nb rb))
   one_many j ka kb na nb ra rb same = elim (same_or_not kb j) [
@@ -99,7 +99,7 @@ module _ (places : Places) (differ : Differ places) where
   first_many Finished Finished xs ys p q same e j more = more (ap (drop 3) e)
   first_many x y xs ys p q same e j more = absurd (omega (arith, same))
 
-  -- the same bytes carry as many records of each place
+  -- the same bytes carry as many records of each station
   same_many : (xs ys : List Item) → AreOfPlace places xs → AreOfPlace places ys → way_bytes xs ≡ way_bytes ys → (j : ℕ)
       → length (of_place j xs) ≡ length (of_place j ys)
   same_many [] [] p q e j = refl
@@ -111,7 +111,7 @@ module _ (places : Places) (differ : Differ places) where
       first_many x y xs ys p.0 q.0 (sym (marked x xs) ∙ (ap mark_in e ∙ marked y ys)) e j
       (λ f. same_many xs ys p.1 q.1 f j)
 
-  -- what is carried was pushed, and so carries its place
+  -- what is carried was pushed, and so is of its station
   each_matched : (items : List Item) → AreWhole items → ((k n : ℕ) (r : List ℕ) (prefix back : List (ℕ × List ℕ))
       → of_place k items ≡ prefix ++ (n, r) ∷ back → (p : Fields × Option ℕ) × (slice_get places k ≡ Some p)
       × (length r ≡ 512) × Bears r p.0) → AreOfPlace places items

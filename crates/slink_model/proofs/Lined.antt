@@ -79,7 +79,7 @@ last_reported before reported line x c is le e =
 true_false : (b : Bool) → b ≡ true → b ≡ false → ⊥
 true_false b t f = let bad : true ≡ false = sym t ∙ f in cc bad
 
--- what more bytes tell: nothing, or the line that was called last
+-- what more bytes add: nothing, or the line that was called last
 pub data IsRead (line taken way : List ℕ) : What → Type 0 where
   nothing : IsAsking line taken way → IsRead line taken way More
   the_line : (items : List ℕ) → items ≡ line → IsAnswered taken way

@@ -31,7 +31,7 @@ near_granted : (first p : ℕ) (F : List (List ℕ)) (next : Option ℕ) (held :
 near_granted first p F next held None near h = tt
 near_granted first p F next held (Some s) near h = inr (omega (arith, near, held_to first s F next held h), tt)
 
--- one place, once a command was answered
+-- one station, once a command was answered
 place_granted : (feed : List Window) (k first : ℕ) (w : Window) (F held : List (List ℕ)) (next start sent : Option ℕ)
     (old new : Option Grant) (rest : List (ℕ × List ℕ)) → slice_get feed k ≡ Some w → Shows w first F
     → w.capacity ≤ 1000000

@@ -36,7 +36,7 @@ quiet_ending (endings.Gap k want got) = refl
 quiet_ending endings.Garbage = refl
 quiet_ending endings.Foreign = refl
 
--- two lists that are joined alike, cut at one place
+-- two lists that are joined alike, cut at one station
 pub same_cut : (xs ys us vs : List ℕ) → length xs ≡ length us → xs ++ ys ≡ us ++ vs → (xs ≡ us) × (ys ≡ vs)
 same_cut xs ys us vs l h = (
   sym (take_at xs ys (length us) l) ∙ (ap (take (length us)) h ∙ take_at us vs (length us) refl),
@@ -170,7 +170,7 @@ module _ (t : Talk) (bytes way : List ℕ) (new : Listening) (e : Event) (plain 
       (talk ∙ ap (λ x. record t { wants = with_next t.wants j ((x + 1) % 2 ^ 24) }) number) none
       (ap reported_of event ∙ ap (λ x. Some (record { index = j; number = x; bytes = r })) number)
 
-  -- a packet of a place that is there
+  -- a packet of a station that is there
   has_wanted : (items : List Item) (n j : ℕ) (r : List ℕ) (k m : ℕ) (rest : List Item) (o : Option ℕ)
       → items ≡ Carried k m r ∷ rest → way ≡ way_bytes rest → n ≡ m % 2 ^ 24 → place_of t.wants r ≡ Some j
       → next_at t.wants j ≡ o

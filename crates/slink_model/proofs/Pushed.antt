@@ -1,4 +1,4 @@
--- What was pushed of each place is what the steps append.
+-- What was pushed of each station is what the steps append.
 use Rattle.std.proofs.Common.{◌≡◌, All, ◌≢◌, ℕ, ◌<◌, inl, inr, suc, refl, sym, ap, subst, ◌∙◌, arith, List, [], ◌∷◌}
 use Rattle.std.proofs.Common.{◌++◌, append_assoc, append-nil, length, length-set, set, get_or, Option, Some, slice_get}
 use Rattle.std.proofs.Common.{if◌then◌else◌, ◌==◌}
@@ -15,7 +15,7 @@ use Rattle.std.proofs.lemmas.Bool.Decides.{eqb_tells}
 use Rattle.slink_model.proofs.Worlds.{nothing_at}
 use Rattle.slink_feed.proofs.Items.{is_within, same_or_not, set_here, set_there, within_is}
 
--- a list and a ring for each place
+-- a list and a ring for each station
 record IsWide (count : ℕ) (w : WorldState) : Type 0 where
   windows : length w.windows ≡ count
   pushed : length w.pushed ≡ count

@@ -121,7 +121,7 @@ bears_key b codes place long key network station =
       sym first ∙ (ap (λ (k : List ℕ). slice_range k 0 2) key ∙ sym network),
     )
 
--- each record of the packing carries the schedule's place
+-- each record of the packing carries the schedule's station
 abbrev pub AllBear : Fields → List (List ℕ) → Type 0
 AllBear place rs = AllByRecursion (λ (r : List ℕ). Bears r place) rs
 
@@ -140,7 +140,7 @@ bear s setup of rs vs are long keys =
     (bear_of s setup of vs (subst (λ (qs : List (List ℕ)). AllByRecursion (λ (r : List ℕ). length r ≡ 512) qs)
     (sym are.bytes) long) keys)
 
--- The steps that are fed are of the place.
+-- The steps that are fed are of the station.
 is_at : (place : Fields) (first : Option ℕ) (k : ℕ) → k < 1
     → slice_get {X = Fields × Option ℕ} ((place, first) ∷ []) k ≡ Some (place, first)
 is_at place first zero lt = refl
@@ -269,7 +269,7 @@ are_records rs vs are = by_index IsRecord rs (subst (AllByRecursion IsRecord) ar
     each [] h = tt
     each (u ∷ us) h = ((u.order, (h.0.0, (h.0.1.0, h.0.1.1.1.record_is))), each us h.1)
 
--- what the laws of packing say of a stretch
+-- what the laws of packing say of a slice
 abbrev pub HaveViews : Type 0
 HaveViews = (s : Trace) (before held after : List (List ℕ)) → ReadsAs s (before ++ (held ++ after))
     → (views : List View) × AreViewsOf held views
@@ -360,7 +360,7 @@ abbrev pub Pushes : Type 0
 Pushes = (setup : Setup) (steps : List Step) (now : WorldState) → AllHappen (opening setup) steps now
     → All (IsOf setup.places.items) steps → (k : ℕ) → get_or now.pushed k [] ≡ appended k steps
 
--- what is held of the one place
+-- what is held of the one station
 holds_first : (setup : Setup) (codes : List ℕ) → IsOfChannel setup codes → (w : WorldState)
     → HoldsSlices setup.places.items setup.first w
     → Holds setup.first (get_or w.pushed 0 []) (next_at w.client.talk.wants 0) (get_or w.held 0 [])

@@ -94,7 +94,7 @@ pub by_cases : (t : Bool) → (t ≡ true → ⊥) → t ≡ false
 by_cases true h = absurd (h refl)
 by_cases false h = refl
 
--- The ring of a place is found by its station and network.
+-- The ring of a station is found by its codes.
 pub station_found : (places : List (Fields × Option ℕ)) (feed : List Window) (k : ℕ) (p : Fields × Option ℕ)
     → Differ places
     → ((i : ℕ) → option_map (λ (v : Window). v.place) (slice_get feed i) ≡ option_map (λ (q : Fields × Option ℕ). q.0)

@@ -130,7 +130,7 @@ suited_next want (Some g) n r rest s = (
 
 module _ (places : Places) (differ : Differ places) (codes_are : (k : ℕ) (p : Fields × Option ℕ)
     → slice_get places k ≡ Some p → IsField 5 p.0.station × IsField 2 p.0.network) where
-  -- A record's place is found.
+  -- A record's station is found.
   pub place_found : (wants : Wants) (k : ℕ) (p : Fields × Option ℕ) (r : List ℕ) → AreCalled places wants
       → slice_get places k ≡ Some p → Bears r p.0 → (place_of wants r ≡ Some k) × (w : Wanted)
       × (want_at wants k ≡ Some w)
@@ -154,7 +154,7 @@ module _ (places : Places) (differ : Differ places) (codes_are : (k : ℕ) (p : 
         at_k.1,
       )
 
-  -- another number is wanted of a place
+  -- another number is wanted of a station
   pub called_next : (wants : Wants) (k x : ℕ) (w : Wanted) → want_at wants k ≡ Some w → x < 2 ^ 24
       → AreCalled places wants → AreCalled places (with_next wants k x)
   called_next wants k x w is short called =

@@ -39,7 +39,7 @@ use Rattle.slink_model.proofs.Requested.{also_at, end_command, number_command, r
 use Rattle.slink_model.proofs.Requested.{station_found}
 use Rattle.slink_model.proofs.Resolved.{resolved_alike}
 
--- Of records, each has 512 bytes and carries its place.
+-- Of records, each has 512 bytes and is of its station.
 abbrev pub IsBorne : Places → Item → Type 0
 IsBorne places Accepted = Unit {0}
 IsBorne places Refused = Unit {0}
@@ -69,7 +69,7 @@ abbrev pub AreFrom : ℕ → List (ℕ × List ℕ) → Type 0
 AreFrom n [] = Unit {0}
 AreFrom n (i ∷ is) = (i.0 ≡ n) × AreFrom (n + 1) is
 
--- The records of a place that are on their way end before the position of its grant, and the first of them is wanted.
+-- The records of a station that are on their way end before the position of its grant, and the first of them is wanted.
 abbrev pub IsSuited : Option ℕ → Option Grant → List (ℕ × List ℕ) → Type 0
 IsSuited want None rest = rest ≡ []
 IsSuited want (Some g) rest = (n : ℕ) × AreFrom n rest × (g.position ≡ n + length rest) × ((m : ℕ) → want ≡ Some m
@@ -81,7 +81,7 @@ pub record Flows (places : Places) (client : Listening) (grants : List (Option G
   pub matched : AreOfPlace places items
   pub suited : (k : ℕ) → IsSuited (next_at client.talk.wants k) (grant_at grants k) (of_place k items)
 
--- where the session stands when a place is requested: at the beginning, or after the grant of the place before
+-- where the session stands when a station is requested: at the beginning, or after the grant of the station before
 abbrev pub IsReadyFor : ℕ → Phase → Type 0
 IsReadyFor k phase = ((k ≡ 0) × (phase ≡ Fresh)) ⊎ ((j : ℕ) × (k ≡ j + 1) × (phase ≡ Granted j))
 
@@ -117,13 +117,13 @@ pub record LinkTalks (places : Places) (client : Listening) (session : Standing)
 abbrev pub IsQuiet : Standing → List ℕ → Type 0
 IsQuiet s way = (taken : List ℕ) × (¬ (s.state.phase ≡ Closed) → IsHeld s.held taken × IsAnswered taken way)
 
--- The places are requested, in their order.
+-- The stations are requested, in their order.
 pub record AreCalled (places : Places) (wants : List (Option Wanted)) : Type 0 where
   pub alike : (k : ℕ) → option_map (λ (w : Wanted). w.place) (want_at wants k) ≡ option_map
       (λ (p : Fields × Option ℕ). p.0) (slice_get places k)
   pub short : AreShort wants
 
--- The rings are of the places, and so are their records.
+-- The rings are of the stations, and so are their records.
 pub record AreRinged (places : Places) (feed : List Window) : Type 0 where
   pub alike : (k : ℕ) → option_map (λ (v : Window). v.place) (slice_get feed k) ≡ option_map
       (λ (p : Fields × Option ℕ). p.0) (slice_get places k)
@@ -281,7 +281,7 @@ module _ (places : Places) (differ : Differ places) (codes : (k : ℕ) (p : Fiel
     shakes = subst (λ (x : State). Shakes client.talk x.phase taken rest items) (sym same) shakes;
   }
 
-  -- the ring of the place that is requested
+  -- the ring of the station that is requested
   pub in_phase : (phase : Phase) (s new : State) (reply : Reply) (r : Request) → s.phase ≡ phase
       → answered feed s (requested r) ≡ (new, reply) → answered_in phase feed s (requested r) ≡ (new, reply)
   in_phase phase s new reply r at_phase is = ap (λ (p : Phase). answered_in p feed s (requested r)) (sym at_phase) ∙ is
@@ -315,7 +315,7 @@ module _ (places : Places) (differ : Differ places) (codes : (k : ℕ) (p : Fiel
   granted_alike modes.Fetch (Some n) (Some w) p m is wanted short = let same : n ≡ m = cc wanted in
       resolved_alike w n p is ∙ (let e : n % 2 ^ 24 ≡ m = omega (arith, same, short) in e)
 
-  -- the place that is requested
+  -- the station that is requested
   pub called_place : (k : ℕ) (w : Wanted) → want_at client.talk.wants k ≡ Some w
       → (IsField 5 w.place.station × IsField 2 w.place.network)
       × (station_at feed w.place.station (Some w.place.network) ≡ Some k)

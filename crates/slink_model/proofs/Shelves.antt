@@ -1,4 +1,4 @@
--- Lists of each place, and numbers of each.
+-- Lists of each station, and numbers of each.
 use Rattle.std.proofs.Common.{◌≡◌, ℕ, ◌<◌, zero, suc, refl, sym, ap, ◌∙◌, arith, List, [], ◌∷◌, ◌++◌, length, map}
 use Rattle.std.proofs.Common.{get_or, set, Ok, Err}
 use Rattle.std.specs.Global.{Vec}

@@ -117,7 +117,7 @@ linked_anew w session x = record w {
   link = Some (record { session = session; first_sent = replicate 16 None; to_server = written x.1; to_client = [] });
 }
 
--- the place that a client requests first over a new link, and what the link carries then
+-- the station that a client requests first over a new link, and what the link carries then
 pub record Opens (places : Places) (talk : Talk) (session : Standing) : Type 0 where
   pub want : Wanted
   pub says : requests_place 0 talk ≡ to_place (Some want) 0 talk

@@ -74,7 +74,7 @@ opening_rings setup places first = record {
       let next : setup.first ≡ v.next = ap (λ (w : Window). w.next) at.2 in omega (arith, next, first);
 }
 
--- a step that names one of the places can happen
+-- a step that names one of the stations can happen
 pub possible : (places : List (Fields × Option ℕ)) (bound : ℕ) (feed : List Window) (step : Step)
     → AreRings places bound feed → bound < 2 ^ 63 → IsOf places step → IsPossible feed step
 possible places bound feed (Append k bytes) rings small of =
@@ -113,7 +113,7 @@ rings_pushed places bound w v k bytes (Some x) rings is same =
           (omega (arith, near)) (λ j u at. let low : u.next ≤ bound = rings.numbers j u at in omega (arith, low));
     })
 
--- after a step the rings are of the same places, and their numbers have grown by one at most
+-- after a step the rings are of the same stations, and their numbers have grown by one at most
 pub rings_on : (places : List (Fields × Option ℕ)) (bound : ℕ) (w v : WorldState) (step : Step)
     → AreRings places bound w.windows → Happens w step v → AreRings places (bound + 1) v.windows
 rings_on places bound w v (Append k bytes) rings happens =

@@ -63,7 +63,7 @@ pub matched_is : (r : List ℕ) (o : Option Wanted) → is_of_wanted r o ≡ tru
 matched_is r None h = absurd (let bad : false ≡ true = h in cc bad)
 matched_is r (Some w) h = (w, refl, passes_bears w.place r h)
 
--- the place that carries a record
+-- the station that carries a record
 place_is : (wants : Wants) (r : List ℕ) (j : ℕ) → place_of wants r ≡ Some j
     → (w : Wanted) × (slice_get wants j ≡ Some (Some w)) × Bears r w.place
 place_is wants r j h =
@@ -117,7 +117,7 @@ reported_held f (events.Gap k want got) t a h = no_reported a h
 reported_held f events.Garbage t a h = no_reported a h
 reported_held f events.Foreign t a h = no_reported a h
 
--- what is on its way of a place is granted, and was pushed
+-- what is on its way of a station is granted, and was pushed
 way_first : (few : ℕ → Type 0) (first : ℕ) (F held : List (List ℕ)) (start sent : Option ℕ) (grant : Option Grant)
     (n : ℕ) (r : List ℕ) (rest : List (ℕ × List ℕ)) → IsOnWay few first F held start sent grant ((n, r) ∷ rest)
     → (g : Grant) × (grant ≡ Some g) × (i : ℕ) × (slice_get F i ≡ Some r)
@@ -282,7 +282,7 @@ module _ (places : Places) (first : ℕ) (pushed : Lists) (state : State) (first
         };
       }
 
-  -- The record of the first packet on the way is held. It is of the place that carries it.
+  -- The record of the first packet on the way is held. It is of the station that carries it.
   taken_ties : (client new : Listening) (held : Lists) (start : Numbers) (way left : List ℕ) (k j n : ℕ) (r : List ℕ)
       (rest : List Item) → (c : ClientTies client held start way)
       → c.link.items ≡ Carried k n r ∷ rest → left ≡ way_bytes rest → place_of client.talk.wants r ≡ Some j

@@ -453,6 +453,6 @@ module _ (setup : Setup) (steps : List Step) (now : WorldState) (run : AllHappen
   ties_after = all_ties setup.places.items setup.first steps (opening setup) now run is.few_places is.differ
       (each_of setup.places.items steps is.of_places is.sound) lacks (opening_ties setup is.capacity)
 
-  -- After any steps one stretch of its records is held of each place.
+  -- After any steps one slice of its records is held of each station.
   pub slice_held : HoldsSlices setup.places.items setup.first now
   slice_held = record { slice = ties_after.holds; wanted = ties_after.want_first }

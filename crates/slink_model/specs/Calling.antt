@@ -11,7 +11,7 @@ use Rattle.slink_model.specs.Slice.{resumed}
 use Rattle.slink_feed.specs.Window.{Window}
 use Rattle.slink_model.specs.World.{LinkState, WorldState, number_at}
 
--- The client awaits the answer to its DATA or FETCH of a place, and none is on its way.
+-- The client awaits the answer to its DATA or FETCH of a station, and none is on its way.
 abbrev pub Awaits : WorldState → LinkState → ℕ → Type 0
 Awaits w l k = (w.client.talk.stage ≡ Number k) × (w.client.kept ++ l.to_client ≡ [])
 
@@ -19,7 +19,7 @@ Awaits w l k = (w.client.talk.stage ≡ Number k) × (w.client.kept ++ l.to_clie
 abbrev pub IsUnanswered : LinkState → LinkState → Type 0
 IsUnanswered l m = (m.session.state ≡ l.session.state) × (m.to_client ≡ [])
 
--- The line has come, and was answered by the number that the client wants next. Where something is held of the place,
+-- The line has come, and was answered by the number that the client wants next. Where something is held of the station,
 -- the
 -- answer is the grant of the record after the last one held, where there is that grant, and else the refusal.
 pub record IsAnswered (w : WorldState) (k : ℕ) (l m : LinkState) : Type 0 where
@@ -33,7 +33,7 @@ pub record IsAnswered (w : WorldState) (k : ℕ) (l m : LinkState) : Type 0 wher
       → granted w.client.talk.mode k (resumed ring (start + length (slice_index_or w.held k []))) l.session.state
       ≡ (m.session.state, reply)
 
--- So are all places answered by bytes that come to the server, and a place has a grant by no other way.
+-- So are all stations answered by bytes that come to the server, and a station has a grant by no other way.
 pub record AreAnswered (w : WorldState) (l m : LinkState) : Type 0 where
   pub answered : (k : ℕ) → Awaits w l k → IsUnanswered l m ⊎ IsAnswered w k l m
   pub only : (k : ℕ) (g : Grant) → IsLinked w.client.talk.stage → grant_at m.session.state.grants k ≡ Some g

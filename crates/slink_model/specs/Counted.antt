@@ -1,4 +1,4 @@
--- The counted world: where the steps of a schedule lead to, by lists and counts alone. A place has the list of all
+-- The counted world: where the steps of a schedule lead to, by lists and counts alone. A station has the list of all
 -- records that were pushed. A link has what the client sent, what the server sent, in whole replies and packets, and
 -- how
 -- many bytes of each were taken. There is no ring, no buffer, and no part of a line, a reply or a packet.
@@ -29,9 +29,9 @@ use Rattle.slink_feed.specs.Window.{Window, record_at, window}
 use Rattle.slink_model.specs.World.{LinkState, Lists, Numbers, WorldState, first_after, number_at, written, with_first}
 use Rattle.slink_model.specs.World.{with_one}
 
--- a link: where its session stands, the number of the first packet that was sent of each place; the bytes of all lines
--- that the client sent, and how many of them the server accepted; all that the server sent, and how many bytes of it
--- the client accepted
+-- a link: where its session stands, the number of the first packet that was sent of each station; the bytes of all
+-- lines that the client sent, and how many of them the server accepted; all that the server sent, and how many bytes of
+-- it the client accepted
 pub record CountedLink : Type 0 where
   pub session : State
   pub first_sent : List (Option ℕ)
@@ -40,9 +40,8 @@ pub record CountedLink : Type 0 where
   pub sent : List Item
   pub delivered : ℕ
 
--- all records that were pushed of each place, what the client has come to, what it holds of each place, the number of
--- the
--- first record that it holds of each, and the link
+-- all records that were pushed of each station, what the client has come to, what it holds of each station, the number
+-- of the first record that it holds of each, and the link
 pub record Counted : Type 0 where
   pub pushed : List (List (List ℕ))
   pub talk : Talk
@@ -50,7 +49,7 @@ pub record Counted : Type 0 where
   pub start : List (Option ℕ)
   pub link : Option CountedLink
 
--- What a server shows of a place: the last of its records, as many as it keeps.
+-- What a server shows of a station: the last of its records, as many as it keeps.
 abbrev pub shown_of : Setup → Fields × Option ℕ → List (List ℕ) → Window
 shown_of setup p pushed = record {
   place = p.0;
@@ -67,7 +66,7 @@ shown_all setup (p ∷ ps) (records ∷ pushed) = shown_of setup p records ∷ s
 abbrev pub windows_of : Setup → Counted → List Window
 windows_of setup c = shown_all setup setup.places.items c.pushed
 
--- What answers the line that a client sent last, by what it waits for: its place is chosen; what it asks for is
+-- What answers the line that a client sent last, by what it waits for: its station is chosen; what it asks for is
 -- granted, if
 -- there is that grant; or packets may follow.
 abbrev pub answer_at : Stage → List Window → Talk → State → State × ServerReply
@@ -97,7 +96,7 @@ abbrev pub served_by : List Window → Talk → ℕ → CountedLink → CountedL
 served_by feed talk n l = if_come (waits l.taken l.written && not (waits (taken_by n l) l.written)) feed talk
     (record l { taken = taken_by n l })
 
--- what a session sends of a place: the packet of the record at its position, or the end
+-- what a session sends of a station: the packet of the record at its position, or the end
 abbrev pub carried_at : ℕ → Option Grant → Option Window → List Item
 carried_at k None ring = []
 carried_at k (Some g) None = []
@@ -110,7 +109,7 @@ items_sent feed grants k sents.Wait = []
 items_sent feed grants k sents.Overrun = []
 items_sent feed grants k sents.Closed = []
 
--- The session is called for a packet of a place.
+-- The session is called for a packet of a station.
 abbrev pub sent_by : List Window → ℕ → CountedLink → CountedLink
 sent_by feed k l = record l {
   session = (sent feed l.session k).0;
@@ -133,7 +132,7 @@ part d (i ∷ is) = if nat_le (length (item_bytes i)) d then part (d - length (i
 
 -- What a client makes of what is sent to it, by what it waits for: `OK` lets it say its next line, and `ERROR` ends the
 -- link;
--- a packet brings a record of its place, and the number after it is wanted next.
+-- a packet brings a record of its station, and the number after it is wanted next.
 abbrev pub on_item : Stage → Item → Talk → Talk × Event
 on_item (Station k) Accepted t = requests_number k t
 on_item (Station k) Refused t = ended (endings.Refused k) t
@@ -274,7 +273,7 @@ AreItems (Greeted ∷ is) = ⊥
 AreItems (Carried k n r ∷ is) = (length r ≡ 512) × AreItems is
 AreItems (Finished ∷ is) = is ≡ []
 
--- Two replies of 4 bytes to each of so many places were sent and came to the client; after them packets were sent,
+-- Two replies of 4 bytes to each of so many stations were sent and came to the client; after them packets were sent,
 -- and after the last of these the end, if it was.
 pub record IsStreamed (places : ℕ) (l : CountedLink) : Type 0 where
   pub packets : List Item

@@ -3,7 +3,7 @@ use Rattle.std.specs.Prelude.{ℕ, ◌==◌, List, [], ◌∷◌, flat_map, if�
 use Rattle.slink_model.specs.declared.world.Step.{Step}
 use Rattle.slink_model.specs.declared.world.Step.TheVariants.{Append, Connect, ToServer, ToClient, Send, Cut}
 
--- the records that a step pushes to a place: one, or none
+-- the records that a step pushes to a station: one, or none
 abbrev pub appended_by : ℕ → Step → List (List ℕ)
 appended_by k (Append j bytes) = if j == k then bytes ∷ [] else []
 appended_by k Connect = []

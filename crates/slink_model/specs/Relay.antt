@@ -28,7 +28,7 @@ fed (ToClient n ∷ steps) records = ToClient n ∷ fed steps records
 fed (Send k ∷ steps) records = Send k ∷ fed steps records
 fed (Cut ∷ steps) records = Cut ∷ fed steps records
 
--- A step names the one place.
+-- A step names the one station.
 abbrev pub IsOfOne : Step → Type 0
 IsOfOne (Append k bytes) = k < 1
 IsOfOne Connect = Unit {0}
@@ -37,7 +37,7 @@ IsOfOne (ToClient n) = Unit {0}
 IsOfOne (Send k) = k < 1
 IsOfOne Cut = Unit {0}
 
--- The schedule has one place, that of the channel: its codes begin with the network, and then the station.
+-- The schedule has one station, that of the channel: its codes begin with the network, and then the station.
 pub record IsOfChannel (setup : Setup) (codes : List ℕ) : Type 0 where
   pub place : Fields
   pub first : Option ℕ
@@ -45,7 +45,7 @@ pub record IsOfChannel (setup : Setup) (codes : List ℕ) : Type 0 where
   pub network : place.network ≡ slice_range codes 0 2
   pub station : place.station ≡ slice_range codes 2 7
 
--- A series of this channel can be sent through a schedule of these steps: of one place, the channel's, and fewer than
+-- A series of this channel can be sent through a schedule of these steps: of one station, the channel's, and fewer than
 -- 2^24 steps.
 pub record IsRelayable (setup : Setup) (codes : List ℕ) (steps : List Step) : Type 0 where
   pub channel : IsOfChannel setup codes

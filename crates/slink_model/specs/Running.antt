@@ -29,7 +29,7 @@ IsPossible feed (ToServer n) = Unit {0}
 IsPossible feed (ToClient n) = Unit {0}
 IsPossible feed Cut = Unit {0}
 
--- The rings are of these places, and have numbers up to a bound.
+-- The rings are of these stations, and have numbers up to a bound.
 pub record AreRings (places : List (Fields × Option ℕ)) (bound : ℕ) (feed : List Window) : Type 0 where
   pub places_are : map (λ (v : Window). v.place) feed ≡ map (λ (p : Fields × Option ℕ). p.0) places
   pub numbers : (k : ℕ) (v : Window) → slice_get feed k ≡ Some v → v.next ≤ bound

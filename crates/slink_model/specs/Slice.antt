@@ -14,8 +14,8 @@ use Rattle.slink_model.specs.Ties.{AreNext, Holds, Item, WantFirst, of_place, wa
 use Rattle.slink_feed.specs.Window.{Window, oldest_of}
 use Rattle.slink_model.specs.World.{AllHappen, Differ, IsOf, LinkState, WorldState, number_at}
 
--- Of no place where a record is held are 2^24 records or more lacking: those that were pushed after the last one held.
--- `first` is the number of the first record of each place.
+-- Of no station where a record is held are 2^24 records or more lacking: those that were pushed after the last one
+-- held. `first` is the number of the first record of each station.
 abbrev pub LacksFew : ℕ → WorldState → Type 0
 LacksFew first w = (k start : ℕ) → number_at w.start k ≡ Some start
     → first + length (slice_index_or w.pushed k []) < start + length (slice_index_or w.held k []) + 2 ^ 24
@@ -34,8 +34,8 @@ IsSound (ToClient n) = Unit {0}
 IsSound (Send k) = Unit {0}
 IsSound Cut = Unit {0}
 
--- Up to sixteen different places, and rings of up to a million records. Each step names one of the places, and a record
--- that is pushed has 512 bytes and carries its place.
+-- Up to sixteen different stations, and rings of up to a million records. Each step names one of the stations, and a
+-- record that is pushed has 512 bytes and is of its station.
 pub record IsSchedule (setup : Setup) (steps : List Step) : Type 0 where
   pub few_places : length setup.places.items ≤ 16
   pub capacity : setup.capacity ≤ 1000000
@@ -43,7 +43,7 @@ pub record IsSchedule (setup : Setup) (steps : List Step) : Type 0 where
   pub of_places : All (IsOf setup.places.items) steps
   pub sound : All IsSound steps
 
--- Of each place one stretch of its records is held; while none is, the number that was wanted first is wanted still.
+-- Of each station one slice of its records is held; while none is, the number that was wanted first is wanted still.
 pub record HoldsSlices (places : List (Fields × Option ℕ)) (first : ℕ) (w : WorldState) : Type 0 where
   pub slice : (k : ℕ) → k < length places
       → Holds first (slice_index_or w.pushed k []) (next_at w.client.talk.wants k)
@@ -54,8 +54,8 @@ pub record HoldsSlices (places : List (Fields × Option ℕ)) (first : ℕ) (w :
 abbrev pub resumed : Window → ℕ → Option ℕ
 resumed w number = if nat_le (oldest_of w) number && nat_le number w.next then Some number else None
 
--- Where something is held of a place, and the number that is wanted next of it is requested, the answer is the grant of
--- the record after the last one held, where there is that grant, and else the refusal.
+-- Where something is held of a station, and the number that is wanted next of it is requested, the answer is the grant
+-- of the record after the last one held, where there is that grant, and else the refusal.
 abbrev pub Resumes : WorldState → Type 0
 Resumes w = (k start : ℕ) (ring : Window) (mode : Mode) (s : State) → number_at w.start k ≡ Some start
     → slice_get w.windows k ≡ Some ring
@@ -63,7 +63,7 @@ Resumes w = (k start : ℕ) (ring : Window) (mode : Mode) (s : State) → number
     ≡ granted mode k (resumed ring (start + length (slice_index_or w.held k []))) s
 
 -- What a link has on its way to the client, after the bytes that the client kept, are replies and packets; those of a
--- place are a stretch of its records, up to the position of its grant.
+-- station are a slice of its records, up to the position of its grant.
 pub record IsCarried (places : List (Fields × Option ℕ)) (first : ℕ) (w : WorldState) (l : LinkState) : Type 0 where
   pub items : List Item
   pub bytes : IsLinked w.client.talk.stage → w.client.kept ++ l.to_client ≡ way_bytes items

@@ -1,4 +1,4 @@
--- What is held of a place, and what of it is on its way to the client.
+-- What is held of a station, and what of it is on its way to the client.
 use Rattle.std.specs.Prelude.{◌≡◌, ℕ, ◌+◌, ◌-◌, ◌%◌, ◌^◌, ◌<◌, ◌≤◌, ◌⊎◌, ◌==◌, List, [], ◌∷◌, ◌++◌, length, codes}
 use Rattle.std.specs.Prelude.{false, Option, Some, None, slice_get, slice_index_or, if◌then◌else◌}
 use Rattle.slink_wire.specs.declared.reply.Reply.{Reply}
@@ -21,7 +21,7 @@ use Rattle.slink_feed.specs.Window.{Shows, Window, oldest_of}
 use Rattle.slink_feed.specs.Running.{HasStream}
 use Rattle.slink_model.specs.World.{LinkState, Lists, Numbers, WorldState, number_at}
 
--- What is held of a place is one stretch of all its records, in their order and each once: `start` is the number of the
+-- What is held of a station is one slice of all its records, in their order and each once: `start` is the number of the
 -- first one held, and the number of the record after the last one is wanted next.
 abbrev pub Holds : ℕ → List (List ℕ) → Option ℕ → List (List ℕ) → Option ℕ → Type 0
 Holds first pushed next held None = held ≡ []
@@ -29,7 +29,7 @@ Holds first pushed next held (Some start) =
     (older : List (List ℕ)) × (later : List (List ℕ)) × (pushed ≡ older ++ (held ++ later))
     × (start ≡ first + length older) × (next ≡ Some ((start + length held) % 2 ^ 24))
 
--- what a server sends: a reply, the packet of a record of a place, with the record's whole number, or the end
+-- what a server sends: a reply, the packet of a record of a station, with the record's whole number, or the end
 pub data Item : Type 0 where
   Accepted : Item
   Refused : Item
@@ -54,7 +54,7 @@ items_of replies.Ok = Accepted ∷ []
 items_of replies.Error = Refused ∷ []
 items_of replies.Hello = Greeted ∷ []
 
--- the records of one place, with their numbers
+-- the records of one station, with their numbers
 abbrev pub carried_of : ℕ → Item → List (ℕ × List ℕ)
 carried_of k Accepted = []
 carried_of k Refused = []
@@ -66,7 +66,7 @@ abbrev pub of_place : ℕ → List Item → List (ℕ × List ℕ)
 of_place k [] = []
 of_place k (i ∷ is) = carried_of k i ++ of_place k is
 
--- records of a place that have the numbers from n on
+-- records of a station that have the numbers from n on
 abbrev pub AreNext : ℕ → List (List ℕ) → ℕ → List (ℕ × List ℕ) → Type 0
 AreNext first pushed n [] = Unit {0}
 AreNext first pushed n (i ∷ is) =
@@ -77,13 +77,13 @@ abbrev pub IsNear : (ℕ → Type 0) → ℕ → Option ℕ → ℕ → Type 0
 IsNear few n None count = Unit {0}
 IsNear few n (Some start) count = (n ≡ start + count) ⊎ ((start + count < n + 2 ^ 24) × few (start + count))
 
--- While nothing is held of a place, its first packet on the way is the first that the link was sent.
+-- While nothing is held of a station, its first packet on the way is the first that the link was sent.
 abbrev pub IsFirst : Option ℕ → Option ℕ → ℕ → List (ℕ × List ℕ) → Type 0
 IsFirst (Some start) first_sent n rest = Unit {0}
 IsFirst None None n rest = rest ≡ []
 IsFirst None (Some f) n rest = n ≡ f
 
--- what is on its way of a place: nothing without a grant
+-- what is on its way of a station: nothing without a grant
 abbrev pub IsOnWay : (ℕ → Type 0) → ℕ → List (List ℕ) → List (List ℕ) → Option ℕ → Option ℕ → Option Grant
     → List (ℕ × List ℕ) → Type 0
 IsOnWay few first pushed held start first_sent None rest = rest ≡ []
@@ -91,11 +91,11 @@ IsOnWay few first pushed held start first_sent (Some g) rest =
     (n : ℕ) × (first ≤ n) × AreNext first pushed n rest × (g.position ≡ n + length rest)
     × IsNear few n start (length held) × IsFirst start first_sent n rest
 
--- each record of a place carries it
+-- each record of a station carries it
 abbrev pub AreSound : Fields → List (List ℕ) → Type 0
 AreSound place pushed = (i : ℕ) (r : List ℕ) → slice_get pushed i ≡ Some r → (length r ≡ 512) × Bears r place
 
--- a record that a client's event reports: the index of its place, its number modulo 2^24, its bytes
+-- a record that a client's event reports: the index of its station, its number modulo 2^24, its bytes
 pub record Reported : Type 0 where
   pub index : ℕ
   pub number : ℕ
@@ -123,7 +123,7 @@ pub data Outcome (t : Talk) (items : List Item) (bytes way : List ℕ) (new : Li
   ends : (ending : Ending) → new.talk ≡ record t { stage = Ended ending } → new.kept ≡ [] → reported_of e ≡ None
       → Outcome t items bytes way new e
 
--- the records that are carried are of these places, and have 512 bytes
+-- the records that are carried are of these stations, and have 512 bytes
 abbrev pub AreWhole : List Item → Type 0
 AreWhole [] = Unit {0}
 AreWhole (Accepted ∷ is) = AreWhole is
@@ -132,15 +132,15 @@ AreWhole (Greeted ∷ is) = AreWhole is
 AreWhole (Carried k n r ∷ is) = (length r ≡ 512) × AreWhole is
 AreWhole (Finished ∷ is) = AreWhole is
 
--- What a place is granted once a command was answered: what it was, nothing, or a number from the window or the next.
+-- What a station is granted once a command was answered: what it was, nothing, or a number from the window or the next.
 pub data IsGranted (feed : List Window) (k : ℕ) (old new : Option Grant) : Type 0 where
   same : new ≡ old → IsGranted feed k old new
   dropped : new ≡ None → IsGranted feed k old new
   given : (g : Grant) (w : Window) → new ≡ Some g → slice_get feed k ≡ Some w → oldest_of w ≤ g.position
       → g.position ≤ w.next → IsGranted feed k old new
 
--- what an answer leaves: before records are sent, each place is granted so; afterwards the grants stay, and there is no
--- reply
+-- what an answer leaves: before records are sent, each station is granted so; afterwards the grants stay, and there is
+-- no reply
 abbrev pub Leaves : Phase → List Window → State → State × Reply → Type 0
 Leaves Fresh feed s x = (k : ℕ) → IsGranted feed k (grant_at s.grants k) (grant_at x.0.grants k)
 Leaves (Chosen place) feed s x = (k : ℕ) → IsGranted feed k (grant_at s.grants k) (grant_at x.0.grants k)
@@ -148,7 +148,7 @@ Leaves (Granted place) feed s x = (k : ℕ) → IsGranted feed k (grant_at s.gra
 Leaves Streaming feed s x = (x.0.grants ≡ s.grants) × (x.1 ≡ replies.Nothing) × ¬ (IsBefore x.0.phase)
 Leaves Closed feed s x = (x.0.grants ≡ s.grants) × (x.1 ≡ replies.Nothing) × ¬ (IsBefore x.0.phase)
 
--- the places, each with the number that was wanted first, and no two of which are the same
+-- the stations, each with the number that was wanted first, and no two of which are the same
 abbrev pub Places : Type 0
 Places = List (Fields × Option ℕ)
 
@@ -166,12 +166,12 @@ abbrev pub AreWanted : Places → Wants → Type 0
 AreWanted places wants = (k : ℕ) (w : Wanted) → want_at wants k ≡ Some w
     → (p : Fields × Option ℕ) × (slice_get places k ≡ Some p) × (w.place ≡ p.0)
 
--- Where nothing is held of a place, the number that was wanted first is wanted still.
+-- Where nothing is held of a station, the number that was wanted first is wanted still.
 abbrev pub WantFirst : Places → Wants → Numbers → Type 0
 WantFirst places wants start = (k : ℕ) (p : Fields × Option ℕ) → slice_get places k ≡ Some p → number_at start k ≡ None
     → next_at wants k ≡ p.1
 
--- Of each place a stretch is held.
+-- Of each station a slice is held.
 abbrev pub AllHold : Places → ℕ → Lists → Wants → Lists → Numbers → Type 0
 AllHold places first pushed wants held start = (k : ℕ) → k < length places
     → Holds first (slice_index_or pushed k []) (next_at wants k) (slice_index_or held k []) (number_at start k)

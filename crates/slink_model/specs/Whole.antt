@@ -16,7 +16,7 @@ KeepsLink (ToClient n) = Unit {0}
 KeepsLink (Send k) = Unit {0}
 KeepsLink Cut = ⊥
 
--- the record of a place in what a server sends: one, or none
+-- the record of a station in what a server sends: one, or none
 abbrev pub record_in : ℕ → Item → List (List ℕ)
 record_in k Accepted = []
 record_in k Refused = []
@@ -38,18 +38,18 @@ packet_count (Greeted ∷ is) = packet_count is
 packet_count (Carried k n r ∷ is) = packet_count is + 1
 packet_count (Finished ∷ is) = packet_count is
 
--- how many records are held of all places
+-- how many records are held of all stations
 abbrev pub held_count : Lists → ℕ
 held_count [] = 0
 held_count (records ∷ held) = length records + held_count held
 
--- Of each place is held what was held before, and after it its records in these items: one for each packet.
+-- Of each station is held what was held before, and after it its records in these items: one for each packet.
 pub record HoldsMore (old : Lists) (items : List Item) (held : Lists) : Type 0 where
   pub each : (k : ℕ) → slice_index_or held k [] ≡ slice_index_or old k [] ++ records_in k items
   pub count : held_count held ≡ held_count old + packet_count items
 
--- Two replies of 4 bytes to each of so many places came to the client, and packets after them. For each 520 bytes that
--- came after the replies a packet is whole, and the records of these are held.
+-- Two replies of 4 bytes to each of so many stations came to the client, and packets after them. For each 520 bytes
+-- that came after the replies a packet is whole, and the records of these are held.
 pub record HoldsWhole (places : ℕ) (old held : Lists) (l : CountedLink) : Type 0 where
   pub streamed : IsStreamed places l
   pub holds : HoldsMore old (take ((l.delivered - 8 * places) / 520) streamed.packets) held

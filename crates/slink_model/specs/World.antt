@@ -23,15 +23,15 @@ use Rattle.slink_feed.specs.Serving.{Standing, Serves}
 use Rattle.slink_feed.specs.Session.{Grants, at, grant_at, sent, sent_bytes}
 use Rattle.slink_feed.specs.Window.{Window, with_record}
 
--- the records of each place
+-- the records of each station
 abbrev pub Lists : Type 0
 Lists = List (List (List ℕ))
 
--- a number of each place, where there is one
+-- a number of each station, where there is one
 abbrev pub Numbers : Type 0
 Numbers = List (Option ℕ)
 
--- a link: the session at its end, the number of the first packet that this sent of each place, and the bytes that are
+-- a link: the session at its end, the number of the first packet that this sent of each station, and the bytes that are
 -- on their way to the server and to the client
 pub record LinkState : Type 0 where
   pub session : Standing
@@ -39,7 +39,7 @@ pub record LinkState : Type 0 where
   pub to_server : List ℕ
   pub to_client : List ℕ
 
--- the rings, all records that were pushed to each, the client, what it holds of each place, the number of the first
+-- the rings, all records that were pushed to each, the client, what it holds of each station, the number of the first
 -- record that it holds of each, and the link
 pub record WorldState : Type 0 where
   pub windows : List Window
@@ -49,11 +49,11 @@ pub record WorldState : Type 0 where
   pub start : List (Option ℕ)
   pub link : Option LinkState
 
--- one record more of a place
+-- one record more of a station
 abbrev pub with_one : Lists → ℕ → List ℕ → Lists
 with_one lists k bytes = slice_set lists k (slice_index_or lists k [] ++ bytes ∷ [])
 
--- a number of a place, unless there is one already
+-- a number of a station, unless there is one already
 abbrev pub number_at : Numbers → ℕ → Option ℕ
 number_at numbers k = unwrap_or (slice_get numbers k) None
 
@@ -74,7 +74,7 @@ pub record Taking : Type 0 where
 abbrev pub with_client : Listening → Lists → Numbers → List ℕ → Taking
 with_client client held start to_server = record { client = client; held = held; start = start; to_server = to_server }
 
--- what comes of an event: a record is held, and what is written goes on its way. The first record of a place that is
+-- what comes of an event: a record is held, and what is written goes on its way. The first record of a station that is
 -- held is the first that the link was sent.
 abbrev pub noted : Numbers → Event → Taking → Taking
 noted first_sent (events.Say line) t = record t { to_server = t.to_server ++ line.items }
@@ -92,7 +92,7 @@ pub data Reads (first_sent : List (Option ℕ)) : Taking → List ℕ → Taking
   piece_lost : (t last : Taking) (bytes piece rest : List ℕ) → bytes ≡ piece ++ rest
       → ¬ (IsLinked t.client.talk.stage) → Reads first_sent t rest last → Reads first_sent t bytes last
 
--- the first packet of a place is that of its grant's position
+-- the first packet of a station is that of its grant's position
 abbrev pub first_after : Numbers → Grants → ℕ → Sent → Numbers
 first_after first_sent grants k (sents.Packet bytes) =
     with_first first_sent k (option_map (λ (g : Grant). g.position) (grant_at grants k))
@@ -101,7 +101,7 @@ first_after first_sent grants k sents.Wait = first_sent
 first_after first_sent grants k sents.Overrun = first_sent
 first_after first_sent grants k sents.Closed = first_sent
 
--- The link once a packet of a place was requested.
+-- The link once a packet of a station was requested.
 abbrev pub sent_on : List Window → ℕ → LinkState → LinkState
 sent_on feed k l = record {
   session = record { state = (sent feed l.session.state k).0; held = l.session.held };
@@ -143,7 +143,7 @@ abbrev pub written : Event → List ℕ
 written (events.Say line) = line.items
 written event = []
 
--- a record is pushed to the ring of a place
+-- a record is pushed to the ring of a station
 abbrev pub pushed_to : WorldState → ℕ → List ℕ → Option Window → WorldState
 pushed_to w k bytes None = w
 pushed_to w k bytes (Some window) =
@@ -201,12 +201,12 @@ opening setup = record {
   link = None;
 }
 
--- The places are of different stations, or in different networks.
+-- The stations are of different stations, or in different networks.
 abbrev pub Differ : List (Fields × Option ℕ) → Type 0
 Differ places = (i j : ℕ) (p q : Fields × Option ℕ) → slice_get places i ≡ Some p → slice_get places j ≡ Some q
     → p.0 ≡ q.0 → i ≡ j
 
--- A step names one of the places, and a record carries the place that it is pushed to.
+-- A step names one of the stations, and a record is of the station that it is pushed to.
 abbrev pub IsOf : List (Fields × Option ℕ) → Step → Type 0
 IsOf places (Append k bytes) = (p : Fields × Option ℕ) × (slice_get places k ≡ Some p) × Bears bytes p.0
 IsOf places (Send k) = k < length places

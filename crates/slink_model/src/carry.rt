@@ -32,7 +32,7 @@ fn add_to_list(list: &mut Vec<[u8; 512]>, bytes: &[u8; 512]) -> Result<(), Memor
     list.push(*bytes).map_err(|_| Memory)
 }
 
-/// Adds a record to those of a place.
+/// Adds a record to those of a station.
 pub(crate) fn add_record(
     lists: &mut Vec<Vec<[u8; 512]>>,
     k: usize,
@@ -47,7 +47,7 @@ pub(crate) fn add_record(
     add_to_list(&mut slots[k], bytes)
 }
 
-/// The number of a place, where there is one.
+/// The number of a station, where there is one.
 fn number_at(numbers: &[Option<u64>], k: usize) -> Option<u64>
     ensures { result ≡ number_at numbers.now k }
 {
@@ -57,7 +57,7 @@ fn number_at(numbers: &[Option<u64>], k: usize) -> Option<u64>
     }
 }
 
-/// Notes a number of a place, unless there is one already.
+/// Notes a number of a station, unless there is one already.
 pub(crate) fn note_first(numbers: &mut [Option<u64>], k: usize, number: Option<u64>)
     ensures { numbers.new ≡ with_first numbers.old k number }
 {
@@ -123,7 +123,7 @@ fn read_piece(client: &mut Client, bytes: &[u8]) -> (usize, Event)
     client.take(bytes)
 }
 
-/// Gives bytes to a client, and puts what it tells where it belongs. What is after its end is lost.
+/// Gives bytes to a client, and puts what it reports where it belongs. What is after its end is lost.
 pub(crate) fn read_bytes(
     client: &mut Client,
     bytes: &[u8],

@@ -16,10 +16,10 @@ ghost use Rattle.slink_model.specs.Ties.{Accepted, Finished, Item};
 ghost use Rattle.slink_model.specs.Whole.{HoldsMore, HoldsWhole, KeepsLink};
 ghost use Rattle.slink_model.specs.World.{AllHappen, Happens, IsOf, LinkState, WorldState, opening};
 
-/// After any steps of a schedule, what a client holds of each place is one slice of all records that were pushed of it,
-/// in their order and each once; and the number of the record after the last one is wanted next.
+/// After any steps of a schedule, what a client holds of each station is one slice of all records that were pushed of
+/// it, in their order and each once; and the number of the record after the last one is wanted next.
 ///
-/// Links may be cut after any byte. At no moment may 2^24 records or more be lacking of a place where one is held.
+/// Links may be cut after any byte. At no moment may 2^24 records or more be lacking of a station where one is held.
 #[tactic(auto, using(crate::proofs::Worlds::slice_held))]
 pub fn holds_one_slice()
     ensures slices { (setup : Setup) (steps : List Step) (now : WorldState) (run : AllHappen (opening setup) steps now)
@@ -27,19 +27,19 @@ pub fn holds_one_slice()
         → HoldsSlices setup.places.items setup.first now }
 {}
 
-/// After any steps of a schedule, a client that holds something of a place, and asks for the number that it wants next,
-/// is granted the record after the last one held exactly where that is still in the window or is the next one; else it
-/// is refused.
+/// After any steps of a schedule, a client that holds something of a station, and asks for the number that it wants
+/// next, is granted the record after the last one held exactly where that is still in the window or is the next one;
+/// else it is refused.
 #[tactic(auto, using(crate::proofs::Resumed::resume_granted))]
 pub fn resumes_after_the_last()
     ensures resumes { (setup : Setup) (steps : List Step) (now : WorldState) (run : AllHappen (opening setup) steps now)
         → IsSchedule setup steps → LackFew setup.first (opening setup) steps now run → Resumes now }
 {}
 
-/// After any steps of a schedule, bytes that come to the server answer a client that awaits the grant of a place by the
-/// number that it wants at that moment: where something is held of the place, the answer is the grant of the record
-/// after the last one held, where that is still in the window or is the next one, and else the refusal. While a client
-/// takes from its link, a place comes to have a grant by no other way.
+/// After any steps of a schedule, bytes that come to the server answer a client that awaits the grant of a station by
+/// the number that it wants at that moment: where something is held of the station, the answer is the grant of the
+/// record after the last one held, where that is still in the window or is the next one, and else the refusal. While a
+/// client takes from its link, a station comes to have a grant by no other way.
 #[tactic(auto, using(crate::proofs::Calling::answered_after))]
 pub fn answers_the_number_wanted()
     ensures answered { (setup : Setup) (steps : List Step) (now : WorldState)
@@ -50,7 +50,7 @@ pub fn answers_the_number_wanted()
 {}
 
 /// After any steps of a schedule, while a client takes from its link, what is on its way to it are replies and packets,
-/// and the packets of a place are a stretch of its records, up to the position of its grant.
+/// and the packets of a station are a slice of its records, up to the position of its grant.
 #[tactic(auto, using(crate::proofs::Resumed::slice_carried))]
 pub fn carries_a_slice()
     ensures carried { (setup : Setup) (steps : List Step) (now : WorldState) (run : AllHappen (opening setup) steps now)
@@ -58,16 +58,16 @@ pub fn carries_a_slice()
         → (l : LinkState) → now.link ≡ Some l → IsCarried setup.places.items setup.first now l }
 {}
 
-/// After any steps of a schedule, the link of a client has ended only where all that was requested was sent or a place
-/// was refused: it is informed of no gap, of no record of another place, and of no bytes that are neither a reply, a
-/// packet nor the end.
+/// After any steps of a schedule, the link of a client has ended only where all that was requested was sent or a
+/// station was refused: it is informed of no gap, of no record of another station, and of no bytes that are neither a
+/// reply, a packet nor the end.
 #[tactic(auto, using(crate::proofs::Sparing::client_spared))]
 pub fn spares_the_client()
     ensures spared { (setup : Setup) (steps : List Step) (now : WorldState) → AllHappen (opening setup) steps now
         → IsSchedule setup steps → AreAskable setup.places.items → IsSpared now.client.talk.stage }
 {}
 
-/// What was pushed of each place is what the steps append to it, in their order.
+/// What was pushed of each station is what the steps append to it, in their order.
 #[tactic(auto, using(crate::proofs::Pushed::pushes))]
 pub fn pushes_what_is_appended()
     ensures pushed { (setup : Setup) (steps : List Step) (now : WorldState) → AllHappen (opening setup) steps now
@@ -82,8 +82,8 @@ pub fn one_world()
         → AllHappen (opening setup) steps b → IsSchedule setup steps → AreAskable setup.places.items → a ≡ b }
 {}
 
-/// After any steps of a schedule, while a client takes from its link, and where something is held of a place, the first
-/// packet of it that is on its way is that of the record after the last one held.
+/// After any steps of a schedule, while a client takes from its link, and where something is held of a station, the
+/// first packet of it that is on its way is that of the record after the last one held.
 #[tactic(auto, using(crate::proofs::Going::goes_on_after))]
 pub fn goes_on_after_the_last()
     ensures next { (setup : Setup) (steps : List Step) (now : WorldState) (run : AllHappen (opening setup) steps now)
@@ -101,7 +101,7 @@ pub fn is_the_counted_world()
         → IsCounted setup (counted_after setup (counted_opening setup) steps) now }
 {}
 
-/// Of two replies to each of so many places, and packets after them, there are whole in a prefix of their bytes,
+/// Of two replies to each of so many stations, and packets after them, there are whole in a prefix of their bytes,
 /// after the replies, as many packets as the prefix has whole 520 bytes after these. So it is where the end is after
 /// the packets, which is whole where all bytes are there.
 pub fn counts_whole_packets()
@@ -118,8 +118,9 @@ pub fn counts_whole_packets()
         ≡ replicate (2 * places) Accepted ++ (packets ++ Finished ∷ []) }
 {}
 
-/// After any steps of a schedule, while a client awaits packets, what its link was sent are two replies to each place,
-/// which have come to it, after them packets of whole records, and after the last of these the end, once or not yet.
+/// After any steps of a schedule, while a client awaits packets, what its link was sent are two replies to each
+/// station, which have come to it, after them packets of whole records, and after the last of these the end, once or
+/// not yet.
 #[tactic(auto, using(crate::proofs::CountedWorld::counted_streamed))]
 pub fn streams_after_the_replies()
     ensures streams { (setup : Setup) (steps : List Step) (now : WorldState) → AllHappen (opening setup) steps now
@@ -128,7 +129,7 @@ pub fn streams_after_the_replies()
         (counted_after setup (counted_opening setup) steps).link }
 {}
 
-/// While a client takes from a link, it holds of each place what it held when it connected, and after it the records
+/// While a client takes from a link, it holds of each station what it held when it connected, and after it the records
 /// of the packets that came whole.
 pub fn holds_whole_packets()
     ensures whole { (setup : Setup) (before after : List Step) (now : WorldState)

@@ -31,7 +31,7 @@ pub enum RelayFault {
 /// Packs a series, carries out a schedule in which each Append pushes the next packed record, or nothing where none is
 /// left, and puts the records that the client holds at its end together: `None` where it holds none.
 ///
-/// The records have 512 bytes. The schedule has one place, that of the series' channel, and fewer than 2^24 steps.
+/// The records have 512 bytes. The schedule has one station, that of the series' channel, and fewer than 2^24 steps.
 ///
 /// # Errors
 ///
@@ -108,7 +108,7 @@ fn put_together(
     }
     match assemble(alloc, held, &series.codes()) {
         Ok(series) => Ok(Some(series)),
-        // What is held is a stretch of a packing, which is continuous, so that only memory can lack.
+        // What is held is a slice of a packing, which is continuous, so that only memory can lack.
         Err(_) => Err(RelayFault::Memory),
     }
 }

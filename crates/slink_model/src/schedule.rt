@@ -17,7 +17,7 @@ use slink_feed::{Client, Feed, Ring};
 use slink_wire::Place;
 use std::alloc::Global;
 
-/// A place has codes for its station and network.
+/// A station has a station code and a network code.
 fn has_codes(place: &Place)
     ensures { IsField 5 place.now.station × IsField 2 place.now.network }
 {
@@ -26,7 +26,7 @@ fn has_codes(place: &Place)
     let _network = place.network();
 }
 
-/// Each place has them.
+/// Each station has them.
 fn have_codes(setup: &Setup)
     ensures { HaveCodes setup.now.places.items }
 {
@@ -35,7 +35,7 @@ fn have_codes(setup: &Setup)
     }
 }
 
-/// The empty rings of the places.
+/// The empty rings of the stations.
 fn feed_of(alloc: Global, setup: &Setup) -> Result<Feed, Memory>
     requires capacity { IsCapacity setup.now.capacity }
     requires first { setup.now.first < 2 ^ 24 }
@@ -53,7 +53,7 @@ fn feed_of(alloc: Global, setup: &Setup) -> Result<Feed, Memory>
     Ok(feed)
 }
 
-/// An empty list for each place.
+/// An empty list for each station.
 fn lists(alloc: Global, setup: &Setup) -> Result<Vec<Vec<[u8; 512]>>, Memory>
     ensures { IfOk result (λ v. lists_of v ≡ map (λ p. []) setup.now.places.items) }
 {
@@ -64,7 +64,7 @@ fn lists(alloc: Global, setup: &Setup) -> Result<Vec<Vec<[u8; 512]>>, Memory>
     Ok(lists)
 }
 
-/// No number for each place.
+/// No number for each station.
 fn numbers(alloc: Global, setup: &Setup) -> Result<Vec<Option<u64>>, Memory>
     ensures { IfOk result (λ v. v.items ≡ map (λ p. None) setup.now.places.items) }
 {
@@ -97,9 +97,9 @@ fn open(alloc: Global, setup: &Setup) -> Result<World, Memory>
 
 /// Carries out a schedule: pushes, deliveries, cuts and reconnections in any order.
 ///
-/// The places are different. The capacity is from 1 to 1,000,000 records, the first number and those that the client
-/// wants first are below 2^24. A step names one of the places, and a record that is pushed carries its place's station
-/// and network.
+/// The stations are different. The capacity is from 1 to 1,000,000 records, the first number and those that the client
+/// wants first are below 2^24. A step names one of the stations, and a record that is pushed is of the
+/// station that it is pushed to.
 ///
 /// # Errors
 ///
@@ -118,7 +118,7 @@ pub fn run_schedule(alloc: Global, setup: &Setup, steps: &[Step]) -> Result<Worl
     // taken.
     ensures counted { IfOk result (λ w. 0 < length setup.now.places.items
         → IsCounted setup.now (counted_after setup.now (counted_opening setup.now) steps.now) (seen w)) }
-    // Of each place one slice of its records is held, in order and each once, where at no moment 2^24 of them or more
+    // Of each station one slice of its records is held, in order and each once, where at no moment 2^24 of them or more
     // are lacking.
     ensures slices { IfOk result (λ w. (run : AllHappen (opening setup.now) steps.now (seen w))
         → LackFew setup.now.first (opening setup.now) steps.now (seen w) run
@@ -130,17 +130,18 @@ pub fn run_schedule(alloc: Global, setup: &Setup, steps: &[Step]) -> Result<Worl
     // other.
     ensures resumes { IfOk result (λ w. (run : AllHappen (opening setup.now) steps.now (seen w))
         → LackFew setup.now.first (opening setup.now) steps.now (seen w) run → Resumes (seen w)) }
-    // While a client takes from its link, what is on its way of a place is then a stretch of its records, up to the
+    // While a client takes from its link, what is on its way of a station is then a slice of its records, up to the
     // position of its grant.
     ensures carried { IfOk result (λ w. (run : AllHappen (opening setup.now) steps.now (seen w))
         → LackFew setup.now.first (opening setup.now) steps.now (seen w) run → (l : LinkState) → (seen w).link ≡ Some l
         → IsCarried setup.now.places.items setup.now.first (seen w) l) }
-    // Bytes that come to the server next answer a client that awaits the grant of a place by the number that it wants.
+    // Bytes that come to the server next answer a client that awaits the grant of a station by the number that it
+    // wants.
     ensures answers { IfOk result (λ w. (run : AllHappen (opening setup.now) steps.now (seen w))
         → LackFew setup.now.first (opening setup.now) steps.now (seen w) run → 0 < length setup.now.places.items
         → (n : ℕ) (next : WorldState) (l m : LinkState) → Happens (seen w) (Step.ToServer n) next
         → (seen w).link ≡ Some l → next.link ≡ Some m → AreAnswered (seen w) l m) }
-    // The first packet of a place on its way is that of the record after the last one held.
+    // The first packet of a station on its way is that of the record after the last one held.
     ensures goes_on { IfOk result (λ w. (run : AllHappen (opening setup.now) steps.now (seen w))
         → LackFew setup.now.first (opening setup.now) steps.now (seen w) run → 0 < length setup.now.places.items
         → (l : LinkState) → (seen w).link ≡ Some l → IsLinked (seen w).client.talk.stage

@@ -16,20 +16,20 @@ pub struct Memory;
 /// What a schedule begins with.
 #[derive(Drop)]
 pub struct Setup {
-    /// Up to sixteen places, each with the number below 2^24 that the client wants first of it, or none.
+    /// Up to sixteen stations, each with the number below 2^24 that the client wants first of it, or none.
     pub places: Vec<(Place, Option<u32>)>,
     /// The most records that each ring keeps.
     pub capacity: usize,
-    /// The number of the first record of each place.
+    /// The number of the first record of each station.
     pub first: u32,
     /// Which records the client asks for.
     pub mode: Mode,
 }
 
-/// A step of a schedule. The places are named by their indices.
+/// A step of a schedule. The stations are named by their indices.
 #[derive(Clone, Copy)]
 pub enum Step {
-    /// A record of this place is pushed.
+    /// A record of this station is pushed.
     Append(usize, [u8; 512]),
     /// The client connects: a link that stands is lost, with all bytes on their way.
     Connect,
@@ -37,7 +37,7 @@ pub enum Step {
     ToServer(usize),
     /// So many bytes, or all where there are fewer, come to the client.
     ToClient(usize),
-    /// The session is called for a packet of this place.
+    /// The session is called for a packet of this station.
     Send(usize),
     /// The link is lost, with all bytes on their way.
     Cut,
@@ -52,7 +52,7 @@ pub struct Link {
     pub to_server: Vec<u8>,
     /// The bytes on their way to the client.
     pub to_client: Vec<u8>,
-    /// The number of the first packet that the session sent of each place.
+    /// The number of the first packet that the session sent of each station.
     pub(crate) first_sent: [Option<u64>; 16],
 }
 
@@ -61,20 +61,20 @@ pub struct Link {
 pub struct World {
     /// The rings of the server.
     pub feed: Feed,
-    /// All records that were pushed of each place.
+    /// All records that were pushed of each station.
     pub pushed: Vec<Vec<[u8; 512]>>,
     /// The client, which outlives its links.
     pub client: Client,
-    /// The records that the client accepted of each place.
+    /// The records that the client accepted of each station.
     pub held: Vec<Vec<[u8; 512]>>,
-    /// The number of the first record held of each place, where one is held.
+    /// The number of the first record held of each station, where one is held.
     pub start: Vec<Option<u64>>,
     /// The link that stands, if there is one.
     pub link: Option<Link>,
 }
 
 impl Setup {
-    /// Whether a step names one of the places, and a record that it pushes carries its place.
+    /// Whether a step names one of the stations, and a record that it pushes is of it.
     pub fn has_step(&self, step: &Step) -> bool
         ensures { IsTrue result ↔ IsOf self.now.places.items step.now }
     {

@@ -159,7 +159,7 @@ struct Links<'a> {
 }
 
 impl<'a> Links<'a> {
-    /// A link for each of these bytes that it tells, with room for so many; where there are none, the call fails.
+    /// A link for each of these bytes that it gives, with room for so many; where there are none, the call fails.
     fn new(rt: &impl Abort, alloc: Global, links: &[Option<(&'a [u8], usize)>]) -> Links<'a>
         ensures { AreOut 0 result.tally.calls result.tally.failures result.given_back.all }
     {
@@ -306,7 +306,7 @@ fn two_packets(rt: &impl Abort, alloc: Global) -> Vec<u8> {
     packets(rt, alloc, 1..3)
 }
 
-/// All that a link or an input is still to tell.
+/// All that a link or an input is still to give.
 pub(crate) fn rest_of<R: Read>(rt: &impl Abort, alloc: Global, reader: &mut R) -> Vec<u8> {
     let mut rest = Vec::new(alloc);
     reader.read_to_end(&mut rest).expect(rt, "bytes");

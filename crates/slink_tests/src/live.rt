@@ -197,7 +197,7 @@ impl Ready for Script {
     }
 }
 
-/// A record of 512 bytes of the station STA in the network XX, with a byte that tells its number.
+/// A record of 512 bytes of the station STA in the network XX, with a byte that is its number.
 fn record(number: u8) -> [u8; 512] {
     let mut bytes = [0; 512];
     bytes[..20].copy_from_slice(b"000001D STA  00BHZXX");
@@ -236,7 +236,7 @@ fn owed(rt: &impl Abort, alloc: Global, count: u8) -> Vec<u8> {
     bytes
 }
 
-/// Three clients of one place.
+/// Three clients of one station.
 fn three_peers(rt: &impl Abort, alloc: Global) -> Vec<Peer> {
     let mut peers = Vec::new(alloc);
     for peer in 0..3 {

@@ -10,7 +10,7 @@ use slink_wire::{Packet, Place, Reply};
 use std::alloc::Global;
 use std::process::Abort;
 
-/// A place of the network XX.
+/// A station of the network XX.
 pub(crate) fn place(rt: &impl Abort, sta: &[u8]) -> Place {
     Place::new(sta, b"XX").expect(rt, "a place")
 }
@@ -49,7 +49,7 @@ fn add(rt: &impl Abort, feed: &mut Feed, ring: Ring) {
     assert!(rt; feed.add(ring).is_ok());
 }
 
-/// The place, the station and the mark of a record.
+/// The index of a station in the feed, its code, and the mark of a record.
 type Pushed = (usize, &'static [u8; 5], u8);
 
 /// Pushes records to the rings of a feed.
@@ -59,7 +59,7 @@ fn push_all(rt: &impl Abort, feed: &mut Feed, records: &[Pushed]) {
     }
 }
 
-/// Adds a ring of the place STA of XX, and pushes records with the marks from 0 on.
+/// Adds a ring of the station STA of XX, and pushes records with the marks from 0 on.
 fn fill(rt: &impl Abort, feed: &mut Feed, ring: Ring, count: u8) {
     add(rt, feed, ring);
     for mark in 0..count {
@@ -67,7 +67,7 @@ fn fill(rt: &impl Abort, feed: &mut Feed, ring: Ring, count: u8) {
     }
 }
 
-/// A feed of one ring of the place STA of XX, of so many records, to which so many were pushed.
+/// A feed of one ring of the station STA of XX, of so many records, to which so many were pushed.
 pub(crate) fn pushed(
     rt: &impl Abort,
     alloc: Global,
@@ -95,7 +95,7 @@ fn answers(session: &mut Session, feed: &Feed, line: &[u8], reply: &Reply) -> bo
     used == line.len() && found == *reply
 }
 
-/// Whether a session gives this of a place.
+/// Whether a session gives this of a station.
 fn gives(session: &mut Session, feed: &Feed, k: usize, wanted: &Sent) -> bool
     requires { Fits feed.now session.old.state }
     ensures { Fits feed.now session.new.state }
@@ -103,7 +103,7 @@ fn gives(session: &mut Session, feed: &Feed, k: usize, wanted: &Sent) -> bool
     k < feed.len() && session.packet(feed, k) == *wanted
 }
 
-/// A place, its station, and the number and the mark of a record.
+/// The index of a station in the feed, its code, and the number and the mark of a record.
 type Row = (usize, &'static [u8; 5], u8, u8);
 
 /// Whether a session sends the packet of a record.
@@ -155,7 +155,7 @@ fn assert_sends(rt: &impl Abort, session: &mut Session, feed: &Feed, rows: &[Row
 }
 
 /// Asserts that a new session of a feed takes these lines with their replies, sends these packets, and is done then
-/// with a place.
+/// with a station.
 fn assert_served(
     rt: &impl Abort,
     feed: &Feed,
@@ -225,17 +225,17 @@ fn ends_where_a_record_is_lost(rt: HostRuntime) {
     assert!(rt; is_overrun(&mut session, &feed));
 }
 
-/// The records of two places.
+/// The records of two stations.
 static PUSHED: [Pushed; 3] = [(0, b"STA  ", 0), (0, b"STA  ", 1), (1, b"STB  ", 2)];
 
-/// Adds the places STA and STB of XX, and pushes two records and one.
+/// Adds the stations STA and STB of XX, and pushes two records and one.
 fn fill_two(rt: &impl Abort, alloc: Global, feed: &mut Feed) {
     add(rt, feed, ring(rt, alloc, b"STA", 4, 0));
     add(rt, feed, ring(rt, alloc, b"STB", 4, 0));
     push_all(rt, feed, &PUSHED)
 }
 
-/// What a session of two places is sent, and its reply.
+/// What a session of two stations is sent, and its reply.
 static TWO_PLACES: [(&[u8], Reply); 6] = [
     (b"STATION STA\r", Reply::Ok),
     (b"\nFETCH\r", Reply::Ok),
@@ -245,7 +245,7 @@ static TWO_PLACES: [(&[u8], Reply); 6] = [
     (b"\nEND\r", Reply::Nothing),
 ];
 
-/// What it sends: a packet of one place after another.
+/// What it sends: a packet of one station after another.
 static SENT: [Row; 3] = [
     (0, b"STA  ", 0, 0),
     (1, b"STB  ", 0, 2),

@@ -1,13 +1,13 @@
-//! A device over TCP against a model of what it may tell, event by event: many short schedules of what its clients, its
-//! server and the clock do, chosen at random.
+//! A device over TCP against a model of what it may report, event by event: many short schedules of what its clients,
+//! its server and the clock do, chosen at random.
 //!
 //! Of each event it is judged whether it may come: a link is readable, writable or gone, and somebody dials, only where
 //! something was done that makes it so, and where that is wanted. What has to come does, after a bounded number of
 //! others. The bytes of each link are those that its client said, each once and in order; and its client receives those
 //! that were accepted, also where the link is closed then.
 //!
-//! Where the input is a pipe and nothing is told of what is due, the device waits for ever, and the test runs out of
-//! time.
+//! Where the input is a pipe and nothing is reported of what is due, the device waits for ever, and the test runs out
+//! of time.
 
 mod feed;
 mod host;

@@ -45,7 +45,7 @@ fn writes_and_reads_packets(rt: HostRuntime) {
     }
 }
 
-/// Whether a text spells this station and this network, or no place.
+/// Whether a text spells this station and this network, or no station.
 fn spells(text: &[u8], wanted: Option<(&[u8], &[u8])>) -> bool {
     match (Place::read(text), wanted) {
         (Ok(place), Some((sta, net))) => place.station() == sta && place.network() == net,
@@ -53,7 +53,7 @@ fn spells(text: &[u8], wanted: Option<(&[u8], &[u8])>) -> bool {
     }
 }
 
-/// A text, and the station and the network that it spells, if it is a place.
+/// A text, and the station and the network that it spells, if it is a station.
 static SPELLED: [(&[u8], Option<(&[u8], &[u8])>); 8] = [
     (b"XX_STA", Some((b"STA", b"XX"))),
     (b"x_a1B2c", Some((b"a1B2c", b"x"))),

@@ -1,4 +1,4 @@
--- Whether a record bears a place, by the test of its two fields.
+-- Whether a record has the codes of a station, by the test of its two fields.
 use Rattle.std.proofs.Common.{◌≡◌, ap, ◌∙◌, sym, refl, Bool, true, false, ◌&&◌, bytes_eq, List, ℕ}
 use Rattle.std.specs.Prelude.{slice_range}
 use Rattle.std.proofs.lemmas.Slice.Eq.{bytes_eq-Decides}
@@ -29,6 +29,6 @@ bears_fails p r other = by_test (bears_test p r) refl
     by_test true h = absurd (other (passes_bears p r h))
     by_test false h = h
 
--- a record bears one place
+-- a record has the codes of one station
 pub one_place : (r : List ℕ) (p q : Fields) → Bears r p → Bears r q → p ≡ q
 one_place r p q a b = λ i. record { station = (sym a.0 ∙ b.0) i; network = (sym a.1 ∙ b.1) i }

@@ -47,7 +47,7 @@ pub field_of : (width : ℕ) (field code : List ℕ) → code ≡ code_in field 
     → IsField width field
 field_of width field code is p q = (subst (IsCode width) is p, ap (filled width) (sym is) ∙ q)
 
--- a text spells the place of its parts around the first underscore, or none
+-- a text spells the station of its parts around the first underscore, or none
 spelled_parts : (text sta net : List ℕ) → text ≡ net ++ 95 ∷ sta → Lacks 95 net → (p : Fields) → SpellsPlace text p
     → IsCode 5 sta × IsCode 2 net × (p ≡ fields_of sta net)
 spelled_parts text sta net e lacks p h =
@@ -59,7 +59,7 @@ spelled_parts text sta net e lacks p h =
           ∙ (ap (λ s. fields_of s h.1) same.1 ∙ ap (fields_of sta) same.0),
     )
 
--- what is answered for those parts is every place that is spelled
+-- what is answered for those parts is every station that is spelled
 pub all_spelled : (r : Result Fields BadPlace) (text sta net : List ℕ) → text ≡ net ++ 95 ∷ sta → Lacks 95 net
     → ((IsCode 5 sta × IsCode 2 net) → IsOk r) → IfOk r (λ q. q ≡ fields_of sta net)
     → (p : Fields) → SpellsPlace text p → IsOkAnd r (λ q. q ≡ p)

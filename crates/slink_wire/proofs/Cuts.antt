@@ -94,7 +94,7 @@ parts_at bytes byte n at lt = (
   subst (λ k. Lacks byte (take k bytes)) (sym at) (before_fails (λ b. b == byte) bytes),
 )
 
--- what stands before and behind the first such byte is one pair
+-- what stands before and after the first such byte is one pair
 pub one_cut : (byte : ℕ) (xs ys xs' ys' : List ℕ) → Lacks byte xs → Lacks byte xs'
     → xs ++ byte ∷ ys ≡ xs' ++ byte ∷ ys' → (xs ≡ xs') × (ys ≡ ys')
 one_cut byte xs ys xs' ys' h h' e =

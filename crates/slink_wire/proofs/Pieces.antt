@@ -2,7 +2,7 @@
 use Rattle.std.proofs.Common.{◌≡◌, ℕ, refl, ap, ◌∙◌, Bool, true, false, cond, List, [], ◌∷◌, ◌++◌}
 use Rattle.std.specs.List.{slice_split, onto_first}
 
--- put behind the last piece
+-- put after the last piece
 abbrev pub onto_last : ℕ → List (List ℕ) → List (List ℕ)
 onto_last x [] = (x ∷ []) ∷ []
 onto_last x (p ∷ []) = (p ++ x ∷ []) ∷ []

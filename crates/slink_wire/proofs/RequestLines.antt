@@ -43,7 +43,7 @@ station_line place p q =
       no_lf = refl;
     }
 
--- a keyword, with a number behind it
+-- a keyword, with a number after it
 numbered_line : (word : List ℕ) (number : Option ℕ) → 1 ≤ length word → length word ≤ 8 → Lacks 13 word
     → stripped (word ++ number_bytes number) ≡ word ++ number_bytes number → IsLine (word ++ number_bytes number)
 numbered_line word number some short lacks no_lf =

@@ -74,7 +74,7 @@ byte_before : (b : ℕ) (t : Bool) (first : List (List ℕ)) (s : Spelled)
 byte_before b true first s = refl
 byte_before b false first s = before_continued b first s.lines s.begun s.is_too_long
 
--- a byte more, behind what was stripped
+-- a byte more, after what was stripped
 pub stripped_more : (b : ℕ) (piece : List ℕ) → stripped (stripped piece ++ b ∷ []) ≡ stripped (piece ++ b ∷ [])
 stripped_more b [] = refl
 stripped_more b (x ∷ xs) = elim (eqb_tells x 10) [

@@ -12,7 +12,7 @@ use Rattle.slink_wire.specs.Taking.{Yields}
 use Rattle.slink_wire.proofs.Spelled.{IsStripped, begun_fits, lines_byte, lines_cr, stripped_on, with_byte, with_cr}
 use Rattle.slink_wire.proofs.Spelled.{continued, checked}
 
--- a step leads from a stream to one: what is held is its, and what it tells
+-- a step leads from a stream to one: what is held is its, and what it yields
 abbrev Leads : List ℕ → List ℕ → Held × What → Type 0
 Leads before after x = IsHeld x.0 after × Yields x.1 before after
 
@@ -184,7 +184,7 @@ tells_from More before middle after p q = (q.0 ∙ p.0, q.1)
 tells_from (Line line) before middle after p q = (q.0 ∙ ap (λ ls. ls ++ line.items ∷ []) p.0, q.1)
 tells_from TooLong before middle after p q = (q.0 ∙ p.0, q.1)
 
--- the next byte, and what it tells
+-- the next byte, and what it yields
 pub taken_byte : (old now new : Held) (piece : List ℕ) (i : ℕ) (what : What) → i < length piece
     → step now.begun (get_or piece i 0) ≡ (new, what) → TakenTo old now piece i
     → (stream : List ℕ) → IsHeld old stream → Leads stream (stream ++ take (i + 1) piece) (new, what)

@@ -72,7 +72,7 @@ pub no_word : (line : List ℕ) (start : ℕ) → start ≡ position_or_len (λ 
 no_word line start at end = sym (words_spaces line)
     ∙ (ap words (drop_all (position_or_len (λ b. not (b == 32)) line) line (omega (arith, at, end))) ∙ words_none)
 
--- no space begins what stands behind the spaces
+-- no space begins what stands after the spaces
 begins : (line : List ℕ) (start : ℕ) → start ≡ position_or_len (λ b. not (b == 32)) line → start < length line
     → 1 ≤ position_or_len (λ b. b == 32) (drop start line)
 begins line start at lt =

@@ -66,7 +66,7 @@ line_spelled line (p ∷ ps) has is =
     ∙ (ap (λ t. if t then too_long else with_piece line (p ∷ ps) (spelled_by (p ∷ ps)))
     (not_long (length line) is.short) ∙ line_first line (spelled_by (p ∷ ps)) is.some)
 
--- a line, and what is behind its CR
+-- a line, and what is after its CR
 pub lines_then : (line rest : List ℕ) → IsLine line → lines_of (line ++ 13 ∷ rest) ≡ beyond line (lines_of rest)
 unfolding lines_of
 lines_then line rest is = ap spelled_by (split_then line rest is.no_cr)
@@ -121,7 +121,7 @@ prefix_reported line t z lines is e =
     none_reported t lines (part_quiet t (lacks_prefix t z (subst (Lacks 13) e is.no_cr))
     (let long : length line ≡ length (t ++ z) = ap length e in omega (arith, long, length-append t z, is.short)))
 
--- what stands behind a line's CR
+-- what stands after a line's CR
 after_reported : (z w rest : List ℕ) (lines : List (List ℕ)) → z ++ w ≡ 10 ∷ rest
     → ((u : List ℕ) → u ++ w ≡ rest → SpellsPrefix u lines) → SpellsPrefix z lines
 after_reported [] w rest lines e more = none_reported [] lines none_quiet

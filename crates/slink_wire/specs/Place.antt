@@ -39,15 +39,15 @@ abbrev pub SpellsPlace : List ℕ → Fields → Type 0
 SpellsPlace text fields = (sta net : List ℕ) × IsCode 5 sta × IsCode 2 net × (text ≡ net ++ 95 ∷ sta)
     × (fields ≡ fields_of sta net)
 
--- the text that spells a place
+-- the text that spells a station
 abbrev pub label_of : Fields → List ℕ
 label_of fields = code_in fields.network ++ 95 ∷ code_in fields.station
 
--- the place has this station, in this network or in any
+-- the station has this station, in this network or in any
 abbrev pub matches : Fields → List ℕ → Option (List ℕ) → Bool
 matches place sta None = bytes_eq place.station sta
 matches place sta (Some net) = bytes_eq place.station sta && bytes_eq place.network net
 
--- The numbers of the records that are wanted first of places have 24 bits, where they are given.
+-- The numbers of the records that are wanted first of stations have 24 bits, where they are given.
 abbrev pub AreNumbers : List (Fields × Option ℕ) → Type 0
 AreNumbers places = All (λ p. IfSome p.1 (λ n. n < 2 ^ 24)) places

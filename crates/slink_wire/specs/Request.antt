@@ -33,7 +33,7 @@ IsSpelled (Data number) = IsShort number
 IsSpelled (Fetch number) = IsShort number
 IsSpelled End = Unit {0}
 
--- its place has the fields of codes
+-- the fields of its station are those of codes
 abbrev pub HasPlace : Request → Type 0
 HasPlace (Station place) = IsField 5 place.station × IsField 2 place.network
 HasPlace (Data number) = Unit {0}

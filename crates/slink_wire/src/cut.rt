@@ -2,7 +2,7 @@
 ghost use Rattle.std.specs.Prelude.{◌≡◌, ◌==◌, ◌∷◌, ◌++◌, ◌≤◌, MatchOption, IsTrue, length, not, position};
 ghost use Rattle.std.specs.List.{list_all, position_or_len};
 
-/// The place of the first such byte.
+/// The position of the first such byte.
 fn place_of(bytes: &[u8], byte: u8) -> Option<usize>
     ensures { result ≡ position (λ b. b == byte) bytes.now }
 {
@@ -18,7 +18,7 @@ pub(crate) fn first(bytes: &[u8], byte: u8) -> usize
     place_of(bytes, byte).unwrap_or(bytes.len())
 }
 
-/// The place of the first other byte.
+/// The position of the first other byte.
 fn place_of_other(bytes: &[u8], byte: u8) -> Option<usize>
     ensures { result ≡ position (λ b. not (b == byte)) bytes.now }
 {

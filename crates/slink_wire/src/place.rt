@@ -86,7 +86,7 @@ fn put(label: &mut ArrayVec<u8, 8>, bytes: &[u8])
 }
 
 impl Place {
-    /// The place of a station code, 1 to 5 ASCII letters or digits, and a network code, 1 or 2 of them.
+    /// The station of this code, 1 to 5 ASCII letters or digits, and a network code, 1 or 2 of them.
     ///
     /// # Errors
     ///
@@ -104,14 +104,14 @@ impl Place {
         })
     }
 
-    /// The place that a text spells: the network's code, an underscore, and the station's code.
+    /// The station that a text spells: the network's code, an underscore, and the station's code.
     ///
     /// # Errors
     ///
-    /// `BadPlace` where the text spells no place.
+    /// `BadPlace` where the text spells no station.
     pub fn read(text: &[u8]) -> Result<Place, BadPlace>
         ensures place { IfOk result (SpellsPlace text.now) }
-        // All that is spelled is answered, so at most one place is.
+        // All that is spelled is answered, so at most one station is.
         ensures only { (p : Fields) → SpellsPlace text.now p → IsOkAnd result (λ q. q ≡ p) }
         ensures refused { OnErr result ((p : Fields) → ¬ (SpellsPlace text.now p)) }
     {
@@ -142,7 +142,7 @@ impl Place {
     /// The text that spells it: the network's code, an underscore, and the station's code.
     pub fn label(&self) -> ArrayVec<u8, 8>
         ensures value { result.items ≡ label_of self.now }
-        // Who reads it takes it for this place.
+        // Who reads it takes it for this station.
         ensures spelled { SpellsPlace result.items self.now }
     {
         let mut label = ArrayVec::new();
@@ -152,7 +152,7 @@ impl Place {
         label
     }
 
-    /// Whether this is a place that a command names: its station, in its network or in any.
+    /// Whether this is a station that a command names: its station, in its network or in any.
     pub fn matches(&self, sta: &[u8; 5], net: Option<[u8; 2]>) -> bool
         ensures { result ≡ matches self.now sta.now net }
     {

@@ -36,7 +36,7 @@ waits_after sents.Done waits = 0
 waits_after sents.Overrun waits = 0
 waits_after sents.Closed waits = 0
 
--- After so many bytes, what a session gave of a place was written; so often, one after another, there was nothing.
+-- After so many bytes, what a session gave of a station was written; so often, one after another, there was nothing.
 pub record HasGiven (feed : List Window) (k : ℕ) (old new : Attending) (before after waits waited : ℕ) : Type 0 where
   pub answer : Sent
   pub is : sent feed old.session.state k ≡ (new.session.state, answer)

@@ -27,7 +27,7 @@ HasTaken k None new log last = (new ≡ None) × (last ≡ log)
 HasTaken k (Some l) new log last = (n : ℕ) × (new ≡ Some (link_state l.session l.ring (drop n l.pending)))
     × (last ≡ log ++ Emitted k (take n l.pending) ∷ [])
 
--- A session was called for a place, and what it gave goes on its way: a packet, or what closes it.
+-- A session was called for a station, and what it gave goes on its way: a packet, or what closes it.
 pub record Gives (feed : List Window) (k : ℕ) (old new : LinkState) : Type 0 where
   pub answer : Sent
   pub sends : ¬ (sent feed old.session.state k ≡ (old.session.state, Wait))
@@ -37,7 +37,7 @@ pub record Gives (feed : List Window) (k : ℕ) (old new : LinkState) : Type 0 w
   pub pending : new.pending ≡ old.pending ++ sent_bytes answer
   pub grows : (new.session.state.phase ≡ Closed) ⊎ (length (sent_bytes answer) ≡ 520)
 
--- Nothing more is due to a link, and the next record of none of its places has left its ring.
+-- Nothing more is due to a link, and the next record of none of its stations has left its ring.
 pub record IsRested (feed : List Window) (l : LinkState) : Type 0 where
   pub rests : IsWaiting feed l.session.state ⊎ (l.session.state.phase ≡ Closed)
   pub stays : ¬ (IsLost feed l.session.state)

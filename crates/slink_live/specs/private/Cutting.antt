@@ -13,7 +13,7 @@ pub data LooksOn (old new : IntakeState) : Type 0 where
   pushes : IsOf (places_of old.feed) old.kept
       → new ≡ record { feed = pushed old.feed old.kept; kept = []; records = old.records + 1 } → LooksOn old new
 
--- Whatever comes, no record of these places begins with what is kept, and this is why.
+-- Whatever comes, no record of these stations begins with what is kept, and this is why.
 pub record IsRefused (places : List Fields) (n : ℕ) (kept : List ℕ) (fault : InputFault) : Type 0 where
   pub none : (more : List ℕ) → ¬ (IsOf places (take 512 (kept ++ more)))
   pub is_fault : (more : List ℕ) → IsFaultIn places n (kept ++ more) fault

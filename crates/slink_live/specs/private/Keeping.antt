@@ -42,7 +42,7 @@ pub record AnswersFault (old new : ServerState) (before after : List Happening) 
   -- An input that is read no more stays so.
   pub kept : old.has_ended ≡ true → new.has_ended ≡ true
 
--- A step that settles the link in a slot.
+-- A step that updates the link in a slot.
 pub record Updates (j : ℕ) (old new : ServerState) (before after : List Happening) : Type 0 where
   -- No link sleeps that didn't in another slot.
   pub links : (k : ℕ) → (k ≢ j → IsAwakeIn old before k) → IsAwakeIn new after k
@@ -72,7 +72,7 @@ pub record AwakensAnew (old new : ServerState) (before after : List Happening) :
   pub awake : IsAwake new after
   pub closed : (start : List Window) → IsServing start old before → Goes (IsClosedRightly start) before after
 
--- A step after which no link sleeps, where none slept before but those that are sent records of some of these places.
+-- A step after which no link sleeps, where none slept before but those that are sent records of some of these stations.
 pub record AwakensThose (places : Places) (old new : ServerState) (before after : List Happening) : Type 0 where
   pub awake : IsReported old before
       → ((k : ℕ) → LeavesOut places (get_or old.links k None) → IsAwakeIn old before k) → IsAwake new after

@@ -19,7 +19,7 @@ use std::time::{Clock, Duration};
 /// What came of a call of a stream.
 #[derive(Clone, Copy, PartialEq, Eq)]
 enum Call {
-    /// It told so many bytes.
+    /// It gave so many bytes.
     Read(usize),
     /// It accepted so many.
     Wrote(usize),
@@ -27,7 +27,7 @@ enum Call {
     Failed,
 }
 
-/// What a stream tells, in pieces of at most so many bytes, its room, and what came of its calls.
+/// What a stream gives, in pieces of at most so many bytes, its room, and what came of its calls.
 #[derive(Drop)]
 struct Wire<'a> {
     alloc: Global,
@@ -257,7 +257,7 @@ fn client(rt: &impl Abort) -> Client {
 /// So much is read at once.
 const AHEAD: usize = 1 << 15;
 
-/// All that is there is read at once, and the rest where that is told.
+/// All that is there is read at once, and the rest where that is given.
 static READ_AHEAD: [Call; 5] = [
     Call::Wrote(16),
     Call::Read(AHEAD),

@@ -83,7 +83,7 @@ fn fetch_from(
     fetched_by(alloc, &mut client, Links::new(rt, alloc, links), &how)
 }
 
-/// A fetch over links that tell so many of these bytes.
+/// A fetch over links that give so many of these bytes.
 fn fetch_over(
     rt: &impl Abort,
     alloc: Global,
@@ -116,7 +116,7 @@ fn ended(fetched: &Fetched, status: u8, records: Option<&[u8]>) -> bool {
         && Some(fetched.records.as_slice()) == records
 }
 
-/// At most so many tries; of the links that come, how many bytes each tells; the status; how many bytes of records 1
+/// At most so many tries; of the links that come, how many bytes each gives; the status; how many bytes of records 1
 /// and 2 are written; and how many links accepted the lines of the client.
 type Fetch = (u64, &'static [Option<usize>], u8, usize, usize);
 
@@ -177,7 +177,7 @@ fn are_from_1_and_2(written: &[Vec<u8>]) -> bool {
     }
 }
 
-/// Whether the fetch goes on over a second link that tells this where the first one has told that.
+/// Whether the fetch goes on over a second link that gives this where the first one has given that.
 fn goes_on(rt: &impl Abort, alloc: Global, first: &[u8], second: &[u8]) -> bool {
     let records = two_records(rt, alloc);
     let mut links = Links::new(rt, alloc, &[Some((first, ALL)), Some((second, ALL))]);
@@ -193,7 +193,7 @@ fn goes_on_after_the_last_record(rt: HostRuntime) {
     assert!(rt; goes_on(&rt, rt.alloc(), first, &second));
 }
 
-/// What the first of two links tells, or both packets; the room of the output, and the line.
+/// What the first of two links gives, or both packets; the room of the output, and the line.
 static ENDS: [(Option<&[u8]>, usize, &[u8]); 4] = [
     (Some(b"ERROR\r\n"), ALL, b"mseed: refused\n"),
     (Some(b"OK\r\nERROR\r\n"), ALL, b"mseed: refused\n"),
@@ -209,7 +209,7 @@ fn ended_at_once(fetched: &Fetched, line: &[u8]) -> bool {
         && fetched.pauses.is_empty()
 }
 
-/// What comes of so many tries over a link that tells this, or else both packets, and one that tells both.
+/// What comes of so many tries over a link that gives this, or else both packets, and one that gives both.
 fn fetched_from_two(
     rt: &impl Abort,
     alloc: Global,
@@ -232,7 +232,7 @@ fn ends_at_once_where_no_try_helps(rt: HostRuntime) {
     }
 }
 
-/// How many bytes each link tells, and the pauses in tenths of a second. After 528 bytes a record is whole.
+/// How many bytes each link gives, and the pauses in tenths of a second. After 528 bytes a record is whole.
 static PAUSES: [(&[Option<usize>], &[u8]); 5] = [
     (&[], b""),
     (&[None], b""),
@@ -264,7 +264,7 @@ fn waits_between_tries(rt: HostRuntime) {
     }
 }
 
-/// What the first link tells, or both packets; the room of the output, and the lines.
+/// What the first link gives, or both packets; the room of the output, and the lines.
 static TOLD: [(Option<&[u8]>, usize, &[u8]); 3] = [
     (
         None,
@@ -284,7 +284,7 @@ static TOLD: [(Option<&[u8]>, usize, &[u8]); 3] = [
     ),
 ];
 
-/// Whether a fetch by one try from such a link tells these lines.
+/// Whether a fetch by one try from such a link reports these lines.
 fn tells(rt: &impl Abort, alloc: Global, first: Option<&[u8]>, room: usize, lines: &[u8]) -> bool {
     let fetched = fetched_from_two(rt, alloc, 1, first, room, true);
     fetched.line.as_slice() == lines

@@ -103,7 +103,7 @@ fn all_sent(rt: &impl Abort, alloc: Global) -> Vec<u8> {
     sent
 }
 
-/// Whether one connection to a host is served whole, with nothing to tell of.
+/// Whether one connection to a host is served whole, with nothing to report.
 fn serves_one<N: Net + Clock>(rt: &impl Abort, host: &N, alloc: Global) -> bool {
     let plan = serve_plan_of(three_pushed(rt, alloc, 0), 1, 0);
     let mut errors = output(alloc, ALL);

@@ -1,4 +1,4 @@
-//! What links are sent of several places, by orders chosen at random: each byte, in its turn, and each link that is
+//! What links are sent of several stations, by orders chosen at random: each byte, in its turn, and each link that is
 //! closed. The digests are those of a server that asks the session of a link again for each packet, and of one that
 //! first asks it whether anything is due: both sent the same.
 ghost use Rattle.std.specs.Prelude.{◌≡◌, ◌≢◌, ◌≤◌, ◌^◌, [], length, true};
@@ -21,7 +21,7 @@ const EVENTS: u32 = 50_000;
 
 const LAST: u32 = 1_000;
 
-/// The stations of the places, of which the first has every other record.
+/// The stations, of which the first has every other record.
 const STATIONS: [[u8; 3]; 4] = [*b"AAA", *b"BBB", *b"CCC", *b"DDD"];
 
 /// So much is accepted at a time.
@@ -245,7 +245,7 @@ fn ring_of(rt: &impl Abort, alloc: Global, station: &[u8], capacity: usize) -> R
     Ring::new(alloc, place, capacity, 0xff_fffd).expect(rt, "a ring")
 }
 
-/// Adds a ring of a new place.
+/// Adds a ring of a new station.
 fn add(rt: &impl Abort, feed: &mut Feed, ring: Ring)
     requires all { AllByRecursion (λ w. w.next ≤ 2 ^ 62) feed.old }
     requires few { ring.next ≤ 2 ^ 62 }

@@ -27,7 +27,7 @@ fn ends(client: &mut Client, bytes: &[u8], wanted: &Event) -> bool {
     takes(client, bytes, bytes.len(), wanted) && takes(client, bytes, 0, wanted)
 }
 
-/// Whether a new link begins with the line of its place.
+/// Whether a new link begins with the line of its station.
 fn begins_anew(client: &mut Client) -> bool {
     client.connect().as_slice() == b"STATION STA XX\r\n".as_slice()
 }
@@ -97,7 +97,7 @@ fn says(client: &mut Client, line: &[u8]) -> bool {
     used == 4 && written(&event) == line
 }
 
-/// A client of two places, over its first link.
+/// A client of two stations, over its first link.
 fn of_two_places(rt: &impl Abort) -> Client {
     let places = [
         (place(rt, b"STA"), Some(0xFF_FFFF)),
@@ -108,7 +108,7 @@ fn of_two_places(rt: &impl Abort) -> Client {
     client
 }
 
-/// Whether a client of two places requests both.
+/// Whether a client of two stations requests both.
 fn requests_both(client: &mut Client) -> bool {
     says(client, b"DATA FFFFFF\r\n")
         && says(client, b"STATION STB XX\r\n")

@@ -23,7 +23,7 @@ fn first(lists: &[Vec<[u8; 512]>]) -> &[[u8; 512]] {
     }
 }
 
-/// The world of these steps: the place STA of XX, of which the client wants record 0 first, in a ring of two records.
+/// The world of these steps: the station STA of XX, of which the client wants record 0 first, in a ring of two records.
 fn world_of(rt: &impl Abort, alloc: Global, steps: &[Step]) -> World {
     let places = vec![in alloc; (place(rt, b"STA"), Some(0))].expect(rt, "memory");
     let setup = Setup {
@@ -36,7 +36,7 @@ fn world_of(rt: &impl Abort, alloc: Global, steps: &[Step]) -> World {
     run_schedule(alloc, &setup, steps).expect(rt, "memory")
 }
 
-/// Three records of the place.
+/// Three records of the station.
 fn records() -> [[u8; 512]; 3] {
     [
         record(b"STA  ", 0),

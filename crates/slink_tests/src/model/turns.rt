@@ -37,7 +37,7 @@ impl Write for Pipe<'_> {
     }
 }
 
-/// A link that tells these bytes, and has room for so many.
+/// A link that gives these bytes, and has room for so many.
 fn link_of(reported: &[u8], room: usize) -> Counted<Pipe<'_>> {
     Counted::new(Pipe { reported, room })
 }
@@ -70,7 +70,7 @@ fn two_packets() -> [u8; 1040] {
     reported
 }
 
-/// Whether the turns of a client end so that is told both packets, and has an output with so much room.
+/// Whether the turns of a client end so that is given both packets, and has an output with so much room.
 fn fetches(client: &mut Client, room: usize, turns: &[Result<Turn, LinkFault>]) -> bool {
     let reported = two_packets();
     let mut link = link_of(&reported, 0);

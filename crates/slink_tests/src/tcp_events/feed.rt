@@ -1,4 +1,4 @@
-//! What a device may tell of its input.
+//! What a device may report of its input.
 
 use super::host::Input;
 use super::pattern::Pattern;
@@ -81,7 +81,7 @@ impl Feed {
         self.is_left = true;
     }
 
-    /// Whether there is always something to tell of it, so that no wait lasts.
+    /// Whether there is always something to report of it, so that no wait lasts.
     pub(crate) fn is_always_ready(&self) -> bool {
         self.is_file && !self.is_left && !self.has_ended
     }
@@ -92,12 +92,12 @@ impl Feed {
         !self.is_left && !self.has_ended && (self.is_file || is_pipe_ready)
     }
 
-    /// Whether its end was met, and wasn't told.
+    /// Whether its end was met, and wasn't reported.
     fn is_at_end(&self) -> bool {
         !self.is_left && self.has_ended && !self.is_told
     }
 
-    /// Whether the device may tell this of it.
+    /// Whether the device may report this of it.
     pub(crate) fn may_be(&self, event: Event) -> bool {
         match event {
             Event::Input => self.is_ready(),
@@ -107,12 +107,12 @@ impl Feed {
         }
     }
 
-    /// Whether the device has to tell something of it. A file is always due, until it has ended, and not waited for.
+    /// Whether the device has to report something of it. A file is always due, until it has ended, and not waited for.
     pub(crate) fn is_due(&self) -> bool {
         !self.is_file && self.is_ready() || self.is_at_end()
     }
 
-    /// Its end was told.
+    /// Its end was reported.
     pub(crate) fn report_end(&mut self) {
         self.is_told = true;
     }

@@ -11,7 +11,7 @@ const LONGEST: usize = 1 << 18;
 /// Of many bytes, so many at each end are looked at.
 const LOOKED_AT: usize = 600;
 
-/// The bytes that go over links: each has its own place among them, in each direction.
+/// The bytes that go over links: each has its own position among them, in each direction.
 #[derive(Drop)]
 pub(crate) struct Pattern {
     bytes: Vec<u8>,

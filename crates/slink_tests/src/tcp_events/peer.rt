@@ -1,11 +1,11 @@
-//! A client, and what a device may tell of its link.
+//! A client, and what a device may report of its link.
 
 use super::pattern::Pattern;
 use slink_live::Interest;
 use std::io::{ErrorKind, Read, Write};
 use std::net::{OpenStream, Shutdown};
 
-/// What a device is told of a link before anything else.
+/// What is reported to a device of a link before anything else.
 const FIRST_INTEREST: Interest = Interest {
     reads: true,
     writes: false,
@@ -61,7 +61,7 @@ pub(crate) struct Peer<S: Read + Write + OpenStream + Drop> {
     // Whether all that was accepted has to come through, once the link is closed.
     pub(crate) is_sure: bool,
     pub(crate) closed: u64,
-    // What the device was told last.
+    // What was reported to the device last.
     pub(crate) interest: Interest,
     // Whether it may have bytes, or be at its end: a read brought some the last time, or the client did something
     // since.
@@ -250,7 +250,7 @@ impl<S: Read + Write + OpenStream + Drop> Peer<S> {
         true
     }
 
-    /// What the device is told.
+    /// What is reported to the device.
     pub(crate) fn wish(&mut self, interest: Interest, now: u64) {
         if interest.is_streaming && !self.interest.is_streaming {
             self.noticed = None;
@@ -282,22 +282,22 @@ impl<S: Read + Write + OpenStream + Drop> Peer<S> {
         }
     }
 
-    /// Whether the device may tell that it can be read.
+    /// Whether the device may report that it can be read.
     pub(crate) fn may_be_readable(&self) -> bool {
         self.interest.reads && self.may_read
     }
 
-    /// Whether the device may tell that it can be written.
+    /// Whether the device may report that it can be written.
     pub(crate) fn may_be_writable(&self) -> bool {
         self.interest.writes && self.vain < VAIN
     }
 
-    /// Whether the device may tell that it is gone.
+    /// Whether the device may report that it is gone.
     pub(crate) fn may_be_gone(&self) -> bool {
         self.is_at_end && !self.interest.writes || self.may_have_failed || self.may_be_given_up
     }
 
-    /// Whether the device has to tell something of it.
+    /// Whether the device has to report something of it.
     pub(crate) fn is_due(&self) -> bool {
         let is_read = self.interest.reads
             && !self.is_at_end

@@ -1,4 +1,4 @@
-//! A device, its clients, and what it may tell.
+//! A device, its clients, and what it may report.
 
 mod schedule;
 
@@ -15,7 +15,7 @@ use std::net::{Ipv4Addr, Net, SocketAddr};
 use std::os::unix::net::UnixStream;
 use std::time::Duration;
 
-/// So often the device is asked at most until it has told what it has to.
+/// So often the device is asked at most until it has reported what it has to.
 const PATIENCE: u32 = 100_000;
 
 /// So often it is looked at the clock, in milliseconds.
@@ -70,7 +70,7 @@ impl Seen {
     }
 }
 
-/// A device over the loopback, its clients, and what it may tell.
+/// A device over the loopback, its clients, and what it may report.
 #[derive(Drop)]
 pub(crate) struct World<'a, N: Net> {
     host: &'a Still<'a, N>,
@@ -220,7 +220,7 @@ impl<'a, N: Net> World<'a, N> {
         self.feed.is_always_ready() || self.is_due()
     }
 
-    /// Whether the device has to tell something.
+    /// Whether the device has to report something.
     fn is_due(&self) -> bool {
         self.feed.is_due()
             || self.wants_links && self.is_dialled() && self.free().is_some()
@@ -281,7 +281,7 @@ impl<'a, N: Net> World<'a, N> {
         }
     }
 
-    /// Whether the device may tell this.
+    /// Whether the device may report this.
     fn may_tell(&self, event: Event) -> bool {
         match event {
             Event::Dialled => self.wants_links && self.may_dial,
@@ -301,7 +301,7 @@ impl<'a, N: Net> World<'a, N> {
         }
     }
 
-    /// Before it tells of an input that is always ready, the device has asked the system, and looked at the clock.
+    /// Before it reports an input that is always ready, the device has asked the system, and looked at the clock.
     fn look(&mut self) {
         let now = self.host.now();
         self.kept = 0;

@@ -222,7 +222,7 @@ impl<N: Net> World<'_, N> {
         self.catch_up();
     }
 
-    /// Whatever is due is told and done, and all that was sent is received.
+    /// Whatever is due is reported and done, and all that was sent is received.
     pub(crate) fn catch_up(&mut self) {
         for turn in 0..PATIENCE {
             let has_all = self.receive_all();
@@ -236,7 +236,7 @@ impl<N: Net> World<'_, N> {
         self.complain("something is due, and isn't told");
     }
 
-    /// Where nothing is due, nothing is told but an input that is always ready.
+    /// Where nothing is due, nothing is reported but an input that is always ready.
     pub(crate) fn rest(&mut self) {
         if self.free().is_none() {
             self.wants_links = false;
@@ -254,7 +254,7 @@ impl<N: Net> World<'_, N> {
         }
     }
 
-    /// The device tells of its input, and of nothing else.
+    /// The device reports its input, and nothing else.
     fn be_quiet(&mut self) {
         match self.tcp.next() {
             Event::Input => {}

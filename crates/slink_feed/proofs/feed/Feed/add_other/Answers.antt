@@ -6,7 +6,7 @@ use Rattle.slink_feed.specs.Rings.{HasPlace}
 use Rattle.slink_feed.specs.Window.{Window}
 use Rattle.slink_feed.proofs.feed.Feed.add_other.Goals as goal
 
--- a feed with room takes the ring of another place
+-- a feed with room takes the ring of another station
 takes_ring : {A : Type 0} (e : FeedFault A) (feed : List Window) (ring : Window) → length feed < 16
     → ¬ (HasPlace feed ring.place) → IsFeedFault e feed ring → ⊥
 takes_ring (Full back) feed ring room differs is = omega (arith, room, is.0)
