@@ -5,6 +5,8 @@ use Rattle.slink_feed.specs.declared.grant.Grant.{Grant}
 use Rattle.slink_feed.specs.declared.session.Phase.TheVariants.{Streaming, Closed}
 use Rattle.slink_feed.specs.Session.{Grants, IsWaiting, State, grant_at}
 use Rattle.slink_feed.specs.Window.{Window, oldest_of}
+use Rattle.slink_live.specs.declared.link.TheConstants.{REPLY}
+use Rattle.slink_live.specs.declared.pending.TheConstants.{PACKET, ROOM}
 use Rattle.slink_live.specs.declared.ready.Interest.{Interest}
 use Rattle.slink_live.specs.declared.ready.Event.TheVariants as events
 use Rattle.slink_live.specs.Happening.{Happening, Gone, Next, is_left, last_interest, wants_links}
@@ -47,11 +49,11 @@ pub data IsClosable (feed : List Window) (has_ended : Bool) (l : LinkState) : Ty
 
 -- There is room for the replies to a byte of a link.
 abbrev pub HasRoom : LinkState → Type 0
-HasRoom l = length l.pending + 35 ≤ 6240
+HasRoom l = length l.pending + REPLY ≤ ROOM
 
 -- Nothing more is due to a link, or there is no room for a packet.
 abbrev pub IsFilled : List Window → LinkState → Type 0
-IsFilled feed l = length l.pending + 520 ≤ 6240
+IsFilled feed l = length l.pending + PACKET ≤ ROOM
     → IsWaiting feed l.session.state ⊎ (l.session.state.phase ≡ Closed)
 
 -- It has bytes pending, and it was reported to the device that it wants to write; or nothing more is due to it.

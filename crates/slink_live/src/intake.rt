@@ -1,5 +1,5 @@
 //! The input, cut into records, each of which goes into the ring of its station.
-ghost use Rattle.std.specs.Prelude.{◌≡◌, ◌+◌, ◌*◌, ◌^◌, ◌<◌, ◌≤◌, ◌++◌, [], IfErr, OnErr};
+ghost use Rattle.std.specs.Prelude.{◌≡◌, ◌+◌, ◌-◌, ◌*◌, ◌^◌, ◌<◌, ◌≤◌, ◌++◌, [], IfErr, OnErr};
 ghost use Rattle.std.specs.Prelude.{IfOk, OnOk, length};
 ghost use Rattle.mseed_record.specs.declared.framer.Scan.{Scan};
 ghost use Rattle.mseed_record.specs.Record.{IsRecord};
@@ -58,7 +58,7 @@ impl Intake {
     /// The offset in the input, in bytes, at which the next record begins.
     fn offset(&self) -> u64
         requires { self.now.records ≤ 2 ^ 54 }
-        ensures { result ≡ 512 * self.now.records }
+        ensures { result ≡ RECORD * self.now.records }
     {
         512 * self.records
     }
@@ -71,13 +71,13 @@ impl Intake {
     /// `Stream` where bytes begin no record, `Foreign` where a record hasn't 512 bytes or is of none of the stations.
     /// What was before them is in the rings.
     pub(crate) fn take(&mut self, bytes: &[u8]) -> Result<Places, InputFault>
-        requires short { length self.old.kept < 512 }
+        requires short { length self.old.kept < RECORD }
         requires size { length bytes.now ≤ 8192 }
         requires below { IsBelow (2 ^ 62 + 2 ^ 54) self.old.feed }
         requires few { self.old.records ≤ 2 ^ 53 }
         ensures ok { OnOk result (Cuts self.old bytes.now self.new self.new.kept) }
         ensures others { IfOk result (λ places. StaysBut places self.old.feed self.new.feed) }
-        ensures short { OnOk result (length self.new.kept < 512) }
+        ensures short { OnOk result (length self.new.kept < RECORD) }
         ensures err { IfErr result (CutsOff self.old bytes.now self.new) }
     {
         let mut places = Places::none();
@@ -93,10 +93,10 @@ impl Intake {
 
     /// How many of so many bytes are kept: as many as a record of 512 bytes still lacks.
     fn wanted(&self, left: usize) -> usize
-        requires short { length self.now.kept < 512 }
+        requires short { length self.now.kept < RECORD }
         requires left { 0 < left }
         ensures some { 0 < result }
-        ensures room { length self.now.kept + result ≤ 512 }
+        ensures room { length self.now.kept + result ≤ RECORD }
         ensures within { result ≤ left }
     {
         (RECORD - self.kept.len()).min(left)
@@ -104,9 +104,9 @@ impl Intake {
 
     /// Keeps bytes, for which there is room.
     fn keep(&mut self, bytes: &[u8])
-        requires { length self.old.kept + length bytes.now ≤ 512 }
+        requires { length self.old.kept + length bytes.now ≤ RECORD }
         ensures kept { self.new ≡ record self.old { kept = self.old.kept ++ bytes.now } }
-        ensures few { length self.new.kept ≤ 512 }
+        ensures few { length self.new.kept ≤ RECORD }
     {
         match self.kept.try_extend_from_slice(bytes) {
             Ok(()) => {}
@@ -117,8 +117,8 @@ impl Intake {
     /// Looks whether the bytes that are kept are a record, and gives it to its ring. Returns these stations, and with
     /// them that of the record.
     fn look(&mut self, places: Places) -> Result<Places, InputFault>
-        requires size { length self.old.kept ≤ 512 }
-        requires below { IsBelow 9223372036854775807 self.old.feed }
+        requires size { length self.old.kept ≤ RECORD }
+        requires below { IsBelow (2 ^ 63 - 1) self.old.feed }
         requires few { self.old.records ≤ 2 ^ 54 }
         ensures ok { OnOk result (LooksOn self.old self.new) }
         ensures others { IfOk result (λ all. StaysBeside places all self.old.feed self.new.feed) }
@@ -135,10 +135,10 @@ impl Intake {
 
     /// Gives the record that is kept to its ring. Returns these stations, and with them that of the record.
     fn push_kept(&mut self, places: Places) -> Result<Places, InputFault>
-        requires whole { length self.old.kept ≡ 512 }
+        requires whole { length self.old.kept ≡ RECORD }
         requires record { IsRecord self.old.kept }
-        requires decides { Decides self.old.kept (Scan.Record 512) }
-        requires below { IsBelow 9223372036854775807 self.old.feed }
+        requires decides { Decides self.old.kept (Scan.Record RECORD) }
+        requires below { IsBelow (2 ^ 63 - 1) self.old.feed }
         requires few { self.old.records ≤ 2 ^ 54 }
         ensures ok { OnOk result (LooksOn self.old self.new) }
         ensures others { IfOk result (λ all. StaysBeside places all self.old.feed self.new.feed) }
@@ -163,7 +163,7 @@ impl Intake {
         requires few { self.now.records ≤ 2 ^ 54 }
         ensures ok { OnOk result (self.now.kept ≡ []) }
         ensures err { IfErr result (λ e. (0 < length self.now.kept)
-            × (e ≡ InputFault.Stream (StreamFault.Truncated (512 * self.now.records) (length self.now.kept)))) }
+            × (e ≡ InputFault.Stream (StreamFault.Truncated (RECORD * self.now.records) (length self.now.kept)))) }
     {
         if self.kept.is_empty() {
             Ok(())
@@ -175,7 +175,7 @@ impl Intake {
     /// What is wrong with an input that fails now.
     pub(crate) fn failure(&self) -> InputFault
         requires few { self.now.records ≤ 2 ^ 54 }
-        ensures { result ≡ InputFault.Stream (StreamFault.Read (512 * self.now.records)) }
+        ensures { result ≡ InputFault.Stream (StreamFault.Read (RECORD * self.now.records)) }
     {
         InputFault::Stream(StreamFault::Read(self.offset()))
     }
@@ -183,7 +183,7 @@ impl Intake {
     /// What is wrong with an input that was read too often.
     pub(crate) fn last_turn(&self) -> InputFault
         requires few { self.now.records ≤ 2 ^ 54 }
-        ensures { result ≡ InputFault.Stream (StreamFault.Turns (512 * self.now.records)) }
+        ensures { result ≡ InputFault.Stream (StreamFault.Turns (RECORD * self.now.records)) }
     {
         InputFault::Stream(StreamFault::Turns(self.offset()))
     }

@@ -72,8 +72,8 @@ impl Link {
 
     /// How many bytes can be read now, so that there is room for each reply.
     pub(crate) fn readable(&self) -> usize
-        ensures room { length self.now.pending + 35 * result ≤ 6240 }
-        ensures most { result ≤ 64 }
+        ensures room { length self.now.pending + REPLY * result ≤ ROOM }
+        ensures most { result ≤ PIECE }
         ensures some { HasRoom self.now → 0 < result }
     {
         ((ROOM - self.pending.len()) / REPLY).min(PIECE)
@@ -179,8 +179,8 @@ impl Link {
 
     /// Whether there is room for a packet.
     pub(crate) fn has_room(&self) -> bool
-        ensures yes { OnTrue result (length self.now.pending + 520 ≤ 6240) }
-        ensures no { OnFalse result (6240 < length self.now.pending + 520) }
+        ensures yes { OnTrue result (length self.now.pending + PACKET ≤ ROOM) }
+        ensures no { OnFalse result (ROOM < length self.now.pending + PACKET) }
     {
         self.pending.len() <= ROOM - PACKET
     }
@@ -218,7 +218,7 @@ impl Link {
     /// Takes what the link brought: the session answers each line.
     pub(crate) fn receive(&mut self, feed: &Feed, bytes: &[u8])
         requires fits { Fits feed.now self.old.session.state }
-        requires room { length self.old.pending + 35 * length bytes.now ≤ 6240 }
+        requires room { length self.old.pending + REPLY * length bytes.now ≤ ROOM }
         ensures serves { Serves feed.now self.old.session bytes.now self.old.pending self.new.session
             self.new.pending }
         ensures ring { self.new.ring ≡ self.old.ring }
@@ -234,7 +234,7 @@ impl Link {
 
     /// Queues bytes, to be sent after those that are pending.
     fn queue(&mut self, bytes: &[u8])
-        requires { length self.old.pending + length bytes.now ≤ 6240 }
+        requires { length self.old.pending + length bytes.now ≤ ROOM }
         ensures { self.new ≡ record self.old { pending = self.old.pending ++ bytes.now } }
     {
         self.pending.queue(bytes);
@@ -304,7 +304,7 @@ impl Link {
 
     /// Asks for the packet of a station of which a record is due. Returns the stations of which one is due then.
     fn ask_due(&mut self, feed: &Feed, k: usize, due: Places) -> Places
-        requires room { length self.old.pending + 520 ≤ 6240 }
+        requires room { length self.old.pending + PACKET ≤ ROOM }
         requires fits { Fits feed.now self.old.session.state }
         requires due { AreDue feed.now self.old.session.state due }
         requires turn { Has due k }
@@ -329,7 +329,7 @@ impl Link {
 
     /// Queues the END, where all that was requested is sent, and no record that comes is requested.
     fn end(&mut self, feed: &Feed)
-        requires room { length self.old.pending + 520 ≤ 6240 }
+        requires room { length self.old.pending + PACKET ≤ ROOM }
         requires fits { Fits feed.now self.old.session.state }
         requires streams { self.old.session.state.phase ≡ Phase.Streaming }
         requires none { (k : ℕ) → k < length feed.now → IsAtNext feed.now self.old.session.state.grants k }
@@ -345,12 +345,12 @@ impl Link {
 
     /// Asks for the packet of the next station that has something to send, and returns whether one has.
     fn ask(&mut self, feed: &Feed) -> bool
-        requires room { length self.old.pending + 520 ≤ 6240 }
+        requires room { length self.old.pending + PACKET ≤ ROOM }
         requires fits { Fits feed.now self.old.session.state }
         ensures yes { OnTrue result (Asks feed.now self.old.session self.old.ring self.old.pending self.new.session
             self.new.ring self.new.pending) }
         ensures grows { OnTrue result ((self.new.session.state.phase ≡ Phase.Closed)
-            ⊎ (length self.new.pending ≡ length self.old.pending + 520)) }
+            ⊎ (length self.new.pending ≡ length self.old.pending + PACKET)) }
         ensures ends { self.old.session.state.phase ≡ Phase.Streaming
             → ((k : ℕ) → k < length feed.now → IsAtNext feed.now self.old.session.state.grants k)
             → OnTrue result (self.new.session.state.phase ≡ Phase.Closed) }
@@ -376,7 +376,7 @@ impl Link {
     fn ask_at(&mut self, feed: &Feed, k: usize) -> bool
         requires within { k < length feed.now }
         requires few { k < 16 }
-        requires room { length self.old.pending + 520 ≤ 6240 }
+        requires room { length self.old.pending + PACKET ≤ ROOM }
         requires fits { Fits feed.now self.old.session.state }
         ensures yes { OnTrue result (Gives feed.now k self.old self.new) }
         ensures no { OnFalse result

@@ -10,6 +10,7 @@ ghost use Rattle.slink_live.specs.private.Calling.{HasFilled, HasReceived, HasTa
 ghost use Rattle.slink_live.specs.private.Granting.{Changes, CoversIn, LeavesOut};
 
 use crate::link::{Link, PIECE, Update};
+use crate::pending::{PACKET, ROOM};
 use crate::places::Places;
 use crate::ready::Ready;
 use slink_feed::Feed;
@@ -82,7 +83,7 @@ fn receive<R: Ready>(link: &mut Option<Link>, feed: &Feed, slot: usize, ready: &
 /// a packet before: then nothing more is due.
 fn send<R: Ready>(link: &mut Option<Link>, slot: usize, ready: &mut R) -> bool
     ensures taken { HasTaken slot link.old link.new (R.log ready.old) (R.log ready.new) }
-    ensures rests { OnTrue result (IfSome link.old (λ l. length l.pending + 520 ≤ 6240)) }
+    ensures rests { OnTrue result (IfSome link.old (λ l. length l.pending + PACKET ≤ ROOM)) }
 {
     match link {
         Some(link) => {
@@ -202,7 +203,7 @@ impl Links {
     pub(crate) fn send<R: Ready>(&mut self, slot: usize, ready: &mut R) -> bool
         requires { slot < length self.old }
         ensures taken { Changes slot (λ o l. HasTaken slot o l (R.log ready.old) (R.log ready.new)) self.old self.new }
-        ensures rests { OnTrue result (IfSome (get_or self.old slot None) (λ l. length l.pending + 520 ≤ 6240)) }
+        ensures rests { OnTrue result (IfSome (get_or self.old slot None) (λ l. length l.pending + PACKET ≤ ROOM)) }
     {
         send(&mut self.slots[slot], slot, ready)
     }

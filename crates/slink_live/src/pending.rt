@@ -25,18 +25,19 @@ pub(crate) struct Pending {
 
 impl Model for Pending {
     ghost use Rattle.std.specs.Prelude.{◌≤◌, ◌-◌, drop, take};
+    ghost use Rattle.slink_live.specs.declared.pending.TheConstants.{ROOM};
     ghost use Rattle.slink_live.specs.private.Waiting.{Waiting};
 
     ghost Value = { Waiting };
 
-    ghost view = { λ p. record { bytes = drop p.begin (take p.end p.bytes); room = 6240 - p.end } };
+    ghost view = { λ p. record { bytes = drop p.begin (take p.end p.bytes); room = ROOM - p.end } };
 
-    ghost invariant = { λ p. (p.begin ≤ p.end) × (p.end ≤ 6240) };
+    ghost invariant = { λ p. (p.begin ≤ p.end) × (p.end ≤ ROOM) };
 }
 
 /// Puts bytes at an offset.
 fn put_bytes(room: &mut [u8; ROOM], at: usize, bytes: &[u8])
-    requires { at + length bytes.now ≤ 6240 }
+    requires { at + length bytes.now ≤ ROOM }
     ensures { take (at + length bytes.now) room.new ≡ take at room.old ++ bytes.now }
 {
     room[at..at + bytes.len()].copy_from_slice(bytes);
@@ -44,10 +45,10 @@ fn put_bytes(room: &mut [u8; ROOM], at: usize, bytes: &[u8])
 
 /// Puts the packet of a record into room of its size.
 fn fill_packet(room: &mut [u8], number: u32, bytes: &[u8; 512])
-    requires room { length room.old ≡ 520 }
+    requires room { length room.old ≡ PACKET }
     requires number { number < 2 ^ 24 }
     ensures value { room.new ≡ packet_bytes number bytes.now }
-    ensures size { length room.new ≡ 520 }
+    ensures size { length room.new ≡ PACKET }
 {
     match room.as_mut_array() {
         Some(packet) => Packet::put(packet, number, bytes),
@@ -57,10 +58,10 @@ fn fill_packet(room: &mut [u8], number: u32, bytes: &[u8; 512])
 
 /// Puts the packet of a record at an offset.
 fn put_packet(room: &mut [u8; ROOM], at: usize, number: u32, bytes: &[u8; 512])
-    requires room { at + 520 ≤ 6240 }
+    requires room { at + PACKET ≤ ROOM }
     requires number { number < 2 ^ 24 }
-    ensures value { take (at + 520) room.new ≡ take at room.old ++ packet_bytes number bytes.now }
-    ensures size { length (packet_bytes number bytes.now) ≡ 520 }
+    ensures value { take (at + PACKET) room.new ≡ take at room.old ++ packet_bytes number bytes.now }
+    ensures size { length (packet_bytes number bytes.now) ≡ PACKET }
 {
     fill_packet(&mut room[at..at + PACKET], number, bytes);
 }
@@ -80,7 +81,7 @@ impl Pending {
     /// Returns all bytes that wait.
     pub(crate) fn as_slice(&self) -> &[u8]
         ensures value { result.now ≡ self.now.bytes }
-        ensures most { length result.now ≤ 6240 }
+        ensures most { length result.now ≤ ROOM }
     {
         &self.bytes[usize::from(self.begin)..usize::from(self.end)]
     }
@@ -88,7 +89,7 @@ impl Pending {
     /// Returns how many bytes wait.
     pub(crate) fn len(&self) -> usize
         ensures value { result ≡ length self.now.bytes }
-        ensures most { result ≤ 6240 }
+        ensures most { result ≤ ROOM }
     {
         usize::from(self.end - self.begin)
     }
@@ -103,7 +104,7 @@ impl Pending {
 
     /// Appends bytes to those that wait.
     pub(crate) fn queue(&mut self, bytes: &[u8])
-        requires { length self.old.bytes + length bytes.now ≤ 6240 }
+        requires { length self.old.bytes + length bytes.now ≤ ROOM }
         ensures { self.new.bytes ≡ self.old.bytes ++ bytes.now }
     {
         self.make_room(bytes.len());
@@ -113,10 +114,10 @@ impl Pending {
 
     /// Appends the packet of a record, with its number modulo 2^24, to the bytes that wait.
     pub(crate) fn queue_packet(&mut self, number: u32, bytes: &[u8; 512])
-        requires room { length self.old.bytes + 520 ≤ 6240 }
+        requires room { length self.old.bytes + PACKET ≤ ROOM }
         requires number { number < 2 ^ 24 }
         ensures value { self.new.bytes ≡ self.old.bytes ++ packet_bytes number bytes.now }
-        ensures size { length (packet_bytes number bytes.now) ≡ 520 }
+        ensures size { length (packet_bytes number bytes.now) ≡ PACKET }
     {
         self.make_room(PACKET);
         put_packet(&mut self.bytes, usize::from(self.end), number, bytes);
@@ -125,7 +126,7 @@ impl Pending {
 
     /// Makes room for so many bytes: where there is too little, moves what is left to the front.
     fn make_room(&mut self, count: usize)
-        requires { length self.old.bytes + count ≤ 6240 }
+        requires { length self.old.bytes + count ≤ ROOM }
         ensures bytes { self.new.bytes ≡ self.old.bytes }
         ensures room { count ≤ self.new.room }
     {

@@ -8,6 +8,7 @@ use Rattle.slink_feed.specs.Session.{Fits, IsWaiting, sent, sent_bytes}
 use Rattle.slink_feed.specs.Window.{Window}
 use Rattle.slink_live.specs.declared.link.Update.{Update}
 use Rattle.slink_live.specs.declared.link.Update.TheVariants.{Empty, Wants, Closes}
+use Rattle.slink_live.specs.declared.pending.TheConstants.{PACKET}
 use Rattle.slink_live.specs.Awake.{IsClosable, IsLost, IsUpToDate}
 use Rattle.slink_live.specs.Happening.{Happening, Received, Emitted}
 use Rattle.slink_live.specs.Served.{LinkState, link_state}
@@ -35,7 +36,7 @@ pub record Gives (feed : List Window) (k : ℕ) (old new : LinkState) : Type 0 w
   pub held : new.session.held ≡ old.session.held
   pub ring : new.ring ≡ k + 1
   pub pending : new.pending ≡ old.pending ++ sent_bytes answer
-  pub grows : (new.session.state.phase ≡ Closed) ⊎ (length (sent_bytes answer) ≡ 520)
+  pub grows : (new.session.state.phase ≡ Closed) ⊎ (length (sent_bytes answer) ≡ PACKET)
 
 -- Nothing more is due to a link, and the next record of none of its stations has left its ring.
 pub record IsRested (feed : List Window) (l : LinkState) : Type 0 where
