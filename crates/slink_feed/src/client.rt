@@ -12,12 +12,13 @@ ghost use Rattle.slink_feed.specs.Dialogue.{Talk, at_packet, place_of, event_of,
 ghost use Rattle.slink_feed.specs.Fetching.{turn_at};
 ghost use Rattle.slink_feed.specs.Listening.{AwaitsReply, Brings, IsLinked, Reads, new_client, event_if_any};
 
-use crate::cutting::{PACKET, Part, take_packet, take_reply};
+use crate::cutting::{Part, take_packet, take_reply};
 use crate::dialogue::{Bytes, Dialogue, Ending, Event, Stage, Wanted};
+use crate::feed::STATIONS;
 use crate::grant::Mode;
 use crate::turn::Turn;
 use arrayvec::ArrayVec;
-use slink_wire::{Packet, Place};
+use slink_wire::{PACKET, Packet, Place};
 use std::marker::Model;
 
 /// A client that asks for the records of up to sixteen stations over one link, and over another once that is lost.
@@ -28,7 +29,7 @@ use std::marker::Model;
 #[derive(Drop)]
 pub struct Client {
     dialogue: Dialogue,
-    kept: ArrayVec<u8, 520>,
+    kept: ArrayVec<u8, PACKET>,
 }
 
 impl Model for Client {
@@ -45,7 +46,7 @@ impl Model for Client {
 impl Client {
     /// A client of up to sixteen different stations, each with the number below 2^24 that it wants first, or none.
     pub fn new(places: &[(Place, Option<u32>)], mode: Mode) -> Client
-        requires count { length places.now ≤ 16 }
+        requires count { length places.now ≤ STATIONS }
         requires numbers { AreNumbers places.now }
         ensures { result ≡ new_client places.now mode false }
     {
@@ -55,7 +56,7 @@ impl Client {
     /// A client as by [`Client::new`] that goes past holes: it takes a record too whose number is ahead of the one that
     /// its station wants, by 1 to 2^23 - 1, modulo 2^24, and wants the one after it next.
     pub fn past_holes(places: &[(Place, Option<u32>)], mode: Mode) -> Client
-        requires count { length places.now ≤ 16 }
+        requires count { length places.now ≤ STATIONS }
         requires numbers { AreNumbers places.now }
         ensures { result ≡ new_client places.now mode true }
     {
@@ -64,7 +65,7 @@ impl Client {
 
     /// A client that goes past holes, or doesn't.
     fn of(places: &[(Place, Option<u32>)], mode: Mode, holes: bool) -> Client
-        requires count { length places.now ≤ 16 }
+        requires count { length places.now ≤ STATIONS }
         requires numbers { AreNumbers places.now }
         ensures { result ≡ new_client places.now mode holes }
     {
@@ -83,7 +84,7 @@ impl Client {
     }
 
     /// The stations that are requested, each with the number that it wants next.
-    pub(crate) fn wants(&self) -> &[Option<Wanted>; 16]
+    pub(crate) fn wants(&self) -> &[Option<Wanted>; STATIONS]
         ensures { result.now ≡ self.now.talk.wants }
     {
         self.dialogue.wants()
@@ -139,9 +140,9 @@ impl Client {
     /// Takes the packet at the start of bytes, where nothing is kept and its record is wanted, and lends the record
     /// with the index of its station and its number. Else nothing is taken.
     pub(crate) fn take_record<'a>(&mut self, bytes: &'a [u8]) -> Option<(usize, u32, &'a [u8; 512])>
-        ensures brings { IfSome result (λ r. Brings self.old.talk (self.old.kept ++ take 520 bytes.now) self.new
+        ensures brings { IfSome result (λ r. Brings self.old.talk (self.old.kept ++ take PACKET bytes.now) self.new
             (Event.Record r.0 r.1 r.2.now)) }
-        ensures long { IfSome result (λ _. 520 ≤ length bytes.now) }
+        ensures long { IfSome result (λ _. PACKET ≤ length bytes.now) }
         ensures none { IfNone result (self.new ≡ self.old) }
     {
         if !self.kept.is_empty() {
@@ -156,7 +157,7 @@ impl Client {
     /// How many bytes a packet still lacks with those that are kept.
     pub(crate) fn lack(&self) -> usize
         ensures some { 0 < result }
-        ensures most { result ≤ 520 }
+        ensures most { result ≤ PACKET }
     {
         PACKET - self.kept.len()
     }
@@ -212,7 +213,7 @@ fn line_of(bytes: &[u8]) -> &[u8]
 }
 
 /// Takes what the bytes of a reply have come to.
-fn read_reply(dialogue: &mut Dialogue, kept: &mut ArrayVec<u8, 520>, part: Part) -> Event
+fn read_reply(dialogue: &mut Dialogue, kept: &mut ArrayVec<u8, PACKET>, part: Part) -> Event
     requires stage { AwaitsReply dialogue.old.stage }
     requires part { IsReplyPart kept.old.items part }
     ensures brings { Brings dialogue.old kept.old.items (record { talk = dialogue.new; kept = kept.new.items }) result }
@@ -229,7 +230,7 @@ fn read_reply(dialogue: &mut Dialogue, kept: &mut ArrayVec<u8, 520>, part: Part)
 }
 
 /// Takes what the bytes of a packet have come to.
-fn read_packets(dialogue: &mut Dialogue, kept: &mut ArrayVec<u8, 520>, part: Part) -> Event
+fn read_packets(dialogue: &mut Dialogue, kept: &mut ArrayVec<u8, PACKET>, part: Part) -> Event
     requires stage { dialogue.old.stage ≡ Stage.Packets }
     requires part { IsPacketPart kept.old.items part }
     ensures brings { Brings dialogue.old kept.old.items (record { talk = dialogue.new; kept = kept.new.items }) result }
@@ -248,9 +249,9 @@ fn read_packets(dialogue: &mut Dialogue, kept: &mut ArrayVec<u8, 520>, part: Par
 /// Takes the packet at the start of bytes, where its record is wanted.
 fn read_leading<'a>(dialogue: &mut Dialogue, bytes: &'a [u8]) -> Option<(usize, u32, &'a [u8; 512])>
     requires { dialogue.old.stage ≡ Stage.Packets }
-    ensures brings { IfSome result (λ r. Brings dialogue.old (take 520 bytes.now)
+    ensures brings { IfSome result (λ r. Brings dialogue.old (take PACKET bytes.now)
         (record { talk = dialogue.new; kept = [] }) (Event.Record r.0 r.1 r.2.now)) }
-    ensures long { IfSome result (λ _. 520 ≤ length bytes.now) }
+    ensures long { IfSome result (λ _. PACKET ≤ length bytes.now) }
     ensures none { IfNone result (dialogue.new ≡ dialogue.old) }
 {
     let Some(packet) = bytes.first_chunk() else {
@@ -267,7 +268,7 @@ fn read_leading<'a>(dialogue: &mut Dialogue, bytes: &'a [u8]) -> Option<(usize, 
 
 /// Takes the bytes of a whole packet.
 fn read_packet(dialogue: &mut Dialogue, bytes: &[u8]) -> Event
-    requires { (n : ℕ) × HasHead bytes.now n × (length bytes.now ≡ 520) }
+    requires { (n : ℕ) × HasHead bytes.now n × (length bytes.now ≡ PACKET) }
     ensures read { (n : ℕ) × (r : List ℕ) × IsPacket bytes.now n r
         × (at_packet (place_of dialogue.old.wants r) n r dialogue.old ≡ (dialogue.new, result)) }
     ensures reported { result ≢ Event.None }

@@ -14,9 +14,9 @@ ghost use Rattle.slink_feed.specs.Session.{grant_at, in_chosen, in_fresh, in_gra
 ghost use Rattle.slink_feed.specs.Session.{IsAtNext, IsWaiting, sent_without};
 ghost use Rattle.slink_feed.specs.Window.{record_at};
 
-use crate::feed::Feed;
+use crate::feed::{Feed, STATIONS};
 use crate::grant::{Grant, Mode, first_granted};
-use crate::ring::SPAN;
+use crate::ring::{LARGEST, SPAN};
 use crate::session::{Phase, Sent, Unsent};
 use slink_wire::{Command, Packet, Reply, What};
 use std::alloc::Allocator;
@@ -26,7 +26,7 @@ use std::marker::Model;
 #[derive(Drop)]
 pub(crate) struct Course {
     phase: Phase,
-    grants: [Option<Grant>; 16],
+    grants: [Option<Grant>; STATIONS],
 }
 
 impl Model for Course {
@@ -40,11 +40,11 @@ impl Model for Course {
 impl Course {
     /// A course in which no station is chosen, and none has a grant.
     pub(crate) fn new() -> Course
-        ensures { result ≡ at Phase.Fresh (replicate 16 None) }
+        ensures { result ≡ at Phase.Fresh (replicate STATIONS None) }
     {
         Course {
             phase: Phase::Fresh,
-            grants: [None; 16],
+            grants: [None; STATIONS],
         }
     }
 
@@ -71,7 +71,7 @@ impl Course {
         ensures sent { sent feed.now self.old k ≡ (self.new, result) }
         ensures fits { Fits feed.now self.new }
         ensures few { (bytes : List ℕ) → result ≡ Sent.Packet bytes
-            → ForSome (slice_get feed.now k) (λ w. length w.records ≤ 1000000) }
+            → ForSome (slice_get feed.now k) (λ w. length w.records ≤ LARGEST) }
     {
         match self.next_record(feed, k) {
             Ok((number, bytes)) => Sent::Packet(Packet::write(number, bytes)),
@@ -94,9 +94,9 @@ impl Course {
         ensures sent { IfOk result (λ r. sent feed.now self.old k
             ≡ (self.new, Sent.Packet (packet_bytes r.0 r.1.now))) }
         ensures unsent { IfErr result (λ e. sent feed.now self.old k ≡ (self.new, sent_without e)) }
-        ensures number { IfOk result (λ r. r.0 < 2 ^ 24) }
+        ensures number { IfOk result (λ r. r.0 < SPAN) }
         ensures fits { Fits feed.now self.new }
-        ensures few { IfOk result (λ _. ForSome (slice_get feed.now k) (λ w. length w.records ≤ 1000000)) }
+        ensures few { IfOk result (λ _. ForSome (slice_get feed.now k) (λ w. length w.records ≤ LARGEST)) }
     {
         match self.phase {
             Phase::Fresh | Phase::Chosen(_) | Phase::Granted(_) => Err(Unsent::Wait),
@@ -122,9 +122,9 @@ impl Course {
         ensures sent { IfOk result (λ r. sent feed.now self.old k
             ≡ (self.new, Sent.Packet (packet_bytes r.0 r.1.now))) }
         ensures unsent { IfErr result (λ e. sent feed.now self.old k ≡ (self.new, sent_without e)) }
-        ensures number { IfOk result (λ r. r.0 < 2 ^ 24) }
+        ensures number { IfOk result (λ r. r.0 < SPAN) }
         ensures fits { Fits feed.now self.new }
-        ensures few { IfOk result (λ _. ForSome (slice_get feed.now k) (λ w. length w.records ≤ 1000000)) }
+        ensures few { IfOk result (λ _. ForSome (slice_get feed.now k) (λ w. length w.records ≤ LARGEST)) }
     {
         if grant.position == feed.ring(k).next() {
             return Err(self.at_next(feed));
@@ -151,11 +151,11 @@ impl Course {
         requires fits { AreReached feed.now self.old.grants }
         ensures sent { IfSome result (λ r. sent feed.now self.old k
             ≡ (self.new, Sent.Packet (packet_bytes r.0 r.1.now))) }
-        ensures number { IfSome result (λ r. r.0 < 2 ^ 24) }
+        ensures number { IfSome result (λ r. r.0 < SPAN) }
         ensures none { IfNone result (self.new ≡ self.old) }
         ensures gone { IfNone result (ForSome (slice_get feed.now k) (λ w. record_at w grant.position ≡ None)) }
         ensures fits { Fits feed.now self.new }
-        ensures few { IfSome result (λ _. ForSome (slice_get feed.now k) (λ w. length w.records ≤ 1000000)) }
+        ensures few { IfSome result (λ _. ForSome (slice_get feed.now k) (λ w. length w.records ≤ LARGEST)) }
     {
         let ring = feed.ring(k);
         match ring.get(grant.position) {
@@ -356,7 +356,7 @@ impl Course {
 
     /// Chooses a station, whose grant is dropped.
     fn choose(&mut self, k: Option<usize>) -> Reply
-        requires { IfSome k (λ k. k < 16) }
+        requires { IfSome k (λ k. k < STATIONS) }
         ensures answered { chosen k self.old ≡ (self.new, result) }
     {
         match k {

@@ -5,16 +5,10 @@ ghost use Rattle.slink_feed.specs.Cutting.{Begins, IsPacketBegun, IsReplyBegun};
 ghost use Rattle.slink_feed.specs.private.Parts.{IsDue, IsPacketPart, IsReplyPart, TakesUpTo, ends_reply};
 
 use arrayvec::ArrayVec;
-use slink_wire::Packet;
+use slink_wire::{HEAD, PACKET, Packet};
 
 /// The most bytes of a reply, with its CR LF.
 const LONGEST_REPLY: usize = 256;
-
-/// The bytes of a packet before its record.
-const HEAD: usize = 8;
-
-/// The bytes of a packet.
-pub(crate) const PACKET: usize = 520;
 
 /// What bytes that are kept have come to.
 #[derive(Clone, Copy)]
@@ -30,8 +24,8 @@ pub(crate) enum Part {
 }
 
 /// Appends bytes to those that are kept.
-fn append(kept: &mut ArrayVec<u8, 520>, bytes: &[u8])
-    requires { length kept.old.items + length bytes.now ≤ 520 }
+fn append(kept: &mut ArrayVec<u8, PACKET>, bytes: &[u8])
+    requires { length kept.old.items + length bytes.now ≤ PACKET }
     ensures { kept.new.items ≡ kept.old.items ++ bytes.now }
 {
     // There is room.
@@ -39,7 +33,7 @@ fn append(kept: &mut ArrayVec<u8, 520>, bytes: &[u8])
 }
 
 /// Takes one byte of a reply.
-fn take_reply_byte(kept: &mut ArrayVec<u8, 520>, byte: u8) -> Part
+fn take_reply_byte(kept: &mut ArrayVec<u8, PACKET>, byte: u8) -> Part
     requires { IsReplyBegun kept.old.items }
     ensures kept { kept.new.items ≡ kept.old.items ++ byte ∷ [] }
     ensures part { IsReplyPart kept.new.items result }
@@ -66,7 +60,7 @@ fn ends_reply(bytes: &[u8], byte: u8) -> bool
 }
 
 /// Takes bytes up to the end of a reply, or to the byte that is too many in one, or all.
-pub(crate) fn take_reply(kept: &mut ArrayVec<u8, 520>, bytes: &[u8]) -> (usize, Part)
+pub(crate) fn take_reply(kept: &mut ArrayVec<u8, PACKET>, bytes: &[u8]) -> (usize, Part)
     requires { IsReplyBegun kept.old.items }
     ensures { TakesUpTo IsReplyPart kept.old.items kept.new.items bytes.now result.0 result.1 }
 {
@@ -83,7 +77,7 @@ pub(crate) fn take_reply(kept: &mut ArrayVec<u8, 520>, bytes: &[u8]) -> (usize, 
 fn due(kept: &[u8]) -> usize
     requires { IsPacketBegun kept.now }
     ensures more { length kept.now < result }
-    ensures most { result ≤ 520 }
+    ensures most { result ≤ PACKET }
     ensures due { (more : List ℕ) → length kept.now + length more ≤ result → IsDue (kept.now ++ more) }
 {
     match kept.first() {
@@ -139,7 +133,7 @@ fn judge_end(bytes: &[u8]) -> Part
 }
 
 /// Takes bytes of a packet until they are judged next, or all.
-fn take_part(kept: &mut ArrayVec<u8, 520>, bytes: &[u8]) -> (usize, Part)
+fn take_part(kept: &mut ArrayVec<u8, PACKET>, bytes: &[u8]) -> (usize, Part)
     requires { IsPacketBegun kept.old.items }
     ensures kept { kept.new.items ≡ kept.old.items ++ take result.0 bytes.now }
     ensures part { IsPacketPart kept.new.items result.1 }
@@ -153,7 +147,7 @@ fn take_part(kept: &mut ArrayVec<u8, 520>, bytes: &[u8]) -> (usize, Part)
 }
 
 /// Takes bytes up to the end of a packet, or of the end, or to the byte by which they are neither, or all.
-pub(crate) fn take_packet(kept: &mut ArrayVec<u8, 520>, bytes: &[u8]) -> (usize, Part)
+pub(crate) fn take_packet(kept: &mut ArrayVec<u8, PACKET>, bytes: &[u8]) -> (usize, Part)
     requires { IsPacketBegun kept.old.items }
     ensures { TakesUpTo IsPacketPart kept.old.items kept.new.items bytes.now result.0 result.1 }
 {

@@ -9,6 +9,7 @@ ghost use Rattle.slink_feed.specs.Dialogue.{requests_place};
 ghost use Rattle.slink_feed.specs.Dialogue.{to_answer, want_at, wants_of, with_next};
 ghost use Rattle.slink_feed.specs.Listening.{AwaitsReply};
 
+use crate::feed::STATIONS;
 use crate::grant::Mode;
 use crate::ring::SPAN;
 use arrayvec::ArrayVec;
@@ -135,7 +136,7 @@ pub(crate) fn answer_of(line: &[u8]) -> Answer
 #[derive(Drop)]
 pub(crate) struct Dialogue {
     mode: Mode,
-    wants: [Option<Wanted>; 16],
+    wants: [Option<Wanted>; STATIONS],
     stage: Stage,
     holes: bool,
 }
@@ -161,11 +162,11 @@ fn is_of_wanted(bytes: &[u8; 512], want: &Option<Wanted>) -> bool
 }
 
 /// The stations that are requested, in their order.
-fn wants_of(places: &[(Place, Option<u32>)]) -> [Option<Wanted>; 16]
-    requires { length places.now ≤ 16 }
+fn wants_of(places: &[(Place, Option<u32>)]) -> [Option<Wanted>; STATIONS]
+    requires { length places.now ≤ STATIONS }
     ensures { result ≡ wants_of places.now }
 {
-    let mut wants = [None; 16];
+    let mut wants = [None; STATIONS];
     for (k, (place, next)) in places.iter().enumerate() {
         wants[k] = Some(Wanted {
             place: *place,
@@ -177,8 +178,8 @@ fn wants_of(places: &[(Place, Option<u32>)]) -> [Option<Wanted>; 16]
 
 /// Whether a number is ahead of the one wanted by less than half of all numbers.
 fn is_ahead(want: u32, number: u32) -> bool
-    requires want { want < 2 ^ 24 }
-    requires number { number < 2 ^ 24 }
+    requires want { want < SPAN }
+    requires number { number < SPAN }
     ensures { result ≡ is_ahead want number }
 {
     let ahead = (number + SPAN as u32 - want) % SPAN as u32;
@@ -188,7 +189,7 @@ fn is_ahead(want: u32, number: u32) -> bool
 impl Dialogue {
     /// A dialogue before its first link, which goes past holes where `holes` says so.
     pub(crate) fn new(places: &[(Place, Option<u32>)], mode: Mode, holes: bool) -> Dialogue
-        requires count { length places.now ≤ 16 }
+        requires count { length places.now ≤ STATIONS }
         requires numbers { AreNumbers places.now }
         ensures { result
             ≡ record { mode = mode; wants = wants_of places.now; stage = Stage.Unlinked; holes = holes } }
@@ -209,7 +210,7 @@ impl Dialogue {
     }
 
     /// The stations that are requested.
-    pub(crate) fn wants(&self) -> &[Option<Wanted>; 16]
+    pub(crate) fn wants(&self) -> &[Option<Wanted>; STATIONS]
         ensures { result.now ≡ self.now.wants }
     {
         &self.wants
@@ -218,7 +219,7 @@ impl Dialogue {
     /// The number of the record that is wanted next of the station at an index, modulo 2^24, if one is.
     pub(crate) fn next(&self, k: usize) -> Option<u32>
         ensures value { result ≡ next_at self.now.wants k }
-        ensures short { IfSome result (λ n. n < 2 ^ 24) }
+        ensures short { IfSome result (λ n. n < SPAN) }
     {
         // The prover learns here that the numbers are below 2^24.
         let _ = &self.wants;
@@ -231,7 +232,7 @@ impl Dialogue {
     /// The station at an index, with the number that it wants next.
     fn want(&self, k: usize) -> Option<Wanted>
         ensures value { result ≡ want_at self.now.wants k }
-        ensures within { IfSome result (λ _. k < 16) }
+        ensures within { IfSome result (λ _. k < STATIONS) }
     {
         match self.wants.get(k) {
             Some(want) => *want,
@@ -261,7 +262,7 @@ impl Dialogue {
 
     /// Returns the DATA or FETCH line of a station.
     fn request_number(&mut self, k: usize) -> Bytes
-        requires { k < 16 }
+        requires { k < STATIONS }
         ensures { requests_number k self.old ≡ (self.new, Event.Say result) }
     {
         let number = self.next(k);
@@ -287,7 +288,7 @@ impl Dialogue {
 
     /// Takes the reply to the STATION line of a station.
     fn read_station(&mut self, k: usize, answer: Answer) -> Event
-        requires { k < 16 }
+        requires { k < STATIONS }
         ensures read { to_answer answer k (requests_number k self.old) self.old ≡ (self.new, result) }
         ensures reported { result ≢ Event.None }
     {
@@ -300,7 +301,7 @@ impl Dialogue {
 
     /// Takes the reply to the DATA or FETCH line of a station.
     fn read_number(&mut self, k: usize, answer: Answer) -> Event
-        requires { k < 16 }
+        requires { k < STATIONS }
         ensures read { to_answer answer k (requests_place (k + 1) self.old) self.old ≡ (self.new, result) }
         ensures reported { result ≢ Event.None }
     {
@@ -313,7 +314,7 @@ impl Dialogue {
 
     /// Takes a packet, by its number modulo 2^24 and its record, and returns the event that it makes.
     pub(crate) fn read_packet(&mut self, number: u32, bytes: &[u8; 512]) -> Event
-        requires { number < 2 ^ 24 }
+        requires { number < SPAN }
         ensures read { at_packet (place_of self.old.wants bytes.now) number bytes.now self.old ≡ (self.new, result) }
         ensures reported { result ≢ Event.None }
     {
@@ -325,8 +326,8 @@ impl Dialogue {
 
     /// Takes a record of a station, with its number modulo 2^24.
     fn read_record(&mut self, k: usize, number: u32, bytes: &[u8; 512]) -> Event
-        requires place { k < 16 }
-        requires number { number < 2 ^ 24 }
+        requires place { k < STATIONS }
+        requires number { number < SPAN }
         ensures read { if_wanted (next_at self.old.wants k) k number bytes.now self.old ≡ (self.new, result) }
         ensures reported { result ≢ Event.None }
     {
@@ -345,7 +346,7 @@ impl Dialogue {
 
     /// Takes a packet whose record is wanted, and returns the index of its station. Another packet changes nothing.
     pub(crate) fn read_wanted(&mut self, number: u32, bytes: &[u8; 512]) -> Option<usize>
-        requires { number < 2 ^ 24 }
+        requires { number < SPAN }
         ensures read { IfSome result (λ k. at_packet (place_of self.old.wants bytes.now) number bytes.now self.old
             ≡ (self.new, Event.Record k number bytes.now)) }
         ensures unread { IfNone result (self.new ≡ self.old) }
@@ -365,8 +366,8 @@ impl Dialogue {
 
     /// Whether a number is taken where one is wanted.
     fn is_taken(&self, want: u32, number: u32) -> bool
-        requires want { want < 2 ^ 24 }
-        requires number { number < 2 ^ 24 }
+        requires want { want < SPAN }
+        requires number { number < SPAN }
         ensures { result ≡ is_taken self.now.holes want number }
     {
         number == want || self.holes && is_ahead(want, number)
@@ -374,17 +375,17 @@ impl Dialogue {
 
     /// Wants the record after this one next of a station.
     fn pass(&mut self, k: usize, number: u32)
-        requires place { k < 16 }
-        requires number { number < 2 ^ 24 }
-        ensures { self.new ≡ record self.old { wants = with_next self.old.wants k ((number + 1) % 2 ^ 24) } }
+        requires place { k < STATIONS }
+        requires number { number < SPAN }
+        ensures { self.new ≡ record self.old { wants = with_next self.old.wants k ((number + 1) % SPAN) } }
     {
         self.want_next(k, (number + 1) % SPAN as u32);
     }
 
     /// Wants this number next of a station.
     fn want_next(&mut self, k: usize, number: u32)
-        requires place { k < 16 }
-        requires number { number < 2 ^ 24 }
+        requires place { k < STATIONS }
+        requires number { number < SPAN }
         ensures { self.new ≡ record self.old { wants = with_next self.old.wants k number } }
     {
         if let Some(wanted) = self.want(k) {
@@ -398,7 +399,7 @@ impl Dialogue {
     /// The index of the first station whose codes a record's header has.
     fn place_of(&self, bytes: &[u8; 512]) -> Option<usize>
         ensures value { result ≡ place_of self.now.wants bytes.now }
-        ensures most { IfSome result (λ k. k < 16) }
+        ensures most { IfSome result (λ k. k < STATIONS) }
     {
         self.wants.iter().position(|want| is_of_wanted(bytes, want))
     }

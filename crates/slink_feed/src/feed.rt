@@ -18,7 +18,7 @@ use std::alloc::{Allocator, Global};
 use std::marker::Model;
 
 /// The most rings that a feed has.
-const MOST: usize = 16;
+pub(crate) const STATIONS: usize = 16;
 
 /// Why a ring isn't taken. It comes back.
 #[derive(Drop)]
@@ -32,7 +32,7 @@ pub enum FeedFault<A: Allocator = Global> {
 /// Up to sixteen rings of different stations, in the order in which they were added.
 #[derive(Drop)]
 pub struct Feed<A: Allocator = Global> {
-    rings: ArrayVec<Option<Ring<A>>, 16>,
+    rings: ArrayVec<Option<Ring<A>>, STATIONS>,
 }
 
 impl<A: Allocator> Model for Feed<A> {
@@ -75,11 +75,11 @@ impl<A: Allocator> Feed<A> {
     /// `Full` where there are sixteen rings, else `Double` where one has its station. The ring comes back.
     pub fn add(&mut self, ring: Ring<A>) -> Result<(), FeedFault<A>>
         ensures ok { OnOk result (self.new ≡ self.old ++ ring ∷ []) }
-        ensures taken { OnOk result ((length self.old < 16) × LacksPlace self.old ring.place) }
+        ensures taken { OnOk result ((length self.old < STATIONS) × LacksPlace self.old ring.place) }
         ensures fault { IfErr result (λ e. IsFeedFault e self.old ring) }
         ensures err { OnErr result (self.new ≡ self.old) }
     {
-        if self.rings.len() == MOST {
+        if self.rings.len() == STATIONS {
             return Err(FeedFault::Full(ring));
         }
         if self.has(ring.place()) {
@@ -91,7 +91,7 @@ impl<A: Allocator> Feed<A> {
 
     /// Adds the ring of a station that has none yet, where there are fewer than sixteen.
     pub fn add_other(&mut self, ring: Ring<A>)
-        requires room { length self.old < 16 }
+        requires room { length self.old < STATIONS }
         requires differs { ¬ (HasPlace self.old ring.place) }
         ensures { self.new ≡ self.old ++ ring ∷ [] }
     {
@@ -104,7 +104,7 @@ impl<A: Allocator> Feed<A> {
     /// Returns how many rings the feed has, at most sixteen.
     pub fn len(&self) -> usize
         ensures value { result ≡ length self.now }
-        ensures most { result ≤ 16 }
+        ensures most { result ≤ STATIONS }
     {
         self.rings.len()
     }
@@ -113,7 +113,7 @@ impl<A: Allocator> Feed<A> {
     pub fn ring(&self, k: usize) -> &Ring<A>
         requires { k < length self.now }
         ensures ring { slice_get self.now k ≡ Some result.now }
-        ensures most { k < 16 }
+        ensures most { k < STATIONS }
     {
         match &self.rings.as_slice()[k] {
             Some(ring) => ring,
@@ -147,7 +147,7 @@ impl<A: Allocator> Feed<A> {
     /// Returns the index of the first ring whose station and network a record carries in its header, if there is one.
     pub fn place_of(&self, bytes: &[u8; 512]) -> Option<usize>
         ensures some { IfSome result (IsPlaceOf self.now bytes.now) }
-        ensures most { IfSome result (λ k. k < 16) }
+        ensures most { IfSome result (λ k. k < STATIONS) }
         ensures none { result ≡ None → IsOfNoPlace self.now bytes.now }
     {
         for k in 0..self.len() {
@@ -171,7 +171,7 @@ impl<A: Allocator> Feed<A> {
         ensures place_of { IfOk result (IsPlaceOf self.old bytes.now) }
         ensures pushed { OnOk result (self.new ≡ pushed self.old bytes.now) }
         ensures others { IfOk result (λ k. (j : ℕ) → j ≢ k → slice_get self.new j ≡ slice_get self.old j) }
-        ensures most { IfOk result (λ k. k < 16) }
+        ensures most { IfOk result (λ k. k < STATIONS) }
         ensures foreign { OnErr result (¬ (IsOfFeed (places_of self.old) bytes.now)) }
         ensures fault { IfErr result (λ e. e ≡ InputFault.Foreign number) }
         ensures stays { OnErr result (self.new ≡ self.old) }
@@ -192,7 +192,7 @@ impl<A: Allocator> Feed<A> {
     pub(crate) fn find(&self, sta: &[u8; 5], net: Option<[u8; 2]>) -> Option<usize>
         ensures value { result ≡ station_at self.now sta.now net }
         ensures within { IfSome result (λ k. k < length self.now) }
-        ensures most { IfSome result (λ k. k < 16) }
+        ensures most { IfSome result (λ k. k < STATIONS) }
     {
         for k in 0..self.len() {
             if self.ring(k).place().matches(sta, net) {

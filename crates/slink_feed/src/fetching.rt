@@ -11,11 +11,11 @@ ghost use Rattle.slink_feed.specs.Reporter.{AreReported, lines_of, reporting_aft
 ghost use Rattle.slink_feed.specs.Reported.{record_in};
 
 use crate::client::Client;
-use crate::cutting::PACKET;
 use crate::dialogue::Event;
 use crate::reporter::Reporter;
 use crate::turn::{LinkFault, Turn};
 use mseed_stream::{Counted, Duplex, Failed, Sink, write_all_of};
+use slink_wire::PACKET;
 use std::io::sink;
 
 /// Room for the bytes that a step reads, which is lent to one step after another.

@@ -11,18 +11,22 @@ ghost use Rattle.slink_feed.specs.private.Lines.{Appends};
 
 use crate::client::Client;
 use crate::dialogue::Wanted;
+use crate::feed::STATIONS;
 use crate::ring::SPAN;
 use arrayvec::ArrayVec;
 use mseed_stream::{Sink, report};
 use slink_wire::{Place, six_digits};
 use std::marker::Model;
 
-/// A line: the longest one names sixteen stations.
-type Line = ArrayVec<u8, 320>;
+/// The most bytes of a line: the longest one names sixteen stations.
+const LINE: usize = 320;
+
+/// A line.
+type Line = ArrayVec<u8, LINE>;
 
 /// Appends bytes to a line.
 fn put(line: &mut Line, bytes: &[u8])
-    requires { length line.old.items + length bytes.now ≤ 320 }
+    requires { length line.old.items + length bytes.now ≤ LINE }
     ensures { line.new.items ≡ line.old.items ++ bytes.now }
 {
     // There is room.
@@ -59,7 +63,7 @@ fn hole_line(place: &Place, want: u32, got: u32) -> Line
 
 /// Appends a number to a line, after its name, where it is known.
 fn put_number(line: &mut Line, name: &[u8], number: Option<u32>)
-    requires { length line.old.items + length name.now + 6 ≤ 320 }
+    requires { length line.old.items + length name.now + 6 ≤ LINE }
     ensures { Appends line.old.items line.new.items (named_number name.now number) (length name.now + 6) }
 {
     if let Some(number) = number {
@@ -70,7 +74,7 @@ fn put_number(line: &mut Line, name: &[u8], number: Option<u32>)
 
 /// Appends the options that name the first station to a line.
 fn put_options(line: &mut Line, want: &Option<Wanted>)
-    requires { length line.old.items + 43 ≤ 320 }
+    requires { length line.old.items + 43 ≤ LINE }
     ensures { Appends line.old.items line.new.items (options_of want.now) 43 }
 {
     if let Some(wanted) = want {
@@ -84,7 +88,7 @@ fn put_options(line: &mut Line, want: &Option<Wanted>)
 
 /// Appends the argument that names a further station to a line.
 fn put_word(line: &mut Line, want: &Option<Wanted>)
-    requires { length line.old.items + 16 ≤ 320 }
+    requires { length line.old.items + 16 ≤ LINE }
     ensures { Appends line.old.items line.new.items (word_of want.now) 16 }
 {
     if let Some(wanted) = want {
@@ -96,7 +100,7 @@ fn put_word(line: &mut Line, want: &Option<Wanted>)
 
 /// The arguments of a `fetch` that goes on with these stations.
 fn next_line(first: &Option<Wanted>, others: &[Option<Wanted>]) -> Line
-    requires { length others.now ≤ 15 }
+    requires { length others.now < STATIONS }
     ensures { result.items ≡ next_line first.now others.now }
 {
     let mut line = Line::new();
@@ -110,16 +114,16 @@ fn next_line(first: &Option<Wanted>, others: &[Option<Wanted>]) -> Line
 }
 
 /// A copy of the stations that are wanted, with the numbers that they want next.
-fn copied(wants: &[Option<Wanted>; 16]) -> [Option<Wanted>; 16]
+fn copied(wants: &[Option<Wanted>; STATIONS]) -> [Option<Wanted>; STATIONS]
     ensures { result ≡ wants.now }
 {
-    let mut all = [None; 16];
+    let mut all = [None; STATIONS];
     all.copy_from_slice(wants);
     all
 }
 
 /// Wants this number next of the station at an index, if there is one.
-fn want_next(wants: &mut [Option<Wanted>; 16], k: usize, number: u32)
+fn want_next(wants: &mut [Option<Wanted>; STATIONS], k: usize, number: u32)
     ensures { wants.new ≡ with_next wants.old k number }
 {
     if let Some(Some(wanted)) = wants.get(k) {
@@ -173,8 +177,8 @@ fn report_first<E: Sink>(is_first: bool, want: &Option<Wanted>, number: u32, err
 /// first one of its station.
 #[derive(Drop)]
 pub struct Reporter {
-    wants: [Option<Wanted>; 16],
-    firsts: [bool; 16],
+    wants: [Option<Wanted>; STATIONS],
+    firsts: [bool; STATIONS],
     last: Option<(usize, u32)>,
     received: bool,
 }
@@ -198,7 +202,7 @@ impl Reporter {
     {
         Reporter {
             wants: copied(client.wants()),
-            firsts: [firsts; 16],
+            firsts: [firsts; STATIONS],
             last: None,
             received: false,
         }
@@ -270,7 +274,7 @@ impl Reporter {
     }
 
     /// What a client wants; where the output `failed`, the last record that was reported again.
-    fn wants_left(&self, client: &Client, failed: bool) -> [Option<Wanted>; 16]
+    fn wants_left(&self, client: &Client, failed: bool) -> [Option<Wanted>; STATIONS]
         ensures { result ≡ wants_left failed self.now.reporting.last client.now.talk.wants }
     {
         match self.last {

@@ -14,7 +14,7 @@ use std::marker::Model;
 pub(crate) const SPAN: u64 = 1 << 24;
 
 /// The most records that a ring keeps.
-const LARGEST: usize = 1_000_000;
+pub(crate) const LARGEST: usize = 1_000_000;
 
 /// Why there is no ring.
 #[derive(Clone, Copy, Debug, PartialEq, Eq)]
@@ -37,6 +37,7 @@ pub struct Ring<A: Allocator = Global> {
 
 impl<A: Allocator> Model for Ring<A> {
     ghost use Rattle.std.specs.Prelude.{◌<◌, ◌≤◌, ◌^◌, length};
+    ghost use Rattle.slink_feed.specs.declared.ring.TheConstants.{LARGEST};
     ghost use Rattle.slink_feed.specs.Window.{Window};
 
     ghost Value = { Window };
@@ -48,7 +49,7 @@ impl<A: Allocator> Model for Ring<A> {
       next = r.next;
     } };
 
-    ghost invariant = { λ r. (0 < r.records.capacity) × (r.records.capacity ≤ 1000000)
+    ghost invariant = { λ r. (0 < r.records.capacity) × (r.records.capacity ≤ LARGEST)
         × (length r.records.items ≤ r.records.capacity) × (length r.records.items ≤ r.next) × (r.next ≤ 2 ^ 63) };
 }
 
@@ -106,7 +107,7 @@ impl<A: Allocator> Ring<A> {
     pub fn oldest(&self) -> u64
         ensures value { result ≡ oldest_of self.now }
         ensures at_most { result ≤ self.now.next }
-        ensures near { self.now.next ≤ result + 1000000 }
+        ensures near { self.now.next ≤ result + LARGEST }
     {
         self.next - self.records.len() as u64
     }
@@ -124,7 +125,7 @@ impl<A: Allocator> Ring<A> {
         ensures value { option_copied result ≡ record_at self.now number }
         ensures within { IfSome result (λ _. number < self.now.next) }
         ensures short { IfSome result (λ _. number < 2 ^ 63) }
-        ensures few { length self.now.records ≤ 1000000 }
+        ensures few { length self.now.records ≤ LARGEST }
     {
         let oldest = self.oldest();
         if number < oldest || number >= self.next {

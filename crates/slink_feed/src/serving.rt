@@ -1,5 +1,5 @@
 //! One step of a session with its link: due packets are written, and a read is answered line by line.
-ghost use Rattle.std.specs.Prelude.{◌≡◌, ◌≢◌, ◌≤◌, ◌<◌, IfErr, IfOk, OnOk, length};
+ghost use Rattle.std.specs.Prelude.{◌≡◌, ◌≢◌, ◌≤◌, ◌<◌, ◌^◌, IfErr, IfOk, OnOk, length};
 ghost use Rattle.slink_feed.specs.declared.session.Phase.{Phase};
 ghost use Rattle.slink_feed.specs.Attending.{Attends, IsServeFault, RepliesToAll, attending};
 ghost use Rattle.slink_feed.specs.private.Replying.{FailsToGive, HasGiven, HasSent, IsReplyFault, IsWriteFault};
@@ -9,12 +9,11 @@ ghost use Rattle.slink_feed.specs.Rounds.{Attending, place_after};
 ghost use Rattle.slink_feed.specs.Running.{Stands};
 ghost use Rattle.slink_feed.specs.Session.{Fits, sent_without};
 
-use crate::cutting::PACKET;
-use crate::feed::Feed;
+use crate::feed::{Feed, STATIONS};
 use crate::session::{Session, Unsent};
 use crate::turn::{LinkFault, Turn};
 use mseed_stream::{Duplex, Failed, Sink, write_all_of};
-use slink_wire::Packet;
+use slink_wire::{PACKET, Packet};
 use std::alloc::Allocator;
 
 /// The most bytes that a step reads.
@@ -65,7 +64,7 @@ fn answer_once<A: Allocator, S: Duplex>(
     requires fits { Fits feed.now session.old.state }
     requires stands { Stands session.old }
     requires awake { session.old.state.phase ≢ Phase.Closed }
-    requires few { written ≤ 1099511627776 }
+    requires few { written ≤ 2 ^ 40 }
     // From whatever the step began with.
     ensures ok { (start : Attending) → HasSent feed.now start (attending session.old (S.written link.old)) written
         → IfOk result (λ turn. Attends feed.now start (attending session.new (S.written link.new)) (S.read link.old)
@@ -139,8 +138,8 @@ fn give<A: Allocator, L: Sink>(
 ) -> Result<Given, LinkFault>
     requires in_range { k < length feed.now }
     requires fits { Fits feed.now session.old.state }
-    requires room { before ≤ 2199023255552 }
-    requires waits { waits < 16 }
+    requires room { before ≤ 2 ^ 41 }
+    requires waits { waits < STATIONS }
     ensures ok { IfOk result (λ given. HasGiven feed.now k (attending session.old (L.written link.old))
         (attending session.new (L.written link.new)) before given.written waits given.waits) }
     ensures fault { IfErr result (λ fault. FailsToGive fault feed.now k (attending session.old (L.written link.old))
@@ -167,7 +166,7 @@ fn give<A: Allocator, L: Sink>(
 
 /// How many stations in a row had nothing to send, once another one was asked.
 fn count_waits(unsent: Unsent, waits: usize) -> usize
-    requires { waits < 16 }
+    requires { waits < STATIONS }
     ensures { result ≡ waits_after (sent_without unsent) waits }
 {
     match unsent {
@@ -195,8 +194,8 @@ fn reply_to_all<A: Allocator, L: Sink>(
 ) -> Result<(), LinkFault>
     requires fits { Fits feed.now session.old.state }
     requires stands { Stands session.old }
-    requires few { length bytes.now ≤ 512 }
-    requires room { before ≤ 1099511627776 }
+    requires few { length bytes.now ≤ ROOM }
+    requires room { before ≤ 2 ^ 40 }
     ensures ok { OnOk result (RepliesToAll feed.now (attending session.old (L.written link.old))
         (attending session.new (L.written link.new)) bytes.now) }
     ensures fault { IfErr result (λ fault. IsReplyFault fault feed.now (attending session.old (L.written link.old))
@@ -217,8 +216,8 @@ fn reply_to_all<A: Allocator, L: Sink>(
 
 /// Writes bytes after so many others, and returns how many there are with these.
 fn write_after<L: Sink>(link: &mut L, bytes: &[u8], before: usize) -> Result<usize, LinkFault>
-    requires room { before ≤ 2199023255552 }
-    requires few { length bytes.now ≤ 520 }
+    requires room { before ≤ 2 ^ 41 }
+    requires few { length bytes.now ≤ PACKET }
     ensures ok { IfOk result (λ after. IsWritten (L.written link.old) (L.written link.new) bytes.now before after) }
     ensures fault { IfErr result
         (λ fault. IsWriteFault fault (L.written link.old) (L.written link.new) bytes.now before) }

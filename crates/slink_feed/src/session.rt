@@ -13,8 +13,9 @@ ghost use Rattle.slink_feed.specs.Session.{Fits, IsAtNext, IsWaiting, has_sent_a
 ghost use Rattle.slink_feed.specs.Session.{sent_without};
 
 use crate::course::Course;
-use crate::feed::Feed;
-use slink_wire::{Lines, Reply, Took};
+use crate::feed::{Feed, STATIONS};
+use crate::ring::LARGEST;
+use slink_wire::{Lines, PACKET, Reply, Took};
 use std::alloc::Allocator;
 use std::marker::Model;
 
@@ -37,7 +38,7 @@ pub enum Phase {
 #[derive(Debug, PartialEq, Eq, Drop)]
 pub enum Sent {
     /// The packet of the next record.
-    Packet([u8; 520]),
+    Packet([u8; PACKET]),
     /// Nothing now.
     Wait,
     /// All that was requested was sent: the session is closed, and `END` is to be sent.
@@ -107,7 +108,7 @@ impl Model for Session {
 impl Session {
     /// The session of a new connection: no station is chosen, and none has a grant.
     pub fn new() -> Session
-        ensures state { result.state ≡ at Phase.Fresh (replicate 16 None) }
+        ensures state { result.state ≡ at Phase.Fresh (replicate STATIONS None) }
         ensures fits { (feed : List Window) → Fits feed result.state }
         ensures held { IsHeld result.held [] }
         ensures stands { Stands result }
@@ -163,7 +164,7 @@ impl Session {
         ensures stands { Stands self.new }
         // The ring of a packet keeps at most 1,000,000 records.
         ensures few { (bytes : List ℕ) → result ≡ Sent.Packet bytes
-            → ForSome (slice_get feed.now k) (λ w. length w.records ≤ 1000000) }
+            → ForSome (slice_get feed.now k) (λ w. length w.records ≤ LARGEST) }
     {
         self.course.packet(feed, k)
     }
@@ -192,7 +193,7 @@ impl Session {
         ensures fits { Fits feed.now self.new.state }
         ensures stands { Stands self.new }
         // The ring of a record keeps at most 1,000,000 records.
-        ensures few { IfOk result (λ _. ForSome (slice_get feed.now k) (λ w. length w.records ≤ 1000000)) }
+        ensures few { IfOk result (λ _. ForSome (slice_get feed.now k) (λ w. length w.records ≤ LARGEST)) }
     {
         self.course.next_record(feed, k)
     }

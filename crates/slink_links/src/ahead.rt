@@ -20,12 +20,13 @@ pub(crate) struct Ahead<S> {
 
 impl<S> Model for Ahead<S> {
     ghost use Rattle.std.specs.Prelude.{◌≤◌};
+    ghost use Rattle.slink_links.specs.declared.ahead.TheConstants.{ROOM};
 
     ghost Value = { S };
 
     ghost view = { λ a. a.stream };
 
-    ghost invariant = { λ a. (a.reported ≤ a.count) × (a.count ≤ 32768) };
+    ghost invariant = { λ a. (a.reported ≤ a.count) × (a.count ≤ ROOM) };
 }
 
 impl<S> Ahead<S> {

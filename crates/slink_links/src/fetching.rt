@@ -19,6 +19,7 @@ use crate::serving::TURNS;
 use crate::status::{DONE, FAULT};
 use mseed_stream::{Counted, Sink, report, write_all_of};
 use slink_feed::{Client, Event, LinkFault, Reporter, Room, Turn, fetch_turn_in};
+use slink_wire::PACKET;
 use std::io::sink;
 
 /// How a fetch ended.
@@ -242,7 +243,7 @@ fn fetch_link_reporting<S: EndsHandshake, W: Sink, E: Sink>(
 {
     let line = client.connect();
     match write_all_of(link, line.as_slice()) {
-        Ok(()) => take_turns(client, link, output, errors, reporter, &mut [0; 520]),
+        Ok(()) => take_turns(client, link, output, errors, reporter, &mut [0; PACKET]),
         Err(_) => FetchEnd::LinkFailed,
     }
 }

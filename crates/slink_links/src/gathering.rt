@@ -1,12 +1,10 @@
 //! A stream whose packets are written many at once.
 ghost use Rattle.std.specs.Prelude.{◌≡◌, ◌≤◌, IfOk, length};
 
+use slink_wire::PACKET;
 use std::io;
 use std::io::{Read, Write};
 use std::marker::Model;
-
-/// The bytes of a packet.
-const PACKET: usize = 520;
 
 /// So many bytes are gathered at most: those of 63 packets.
 const ROOM: usize = 63 * PACKET;
@@ -21,11 +19,13 @@ pub(crate) struct Gathering<S> {
 }
 
 impl<S> Model for Gathering<S> {
+    ghost use Rattle.slink_links.specs.declared.gathering.TheConstants.{ROOM};
+
     ghost Value = { S };
 
     ghost view = { λ g. g.stream };
 
-    ghost invariant = { λ g. g.count ≤ 32760 };
+    ghost invariant = { λ g. g.count ≤ ROOM };
 }
 
 impl<S> Gathering<S> {

@@ -1,12 +1,13 @@
 -- What is owed to a link while the server waits, and when a link is closed and taken.
 use Rattle.std.specs.Prelude.{◌≡◌, ◌≢◌, ◌↔◌, ◌⊎◌, ◌+◌, ◌<◌, ◌≤◌, ℕ, Bool, true, false, not, ◌&&◌, List, [], ◌∷◌, ◌++◌}
 use Rattle.std.specs.Prelude.{Option, Some, None, get_or, length, slice_get}
+use Rattle.slink_wire.specs.declared.packet.TheConstants.{PACKET}
 use Rattle.slink_feed.specs.declared.grant.Grant.{Grant}
 use Rattle.slink_feed.specs.declared.session.Phase.TheVariants.{Streaming, Closed}
 use Rattle.slink_feed.specs.Session.{Grants, IsWaiting, State, grant_at}
 use Rattle.slink_feed.specs.Window.{Window, oldest_of}
 use Rattle.slink_live.specs.declared.link.TheConstants.{REPLY}
-use Rattle.slink_live.specs.declared.pending.TheConstants.{PACKET, ROOM}
+use Rattle.slink_live.specs.declared.pending.TheConstants.{ROOM}
 use Rattle.slink_live.specs.declared.ready.Interest.{Interest}
 use Rattle.slink_live.specs.declared.ready.Event.TheVariants as events
 use Rattle.slink_live.specs.Happening.{Happening, Gone, Next, is_left, last_interest, wants_links}

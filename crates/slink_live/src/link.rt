@@ -12,10 +12,11 @@ ghost use Rattle.slink_live.specs.Story.{Asks, IsEarlier, IsNew};
 ghost use Rattle.slink_live.specs.private.Calling.{Gives, IsRested};
 ghost use Rattle.slink_live.specs.private.Granting.{AreDue, Covers, Has};
 
-use crate::pending::{PACKET, Pending, ROOM};
+use crate::pending::{Pending, ROOM};
 use crate::places::Places;
 use crate::ready::Interest;
 use slink_feed::{Feed, Session, Unsent};
+use slink_wire::PACKET;
 use std::marker::Model;
 
 /// No reply has more bytes.

@@ -10,10 +10,11 @@ ghost use Rattle.slink_live.specs.private.Calling.{HasFilled, HasReceived, HasTa
 ghost use Rattle.slink_live.specs.private.Granting.{Changes, CoversIn, LeavesOut};
 
 use crate::link::{Link, PIECE, Update};
-use crate::pending::{PACKET, ROOM};
+use crate::pending::ROOM;
 use crate::places::Places;
 use crate::ready::Ready;
 use slink_feed::Feed;
+use slink_wire::PACKET;
 use std::alloc::{AllocError, Global};
 use std::marker::Model;
 

@@ -3,14 +3,11 @@ ghost use Rattle.std.specs.Prelude.{◌≡◌, ◌≢◌, ◌+◌, ◌^◌, ◌<
 ghost use Rattle.std.specs.Bool.{OnFalse, OnTrue};
 ghost use Rattle.slink_wire.specs.Packet.{packet_bytes};
 
-use slink_wire::Packet;
+use slink_wire::{PACKET, Packet};
 use std::marker::Model;
 
 /// The most bytes that wait to be written: twelve packets.
-pub(crate) const ROOM: usize = 6_240;
-
-/// The bytes of a packet.
-pub(crate) const PACKET: usize = 520;
+pub(crate) const ROOM: usize = 12 * PACKET;
 
 /// Bytes that wait to be written, in order. Those that a link accepted leave room at the front, and the others move
 /// there only when there is no room after them.

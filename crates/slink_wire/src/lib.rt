@@ -19,7 +19,7 @@ pub use hexadecimal::six_digits;
 pub use host::{Address, Host, Name, Timeout};
 pub use law::{any_pieces, lines_read_back, one_command, one_packet, requests_are_lines};
 pub use lines::{Lines, Took, What};
-pub use packet::{NotPacket, Packet};
+pub use packet::{HEAD, NotPacket, PACKET, Packet};
 pub use place::{BadPlace, Place};
 pub use reply::Reply;
 pub use request::Request;

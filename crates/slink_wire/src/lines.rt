@@ -7,13 +7,16 @@ ghost use Rattle.slink_wire.specs.Taking.{Yields};
 use arrayvec::ArrayVec;
 use std::marker::Model;
 
+/// The most bytes of a line, without its CR.
+const LONGEST: usize = 255;
+
 /// What the bytes that a call accepted say.
 #[derive(Debug, Drop)]
 pub enum What {
     /// No line ended.
     More,
     /// A line, without its CR.
-    Line(ArrayVec<u8, 255>),
+    Line(ArrayVec<u8, LONGEST>),
     /// A line has more than 255 bytes: the stream has ended.
     TooLong,
 }
@@ -30,19 +33,20 @@ pub struct Took {
 /// What is held of a stream of command lines, as it is taken piece by piece.
 #[derive(Debug, Drop)]
 pub struct Lines {
-    begun: ArrayVec<u8, 255>,
+    begun: ArrayVec<u8, LONGEST>,
     is_too_long: bool,
 }
 
 impl Model for Lines {
     ghost use Rattle.std.specs.Prelude.{◌≤◌, length};
+    ghost use Rattle.slink_wire.specs.declared.lines.TheConstants.{LONGEST};
     ghost use Rattle.slink_wire.specs.Lines.{Held};
 
     ghost Value = { Held };
 
     ghost view = { λ l. record { begun = l.begun.items; is_too_long = l.is_too_long } };
 
-    ghost invariant = { λ l. length l.begun.items ≤ 255 };
+    ghost invariant = { λ l. length l.begun.items ≤ LONGEST };
 }
 
 impl Lines {

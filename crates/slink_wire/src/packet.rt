@@ -4,6 +4,12 @@ ghost use Rattle.slink_wire.specs.Packet.{HasHead, IsPacket, in_capitals, packet
 
 use crate::hexadecimal::{header, number_of};
 
+/// The bytes of a packet before its record: `SL`, and six hexadecimal digits (SeedLink 3, packets).
+pub const HEAD: usize = 8;
+
+/// The bytes of a packet: its head, and a record of 512 bytes.
+pub const PACKET: usize = HEAD + 512;
+
 /// No packet: the bytes don't begin with `SL` and six hexadecimal digits.
 #[derive(Clone, Copy, Debug, PartialEq, Eq)]
 pub struct NotPacket;
@@ -14,36 +20,36 @@ pub struct Packet;
 impl Packet {
     /// The packet of a record, with its number's digits in capitals.
     #[tactic(auto, using(crate::proofs::Packets::read_back))]
-    pub fn write(number: u32, bytes: &[u8; 512]) -> [u8; 520]
+    pub fn write(number: u32, bytes: &[u8; 512]) -> [u8; PACKET]
         requires { number < 2 ^ 24 }
         ensures value { result ≡ packet_bytes number bytes.now }
         ensures reads_back { IsPacket result number bytes.now }
     {
-        let mut packet = [0; 520];
+        let mut packet = [0; PACKET];
         Packet::put(&mut packet, number, bytes);
         packet
     }
 
     /// Puts the packet of a record into room, as [`Packet::write`] has it.
-    pub fn put(room: &mut [u8; 520], number: u32, bytes: &[u8; 512])
+    pub fn put(room: &mut [u8; PACKET], number: u32, bytes: &[u8; 512])
         requires { number < 2 ^ 24 }
         ensures value { room.new ≡ packet_bytes number bytes.now }
     {
-        let (head, body) = room.split_at_mut(8);
+        let (head, body) = room.split_at_mut(HEAD);
         head.copy_from_slice(&header(number));
         body.copy_from_slice(bytes);
     }
 
     /// The number of the record, from the first eight bytes of a packet: its digits may stand in either case.
     pub fn number(bytes: &[u8]) -> Option<u32>
-        requires { 8 ≤ length bytes.now }
+        requires { HEAD ≤ length bytes.now }
         ensures number { IfSome result (HasHead bytes.now) }
         ensures none { IfNone result ((n : ℕ) → ¬ (HasHead bytes.now n)) }
     {
         if !bytes.starts_with(b"SL") {
             return None;
         }
-        number_of(&bytes[2..8])
+        number_of(&bytes[2..HEAD])
     }
 
     /// The number and the record of a packet, whose digits may stand in either case.
@@ -52,7 +58,7 @@ impl Packet {
     ///
     /// `NotPacket` where the bytes don't begin with `SL` and six hexadecimal digits.
     #[tactic(auto, using(crate::proofs::Packets::one_packet))]
-    pub fn read(bytes: &[u8; 520]) -> Result<(u32, &[u8; 512]), NotPacket>
+    pub fn read(bytes: &[u8; PACKET]) -> Result<(u32, &[u8; 512]), NotPacket>
         ensures packet { IfOk result (λ p. IsPacket bytes.now p.0 p.1.now) }
         // All that is a packet is answered, so it has at most one number and record.
         ensures only { (n : ℕ) (r : List ℕ) → IsPacket bytes.now n r → IsOkAnd result (λ p. (p.0 ≡ n) × (p.1.now ≡ r)) }

@@ -1,5 +1,6 @@
 -- What one event does to one slot.
 use Rattle.std.specs.Prelude.{◌≡◌, ℕ, ◌+◌, ◌⊎◌, Bool, List, [], ◌∷◌, ◌++◌, drop, take, length, Option, Some, None}
+use Rattle.slink_wire.specs.declared.packet.TheConstants.{PACKET}
 use Rattle.slink_feed.specs.declared.session.Phase.TheVariants.{Closed}
 use Rattle.slink_feed.specs.declared.session.Sent.{Sent}
 use Rattle.slink_feed.specs.declared.session.Sent.TheVariants.{Wait}
@@ -8,7 +9,6 @@ use Rattle.slink_feed.specs.Session.{Fits, IsWaiting, sent, sent_bytes}
 use Rattle.slink_feed.specs.Window.{Window}
 use Rattle.slink_live.specs.declared.link.Update.{Update}
 use Rattle.slink_live.specs.declared.link.Update.TheVariants.{Empty, Wants, Closes}
-use Rattle.slink_live.specs.declared.pending.TheConstants.{PACKET}
 use Rattle.slink_live.specs.Awake.{IsClosable, IsLost, IsUpToDate}
 use Rattle.slink_live.specs.Happening.{Happening, Received, Emitted}
 use Rattle.slink_live.specs.Served.{LinkState, link_state}
