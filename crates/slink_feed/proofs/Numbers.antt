@@ -187,10 +187,6 @@ moved_turn : (k : ℕ) (t : Talk) (turn : Turn) → Moved k t (turned t turn)
 moved_turn k t connects = moved_place k 0 t (want_at t.wants 0)
 moved_turn k t (brings w) = moved_read k t t.stage w
 
--- No step changes whether the client goes past holes.
-kept_end : (t : Talk) (ending : Ending) → (ended ending t).0.holes ≡ t.holes
-kept_end t ending = refl
-
 pub kept_place : (j : ℕ) (t : Talk) (o : Option Wanted) → (to_place o j t).0.holes ≡ t.holes
 kept_place j t None = refl
 kept_place j t (Some w) = refl

@@ -319,14 +319,6 @@ module _ (feed : List Window) (old now new : Attending) (bytes : List ℕ) (star
   not_replied (faults.Write after) cut = unreplied after cut
   not_replied (faults.Output after) cut = absurd cut
 
-pub all_replied : (feed : List Window) (old now : Attending) (bytes : List ℕ) (start before written : ℕ)
-    → length bytes ≤ start → RepliedSoFar feed old now bytes start before written → RepliesToAll feed old now bytes
-all_replied feed old now bytes start before written all so_far = record {
-  serves = subst (λ (bs : List ℕ). Serves feed old.session bs old.written.bytes now.session now.written.bytes)
-      (take_all start bytes all) so_far.serves;
-  failures = so_far.failures;
-}
-
 -- the fault that a `?` passes on
 pub passed_on : {T : Type 0} (r : Result T LinkFault) (fault : LinkFault) (P : LinkFault → Type 0)
     → ((x : LinkFault) × (r ≡ Err x) × (x ≡ fault)) → P fault → IfErr r P

@@ -82,13 +82,3 @@ still_stands feed old new piece reply stands takes unshut =
 pub new_stands : (s : Standing) → IsHeld s.held [] → Stands s
 unfolding lines_of
 new_stands s held unshut = ([], (held, held.1))
-
--- A packet was sent.
-pub sent_stands : (feed : List Window) (old new : Standing) (k : ℕ) (what : Sent) → Stands old
-    → sent feed old.state k ≡ (new.state, what) → new.held ≡ old.held → Stands new
-sent_stands feed old new k what stands is same unshut =
-    let unshut_before : ¬ (old.state.phase ≡ Closed) = λ shut.
-    let stays : sent feed old.state k ≡ (old.state, _) = ap (λ (p : Phase). sent_in p feed old.state k) shut in
-    unshut (ap (λ (p : State × Sent). p.0.phase) (sym is ∙ stays) ∙ shut) in
-    let s : (stream : List ℕ) × StandsFor old stream = stands unshut_before in
-    (s.0, subst (λ (h : Held). IsHeld h s.0 × (h.is_too_long ≡ false)) (sym same) s.1)

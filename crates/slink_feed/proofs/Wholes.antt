@@ -23,9 +23,6 @@ begins_prefix a z b is = get_left a z 0 (slice_get_within a 0 b is) ∙ is
 prefix_begins : (a z : List ℕ) (b : ℕ) → 0 < length a → Begins (a ++ z) b → Begins a b
 prefix_begins a z b some is = sym (get_left a z 0 some) ∙ is
 
-other_begins : (xs : List ℕ) (b : ℕ) → Begins xs b → b ≢ 83 → Begins xs 83 → ⊥
-other_begins xs b is other it = other (one_begins xs b 83 is it)
-
 not_both : (xs : List ℕ) → Begins xs 69 → Begins xs 83 → ⊥
 not_both xs e s = let bad : 69 ≡ 83 = one_begins xs 69 83 e s in omega (arith, bad)
 

@@ -73,20 +73,6 @@ module _ (feed : List Window) {l0 l : LinkState} (same : l0 ≡ l) (k : ℕ) whe
       let x : HasLeft feed l0.session.state.grants k = left_out h in
       let bad : Some x.grant.position ≡ None = sym (ap position_of x.granted) ∙ none in cc bad
 
--- no station has left
-pub not_left_more : (feed : List Window) (grants : Grants) (k : ℕ) → ((j : ℕ) → j < k → ¬ (HasLeft feed grants j))
-    → ¬ (HasLeft feed grants k) → (j : ℕ) → j < k + 1 → ¬ (HasLeft feed grants j)
-not_left_more feed grants k before here j lt = elim (eqb_tells j k) [
-  | inl same ↦ subst (λ (i : ℕ). ¬ (HasLeft feed grants i)) (sym same.1) here
-  | inr other ↦ before j (omega (arith, lt, other.1))
-]
-
-pub not_lost : (feed : List Window) (s : State) (n : ℕ) → length feed ≤ n
-    → ((j : ℕ) → j < n → ¬ (HasLeft feed s.grants j)) → ¬ (IsLost feed s)
-not_lost feed s n le none lost =
-    let within : lost.k < length feed = slice_get_within feed lost.k lost.place.ring lost.place.there in
-    none lost.k (omega (arith, le, within)) lost.place
-
 -- where nothing is due, none has left
 pub waiting_not_lost : (feed : List Window) (s : State) → IsWaiting feed s → ¬ (IsLost feed s)
 waiting_not_lost feed s waits lost =

@@ -48,14 +48,6 @@ answer_in Phases.Closed feed s k e = sends (λ x. cc x) (λ a is. inl e)
 pub answer : (feed : List Window) (s : State) (k : ℕ) → Answer s (sent feed s k)
 answer feed s k = answer_in s.phase feed s k refl
 
-by_wait : (s t : State) (p : State × Sent) → Answer s p → p ≡ (t, Sents.Wait) → t ≡ s
-by_wait s t p (waits e) is = ap (λ (x : State × Sent). x.0) (sym is ∙ e)
-by_wait s t p (sends never each) is = absurd (never (ap (λ (x : State × Sent). x.1) is))
-
--- where nothing is sent, the session stays
-pub wait_stays : (feed : List Window) (s t : State) (k : ℕ) → sent feed s k ≡ (t, Sents.Wait) → t ≡ s
-wait_stays feed s t k is = by_wait s t (sent feed s k) (answer feed s k) is
-
 pub sends_not : (feed : List Window) (s t : State) (k : ℕ) (a : Sent) → sent feed s k ≡ (t, a) → a ≢ Sents.Wait
     → ¬ (sent feed s k ≡ (s, Sents.Wait))
 sends_not feed s t k a is never e = never (ap (λ (x : State × Sent). x.1) (sym is ∙ e))
@@ -67,8 +59,3 @@ by_end s t a p (sends other each) is never none = elim (each a (ap (λ (x : Stat
   | inl shut ↦ ap (λ (x : State × Sent). x.0.phase) (sym is) ∙ shut
   | inr packet ↦ absurd (none packet.0 packet.1)
 ]
-
--- What is sent but packets closes the session.
-pub ends_closed : (feed : List Window) (s t : State) (k : ℕ) (a : Sent) → sent feed s k ≡ (t, a) → a ≢ Sents.Wait
-    → ((bytes : List ℕ) → a ≢ Sents.Packet bytes) → t.phase ≡ Phases.Closed
-ends_closed feed s t k a is never none = by_end s t a (sent feed s k) (answer feed s k) is never none

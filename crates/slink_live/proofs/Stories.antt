@@ -42,13 +42,6 @@ asks_then feed s ring way now turn produced before last on all
     one_called m t p k answer b a (asks_then feed s ring way now turn produced before m p b earlier) first given held
     is
 
--- called once
-pub asks_once : (feed : List Window) (s now : Standing) (ring : ℕ) (way : List ℕ) (k : ℕ) (answer : Sent)
-    → IsTurn feed s.state ring k → sent feed s.state k ≡ (now.state, answer) → now.held ≡ s.held
-    → Asks feed s ring way now (k + 1) (way ++ sent_bytes answer)
-asks_once feed s now ring way k answer first given held =
-    one_called s now ring k answer way (way ++ sent_bytes answer) none_called first given held refl
-
 module _ (start : List Window) (k : ℕ) where
   -- a story by what the slot keeps
   by_link : (log : List Happening) (l : LinkState) (t : Story) → IsServed start k log (Some t)

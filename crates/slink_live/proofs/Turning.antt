@@ -13,14 +13,6 @@ use Rattle.slink_live.specs.private.Calling.{Gives}
 abbrev pub Waits : List Window → State → ℕ → Type 0
 Waits feed s j = sent feed s j ≡ (s, Sents.Wait)
 
--- one more of some that stand one after another
-pub waits_more : (feed : List Window) (s : State) (from k : ℕ) → ((j : ℕ) → from ≤ j → j < k → Waits feed s j)
-    → Waits feed s k → (j : ℕ) → from ≤ j → j < k + 1 → Waits feed s j
-waits_more feed s from k before here j least lt = elim (eqb_tells j k) [
-  | inl same ↦ subst (Waits feed s) (sym same.1) here
-  | inr other ↦ before j least (omega (arith, lt, other.1))
-]
-
 -- from the station whose turn it is on
 pub turn_then : (feed : List Window) (s : State) (ring k : ℕ) → ring ≤ k → k < length feed
     → ((j : ℕ) → ring ≤ j → j < k → Waits feed s j) → ¬ (Waits feed s k) → IsTurn feed s ring k

@@ -57,10 +57,6 @@ packet_length n r e = omega (arith, e, length-hexadecimal 6 n, length-append (he
 bytes_same : (xs ys : List ℕ) → bytes_eq xs ys ≡ true → xs ≡ ys
 bytes_same xs ys h = (bytes_eq-Decides xs ys).0 h
 
-not_ok : (t : Bool) (a : Answer) → a ≡ (if t then Refusal else Neither) → a ≡ Granted → ⊥
-not_ok true a e g = let bad : Refusal ≡ Granted = sym e ∙ g in cc bad
-not_ok false a e g = let bad : Neither ≡ Granted = sym e ∙ g in cc bad
-
 only_ok : (t u : Bool) → (if t then Granted else if u then Refusal else Neither) ≡ Granted → t ≡ true
 only_ok true u h = refl
 only_ok false true h = absurd (let bad : Refusal ≡ Granted = h in cc bad)

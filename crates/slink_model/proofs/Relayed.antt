@@ -50,16 +50,6 @@ all_joined : {X : Type 0} (P : X → Type 0) (xs ys : List X) → AllByRecursion
 all_joined P [] ys h k = k
 all_joined P (x ∷ xs) ys h k = (h.0, all_joined P xs ys h.1 k)
 
--- one view more
-pub viewed_more : (rs : List (List ℕ)) (r : List ℕ) (vs : List View) (v : View) → AreViewsOf rs vs → v.bytes ≡ r
-    → IsView v → AreViewsOf (rs ++ r ∷ []) (vs ++ v ∷ [])
-viewed_more rs r vs v h same is =
-    let first = h.bytes in
-    record {
-      bytes = map-append (λ (u : View). u.bytes) vs (v ∷ []) ∙ (λ i. first i ++ same i ∷ []);
-      each = all_joined IsView vs (v ∷ []) h.each (is, tt);
-    }
-
 -- records of one length, cut out of their bytes
 long_as : (rs : List (List ℕ)) → AllByRecursion (λ (r : List ℕ). length r ≡ 512) rs
     → length (concat rs) ≡ 512 * length rs

@@ -142,12 +142,6 @@ got [] i p lt is = absurd (omega (arith, lt))
 got (q ∷ qs) zero p lt is = ap (λ x. Some x) (sym is)
 got (q ∷ qs) (suc i) p lt is = got qs i p (omega (arith, lt)) is
 
-pub none_happen : (w : WorldState) (steps : List Step) (i : ℕ) → length steps ≤ i → AllHappen w (drop i steps) w
-none_happen w [] zero past = refl
-none_happen w [] (suc i) past = refl
-none_happen w (s ∷ ss) zero past = absurd (omega (arith, past))
-none_happen w (s ∷ ss) (suc i) past = none_happen w ss i (omega (arith, past))
-
 -- The feed goes on, and fits whatever it fitted.
 pub serving_on : (feed new : List Window) (link : Option LinkState) → ((s : State) → Fits feed s → Fits new s)
     → IfSome link (IsServing feed) → IfSome link (IsServing new)

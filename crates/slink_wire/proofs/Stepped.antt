@@ -167,17 +167,6 @@ pub record TakenTo (old now : Held) (piece : List ℕ) (i : ℕ) : Type 0 where
 taken_at : (piece stream : List ℕ) (k : ℕ) → k ≡ 0 → stream ≡ stream ++ take k piece
 taken_at piece stream k e = sym (append-nil stream) ∙ ap (λ j. stream ++ take j piece) (sym e)
 
-pub taken_none : (old : Held) (piece : List ℕ) → old.is_too_long ≡ false → TakenTo old old piece 0
-taken_none old piece isopen = record {
-  goes_on = isopen;
-  held = (λ stream h. subst (IsHeld old) (taken_at piece stream 0 refl) h);
-  quiet = (λ stream k h le. subst (YieldsNothing stream) (taken_at piece stream k (omega arith)) (
-    refl,
-    sym h.1
-        ∙ isopen,
-  ));
-}
-
 tells_from : (what : What) (before middle after : List ℕ) → YieldsNothing before middle → Yields what middle after
     → Yields what before after
 tells_from More before middle after p q = (q.0 ∙ p.0, q.1)
