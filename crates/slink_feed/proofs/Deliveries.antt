@@ -16,8 +16,8 @@ use Rattle.slink_feed.specs.Fetching.{joined_by, line_written, lines_written, re
 use Rattle.slink_feed.specs.Listening.{Brings, IsLinked, Listening, Reads, event_if_any}
 use Rattle.slink_feed.specs.Turns.{Emitted, EmittedPrefix, reported_once}
 use Rattle.slink_feed.proofs.Goings.{lines_on, still_linked, tells_on}
-use Rattle.slink_feed.proofs.Prefixes.{from_offset}
 use Rattle.slink_feed.proofs.Received.{reads_more}
+use Rattle.mseed_stream.proofs.Splits.{tail_is}
 
 pub record SoFar (old now : Fetching) (bytes : List ℕ) (offset written_count output_count_is : ℕ) : Type 0 where
   pub reported : List Event
@@ -54,7 +54,7 @@ emitted_further a b c xs ys all e one more = record {
   failures = more.failures ∙ one.failures;
 }
 
-take_past : (xs ys : List ℕ) (n : ℕ) → take (length xs + n) (xs ++ ys) ≡ xs ++ take n ys
+pub take_past : (xs ys : List ℕ) (n : ℕ) → take (length xs + n) (xs ++ ys) ≡ xs ++ take n ys
 take_past [] ys n = let none : 0 + n ≡ n = omega arith in ap (λ m. take m ys) none
 take_past (x ∷ xs) ys n = let one : suc (length xs) + n ≡ suc (length xs + n) = omega arith in
     ap (λ m. take m (x ∷ (xs ++ ys))) one ∙ ap (λ s. x ∷ s) (take_past xs ys n)
@@ -122,7 +122,7 @@ piece_of now new bytes offset used event linked comes = record {
   reads = λ start stream before. reads_more start stream
       (take used (take (length bytes - offset) (drop offset bytes))) before now new event comes.brings;
   some = comes.some;
-  bound = omega (arith, comes.bound, length-drop offset bytes, ap length (from_offset bytes offset));
+  bound = omega (arith, comes.bound, length-drop offset bytes, ap length (tail_is bytes offset));
 }
 
 -- what `take` says of bytes of a client that stayed as it was
@@ -145,12 +145,12 @@ take_prefix (b ∷ bs) (suc n) m = let one : suc n + m ≡ suc (n + m) = omega a
 
 pub piece_is : (bytes : List ℕ) (offset used : ℕ)
     → take offset bytes ++ take used (take (length bytes - offset) (drop offset bytes)) ≡ take (offset + used) bytes
-piece_is bytes offset used = ap (λ s. take offset bytes ++ take used s) (from_offset bytes offset)
+piece_is bytes offset used = ap (λ s. take offset bytes ++ take used s) (tail_is bytes offset)
     ∙ sym (take_prefix bytes offset used)
 
 pub piece_length : (bytes : List ℕ) (offset : ℕ)
     → length (take (length bytes - offset) (drop offset bytes)) ≡ length bytes - offset
-piece_length bytes offset = ap length (from_offset bytes offset) ∙ length-drop offset bytes
+piece_length bytes offset = ap length (tail_is bytes offset) ∙ length-drop offset bytes
 
 is_prefix : (bytes : List ℕ) (n : ℕ) → IsPrefixOf (take n bytes) bytes
 is_prefix bytes zero = (bytes, refl)

@@ -4,20 +4,9 @@ use Rattle.std.proofs.Common.{false, ◌&&◌, List, [], ◌∷◌, length, take
 use Rattle.std.specs.List.{list_all, zip}
 use Rattle.slink_feed.specs.Session.{Grants, has_sent_all, grant_at, has_sent}
 use Rattle.slink_feed.specs.Window.{Window}
-
-both : (p q : Bool) → (p && q) ≡ true → (p ≡ true) × (q ≡ true)
-both true q h = (refl, h)
-both false q h = absurd (let bad : false ≡ true = h in cc bad)
-
-join : (p q : Bool) → p ≡ true → q ≡ true → (p && q) ≡ true
-join p q a b = ap (λ t. t && q) a ∙ b
-
-one_fails : (p q : Bool) → q ≡ false → (p && q) ≡ false
-one_fails true q h = h
-one_fails false q h = refl
-
-same_some : (v w : Window) → Some v ≡ Some w → v ≡ w
-same_some v w e = cc e
+use Rattle.std.proofs.lemmas.Option.{same_Some}
+use Rattle.std.proofs.lemmas.Bool.{and_from, and_right}
+use Rattle.slink_wire.proofs.Cuts.{both}
 
 -- what was called of the first k stations
 abbrev pub first_done : List Window → Grants → ℕ → Bool
@@ -28,10 +17,10 @@ done_next : (ws : List Window) (gs : Grants) (k : ℕ) (w : Window) → slice_ge
 done_next [] gs k w here d before = refl
 done_next (v ∷ ws) [] k w here d before = refl
 done_next (v ∷ ws) (o ∷ gs) zero w here d before =
-    join (has_sent v o) true (ap (λ x. has_sent x o) (same_some v w here) ∙ d) refl
+    and_from (has_sent v o) true (ap (λ x. has_sent x o) (same_Some v w here) ∙ d) refl
 done_next (v ∷ ws) (o ∷ gs) (suc k) w here d before =
     let each : (has_sent v o ≡ true) × (first_done ws gs k ≡ true) = both (has_sent v o) (first_done ws gs k) before in
-    join (has_sent v o) (first_done ws gs (suc k)) each.0 (done_next ws gs k w here d each.1)
+    and_from (has_sent v o) (first_done ws gs (suc k)) each.0 (done_next ws gs k w here d each.1)
 
 pub done_more : (ws : List Window) (gs : Grants) (k : ℕ) (w : Window) (t : Bool) → slice_get ws k ≡ Some w
     → t ≡ has_sent w (grant_at gs k) → t ≡ true → first_done ws gs k ≡ true → first_done ws gs (k + 1) ≡ true
@@ -42,8 +31,8 @@ not_done_at : (ws : List Window) (gs : Grants) (k : ℕ) (w : Window) → slice_
 not_done_at [] gs k w here d = absurd (let bad : None ≡ Some w = here in cc bad)
 not_done_at (v ∷ ws) [] k w here d = absurd (let bad : true ≡ false = d in cc bad)
 not_done_at (v ∷ ws) (o ∷ gs) zero w here d =
-    ap (λ t. t && has_sent_all ws gs) (ap (λ x. has_sent x o) (same_some v w here) ∙ d)
-not_done_at (v ∷ ws) (o ∷ gs) (suc k) w here d = one_fails (has_sent v o) (has_sent_all ws gs)
+    ap (λ t. t && has_sent_all ws gs) (ap (λ x. has_sent x o) (same_Some v w here) ∙ d)
+not_done_at (v ∷ ws) (o ∷ gs) (suc k) w here d = and_right (has_sent v o) (has_sent_all ws gs)
     (not_done_at ws gs k w here d)
 
 pub not_done : (ws : List Window) (gs : Grants) (k : ℕ) (w : Window) (t : Bool) → slice_get ws k ≡ Some w

@@ -18,14 +18,12 @@ use Rattle.slink_feed.specs.Session.{Fits, IsReached, State, IsChosenOf, at, gra
 use Rattle.slink_feed.specs.Session.{chosen, granted, in_chosen, in_fresh, in_granted, in_streaming}
 use Rattle.slink_feed.specs.Window.{Window, ahead_of, oldest_of, resolve_of, with_record}
 use Rattle.slink_feed.proofs.Reached.{reached_with, reached_without}
-
-some_is : (p q : ℕ) → Some p ≡ Some q → p ≡ q
-some_is p q e = cc e
+use Rattle.std.proofs.lemmas.Option.{same_Some}
 
 within_by : (p : Window → Bool) (i k : ℕ) (w : Window) (ws : List Window) (t : Bool)
     → (position_from p (i + 1) ws ≡ Some k → k < (i + 1) + length ws)
     → (if t then Some i else position_from p (i + 1) ws) ≡ Some k → k < i + length (w ∷ ws)
-within_by p i k w ws true more e = let at : i ≡ k = some_is i k e in omega (arith, at)
+within_by p i k w ws true more e = let at : i ≡ k = same_Some i k e in omega (arith, at)
 within_by p i k w ws false more e = let lt : k < (i + 1) + length ws = more e in omega (arith, lt)
 
 -- the first station that passes is a station of the list
@@ -37,7 +35,7 @@ first_within p i k (w ∷ ws) e = within_by p i k w ws (p w) (first_within p (i 
 resolved_at : (w : Window) (seq p : ℕ) → resolve_of w seq ≡ Some p → (oldest_of w ≤ p) × (p ≤ w.next)
 resolved_at w seq p e = elim (leb_tells (ahead_of w seq) (w.next - oldest_of w)) [
   | inl passes ↦ let at : oldest_of w + ahead_of w seq ≡ p =
-      some_is (oldest_of w + ahead_of w seq) p
+      same_Some (oldest_of w + ahead_of w seq) p
       (sym (ap (λ t. if t then Some (oldest_of w + ahead_of w seq) else None) passes.0) ∙ e) in
       (omega (arith, at), omega (arith, at, passes.1))
   | inr fails ↦ absurd (let bad : None ≡ Some p = sym
@@ -46,8 +44,8 @@ resolved_at w seq p e = elim (leb_tells (ahead_of w seq) (w.next - oldest_of w))
 
 pub granted_at : (mode : Mode) (number : Option ℕ) (w : Window) (p : ℕ) → grant_of mode number w ≡ Some p
     → (oldest_of w ≤ p) × (p ≤ w.next)
-granted_at Modes.Data None w p e = let at : w.next ≡ p = some_is w.next p e in (omega (arith, at), omega (arith, at))
-granted_at Modes.Fetch None w p e = let at : oldest_of w ≡ p = some_is (oldest_of w) p e in
+granted_at Modes.Data None w p e = let at : w.next ≡ p = same_Some w.next p e in (omega (arith, at), omega (arith, at))
+granted_at Modes.Fetch None w p e = let at : oldest_of w ≡ p = same_Some (oldest_of w) p e in
     (omega (arith, at), omega (arith, at))
 granted_at Modes.Data (Some seq) w p e = resolved_at w seq p e
 granted_at Modes.Fetch (Some seq) w p e = resolved_at w seq p e

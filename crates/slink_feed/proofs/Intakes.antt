@@ -1,7 +1,7 @@
 -- Which ring takes a record.
 use Rattle.std.proofs.Common.{◌≡◌, ℕ, zero, suc, ◌<◌, ◌∙◌, ap, subst, refl, sym, arith, Bool, true, false, List, []}
 use Rattle.std.proofs.Common.{◌∷◌, length, set, Some, None, option_map, slice_get, if◌then◌else◌}
-use Rattle.std.proofs.lemmas.Option.{slice_get-map}
+use Rattle.std.proofs.lemmas.Option.{slice_get-map, same_Some}
 use Rattle.slink_wire.specs.Place.{Bears, Fields}
 use Rattle.slink_wire.proofs.Bearing.{bears_fails, bears_passes}
 use Rattle.slink_feed.specs.Intake.{IsOfFeed, is_of, places_of, pushed}
@@ -9,16 +9,13 @@ use Rattle.slink_feed.specs.Rings.{IsOfNoPlace, IsPlaceOf}
 use Rattle.slink_feed.specs.Window.{Window, with_record}
 use Rattle.slink_feed.proofs.Items.{within_is}
 
-same_some : (v w : Window) → Some v ≡ Some w → v ≡ w
-same_some v w e = cc e
-
 -- The first ring of its station takes it.
 pushed_at : (feed : List Window) (r : List ℕ) (k : ℕ) (w : Window) → slice_get feed k ≡ Some w → Bears r w.place
     → ((j : ℕ) (v : Window) → j < k → slice_get feed j ≡ Some v → ¬ (Bears r v.place))
     → pushed feed r ≡ set feed k (with_record w r)
 pushed_at [] r k w here bears first = absurd (let bad : None ≡ Some w = here in cc bad)
 pushed_at (v ∷ ws) r zero w here bears first =
-    let same : v ≡ w = same_some v w here in
+    let same : v ≡ w = same_Some v w here in
     ap (λ (t : Bool). if t then with_record v r ∷ ws else v ∷ pushed ws r)
     (bears_passes v.place r (subst (λ (x : Window). Bears r x.place) (sym same) bears))
     ∙ ap (λ (x : Window). with_record x r ∷ ws) same

@@ -74,7 +74,7 @@ got_past : (t : Bool) (o : Option (List ℕ)) (r : List ℕ) → (if t then None
 got_past true o r h = absurd (let bad : None ≡ Some r = h in cc bad)
 got_past false o r h = (refl, h)
 
-lt_false : (m n : ℕ) → nat_lt m n ≡ false → n ≤ m
+pub lt_false : (m n : ℕ) → nat_lt m n ≡ false → n ≤ m
 lt_false m n h = grind (arith, nat_tests)
 
 pub get_drop : (d : ℕ) (xs : List (List ℕ)) (i : ℕ) → slice_get (drop d xs) i ≡ slice_get xs (d + i)

@@ -24,8 +24,9 @@ use Rattle.slink_feed.specs.Listening.{AreBrought, Brought, Listening, Reads, by
 use Rattle.slink_feed.specs.Listening.{event_if_any}
 use Rattle.slink_feed.proofs.Received.{begun_none}
 use Rattle.slink_feed.proofs.Wholes.{prefix_begun}
+use Rattle.slink_feed.proofs.Deliveries.{take_past}
 
-packet_long : (n : ℕ) (bytes : List ℕ) → length bytes ≡ 512 → length (packet_bytes n bytes) ≡ 520
+pub packet_long : (n : ℕ) (bytes : List ℕ) → length bytes ≡ 512 → length (packet_bytes n bytes) ≡ 520
 packet_long n bytes long =
     let prefix : length (codes "SL" ++ hexadecimal 6 n) ≡ 8 = length-append (codes "SL") (hexadecimal 6 n)
     ∙ omega (arith, length-hexadecimal 6 n) in
@@ -54,12 +55,6 @@ packet_read t r at bears wanted =
     ap (λ (s : Stage). read_at s t (Packet r.number r.bytes)) at
     ∙ (ap (λ o. at_packet o r.number r.bytes t) bears
     ∙ wanted_reported (next_at t.wants r.place) r.place r.number r.bytes t wanted)
-
-take_past : (p rest : List ℕ) (m : ℕ) → take (length p + m) (p ++ rest) ≡ p ++ take m rest
-take_past [] rest m = ap (λ n. take n rest) (let e : 0 + m ≡ m = omega arith in e)
-take_past (x ∷ p) rest m =
-    ap (λ n. take n (x ∷ (p ++ rest))) (let e : suc (length p) + m ≡ suc (length p + m) = omega arith in e)
-    ∙ ap (λ xs. x ∷ xs) (take_past p rest m)
 
 -- so many bytes of the packets were delivered: what is reported of them, and what the client comes to
 abbrev Prefixed : Talk → List Numbered → ℕ → Type 0

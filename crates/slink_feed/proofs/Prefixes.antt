@@ -2,6 +2,7 @@
 use Rattle.std.proofs.Common.{◌≡◌, ℕ, ◌+◌, ◌-◌, ◌<◌, ◌≤◌, zero, suc, refl, sym, ap, ◌∙◌, arith, List, [], ◌∷◌, ◌++◌}
 use Rattle.std.proofs.Common.{append_assoc, length, take, take-add, take_all, drop, length-drop, Some, slice_get}
 use Rattle.std.proofs.lemmas.List.{take_rest}
+use Rattle.mseed_stream.proofs.Splits.{tail_is}
 
 pub get_left : (xs ys : List ℕ) (i : ℕ) → i < length xs → slice_get (xs ++ ys) i ≡ slice_get xs i
 get_left [] ys i lt = absurd (omega (arith, lt))
@@ -21,12 +22,8 @@ emitted_more start kept new bytes used m before more =
     ∙ ap (λ r. start ++ r) (ap (λ r. take used bytes ++ take m r) (take_rest bytes used)
     ∙ sym (take-add used m bytes))))
 
--- bytes from an offset on, as a slice has them
-pub from_offset : (bytes : List ℕ) (start : ℕ) → take (length bytes - start) (drop start bytes) ≡ drop start bytes
-from_offset bytes start = take_all (length bytes - start) (drop start bytes) (omega (arith, length-drop start bytes))
-
 -- so many of those that are left are within all
 pub within_more : (bytes : List ℕ) (used more : ℕ) → used ≤ length bytes
     → more ≤ length (take (length bytes - used) (drop used bytes)) → used + more ≤ length bytes
 within_more bytes used more within bound =
-    omega (arith, within, bound, ap length (from_offset bytes used), length-drop used bytes)
+    omega (arith, within, bound, ap length (tail_is bytes used), length-drop used bytes)

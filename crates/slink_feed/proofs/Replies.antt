@@ -9,16 +9,13 @@ use Rattle.std.proofs.lemmas.Option.{slice_get_past}
 use Rattle.slink_feed.specs.Cutting.{IsReply, IsReplyBegun, LacksEnd}
 use Rattle.slink_feed.specs.private.Parts.{ends_line, ends_reply}
 use Rattle.slink_feed.proofs.Prefixes.{get_left, get_here}
+use Rattle.slink_wire.proofs.Cuts.{both}
 
 same_byte : (a b : ℕ) → (a == b) ≡ true → a ≡ b
 same_byte a b h = elim (eqb_tells a b) [
   | inl same ↦ same.1
   | inr other ↦ absurd (let bad : true ≡ false = sym h ∙ other.0 in cc bad)
 ]
-
-both : (p q : Bool) → (p && q) ≡ true → (p ≡ true) × (q ≡ true)
-both true q h = (refl, h)
-both false q h = absurd (let bad : false ≡ true = h in cc bad)
 
 ends_both : (o : Option ℕ) (b : ℕ) → ends_line o b ≡ true → (o ≡ Some 13) × (b ≡ 10)
 ends_both None b h = absurd (let bad : false ≡ true = h in cc bad)

@@ -171,7 +171,7 @@ pub read_grants : (s t : State) → IsReadFrom s t → t.grants ≡ s.grants
 read_grants s t (inl same) = ap (λ (u : State). u.grants) same
 read_grants s t (inr closed) = ap (λ (u : State). u.grants) closed
 
-same_here : (n : ℕ) → (n == n) ≡ true
+pub same_here : (n : ℕ) → (n == n) ≡ true
 same_here n = elim (eqb_tells n n) [ inl same ↦ same.0 | inr other ↦ absurd (other.1 refl) ]
 
 sent_more : (k first : ℕ) (pushed : List (List ℕ)) (a : Called) (packets : List (List ℕ)) (g : Grant) (w : Window)

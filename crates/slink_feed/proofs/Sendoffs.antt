@@ -244,7 +244,7 @@ reply_short replies.Ok = omega arith
 reply_short replies.Error = omega arith
 reply_short replies.Hello = omega arith
 
-prefix : (xs : List ℕ) (n : ℕ) → xs ≡ take n xs ++ drop n xs
+pub prefix : (xs : List ℕ) (n : ℕ) → xs ≡ take n xs ++ drop n xs
 prefix xs zero = refl
 prefix [] (suc n) = refl
 prefix (x ∷ xs) (suc n) = ap (λ s. x ∷ s) (prefix xs n)

@@ -15,7 +15,7 @@ use Rattle.slink_feed.specs.Serving.{Answers, IsAnswer, Standing, Takes, TakesWh
 use Rattle.slink_feed.specs.Session.{State, sent, sent_in}
 use Rattle.slink_feed.specs.Window.{Window}
 
-closed_or : (p : Phase) → (p ≡ Closed) ⊎ ¬ (p ≡ Closed)
+pub closed_or : (p : Phase) → (p ≡ Closed) ⊎ ¬ (p ≡ Closed)
 closed_or Fresh = inr (λ e. cc e)
 closed_or (Chosen k) = inr (λ e. cc e)
 closed_or (Granted k) = inr (λ e. cc e)

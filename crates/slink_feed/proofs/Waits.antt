@@ -16,6 +16,7 @@ use Rattle.slink_feed.specs.Window.{Window, record_at}
 use Rattle.slink_feed.specs.Grant.{is_fetch}
 use Rattle.slink_feed.proofs.Done.{not_done, some_at}
 use Rattle.slink_feed.proofs.Reached.{sent_at_next, sent_by_record}
+use Rattle.std.proofs.lemmas.Bool.{and_right}
 
 -- a station at its ring's next record, where not all are done
 waits_at : (feed : List Window) (s : State) (k : ℕ) (w : Window) (o : Option Grant) → s.phase ≡ Streaming
@@ -124,18 +125,13 @@ none_more gs k before here j lt = elim (eqb_tells j k) [
   | inr other ↦ before j (omega (arith, lt, other.1))
 ]
 
--- a station whose next record is due, or left its ring, is not done
-due_open : (f b : Bool) → b ≡ false → (f && b) ≡ false
-due_open true b e = e
-due_open false b e = refl
-
 open_at : (feed : List Window) (gs : Grants) (k : ℕ) (w : Window) (o : Option Grant) → grant_at gs k ≡ o
     → slice_get feed k ≡ Some w → ¬ (IsAtNext feed gs k) → has_sent w o ≡ false
 open_at feed gs k w None granted here off =
     absurd (off (λ g v other there. absurd (let bad : None ≡ Some g = sym granted ∙ other in cc bad)))
 open_at feed gs k w (Some g) granted here off = elim (eqb_tells g.position w.next) [
   | inl same ↦ absurd (off (λ h v other there. is_next g h w v (sym granted ∙ other) (sym here ∙ there) same.1))
-  | inr other ↦ due_open (is_fetch g.mode) (g.position == w.next) other.0
+  | inr other ↦ and_right (is_fetch g.mode) (g.position == w.next) other.0
 ]
 
 unfinished : (feed : List Window) (gs : Grants) (k : ℕ) → k < length feed → ¬ (IsAtNext feed gs k)

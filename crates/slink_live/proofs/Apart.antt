@@ -14,6 +14,7 @@ use Rattle.slink_live.specs.Awake.{AreSame, IsClosable, IsLost, IsUpToDate, Slee
 use Rattle.slink_live.specs.Awake.{writes}
 use Rattle.slink_live.specs.Served.{LinkState}
 use Rattle.slink_live.specs.private.Granting.{LeavesOut, StaysBut}
+use Rattle.std.proofs.lemmas.Option.{same_Some}
 
 -- The rings of the stations with a grant are the same.
 abbrev pub AreAlike : List Window → List Window → Grants → Type 0
@@ -29,12 +30,9 @@ alike_by old new gs same k = elim (granted_or (grant_at gs k)) [
   | inr some ↦ inr (same k some.0 some.1)
 ]
 
-same_some : (v w : Window) → Some v ≡ Some w → v ≡ w
-same_some v w e = cc e
-
 one_done : (w v : Window) (o : Option Grant) → (o ≡ None) ⊎ (Some v ≡ Some w) → has_sent v o ≡ has_sent w o
 one_done w v o (inl none) = ap (has_sent v) none ∙ sym (ap (has_sent w) none)
-one_done w v o (inr same) = ap (λ (x : Window). has_sent x o) (same_some v w same)
+one_done w v o (inr same) = ap (λ (x : Window). has_sent x o) (same_Some v w same)
 
 done_alike : (ws vs : List Window) (gs : Grants) → length vs ≡ length ws → AreAlike ws vs gs
     → has_sent_all vs gs ≡ has_sent_all ws gs

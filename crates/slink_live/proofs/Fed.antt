@@ -8,9 +8,7 @@ use Rattle.slink_feed.proofs.Fitting.{fits_pushed}
 use Rattle.slink_feed.proofs.Intakes.{places_pushed}
 use Rattle.slink_live.specs.Input.{fed}
 use Rattle.slink_live.specs.Served.{IsBelow}
-
-same_some : (v w : Window) → Some v ≡ Some w → v ≡ w
-same_some v w e = cc e
+use Rattle.std.proofs.lemmas.Option.{same_Some}
 
 -- the stations stay
 pub places_fed : (feed : List Window) (records : List (List ℕ)) → places_of (fed feed records) ≡ places_of feed
@@ -29,7 +27,7 @@ set_below : (n : ℕ) (feed : List Window) (k : ℕ) (w : Window) (r : List ℕ)
     → IsBelow (n + 1) (set feed k (with_record w r))
 set_below n [] k w r here below j v there = absurd (let bad : None ≡ Some v = there in cc bad)
 set_below n (x ∷ ws) zero w r here below zero v there =
-    let one : with_record w r ≡ v = same_some (with_record w r) v there in
+    let one : with_record w r ≡ v = same_Some (with_record w r) v there in
     let number : w.next + 1 ≡ v.next = ap (λ (y : Window). y.next) one in
     omega (arith, below 0 w here, number)
 set_below n (x ∷ ws) zero w r here below (suc j) v there = omega (arith, below (suc j) v there)

@@ -2,7 +2,7 @@
 use Rattle.std.proofs.Common.{◌≡◌, ℕ, ◌+◌, ◌≤◌, ◌<◌, ◌⊎◌, ◌∙◌, ap, subst, refl, sym, arith, inl, inr, List, length}
 use Rattle.std.proofs.Common.{true, false, nat_lt, suc, Option, Some, None, option_map, slice_get}
 use Rattle.std.proofs.lemmas.Bool.Decides.{eqb_tells, leb_tells}
-use Rattle.std.proofs.lemmas.Option.{slice_get_within}
+use Rattle.std.proofs.lemmas.Option.{slice_get_within, same_Some}
 use Rattle.slink_feed.specs.declared.grant.Grant.{Grant}
 use Rattle.slink_feed.specs.declared.session.Phase.TheVariants.{Closed, Streaming}
 use Rattle.slink_feed.specs.Session.{Grants, IsWaiting, State, grant_at}
@@ -10,18 +10,13 @@ use Rattle.slink_feed.specs.Window.{Window, oldest_of}
 use Rattle.slink_live.specs.Awake.{HasLeft, IsLost}
 use Rattle.slink_live.specs.Served.{LinkState}
 use Rattle.slink_live.proofs.Fairness.{due_sends}
+use Rattle.slink_feed.proofs.Items.{lt_false}
 
 -- tests of numbers
 pub lt_by : (a b : ℕ) → nat_lt a b ≡ true → a < b
 lt_by a b e = elim (leb_tells (suc a) b) [
   | inl is ↦ omega (arith, is.1)
   | inr other ↦ absurd (let bad : false ≡ true = sym other.0 ∙ e in cc bad)
-]
-
-pub ge_by : (a b : ℕ) → nat_lt a b ≡ false → b ≤ a
-ge_by a b e = elim (leb_tells (suc a) b) [
-  | inl is ↦ absurd (let bad : true ≡ false = sym is.0 ∙ e in cc bad)
-  | inr other ↦ omega (arith, other.1)
 ]
 
 -- the position of a grant, where there is one
@@ -31,12 +26,6 @@ position_of o = option_map (λ (g : Grant). g.position) o
 granted_by : (o : Option Grant) (n : ℕ) → position_of o ≡ Some n → (g : Grant) × (o ≡ Some g) × (g.position ≡ n)
 granted_by None n e = absurd (let bad : None ≡ Some n = e in cc bad)
 granted_by (Some g) n e = (g, refl, (let both : Some g.position ≡ Some n = e in cc both))
-
-same_grant : (g h : Grant) → Some g ≡ Some h → g ≡ h
-same_grant g h e = cc e
-
-same_ring : (v w : Window) → Some v ≡ Some w → v ≡ w
-same_ring v w e = cc e
 
 module _ (feed : List Window) {l0 l : LinkState} (same : l0 ≡ l) (k : ℕ) where
   left_in : HasLeft feed l0.session.state.grants k → HasLeft feed l.session.state.grants k
@@ -56,8 +45,8 @@ module _ (feed : List Window) {l0 l : LinkState} (same : l0 ≡ l) (k : ℕ) whe
   has_not_left {n} w granted here le h =
       let g = granted_by (grant_at l0.session.state.grants k) n granted in
       let x : HasLeft feed l0.session.state.grants k = left_out h in
-      let grants : g.0 ≡ x.grant = same_grant g.0 x.grant (sym g.1 ∙ x.granted) in
-      let rings : w ≡ x.ring = same_ring w x.ring (sym here ∙ x.there) in
+      let grants : g.0 ≡ x.grant = same_Some g.0 x.grant (sym g.1 ∙ x.granted) in
+      let rings : w ≡ x.ring = same_Some w x.ring (sym here ∙ x.there) in
       omega (
         arith,
         le,

@@ -10,6 +10,7 @@ use Rattle.slink_live.specs.Happening.{piece_of}
 use Rattle.slink_live.specs.Happening.{those_of}
 use Rattle.slink_live.specs.Input.{IsFed}
 use Rattle.slink_live.specs.Story.{IsServed, Story, no_event, elsewhere, opens, receives, asks, takes, goes}
+use Rattle.slink_feed.proofs.Sendings.{same_here}
 
 if_leading : (t : Bool) (h : Happening) (xs ys : List Happening)
     → (if t then h ∷ (xs ++ ys) else xs ++ ys) ≡ (if t then h ∷ xs else xs) ++ ys
@@ -51,9 +52,6 @@ those_more : (k : ℕ) (before now : List Happening) (h : Happening) → now ≡
 those_more k before now h e t = ap (those_of k) e ∙ (those_append k before (h ∷ [])
     ∙ ap (λ q. those_of k before ++ (if q then h ∷ [] else [])) t)
 
-pub at_self : (k : ℕ) → (k == k) ≡ true
-at_self k = elim (eqb_tells k k) [ inl same ↦ same.0 | inr other ↦ absurd (other.1 refl) ]
-
 module _ (start : List Window) (k : ℕ) where
   fed_those : (log : List Happening) (feed : List Window) → IsFed start (input_of log) feed
       → IsFed start (input_of (those_of k log)) feed
@@ -78,19 +76,19 @@ module _ (start : List Window) (k : ℕ) where
       own_elsewhere (is_input h) before now h x refl other e (own_story before x s)
   own_story log o (opens before now t s fresh e) =
       opens (those_of k before) (those_of k now) t (own_story before None s) fresh
-      (those_more k before now (Opened k) e (at_self k))
+      (those_more k before now (Opened k) e (same_here k))
   own_story log o (receives before now feed t new ring bytes produced all emitted s fed serves e) =
       receives (those_of k before) (those_of k now) feed t new ring bytes produced all emitted (own_story before _ s)
-      (fed_those before feed fed) serves (those_more k before now (Received k bytes) e (at_self k))
+      (fed_those before feed fed) serves (those_more k before now (Received k bytes) e (same_here k))
   own_story log o (asks now feed t new ring turn produced all emitted s fed called) =
       asks (those_of k now) feed t new ring turn produced all emitted (own_story now _ s) (fed_those now feed fed)
       called
   own_story log o (takes before now t ring bytes produced emitted s prefix e) =
       takes (those_of k before) (those_of k now) t ring bytes produced emitted (own_story before _ s) prefix
-      (those_more k before now (Emitted k bytes) e (at_self k))
+      (those_more k before now (Emitted k bytes) e (same_here k))
   own_story log o (goes before now x s e) =
       goes (those_of k before) (those_of k now) x (own_story before x s)
-      (those_more k before now (Gone k) e (at_self k))
+      (those_more k before now (Gone k) e (same_here k))
 
 -- a prefix of a list that ends in h is the list, or one of what is before h
 same_head : (x y : Happening) (xs ys : List Happening) → x ∷ xs ≡ y ∷ ys → x ≡ y

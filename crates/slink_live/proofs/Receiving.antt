@@ -8,6 +8,7 @@ use Rattle.slink_wire.specs.declared.reply.Reply.TheVariants as Replies
 use Rattle.slink_wire.specs.Reply.{reply_bytes}
 use Rattle.slink_feed.specs.Serving.{Serves, Standing, Takes, none_served, piece_served}
 use Rattle.slink_feed.specs.Window.{Window}
+use Rattle.slink_feed.proofs.Sendoffs.{reply_short}
 
 -- the bytes from an offset on
 abbrev pub from_on : ℕ → List ℕ → List ℕ
@@ -49,10 +50,3 @@ leads_last feed s now bytes way produced start before whole =
     before now produced (subst (λ (x : List ℕ). Serves feed now x produced now produced)
     (sym (drop_all start bytes whole))
     (none_served now produced))
-
--- No reply has more bytes.
-pub reply_short : (r : Reply) → length (reply_bytes r) ≤ 35
-reply_short Replies.Nothing = let le : 0 ≤ 35 = omega arith in le
-reply_short Replies.Ok = let le : 4 ≤ 35 = omega arith in le
-reply_short Replies.Error = let le : 7 ≤ 35 = omega arith in le
-reply_short Replies.Hello = let le : 35 ≤ 35 = omega arith in le

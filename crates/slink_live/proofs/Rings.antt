@@ -9,6 +9,7 @@ use Rattle.slink_feed.specs.Intake.{is_of, places_of, pushed}
 use Rattle.slink_feed.proofs.Intakes.{places_pushed}
 use Rattle.slink_live.specs.Input.{fed}
 use Rattle.slink_live.specs.Slices.{is_first, records_at}
+use Rattle.std.proofs.lemmas.Option.{same_Some}
 
 abbrev one_if : Bool → List ℕ → List (List ℕ)
 one_if t r = if t then r ∷ [] else []
@@ -16,9 +17,6 @@ one_if t r = if t then r ∷ [] else []
 -- a ring of these shows these records
 abbrev ShowsAt : Option Window → ℕ → List (List ℕ) → Type 0
 ShowsAt o first records = (v : Window) × (o ≡ Some v) × Shows v first records
-
-same_some : (v w : Window) → Some v ≡ Some w → v ≡ w
-same_some v w e = cc e
 
 shows_nil : (w : Window) (first : ℕ) (xs : List (List ℕ)) → Shows w first xs → Shows w first (xs ++ [])
 shows_nil w first xs s = subst (Shows w first) (sym (append-nil xs)) s
@@ -34,7 +32,7 @@ shows_first true v ws r zero first w xs here s is on = (
   with_record v r,
   refl,
   subst (λ t. Shows (with_record v r) first (xs ++ one_if t r)) (sym is)
-      (shows_more v first xs r (subst (λ (x : Window). Shows x first xs) (sym (same_some v w here)) s)),
+      (shows_more v first xs r (subst (λ (x : Window). Shows x first xs) (sym (same_Some v w here)) s)),
 )
 shows_first true v ws r (suc k) first w xs here s is on = (
   w,

@@ -21,7 +21,7 @@ use Rattle.slink_model.specs.Counted.{Gained, undelivered, events_upon, on_item,
 use Rattle.slink_model.specs.Counted.{with_events}
 use Rattle.slink_feed.specs.Cutting.{IsBegun, IsWhole}
 use Rattle.slink_feed.specs.Dialogue.{Talk, Wants, Reply, Packet, End, at_packet, place_of, ended, read, read_at}
-use Rattle.slink_feed.specs.Dialogue.{next_at, next_set, numbered, says, to_place, reported, want_at, with_next}
+use Rattle.slink_feed.specs.Dialogue.{next_at, next_set, numbered, sends_line, to_place, reported, want_at, with_next}
 use Rattle.slink_feed.specs.Listening.{AreBrought, IsLinked, events_of, talk_after, event_if_any}
 use Rattle.slink_feed.specs.Session.{Grants, State, grant_at}
 use Rattle.slink_model.specs.Ties.{Item, Accepted, Refused, Greeted, Carried, Finished, Places, item_bytes, of_place}
@@ -31,14 +31,13 @@ use Rattle.slink_feed.proofs.Closing.{Open}
 use Rattle.slink_model.proofs.Calling.{open_at}
 use Rattle.slink_model.proofs.Counting.{brought_of, whole_of, whole_or}
 use Rattle.slink_model.proofs.Counts.{EndsIn}
-use Rattle.slink_feed.proofs.Prefixed.{wanted_reported}
+use Rattle.slink_feed.proofs.Prefixed.{wanted_reported, packet_long}
 use Rattle.slink_feed.proofs.Received.{begun_none}
 use Rattle.slink_model.proofs.Items.{carried_here, carried_there}
 use Rattle.slink_feed.proofs.Items.{is_within, put_here, put_there, same_or_not}
 use Rattle.slink_model.proofs.Lined.{IsAnswered, asks_more}
 use Rattle.slink_feed.proofs.OneReading.{IsRest}
 use Rattle.slink_model.proofs.OneWorld.{reported_events}
-use Rattle.slink_model.proofs.Outcomes.{packet_length}
 use Rattle.slink_wire.proofs.RequestLines.{end_line, station_line}
 use Rattle.slink_model.proofs.Requested.{also_at, number_line}
 use Rattle.slink_model.proofs.Shaken.{called_next, place_found, lacks_end, some_if, suited_next, suited_wanted}
@@ -109,7 +108,7 @@ module _ (places : Places) (differ : Differ places) (codes_are : (k : ℕ) (p : 
 
   carried_whole : (k n : ℕ) (r : List ℕ) → length r ≡ 512
       → IsWhole Packets (packet_bytes (n % 2 ^ 24) r) (Packet (n % 2 ^ 24) r)
-  carried_whole k n r long = (read_back (n % 2 ^ 24) r (omega arith), packet_length (n % 2 ^ 24) r long)
+  carried_whole k n r long = (read_back (n % 2 ^ 24) r (omega arith), packet_long (n % 2 ^ 24) r long)
 
   -- a packet is read
   module _ (grants : Grants) (phase : Phase) (t : Talk) (k n : ℕ) (r : List ℕ) (rest : List Item)
@@ -256,7 +255,7 @@ module _ (places : Places) (differ : Differ places) (codes_are : (k : ℕ) (p : 
     -- a line is sent
     line_written : (i : Item) (stage : Stage) (request : Request) → Open s.phase
         → read t (whole_of i) ≡ on_item t.stage i t → IsWhole t.stage (item_bytes i) (whole_of i)
-        → read t (whole_of i) ≡ says t stage request → IsLinked stage
+        → read t (whole_of i) ≡ sends_line t stage request → IsLinked stage
         → ((k : ℕ) → IsSuited (next_at t.wants k) (grant_at s.grants k) [])
         → Shakes (record t { stage = stage }) s.phase taken (way ++ request_bytes request) []
         → Outcome s taken way t (i ∷ []) [] 0

@@ -38,12 +38,12 @@ use Rattle.slink_model.proofs.CountedWorld.{the_counted_world}
 use Rattle.slink_model.proofs.Counting.{item_some, whole_or}
 use Rattle.slink_feed.proofs.Items.{is_within}
 use Rattle.slink_model.proofs.OneWorld.{Keeps, linked_or, step_keeps}
-use Rattle.slink_model.proofs.Outcomes.{packet_length}
 use Rattle.slink_model.proofs.Pushed.{one_more}
 use Rattle.slink_model.proofs.Shaking.{AreOfPlace, AreSent, Shakes, asks_end, asks_number, asks_place, has_none}
 use Rattle.slink_model.proofs.Shaking.{has_number, has_place, streams}
 use Rattle.slink_model.proofs.Sparing.{WorldTalks, opening_talks, step_talks}
 use Rattle.slink_model.proofs.Worlds.{AreOf, each_of}
+use Rattle.slink_feed.proofs.Prefixed.{packet_long}
 
 -- what goes after isn't whole yet
 wholes_more : (xs ys : List Item) (d : ℕ) → d ≤ length (way_bytes xs) → wholes d (xs ++ ys) ≡ wholes d xs
@@ -396,7 +396,7 @@ items_whole e (Accepted ∷ ps) are few = absurd are
 items_whole e (Refused ∷ ps) are few = absurd are
 items_whole e (Greeted ∷ ps) are few = absurd are
 items_whole e (Carried j n r ∷ ps) are few =
-    let size : length (item_bytes (Carried j n r)) ≡ 520 = packet_length (n % 2 ^ 24) r are.0 in
+    let size : length (item_bytes (Carried j n r)) ≡ 520 = packet_long (n % 2 ^ 24) r are.0 in
     let all : length (way_bytes (Carried j n r ∷ ps)) ≡ length (item_bytes (Carried j n r)) + length (way_bytes ps) =
     length-append (item_bytes (Carried j n r)) (way_bytes ps) in
     whole_or (Carried j n r) ps e (λ ws bs p. AreWhole e ws (take (e / 520) (Carried j n r ∷ ps)))

@@ -4,7 +4,7 @@ use Rattle.std.proofs.Common.{List, [], ◌∷◌, ◌++◌, length, replicate, 
 use Rattle.slink_model.specs.Counted.{ArePackets, wholes}
 use Rattle.slink_model.specs.Ties.{Item, Accepted, Refused, Greeted, Carried, Finished, item_bytes}
 use Rattle.slink_model.proofs.Counting.{whole_or}
-use Rattle.slink_model.proofs.Outcomes.{packet_length}
+use Rattle.slink_feed.proofs.Prefixed.{packet_long}
 
 replies_whole : (m d : ℕ) (ps : List Item) → 4 * m ≤ d
     → wholes d (replicate m Accepted ++ ps) ≡ replicate m Accepted ++ wholes (d - 4 * m) ps
@@ -26,7 +26,7 @@ packets_whole (Accepted ∷ ps) e are = absurd are
 packets_whole (Refused ∷ ps) e are = absurd are
 packets_whole (Greeted ∷ ps) e are = absurd are
 packets_whole (Carried k n r ∷ ps) e are =
-    let size : length (item_bytes (Carried k n r)) ≡ 520 = packet_length (n % 2 ^ 24) r are.0 in
+    let size : length (item_bytes (Carried k n r)) ≡ 520 = packet_long (n % 2 ^ 24) r are.0 in
     whole_or (Carried k n r) ps e (λ ws bs p. ws ≡ take (e / 520) (Carried k n r ∷ ps))
     (λ fits.
     let count : e / 520 ≡ suc ((e - 520) / 520) = omega (arith, fits, size) in
@@ -45,7 +45,7 @@ packets_ending (Accepted ∷ ps) e are few = absurd are
 packets_ending (Refused ∷ ps) e are few = absurd are
 packets_ending (Greeted ∷ ps) e are few = absurd are
 packets_ending (Carried k n r ∷ ps) e are few =
-    let size : length (item_bytes (Carried k n r)) ≡ 520 = packet_length (n % 2 ^ 24) r are.0 in
+    let size : length (item_bytes (Carried k n r)) ≡ 520 = packet_long (n % 2 ^ 24) r are.0 in
     whole_or (Carried k n r) (ps ++ Finished ∷ []) e (λ ws bs p. ws ≡ take (e / 520) (Carried k n r ∷ ps))
     (λ fits.
     let count : e / 520 ≡ suc ((e - 520) / 520) = omega (arith, fits, size) in
@@ -63,7 +63,7 @@ packets_ended (Accepted ∷ ps) e are all = absurd are
 packets_ended (Refused ∷ ps) e are all = absurd are
 packets_ended (Greeted ∷ ps) e are all = absurd are
 packets_ended (Carried k n r ∷ ps) e are all =
-    let size : length (item_bytes (Carried k n r)) ≡ 520 = packet_length (n % 2 ^ 24) r are.0 in
+    let size : length (item_bytes (Carried k n r)) ≡ 520 = packet_long (n % 2 ^ 24) r are.0 in
     whole_or (Carried k n r) (ps ++ Finished ∷ []) e (λ ws bs p. ws ≡ Carried k n r ∷ (ps ++ Finished ∷ []))
     (λ fits. ap (λ ws. Carried k n r ∷ ws) (ap (λ s. wholes (e - s) (ps ++ Finished ∷ [])) size
     ∙ packets_ended ps (e - 520) are.1 (omega (arith, all, size))))

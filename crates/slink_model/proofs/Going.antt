@@ -24,10 +24,11 @@ use Rattle.slink_model.proofs.Following.{get_within, near_alike}
 use Rattle.slink_model.proofs.Items.{carried_here, carried_there}
 use Rattle.slink_feed.proofs.Items.{same_or_not, within_is}
 use Rattle.slink_model.proofs.Linked.{any}
-use Rattle.slink_model.proofs.Outcomes.{packet_length, same_cut}
+use Rattle.slink_model.proofs.Outcomes.{same_cut}
 use Rattle.slink_model.proofs.Shaking.{AreOfPlace, IsBorne, IsSuited, LinkTalks}
 use Rattle.slink_model.proofs.Sparing.{IsTalking, WorldTalks, talks_after}
 use Rattle.slink_model.proofs.Worlds.{last_lacks, ties_after}
+use Rattle.slink_feed.proofs.Prefixed.{packet_long}
 
 module _ (places : Places) (differ : Differ places) where
   -- two packets of the same bytes carry a record of one station
@@ -50,8 +51,8 @@ module _ (places : Places) (differ : Differ places) where
       let a : ℕ = na % 2 ^ 24 in
       let b : ℕ = nb % 2 ^ 24 in
       let cut : (packet_bytes a ra ≡ packet_bytes b rb) × (way_bytes xs ≡ way_bytes ys) =
-      same_cut (packet_bytes a ra) (way_bytes xs) (packet_bytes b rb) (way_bytes ys) (packet_length a ra p.2
-      ∙ sym (packet_length b rb q.2)) e in
+      same_cut (packet_bytes a ra) (way_bytes xs) (packet_bytes b rb) (way_bytes ys) (packet_long a ra p.2
+      ∙ sym (packet_long b rb q.2)) e in
       let one : (a ≡ b) × (ra ≡ rb) =
       one_packet (packet_bytes a ra) a b ra rb (read_back a ra (omega arith))
       (subst (λ x. IsPacket x b rb) (sym cut.0) (read_back b rb (omega arith))) in

@@ -8,6 +8,7 @@ use Rattle.slink_wire.specs.Lines.{lines_of}
 use Rattle.slink_wire.specs.Written.{AreLines, IsLine, SpellsPrefix, written_bytes}
 use Rattle.slink_wire.specs.Taking.{Yields}
 use Rattle.slink_wire.proofs.WrittenBack.{prefix_spelled, none_quiet}
+use Rattle.slink_wire.proofs.Stepped.{never}
 
 pub bytes_more : (lines : List (List ℕ)) (line : List ℕ)
     → written_bytes (lines ++ line ∷ []) ≡ written_bytes lines ++ (line ++ 13 ∷ 10 ∷ [])
@@ -76,9 +77,6 @@ last_reported before reported line x c is le e =
     let lists : line ∷ [] ≡ x ∷ [] = append_cancel_left before (line ∷ []) (x ∷ []) (sym all ∙ (sym is ∙ e)) in
     cc lists
 
-true_false : (b : Bool) → b ≡ true → b ≡ false → ⊥
-true_false b t f = let bad : true ≡ false = sym t ∙ f in cc bad
-
 -- what more bytes add: nothing, or the line that was called last
 pub data IsRead (line taken way : List ℕ) : What → Type 0 where
   nothing : IsAsking line taken way → IsRead line taken way More
@@ -112,7 +110,7 @@ more_called line taken piece way TooLong a tells =
     let reported : SpellsPrefix (taken ++ piece) (a.before ++ line ∷ []) =
     prefix_spelled (a.before ++ line ∷ []) (taken ++ piece) way a.are_lines (append_assoc taken piece way
     ∙ a.written) in
-    absurd (true_false (lines_of (taken ++ piece)).is_too_long tells.1 reported.3)
+    absurd (never (lines_of (taken ++ piece)).is_too_long tells.1 reported.3)
 
 -- nothing is reported any more
 pub more_answered : (taken piece way : List ℕ) (what : What) → IsAnswered taken (piece ++ way)
@@ -134,4 +132,4 @@ more_answered taken piece way (Line l) a tells =
 more_answered taken piece way TooLong a tells =
     let reported : SpellsPrefix (taken ++ piece) a.before =
     prefix_spelled a.before (taken ++ piece) way a.are_lines (append_assoc taken piece way ∙ a.written) in
-    absurd (true_false (lines_of (taken ++ piece)).is_too_long tells.1 reported.3)
+    absurd (never (lines_of (taken ++ piece)).is_too_long tells.1 reported.3)

@@ -52,10 +52,10 @@ place_granted feed k first w F held next start sent old new rest here shows room
     subst (λ x. IsOnWay any first F held start sent x rest) (sym e)
     (subst (IsOnWay any first F held start sent (Some g)) (sym none) begins)
 
-grant_within : (gs : Grants) (k : ℕ) (g : Grant) → grant_at gs k ≡ Some g → k < length gs
-grant_within [] k g h = absurd (let bad : None ≡ Some g = h in cc bad)
-grant_within (x ∷ gs) zero g h = omega arith
-grant_within (x ∷ gs) (suc k) g h = let more : k < length gs = grant_within gs k g h in omega (arith, more)
+pub slot_within : (gs : Grants) (k : ℕ) (g : Grant) → grant_at gs k ≡ Some g → k < length gs
+slot_within [] k g h = absurd (let bad : None ≡ Some g = h in cc bad)
+slot_within (x ∷ gs) zero g h = omega arith
+slot_within (x ∷ gs) (suc k) g h = let more : k < length gs = slot_within gs k g h in omega (arith, more)
 
 module _ (places : Places) (first : ℕ) (windows : List Window) (pushed : Lists) (client : Listening) (held : Lists)
     (start : Numbers) (shown : AreShown places first windows pushed)
@@ -160,7 +160,7 @@ module _ (places : Places) (first : ℕ) (windows : List Window) (pushed : Lists
       (option_map (λ (x : Grant). x.position) (grant_at s.grants k))) None room
       ∙ ap (λ (o : Option Grant). or_else (number_at first_sent k) (option_map (λ (x : Grant). x.position) o)) grant in
       let now : grant_at (packet_at s k g (Some r)).0.grants k ≡ Some h =
-      put_here s.grants k (Some h) None (grant_within s.grants k g grant) in
+      put_here s.grants k (Some h) None (slot_within s.grants k g grant) in
       let of : of_place k (items ++ Carried k g.position r ∷ []) ≡ of_place k items ++ (g.position, r) ∷ [] =
       of_more k items (Carried k g.position r ∷ [])
       ∙ ap (λ b. of_place k items ++ (b ++ [])) (carried_here k g.position r) in

@@ -28,6 +28,7 @@ use Rattle.slink_feed.specs.Dialogue.{to_place, reported, want_at, with_next}
 use Rattle.slink_feed.specs.Listening.{Brings, Listening, begun, whole}
 use Rattle.slink_model.specs.Ties.{AreWhole, Item, Accepted, Refused, Greeted, Carried, Finished, Outcome, ends, says}
 use Rattle.slink_model.specs.Ties.{takes, reported_of, waits, way_bytes}
+use Rattle.slink_feed.proofs.Prefixed.{packet_long}
 
 quiet_ending : (ending : Ending) → reported_of (event_of ending) ≡ None
 quiet_ending endings.End = refl
@@ -50,9 +51,6 @@ one_byte xs ys i a b h left right = let both : Some a ≡ Some b = sym left ∙ 
 
 pub no_byte : (xs ys : List ℕ) (i a : ℕ) → xs ≡ ys → slice_get xs i ≡ Some a → slice_get ys i ≡ None → ⊥
 no_byte xs ys i a h left right = let both : Some a ≡ None = sym left ∙ (ap (λ zs. slice_get zs i) h ∙ right) in cc both
-
-pub packet_length : (n : ℕ) (r : List ℕ) → length r ≡ 512 → length (packet_bytes n r) ≡ 520
-packet_length n r e = omega (arith, e, length-hexadecimal 6 n, length-append (hexadecimal 6 n) r)
 
 bytes_same : (xs ys : List ℕ) → bytes_eq xs ys ≡ true → xs ≡ ys
 bytes_same xs ys h = (bytes_eq-Decides xs ys).0 h
@@ -127,7 +125,7 @@ module _ (t : Talk) (bytes way : List ℕ) (new : Listening) (e : Event) (plain 
   first_carried (Carried k m x ∷ rest) n r are is long h prefix =
       let cut : (bytes ≡ packet_bytes (m % 2 ^ 24) x) × (way ≡ way_bytes rest) =
       same_cut bytes way (packet_bytes (m % 2 ^ 24) x) (way_bytes rest) (long
-      ∙ sym (packet_length (m % 2 ^ 24) x are.0)) h in
+      ∙ sym (packet_long (m % 2 ^ 24) x are.0)) h in
       let one : (n ≡ m % 2 ^ 24) × (r ≡ x) =
       one_packet bytes n (m % 2 ^ 24) r x is
       (subst (λ b. IsPacket b (m % 2 ^ 24) x) (sym cut.0) (read_back (m % 2 ^ 24) x (omega arith))) in

@@ -7,11 +7,7 @@ use Rattle.slink_feed.specs.Listening.{IsLinked}
 use Rattle.slink_feed.specs.Serving.{Serves, Standing, Takes, none_served, piece_served}
 use Rattle.slink_feed.specs.Window.{Window}
 use Rattle.slink_model.specs.World.{Reads, Numbers, Taking, none_read, piece_lost}
-
-prefix : (bytes : List ℕ) (used : ℕ) → bytes ≡ take used bytes ++ drop used bytes
-prefix bytes zero = refl
-prefix [] (suc n) = refl
-prefix (b ∷ bs) (suc n) = ap (λ t. b ∷ t) (prefix bs n)
+use Rattle.slink_feed.proofs.Sendoffs.{prefix}
 
 nothing : (used : ℕ) → ◌≡◌ {A = List ℕ} (take used []) []
 nothing zero = refl

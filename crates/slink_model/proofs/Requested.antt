@@ -25,6 +25,7 @@ use Rattle.slink_feed.specs.Session.{State, answered}
 use Rattle.slink_feed.specs.Window.{Window}
 use Rattle.slink_model.specs.World.{Differ}
 use Rattle.slink_feed.proofs.Items.{one_value}
+use Rattle.std.proofs.lemmas.Bool.{and_from, false_from_ne_true}
 
 pub number_line : (mode : Mode) (number : Option ℕ) → IsLine (request_line (numbered mode number))
 number_line modes.Data number = data_line number
@@ -74,11 +75,8 @@ module _ {A B C : Type 0} where
   also_at f g o (Some y) x same is = let both_are : Some (f x) ≡ Some (g y) = sym (ap (option_map f) is) ∙ same in
       (y, refl, cc both_are)
 
-pub both_pass : (p q : Bool) → p ≡ true → q ≡ true → (p && q) ≡ true
-both_pass p q a b = ap (λ t. t && q) a ∙ b
-
 pub matches_itself : (place : Fields) → matches place place.station (Some place.network) ≡ true
-matches_itself place = both_pass (bytes_eq place.station place.station) (bytes_eq place.network place.network)
+matches_itself place = and_from (bytes_eq place.station place.station) (bytes_eq place.network place.network)
     ((bytes_eq-Decides place.station place.station).1 refl) ((bytes_eq-Decides place.network place.network).1 refl)
 
 matched : (place other : Fields) → matches place other.station (Some other.network) ≡ true → place ≡ other
@@ -89,10 +87,6 @@ matched place other h =
     ((bytes_eq-Decides place.station other.station).0 parts.0)
     ∙ ap (λ (n : List ℕ). record { station = other.station; network = n })
     ((bytes_eq-Decides place.network other.network).0 parts.1)
-
-pub by_cases : (t : Bool) → (t ≡ true → ⊥) → t ≡ false
-by_cases true h = absurd (h refl)
-by_cases false h = refl
 
 -- The ring of a station is found by its codes.
 pub station_found : (places : List (Fields × Option ℕ)) (feed : List Window) (k : ℕ) (p : Fields × Option ℕ)
@@ -106,7 +100,7 @@ station_found places feed k p differ alike here =
     (sym (alike k)) here in
     first_found (λ (v : Window). matches v.place p.0.station (Some p.0.network)) 0 k feed ring.0 ring.1
     (subst (λ (q : Fields). matches q p.0.station (Some p.0.network) ≡ true) ring.2 (matches_itself p.0))
-    (λ j w lt at. by_cases (matches w.place p.0.station (Some p.0.network)) (λ is.
+    (λ j w lt at. false_from_ne_true (matches w.place p.0.station (Some p.0.network)) (λ is.
     let q : (r : Fields × Option ℕ) × (slice_get places j ≡ Some r) × (w.place ≡ r.0) =
     also_at (λ (v : Window). v.place) (λ (r : Fields × Option ℕ). r.0) (slice_get feed j) (slice_get places j) w
     (alike j) at in

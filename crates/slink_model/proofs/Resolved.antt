@@ -3,7 +3,7 @@ use Rattle.std.proofs.Common.{◌≡◌, ℕ, ◌+◌, ◌-◌, ◌%◌, ◌^◌
 use Rattle.std.proofs.lemmas.Bool.Decides.{leb_tells}
 use Rattle.slink_feed.specs.Window.{Window, ahead_of, oldest_of, resolve_of}
 
-ahead_alike : (o x : ℕ) → (o + (x % 2 ^ 24 + 2 ^ 24 - o % 2 ^ 24) % 2 ^ 24) % 2 ^ 24 ≡ x % 2 ^ 24
+pub ahead_alike : (o x : ℕ) → (o + (x % 2 ^ 24 + 2 ^ 24 - o % 2 ^ 24) % 2 ^ 24) % 2 ^ 24 ≡ x % 2 ^ 24
 ahead_alike o x = omega arith
 
 pub resolved_alike : (w : Window) (seq p : ℕ) → resolve_of w seq ≡ Some p → p % 2 ^ 24 ≡ seq % 2 ^ 24

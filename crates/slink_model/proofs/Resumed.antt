@@ -21,17 +21,13 @@ use Rattle.slink_model.proofs.Items.{held_to}
 use Rattle.slink_feed.proofs.Items.{is_within, oldest_is, one_value}
 use Rattle.slink_model.proofs.Linked.{any}
 use Rattle.slink_model.proofs.Worlds.{last_lacks, ties_after}
-
-ahead_alike : (o x : ℕ) → (o + (x % 2 ^ 24 + 2 ^ 24 - o % 2 ^ 24) % 2 ^ 24) % 2 ^ 24 ≡ x % 2 ^ 24
-ahead_alike o x = omega arith
-
-both_pass : (p q : Bool) → p ≡ true → q ≡ true → (p && q) ≡ true
-both_pass p q a b = ap (λ t. t && q) a ∙ b
+use Rattle.std.proofs.lemmas.Bool.{and_from}
+use Rattle.slink_model.proofs.Resolved.{ahead_alike}
 
 resumed_there : (w : Window) (n : ℕ) → oldest_of w ≤ n → n ≤ w.next → resumed w n ≡ Some n
 resumed_there w n lo hi = elim (leb_tells (oldest_of w) n) [
   | inl a ↦ elim (leb_tells n w.next) [
-    | inl b ↦ ap (λ t. if t then Some n else None) (both_pass (nat_le (oldest_of w) n) (nat_le n w.next) a.0 b.0)
+    | inl b ↦ ap (λ t. if t then Some n else None) (and_from (nat_le (oldest_of w) n) (nat_le n w.next) a.0 b.0)
     | inr b ↦ absurd (omega (arith, b.1, hi))
   ]
   | inr a ↦ absurd (omega (arith, a.1, lo))

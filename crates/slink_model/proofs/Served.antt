@@ -15,13 +15,7 @@ use Rattle.slink_feed.specs.Window.{Window}
 use Rattle.slink_model.specs.World.{Lists, Numbers}
 use Rattle.slink_model.proofs.Commanded.{leaves}
 use Rattle.slink_model.proofs.Linked.{any, answered_link}
-
-closed_or : (phase : Phase) → (phase ≡ Closed) ⊎ ¬ (phase ≡ Closed)
-closed_or Fresh = inr (λ e. let bad : Fresh ≡ Closed = e in cc bad)
-closed_or (Chosen k) = inr (λ e. let bad : Chosen k ≡ Closed = e in cc bad)
-closed_or (Granted k) = inr (λ e. let bad : Granted k ≡ Closed = e in cc bad)
-closed_or Streaming = inr (λ e. let bad : Streaming ≡ Closed = e in cc bad)
-closed_or Closed = inl refl
+use Rattle.slink_feed.proofs.Stands.{closed_or}
 
 -- a piece is taken, and answered
 piece_answered : (feed : List Window) (old new : Standing) (piece : List ℕ) (reply : Reply)

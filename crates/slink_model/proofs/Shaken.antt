@@ -37,20 +37,20 @@ use Rattle.slink_model.specs.Spared.{IsFair, IsSpared}
 use Rattle.slink_model.specs.Ties.{Item, Accepted, Refused, Greeted, Carried, Finished, Places, item_bytes, of_place}
 use Rattle.slink_model.specs.Ties.{way_bytes}
 use Rattle.slink_model.specs.World.{Differ, Reads, Numbers, Taking, none_read, noted, piece_read, piece_lost}
-use Rattle.slink_feed.proofs.Prefixed.{wanted_reported}
+use Rattle.slink_feed.proofs.Prefixed.{wanted_reported, packet_long}
 use Rattle.slink_feed.proofs.Received.{begun_none}
 use Rattle.slink_model.proofs.Items.{carried_here, carried_there}
 use Rattle.slink_feed.proofs.Items.{is_within, put_here, put_there, same_or_not}
 use Rattle.slink_wire.proofs.WrittenBack.{nothing_left}
 use Rattle.slink_model.proofs.Lined.{IsAnswered, asks_more}
 use Rattle.slink_feed.proofs.OneReading.{one_prefix, seen_same}
-use Rattle.slink_model.proofs.Outcomes.{packet_length}
 use Rattle.slink_wire.proofs.RequestLines.{end_line, station_line}
-use Rattle.slink_model.proofs.Requested.{also_at, by_cases, first_found, number_line}
+use Rattle.slink_model.proofs.Requested.{also_at, first_found, number_line}
 use Rattle.slink_model.proofs.Shaking.{AreCalled, AreOfPlace, AreSent, Flows, IsQuiet, IsSuited, LinkTalks, Shakes}
 use Rattle.slink_model.proofs.Shaking.{asks_end, asks_number, asks_place, has_none, has_number, has_place, streams}
 use Rattle.slink_model.proofs.Taken.{matched_is, same_client}
 use Rattle.slink_feed.proofs.Wholes.{begun_no_whole, one_whole}
+use Rattle.std.proofs.lemmas.Bool.{false_from_ne_true}
 
 lacks_byte : (bytes : List ℕ) (j : ℕ) → Lacks 10 bytes → slice_get bytes j ≡ Some 10 → ⊥
 lacks_byte [] j lacks is = let bad : None ≡ Some 10 = is in cc bad
@@ -142,7 +142,7 @@ module _ (places : Places) (differ : Differ places) (codes_are : (k : ℕ) (p : 
       let passes : is_of_wanted r (Some at_k.0) ≡ true = bears_passes at_k.0.place r matched in
       let first : position_from (is_of_wanted r) 0 wants ≡ Some (0 + k) =
       first_found (is_of_wanted r) 0 k wants (Some at_k.0) (want_slot (slice_get wants k) at_k.0 at_k.1) passes
-      (λ j y lt at_j. by_cases (is_of_wanted r y) (λ is.
+      (λ j y lt at_j. false_from_ne_true (is_of_wanted r y) (λ is.
       let v : (w : Wanted) × (y ≡ Some w) × Bears r w.place = matched_is r y is in
       let q : (x : Fields × Option ℕ) × (slice_get places j ≡ Some x) × (v.0.place ≡ x.0) =
       also_at (λ (w : Wanted). w.place) (λ (x : Fields × Option ℕ). x.0) (want_at wants j) (slice_get places j) v.0
@@ -343,7 +343,7 @@ module _ (places : Places) (differ : Differ places) (codes_are : (k : ℕ) (p : 
         let first : (at_packet (place_of t.client.talk.wants r) m r t.client.talk ≡ (new.talk, e))
         × (left ≡ way_bytes rest) =
         first_read Packets t.client bytes left w (Packet m r) (Carried k n r) rest (new.talk, e) stage
-        (l.flows.flow ∙ ap way_bytes one) (read_back m r (omega arith), packet_length m r matched.0.2) is h in
+        (l.flows.flow ∙ ap way_bytes one) (read_back m r (omega arith), packet_long m r matched.0.2) is h in
         let found : (place_of t.client.talk.wants r ≡ Some k) × (v : Wanted) ×
         (want_at t.client.talk.wants k ≡ Some v) =
         place_found t.client.talk.wants k matched.0.0 r called matched.0.1 matched.0.3 in

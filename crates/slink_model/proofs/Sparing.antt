@@ -43,6 +43,7 @@ use Rattle.slink_model.proofs.Shaking.{Shakes, asks_end, asks_number, asks_place
 use Rattle.slink_model.proofs.Shaking.{serves_talks, streams}
 use Rattle.slink_feed.proofs.Wanting.{short_all}
 use Rattle.slink_model.proofs.Worlds.{AreOf, each_of, none_granted, none_wanted, sound_more}
+use Rattle.slink_model.proofs.Linked.{slot_within}
 
 pub matched_more : (places : Places) (xs ys : List Item) → AreOfPlace places xs → AreOfPlace places ys
     → AreOfPlace places (xs ++ ys)
@@ -69,11 +70,6 @@ suited_more want (Some f) g h rest r is next s =
       omega (arith, next, same, s.2, length-append rest ((g.position, r) ∷ [])),
       s.3,
     )
-
-pub slot_within : (gs : Grants) (k : ℕ) (g : Grant) → grant_at gs k ≡ Some g → k < length gs
-slot_within [] k g h = absurd (let bad : None ≡ Some g = h in cc bad)
-slot_within (x ∷ gs) zero g h = omega arith
-slot_within (x ∷ gs) (suc k) g h = let more : k < length gs = slot_within gs k g h in omega (arith, more)
 
 before_no : (phase p : Phase) → phase ≡ p → IsBefore p → ¬ (IsBefore phase) → ⊥
 before_no phase p is before later = later (subst IsBefore (sym is) before)

@@ -27,9 +27,7 @@ use Rattle.slink_feed.proofs.Items.{is_within, one_value, put_here, put_there, s
 use Rattle.slink_feed.proofs.Items.{within_is}
 use Rattle.slink_model.proofs.Outcomes.{outcome}
 use Rattle.slink_model.proofs.Following.{delivered, way_started}
-
-some_is : (p q : ℕ) → Some p ≡ Some q → p ≡ q
-some_is p q e = cc e
+use Rattle.std.proofs.lemmas.Option.{same_Some}
 
 module _ {X : Type 0} (p : X → Bool) where
   abbrev Passes : List X → ℕ → ℕ → Type 0
@@ -39,7 +37,7 @@ module _ {X : Type 0} (p : X → Bool) where
       → (if t then Some i else position_from p (i + 1) xs) ≡ Some j
       → (position_from p (i + 1) xs ≡ Some j → Passes xs (i + 1) j) → Passes (x ∷ xs) i j
   passes_by i j x xs true is h more =
-      let e : i ≡ j = some_is i j h in
+      let e : i ≡ j = same_Some i j h in
       let z : j - i ≡ 0 = omega (arith, e) in
       (omega (arith, e), x, ap (slice_get (x ∷ xs)) z, is)
   passes_by i j x xs false is h more =
@@ -94,9 +92,6 @@ same_client f (events.Gap k want got) t = refl
 same_client f events.Garbage t = refl
 same_client f events.Foreign t = refl
 
-reported_is : (a b : Reported) → Some a ≡ Some b → a ≡ b
-reported_is a b e = cc e
-
 no_reported : {A : Type 0} → (a : Reported) → None ≡ Some a → A
 no_reported a e = absurd (let bad : None ≡ Some a = e in cc bad)
 
@@ -107,7 +102,7 @@ reported_held f events.None t a h = no_reported a h
 reported_held f (events.Say bytes) t a h = no_reported a h
 reported_held f (events.Record k n r) t a h =
     let same : (record { index = k; number = n; bytes = r }) ≡ a =
-    reported_is (record { index = k; number = n; bytes = r }) a h in (
+    same_Some (record { index = k; number = n; bytes = r }) a h in (
       ap (λ (x : Reported). with_one t.held x.index x.bytes) same,
       ap (λ (x : Reported). with_first t.start x.index (number_at f x.index)) same,
     )

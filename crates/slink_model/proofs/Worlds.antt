@@ -3,7 +3,7 @@ use Rattle.std.proofs.Common.{◌≡◌, All, ◌≢◌, ℕ, ◌+◌, ◌-◌, 
 use Rattle.std.proofs.Common.{◌∙◌, arith, List, [], ◌∷◌, ◌++◌, length, length-set, set, get_or, take, drop}
 use Rattle.std.proofs.Common.{take-append-drop, map, replicate, Option, Some, None, option_map, slice_get}
 use Rattle.std.proofs.lemmas.List.{get_or_default, length-map}
-use Rattle.std.proofs.lemmas.Option.{slice_get-map}
+use Rattle.std.proofs.lemmas.Option.{slice_get-map, same_Some}
 use Rattle.slink_wire.specs.Place.{Bears, Fields}
 use Rattle.slink_feed.specs.declared.dialogue.Wanted.{Wanted}
 use Rattle.slink_feed.specs.declared.grant.Grant.{Grant}
@@ -30,6 +30,7 @@ use Rattle.slink_model.proofs.Outcomes.{place_written}
 use Rattle.slink_model.proofs.Served.{serves_link}
 use Rattle.slink_model.proofs.Following.{holds_pushed, way_any, way_few, way_pushed}
 use Rattle.slink_model.proofs.Taken.{ClientTies, reads_ties}
+use Rattle.slink_feed.proofs.Items.{drop_none}
 
 -- the last element, or one before it
 get_last : (xs : List (List ℕ)) (b : List ℕ) (i : ℕ) (r : List ℕ) → slice_get (xs ++ b ∷ []) i ≡ Some r
@@ -361,24 +362,16 @@ pub last_lacks : (first : ℕ) (steps : List Step) (w v : WorldState) (run : All
 last_lacks first [] w v run lacks = subst (LacksFew first) (sym run) lacks
 last_lacks first (step ∷ steps) w v run lacks = last_lacks first steps run.0 v run.2 lacks.1
 
--- before the first step
-drop_none : (n : ℕ) → ◌≡◌ {A = List (List ℕ)} (drop n []) []
-drop_none zero = refl
-drop_none (suc n) = refl
-
 pub none_wanted : (m k : ℕ) → want_at (replicate m None) k ≡ None
 none_wanted zero k = refl
 none_wanted (suc m) zero = refl
 none_wanted (suc m) (suc k) = none_wanted m k
 
-wanted_is : (v w : Wanted) → Some v ≡ Some w → v ≡ w
-wanted_is v w e = cc e
-
 opening_wanted : (ps : Places) (m k : ℕ) (w : Wanted) → want_at (map wanted_of ps ++ replicate m None) k ≡ Some w
     → (p : Fields × Option ℕ) × (slice_get ps k ≡ Some p) × (w.place ≡ p.0)
 opening_wanted [] m k w h = absurd (let bad : None ≡ Some w = sym (none_wanted m k) ∙ h in cc bad)
 opening_wanted (p ∷ ps) m zero w h = let both : Some (record { place = p.0; next = p.1 }) ≡ Some w = h in
-    let one : record { place = p.0; next = p.1 } ≡ w = wanted_is (record { place = p.0; next = p.1 }) w both in
+    let one : record { place = p.0; next = p.1 } ≡ w = same_Some (record { place = p.0; next = p.1 }) w both in
     (p, refl, ap (λ (x : Wanted). x.place) (sym one))
 opening_wanted (p ∷ ps) m (suc k) w h = opening_wanted ps m k w h
 

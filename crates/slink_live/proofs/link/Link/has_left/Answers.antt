@@ -1,8 +1,9 @@
 use Rattle.std.proofs.Common.{◌∙◌, arith, nat_lt, sym}
 use Rattle.std.proofs.lemmas.Bool.{OnFalse_from, OnTrue_from}
 use Rattle.slink_live.specs.Awake.{HasLeft}
-use Rattle.slink_live.proofs.Losing.{ge_by, has_left, has_not_left, lt_by, none_left}
+use Rattle.slink_live.proofs.Losing.{has_left, has_not_left, lt_by, none_left}
 use Rattle.slink_live.proofs.link.Link.has_left.Goals as goal
+use Rattle.slink_feed.proofs.Items.{lt_false}
 
 pub returns-in-Some-clause-yes : goal.returns-in-Some-clause-yes
 returns-in-Some-clause-yes c =
@@ -17,7 +18,7 @@ returns-in-Some-clause-no c =
     (¬ (HasLeft c.args.feed.now c.args.self.now.session.state.grants c.args.k))
     (λ ge. has_not_left c.args.feed.now c.self.view_is c.args.k c.ring.result.now
     (sym c.position.ensures ∙ c.in-Some.is) c.ring.ensures.ring
-    (omega (arith, ge_by c.in-Some.position c.oldest.result ge, c.oldest.ensures.value)))
+    (omega (arith, lt_false c.in-Some.position c.oldest.result ge, c.oldest.ensures.value)))
 
 pub returns-in-None-clause-no : goal.returns-in-None-clause-no
 returns-in-None-clause-no c =

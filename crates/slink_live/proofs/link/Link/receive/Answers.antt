@@ -4,8 +4,9 @@ use Rattle.slink_wire.specs.Reply.{reply_bytes}
 use Rattle.slink_feed.specs.Serving.{Takes}
 use Rattle.slink_feed.specs.Session.{Fits}
 use Rattle.slink_live.specs.Served.{LinkState}
-use Rattle.slink_live.proofs.Receiving.{Leads, from_length, from_on, leads_first, leads_last, leads_on, reply_short}
+use Rattle.slink_live.proofs.Receiving.{Leads, from_length, from_on, leads_first, leads_last, leads_on}
 use Rattle.slink_live.proofs.link.Link.receive.Goals as goal
+use Rattle.slink_feed.proofs.Sendoffs.{reply_short}
 
 pub loop-start-init : goal.loop-start-init
 loop-start-init c = record {
