@@ -18,7 +18,10 @@ use Rattle.slink_feed.specs.Rounds.{Attending}
 use Rattle.slink_feed.specs.Serving.{Standing}
 use Rattle.slink_feed.specs.Turns.{failed_once, is_empty, reported_once}
 use Rattle.slink_feed.specs.Window.{Window}
-use Rattle.std.proofs.lemmas.List.Folds.{or-false}
+
+or_false : (b : Bool) → (b || false) ≡ b
+or_false true = refl
+or_false false = refl
 
 not_empty : (n : ℕ) (xs : List ℕ) → 0 < n → n ≤ length xs → is_empty (take n xs) ≡ false
 not_empty zero xs some bound = absurd (omega (arith, some))
@@ -36,7 +39,7 @@ read_with h bytes failed ends = record {
 -- a read that failed, and one that reported bytes
 pub failed_is : (h : BytesRead) (e : Failed) (buf : List ℕ) → read_also h (Err e) buf ≡ failed_once h
 failed_is h e buf = ap (λ (b : List ℕ). read_with h b 1 (h.is_at_end || false)) (append-nil h.bytes)
-    ∙ ap (read_with h h.bytes 1) (or-false h.is_at_end)
+    ∙ ap (read_with h h.bytes 1) (or_false h.is_at_end)
 
 pub reported_is : (h : BytesRead) (n : ℕ) (buf : List ℕ) → 0 < n → n ≤ length buf
     → read_also {E = Failed} h (Ok n) buf ≡ reported_once h (take n buf)

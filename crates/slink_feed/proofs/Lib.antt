@@ -28,7 +28,7 @@ pub mod Sendoffs
 pub mod Slots
 pub mod SlicesWanted
 pub mod Stands
-pub mod Reported
+pub mod ReportedOver
 pub mod ReportLines
 pub mod Waits
 pub mod Wanting

@@ -1,6 +1,6 @@
 -- The elements of a list, by their indices.
 use Rattle.std.proofs.Common.{◌≡◌, ℕ, ◌+◌, ◌-◌, ◌<◌, ◌≤◌, zero, suc, refl, sym, ap, ◌∙◌, arith, List, [], ◌∷◌, ◌++◌}
-use Rattle.std.proofs.Common.{append_assoc, length, take, take-add, take_all, drop, length-drop, Some, slice_get}
+use Rattle.std.proofs.Common.{append_assoc, length, take, take-add, drop, length-drop, Some, slice_get}
 use Rattle.std.proofs.lemmas.List.{take_rest}
 use Rattle.mseed_stream.proofs.Splits.{tail_is}
 

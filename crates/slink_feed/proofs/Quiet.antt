@@ -13,7 +13,7 @@ use Rattle.slink_feed.specs.Reporter.{Reporting, first_lines, hole_line, hole_li
 use Rattle.slink_feed.specs.Reporter.{reporting_past}
 use Rattle.slink_feed.specs.Reported.{AreOf, HasReported, numbers_at}
 use Rattle.slink_feed.proofs.Numbers.{place_some, next_here, next_other}
-use Rattle.slink_feed.proofs.Reported.{of_same, places_next}
+use Rattle.slink_feed.proofs.ReportedOver.{of_same, places_next}
 
 -- no first record is to be reported
 abbrev AreQuiet : List Bool → Type 0

@@ -23,7 +23,7 @@ use Rattle.slink_feed.specs.Reported.{HasReported, bytes_in, record_in, records_
 use Rattle.slink_feed.specs.Turns.{Emitted, EmittedPrefix}
 use Rattle.slink_feed.proofs.Noting.{nothing_noted, notes_both}
 use Rattle.slink_feed.proofs.Numbers.{kept_read}
-use Rattle.slink_feed.proofs.Reported.{bytes_both, comes_read, reported_both, reported_none, reported_one}
+use Rattle.slink_feed.proofs.ReportedOver.{bytes_both, comes_read, reported_both, reported_none, reported_one}
 use Rattle.slink_feed.proofs.Deliveries.{emitted_none}
 
 pub emitted_both : (a b c : BytesWritten) (xs ys : List ℕ) → Emitted a b xs → Emitted b c ys → Emitted a c (xs ++ ys)

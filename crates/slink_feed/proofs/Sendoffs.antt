@@ -1,7 +1,7 @@
 -- What a session gave so far, and which of the bytes it accepted were answered.
 use Rattle.std.proofs.Common.{◌≡◌, ◌≢◌, ℕ, ◌+◌, ◌-◌, ◌*◌, ◌≤◌, ◌<◌, ◌⊎◌, zero, suc, refl, sym, ap, subst, ◌∙◌, arith}
 use Rattle.std.proofs.Common.{inl, inr, if◌then◌else◌, List, [], ◌∷◌, ◌++◌, append_assoc, append-nil, length}
-use Rattle.std.proofs.Common.{length-append, replicate, take, take_all, drop, Result, Err, IfErr}
+use Rattle.std.proofs.Common.{length-append, replicate, take, drop, Result, Err, IfErr}
 use Rattle.std.proofs.lemmas.Bool.Decides.{eqb_tells}
 use Rattle.slink_wire.specs.declared.reply.Reply.{Reply}
 use Rattle.slink_wire.specs.declared.reply.Reply.TheVariants as replies
@@ -11,7 +11,6 @@ use Rattle.slink_feed.specs.declared.session.Sent.{Sent}
 use Rattle.slink_feed.specs.declared.session.Sent.TheVariants as sents
 use Rattle.slink_feed.specs.declared.turn.LinkFault.{LinkFault}
 use Rattle.slink_feed.specs.declared.turn.LinkFault.TheVariants as faults
-use Rattle.slink_feed.specs.Attending.{RepliesToAll}
 use Rattle.slink_feed.specs.private.Replying.{HasFailed, HasGiven, HasSent, IsReplyFault, IsWritten, IsWriteFault}
 use Rattle.slink_feed.specs.private.Replying.{IsSendFault, IsUnwritten}
 use Rattle.slink_feed.specs.private.Replying.{waits_after}

@@ -5,14 +5,13 @@ use Rattle.std.proofs.Common.{take, drop, Option, Some, None, IfSome}
 use Rattle.slink_wire.specs.declared.lines.What.{What}
 use Rattle.slink_wire.specs.declared.lines.What.TheVariants.{More, Line, TooLong}
 use Rattle.slink_wire.specs.declared.reply.Reply.{Reply}
-use Rattle.slink_wire.specs.Lines.{Held, IsHeld, lines_of}
+use Rattle.slink_wire.specs.Lines.{IsHeld, lines_of}
 use Rattle.slink_wire.specs.Taking.{Yields}
 use Rattle.slink_feed.specs.declared.session.Phase.{Phase}
 use Rattle.slink_feed.specs.declared.session.Phase.TheVariants.{Fresh, Chosen, Granted, Streaming, Closed}
-use Rattle.slink_feed.specs.declared.session.Sent.{Sent}
 use Rattle.slink_feed.specs.Running.{Stands, StandsFor}
 use Rattle.slink_feed.specs.Serving.{Answers, IsAnswer, Standing, Takes, TakesWhole}
-use Rattle.slink_feed.specs.Session.{State, sent, sent_in}
+use Rattle.slink_feed.specs.Session.{State}
 use Rattle.slink_feed.specs.Window.{Window}
 
 pub closed_or : (p : Phase) → (p ≡ Closed) ⊎ ¬ (p ≡ Closed)

@@ -1,5 +1,5 @@
 //! What is reported on standard error of the records of a fetch, and of what it wants next.
-ghost use Rattle.std.specs.Prelude.{◌≡◌, ◌+◌, ◌++◌, ◌≤◌, true, false, length, slice_get, unwrap_or};
+ghost use Rattle.std.specs.Prelude.{◌≡◌, ◌+◌, ◌++◌, ◌<◌, ◌≤◌, true, false, length, slice_get, unwrap_or};
 ghost use Rattle.mseed_stream.specs.Telling.{Tells};
 ghost use Rattle.slink_feed.specs.Dialogue.{want_at, with_next};
 ghost use Rattle.slink_feed.specs.Reporter.{AreReported, first_line, first_lines, hole_line, hole_lines, if_other};

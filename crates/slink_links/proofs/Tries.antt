@@ -9,7 +9,7 @@ use Rattle.slink_feed.specs.Fetching.{Notes}
 use Rattle.slink_feed.specs.Listening.{Listening}
 use Rattle.slink_feed.specs.Reported.{AreOf, bytes_in, records_reported}
 use Rattle.slink_feed.specs.Turns.{Emitted}
-use Rattle.slink_feed.proofs.Reported.{reported_link}
+use Rattle.slink_feed.proofs.ReportedOver.{reported_link}
 use Rattle.slink_links.specs.declared.fetching.FetchEnd.{FetchEnd}
 use Rattle.slink_links.specs.declared.fetching.FetchEnd.TheVariants.{LinkFailed}
 use Rattle.slink_links.specs.Fetched.{Calls, HasBrought, HasFetched, HasPaused, HasTried, HaveFailed, WasFetchedOver}

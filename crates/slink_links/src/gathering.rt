@@ -19,6 +19,7 @@ pub(crate) struct Gathering<S> {
 }
 
 impl<S> Model for Gathering<S> {
+    ghost use Rattle.std.specs.Prelude.{◌≤◌};
     ghost use Rattle.slink_links.specs.declared.gathering.TheConstants.{ROOM};
 
     ghost Value = { S };

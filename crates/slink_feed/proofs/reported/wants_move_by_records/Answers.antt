@@ -1,4 +1,4 @@
-use Rattle.slink_feed.proofs.Reported.{reported_both, reported_far, reported_link}
+use Rattle.slink_feed.proofs.ReportedOver.{reported_both, reported_far, reported_link}
 use Rattle.slink_feed.proofs.reported.wants_move_by_records.Goals as goal
 
 pub returns-clause-link : goal.returns-clause-link

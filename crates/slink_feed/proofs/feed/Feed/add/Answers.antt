@@ -17,10 +17,10 @@ returns-clause-ok g c = ap (λ (xs : List (Option Window)). filled_of xs) c.push
 below : (items now n : ℕ) → now ≡ items → n ≡ items → n ≤ 16 → n ≢ 16 → now < 16
 below items now n a b fits other = omega (arith, a, b, fits, other)
 
-pub returns-then-len-eq-MOST-clause-fault : goal.returns-then-len-eq-MOST-clause-fault
-returns-then-len-eq-MOST-clause-fault g c = (
+pub returns-then-len-eq-STATIONS-clause-fault : goal.returns-then-len-eq-STATIONS-clause-fault
+returns-then-len-eq-STATIONS-clause-fault g c = (
   same_length c.self.inside.rings.items c.args.self.now c.self.invariant c.self.view_is
-      ∙ (sym c.len.ensures.value ∙ c.if-len-eq-MOST.true),
+      ∙ (sym c.len.ensures.value ∙ c.if-len-eq-STATIONS.true),
   refl,
 )
 
@@ -28,7 +28,7 @@ pub returns-then-has-clause-fault : goal.returns-then-has-clause-fault
 returns-then-has-clause-fault g c = (
   below (length c.self.inside.rings.items) (length c.args.self.now) c.len.result
       (same_length c.self.inside.rings.items c.args.self.now c.self.invariant c.self.view_is) c.len.ensures.value
-      c.len.ensures.fits c.if-len-eq-MOST.false,
+      c.len.ensures.fits c.if-len-eq-STATIONS.false,
   subst (HasPlace c.args.self.now) c.place.ensures c.if-has.ensures.yes,
   refl,
 )
@@ -37,6 +37,6 @@ pub returns-clause-taken : goal.returns-clause-taken
 returns-clause-taken g c = (
   below (length c.self.inside.rings.items) (length c.args.self.now) c.len.result
       (same_length c.self.inside.rings.items c.args.self.now c.self.invariant c.self.view_is) c.len.ensures.value
-      c.len.ensures.fits c.if-len-eq-MOST.false,
+      c.len.ensures.fits c.if-len-eq-STATIONS.false,
   subst (LacksPlace c.args.self.now) c.place.ensures c.if-has.ensures.no,
 )

@@ -100,25 +100,25 @@ abbrev is_place : List ℕ → Option Fields → Bool
 is_place bytes None = false
 is_place bytes (Some p) = bytes_eq (slice_range bytes 8 13) p.station && bytes_eq (slice_range bytes 18 20) p.network
 
-abbrev place_of : Option Wanted → Option Fields
-place_of o = option_map (λ (w : Wanted). w.place) o
+abbrev wanted_fields : Option Wanted → Option Fields
+wanted_fields o = option_map (λ (w : Wanted). w.place) o
 
-matched_there : (bytes : List ℕ) (o : Option Wanted) → is_of_wanted bytes o ≡ is_place bytes (place_of o)
+matched_there : (bytes : List ℕ) (o : Option Wanted) → is_of_wanted bytes o ≡ is_place bytes (wanted_fields o)
 matched_there bytes None = refl
 matched_there bytes (Some w) = refl
 
 first_place : (bytes : List ℕ) (wants : Wants)
-    → position_or_len (is_of_wanted bytes) wants ≡ position_or_len (is_place bytes) (map place_of wants)
+    → position_or_len (is_of_wanted bytes) wants ≡ position_or_len (is_place bytes) (map wanted_fields wants)
 first_place bytes [] = refl
 first_place bytes (o ∷ wants) =
     ap (λ b. cond (not b) (1 + position_or_len (is_of_wanted bytes) wants) 0) (matched_there bytes o)
-    ∙ ap (λ n. cond (not (is_place bytes (place_of o))) (1 + n) 0) (first_place bytes wants)
+    ∙ ap (λ n. cond (not (is_place bytes (wanted_fields o))) (1 + n) 0) (first_place bytes wants)
 
 place_there : (wants : Wants) (bytes : List ℕ) → place_of wants bytes ≡ position (is_place bytes) (places_of wants)
 place_there wants bytes =
     ap (λ m. cond (nat_lt m (length wants)) (Some m) None) (first_place bytes wants)
-    ∙ ap (λ l. cond (nat_lt (position_or_len (is_place bytes) (map place_of wants)) l)
-    (Some (position_or_len (is_place bytes) (map place_of wants))) None) (sym (length-map wants place_of))
+    ∙ ap (λ l. cond (nat_lt (position_or_len (is_place bytes) (map wanted_fields wants)) l)
+    (Some (position_or_len (is_place bytes) (map wanted_fields wants))) None) (sym (length-map wants wanted_fields))
 
 -- The same stations carry the same records.
 place_same : (old new : Wants) (bytes : List ℕ) → places_of new ≡ places_of old
@@ -169,8 +169,8 @@ pub places_next : (wants : Wants) (k n : ℕ) (o : Option Wanted) → want_at wa
     → places_of (next_set o wants k n) ≡ places_of wants
 places_next wants k n None at = refl
 places_next wants k n (Some w) at =
-    map-set_same place_of wants k (Some (record { place = w.place; next = Some n })) None
-    (sym (ap place_of (get_want wants k ∙ at)))
+    map-set_same wanted_fields wants k (Some (record { place = w.place; next = Some n })) None
+    (sym (ap wanted_fields (get_want wants k ∙ at)))
 
 go_one : (j k n : ℕ) (bytes : List ℕ) (t : Talk) → Moved j t (reported k n bytes t)
     → GoBy t.holes (next_at t.wants j) (numbers_at j (record { place = k; number = n; bytes = bytes } ∷ []))
