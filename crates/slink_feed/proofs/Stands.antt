@@ -1,7 +1,7 @@
 -- A session stands for the stream that its link brought.
-use Rattle.std.proofs.Common.{◌≡◌, ◌≢◌, ℕ, ◌+◌, ◌-◌, ◌<◌, ◌≤◌, ◌⊎◌, inl, inr, zero, suc, refl, sym, ap, subst, ◌∙◌}
-use Rattle.std.proofs.Common.{arith, true, false, List, [], ◌∷◌, ◌++◌, append-nil, append_assoc, length, length-append}
-use Rattle.std.proofs.Common.{take, drop, Option, Some, None, IfSome}
+use Rattle.std.proofs.Common.{◌≡◌, ℕ, ◌+◌, ◌-◌, ◌<◌, ◌⊎◌, inl, inr, zero, suc, refl, sym, ap, subst, ◌∙◌}
+use Rattle.std.proofs.Common.{arith, true, false, List, [], ◌∷◌, ◌++◌, append-nil, length, length-append}
+use Rattle.std.proofs.Common.{take}
 use Rattle.slink_wire.specs.declared.lines.What.{What}
 use Rattle.slink_wire.specs.declared.lines.What.TheVariants.{More, Line, TooLong}
 use Rattle.slink_wire.specs.declared.reply.Reply.{Reply}

@@ -30,7 +30,8 @@ use Rattle.slink_feed.proofs.OneReading as one
 use Rattle.slink_feed.proofs.Reporting.{all_taken, line_alone, record_alone, record_bytes, handed_over_both}
 use Rattle.slink_feed.proofs.Reporting.{handed_over_none}
 use Rattle.slink_feed.proofs.Reporting.{takes_both, takes_none}
-use Rattle.slink_feed.proofs.ReportedOver.{bytes_both, records_both, kept_link, reported_both, reported_far, reported_link}
+use Rattle.slink_feed.proofs.ReportedOver.{bytes_both, records_both, kept_link, reported_both, reported_far}
+use Rattle.slink_feed.proofs.ReportedOver.{reported_link}
 use Rattle.slink_feed.proofs.ReportedOver.{reported_none}
 use Rattle.slink_feed.proofs.ReportedOver.{wants_written}
 use Rattle.slink_links.specs.declared.fetching.FetchEnd.{FetchEnd}

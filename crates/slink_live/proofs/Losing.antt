@@ -1,16 +1,15 @@
 -- What is no longer in the ring.
-use Rattle.std.proofs.Common.{◌≡◌, ℕ, ◌+◌, ◌≤◌, ◌<◌, ◌⊎◌, ◌∙◌, ap, subst, refl, sym, arith, inl, inr, List, length}
+use Rattle.std.proofs.Common.{◌≡◌, ℕ, ◌≤◌, ◌<◌, ◌⊎◌, ◌∙◌, ap, subst, refl, sym, arith, inl, inr, List}
 use Rattle.std.proofs.Common.{true, false, nat_lt, suc, Option, Some, None, option_map, slice_get}
-use Rattle.std.proofs.lemmas.Bool.Decides.{eqb_tells, leb_tells}
+use Rattle.std.proofs.lemmas.Bool.Decides.{leb_tells}
 use Rattle.std.proofs.lemmas.Option.{slice_get_within, same_Some}
 use Rattle.slink_feed.specs.declared.grant.Grant.{Grant}
 use Rattle.slink_feed.specs.declared.session.Phase.TheVariants.{Closed, Streaming}
-use Rattle.slink_feed.specs.Session.{Grants, IsWaiting, State, grant_at}
+use Rattle.slink_feed.specs.Session.{IsWaiting, State, grant_at}
 use Rattle.slink_feed.specs.Window.{Window, oldest_of}
 use Rattle.slink_live.specs.Awake.{HasLeft, IsLost}
 use Rattle.slink_live.specs.Served.{LinkState}
 use Rattle.slink_live.proofs.Fairness.{due_sends}
-use Rattle.slink_feed.proofs.Items.{lt_false}
 
 -- tests of numbers
 pub lt_by : (a b : ℕ) → nat_lt a b ≡ true → a < b

@@ -4,11 +4,9 @@ use Rattle.std.proofs.Common.{length}
 use Rattle.std.proofs.Common.{take, drop, take_all, take-append-drop}
 use Rattle.std.proofs.lemmas.List.{drop-drop, drop_all, length-drop}
 use Rattle.slink_wire.specs.declared.reply.Reply.{Reply}
-use Rattle.slink_wire.specs.declared.reply.Reply.TheVariants as Replies
 use Rattle.slink_wire.specs.Reply.{reply_bytes}
 use Rattle.slink_feed.specs.Serving.{Serves, Standing, Takes, none_served, piece_served}
 use Rattle.slink_feed.specs.Window.{Window}
-use Rattle.slink_feed.proofs.Sendoffs.{reply_short}
 
 -- the bytes from an offset on
 abbrev pub from_on : ℕ → List ℕ → List ℕ

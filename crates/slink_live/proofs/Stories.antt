@@ -1,16 +1,15 @@
 -- What each event makes of a slot's story.
-use Rattle.std.proofs.Common.{◌≡◌, ℕ, ◌+◌, ◌∙◌, ap, subst, refl, sym, List, [], ◌∷◌, ◌++◌, append_assoc, take, drop}
+use Rattle.std.proofs.Common.{◌≡◌, ℕ, ◌∙◌, ap, subst, refl, sym, List, [], ◌∷◌, ◌++◌, append_assoc, take, drop}
 use Rattle.std.proofs.Common.{take-append-drop}
 use Rattle.std.proofs.Common.{Option, Some, None}
 use Rattle.slink_wire.specs.Reply.{reply_bytes}
 use Rattle.slink_feed.specs.Serving.{Serves, Standing, none_served, piece_served}
-use Rattle.slink_feed.specs.declared.session.Sent.{Sent}
-use Rattle.slink_feed.specs.Session.{sent, sent_bytes}
+use Rattle.slink_feed.specs.Session.{sent_bytes}
 use Rattle.slink_feed.specs.Window.{Window}
 use Rattle.slink_live.specs.Happening.{Happening, Opened, Gone, input_of}
 use Rattle.slink_live.specs.Input.{IsFed}
 use Rattle.slink_live.specs.Served.{IsStory, LinkState, Matches, link_state}
-use Rattle.slink_live.specs.Story.{Asks, IsNew, IsServed, IsTurn, Story, story, none_called, one_called, opens}
+use Rattle.slink_live.specs.Story.{Asks, IsNew, IsServed, Story, story, none_called, one_called, opens}
 use Rattle.slink_live.specs.Story.{receives}
 use Rattle.slink_live.specs.Story.{asks}
 use Rattle.slink_live.specs.Story.{takes, goes}

@@ -28,7 +28,8 @@ use Rattle.slink_model.proofs.Lined.{IsAnswered}
 use Rattle.slink_model.proofs.OneWorld.{linked_or}
 use Rattle.slink_model.proofs.Requested.{also_at}
 use Rattle.slink_model.proofs.Shaking.{AreOfPlace, AreRinged, AreSent, IsSuited, streams}
-use Rattle.slink_model.proofs.Sparing.{matched_more, sent_more, slot_within, streaming_is, suited_more, window_sound}
+use Rattle.slink_model.proofs.Linked.{slot_within}
+use Rattle.slink_model.proofs.Sparing.{matched_more, sent_more, streaming_is, suited_more, window_sound}
 use Rattle.slink_model.proofs.Waiting.{answered_few}
 
 -- what is sent goes after what was

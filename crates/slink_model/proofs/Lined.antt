@@ -1,5 +1,5 @@
 -- Which line waits for its answer, as more bytes of the lines that were sent are taken.
-use Rattle.std.proofs.Common.{◌≡◌, ℕ, ◌≤◌, refl, sym, ap, ◌∙◌, arith, Bool, true, false, List, [], ◌∷◌, ◌++◌}
+use Rattle.std.proofs.Common.{◌≡◌, ℕ, ◌≤◌, refl, sym, ap, ◌∙◌, arith, List, [], ◌∷◌, ◌++◌}
 use Rattle.std.proofs.Common.{append_assoc, length, length-append, take, take_all}
 use Rattle.std.proofs.lemmas.List.{append_cancel_left, length-take-le}
 use Rattle.slink_wire.specs.declared.lines.What.{What}

@@ -1,14 +1,12 @@
 -- What a client makes of the bytes of replies and packets, cut anywhere.
 use Rattle.std.proofs.Common.{◌≡◌, ℕ, ◌+◌, ◌%◌, ◌^◌, inl, inr, refl, sym, ap, subst, ◌∙◌, arith, Bool, true, false}
-use Rattle.std.proofs.Common.{List, [], ◌∷◌, ◌++◌, length, length-append, take, drop, take_at, drop_at, Option, Some}
+use Rattle.std.proofs.Common.{List, [], ◌∷◌, ◌++◌, length, take, drop, take_at, drop_at, Option, Some}
 use Rattle.std.proofs.Common.{None, slice_get, codes, bytes_eq, nat_eq, ◌==◌, ◌&&◌, ◌||◌, if◌then◌else◌}
 use Rattle.std.specs.List.{starts_with}
 use Rattle.std.proofs.lemmas.Bool.Decides.{eqb_tells}
 use Rattle.std.proofs.lemmas.List.{take-append-le}
 use Rattle.std.proofs.lemmas.Slice.Eq.{bytes_eq-Decides}
 use Rattle.slink_wire.specs.Packet.{IsPacket, packet_bytes}
-use Rattle.slink_wire.specs.Hexadecimal.{hexadecimal}
-use Rattle.slink_wire.proofs.Digits.{length-hexadecimal}
 use Rattle.slink_wire.proofs.Packets.{one_packet, read_back}
 use Rattle.slink_wire.specs.Reply.{line_end}
 use Rattle.slink_feed.specs.declared.dialogue.Answer.{Answer}

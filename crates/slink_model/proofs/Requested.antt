@@ -1,6 +1,6 @@
 -- The lines of requests, and what they command.
 use Rattle.std.proofs.Common.{◌≡◌, ℕ, ◌+◌, ◌<◌, zero, suc, refl, sym, ap, subst, ◌∙◌, arith}
-use Rattle.std.proofs.Common.{Bool, true, false, ◌&&◌, List, [], ◌∷◌, bytes_eq}
+use Rattle.std.proofs.Common.{Bool, true, false, List, [], ◌∷◌, bytes_eq}
 use Rattle.std.proofs.Common.{Option, Some, None, option_map, slice_get, if◌then◌else◌}
 use Rattle.std.specs.List.{position_from}
 use Rattle.std.proofs.lemmas.Slice.Eq.{bytes_eq-Decides}

@@ -1,11 +1,9 @@
 -- A link after the bytes that its session takes.
-use Rattle.std.proofs.Common.{◌≡◌, ℕ, ◌⊎◌, inl, inr, refl, sym, ap, subst, List, ◌++◌}
+use Rattle.std.proofs.Common.{◌≡◌, ℕ, inl, inr, sym, ap, subst, List, ◌++◌}
 use Rattle.slink_wire.specs.declared.lines.What.TheVariants.{More}
 use Rattle.slink_wire.specs.declared.reply.Reply.{Reply}
 use Rattle.slink_wire.specs.declared.reply.Reply.TheVariants as replies
 use Rattle.slink_wire.specs.Reply.{reply_bytes}
-use Rattle.slink_feed.specs.declared.session.Phase.{Phase}
-use Rattle.slink_feed.specs.declared.session.Phase.TheVariants.{Fresh, Chosen, Granted, Streaming, Closed}
 use Rattle.slink_feed.specs.Listening.{Listening}
 use Rattle.slink_feed.specs.Serving.{Answers, Serves, Standing, Takes, none_served, piece_served}
 use Rattle.slink_feed.specs.Session.{State}

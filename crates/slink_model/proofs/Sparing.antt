@@ -21,7 +21,7 @@ use Rattle.slink_model.specs.declared.world.Step.TheVariants.{Append, Connect, T
 use Rattle.slink_feed.specs.Dialogue.{Talk, next_at, requests_place, to_place, want_at, wanted_of, wants_of}
 use Rattle.slink_feed.specs.Listening.{IsLinked, Listening}
 use Rattle.slink_feed.specs.Serving.{Standing}
-use Rattle.slink_feed.specs.Session.{Grants, IsBefore, State, has_sent_all, at, at_next, grant_at, packet_at, sent}
+use Rattle.slink_feed.specs.Session.{IsBefore, State, has_sent_all, at, at_next, grant_at, packet_at, sent}
 use Rattle.slink_feed.specs.Session.{sent_bytes, sent_in, sent_of}
 use Rattle.slink_model.specs.Spared.{AreAskable, IsSpared}
 use Rattle.slink_model.specs.Slice.{IsSchedule, IsSound}
