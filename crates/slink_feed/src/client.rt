@@ -44,7 +44,8 @@ impl Model for Client {
 }
 
 impl Client {
-    /// A client of up to sixteen different stations, each with the number below 2^24 that it wants first, or none.
+    /// Returns a client of up to sixteen different stations, each with the number below 2^24 that it wants first, or
+    /// none.
     pub fn new(places: &[(Place, Option<u32>)], mode: Mode) -> Client
         requires count { length places.now ≤ STATIONS }
         requires numbers { AreNumbers places.now }
@@ -53,8 +54,8 @@ impl Client {
         Client::of(places, mode, false)
     }
 
-    /// A client as by [`Client::new`] that goes past holes: it takes a record too whose number is ahead of the one that
-    /// its station wants, by 1 to 2^23 - 1, modulo 2^24, and wants the one after it next.
+    /// Returns a client as by [`Client::new`] that goes past holes: it takes a record too whose number is ahead of the
+    /// one that its station wants, by 1 to 2^23 - 1, modulo 2^24, and wants the one after it next.
     pub fn past_holes(places: &[(Place, Option<u32>)], mode: Mode) -> Client
         requires count { length places.now ≤ STATIONS }
         requires numbers { AreNumbers places.now }
@@ -75,7 +76,7 @@ impl Client {
         }
     }
 
-    /// The number that the station at an index wants next, modulo 2^24, where one was named or came.
+    /// Returns the number that the station at an index wants next, modulo 2^24, where one was named or came.
     pub fn next(&self, k: usize) -> Option<u32>
         ensures value { result ≡ next_at self.now.talk.wants k }
         ensures short { IfSome result (λ n. n < 2 ^ 24) }
@@ -90,7 +91,8 @@ impl Client {
         self.dialogue.wants()
     }
 
-    /// Begins on a new link, to which these bytes are to be written. What was kept of the one before is dropped.
+    /// Begins on a new link, and returns the line that is to be written to it. What was kept of the link before is
+    /// dropped.
     pub fn connect(&mut self) -> Bytes
         ensures written { requests_place 0 self.old.talk ≡ (self.new.talk, Event.Say result) }
         ensures dropped { self.new.kept ≡ [] }
@@ -101,7 +103,7 @@ impl Client {
         self.dialogue.request_place(0)
     }
 
-    /// Takes bytes of the link up to the first event, or all.
+    /// Takes bytes of the link up to the first event, or all, and returns how many it took, and the event.
     ///
     /// The bytes that a link brought read as replies, packets and the end in one way, so that the pieces make no
     /// difference.
@@ -181,7 +183,7 @@ impl Client {
         }
     }
 
-    /// Whether packets are awaited: the client has sent all that it has to say.
+    /// Returns whether packets are awaited: the client has sent all its requests.
     pub fn is_streaming(&self) -> bool
         ensures yes { OnTrue result (self.now.talk.stage ≡ Stage.Packets) }
         ensures no { OnFalse result (self.now.talk.stage ≢ Stage.Packets) }

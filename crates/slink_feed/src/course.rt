@@ -1,6 +1,6 @@
 //! How far a session has come: which commands it answers how, and which packets it sends.
 ghost use Rattle.std.specs.Prelude.{◌≡◌, ◌≢◌, ◌⊎◌, ◌≤◌, ◌<◌, List, ℕ, None, IfErr, IfNone, IfOk, IfSome};
-ghost use Rattle.std.specs.Prelude.{◌↔◌, ◌^◌, IsTrue, Some, length, replicate, slice_get};
+ghost use Rattle.std.specs.Prelude.{◌↔◌, IsTrue, Some, length, replicate, slice_get};
 ghost use Rattle.std.specs.Bool.{OnFalse, OnTrue};
 ghost use Rattle.std.specs.Option.{ForSome};
 ghost use Rattle.slink_wire.specs.Packet.{packet_bytes};
@@ -16,7 +16,7 @@ ghost use Rattle.slink_feed.specs.Window.{record_at};
 
 use crate::feed::{Feed, STATIONS};
 use crate::grant::{Grant, Mode, first_granted};
-use crate::ring::{LARGEST, SPAN};
+use crate::ring::{MOST_RECORDS, SPAN};
 use crate::session::{Phase, Sent, Unsent};
 use slink_wire::{Command, Packet, Reply, What};
 use std::alloc::Allocator;
@@ -71,7 +71,7 @@ impl Course {
         ensures sent { sent feed.now self.old k ≡ (self.new, result) }
         ensures fits { Fits feed.now self.new }
         ensures few { (bytes : List ℕ) → result ≡ Sent.Packet bytes
-            → ForSome (slice_get feed.now k) (λ w. length w.records ≤ LARGEST) }
+            → ForSome (slice_get feed.now k) (λ w. length w.records ≤ MOST_RECORDS) }
     {
         match self.next_record(feed, k) {
             Ok((number, bytes)) => Sent::Packet(Packet::write(number, bytes)),
@@ -96,7 +96,7 @@ impl Course {
         ensures unsent { IfErr result (λ e. sent feed.now self.old k ≡ (self.new, sent_without e)) }
         ensures number { IfOk result (λ r. r.0 < SPAN) }
         ensures fits { Fits feed.now self.new }
-        ensures few { IfOk result (λ _. ForSome (slice_get feed.now k) (λ w. length w.records ≤ LARGEST)) }
+        ensures few { IfOk result (λ _. ForSome (slice_get feed.now k) (λ w. length w.records ≤ MOST_RECORDS)) }
     {
         match self.phase {
             Phase::Fresh | Phase::Chosen(_) | Phase::Granted(_) => Err(Unsent::Wait),
@@ -124,7 +124,7 @@ impl Course {
         ensures unsent { IfErr result (λ e. sent feed.now self.old k ≡ (self.new, sent_without e)) }
         ensures number { IfOk result (λ r. r.0 < SPAN) }
         ensures fits { Fits feed.now self.new }
-        ensures few { IfOk result (λ _. ForSome (slice_get feed.now k) (λ w. length w.records ≤ LARGEST)) }
+        ensures few { IfOk result (λ _. ForSome (slice_get feed.now k) (λ w. length w.records ≤ MOST_RECORDS)) }
     {
         if grant.position == feed.ring(k).next() {
             return Err(self.at_next(feed));
@@ -155,7 +155,7 @@ impl Course {
         ensures none { IfNone result (self.new ≡ self.old) }
         ensures gone { IfNone result (ForSome (slice_get feed.now k) (λ w. record_at w grant.position ≡ None)) }
         ensures fits { Fits feed.now self.new }
-        ensures few { IfSome result (λ _. ForSome (slice_get feed.now k) (λ w. length w.records ≤ LARGEST)) }
+        ensures few { IfSome result (λ _. ForSome (slice_get feed.now k) (λ w. length w.records ≤ MOST_RECORDS)) }
     {
         let ring = feed.ring(k);
         match ring.get(grant.position) {

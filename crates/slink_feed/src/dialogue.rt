@@ -1,5 +1,5 @@
 //! The requests that a client sends over a link, and what it makes of the replies and packets of the server.
-ghost use Rattle.std.specs.Prelude.{◌≡◌, ◌≢◌, ◌+◌, ◌%◌, ◌^◌, ◌<◌, ◌≤◌, IfNone, IfSome, length};
+ghost use Rattle.std.specs.Prelude.{◌≡◌, ◌≢◌, ◌+◌, ◌%◌, ◌<◌, ◌≤◌, IfNone, IfSome, length};
 ghost use Rattle.slink_wire.specs.Request.{IsSpelled};
 ghost use Rattle.slink_wire.specs.Place.{AreNumbers};
 ghost use Rattle.slink_feed.specs.Dialogue.{IsStage, Reply, answer_of, at_packet, place_of, ended, event_of};

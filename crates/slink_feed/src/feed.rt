@@ -17,8 +17,8 @@ use slink_wire::Place;
 use std::alloc::{Allocator, Global};
 use std::marker::Model;
 
-/// The most rings that a feed has.
-pub(crate) const STATIONS: usize = 16;
+/// The most stations of a feed, each with its ring, and of a client.
+pub const STATIONS: usize = 16;
 
 /// Why a ring isn't taken. It comes back.
 #[derive(Drop)]
@@ -59,7 +59,7 @@ fn push_slot<A: Allocator>(slot: &mut Option<Ring<A>>, bytes: &[u8; 512])
 }
 
 impl<A: Allocator> Feed<A> {
-    /// A feed without rings.
+    /// Returns a feed without rings.
     pub fn new() -> Self
         ensures { result ≡ [] }
     {
@@ -121,8 +121,8 @@ impl<A: Allocator> Feed<A> {
         }
     }
 
-    /// Gives a record to the ring at an index, whose station and network it carries, under the ring's next number. The
-    /// oldest record leaves a full ring.
+    /// Gives a record to the ring at an index, of whose station it is, under the ring's next number. The oldest record
+    /// leaves a full ring.
     pub fn push(&mut self, k: usize, bytes: &[u8; 512])
         requires in_range { k < length self.old }
         requires bears { ForSome (slice_get self.old k) (λ w. Bears bytes.now w.place) }
@@ -144,7 +144,7 @@ impl<A: Allocator> Feed<A> {
         push_slot(&mut slots[k], bytes);
     }
 
-    /// Returns the index of the first ring whose station and network a record carries in its header, if there is one.
+    /// Returns the index of the first ring whose station and network a record's header has, if there is one.
     pub fn place_of(&self, bytes: &[u8; 512]) -> Option<usize>
         ensures some { IfSome result (IsPlaceOf self.now bytes.now) }
         ensures most { IfSome result (λ k. k < STATIONS) }

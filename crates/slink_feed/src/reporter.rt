@@ -195,8 +195,8 @@ impl Model for Reporter {
 }
 
 impl Reporter {
-    /// A reporter of the records that a client wants. The first record of each station is reported where `firsts` says
-    /// so, and each hole in any case.
+    /// Returns a reporter of the records that a client wants. The first record of each station is reported where
+    /// `firsts` says so, and each hole in any case.
     pub fn new(client: &Client, firsts: bool) -> Reporter
         ensures { result ≡ record { reporting = reporting_of client.now.talk.wants firsts; received = false } }
     {
@@ -266,7 +266,7 @@ impl Reporter {
         self.received = false;
     }
 
-    /// Whether the output accepted a whole record since the last `begin`.
+    /// Returns whether the output accepted a whole record since the last `begin`.
     pub fn has_received(&self) -> bool
         ensures { result ≡ self.now.received }
     {

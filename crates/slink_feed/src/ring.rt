@@ -14,7 +14,7 @@ use std::marker::Model;
 pub(crate) const SPAN: u64 = 1 << 24;
 
 /// The most records that a ring keeps.
-pub(crate) const LARGEST: usize = 1_000_000;
+pub const MOST_RECORDS: usize = 1_000_000;
 
 /// Why there is no ring.
 #[derive(Clone, Copy, Debug, PartialEq, Eq)]
@@ -37,7 +37,7 @@ pub struct Ring<A: Allocator = Global> {
 
 impl<A: Allocator> Model for Ring<A> {
     ghost use Rattle.std.specs.Prelude.{◌<◌, ◌≤◌, ◌^◌, length};
-    ghost use Rattle.slink_feed.specs.declared.ring.TheConstants.{LARGEST};
+    ghost use Rattle.slink_feed.specs.declared.ring.TheConstants.{MOST_RECORDS};
     ghost use Rattle.slink_feed.specs.Window.{Window};
 
     ghost Value = { Window };
@@ -49,13 +49,13 @@ impl<A: Allocator> Model for Ring<A> {
       next = r.next;
     } };
 
-    ghost invariant = { λ r. (0 < r.records.capacity) × (r.records.capacity ≤ LARGEST)
+    ghost invariant = { λ r. (0 < r.records.capacity) × (r.records.capacity ≤ MOST_RECORDS)
         × (length r.records.items ≤ r.records.capacity) × (length r.records.items ≤ r.next) × (r.next ≤ 2 ^ 63) };
 }
 
 impl<A: Allocator> Ring<A> {
-    /// An empty ring of a station: its capacity is from 1 to 1,000,000 records, and its first record's number is below
-    /// 2^24.
+    /// Returns an empty ring of a station, for 1 to 1,000,000 records, the first of which gets the number `first`,
+    /// below 2^24.
     ///
     /// # Errors
     ///
@@ -67,7 +67,7 @@ impl<A: Allocator> Ring<A> {
         ensures range { IfOk result (λ _. IsCapacity capacity × (first < 2 ^ 24)) }
         ensures fault { IfErr result (λ e. IsRingFault e capacity first) }
     {
-        if capacity == 0 || capacity > LARGEST {
+        if capacity == 0 || capacity > MOST_RECORDS {
             return Err(RingFault::Capacity);
         }
         if u64::from(first) >= SPAN {
@@ -107,7 +107,7 @@ impl<A: Allocator> Ring<A> {
     pub fn oldest(&self) -> u64
         ensures value { result ≡ oldest_of self.now }
         ensures at_most { result ≤ self.now.next }
-        ensures near { self.now.next ≤ result + LARGEST }
+        ensures near { self.now.next ≤ result + MOST_RECORDS }
     {
         self.next - self.records.len() as u64
     }
@@ -125,7 +125,7 @@ impl<A: Allocator> Ring<A> {
         ensures value { option_copied result ≡ record_at self.now number }
         ensures within { IfSome result (λ _. number < self.now.next) }
         ensures short { IfSome result (λ _. number < 2 ^ 63) }
-        ensures few { length self.now.records ≤ LARGEST }
+        ensures few { length self.now.records ≤ MOST_RECORDS }
     {
         let oldest = self.oldest();
         if number < oldest || number >= self.next {

@@ -14,7 +14,7 @@ ghost use Rattle.slink_feed.specs.Session.{sent_without};
 
 use crate::course::Course;
 use crate::feed::{Feed, STATIONS};
-use crate::ring::LARGEST;
+use crate::ring::MOST_RECORDS;
 use slink_wire::{Lines, PACKET, Reply, Took};
 use std::alloc::Allocator;
 use std::marker::Model;
@@ -63,7 +63,7 @@ pub enum Unsent {
 }
 
 impl Unsent {
-    /// The bytes that are to be written: `END`, or none.
+    /// Returns the bytes that are to be written: `END`, or none.
     pub fn bytes(self) -> &'static [u8]
         ensures { result.now ≡ sent_bytes (sent_without self) }
     {
@@ -106,7 +106,7 @@ impl Model for Session {
 }
 
 impl Session {
-    /// The session of a new connection: no station is chosen, and none has a grant.
+    /// Returns the session of a new connection: no station is chosen, and none has a grant.
     pub fn new() -> Session
         ensures state { result.state ≡ at Phase.Fresh (replicate STATIONS None) }
         ensures fits { (feed : List Window) → Fits feed result.state }
@@ -164,7 +164,7 @@ impl Session {
         ensures stands { Stands self.new }
         // The ring of a packet keeps at most 1,000,000 records.
         ensures few { (bytes : List ℕ) → result ≡ Sent.Packet bytes
-            → ForSome (slice_get feed.now k) (λ w. length w.records ≤ LARGEST) }
+            → ForSome (slice_get feed.now k) (λ w. length w.records ≤ MOST_RECORDS) }
     {
         self.course.packet(feed, k)
     }
@@ -193,7 +193,7 @@ impl Session {
         ensures fits { Fits feed.now self.new.state }
         ensures stands { Stands self.new }
         // The ring of a record keeps at most 1,000,000 records.
-        ensures few { IfOk result (λ _. ForSome (slice_get feed.now k) (λ w. length w.records ≤ LARGEST)) }
+        ensures few { IfOk result (λ _. ForSome (slice_get feed.now k) (λ w. length w.records ≤ MOST_RECORDS)) }
     {
         self.course.next_record(feed, k)
     }

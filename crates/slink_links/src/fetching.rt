@@ -42,7 +42,7 @@ pub enum FetchEnd {
 /// After each try but the last it waits by `waits`: a tenth of a second, and then twice as long each time, up to five
 /// seconds; a received record begins anew.
 ///
-/// The exit status is answered: 0, or 2 with a line on `errors` that says why not all came. Before each record that
+/// Returns the exit status: 0, or 2 with a line on `errors` that says why not all came. Before each record that
 /// comes after a hole a line is written there; with `tell_next` also before the first record of each station, and, at
 /// the end, the arguments of a fetch that goes on.
 pub fn fetch_all<D: Dial, P: Pause, W: Sink, E: Sink>(
@@ -203,7 +203,7 @@ fn try_link<D: Dial, W: Sink, E: Sink>(
     }
 }
 
-/// Fetches over one link, and answers how it ended. The output takes the records that the link brought, and no others.
+/// Fetches over one link, and returns how it ended. The output takes the records that the link brought, and no others.
 pub fn fetch_link<S: EndsHandshake, W: Sink>(
     client: &mut Client,
     link: &mut S,

@@ -16,7 +16,7 @@ pub const TURNS: u64 = 1 << 40;
 /// Serves the feed to so many connections, one after another, each by a session of its own. An `accept` that fails
 /// uses up a connection.
 ///
-/// The exit status is answered: 0 exactly where no `accept` failed, and no link that was given back had failed. Else it
+/// Returns the exit status: 0 exactly where no `accept` failed, and no link that was given back had failed. Else it
 /// is 2, and `errors` takes a line that says so.
 pub fn serve_all<B: Allocator, A: Accept, E: Sink>(
     feed: &Feed<B>,

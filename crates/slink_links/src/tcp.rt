@@ -315,7 +315,7 @@ impl<'a, N: Net + Clock> Dial for Dialler<'a, N> {
     }
 }
 
-/// Serves a feed at an address and port of this host, and answers the exit status. A port that can't be had is as a
+/// Serves a feed at an address and port of this host, and returns the exit status. A port that can't be had is as a
 /// link that failed.
 pub fn serve<N: Net + Clock, A: Allocator, E: Sink>(
     host: &N,
@@ -333,7 +333,7 @@ pub fn serve<N: Net + Clock, A: Allocator, E: Sink>(
     }
 }
 
-/// Fetches from a port of a host, and answers the exit status.
+/// Fetches from a port of a host, and returns the exit status.
 pub fn fetch<N: Net + Clock, W: Sink, E: Sink>(
     net: &N,
     plan: &mut FetchPlan,

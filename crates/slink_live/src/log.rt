@@ -28,7 +28,7 @@ fn flag(is_so: bool) -> u8
 }
 
 impl Log {
-    /// A log of which nothing happened yet.
+    /// Returns a log in which nothing happened yet.
     pub fn new() -> Log
         ensures { result.all ≡ [] }
     {

@@ -57,7 +57,7 @@ impl Model for Server {
 }
 
 impl Server {
-    /// A server of these rings, with so many slots for links.
+    /// Returns a server of these rings, with so many slots for links.
     ///
     /// # Errors
     ///

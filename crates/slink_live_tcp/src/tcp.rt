@@ -114,7 +114,7 @@ impl<'a, C: Net + Clock, I: Read + AsRawFd + Drop> Tcp<'a, C, I> {
     ///
     /// # Errors
     ///
-    /// Where the system refuses it, or memory lacks.
+    /// Where the system refuses it, or there is too little memory.
     pub fn bind(host: &'a C, alloc: Global, plan: Plan, input: I) -> io::Result<Tcp<'a, C, I>>
         ensures { IfOk result (λ t. happened t ≡ []) }
     {
@@ -142,7 +142,7 @@ impl<'a, C: Net + Clock, I: Read + AsRawFd + Drop> Tcp<'a, C, I> {
 }
 
 impl<C: Clock, I: Read + AsRawFd + Drop> Tcp<'_, C, I> {
-    /// Where links dial.
+    /// Returns the address and port at which links dial.
     ///
     /// # Errors
     ///
@@ -151,7 +151,7 @@ impl<C: Clock, I: Read + AsRawFd + Drop> Tcp<'_, C, I> {
         self.acceptor.address()
     }
 
-    /// Whether the system failed to say what is ready, so that nothing comes any more.
+    /// Returns whether the system failed to say what is ready, so that nothing comes any more.
     pub fn has_failed(&self) -> bool
         ensures { result ≡ has_failed self.now }
     {

@@ -15,7 +15,7 @@ impl<A: Allocator> MemorySink<A> {
     ghost use Rattle.mseed_stream.specs.Device.{nothing_written};
     ghost use Rattle.std.specs.Prelude.{◌≡◌};
 
-    /// Nothing yet.
+    /// Returns a sink to which nothing was written.
     pub fn new(alloc: A) -> MemorySink<A>
         ensures { written_by result ≡ nothing_written }
     {

@@ -74,7 +74,7 @@ pub struct World {
 }
 
 impl Setup {
-    /// Whether a step names one of the stations, and a record that it pushes is of it.
+    /// Returns whether a step names one of the stations, and a record that it pushes is of it.
     pub fn has_step(&self, step: &Step) -> bool
         ensures { IsTrue result ↔ IsOf self.now.places.items step.now }
     {
@@ -88,7 +88,7 @@ impl Setup {
         }
     }
 
-    /// Whether all steps do.
+    /// Returns whether each of these steps names one of the stations, and each record that they push is of its station.
     pub fn has_steps(&self, steps: &[Step]) -> bool
         ensures { IsTrue result ↔ All (IsOf self.now.places.items) steps.now }
     {

@@ -126,7 +126,8 @@ fn with_two_words(word: &[u8], sta: &[u8], net: &[u8]) -> Command
 }
 
 impl Command {
-    /// The command that a line is: its words, between spaces, are those of a command, the first of them in either case.
+    /// Returns the command that a line is, by its words between spaces, the first of them in either case (SeedLink 3,
+    /// commands).
     pub fn read(line: &[u8]) -> Command
         ensures command { IsCommand line.now result }
         // A line is one command.

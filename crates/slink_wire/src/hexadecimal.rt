@@ -15,7 +15,7 @@ fn digit_byte(digit: u8) -> u8
     }
 }
 
-/// The six digits of a number, modulo 2^24, in capitals.
+/// Returns the six hexadecimal digits of a number, modulo 2^24, in capitals.
 #[tactic(auto, using(crate::proofs::Digits::last_six))]
 pub fn six_digits(number: u32) -> [u8; 6]
     ensures { result ≡ hexadecimal 6 number }

@@ -15,7 +15,7 @@ pub struct Address {
 }
 
 impl Address {
-    /// This machine's address, 127.0.0.1.
+    /// Returns this machine's address, 127.0.0.1.
     pub fn local() -> Address
         ensures { result.octets ≡ 127 ∷ 0 ∷ 0 ∷ 1 ∷ [] }
     {
@@ -46,7 +46,7 @@ pub struct Name {
 }
 
 impl Name {
-    /// The name that a text is, or `None` where it has more than 253 bytes.
+    /// Returns the name that a text is, or `None` where it has more than 253 bytes.
     pub fn new(name: &str) -> Option<Name>
         ensures { result ≡ name_of name.now }
     {
@@ -60,7 +60,7 @@ impl Name {
         })
     }
 
-    /// The text that the name is.
+    /// Returns the text of the name.
     pub fn text(&self) -> &str
         ensures { (text : List ℕ) → IsUtf8 text → name_of text ≡ Some self.now → result.now ≡ text }
     {
@@ -88,7 +88,7 @@ pub struct Timeout {
 }
 
 impl Timeout {
-    /// The time after which a call fails that still waits, or `None` where it may wait for any time.
+    /// Returns the time after which a call fails that still waits, or `None` where it may wait for any time.
     pub fn limit(self) -> Option<Duration>
         ensures { option_map as_nanos result ≡ limit_in self }
     {

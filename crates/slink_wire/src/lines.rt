@@ -50,7 +50,7 @@ impl Model for Lines {
 }
 
 impl Lines {
-    /// Before the first byte of a stream.
+    /// Returns what is held before the first byte of a stream: nothing.
     #[tactic(auto, unfolding(crate::specs::Lines::lines_of))]
     pub fn new() -> Lines
         ensures { IsHeld result [] }

@@ -18,7 +18,8 @@ pub struct NotPacket;
 pub struct Packet;
 
 impl Packet {
-    /// The packet of a record, with its number's digits in capitals.
+    /// Returns the packet of a record: `SL`, its number in six hexadecimal digits, in capitals, and its 512 bytes
+    /// (SeedLink 3, packets).
     #[tactic(auto, using(crate::proofs::Packets::read_back))]
     pub fn write(number: u32, bytes: &[u8; 512]) -> [u8; PACKET]
         requires { number < 2 ^ 24 }
@@ -40,7 +41,8 @@ impl Packet {
         body.copy_from_slice(bytes);
     }
 
-    /// The number of the record, from the first eight bytes of a packet: its digits may stand in either case.
+    /// Returns the number of a packet's record, modulo 2^24, by the packet's first eight bytes, whose digits may stand
+    /// in either case; `None` where they begin no packet.
     pub fn number(bytes: &[u8]) -> Option<u32>
         requires { HEAD ≤ length bytes.now }
         ensures number { IfSome result (HasHead bytes.now) }
@@ -52,7 +54,7 @@ impl Packet {
         number_of(&bytes[2..HEAD])
     }
 
-    /// The number and the record of a packet, whose digits may stand in either case.
+    /// Returns the number, modulo 2^24, and the record of a packet, whose digits may stand in either case.
     ///
     /// # Errors
     ///

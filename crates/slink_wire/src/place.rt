@@ -86,7 +86,7 @@ fn put(label: &mut ArrayVec<u8, 8>, bytes: &[u8])
 }
 
 impl Place {
-    /// The station of this code, 1 to 5 ASCII letters or digits, and a network code, 1 or 2 of them.
+    /// Returns the station of a station code, 1 to 5 ASCII letters or digits, and a network code, 1 or 2 of them.
     ///
     /// # Errors
     ///
@@ -104,7 +104,7 @@ impl Place {
         })
     }
 
-    /// The station that a text spells: the network's code, an underscore, and the station's code.
+    /// Returns the station that a text spells: the network's code, an underscore, and the station's code.
     ///
     /// # Errors
     ///
@@ -121,7 +121,7 @@ impl Place {
         Place::new(sta, net)
     }
 
-    /// The station's code, without the spaces that fill its field.
+    /// Returns the station's code, without the spaces that fill its field.
     pub fn station(&self) -> &[u8]
         ensures value { result.now ≡ code_in self.now.station }
         ensures code { IsCode 5 result.now }
@@ -130,7 +130,7 @@ impl Place {
         code_in(&self.station)
     }
 
-    /// The network's code, without the space that may fill its field.
+    /// Returns the network's code, without the space that may fill its field.
     pub fn network(&self) -> &[u8]
         ensures value { result.now ≡ code_in self.now.network }
         ensures code { IsCode 2 result.now }
@@ -139,7 +139,7 @@ impl Place {
         code_in(&self.network)
     }
 
-    /// The text that spells it: the network's code, an underscore, and the station's code.
+    /// Returns the text that spells the station: the network's code, an underscore, and the station's code.
     pub fn label(&self) -> ArrayVec<u8, 8>
         ensures value { result.items ≡ label_of self.now }
         // Who reads it takes it for this station.
@@ -152,7 +152,7 @@ impl Place {
         label
     }
 
-    /// Whether this is a station that a command names: its station, in its network or in any.
+    /// Returns whether a command that names this station code, and this network code or none, means this station.
     pub fn matches(&self, sta: &[u8; 5], net: Option<[u8; 2]>) -> bool
         ensures { result ≡ matches self.now sta.now net }
     {
@@ -163,7 +163,8 @@ impl Place {
             }
     }
 
-    /// Whether a record's header has this station and network.
+    /// Returns whether a record's header has this station's code at bytes 8 to 12 and its network's at bytes 18 and 19,
+    /// filled with spaces (SEED manual, chapter 8, "Fixed section of data header").
     pub fn bears(&self, bytes: &[u8; 512]) -> bool
         ensures { IsTrue result ↔ Bears bytes.now self.now }
     {

@@ -16,7 +16,7 @@ pub enum Reply {
 }
 
 impl Reply {
-    /// The bytes of the reply: one or two lines, each with CR LF, or none.
+    /// Returns the bytes of the reply: one or two lines, each with CR LF, or none.
     pub fn bytes(self) -> &'static [u8]
         ensures { result.now ≡ reply_bytes self }
     {
