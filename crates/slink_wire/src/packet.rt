@@ -8,7 +8,7 @@ use crate::hexadecimal::{header, number_of};
 pub const HEAD: usize = 8;
 
 /// The bytes of a packet: its head, and a record of 512 bytes.
-pub const PACKET: usize = HEAD + 512;
+pub const PACKET: usize = 520;
 
 /// No packet: the bytes don't begin with `SL` and six hexadecimal digits.
 #[derive(Clone, Copy, Debug, PartialEq, Eq)]
