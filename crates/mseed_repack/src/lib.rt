@@ -33,7 +33,7 @@ pub use fault::RepackFault;
 pub use law::{
     borders_are_kept, one_channel_packing, one_repacking, repacked_reads_back, stretches_read_back,
 };
-pub use refusing::{Left, tell_broken, tell_misfit};
+pub use refusing::{Left, misfit_number, tell_broken, tell_misfit};
 pub use repacking::{repack, repack_selected};
 pub use restretching::{repack_selected_stretches, repack_stretches};
 pub use standing::Standing;

@@ -149,8 +149,10 @@ pub fn tell_misfit<E: Sink>(channel: &Codes, stretch: u64, fault: PackFault, err
     report(errors, line.as_slice());
 }
 
-/// The place of a reason among those why a series can't be packed.
-fn misfit_number(fault: PackFault) -> u64
+/// Returns the number by which a line tells why a series can't be packed: 1 it has no samples, 2 its rate is too high, 3
+/// a sample's time lies in no year from 1900 to 2100, 4 a sample is too large for the encoding, 5 a difference is, 6 the
+/// output failed.
+pub fn misfit_number(fault: PackFault) -> u64
     ensures value { result ≡ misfit_number fault }
     ensures bound { result ≤ 6 }
 {
