@@ -1,9 +1,10 @@
-//! Where the records of each channel stand in an archive.
+//! Which records of an archive each channel has.
 ghost use Rattle.std.specs.Prelude.{◌≡◌, ◌<◌, ◌≤◌, ◌+◌, ◌^◌, All, IfNone, IfSome, IfOk, List, false, length, map};
 ghost use Rattle.std.specs.Map.{keys_of};
 ghost use Rattle.std.specs.Ordering.{nat_cmp};
 ghost use Rattle.std.specs.Cmp.Lexicographic.{slice_cmp};
 ghost use Rattle.std.specs.Prelude.{slice_index_or, true};
+ghost use Rattle.std.specs.Bool.{OnTrue};
 ghost use Rattle.std.specs.List.Sorted.{IsStrictlySortedBy};
 ghost use Rattle.mseed_record.specs.Viewing.{view_of};
 ghost use Rattle.mseed_record.specs.declared.view.RecordView.{RecordView};
@@ -18,8 +19,8 @@ use mseed_audit::Verdict;
 use mseed_record::{Codes, RecordView};
 use std::alloc::{AllocError, Allocator};
 
-/// Where the first record of each channel stands, and behind each record with samples the next one of its channel. For
-/// a record that there isn't, there is the number of records.
+/// The index of each channel's first record, and, for each record with samples, the index of its channel's next one;
+/// or, where there is none, how many records there are.
 #[derive(Drop)]
 pub(crate) struct Trails<A: Allocator> {
     pub(crate) firsts: Vec<usize, A>,
@@ -27,7 +28,7 @@ pub(crate) struct Trails<A: Allocator> {
 }
 
 impl<A: Allocator> Trails<A> {
-    /// The archive of the records and channels whose trails these are.
+    /// Returns the archive of the records and channels whose trails these are.
     pub(crate) fn archive<'r, 'a>(
         &'r self,
         views: &'r [RecordView<'a>],
@@ -49,7 +50,7 @@ impl<A: Allocator> Trails<A> {
     }
 }
 
-/// The trails of all channels, whose keys rise.
+/// Returns the trails of all channels, whose keys rise.
 ///
 /// # Errors
 ///
@@ -81,20 +82,24 @@ fn lay(
     requires nexts { length nexts.old ≡ length views.now }
     ensures { AreTrails views.now channels.now firsts.new nexts.new }
 {
+    let mut likely = 0;
     for turn in 0..views.len() {
         let index = views.len() - 1 - turn;
-        lead_to(&views[index], index, channels, firsts, nexts);
+        likely = lead_to(&views[index], index, channels, likely, firsts, nexts);
     }
 }
 
-/// Puts a record before those of its channel.
+/// Puts a record before those of its channel. That is likely the channel with this number, the one of the record after
+/// it: in an archive a channel's records often follow one another. Returns its channel's number, or, where it has no
+/// channel, the likely one.
 fn lead_to(
     view: &RecordView,
     index: usize,
     channels: &[(Codes, Verdict)],
+    likely: usize,
     firsts: &mut [usize],
     nexts: &mut [usize],
-)
+) -> usize
     requires ascending { IsStrictlySortedBy (slice_cmp nat_cmp) (keys_of channels.now) }
     requires firsts { length firsts.old ≡ length channels.now }
     requires inside { index < length nexts.old }
@@ -103,27 +108,43 @@ fn lead_to(
         → AreTrailsFrom index rs channels.now firsts.new nexts.new }
 {
     if view.samples() == 0 {
-        return;
+        return likely;
     }
-    match find_channel(channels, &view.codes()) {
+    match find_channel(channels, view.codes(), likely) {
         Some(number) => {
             nexts[index] = firsts[number];
             firsts[number] = index;
+            number
         }
-        None => {}
+        None => likely,
     }
 }
 
-/// The number of the channel with these codes, where there is one.
-fn find_channel(channels: &[(Codes, Verdict)], codes: &Codes) -> Option<usize>
+/// Returns the number of the channel with these codes, where there is one. The likely one is looked at first.
+fn find_channel(channels: &[(Codes, Verdict)], codes: Codes, likely: usize) -> Option<usize>
     requires { IsStrictlySortedBy (slice_cmp nat_cmp) (keys_of channels.now) }
     ensures inside { IfSome result (λ number. number < length channels.now) }
     ensures some { IfSome result (λ number.
-        (c : Channel) → same_key (slice_index_or channels.now number c).0 codes.now ≡ true) }
-    ensures none { IfNone result (All (λ c. same_key c.0 codes.now ≡ false) channels.now) }
+        (c : Channel) → same_key (slice_index_or channels.now number c).0 codes ≡ true) }
+    ensures none { IfNone result (All (λ c. same_key c.0 codes ≡ false) channels.now) }
 {
-    match channels.binary_search_by_key(codes, |channel| channel.0) {
+    if has_codes(channels, likely, codes) {
+        return Some(likely);
+    }
+    match channels.binary_search_by_key(&codes, |channel| channel.0) {
         Ok(number) => Some(number),
         Err(_) => None,
+    }
+}
+
+/// Returns whether there is a channel with this number, and it has these codes.
+#[inline(always)]
+fn has_codes(channels: &[(Codes, Verdict)], number: usize, codes: Codes) -> bool
+    ensures inside { OnTrue result (number < length channels.now) }
+    ensures same { OnTrue result ((c : Channel) → same_key (slice_index_or channels.now number c).0 codes ≡ true) }
+{
+    match channels.get(number) {
+        Some((key, _)) if *key == codes => true,
+        _ => false,
     }
 }
