@@ -9,8 +9,8 @@ ghost use Rattle.mseed_stretches.specs.Stretches.{IsFirstStretch};
 use crate::stretch::Stretch;
 use mseed_record::RecordView;
 
-/// The first stretch of some records of a channel, each of which is sound: how its first record begins, and how many
-/// records and samples it has. The rest behind those can be called in turn.
+/// Returns the first stretch of some records of a channel, each of which is sound: how its first record begins, and how
+/// many records and samples it has. Called again for the records after those, it returns the next stretch.
 pub fn first_stretch(views: &[RecordView]) -> Stretch
     requires some { 0 < length views.now }
     requires few { length views.now ≤ 2 ^ 40 }

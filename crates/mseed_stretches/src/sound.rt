@@ -8,8 +8,8 @@ use crate::stretch::beginning_of;
 use mseed_record::RecordView;
 use mseed_steim::{check_samples, one_reading};
 
-/// Whether a record with samples has no finding of its own: its time and its rate are known, and it has one reading,
-/// which ends on its constants.
+/// Returns whether a record with samples has no finding of its own: its time and its rate are known, and it has one
+/// reading, which ends on its constants.
 pub fn is_sound(view: &RecordView) -> bool
     requires { 0 < count_of (view_of view.now) }
     ensures { IsTrue result ↔ IsSound (view_of view.now) }

@@ -28,13 +28,13 @@ pub struct Stretch {
     pub samples: u64,
     /// The microseconds that their leap seconds add to the time between two readings of the clock.
     pub added: i64,
-    /// Whether the last record bears both leap flags: no record goes on with it.
+    /// Whether the last record has both leap flags: no record goes on with it.
     pub closed: bool,
     /// There are so many records at most.
     pub ghost few: { records ≤ 2 ^ 40 },
     /// A record has at most 65,535 samples.
     pub ghost samples_bound: { samples ≤ records * 65_535 },
-    /// A record bears at most one leap second.
+    /// At most one leap second happens during a record.
     pub ghost added_low: { neg_ℤ (pos (records * 1_000_000)) ≤ℤ added },
     /// The same of seconds that were inserted.
     pub ghost added_high: { added ≤ℤ pos (records * 1_000_000) },
@@ -45,7 +45,7 @@ impl Stretch {
     ghost use Rattle.mseed_stretches.specs.Stretches.{GoesOn};
     ghost use Rattle.mseed_stretches.specs.private.Nexts.{IsNext};
 
-    /// The stretch that begins with a record whose time and rate are known.
+    /// Returns the stretch that begins with a record whose time and rate are known.
     pub fn begin(view: &RecordView) -> Stretch
         requires { IsSome (known_rate (view_of view.now)) }
         ensures stretch { IsStretchOf result (view_of view.now ∷ []) }
@@ -65,8 +65,8 @@ impl Stretch {
         }
     }
 
-    /// Whether a record goes on with the stretch: it has the same rate and begins within a quarter of a sample period
-    /// of where the stretch has its next sample, and the record before it doesn't bear both leap flags.
+    /// Returns whether a record goes on with the stretch: it has the same rate and begins within a quarter of a sample
+    /// period of where the stretch has its next sample, and the record before it doesn't have both leap flags.
     pub fn goes_on(&self, view: &RecordView) -> bool
         ensures { (vs : List View) → IsStretchOf self.now vs → (IsTrue result ↔ GoesOn vs (view_of view.now)) }
     {
@@ -79,7 +79,7 @@ impl Stretch {
         }
     }
 
-    /// Whether a record of this start and rate goes on, if the last one doesn't bear both leap flags.
+    /// Returns whether a record of this start and rate goes on, if the last one doesn't have both leap flags.
     fn is_next(&self, next: &(Micros, Rate)) -> bool
         ensures { IsTrue result ↔ IsNext self.now (ratio_of next.now.1) next.now.0 }
     {
@@ -90,7 +90,7 @@ impl Stretch {
         is_on_time(self.start, self.samples, own, self.added, next.0)
     }
 
-    /// The stretch with one more record.
+    /// Returns the stretch with one more record.
     pub fn with(&self, view: &RecordView) -> Stretch
         requires { self.now.records < 2 ^ 40 }
         ensures stretch { (vs : List View) → IsStretchOf self.now vs
@@ -109,7 +109,7 @@ impl Stretch {
     }
 }
 
-/// Where a record begins and at what rate, where its time and its rate are known.
+/// Returns where a record begins and at what rate, where its time and its rate are known.
 pub(crate) fn beginning_of(view: &RecordView) -> Option<(Micros, Rate)>
     ensures none { IfNone result (known_rate (view_of view.now) ≡ None) }
     ensures start { IfSome result (λ b. b.0 ≡ start_of (view_of view.now)) }
@@ -127,7 +127,7 @@ pub(crate) fn beginning_of(view: &RecordView) -> Option<(Micros, Rate)>
     Some((start, rate))
 }
 
-/// Whether two rates are one. Mostly they are written alike.
+/// Returns whether two rates are one. Mostly they are written alike.
 fn is_one_rate(rate: Rate, next: Rate) -> bool
     ensures { IsTrue result ↔ SameRate (ratio_of rate) (ratio_of next) }
 {
@@ -137,7 +137,7 @@ fn is_one_rate(rate: Rate, next: Rate) -> bool
     rate.same_as(next)
 }
 
-/// Whether a record bears both leap flags, so that nobody can say which leap second happened.
+/// Returns whether a record has both leap flags, so that nobody can say which leap second happened.
 fn bears_both(view: &RecordView) -> bool
     ensures { IsTrue result ↔ (leap_of (view_of view.now).bytes ≡ Both) }
 {
