@@ -1,6 +1,7 @@
 -- The trails of an archive's channels, and what is found and written of their records.
 use Rattle.std.proofs.Common.{◌≡◌, ◌≢◌, ℕ, suc, ◌+◌, ◌<◌, ◌≤◌, ◌^◌, Bool, true, false, if◌then◌else◌, List, []}
-use Rattle.std.proofs.Common.{◌∷◌, ◌++◌, length, map, take, drop, get_or, sym, ap, subst, ◌∙◌, arith, append_assoc, All}
+use Rattle.std.proofs.Common.{◌∷◌, ◌++◌, length, map, take, drop, get_or, refl, sym, ap, subst, ◌∙◌, arith}
+use Rattle.std.proofs.Common.{append_assoc, All}
 use Rattle.std.specs.List.{AllByRecursion}
 use Rattle.std.proofs.Math.Seq.{take-suc}
 use Rattle.std.proofs.lemmas.List.{get_or_default, length-map, take-append-drop, take_all, take_more}
@@ -13,23 +14,24 @@ use Rattle.mseed_audit.specs.Follows.{IsSound}
 use Rattle.mseed_audit.proofs.Behind.{views_are}
 use Rattle.mseed_pack.specs.declared.fault.PackFault.{PackFault}
 use Rattle.mseed_pack.specs.declared.options.Options.{Options}
-use Rattle.mseed_repack.specs.Repack.{AreContinuous, ArePackedInto, AreTexts, CanBePacked, CantBePacked, Channel}
-use Rattle.mseed_repack.specs.Repack.{IsFirst, IsPartPacked, IsTextUpTo, Wrote, records_in}
+use Rattle.mseed_repack.specs.Repack.{AreContinuous, AreTexts, CanBePacked, CantBePacked, Channel, IsFirst, IsTextUpTo}
+use Rattle.mseed_repack.specs.Repack.{StretchFits, Wrote, records_in}
+use Rattle.mseed_repack.specs.ByStretches.{AreFound, IsFit, kept_of}
 use Rattle.mseed_repack.specs.private.Archives.{IsAudited, IsTrailOf, records_on}
-use Rattle.mseed_repack.specs.private.Planning.{AreReady, AreWritable, CanBeWritten, IsPartOn, IsTextOn, StandsAs}
+use Rattle.mseed_repack.specs.private.Planning.{AreWritable, CanBeWritten, IsPartOn, IsTextOn, StandsAs}
 use Rattle.mseed_repack.specs.private.Planning.{counts_of, planned, stretches_by}
-use Rattle.mseed_repack.specs.private.Reading.{channel_in, steps_of}
-use Rattle.mseed_repack.specs.private.Restretching.{IsNoMisfit}
+use Rattle.mseed_repack.specs.private.Reading.{channel_in}
+use Rattle.mseed_repack.specs.private.Restretching.{IsNoMisfit, IsUnbroken}
 use Rattle.mseed_repack.specs.declared.plan.Plan.{Plan}
 use Rattle.mseed_repack.specs.declared.standing.Standing.{Standing}
-use Rattle.mseed_repack.specs.declared.standing.Standing.TheVariants.{Fit, Misfit}
+use Rattle.mseed_repack.specs.declared.standing.Standing.TheVariants.{Fit, Broken, Misfit}
 use Rattle.mseed_repack.specs.declared.stretching.Cutting.TheVariants.{Whole}
 use Rattle.mseed_repack.specs.declared.archive.Archive.{Archive}
 use Rattle.mseed_repack.specs.declared.archive.Trail.{Trail}
-use Rattle.mseed_repack.proofs.Planning.{as_planned, as_standing, misfits_whole, planned_at, whole_leading}
-use Rattle.mseed_repack.proofs.Planning.{whole_parts, whole_standing, whole_texts, written_at, wrote_as}
+use Rattle.mseed_repack.proofs.Planning.{as_planned, planned_at, written_at}
 use Rattle.mseed_repack.proofs.Repacks.{first_at}
-use Rattle.mseed_repack.proofs.Standings.{steps_gathered}
+use Rattle.mseed_repack.proofs.Standings.{all_fit, as_many, each_fits, each_found, first_found, fits_by_standing}
+use Rattle.mseed_repack.proofs.Standings.{stands_at}
 use Rattle.mseed_repack.proofs.Texts.{wrote_more, wrote_part}
 
 abbrev views_of : Archive → List View
@@ -69,22 +71,7 @@ few_on a k t w =
     let all = length-map a.views.now view_of in
     omega (arith, size, most, all)
 
-pub steps_on : (a : Archive) (k places : ℕ) (t : Trail) → IsTrailOf a k t
-    → steps_of (map view_of a.views.now) ≤ places → steps_of (records_on t) ≤ places
-steps_on a k places t w fits =
-    steps_gathered w.channel.0 (records_on t) (views_of a) places (on_trail a k t w) fits
-
 -- no channel has more records than a loop can count
-pub few_records : (a : Archive) (key : List ℕ) → IsAudited a
-    → length (records_in (map view_of a.views.now) key) ≤ 2 ^ 40
-few_records a key h =
-    let same : length (records_in (views_of a) key) ≡ length (channel_in key (views_of a)) =
-    ap (λ (vs : List View). length vs) (views_are key (views_of a)) in
-    let most = few_in key (views_of a) in
-    let all = length-map a.views.now view_of in
-    let few = h.few in
-    omega (arith, same, most, all, few)
-
 pub few_trail : (a : Archive) (k : ℕ) (t : Trail) → IsTrailOf a k t → IsAudited a → length (records_on t) ≤ 2 ^ 40
 few_trail a k t w h =
     let most = few_on a k t w in
@@ -158,56 +145,62 @@ texts_all o {first = first} {new = new} a ls k past wrote =
 
 -- Channels that are packed whole.
 
-sound_each : (views : List View) (cs : List Channel) → AreContinuous views cs
+-- of which each is sound, none is broken
+unbroken_whole : (o : Options) (views : List View) (cs : List Channel) (ss : List Standing)
+    → AreFound (StandsAs Whole o) views cs ss
     → AllByRecursion (λ (c : Channel). AllByRecursion IsSound (records_in views c.0)) cs
-sound_each views cs continuous =
-    recursion_from_All (λ (c : Channel). AllByRecursion IsSound (records_in views c.0)) cs
-    (λ k d lt. (continuous k d lt).each)
+    → AllByRecursion IsUnbroken ss
+unbroken_whole o views [] [] all sound = tt
+unbroken_whole o views [] (s ∷ ss) all sound = absurd all
+unbroken_whole o views (c ∷ cs) [] all sound = tt
+unbroken_whole o views (c ∷ cs) (Fit ∷ ss) all sound = (tt, unbroken_whole o views cs ss all.1 sound.1)
+unbroken_whole o views (c ∷ cs) (Broken ∷ ss) all sound = absurd (all.0 sound.0)
+unbroken_whole o views (c ∷ cs) (Misfit n f ∷ ss) all sound = (tt, unbroken_whole o views cs ss all.1 sound.1)
 
-pub whole_fit : (o : Options) (room places : ℕ) (views : List View) (cs : List Channel) (ss : List Standing)
-    (ls : List (List Plan)) → AreReady Whole o room places views cs ss ls → AreContinuous views cs → All IsNoMisfit ss
-    → All (λ (c : Channel). CanBePacked o views c.0) cs
-whole_fit o room places views cs ss ls ready continuous fine =
-    let size = as_standing Whole o room places views cs ss ls ready in
-    All-from_recursion (λ (c : Channel). CanBePacked o views c.0) cs
-    (subst (λ (ds : List Channel). AllByRecursion (λ (c : Channel). CanBePacked o views c.0) ds)
-    (take_all (length ss) cs (omega (arith, size)))
-    (whole_leading o room places views cs ss ls (length ss) ready (sound_each views cs continuous)
-    (subst (λ (ts : List Standing). AllByRecursion IsNoMisfit ts) (sym (take_all (length ss) ss (omega arith)))
-    (recursion_from_All IsNoMisfit ss fine))))
+unbroken_continuous : (o : Options) (views : List View) (cs : List Channel) (ss : List Standing)
+    → AreFound (StandsAs Whole o) views cs ss → AreContinuous views cs → All IsUnbroken ss
+unbroken_continuous o views cs ss all continuous =
+    All-from_recursion IsUnbroken ss (unbroken_whole o views cs ss all
+    (recursion_from_All (λ (c : Channel). AllByRecursion IsSound (records_in views c.0)) cs
+    (λ k d lt. (continuous k d lt).each)))
 
-pub whole_refused : (o : Options) (room places : ℕ) (views : List View) (cs : List Channel) (ss : List Standing)
-    (ls : List (List Plan)) (k number : ℕ) (fault : PackFault) (c : Channel)
-    → AreReady Whole o room places views cs ss ls → AreContinuous views cs → k < length ss
-    → get_or ss k Fit ≡ Misfit number fault → All IsNoMisfit (take k ss)
+-- where each fits, each is kept
+kept_all : (cs : List Channel) (ss : List Standing) → length ss ≡ length cs → AllByRecursion IsFit ss
+    → kept_of cs ss ≡ cs
+kept_all [] ss size fit = refl
+kept_all (c ∷ cs) [] size fit = absurd (omega (arith, size))
+kept_all (c ∷ cs) (Fit ∷ ss) size fit = ap (λ (ds : List Channel). c ∷ ds) (kept_all cs ss (omega (arith, size)) fit.1)
+kept_all (c ∷ cs) (Broken ∷ ss) size fit = cc
+kept_all (c ∷ cs) (Misfit n f ∷ ss) size fit = cc
+
+-- what is known of them where none doesn't fit
+pub record IsWholeFit (o : Options) (views : List View) (cs : List Channel) (ss : List Standing) : Type 0 where
+  pub fit : All (λ (c : Channel). CanBePacked o views c.0) cs
+  pub kept : kept_of cs ss ≡ cs
+
+pub whole_fit : (o : Options) (views : List View) (cs : List Channel) (ss : List Standing)
+    → AreFound (StandsAs Whole o) views cs ss → AreContinuous views cs → All IsNoMisfit ss → IsWholeFit o views cs ss
+whole_fit o views cs ss all continuous fine =
+    let each = recursion_from_All IsFit ss (all_fit ss (unbroken_continuous o views cs ss all continuous) fine) in
+    record {
+      fit = All-from_recursion (λ (c : Channel). CanBePacked o views c.0) cs
+          (each_found (StandsAs Whole o) IsFit (StretchFits o) (fits_by_standing (StandsAs Whole o)) views cs ss all
+          each);
+      kept = kept_all cs ss (as_many (StandsAs Whole o) views cs ss all) each;
+    }
+
+pub whole_refused : (o : Options) (views : List View) (cs : List Channel) (ss : List Standing) (k number : ℕ)
+    (fault : PackFault) (c : Channel) → AreFound (StandsAs Whole o) views cs ss → AreContinuous views cs
+    → k < length ss → get_or ss k Fit ≡ Misfit number fault → All IsNoMisfit (take k ss)
     → IsFirst (CanBePacked o views) (CantBePacked o views fault) (get_or cs k c).0 cs
-whole_refused o room places views cs ss ls k number fault c ready continuous lt is before =
+whole_refused o views cs ss k number fault c all continuous lt is before =
     let Before : List ℕ → Type 0 = λ key. CanBePacked o views key in
     let At : List ℕ → Type 0 = λ key. CantBePacked o views fault key in
     let d : Channel = get_or cs k c in
-    let size = as_standing Whole o room places views cs ss ls ready in
+    let size = as_many (StandsAs Whole o) views cs ss all in
     let less : k < length cs = omega (arith, lt, size) in
-    let here : StandsAs Whole o (records_in views d.0) (Misfit number fault) =
-    whole_standing o room places views cs ss ls k d (Misfit number fault) ready less (get_or_default cs k c d less)
-    (sym is ∙ get_or_default ss k Fit (Misfit number fault) lt) in
     first_at Before At cs k c less
-    (All-from_recursion (λ (e : Channel). Before e.0) (take k cs)
-    (whole_leading o room places views cs ss ls k ready (sound_each views cs continuous)
-    (recursion_from_All IsNoMisfit (take k ss) before)))
-    (misfits_whole here)
-
-pub series_texts : (o : Options) (room places : ℕ) {old new : BytesWritten} (views : List View) (cs : List Channel)
-    (ss : List Standing) (ls : List (List Plan)) → AreReady Whole o room places views cs ss ls → AreContinuous views cs
-    → All IsNoMisfit ss → Wrote (AreTexts (IsTextOn o) (planned views cs ls)) 0 old new
-    → Wrote (ArePackedInto o views cs) 0 old new
-series_texts o room places views cs ss ls ready continuous fine wrote =
-    wrote_as (λ text is. whole_texts o room places views cs ss ls text ready (sound_each views cs continuous)
-    (recursion_from_All IsNoMisfit ss fine) is) wrote
-
-pub series_part : (o : Options) (room places : ℕ) {old new : BytesWritten} (views : List View) (cs : List Channel)
-    (ss : List Standing) (ls : List (List Plan)) → AreReady Whole o room places views cs ss ls → AreContinuous views cs
-    → All IsNoMisfit ss → Wrote (IsTextUpTo (IsTextOn o) (IsPartOn o) (planned views cs ls)) 1 old new
-    → Wrote (IsPartPacked o views cs) 1 old new
-series_part o room places views cs ss ls ready continuous fine wrote =
-    wrote_as (λ text is. whole_parts o room places views cs ss ls text ready (sound_each views cs continuous)
-    (recursion_from_All IsNoMisfit ss fine) is) wrote
+    (first_found (StandsAs Whole o) IsFit (StretchFits o) (fits_by_standing (StandsAs Whole o)) views cs ss k all
+    (each_fits ss k (unbroken_continuous o views cs ss all continuous) before))
+    (stands_at (StandsAs Whole o) views cs ss k d (Misfit number fault) all less (get_or_default cs k c d less)
+    (sym is ∙ get_or_default ss k Fit (Misfit number fault) lt))

@@ -28,6 +28,7 @@ use Rattle.mseed_repack.specs.declared.stretches_fault.StretchesFault.TheVariant
 use Rattle.mseed_repack.specs.declared.stretches_fault.StretchesFault.TheVariants.{Misfit as MisfitStretch}
 use Rattle.mseed_repack.specs.declared.stretches_fault.StretchesFault.TheVariants.{Write as WriteFailed}
 use Rattle.mseed_repack.specs.declared.stretches_fault.StretchesFault.TheVariants.{Memory as LacksMemory}
+use Rattle.mseed_repack.proofs.Each.{each_kept}
 use Rattle.mseed_repack.proofs.OneRepacking.{never_unread}
 use Rattle.mseed_repack.proofs.Standings.{tells_one}
 
@@ -53,15 +54,6 @@ counted_views p rs =
     let test : RecordView → Bool = λ r. p (view_of r) in
     sym (length-filter test rs) ∙ sym (length-map (filter test rs) view_of)
     ∙ ap (λ (vs : List View). length vs) (kept_views p rs) ∙ length-filter p (map view_of rs)
-
-each_kept : {X : Type 0} (P : X → Type 0) (p : X → Bool) (xs : List X) → AllByRecursion P xs
-    → AllByRecursion P (filter p xs)
-each_kept P p [] h = tt
-each_kept {X} P p (x ∷ xs) h = by (p x) (each_kept P p xs h.1)
-  where
-    by : (b : Bool) → AllByRecursion P (filter p xs) → AllByRecursion P (cond b (x ∷ filter p xs) (filter p xs))
-    by true rest = (h.0, rest)
-    by false rest = rest
 
 records_kept : (p : View → Bool) (vs : List View) → AllByRecursion IsRecord (bytes_in vs)
     → AllByRecursion IsRecord (bytes_in (filter p vs))

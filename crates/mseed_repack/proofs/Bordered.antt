@@ -44,7 +44,8 @@ use Rattle.mseed_repack.specs.Repack.{IsStretchPacked, StretchFits}
 use Rattle.mseed_repack.specs.Restretch.{ArePackedOn, ChannelFits, IsChannelPacked, IsNumberedOn}
 use Rattle.mseed_repack.specs.Restretch.{none as packed_none, more as packed_more}
 use Rattle.mseed_repack.proofs.Borders.{AreBordering, IsBorder, IsLaid, bordering, joined_samples, samples_at}
-use Rattle.mseed_repack.proofs.ChannelReadBack.{IsSoundStretch, each_at_back, each_in_leading, each_sound}
+use Rattle.mseed_repack.proofs.ChannelReadBack.{IsSoundStretch, each_sound}
+use Rattle.mseed_repack.proofs.Each.{each_at_back, each_in_leading, each_of_both}
 use Rattle.mseed_repack.proofs.Misses.{early_still, half_of, late_still}
 use Rattle.mseed_repack.proofs.Stretched.{fits_on}
 
@@ -125,16 +126,11 @@ all_laid laws o _ _ sound fit (packed_more ss s records others next packed on he
 
 -- They are views, and there are no others of the same records.
 
-both_each : {X : Type 0} (P : X → Type 0) (xs ys : List X) → AllByRecursion P xs → AllByRecursion P ys
-    → AllByRecursion P (xs ++ ys)
-both_each P [] ys h k = k
-both_each P (x ∷ xs) ys h k = (h.0, both_each P xs ys h.1 k)
-
 each_view : (ss : List (List View)) (ws : List View) → AreLaid ss ws → AllByRecursion IsView ws
 each_view [] ws e = subst (λ (us : List View). AllByRecursion IsView us) (sym e) tt
 each_view (s ∷ ss) ws (own, (rest, (parts, here, more))) =
     subst (λ (us : List View). AllByRecursion IsView us) (sym parts)
-    (both_each IsView own rest (are_views here.trace 0 own here.trace.samples here.at) (each_view ss rest more))
+    (each_of_both IsView own rest (are_views here.trace 0 own here.trace.samples here.at) (each_view ss rest more))
 
 -- those of records of one key are of that key
 of_key_at : (key : List ℕ) (s : Trace) (first : ℕ) (vs : List View) (samples : List ℤ) → s.codes ≡ key
@@ -162,7 +158,7 @@ each_of_key key vs (s ∷ ss) ws (left, (first, cut)) keys (own, (rest, (parts, 
     subst (λ (us : List View). AllByRecursion P us) here.series.parts (each_in_leading P s left all) in
     let code : here.trace.codes ≡ key = here.series.codes ∙ of_first.0 in
     subst (λ (us : List View). AllByRecursion (λ (v : View). IsTrue (is_of key v)) us) (sym parts)
-    (both_each (λ (v : View). IsTrue (is_of key v)) own rest
+    (each_of_both (λ (v : View). IsTrue (is_of key v)) own rest
     (of_key_at key here.trace 0 own here.trace.samples code here.at)
     (each_of_key key left ss rest cut (each_at_back P s left all) more))
 
@@ -503,7 +499,7 @@ each_laid_sound : Layers → (ss : List (List View)) (ws : List View) → AreLai
 each_laid_sound laws [] ws e = subst (λ (us : List View). AllByRecursion IsSound us) (sym e) tt
 each_laid_sound laws (s ∷ ss) ws (own, (rest, (parts, here, more))) =
     subst (λ (us : List View). AllByRecursion IsSound us) (sym parts)
-    (both_each IsSound own rest (own_continuous laws s own here).each (each_laid_sound laws ss rest more))
+    (each_of_both IsSound own rest (own_continuous laws s own here).each (each_laid_sound laws ss rest more))
 
 all_follow : Layers → (vs : List View) (ss : List (List View)) (ws : List View) → AllNeighbours IsClose vs
     → AreStretchesUpTo vs ss [] → AreLaid ss ws → AllNeighbours Follows ws

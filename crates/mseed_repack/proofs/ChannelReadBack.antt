@@ -27,6 +27,7 @@ use Rattle.mseed_repack.specs.Restretch.{none as packed_none, more as packed_mor
 use Rattle.mseed_repack.specs.StretchesReadBack.{AreChannelsReadBack, AreReadBack, IsChannelReadBack}
 use Rattle.mseed_repack.specs.StretchesReadBack.{IsStretchReadBack, IsStretchedBack, IsTextReadBack, KeepsTime}
 use Rattle.mseed_repack.specs.StretchesReadBack.{read_none, read_more}
+use Rattle.mseed_repack.proofs.Each.{each_at_back, each_in_leading}
 use Rattle.mseed_repack.proofs.Stretched.{fits_on}
 use Rattle.mseed_repack.proofs.Texts.{HasOne, one_text, texts_each}
 
@@ -39,19 +40,6 @@ pub record Laws : Type 0 where
   pub continuous : (s : List View) → AllByRecursion IsSound s → IsStretch s → IsContinuous s
   pub near : (first : View) (rest : List View) (rate : Ratio) → IsStretch (first ∷ rest)
       → known_rate first ≡ Some rate → AllStayNear first rate (first ∷ rest)
-
-pub each_in_leading : {X : Type 0} (P : X → Type 0) (xs ys : List X) → AllByRecursion P (xs ++ ys) → AllByRecursion P xs
-each_in_leading P [] ys all = tt
-each_in_leading P (x ∷ xs) ys all = (all.0, each_in_leading P xs ys all.1)
-
-pub each_at_back : {X : Type 0} (P : X → Type 0) (xs ys : List X) → AllByRecursion P (xs ++ ys) → AllByRecursion P ys
-each_at_back P [] ys all = all
-each_at_back P (x ∷ xs) ys all = each_at_back P xs ys all.1
-
-pub each_more : {X : Type 0} (P : X → Type 0) (xs : List X) (x : X) → AllByRecursion P xs → P x
-    → AllByRecursion P (xs ++ x ∷ [])
-each_more P [] x all here = (here, tt)
-each_more P (y ∷ ys) x all here = (all.0, each_more P ys x all.1 here)
 
 -- a stretch of sound records
 pub record IsSoundStretch (s : List View) : Type 0 where

@@ -1,3 +1,4 @@
+pub mod Each
 pub mod Texts
 pub mod Repacks
 pub mod AskedFor
@@ -16,8 +17,10 @@ pub mod Cutting
 pub mod Walks
 pub mod Archives
 pub mod Standings
+pub mod Sound
 pub mod ChannelReadBack
 pub mod Misses
 pub mod Borders
 pub mod Bordered
 pub mod StretchedArchive
+pub mod Outcomes

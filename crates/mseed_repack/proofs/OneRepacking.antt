@@ -39,6 +39,7 @@ use Rattle.mseed_repack.specs.Repack.{IsPackedInPart, IsPartPacked, IsRepacking,
 use Rattle.mseed_repack.specs.Repack.{Wrote, records_in}
 use Rattle.mseed_repack.specs.declared.fault.RepackFault.{RepackFault}
 use Rattle.mseed_repack.specs.declared.fault.RepackFault.TheVariants.{Stream, Broken, Misfit, Write, Memory}
+use Rattle.mseed_repack.proofs.Each.{each_more}
 use Rattle.mseed_repack.proofs.Texts.{AreEither, AreParts, Either, HasOne, either_part, one_text, part_prefix}
 
 -- What a law of a lower room says.
@@ -172,11 +173,6 @@ as_many bytes tail rest (x ∷ xs) (y ∷ ys) a b d e same =
     λ i. first.0 i ∷ others i
 
 -- and the further one behind them is there
-each_more : (xs : List (List ℕ)) (x : List ℕ) → AllByRecursion IsRecord xs → IsRecord x
-    → AllByRecursion IsRecord (xs ++ x ∷ [])
-each_more [] x all is = (is, tt)
-each_more (y ∷ ys) x all is = (all.0, each_more ys x all.1 is)
-
 turns_fewer : (bytes rest : List ℕ) (n : ℕ) (records all : List (List ℕ)) → GoesOnAfter bytes n records
     → IsArchive bytes all rest → length records + 1 ≤ length all
 turns_fewer bytes rest n records all g a =
@@ -192,7 +188,7 @@ turns_fewer bytes rest n records all g a =
     ∙ ap (λ (xs : List ℕ). xs ++ drop k behind) (sym one)))) in
     let less : length (records ++ last ∷ []) ≤ length all =
     fewer bytes (drop k behind) rest (records ++ last ∷ []) all
-    (each_more records last g.before.each g.further.1.1) joined a in
+    (each_more IsRecord records last g.before.each g.further.1.1) joined a in
     omega (arith, less, length-append records (last ∷ []))
 
 turns_at : (bytes : List ℕ) (n : ℕ) (records : List (List ℕ)) → GoesOnAfter bytes n records

@@ -18,12 +18,12 @@ use Rattle.mseed_repack.specs.Repack.{AreTexts, Channel, IsPackedInPart, IsSerie
 use Rattle.mseed_repack.specs.Repack.{StretchFits, StretchMisfits, Wrote, records_in}
 use Rattle.mseed_repack.specs.Restretch.{ArePackedOn, ChannelMisfits, IsChannelPart, IsChannelText}
 use Rattle.mseed_repack.specs.Restretch.{IsNextStretch, IsNumberedOn, more, none}
-use Rattle.mseed_repack.specs.ByStretches.{AreStandings, AreStretched, IsPartStretched, Stands, kept_of}
-use Rattle.mseed_repack.specs.private.Planning.{AreReady, AreWritable, CanBeWritten, EachGoes, FitsAs, GoesBy, IsCut}
-use Rattle.mseed_repack.specs.private.Planning.{IsCutAs, IsFirstMisfit, IsPartOn, IsReadable, IsReady, IsStretchText}
-use Rattle.mseed_repack.specs.private.Planning.{IsTextOn, MisfitsAs, StandsAs, counts_of, planned, stretches_by}
+use Rattle.mseed_repack.specs.ByStretches.{AreFound, kept_of}
+use Rattle.mseed_repack.specs.private.Planning.{AreFitting, AreReady, AreWritable, CanBeWritten, EachGoes, GoesBy}
+use Rattle.mseed_repack.specs.private.Planning.{IsCut, IsCutAs, IsFirstMisfit, IsPartAs, IsPartOn, IsReadable, IsReady}
+use Rattle.mseed_repack.specs.private.Planning.{IsStretchText, IsTextAs, IsTextOn, StandsAs, counts_of, planned}
+use Rattle.mseed_repack.specs.private.Planning.{stretches_by}
 use Rattle.mseed_repack.specs.private.Reading.{steps_of}
-use Rattle.mseed_repack.specs.private.Restretching.{IsNoMisfit}
 use Rattle.mseed_repack.specs.declared.plan.Plan.{Plan}
 use Rattle.mseed_repack.specs.declared.plan.Way.{Way}
 use Rattle.mseed_repack.specs.declared.plan.Way.TheVariants.{Frames, Listed}
@@ -31,8 +31,8 @@ use Rattle.mseed_repack.specs.declared.standing.Standing.{Standing}
 use Rattle.mseed_repack.specs.declared.standing.Standing.TheVariants.{Fit, Broken, Misfit}
 use Rattle.mseed_repack.specs.declared.stretching.Cutting.{Cutting}
 use Rattle.mseed_repack.specs.declared.stretching.Cutting.TheVariants.{Whole, Stretches}
-use Rattle.mseed_repack.proofs.ChannelReadBack.{each_at_back, each_in_leading, each_more, ends_apart, one_next}
-use Rattle.mseed_repack.proofs.ChannelReadBack.{snoc_one}
+use Rattle.mseed_repack.proofs.ChannelReadBack.{ends_apart, one_next, snoc_one}
+use Rattle.mseed_repack.proofs.Each.{each_at_back, each_in_leading, each_more}
 use Rattle.mseed_repack.proofs.ReadChannels.{steps_append}
 use Rattle.mseed_repack.proofs.Stretched.{fits_on, on_more, on_none}
 
@@ -58,10 +58,12 @@ stretches_end ns vs k past = ap (λ (ms : List ℕ). stretches_by ms vs) (drop_a
 
 -- the same of plans
 
-pub plans_next : (ps : List Plan) (vs : List View) (k : ℕ) (d : Plan) → k < length ps
+pub plans_next : (ps : List Plan) (vs : List View) (k : ℕ) (p : Plan) → k < length ps → p ≡ get_or ps k p
     → stretches_by (counts_of (drop k ps)) vs
-    ≡ take (get_or ps k d).records vs ∷ stretches_by (counts_of (drop (k + 1) ps)) (drop (get_or ps k d).records vs)
-plans_next ps vs k d inside = ap (λ (qs : List Plan). stretches_by (counts_of qs) vs) (drop_more ps k d inside)
+    ≡ take p.records vs ∷ stretches_by (counts_of (drop (k + 1) ps)) (drop p.records vs)
+plans_next ps vs k p inside is =
+    ap (λ (qs : List Plan). stretches_by (counts_of qs) vs)
+    (drop_more ps k p inside ∙ ap (λ (q : Plan). q ∷ drop (k + 1) ps) (sym is))
 
 pub plans_end : (ps : List Plan) (vs : List View) (k : ℕ) → length ps ≤ k
     → stretches_by (counts_of (drop k ps)) vs ≡ []
@@ -95,11 +97,12 @@ each_goes_more encoding room next (q ∷ ps) p (t ∷ ss) s le all goes = (
 )
 
 -- the next one goes its way, and so do those behind it
-pub goes_next : (encoding : Encoding) (room : ℕ) (ps : List Plan) (k : ℕ) (d : Plan) (ss back : List (List View))
-    (s : List View) → k < length ps → EachGoes encoding room (drop k ps) ss → ss ≡ s ∷ back
-    → GoesBy encoding room (get_or ps k d).way s × EachGoes encoding room (drop (k + 1) ps) back
-goes_next encoding room ps k d ss back s inside all e =
-    subst (λ (qs : List Plan). EachGoes encoding room qs (s ∷ back)) (drop_more ps k d inside)
+pub goes_next : (encoding : Encoding) (room : ℕ) (ps : List Plan) (k : ℕ) (p : Plan) (ss back : List (List View))
+    (s : List View) → k < length ps → p ≡ get_or ps k p → EachGoes encoding room (drop k ps) ss → ss ≡ s ∷ back
+    → GoesBy encoding room p.way s × EachGoes encoding room (drop (k + 1) ps) back
+goes_next encoding room ps k p ss back s inside is all e =
+    subst (λ (qs : List Plan). EachGoes encoding room qs (s ∷ back))
+    (drop_more ps k p inside ∙ ap (λ (q : Plan). q ∷ drop (k + 1) ps) (sym is))
     (subst (λ (ts : List (List View)). EachGoes encoding room (drop k ps) ts) e all)
 
 -- how many records each of the stretches so far has, and one more
@@ -475,20 +478,29 @@ whole_misfit o vs ss number fault one m =
     let same = one_part m.before m.back vs m.stretch (sym one ∙ m.parts) in
     subst (λ (us : List View). StretchMisfits o fault us) same.1 m.misfit
 
--- What is found of a channel that is packed whole, or by its stretches.
+-- What is found and written of a channel whose records are cut so.
 
-pub fits_whole : {o : Options} {vs : List View} → FitsAs Whole o vs → StretchFits o vs
-fits_whole {o = o} h = (subst (λ (ss : List (List View)). AllByRecursion (StretchFits o) ss) h.cut h.fit).0
+fits_as : (o : Options) (vs : List View) (cutting : Cutting) (ss : List (List View)) → AllByRecursion IsSound vs
+    → IsCutAs cutting vs ss → AllByRecursion (StretchFits o) ss → StandsAs cutting o vs Fit
+fits_as o vs Whole ss sound cut fit =
+    (subst (λ (ts : List (List View)). AllByRecursion (StretchFits o) ts) cut fit).0
+fits_as o vs Stretches ss sound cut fit = record { sound = sound; stretches = ss; are = cut; fit = fit }
 
-pub misfits_whole : {o : Options} {number : ℕ} {fault : PackFault} {vs : List View}
-    → MisfitsAs Whole o number fault vs → StretchMisfits o fault vs
-misfits_whole {o = o} {number = number} {fault = fault} {vs = vs} h =
-    whole_misfit o vs h.stretches number fault h.cut h.misfit
+misfits_as : (o : Options) (vs : List View) (cutting : Cutting) (ss : List (List View)) (number : ℕ)
+    (fault : PackFault) → AllByRecursion IsSound vs → IsCutAs cutting vs ss → IsFirstMisfit o number fault ss
+    → StandsAs cutting o vs (Misfit number fault)
+misfits_as o vs Whole ss number fault sound cut m = whole_misfit o vs ss number fault cut m
+misfits_as o vs Stretches ss number fault sound cut m = channel_misfits o vs ss number fault sound cut m
 
-stands_cut : (o : Options) (vs : List View) (s : Standing) → StandsAs Stretches o vs s → Stands o vs s
-stands_cut o vs Fit h = record { sound = h.sound; stretches = h.stretches; are = h.cut; fit = h.fit }
-stands_cut o vs Broken h = h
-stands_cut o vs (Misfit number fault) h = channel_misfits o vs h.stretches number fault h.sound h.cut h.misfit
+text_as : (cutting : Cutting) (o : Options) (vs : List View) (ss : List (List View)) (text : List ℕ)
+    → IsCutAs cutting vs ss → IsTextOn o ss text → IsTextAs cutting o vs text
+text_as Whole o vs ss text cut is = whole_text o vs ss text cut is
+text_as Stretches o vs ss text cut is = channel_text o vs ss text cut is
+
+part_as : (cutting : Cutting) (o : Options) (vs : List View) (ss : List (List View)) (text : List ℕ)
+    → IsCutAs cutting vs ss → IsPartOn o ss text → IsPartAs cutting o vs text
+part_as Whole o vs ss text cut p = whole_part o vs ss text cut p
+part_as Stretches o vs ss text cut p = channel_part o vs ss text cut p
 
 -- The stretches of all channels.
 
@@ -525,14 +537,15 @@ written_at views (d ∷ cs) (ps ∷ ls) zero c lt all = all.0
 written_at views (d ∷ cs) (ps ∷ ls) (suc k) c lt all = written_at views cs ls k c (omega (arith, lt)) all.1
 
 -- of channels of which this is found
-pub standings_of : (o : Options) (room places : ℕ) (views : List View) (cs : List Channel) (ss : List Standing)
-    (ls : List (List Plan)) → AreReady Stretches o room places views cs ss ls → AreStandings o views cs ss
-standings_of o room places views [] [] ls ready = tt
-standings_of o room places views [] (s ∷ ss) ls ready = absurd ready
-standings_of o room places views (c ∷ cs) [] ls ready = absurd ready
-standings_of o room places views (c ∷ cs) (s ∷ ss) [] ready = absurd ready
-standings_of o room places views (c ∷ cs) (s ∷ ss) (ps ∷ ls) ready =
-    (stands_cut o (records_in views c.0) s ready.0.stands, standings_of o room places views cs ss ls ready.1)
+pub standings_of : (cutting : Cutting) (o : Options) (room places : ℕ) (views : List View) (cs : List Channel)
+    (ss : List Standing) (ls : List (List Plan)) → AreReady cutting o room places views cs ss ls
+    → AreFound (StandsAs cutting o) views cs ss
+standings_of cutting o room places views [] [] ls ready = tt
+standings_of cutting o room places views [] (s ∷ ss) ls ready = absurd ready
+standings_of cutting o room places views (c ∷ cs) [] ls ready = absurd ready
+standings_of cutting o room places views (c ∷ cs) (s ∷ ss) [] ready = absurd ready
+standings_of cutting o room places views (c ∷ cs) (s ∷ ss) (ps ∷ ls) ready =
+    (ready.0.stands, standings_of cutting o room places views cs ss ls ready.1)
 
 nothing_planned : (o : Options) (room places : ℕ) (vs : List View) (ps : List Plan) → ps ≡ []
     → CanBeWritten o room places ps vs
@@ -578,43 +591,54 @@ no_part o vs ps own e p =
 without : (own rest text : List ℕ) → text ≡ own ++ rest → own ≡ [] → rest ≡ text
 without own rest text e gone = sym (e ∙ ap (λ (xs : List ℕ). xs ++ rest) gone)
 
-pub kept_texts : (o : Options) (room places : ℕ) (views : List View) (cs : List Channel) (ss : List Standing)
-    (ls : List (List Plan)) (text : List ℕ) → AreReady Stretches o room places views cs ss ls
-    → AreTexts (IsTextOn o) (planned views cs ls) text → AreStretched o views (kept_of cs ss) text
-kept_texts o room places views [] ss ls text ready e = e
-kept_texts o room places views (c ∷ cs) [] ls text ready a = absurd ready
-kept_texts o room places views (c ∷ cs) (s ∷ ss) [] text ready a = absurd ready
-kept_texts o room places views (c ∷ cs) (Fit ∷ ss) (ps ∷ ls) text ready (own, (rest, a)) =
+abbrev pub TextsAs : Cutting → Options → List View → List Channel → List ℕ → Type 0
+TextsAs cutting o views cs text =
+    AreTexts (λ (c : Channel) own. IsTextAs cutting o (records_in views c.0) own) cs text
+
+abbrev pub PartsAs : Cutting → Options → List View → List Channel → List ℕ → Type 0
+PartsAs cutting o views cs text =
+    IsTextUpTo (λ (c : Channel) own. IsTextAs cutting o (records_in views c.0) own)
+    (λ (c : Channel) own. IsPartAs cutting o (records_in views c.0) own) cs text
+
+pub kept_texts : (cutting : Cutting) (o : Options) (room places : ℕ) (views : List View) (cs : List Channel)
+    (ss : List Standing) (ls : List (List Plan)) (text : List ℕ) → AreReady cutting o room places views cs ss ls
+    → AreTexts (IsTextOn o) (planned views cs ls) text
+    → TextsAs cutting o views (kept_of cs ss) text
+kept_texts cutting o room places views [] ss ls text ready e = e
+kept_texts cutting o room places views (c ∷ cs) [] ls text ready a = absurd ready
+kept_texts cutting o room places views (c ∷ cs) (s ∷ ss) [] text ready a = absurd ready
+kept_texts cutting o room places views (c ∷ cs) (Fit ∷ ss) (ps ∷ ls) text ready (own, (rest, a)) =
     let vs : List View = records_in views c.0 in (
       own,
       (
         rest,
         (
           a.0,
-          channel_text o vs (stretches_by (counts_of ps) vs) own ready.0.plan.0 a.1,
-          kept_texts o room places views cs ss ls rest ready.1 a.2,
+          text_as cutting o vs (stretches_by (counts_of ps) vs) own ready.0.plan.0 a.1,
+          kept_texts cutting o room places views cs ss ls rest ready.1 a.2,
         ),
       ),
     )
-kept_texts o room places views (c ∷ cs) (Broken ∷ ss) (ps ∷ ls) text ready (own, (rest, a)) =
-    subst (λ (t : List ℕ). AreStretched o views (kept_of cs ss) t)
+kept_texts cutting o room places views (c ∷ cs) (Broken ∷ ss) (ps ∷ ls) text ready (own, (rest, a)) =
+    subst (TextsAs cutting o views (kept_of cs ss))
     (without own rest text a.0 (no_text o (records_in views c.0) ps own ready.0.plan a.1))
-    (kept_texts o room places views cs ss ls rest ready.1 a.2)
-kept_texts o room places views (c ∷ cs) (Misfit n f ∷ ss) (ps ∷ ls) text ready (own, (rest, a)) =
-    subst (λ (t : List ℕ). AreStretched o views (kept_of cs ss) t)
+    (kept_texts cutting o room places views cs ss ls rest ready.1 a.2)
+kept_texts cutting o room places views (c ∷ cs) (Misfit n f ∷ ss) (ps ∷ ls) text ready (own, (rest, a)) =
+    subst (TextsAs cutting o views (kept_of cs ss))
     (without own rest text a.0 (no_text o (records_in views c.0) ps own ready.0.plan a.1))
-    (kept_texts o room places views cs ss ls rest ready.1 a.2)
+    (kept_texts cutting o room places views cs ss ls rest ready.1 a.2)
 
-pub kept_parts : (o : Options) (room places : ℕ) (views : List View) (cs : List Channel) (ss : List Standing)
-    (ls : List (List Plan)) (text : List ℕ) → AreReady Stretches o room places views cs ss ls
-    → IsTextUpTo (IsTextOn o) (IsPartOn o) (planned views cs ls) text → IsPartStretched o views (kept_of cs ss) text
-kept_parts o room places views [] ss ls text ready is = absurd is
-kept_parts o room places views (c ∷ cs) [] ls text ready is = absurd ready
-kept_parts o room places views (c ∷ cs) (s ∷ ss) [] text ready is = absurd ready
-kept_parts o room places views (c ∷ cs) (Fit ∷ ss) (ps ∷ ls) text ready (inl part) =
+pub kept_parts : (cutting : Cutting) (o : Options) (room places : ℕ) (views : List View) (cs : List Channel)
+    (ss : List Standing) (ls : List (List Plan)) (text : List ℕ) → AreReady cutting o room places views cs ss ls
+    → IsTextUpTo (IsTextOn o) (IsPartOn o) (planned views cs ls) text
+    → PartsAs cutting o views (kept_of cs ss) text
+kept_parts cutting o room places views [] ss ls text ready is = absurd is
+kept_parts cutting o room places views (c ∷ cs) [] ls text ready is = absurd ready
+kept_parts cutting o room places views (c ∷ cs) (s ∷ ss) [] text ready is = absurd ready
+kept_parts cutting o room places views (c ∷ cs) (Fit ∷ ss) (ps ∷ ls) text ready (inl part) =
     let vs : List View = records_in views c.0 in
-    inl (channel_part o vs (stretches_by (counts_of ps) vs) text ready.0.plan.0 part)
-kept_parts o room places views (c ∷ cs) (Fit ∷ ss) (ps ∷ ls) text ready (inr (own, (rest, a))) =
+    inl (part_as cutting o vs (stretches_by (counts_of ps) vs) text ready.0.plan.0 part)
+kept_parts cutting o room places views (c ∷ cs) (Fit ∷ ss) (ps ∷ ls) text ready (inr (own, (rest, a))) =
     let vs : List View = records_in views c.0 in
     inr (
       own,
@@ -622,112 +646,23 @@ kept_parts o room places views (c ∷ cs) (Fit ∷ ss) (ps ∷ ls) text ready (i
         rest,
         (
           a.0,
-          channel_text o vs (stretches_by (counts_of ps) vs) own ready.0.plan.0 a.1,
-          kept_parts o room places views cs ss ls rest ready.1 a.2,
+          text_as cutting o vs (stretches_by (counts_of ps) vs) own ready.0.plan.0 a.1,
+          kept_parts cutting o room places views cs ss ls rest ready.1 a.2,
         ),
       ),
     )
-kept_parts o room places views (c ∷ cs) (Broken ∷ ss) (ps ∷ ls) text ready (inl part) =
+kept_parts cutting o room places views (c ∷ cs) (Broken ∷ ss) (ps ∷ ls) text ready (inl part) =
     absurd (no_part o (records_in views c.0) ps text ready.0.plan part)
-kept_parts o room places views (c ∷ cs) (Broken ∷ ss) (ps ∷ ls) text ready (inr (own, (rest, a))) =
-    subst (λ (t : List ℕ). IsPartStretched o views (kept_of cs ss) t)
+kept_parts cutting o room places views (c ∷ cs) (Broken ∷ ss) (ps ∷ ls) text ready (inr (own, (rest, a))) =
+    subst (PartsAs cutting o views (kept_of cs ss))
     (without own rest text a.0 (no_text o (records_in views c.0) ps own ready.0.plan a.1))
-    (kept_parts o room places views cs ss ls rest ready.1 a.2)
-kept_parts o room places views (c ∷ cs) (Misfit n f ∷ ss) (ps ∷ ls) text ready (inl part) =
+    (kept_parts cutting o room places views cs ss ls rest ready.1 a.2)
+kept_parts cutting o room places views (c ∷ cs) (Misfit n f ∷ ss) (ps ∷ ls) text ready (inl part) =
     absurd (no_part o (records_in views c.0) ps text ready.0.plan part)
-kept_parts o room places views (c ∷ cs) (Misfit n f ∷ ss) (ps ∷ ls) text ready (inr (own, (rest, a))) =
-    subst (λ (t : List ℕ). IsPartStretched o views (kept_of cs ss) t)
+kept_parts cutting o room places views (c ∷ cs) (Misfit n f ∷ ss) (ps ∷ ls) text ready (inr (own, (rest, a))) =
+    subst (PartsAs cutting o views (kept_of cs ss))
     (without own rest text a.0 (no_text o (records_in views c.0) ps own ready.0.plan a.1))
-    (kept_parts o room places views cs ss ls rest ready.1 a.2)
-
--- Channels that are packed whole, each of which is sound, and of whose series each can be packed.
-
-pub whole_standing : (o : Options) (room places : ℕ) (views : List View) (cs : List Channel) (ss : List Standing)
-    (ls : List (List Plan)) (k : ℕ) (c : Channel) (s : Standing) → AreReady Whole o room places views cs ss ls
-    → k < length cs → c ≡ get_or cs k c → s ≡ get_or ss k s → StandsAs Whole o (records_in views c.0) s
-whole_standing o room places views [] ss ls k c s ready lt at is = absurd (omega (arith, lt))
-whole_standing o room places views (d ∷ cs) [] ls k c s ready lt at is = absurd ready
-whole_standing o room places views (d ∷ cs) (t ∷ ss) [] k c s ready lt at is = absurd ready
-whole_standing o room places views (d ∷ cs) (t ∷ ss) (ps ∷ ls) zero c s ready lt at is =
-    subst (λ (u : Standing). StandsAs Whole o (records_in views c.0) u) (sym is)
-    (subst (λ (e : Channel). StandsAs Whole o (records_in views e.0) t) (sym at) ready.0.stands)
-whole_standing o room places views (d ∷ cs) (t ∷ ss) (ps ∷ ls) (suc k) c s ready lt at is =
-    whole_standing o room places views cs ss ls k c s ready.1 (omega (arith, lt)) at is
-
-pub as_standing : (cutting : Cutting) (o : Options) (room places : ℕ) (views : List View) (cs : List Channel)
-    (ss : List Standing) (ls : List (List Plan)) → AreReady cutting o room places views cs ss ls → length ss ≡ length cs
-as_standing cutting o room places views [] [] ls ready = refl
-as_standing cutting o room places views [] (s ∷ ss) ls ready = absurd ready
-as_standing cutting o room places views (c ∷ cs) [] ls ready = absurd ready
-as_standing cutting o room places views (c ∷ cs) (s ∷ ss) [] ready = absurd ready
-as_standing cutting o room places views (c ∷ cs) (s ∷ ss) (ps ∷ ls) ready =
-    ap suc (as_standing cutting o room places views cs ss ls ready.1)
-
--- so do the first of them
-pub whole_leading : (o : Options) (room places : ℕ) (views : List View) (cs : List Channel) (ss : List Standing)
-    (ls : List (List Plan)) (k : ℕ) → AreReady Whole o room places views cs ss ls
-    → AllByRecursion (λ (c : Channel). AllByRecursion IsSound (records_in views c.0)) cs
-    → AllByRecursion IsNoMisfit (take k ss)
-    → AllByRecursion (λ (c : Channel). StretchFits o (records_in views c.0)) (take k cs)
-whole_leading o room places views cs ss ls zero ready sound fine = tt
-whole_leading o room places views [] ss ls (suc k) ready sound fine = tt
-whole_leading o room places views (c ∷ cs) [] ls (suc k) ready sound fine = absurd ready
-whole_leading o room places views (c ∷ cs) (s ∷ ss) [] (suc k) ready sound fine = absurd ready
-whole_leading o room places views (c ∷ cs) (Fit ∷ ss) (ps ∷ ls) (suc k) ready sound fine =
-    (fits_whole ready.0.stands, whole_leading o room places views cs ss ls k ready.1 sound.1 fine.1)
-whole_leading o room places views (c ∷ cs) (Broken ∷ ss) (ps ∷ ls) (suc k) ready sound fine =
-    absurd (ready.0.stands sound.0)
-whole_leading o room places views (c ∷ cs) (Misfit n f ∷ ss) (ps ∷ ls) (suc k) ready sound fine = absurd fine.0
-
-pub whole_texts : (o : Options) (room places : ℕ) (views : List View) (cs : List Channel) (ss : List Standing)
-    (ls : List (List Plan)) (text : List ℕ) → AreReady Whole o room places views cs ss ls
-    → AllByRecursion (λ (c : Channel). AllByRecursion IsSound (records_in views c.0)) cs → AllByRecursion IsNoMisfit ss
-    → AreTexts (IsTextOn o) (planned views cs ls) text
-    → AreTexts (λ (c : Channel) own. IsSeriesText o (records_in views c.0) own) cs text
-whole_texts o room places views [] ss ls text ready sound fine e = e
-whole_texts o room places views (c ∷ cs) [] ls text ready sound fine a = absurd ready
-whole_texts o room places views (c ∷ cs) (s ∷ ss) [] text ready sound fine a = absurd ready
-whole_texts o room places views (c ∷ cs) (Fit ∷ ss) (ps ∷ ls) text ready sound fine (own, (rest, a)) = (
-  own,
-  (
-    rest,
-    (
-      a.0,
-      whole_text o (records_in views c.0) (stretches_by (counts_of ps) (records_in views c.0)) own ready.0.plan.0 a.1,
-      whole_texts o room places views cs ss ls rest ready.1 sound.1 fine.1 a.2,
-    ),
-  ),
-)
-whole_texts o room places views (c ∷ cs) (Broken ∷ ss) (ps ∷ ls) text ready sound fine a =
-    absurd (ready.0.stands sound.0)
-whole_texts o room places views (c ∷ cs) (Misfit n f ∷ ss) (ps ∷ ls) text ready sound fine a = absurd fine.0
-
-pub whole_parts : (o : Options) (room places : ℕ) (views : List View) (cs : List Channel) (ss : List Standing)
-    (ls : List (List Plan)) (text : List ℕ) → AreReady Whole o room places views cs ss ls
-    → AllByRecursion (λ (c : Channel). AllByRecursion IsSound (records_in views c.0)) cs → AllByRecursion IsNoMisfit ss
-    → IsTextUpTo (IsTextOn o) (IsPartOn o) (planned views cs ls) text
-    → IsTextUpTo (λ (c : Channel) own. IsSeriesText o (records_in views c.0) own)
-    (λ (c : Channel) own. IsPackedInPart o (records_in views c.0) own) cs text
-whole_parts o room places views [] ss ls text ready sound fine is = is
-whole_parts o room places views (c ∷ cs) [] ls text ready sound fine is = absurd ready
-whole_parts o room places views (c ∷ cs) (s ∷ ss) [] text ready sound fine is = absurd ready
-whole_parts o room places views (c ∷ cs) (Fit ∷ ss) (ps ∷ ls) text ready sound fine (inl part) =
-    inl (whole_part o (records_in views c.0) (stretches_by (counts_of ps) (records_in views c.0)) text ready.0.plan.0
-    part)
-whole_parts o room places views (c ∷ cs) (Fit ∷ ss) (ps ∷ ls) text ready sound fine (inr (own, (rest, a))) = inr (
-  own,
-  (
-    rest,
-    (
-      a.0,
-      whole_text o (records_in views c.0) (stretches_by (counts_of ps) (records_in views c.0)) own ready.0.plan.0 a.1,
-      whole_parts o room places views cs ss ls rest ready.1 sound.1 fine.1 a.2,
-    ),
-  ),
-)
-whole_parts o room places views (c ∷ cs) (Broken ∷ ss) (ps ∷ ls) text ready sound fine is =
-    absurd (ready.0.stands sound.0)
-whole_parts o room places views (c ∷ cs) (Misfit n f ∷ ss) (ps ∷ ls) text ready sound fine is = absurd fine.0
+    (kept_parts cutting o room places views cs ss ls rest ready.1 a.2)
 
 -- a channel that fits can be written as it is planned
 pub written_by : {o : Options} {room places : ℕ} {ns : List ℕ} {ps : List Plan} {vs : List View}
@@ -739,16 +674,28 @@ written_by {o = o} {room = room} {places = places} {ps = ps} {vs = vs} readable 
   ways = subst (λ (ms : List ℕ). EachGoes o.encoding room ps (stretches_by ms vs)) (sym e) ways;
 }
 
-pub ready_fit : (cutting : Cutting) (o : Options) (room places : ℕ) (ns : List ℕ) (ps : List Plan) (vs : List View)
+-- a channel of which such is found of its stretches, where it isn't one that can't be packed
+pub ready_by : (cutting : Cutting) (o : Options) (room places : ℕ) (ns : List ℕ) (ps : List Plan) (vs : List View)
     → AllByRecursion IsSound vs → IsCutAs cutting vs (stretches_by ns vs)
-    → AllByRecursion (IsReadable places) (stretches_by ns vs) → AllByRecursion (StretchFits o) (stretches_by ns vs)
-    → EachGoes o.encoding room ps (stretches_by ns vs) → counts_of ps ≡ ns → IsReady cutting o room places vs Fit ps
-ready_fit cutting o room places ns ps vs sound cut readable fit ways e = record {
-  stands = record { sound = sound; stretches = stretches_by ns vs; cut = cut; fit = fit };
+    → AllByRecursion (IsReadable places) (stretches_by ns vs) → (s : Standing)
+    → ((n : ℕ) (f : PackFault) → s ≡ Misfit n f → ⊥) → AreFitting o room ns ps (stretches_by ns vs) s
+    → IsReady cutting o room places vs s ps
+ready_by cutting o room places ns ps vs sound cut readable Fit other h = record {
+  stands = fits_as o vs cutting (stretches_by ns vs) sound cut h.0;
   plan = (
-    subst (λ (ms : List ℕ). IsCutAs cutting vs (stretches_by ms vs)) (sym e) cut,
-    written_by readable fit ways e,
+    subst (λ (ms : List ℕ). IsCutAs cutting vs (stretches_by ms vs)) (sym h.2) cut,
+    written_by readable h.0 h.1 h.2,
   );
+}
+ready_by cutting o room places ns ps vs sound cut readable Broken other h = absurd h
+ready_by cutting o room places ns ps vs sound cut readable (Misfit n f) other h = absurd (other n f refl)
+
+pub ready_misfit : (cutting : Cutting) (o : Options) (room places : ℕ) (ss : List (List View)) (ps : List Plan)
+    (vs : List View) (n : ℕ) (f : PackFault) → AllByRecursion IsSound vs → IsCutAs cutting vs ss
+    → IsFirstMisfit o n f ss → ps ≡ [] → IsReady cutting o room places vs (Misfit n f) ps
+ready_misfit cutting o room places ss ps vs n f sound cut m gone = record {
+  stands = misfits_as o vs cutting ss n f sound cut m;
+  plan = gone;
 }
 
 -- one more channel

@@ -3,7 +3,7 @@ use Rattle.std.proofs.Common.{◌≡◌, ℕ, zero, suc, ◌+◌, ◌<◌, ◌�
 use Rattle.std.proofs.Common.{refl, sym, ap, subst, ◌∙◌, arith, append_assoc, append-nil, All, Bool, true, false, Err}
 use Rattle.std.specs.List.{AllByRecursion}
 use Rattle.std.proofs.lemmas.List.{get_or_default, take_all}
-use Rattle.std.proofs.lemmas.List.Elements.{All-from_recursion, recursion_from_All}
+use Rattle.std.proofs.lemmas.List.Elements.{All-from_recursion, All-take, recursion_from_All}
 use Rattle.mseed_record.specs.View.{View}
 use Rattle.mseed_stream.specs.Device.{BytesRead, BytesWritten}
 use Rattle.mseed_stream.specs.Telling.{Tells}
@@ -15,7 +15,7 @@ use Rattle.mseed_pack.specs.declared.options.Options.{Options}
 use Rattle.mseed_pack.specs.declared.fault.PackFault.{PackFault}
 use Rattle.mseed_repack.specs.Repack.{Channel, IsArchiveOf, IsFirst, Wrote, records_in}
 use Rattle.mseed_repack.specs.Restretch.{ChannelFits, ChannelMisfits}
-use Rattle.mseed_repack.specs.ByStretches.{AreSound, AreStandings, IsFit, IsRestretching, Stands, TellsEach, WroteKept}
+use Rattle.mseed_repack.specs.ByStretches.{AreFound, AreStandings, IsFit, IsRestretching, Stands, TellsEach, WroteKept}
 use Rattle.mseed_repack.specs.ByStretches.{also, kept_of, line_of, lines_of, silent}
 use Rattle.mseed_repack.specs.private.Reading.{channel_in, steps_of}
 use Rattle.mseed_repack.specs.private.Restretching.{IsFirstRefused, IsNoMisfit, IsUnbroken}
@@ -28,23 +28,51 @@ use Rattle.mseed_repack.specs.declared.stretches_fault.StretchesFault.TheVariant
 use Rattle.mseed_repack.proofs.ReadChannels.{steps_in}
 use Rattle.mseed_repack.proofs.Repacks.{first_at, says_of}
 
-pub as_many : (o : Options) (views : List View) (cs : List Channel) (ss : List Standing) → AreStandings o views cs ss
-    → length ss ≡ length cs
-as_many o views [] [] all = refl
-as_many o views [] (t ∷ ts) all = absurd all
-as_many o views (d ∷ ds) [] all = absurd all
-as_many o views (d ∷ ds) (t ∷ ts) all = ap suc (as_many o views ds ts all.1)
+pub as_many : (Is : List View → Standing → Type 0) (views : List View) (cs : List Channel) (ss : List Standing)
+    → AreFound Is views cs ss → length ss ≡ length cs
+as_many Is views [] [] all = refl
+as_many Is views [] (t ∷ ts) all = absurd all
+as_many Is views (d ∷ ds) [] all = absurd all
+as_many Is views (d ∷ ds) (t ∷ ts) all = ap suc (as_many Is views ds ts all.1)
 
-pub stands_at : (o : Options) (views : List View) (cs : List Channel) (ss : List Standing) (k : ℕ) (c : Channel)
-    (s : Standing) → AreStandings o views cs ss → k < length cs → c ≡ get_or cs k c → s ≡ get_or ss k s
-    → Stands o (records_in views c.0) s
-stands_at o views [] ss k c s all lt at is = absurd (omega (arith, lt))
-stands_at o views (d ∷ ds) [] k c s all lt at is = absurd all
-stands_at o views (d ∷ ds) (t ∷ ts) zero c s all lt at is =
-    subst (λ (u : Standing). Stands o (records_in views c.0) u) (sym is)
-    (subst (λ (e : Channel). Stands o (records_in views e.0) t) (sym at) all.0)
-stands_at o views (d ∷ ds) (t ∷ ts) (suc k) c s all lt at is =
-    stands_at o views ds ts k c s all.1 (omega (arith, lt)) at is
+pub stands_at : (Is : List View → Standing → Type 0) (views : List View) (cs : List Channel) (ss : List Standing)
+    (k : ℕ) (c : Channel) (s : Standing) → AreFound Is views cs ss → k < length cs → c ≡ get_or cs k c
+    → s ≡ get_or ss k s → Is (records_in views c.0) s
+stands_at Is views [] ss k c s all lt at is = absurd (omega (arith, lt))
+stands_at Is views (d ∷ ds) [] k c s all lt at is = absurd all
+stands_at Is views (d ∷ ds) (t ∷ ts) zero c s all lt at is =
+    subst (λ (u : Standing). Is (records_in views c.0) u) (sym is)
+    (subst (λ (e : Channel). Is (records_in views e.0) t) (sym at) all.0)
+stands_at Is views (d ∷ ds) (t ∷ ts) (suc k) c s all lt at is =
+    stands_at Is views ds ts k c s all.1 (omega (arith, lt)) at is
+
+-- the first of them
+found_take : (Is : List View → Standing → Type 0) (views : List View) (cs : List Channel) (ss : List Standing) (k : ℕ)
+    → AreFound Is views cs ss → AreFound Is views (take k cs) (take k ss)
+found_take Is views cs ss zero all = tt
+found_take Is views [] [] (suc k) all = tt
+found_take Is views [] (s ∷ ss) (suc k) all = absurd all
+found_take Is views (c ∷ cs) [] (suc k) all = absurd all
+found_take Is views (c ∷ cs) (s ∷ ss) (suc k) all = (all.0, found_take Is views cs ss k all.1)
+
+-- what is so of the records of a channel of which such is found is so of those of each channel
+pub each_found : (Is : List View → Standing → Type 0) (Such : Standing → Type 0) (So : List View → Type 0)
+    → ((vs : List View) (s : Standing) → Is vs s → Such s → So vs) → (views : List View) (cs : List Channel)
+    (ss : List Standing) → AreFound Is views cs ss → AllByRecursion Such ss
+    → AllByRecursion (λ (c : Channel). So (records_in views c.0)) cs
+each_found Is Such So one views [] ss all such = tt
+each_found Is Such So one views (c ∷ cs) [] all such = absurd all
+each_found Is Such So one views (c ∷ cs) (s ∷ ss) all such =
+    (one (records_in views c.0) s all.0 such.0, each_found Is Such So one views cs ss all.1 such.1)
+
+pub first_found : (Is : List View → Standing → Type 0) (Such : Standing → Type 0) (So : List View → Type 0)
+    → ((vs : List View) (s : Standing) → Is vs s → Such s → So vs) → (views : List View) (cs : List Channel)
+    (ss : List Standing) (k : ℕ) → AreFound Is views cs ss → All Such (take k ss)
+    → All (λ (c : Channel). So (records_in views c.0)) (take k cs)
+first_found Is Such So one views cs ss k all such =
+    All-from_recursion (λ (c : Channel). So (records_in views c.0)) (take k cs)
+    (each_found Is Such So one views (take k cs) (take k ss) (found_take Is views cs ss k all)
+    (recursion_from_All Such (take k ss) such))
 
 -- room
 
@@ -75,36 +103,29 @@ wrote_kept are whole reported wrote = record { are = are; whole = whole; reporte
 
 -- channels of which none is broken, and of which each fits
 
-pub sound_leading : (o : Options) (views : List View) (cs : List Channel) (ss : List Standing) (k : ℕ)
-    → AreStandings o views cs ss → AllByRecursion IsUnbroken (take k ss)
-    → AllByRecursion (λ (c : Channel). AllByRecursion IsSound (records_in views c.0)) (take k cs)
-sound_leading o views cs ss zero all un = tt
-sound_leading o views [] ss (suc k) all un = tt
-sound_leading o views (c ∷ cs) [] (suc k) all un = absurd all
-sound_leading o views (c ∷ cs) (Fit ∷ ss) (suc k) all un = (all.0.sound, sound_leading o views cs ss k all.1 un.1)
-sound_leading o views (c ∷ cs) (Broken ∷ ss) (suc k) all un = absurd un.0
-sound_leading o views (c ∷ cs) (Misfit n f ∷ ss) (suc k) all un =
-    (all.0.sound, sound_leading o views cs ss k all.1 un.1)
+sound_by_standing : (o : Options) (vs : List View) (s : Standing) → Stands o vs s → IsUnbroken s
+    → AllByRecursion IsSound vs
+sound_by_standing o vs Fit fits un = fits.sound
+sound_by_standing o vs Broken not un = absurd un
+sound_by_standing o vs (Misfit n f) misfits un = misfits.sound
 
-pub fit_leading : (o : Options) (views : List View) (cs : List Channel) (ss : List Standing) (k : ℕ)
-    → AreStandings o views cs ss → AllByRecursion IsUnbroken ss → AllByRecursion IsNoMisfit (take k ss)
-    → AllByRecursion (λ (c : Channel). ChannelFits o (records_in views c.0)) (take k cs)
-fit_leading o views cs ss zero all un fine = tt
-fit_leading o views [] ss (suc k) all un fine = tt
-fit_leading o views (c ∷ cs) [] (suc k) all un fine = absurd all
-fit_leading o views (c ∷ cs) (Fit ∷ ss) (suc k) all un fine = (all.0, fit_leading o views cs ss k all.1 un.1 fine.1)
-fit_leading o views (c ∷ cs) (Broken ∷ ss) (suc k) all un fine = absurd un.0
-fit_leading o views (c ∷ cs) (Misfit n f ∷ ss) (suc k) all un fine = absurd fine.0
+pub fits_by_standing : (Is : List View → Standing → Type 0) (vs : List View) (s : Standing) → Is vs s → IsFit s
+    → Is vs Fit
+fits_by_standing Is vs s is fit = subst (Is vs) fit is
 
-sound_each : (o : Options) (views : List View) (cs : List Channel) (ss : List Standing) → AreStandings o views cs ss
-    → AllByRecursion IsUnbroken ss → AreSound views cs
-sound_each o views cs ss all un =
-    let size = as_many o views cs ss all in
-    All-from_recursion (λ (c : Channel). AllByRecursion IsSound (records_in views c.0)) cs
-    (subst (λ (ds : List Channel). AllByRecursion (λ (c : Channel). AllByRecursion IsSound (records_in views c.0)) ds)
-    (take_all (length ss) cs (omega (arith, size)))
-    (sound_leading o views cs ss (length ss) all
-    (subst (λ (ts : List Standing). AllByRecursion IsUnbroken ts) (sym (take_all (length ss) ss (omega arith))) un)))
+-- where no channel is broken, those before the first that doesn't fit do
+pub each_fits : (ss : List Standing) (k : ℕ) → All IsUnbroken ss → All IsNoMisfit (take k ss)
+    → All IsFit (take k ss)
+each_fits ss k un fine =
+    All-from_recursion IsFit (take k ss)
+    (by (take k ss) (recursion_from_All IsUnbroken (take k ss) (All-take IsUnbroken k ss un))
+    (recursion_from_All IsNoMisfit (take k ss) fine))
+  where
+    by : (ts : List Standing) → AllByRecursion IsUnbroken ts → AllByRecursion IsNoMisfit ts → AllByRecursion IsFit ts
+    by [] un fine = tt
+    by (Fit ∷ ts) un fine = (refl, by ts un.1 fine.1)
+    by (Broken ∷ ts) un fine = absurd un.0
+    by (Misfit n f ∷ ts) un fine = absurd fine.0
 
 -- the first broken channel is why an archive is refused
 pub refused_broken : (o : Options) (views : List View) (cs : List Channel) (ss : List Standing) (k : ℕ) (c : Channel)
@@ -115,11 +136,10 @@ refused_broken o views cs ss k c lt size at is before all =
     let Unsound : List ℕ → Type 0 = λ key. ¬ (AllByRecursion IsSound (records_in views key)) in
     let less : k < length cs = omega (arith, lt, size) in
     let here : Stands o (records_in views c.0) Broken =
-    stands_at o views cs ss k c Broken all less at (sym is ∙ get_or_default ss k Fit Broken lt) in
+    stands_at (Stands o) views cs ss k c Broken all less at (sym is ∙ get_or_default ss k Fit Broken lt) in
     subst (λ (key : List ℕ). IsFirst Sound Unsound key cs) (sym (ap (λ (d : Channel). d.0) at))
     (first_at Sound Unsound cs k c less
-    (All-from_recursion (λ (d : Channel). Sound d.0) (take k cs)
-    (sound_leading o views cs ss k all (recursion_from_All IsUnbroken (take k ss) before)))
+    (first_found (Stands o) IsUnbroken (AllByRecursion IsSound) (sound_by_standing o) views cs ss k all before)
     (subst (λ (d : Channel). Unsound d.0) at here))
 
 -- or else the first that doesn't fit
@@ -131,41 +151,38 @@ refused_misfit o views cs ss k n fault c lt size at is un before all =
     let Fits : List ℕ → Type 0 = λ key. ChannelFits o (records_in views key) in
     let Misfits : List ℕ → Type 0 = λ key. ChannelMisfits o n fault (records_in views key) in
     let less : k < length cs = omega (arith, lt, size) in
-    let unbroken = recursion_from_All IsUnbroken ss un in
     let here : Stands o (records_in views c.0) (Misfit n fault) =
-    stands_at o views cs ss k c (Misfit n fault) all less at (sym is ∙ get_or_default ss k Fit (Misfit n fault) lt) in (
-      sound_each o views cs ss all unbroken,
+    stands_at (Stands o) views cs ss k c (Misfit n fault) all less at (sym is
+    ∙ get_or_default ss k Fit (Misfit n fault) lt) in (
+      All-from_recursion (λ (d : Channel). AllByRecursion IsSound (records_in views d.0)) cs
+          (each_found (Stands o) IsUnbroken (AllByRecursion IsSound) (sound_by_standing o) views cs ss all
+          (recursion_from_All IsUnbroken ss un)),
       subst (λ (key : List ℕ). IsFirst Fits Misfits key cs) (sym (ap (λ (d : Channel). d.0) at))
           (first_at Fits Misfits cs k c less
-          (All-from_recursion (λ (d : Channel). Fits d.0) (take k cs)
-          (fit_leading o views cs ss k all unbroken (recursion_from_All IsNoMisfit (take k ss) before)))
+          (first_found (Stands o) IsFit (ChannelFits o) (fits_by_standing (Stands o)) views cs ss k all
+          (each_fits ss k un before))
           (subst (λ (d : Channel). Misfits d.0) at here)),
     )
 
--- where no channel is broken and none doesn't fit, each fits
-pub each_fits : (ss : List Standing) → All IsUnbroken ss → All IsNoMisfit ss → AllByRecursion IsFit ss
-each_fits ss un fine = by ss (recursion_from_All IsUnbroken ss un) (recursion_from_All IsNoMisfit ss fine)
-  where
-    by : (ts : List Standing) → AllByRecursion IsUnbroken ts → AllByRecursion IsNoMisfit ts → AllByRecursion IsFit ts
-    by [] un fine = tt
-    by (Fit ∷ ts) un fine = (refl, by ts un.1 fine.1)
-    by (Broken ∷ ts) un fine = absurd un.0
-    by (Misfit n f ∷ ts) un fine = absurd fine.0
+-- where none doesn't fit either, each fits
+pub all_fit : (ss : List Standing) → All IsUnbroken ss → All IsNoMisfit ss → All IsFit ss
+all_fit ss un fine =
+    subst (All IsFit) (take_all (length ss) ss (omega arith))
+    (each_fits ss (length ss) un (subst (All IsNoMisfit) (sym (take_all (length ss) ss (omega arith))) fine))
 
 -- the lines of the channels so far, and of one more
-pub lines_next : (cs : List Channel) (ss : List Standing) (k : ℕ) (c : Channel) (s : Standing) → k < length cs
-    → length ss ≡ length cs → c ≡ get_or cs k c → s ≡ get_or ss k s
-    → lines_of (take (k + 1) cs) (take (k + 1) ss) ≡ lines_of (take k cs) (take k ss) ++ line_of c.0 s
-lines_next [] ss k c s lt size at is = absurd (omega (arith, lt))
-lines_next (d ∷ ds) [] k c s lt size at is = absurd (omega (arith, size))
-lines_next (d ∷ ds) (t ∷ ts) zero c s lt size at is =
+lines_next : (cs : List Channel) (ss : List Standing) (k : ℕ) (c : Channel) (s : Standing) → k < length cs
+    → length ss ≡ length cs → c ≡ get_or cs k c
+    → lines_of (take (k + 1) cs) (take (k + 1) ss) ≡ lines_of (take k cs) (take k ss) ++ line_of c.0 (get_or ss k s)
+lines_next [] ss k c s lt size at = absurd (omega (arith, lt))
+lines_next (d ∷ ds) [] k c s lt size at = absurd (omega (arith, size))
+lines_next (d ∷ ds) (t ∷ ts) zero c s lt size at =
     append-nil (line_of d.0 t) ∙ ap (λ (e : Channel). line_of e.0 t) (sym at)
-    ∙ ap (λ (u : Standing). line_of c.0 u) (sym is)
-lines_next (d ∷ ds) (t ∷ ts) (suc k) c s lt size at is =
+lines_next (d ∷ ds) (t ∷ ts) (suc k) c s lt size at =
     ap (λ (n : ℕ). lines_of (take n (d ∷ ds)) (take n (t ∷ ts))) {x = suc k + 1} {y = suc (k + 1)} (omega arith)
     ∙ ap (λ (xs : List (List ℕ)). line_of d.0 t ++ xs)
-    (lines_next ds ts k c s (omega (arith, lt)) (omega (arith, size)) at is)
-    ∙ sym (append_assoc (line_of d.0 t) (lines_of (take k ds) (take k ts)) (line_of c.0 s))
+    (lines_next ds ts k c s (omega (arith, lt)) (omega (arith, size)) at)
+    ∙ sym (append_assoc (line_of d.0 t) (lines_of (take k ds) (take k ts)) (line_of c.0 (get_or ts k s)))
 
 -- lines that are reported behind others
 tells_append : (leading back : List (List ℕ)) (old between new : BytesWritten) → TellsEach leading old between
@@ -180,12 +197,12 @@ pub tells_one : (line : List ℕ) (old new : BytesWritten) → Tells line old ne
 tells_one line old new reported = also [] line old old new (silent old) reported
 
 pub tells_next : (cs : List Channel) (ss : List Standing) (k : ℕ) (c : Channel) (s : Standing)
-    (first old new : BytesWritten) → k < length cs → length ss ≡ length cs → c ≡ get_or cs k c → s ≡ get_or ss k s
-    → TellsEach (lines_of (take k cs) (take k ss)) first old → TellsEach (line_of c.0 s) old new
+    (first old new : BytesWritten) → k < length cs → length ss ≡ length cs → c ≡ get_or cs k c
+    → TellsEach (lines_of (take k cs) (take k ss)) first old → TellsEach (line_of c.0 (get_or ss k s)) old new
     → TellsEach (lines_of (take (k + 1) cs) (take (k + 1) ss)) first new
-tells_next cs ss k c s first old new lt size at is before one =
-    subst (λ (ls : List (List ℕ)). TellsEach ls first new) (sym (lines_next cs ss k c s lt size at is))
-    (tells_append (lines_of (take k cs) (take k ss)) (line_of c.0 s) first old new before one)
+tells_next cs ss k c s first old new lt size at before one =
+    subst (λ (ls : List (List ℕ)). TellsEach ls first new) (sym (lines_next cs ss k c s lt size at))
+    (tells_append (lines_of (take k cs) (take k ss)) (line_of c.0 (get_or ss k s)) first old new before one)
 
 -- where all were looked at, what holds of those holds of all
 pub all_to_end : {X : Type 0} (P : X → Type 0) (xs : List X) (n : ℕ) → length xs ≤ n → All P (take n xs) → All P xs
@@ -214,16 +231,3 @@ refused_is o leave h s reported views cs (MisfitStretch key n f) is stays archiv
     (views, (cs, (archive, is.0, is.1, stays, refl, refl)))
 refused_is o leave h s reported views cs Write is stays archive = absurd is
 refused_is o leave h s reported views cs Memory is stays archive = absurd is
-
--- The same, where the channel's standing is the one at its index, whatever is given where there is none.
-
-here_is : (ss : List Standing) (k : ℕ) (d : Standing) → k < length ss
-    → get_or ss k d ≡ get_or ss k (get_or ss k d)
-here_is ss k d lt = get_or_default ss k d (get_or ss k d) lt
-
-pub tells_at : (cs : List Channel) (ss : List Standing) (k : ℕ) (c : Channel) (d : Standing)
-    (first old new : BytesWritten) → k < length cs → length ss ≡ length cs → c ≡ get_or cs k c
-    → TellsEach (lines_of (take k cs) (take k ss)) first old → TellsEach (line_of c.0 (get_or ss k d)) old new
-    → TellsEach (lines_of (take (k + 1) cs) (take (k + 1) ss)) first new
-tells_at cs ss k c d first old new lt size at before one =
-    tells_next cs ss k c (get_or ss k d) first old new lt size at (here_is ss k d (omega (arith, lt, size))) before one

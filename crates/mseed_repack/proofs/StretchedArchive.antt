@@ -27,6 +27,7 @@ use Rattle.mseed_repack.specs.Restretch.{ChannelFits}
 use Rattle.mseed_repack.specs.declared.standing.Standing.{Standing}
 use Rattle.mseed_repack.specs.declared.standing.Standing.TheVariants.{Fit, Broken, Misfit}
 use Rattle.mseed_repack.proofs.Bordered.{Layers, own_of}
+use Rattle.mseed_repack.proofs.Each.{each_of_both}
 use Rattle.mseed_repack.proofs.ChannelReadBack.{each_restretching}
 use Rattle.mseed_repack.proofs.ReadBack.{all_records, none_further, others_by}
 
@@ -86,16 +87,11 @@ all_of laws o views (c ∷ cs) text each fit (its, (rest, written)) =
 
 -- They are views.
 
-both_each : {X : Type 0} (P : X → Type 0) (xs ys : List X) → AllByRecursion P xs → AllByRecursion P ys
-    → AllByRecursion P (xs ++ ys)
-both_each P [] ys h k = k
-both_each P (x ∷ xs) ys h k = (h.0, both_each P xs ys h.1 k)
-
 each_view : (views : List View) (cs : List Channel) (ws : List View) → AreOf views cs ws → AllByRecursion IsView ws
 each_view views [] ws e = subst (λ (us : List View). AllByRecursion IsView us) (sym e) tt
 each_view views (c ∷ cs) ws (own, (rest, (parts, here, more))) =
     subst (λ (us : List View). AllByRecursion IsView us) (sym parts)
-    (both_each IsView own rest here.each (each_view views cs rest more))
+    (each_of_both IsView own rest here.each (each_view views cs rest more))
 
 -- The keys of channels rise, so that no two are the same.
 

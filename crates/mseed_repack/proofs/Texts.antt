@@ -99,10 +99,6 @@ behind_text {first = first} R before one both = record {
   failed = omega (arith, one.failed, before.failed);
 }
 
--- nothing yet
-pub wrote_none : {P : List ℕ → Type 0} (s : BytesWritten) → P [] → Wrote P 0 s s
-wrote_none s none = record { text = []; text_is = none; bytes = sym (append-nil s.bytes); failed = omega arith }
-
 -- one more, or a part of it
 pub wrote_more : {X : Type 0} {first old new : BytesWritten} (Own : X → List ℕ → Type 0) (xs : List X) (x : X)
     → Wrote (AreTexts Own xs) 0 first old → Wrote (Own x) 0 old new

@@ -3,14 +3,16 @@ use Rattle.std.proofs.Common.{◌≡◌, ℕ, ◌<◌, ◌^◌, List, [], ◌∷
 use Rattle.std.proofs.Common.{◌∙◌, length, map, refl, sym, ap, subst, arith, IsTrue}
 use Rattle.std.specs.List.{AllByRecursion}
 use Rattle.std.proofs.lemmas.List.{length-map}
-use Rattle.mseed_record.specs.View.{IsView}
+use Rattle.mseed_record.specs.View.{View, IsView}
 use Rattle.mseed_record.specs.Viewing.{view_of}
 use Rattle.mseed_record.specs.declared.view.RecordView.{RecordView}
 use Rattle.mseed_stream.specs.Archive.{IsArchive}
 use Rattle.mseed_stream.specs.Device.{BytesRead, nothing_read}
 use Rattle.mseed_stream.specs.Split.{bytes_of_each}
 use Rattle.mseed_stream.specs.Walk.{bytes_in}
-use Rattle.mseed_repack.specs.Repack.{IsWhole}
+use Rattle.mseed_audit.specs.Channels.{added_from}
+use Rattle.mseed_audit.specs.Verdict.{AreVerdicts}
+use Rattle.mseed_repack.specs.Repack.{Channel, IsArchiveOf, IsWhole}
 
 bytes_are : (rs : List RecordView) → bytes_of_each rs ≡ bytes_in (map view_of rs)
 bytes_are [] = refl
@@ -36,3 +38,11 @@ whole_read rs {h = h} {bytes = bytes} unread joined fine ended archive each few 
       ended = ended;
       fine = fine ∙ ap (λ (x : BytesRead). x.failures) unread;
     }
+
+-- and with the verdicts on its records it is an archive of these channels
+pub archive_of : {h : BytesRead} {views : List View} {cs ds : List Channel} → IsWhole h views
+    → AreVerdicts (added_from 0 views) ds → cs ≡ ds → IsArchiveOf h views cs
+archive_of {views = views} whole verdicts same = record {
+  whole = whole;
+  verdicts = subst (AreVerdicts (added_from 0 views)) (sym same) verdicts;
+}

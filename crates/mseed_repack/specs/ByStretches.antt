@@ -31,12 +31,16 @@ Stands o vs Fit = ChannelFits o vs
 Stands o vs Broken = ¬ (AllByRecursion IsSound vs)
 Stands o vs (Misfit number fault) = ChannelMisfits o number fault vs
 
+-- the records of each channel of an archive are to what is found of it in this relation
+abbrev pub AreFound : (List View → Standing → Type 0) → List View → List Channel → List Standing → Type 0
+AreFound Is views [] [] = ⊤
+AreFound Is views [] (s ∷ ss) = ⊥
+AreFound Is views (c ∷ cs) [] = ⊥
+AreFound Is views (c ∷ cs) (s ∷ ss) = Is (records_in views c.0) s × AreFound Is views cs ss
+
 -- what is found of each channel of an archive
 abbrev pub AreStandings : Options → List View → List Channel → List Standing → Type 0
-AreStandings o views [] [] = ⊤
-AreStandings o views [] (s ∷ ss) = ⊥
-AreStandings o views (c ∷ cs) [] = ⊥
-AreStandings o views (c ∷ cs) (s ∷ ss) = Stands o (records_in views c.0) s × AreStandings o views cs ss
+AreStandings o views channels standings = AreFound (Stands o) views channels standings
 
 -- the channels that fit
 abbrev pub kept_of : List Channel → List Standing → List Channel

@@ -1,4 +1,4 @@
-//! An archive: its records, its channels, and where the records of each channel stand.
+//! An archive: its records, its channels, and which records each channel has.
 ghost use Rattle.std.specs.Prelude.{◌<◌, length};
 ghost use Rattle.mseed_repack.specs.private.Archives.{IsAudited, IsLed, IsTrailOf, records_on};
 
@@ -6,8 +6,8 @@ use crate::walk::Walk;
 use mseed_audit::Verdict;
 use mseed_record::{Codes, RecordView};
 
-/// The records of an archive, its channels with what the audit says of each, and the trails of these: where the first
-/// record of each channel stands, and behind each record with samples the next one of its channel.
+/// The records of an archive, its channels with what the audit says of each, and the trails of these: the index of each
+/// channel's first record, and, for each record with samples, the index of its channel's next one.
 #[derive(Clone, Copy)]
 pub(crate) struct Archive<'r, 'a> {
     pub(crate) views: &'r [RecordView<'a>],
@@ -17,7 +17,7 @@ pub(crate) struct Archive<'r, 'a> {
 }
 
 impl<'r, 'a> Archive<'r, 'a> {
-    /// The records of the channel with this number.
+    /// Returns the records of the channel with this number, in their order.
     pub(crate) fn trail(&self, number: usize) -> Trail<'r, 'a>
         requires audited { IsAudited self.now }
         requires inside { number < length self.now.channels.now }

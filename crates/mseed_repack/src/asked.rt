@@ -13,7 +13,8 @@ use mseed_stream::{Sink, report};
 use mseed_text::Line;
 use std::alloc::Allocator;
 
-/// Lets go of the records that aren't asked for, and says how many lack a time, where there are any.
+/// Lets go of the records that aren't asked for, once a line is written to `errors` that says how many lack a time,
+/// where there are any.
 pub(crate) fn keep_asked<A: Allocator, E: Sink>(
     views: &mut Vec<RecordView<'_>, A>,
     selector: &Selector<'_>,
@@ -28,7 +29,7 @@ pub(crate) fn keep_asked<A: Allocator, E: Sink>(
     views.retain(|view| matches!(selector.asks_for(view), Answer::AskedFor));
 }
 
-/// How many records lack a time.
+/// Returns how many records of the channels that are asked for lack a time.
 fn count_without_time(views: &[RecordView], selector: &Selector<'_>) -> u64
     ensures { result ≡ count_by (lacks_time (selection_of selector.now)) (map view_of views.now) }
 {
@@ -41,8 +42,8 @@ fn count_without_time(views: &[RecordView], selector: &Selector<'_>) -> u64
     count
 }
 
-/// Says how many records of the channels that are asked for lack a time, so that nobody can say whether they stand in
-/// the window; of none nothing is said.
+/// Writes a line to `errors` that says how many records of the channels that are asked for lack a time, so that nobody
+/// can say whether they lie in the window; where there are none, it writes nothing. A failure of `errors` is ignored.
 pub fn tell_without_time<E: Sink>(count: u64, errors: &mut E)
     ensures { TellsEach (without_time_lines count) (E.written errors.old) (E.written errors.new) }
 {

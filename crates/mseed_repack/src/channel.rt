@@ -4,16 +4,16 @@ ghost use Rattle.std.specs.List.{AllByRecursion};
 ghost use Rattle.mseed_record.specs.Viewing.{view_of};
 ghost use Rattle.mseed_audit.specs.Follows.{IsSound};
 ghost use Rattle.mseed_stretches.specs.Stretches.{AreStretches};
-ghost use Rattle.mseed_repack.specs.private.Planning.{CanBeWritten, IsCut, IsReadable, counts_of, stretches_by};
+ghost use Rattle.mseed_repack.specs.private.Planning.{CanBeWritten, counts_of, stretches_by};
 ghost use Rattle.mseed_repack.specs.Restretch.{IsChannelRepacking};
 
 use crate::channel_fault::ChannelFault;
-use crate::fitting::fit_stretches;
 use crate::numbering::pack_stretches;
 use crate::plan::Plan;
 use crate::reading::count_steps;
 use crate::room::blank_steps;
-use crate::stretching::cut_stretches;
+use crate::standing::{Standing, stand};
+use crate::stretching::Cutting;
 use crate::unpacking::Unpacking;
 use crate::walk::{Part, Row, Walk};
 use mseed_pack::{Options, Packer};
@@ -49,74 +49,27 @@ pub fn repack_channel<A: Allocator + Copy, W: Sink>(
     if !are_sound(row) {
         return Err(ChannelFault::Broken);
     }
-    let mut lengths = Vec::new(alloc);
-    match cut_stretches(row, &mut lengths) {
-        Ok(()) => repack_cut(alloc, records, &lengths, options, output),
-        Err(_) => Err(ChannelFault::Memory),
-    }
-}
-
-/// The same of sound records, by how many each stretch has.
-fn repack_cut<A: Allocator + Copy, W: Sink>(
-    alloc: A,
-    records: &[RecordView],
-    lengths: &[usize],
-    options: &Options,
-    output: &mut W,
-) -> Result<(), ChannelFault>
-    requires few { length records.now ≤ 2 ^ 40 }
-    requires sound { AllByRecursion IsSound (map view_of records.now) }
-    requires cut { IsCut lengths.now (map view_of records.now) }
-    ensures { IsChannelRepacking options.now (map view_of records.now) result
-        (W.written output.old) (W.written output.new) }
-{
-    match blank_steps(alloc, count_steps(records)) {
-        Ok(mut steps) => repack_within(
-            alloc,
-            Row { records, index: 0 },
-            lengths,
-            options,
-            &mut steps,
-            output,
-        ),
-        Err(_) => Err(ChannelFault::Memory),
-    }
-}
-
-/// The same with a list that has room for the leap seconds of each stretch.
-fn repack_within<'a, A: Allocator + Copy, R: Walk<'a>, W: Sink>(
-    alloc: A,
-    records: R,
-    lengths: &[usize],
-    options: &Options,
-    steps: &mut [(u64, LeapStep)],
-    output: &mut W,
-) -> Result<(), ChannelFault>
-    requires led { R.leads records }
-    requires sound { AllByRecursion IsSound (R.left records) }
-    requires are { AreStretches (R.left records) (stretches_by lengths.now (R.left records)) }
-    requires readable { AllByRecursion (IsReadable (length steps.old))
-        (stretches_by lengths.now (R.left records)) }
-    ensures { IsChannelRepacking options.now (R.left records) result (W.written output.old) (W.written output.new) }
-{
+    let mut steps = blank_steps(alloc, count_steps(records))?;
     let mut samples = Vec::new(alloc);
     let mut plans = Vec::new(alloc);
-    match fit_stretches(
+    let standing = stand(
         alloc,
-        records,
-        lengths,
+        row,
+        true,
+        Cutting::Stretches,
         options,
         &mut plans,
         &mut samples,
-        steps,
-    ) {
-        Ok(None) => repack_planned(records, &plans, options, &mut samples, steps, output),
-        Ok(Some(misfit)) => Err(ChannelFault::Misfit(misfit.number, misfit.fault)),
-        Err(_) => Err(ChannelFault::Memory),
+        &mut steps,
+    )?;
+    match standing {
+        Standing::Fit => repack_planned(row, &plans, options, &mut samples, &mut steps, output),
+        Standing::Broken => Err(ChannelFault::Broken),
+        Standing::Misfit(number, fault) => Err(ChannelFault::Misfit(number, fault)),
     }
 }
 
-/// The same by how each stretch is packed, of which each fits.
+/// Packs the records of a channel by how each stretch is packed, of which each fits.
 fn repack_planned<'a, R: Walk<'a>, W: Sink>(
     records: R,
     plans: &[Plan],

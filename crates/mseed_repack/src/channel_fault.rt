@@ -1,5 +1,6 @@
 //! How packing a channel by its stretches ends early.
 use mseed_pack::PackFault;
+use std::alloc::AllocError;
 
 /// Why a channel wasn't packed by its stretches. Nothing was written then, but for `Write`.
 #[derive(Clone, Copy, Debug, PartialEq, Eq)]
@@ -12,4 +13,15 @@ pub enum ChannelFault {
     Write,
     /// An allocation was refused.
     Memory,
+}
+
+impl From<AllocError> for ChannelFault {
+    ghost use Rattle.std.specs.Prelude.{◌≡◌};
+    ghost use Rattle.mseed_repack.specs.declared.channel_fault.ChannelFault.{ChannelFault};
+
+    ghost from_gives = { λ _ fault. fault ≡ ChannelFault.Memory };
+
+    fn from(_error: AllocError) -> ChannelFault {
+        ChannelFault::Memory
+    }
 }

@@ -32,3 +32,14 @@ impl From<StreamFault> for RepackFault {
         }
     }
 }
+
+impl From<AllocError> for RepackFault {
+    ghost use Rattle.std.specs.Prelude.{◌≡◌};
+    ghost use Rattle.mseed_repack.specs.declared.fault.RepackFault.{RepackFault};
+
+    ghost from_gives = { λ _ fault. fault ≡ RepackFault.Memory };
+
+    fn from(_error: AllocError) -> RepackFault {
+        RepackFault::Memory
+    }
+}

@@ -5,20 +5,15 @@ ghost use Rattle.mseed_repack.specs.private.Planning.{AreFitting, IsReadable, st
 
 use crate::plan::Plan;
 use crate::series::{Fitting, fit_series};
-use crate::walk::{Part, Walk, behind};
-use mseed_pack::{Options, PackFault};
+use crate::standing::Standing;
+use crate::walk::{Part, Walk, skip};
+use mseed_pack::Options;
 use mseed_time::LeapStep;
 use std::alloc::{AllocError, Allocator};
 
-/// The first stretch of a channel that can't be packed: its number, from 1, and why.
-#[derive(Clone, Copy)]
-pub(crate) struct Misfit {
-    pub(crate) number: u64,
-    pub(crate) fault: PackFault,
-}
-
-/// The first stretch of a channel's records that can't be packed, by how many records each has. How each stretch before
-/// it is packed is put into a list, which is empty. The list of samples grows where a stretch wants more room.
+/// What is found of a channel, by how many records each of its stretches has: each can be packed, or which is the first
+/// that can't. How each stretch before it is packed is put into a list, which is empty. The list of samples grows where
+/// a stretch wants more room.
 ///
 /// # Errors
 ///
@@ -31,16 +26,18 @@ pub(crate) fn fit_stretches<'a, A: Allocator + Copy, R: Walk<'a>>(
     plans: &mut Vec<Plan, A>,
     samples: &mut Vec<i32, A>,
     steps: &mut [(u64, LeapStep)],
-) -> Result<Option<Misfit>, AllocError>
+) -> Result<Standing, AllocError>
     requires led { R.leads records }
     requires readable { AllByRecursion (IsReadable (length steps.old)) (stretches_by lengths.now (R.left records)) }
     requires none { plans.old.items ≡ [] }
-    ensures found { IfOk result (λ misfit. AreFitting options.now (length samples.new.items) lengths.now
-        plans.new.items (stretches_by lengths.now (R.left records)) misfit) }
+    ensures found { IfOk result (λ standing. AreFitting options.now (length samples.new.items) lengths.now
+        plans.new.items (stretches_by lengths.now (R.left records)) standing) }
     ensures grown { IfOk result (λ _. length samples.old.items ≤ length samples.new.items) }
 {
     let mut rest = records;
+    let mut passed = 0;
     for (number, count) in lengths.iter().enumerate() {
+        rest = skip(rest, passed);
         let stretch = Part {
             rest,
             count: *count,
@@ -50,15 +47,9 @@ pub(crate) fn fit_stretches<'a, A: Allocator + Copy, R: Walk<'a>>(
                 records: *count,
                 way,
             })?,
-            Fitting::Misfits(fault) => return Ok(Some(Misfit {
-                number: number as u64 + 1,
-                fault,
-            })),
+            Fitting::Misfits(fault) => return Ok(Standing::Misfit(number as u64 + 1, fault)),
         }
-        if number + 1 == lengths.len() {
-            return Ok(None);
-        }
-        rest = behind(rest, *count);
+        passed = *count;
     }
-    Ok(None)
+    Ok(Standing::Fit)
 }

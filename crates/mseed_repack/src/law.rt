@@ -67,7 +67,7 @@ pub fn one_channel_packing()
 
 /// What a channel is packed into by its stretches reads back: the records of each stretch as its series, which begins
 /// at its first record's start, so that no sample is further than a quarter of its period from where its own record has
-/// it; and the samples of all stretches, one behind another, are those of the channel's records, each once, in order.
+/// it; and the samples of all stretches, one after another, are those of the channel's records, each once, in order.
 pub fn stretches_read_back()
     ensures channel { (o : Options) (vs : List View) (records : List (List ℕ)) → AllByRecursion IsView vs
         → ChannelFits o vs → IsChannelPacked o vs records → IsChannelReadBack vs records }
@@ -81,7 +81,7 @@ pub fn stretches_read_back()
     instants_stay_near();
 }
 
-/// What is written of a channel by its stretches is continuous where the channel nearly is, and tells each wide gap and
+/// What is written of a channel by its stretches is continuous where the channel nearly is, and shows each wide gap and
 /// overlap. Of two neighbours in one stretch each is within a quarter of a period of the stretch's clock; of two in two
 /// stretches the border moves by a quarter at most, and by less than a microsecond where a start is rounded down.
 pub fn borders_are_kept()
@@ -90,8 +90,8 @@ pub fn borders_are_kept()
     ensures continuous { (o : Options) (vs : List View) (records : List (List ℕ)) → AllByRecursion IsView vs
         → ChannelFits o vs → IsChannelPacked o vs records → vs ≢ [] → AllNeighbours IsClose vs
         → AreReadAs IsContinuous records }
-    // Where one begins three quarters of a period and a microsecond behind it, or later, a gap is found in what is
-    // written, behind as many samples.
+    // Where one begins three quarters of a period and a microsecond after it, or later, a gap is found in what is
+    // written, after as many samples.
     ensures gap { (o : Options) (vs : List View) (records : List (List ℕ)) (leading : List View) (b v : View)
         (back : List View) → AllByRecursion IsView vs → ChannelFits o vs → IsChannelPacked o vs records
         → vs ≡ leading ++ b ∷ (v ∷ back) → LeavesGap b v

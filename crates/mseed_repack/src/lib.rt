@@ -13,6 +13,7 @@ mod numbering;
 mod outline;
 mod packing;
 mod plan;
+mod planned;
 mod reading;
 mod refusing;
 mod repacking;

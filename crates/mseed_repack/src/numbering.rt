@@ -7,7 +7,7 @@ ghost use Rattle.mseed_repack.specs.private.Planning.{CanBeWritten, IsPartOn, Is
 use crate::plan::Plan;
 use crate::series::pack_series;
 use crate::unpacking::Unpacking;
-use crate::walk::{Part, Walk, behind};
+use crate::walk::{Part, Walk, skip};
 use mseed_pack::{Options, Packer};
 use mseed_stream::{Failed, Sink};
 use mseed_time::LeapStep;
@@ -37,7 +37,9 @@ pub(crate) fn pack_stretches<'a, R: Walk<'a>, W: Sink>(
 {
     let mut next = *options;
     let mut rest = records;
-    for (number, plan) in plans.iter().enumerate() {
+    let mut passed = 0;
+    for plan in plans {
+        rest = skip(rest, passed);
         let stretch = Part {
             rest,
             count: plan.records,
@@ -48,15 +50,13 @@ pub(crate) fn pack_stretches<'a, R: Walk<'a>, W: Sink>(
             Ok(written) => next = numbered_on(&next, written),
             Err(failed) => return Err(failed),
         }
-        if number + 1 == plans.len() {
-            return Ok(());
-        }
-        rest = behind(rest, plan.records);
+        passed = plan.records;
     }
     Ok(())
 }
 
-/// The options of what is written behind so many records.
+/// Returns the options of what is written after so many records: their sequence numbers, of six digits, run on (SEED
+/// manual, chapter 8, fixed section of data header, field 1).
 fn numbered_on(options: &Options, count: u64) -> Options
     ensures { IsNumberedOn options.now count result }
 {

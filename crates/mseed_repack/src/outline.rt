@@ -40,7 +40,7 @@ pub(crate) struct Outline {
 }
 
 /// What is known of samples before the first one, where they are to be written in this encoding. To integers nothing
-/// needs to be known of them: those of 32 bits hold any, and of those of 16 bits only the samples tell.
+/// needs to be known of them: those of 32 bits hold any, and of those of 16 bits only the samples show it.
 pub(crate) fn nearness_before(encoding: Encoding) -> Nearness
     ensures { IsKnown result [] }
 {

@@ -21,8 +21,8 @@ pub(crate) struct Read {
     pub(crate) steps: usize,
 }
 
-/// Reads the samples and leap seconds of some records, from the beginning of the lists on, and answers how many there
-/// are. It takes no memory.
+/// Reads the samples and leap seconds of some records, from the beginning of the lists on, and returns how many there
+/// are. It requests no memory.
 pub(crate) fn read_records<'a, R: Walk<'a>>(
     records: R,
     samples: &mut [i32],
@@ -46,7 +46,7 @@ pub(crate) fn read_records<'a, R: Walk<'a>>(
     read
 }
 
-/// Reads the samples of a sound record, and the leap second that it bears, behind those that were read.
+/// Reads the samples of a sound record, and its leap second, where it has one, after those that were read.
 pub(crate) fn read_record(
     view: &RecordView,
     before: Read,
@@ -75,7 +75,8 @@ pub(crate) fn read_record(
     }
 }
 
-/// Puts a leap second behind so many that are there, where there is one.
+/// Puts a leap second, where there is one, after the first `count` of a list, with the number of samples before it, and
+/// returns how many the list holds then.
 pub(crate) fn put_step(
     step: Option<LeapStep>,
     place: usize,
@@ -95,7 +96,7 @@ pub(crate) fn put_step(
     }
 }
 
-/// How many leap seconds the records bear.
+/// Returns how many leap seconds happened during the records.
 pub(crate) fn count_steps(views: &[RecordView]) -> usize
     ensures { result ≡ steps_of (map view_of views.now) }
 {
@@ -106,7 +107,7 @@ pub(crate) fn count_steps(views: &[RecordView]) -> usize
     count
 }
 
-/// How many leap seconds a record bears.
+/// Returns how many leap seconds happened during a record: one, or none.
 fn step_count(view: &RecordView) -> usize
     ensures value { result ≡ step_count (view_of view.now) }
     ensures bound { result ≤ 1 }

@@ -29,7 +29,7 @@ pub enum Left {
     Misfit,
 }
 
-/// Why an archive with such channels is refused, unless these are left out.
+/// Returns why an archive with such channels is refused, unless these are left out.
 pub(crate) fn refusal_unless(
     leave: bool,
     channels: &[(Codes, Verdict)],
@@ -47,7 +47,7 @@ pub(crate) fn refusal_unless(
     refusal(channels, standings)
 }
 
-/// Why an archive with such channels is refused: the first that is broken, else the first that doesn't fit.
+/// Returns why an archive with such channels is refused: the first that is broken, else the first that doesn't fit.
 fn refusal(channels: &[(Codes, Verdict)], standings: &[Standing]) -> Option<StretchesFault>
     requires { length standings.now ≡ length channels.now }
     ensures some { IfSome result (λ fault. (o : Options) (views : List View)
@@ -67,7 +67,7 @@ fn refusal(channels: &[(Codes, Verdict)], standings: &[Standing]) -> Option<Stre
     }
 }
 
-/// The index of the first channel that is broken.
+/// Returns the index of the first channel that is broken.
 fn first_broken(standings: &[Standing]) -> Option<usize>
     ensures inside { IfSome result (λ number. number < length standings.now) }
     ensures some { IfSome result (λ number. slice_index_or standings.now number Standing.Fit ≡ Standing.Broken) }
@@ -82,7 +82,8 @@ fn first_broken(standings: &[Standing]) -> Option<usize>
     None
 }
 
-/// The index of the first channel of which a stretch doesn't fit, with the stretch's number and the reason.
+/// Returns the index of the first channel of which a stretch doesn't fit, with the stretch's number, from 1, and the
+/// reason.
 pub(crate) fn first_misfit(standings: &[Standing]) -> Option<(usize, u64, PackFault)>
     ensures inside { IfSome result (λ found. found.0 < length standings.now) }
     ensures some { IfSome result (λ found. slice_index_or standings.now found.0 Standing.Fit
@@ -98,7 +99,7 @@ pub(crate) fn first_misfit(standings: &[Standing]) -> Option<(usize, u64, PackFa
     None
 }
 
-/// Says of each channel that is left out why, in the order of their keys.
+/// Writes a line to `errors` for each channel that is left out, which says why, in the order of their keys.
 pub(crate) fn tell_left<E: Sink>(
     channels: &[(Codes, Verdict)],
     standings: &[Standing],
@@ -112,7 +113,7 @@ pub(crate) fn tell_left<E: Sink>(
     }
 }
 
-/// Says of a channel why it is left out, where it is.
+/// Writes a line to `errors` that says why a channel is left out, where it is.
 fn tell_standing<E: Sink>(channel: &Codes, standing: &Standing, errors: &mut E)
     ensures { TellsEach (line_of channel.now standing.now) (E.written errors.old) (E.written errors.new) }
 {
@@ -123,7 +124,7 @@ fn tell_standing<E: Sink>(channel: &Codes, standing: &Standing, errors: &mut E)
     }
 }
 
-/// Says of a channel that it is broken.
+/// Writes a line to `errors` that says that a channel is broken. A failure of `errors` is ignored.
 pub fn tell_broken<E: Sink>(channel: &Codes, errors: &mut E)
     ensures { Tells (broken_line channel.now) (E.written errors.old) (E.written errors.new) }
 {
@@ -134,7 +135,8 @@ pub fn tell_broken<E: Sink>(channel: &Codes, errors: &mut E)
     report(errors, line.as_slice());
 }
 
-/// Says of a channel which of its stretches can't be packed, and why.
+/// Writes a line to `errors` that says which stretch of a channel can't be packed, by its number, from 1, and why, by
+/// [`misfit_number`]. A failure of `errors` is ignored.
 pub fn tell_misfit<E: Sink>(channel: &Codes, stretch: u64, fault: PackFault, errors: &mut E)
     ensures { Tells (misfit_line channel.now stretch fault) (E.written errors.old) (E.written errors.new) }
 {
@@ -149,9 +151,9 @@ pub fn tell_misfit<E: Sink>(channel: &Codes, stretch: u64, fault: PackFault, err
     report(errors, line.as_slice());
 }
 
-/// Returns the number by which a line tells why a series can't be packed: 1 it has no samples, 2 its rate is too high, 3
-/// a sample's time lies in no year from 1900 to 2100, 4 a sample is too large for the encoding, 5 a difference is, 6 the
-/// output failed.
+/// Returns the number by which a line says why a series can't be packed: 1, it has no samples; 2, its rate is too high;
+/// 3, a sample's time lies in no year from 1900 to 2100; 4, a sample is too large for the encoding; 5, a difference is;
+/// 6, the output failed.
 pub fn misfit_number(fault: PackFault) -> u64
     ensures value { result ≡ misfit_number fault }
     ensures bound { result ≤ 6 }
@@ -166,7 +168,7 @@ pub fn misfit_number(fault: PackFault) -> u64
     }
 }
 
-/// What is left out of channels with such standings.
+/// Returns the worst of what is left out, by what is found of each channel.
 pub(crate) fn left_of(standings: &[Standing]) -> Left
     ensures { result ≡ left_of standings.now }
 {
@@ -177,7 +179,7 @@ pub(crate) fn left_of(standings: &[Standing]) -> Left
     left
 }
 
-/// The worse of what is left out of one channel, and of others.
+/// Returns the worse of what is left out for one channel, and for others.
 fn worse_of(standing: &Standing, left: Left) -> Left
     ensures { result ≡ worse_of standing.now left }
 {

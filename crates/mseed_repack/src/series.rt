@@ -1,5 +1,5 @@
 //! The series of some records: how it begins, whether it can be packed, and how it is written.
-ghost use Rattle.std.specs.Prelude.{◌≡◌, ◌≢◌, ◌<◌, ◌≤◌, ℤ, List, length, pos, slice_index_or, All, IfErr, IfOk, IfSome};
+ghost use Rattle.std.specs.Prelude.{◌≡◌, ◌≢◌, ◌<◌, ◌≤◌, ℤ, List, length, pos, slice_index_or, All, IfOk, IfSome};
 ghost use Rattle.std.specs.Prelude.{IsTrue, Some};
 ghost use Rattle.std.specs.List.{AllByRecursion};
 ghost use Rattle.mseed_record.specs.View.{View};
@@ -10,8 +10,8 @@ ghost use Rattle.mseed_pack.specs.Traces.{headed, trace_of};
 ghost use Rattle.mseed_repack.specs.private.Outline.{AreHeld, IsKnown, says_near};
 ghost use Rattle.mseed_repack.specs.private.Reading.{AreOf, CanBeRead, IsSoundWalk, samples_of};
 ghost use Rattle.mseed_repack.specs.private.Supplying.{AreUnread, IsUnpackable};
-ghost use Rattle.mseed_repack.specs.private.Planning.{AreOfAny, GoesBy, IsBegunBy, IsFitting, IsStretchText};
-ghost use Rattle.mseed_repack.specs.Repack.{IsPackedInPart, StretchFits, Wrote};
+ghost use Rattle.mseed_repack.specs.private.Planning.{AreOfAny, GoesBy, IsBegunBy, IsFitting, IsStretchWritten};
+ghost use Rattle.mseed_repack.specs.Repack.{StretchFits};
 ghost use Rattle.mseed_repack.specs.declared.plan.Way.TheVariants.{Frames};
 ghost use Rattle.mseed_repack.specs.declared.series.Fitting.TheVariants.{Fits};
 
@@ -39,9 +39,9 @@ pub(crate) enum Fitting {
     Misfits(PackFault),
 }
 
-/// Whether the series of some records can be packed, and which way it goes. Its samples are read only where no less
-/// tells. Memory is requested only where the series goes by a list and wants more room than the list of samples has;
-/// where it goes from frames to frames, that list stays as it was.
+/// Returns whether the series of some records can be packed, and which way it goes. Its samples are read only where
+/// less doesn't show that they fit. Memory is requested only where the series goes by a list and needs more room than
+/// the list of samples has; where it goes from frames to frames, that list stays as it was.
 ///
 /// # Errors
 ///
@@ -78,9 +78,9 @@ pub(crate) fn fit_series<'a, A: Allocator + Copy, R: Walk<'a>>(
     }
 }
 
-/// Which way a series goes whose samples the encoding surely holds, before they are read. It goes from frames to frames
-/// where its records are Steim, and so is what is written, each sample is near the one before it, and no record has
-/// more differences than there is room for.
+/// Returns which way a series goes whose samples the encoding surely holds, before they are read. It goes from frames
+/// to frames where its records are Steim, and so is what is written, each sample is near the one before it, and no
+/// record has more differences than there is room for.
 fn held_way<'a, R: Walk<'a>>(records: R, nearness: Nearness, encoding: Encoding) -> Option<Way>
     requires { R.leads records }
     ensures held { IfSome result (λ _.
@@ -104,7 +104,7 @@ fn held_way<'a, R: Walk<'a>>(records: R, nearness: Nearness, encoding: Encoding)
     }
 }
 
-/// Whether a series can be packed, by its samples, for which there is room.
+/// Returns whether a series can be packed, by its samples, for which there is room.
 fn fit_read<'a, R: Walk<'a>>(
     records: R,
     options: &Options,
@@ -125,7 +125,7 @@ fn fit_read<'a, R: Walk<'a>>(
     }
 }
 
-/// Writes the records of a series that can be packed, by the way that it goes, and answers how many there are.
+/// Writes the records of a series that can be packed, by the way that it goes, and returns how many there are.
 ///
 /// # Errors
 ///
@@ -143,10 +143,7 @@ pub(crate) fn pack_series<'a, R: Walk<'a>, W: Sink>(
     requires read { CanBeRead R.leads R.left records (length steps.old) }
     requires goes { GoesBy options.now.encoding (length samples.old) way (R.left records) }
     requires fits { StretchFits options.now (R.left records) }
-    ensures ok { IfOk result (λ count. Wrote (IsStretchText options.now (R.left records) count) 0
-        (W.written output.old) (W.written output.new)) }
-    ensures err { IfErr result (λ _. Wrote (IsPackedInPart options.now (R.left records)) 1
-        (W.written output.old) (W.written output.new)) }
+    ensures { IsStretchWritten options.now (R.left records) result (W.written output.old) (W.written output.new) }
 {
     match way {
         Way::Frames => pack_unread(records, options, steps, unpacking, packer, output),
@@ -154,7 +151,11 @@ pub(crate) fn pack_series<'a, R: Walk<'a>, W: Sink>(
     }
 }
 
-/// The same of records that go from frames to frames: no list is made of their samples.
+/// Writes the records of a series that goes from frames to frames: no list is made of its samples.
+///
+/// # Errors
+///
+/// `Failed` where the output failed: a part was written.
 fn pack_unread<'a, R: Walk<'a>, W: Sink>(
     records: R,
     options: &Options,
@@ -167,10 +168,7 @@ fn pack_unread<'a, R: Walk<'a>, W: Sink>(
     requires steim { IsSteim options.now.encoding }
     requires unread { AreUnread (R.left records) }
     requires fits { StretchFits options.now (R.left records) }
-    ensures ok { IfOk result (λ count. Wrote (IsStretchText options.now (R.left records) count) 0
-        (W.written output.old) (W.written output.new)) }
-    ensures err { IfErr result (λ _. Wrote (IsPackedInPart options.now (R.left records)) 1
-        (W.written output.old) (W.written output.new)) }
+    ensures { IsStretchWritten options.now (R.left records) result (W.written output.old) (W.written output.new) }
 {
     one_series();
     let borne = outline_records(records, Nearness::Unknown, steps);
@@ -186,7 +184,11 @@ fn pack_unread<'a, R: Walk<'a>, W: Sink>(
     }
 }
 
-/// The same by a list of the samples, for which there is room.
+/// Writes the records of a series by a list of its samples, for which there is room.
+///
+/// # Errors
+///
+/// `Failed` where the output failed: a part was written.
 fn pack_read<'a, R: Walk<'a>, W: Sink>(
     records: R,
     options: &Options,
@@ -198,10 +200,7 @@ fn pack_read<'a, R: Walk<'a>, W: Sink>(
     requires read { CanBeRead R.leads R.left records (length steps.old) }
     requires samples_fit { samples_of (R.left records) ≤ length samples.old }
     requires fits { StretchFits options.now (R.left records) }
-    ensures ok { IfOk result (λ count. Wrote (IsStretchText options.now (R.left records) count) 0
-        (W.written output.old) (W.written output.new)) }
-    ensures err { IfErr result (λ _. Wrote (IsPackedInPart options.now (R.left records)) 1
-        (W.written output.old) (W.written output.new)) }
+    ensures { IsStretchWritten options.now (R.left records) result (W.written output.old) (W.written output.new) }
 {
     one_series();
     let stretch = beginning(records);
@@ -214,7 +213,7 @@ fn pack_read<'a, R: Walk<'a>, W: Sink>(
     }
 }
 
-/// How the first of some records begins their series.
+/// Returns how the first of some records begins their series.
 fn beginning<'a, R: Walk<'a>>(records: R) -> Stretch
     requires { IsSoundWalk R.leads R.left records }
     ensures { IsBegunBy result (R.left records) }
@@ -226,7 +225,7 @@ fn beginning<'a, R: Walk<'a>>(records: R) -> Stretch
     }
 }
 
-/// The series of some records without its samples, by how many they have, and by their leap seconds.
+/// Returns the series of some records without its samples, by how many they have, and by their leap seconds.
 fn head_of<'s, 'a, R: Walk<'a>>(
     records: R,
     count: usize,
@@ -251,7 +250,7 @@ fn head_of<'s, 'a, R: Walk<'a>>(
     }
 }
 
-/// The series that begins so, of these samples and leap seconds.
+/// Returns the series that begins so, of these samples and leap seconds.
 fn series_of<'a>(
     stretch: &Stretch,
     samples: &'a [i32],

@@ -1,11 +1,12 @@
 //! What is found of the channels of an archive that is packed.
-ghost use Rattle.std.specs.Prelude.{◌≡◌, ◌≢◌, ◌↔◌, ◌≤◌, ◌^◌, [], IsTrue, length, map, true, IfOk};
+ghost use Rattle.std.specs.Prelude.{◌≡◌, ◌≢◌, ◌↔◌, ◌⊎◌, ◌≤◌, ◌^◌, [], IsTrue, length, map, true, IfOk};
 ghost use Rattle.std.specs.List.{AllByRecursion};
 ghost use Rattle.mseed_record.specs.Viewing.{view_of};
 ghost use Rattle.mseed_audit.specs.Follows.{IsSound};
+ghost use Rattle.mseed_audit.specs.Verdict.{says_continuous};
 ghost use Rattle.mseed_repack.specs.Repack.{AreContinuous};
 ghost use Rattle.mseed_repack.specs.declared.stretching.Cutting.TheVariants.{Whole};
-ghost use Rattle.mseed_repack.specs.private.Archives.{HasRoomForSteps};
+ghost use Rattle.mseed_repack.specs.private.Archives.{AreSoundAlone, HasRoomForSteps};
 ghost use Rattle.mseed_repack.specs.private.Reading.{steps_of};
 ghost use Rattle.mseed_repack.specs.private.Planning.{AreReady, IsReady};
 
@@ -15,6 +16,7 @@ use crate::fitting::fit_stretches;
 use crate::plan::Plan;
 use crate::stretching::{Cutting, cut_records};
 use crate::walk::Walk;
+use mseed_audit::Verdict;
 use mseed_pack::{Options, PackFault};
 use mseed_time::LeapStep;
 use std::alloc::{AllocError, Allocator};
@@ -30,9 +32,9 @@ pub enum Standing {
     Misfit(u64, PackFault),
 }
 
-/// What is found of each channel, whose records are cut so. How its stretches are packed is put behind the plans of the
-/// others, in a list that is empty, and of a channel that doesn't fit, nothing; the list of samples grows where a
-/// stretch goes by a list and wants more room.
+/// What is found of each channel, whose records are cut so; no record has a finding of its own, where that is known.
+/// How its stretches are packed is put after the plans of the others, in a list that is empty, and of a channel that
+/// doesn't fit, nothing; the list of samples grows where a stretch goes by a list and wants more room.
 ///
 /// # Errors
 ///
@@ -40,6 +42,7 @@ pub enum Standing {
 pub(crate) fn stand_all<A: Allocator + Copy>(
     alloc: A,
     archive: &Archive,
+    sound: bool,
     cutting: Cutting,
     options: &Options,
     plans: &mut Vec<Vec<Plan, A>, A>,
@@ -47,6 +50,7 @@ pub(crate) fn stand_all<A: Allocator + Copy>(
     steps: &mut [(u64, LeapStep)],
 ) -> Result<Vec<Standing, A>, AllocError>
     requires places { HasRoomForSteps archive.now (length steps.old) }
+    requires sound { sound ≡ true → AreSoundAlone (map view_of archive.now.views.now) }
     requires whole { cutting ≡ Whole → AreContinuous (map view_of archive.now.views.now) archive.now.channels.now }
     requires none { plans.old.items ≡ [] }
     ensures { IfOk result (λ standings. AreReady cutting options.now (length samples.new.items) (length steps.new)
@@ -55,12 +59,12 @@ pub(crate) fn stand_all<A: Allocator + Copy>(
 {
     let mut standings = Vec::new(alloc);
     for (number, channel) in archive.channels.iter().enumerate() {
-        let continuous = channel.1.is_continuous();
+        let known = is_known_sound(&channel.1, sound);
         let mut own = Vec::new(alloc);
         let standing = stand(
             alloc,
             archive.trail(number),
-            continuous,
+            known,
             cutting,
             options,
             &mut own,
@@ -73,12 +77,24 @@ pub(crate) fn stand_all<A: Allocator + Copy>(
     Ok(standings)
 }
 
-/// What is found of a channel with these records. Where it is continuous, each is sound. How each of its stretches is
-/// packed is put into a list, which is empty, if it fits.
-fn stand<'a, A: Allocator + Copy, R: Walk<'a>>(
+/// Returns whether each record of a channel is known to be sound, by the verdict on it, and whether no record of the
+/// archive has a finding of its own.
+fn is_known_sound(verdict: &Verdict, sound: bool) -> bool
+    ensures { result ≡ true → (sound ≡ true) ⊎ (says_continuous verdict.now ≡ true) }
+{
+    sound || verdict.is_continuous()
+}
+
+/// What is found of a channel with these records, each of which is known to be sound, or isn't. How each of its
+/// stretches is packed is put into a list, which is empty, if it fits.
+///
+/// # Errors
+///
+/// `AllocError` where there is no memory for one of the lists.
+pub(crate) fn stand<'a, A: Allocator + Copy, R: Walk<'a>>(
     alloc: A,
     records: R,
-    continuous: bool,
+    known: bool,
     cutting: Cutting,
     options: &Options,
     plans: &mut Vec<Plan, A>,
@@ -88,34 +104,34 @@ fn stand<'a, A: Allocator + Copy, R: Walk<'a>>(
     requires led { R.leads records }
     requires few { length (R.left records) ≤ 2 ^ 40 }
     requires some { cutting ≡ Whole → R.left records ≢ [] }
-    requires continuous { continuous ≡ true → AllByRecursion IsSound (R.left records) }
+    requires known { known ≡ true → AllByRecursion IsSound (R.left records) }
     requires none { plans.old.items ≡ [] }
     requires steps_fit { steps_of (R.left records) ≤ length steps.old }
     ensures ready { IfOk result (λ s. IsReady cutting options.now (length samples.new.items) (length steps.new)
         (R.left records) s plans.new.items) }
     ensures grown { IfOk result (λ _. length samples.old.items ≤ length samples.new.items) }
 {
-    if !are_all_sound(records, continuous) {
+    if !are_all_sound(records, known) {
         return Ok(Standing::Broken);
     }
     let mut lengths = Vec::new(alloc);
     cut_records(records, cutting, &mut lengths)?;
     match fit_stretches(alloc, records, &lengths, options, plans, samples, steps)? {
-        None => Ok(Standing::Fit),
-        Some(misfit) => {
+        Standing::Misfit(number, fault) => {
             plans.clear();
-            Ok(Standing::Misfit(misfit.number, misfit.fault))
+            Ok(Standing::Misfit(number, fault))
         }
+        standing => Ok(standing),
     }
 }
 
-/// Whether each of a channel's records is sound. Where the channel is continuous, each is.
-fn are_all_sound<'a, R: Walk<'a>>(records: R, continuous: bool) -> bool
+/// Whether each of a channel's records is sound: they are looked at only where that isn't known.
+fn are_all_sound<'a, R: Walk<'a>>(records: R, known: bool) -> bool
     requires led { R.leads records }
-    requires continuous { continuous ≡ true → AllByRecursion IsSound (R.left records) }
+    requires known { known ≡ true → AllByRecursion IsSound (R.left records) }
     ensures { IsTrue result ↔ AllByRecursion IsSound (R.left records) }
 {
-    if continuous {
+    if known {
         return true;
     }
     are_sound(records)

@@ -2,6 +2,7 @@
 use mseed_pack::PackFault;
 use mseed_record::Codes;
 use mseed_stream::StreamFault;
+use std::alloc::AllocError;
 
 /// Why an archive wasn't packed anew by stretches. Nothing was written then, but for `Write`.
 #[derive(Clone, Copy, Debug, PartialEq, Eq)]
@@ -30,5 +31,16 @@ impl From<StreamFault> for StretchesFault {
             StreamFault::Memory => StretchesFault::Memory,
             fault => StretchesFault::Stream(fault),
         }
+    }
+}
+
+impl From<AllocError> for StretchesFault {
+    ghost use Rattle.std.specs.Prelude.{◌≡◌};
+    ghost use Rattle.mseed_repack.specs.declared.stretches_fault.StretchesFault.{StretchesFault};
+
+    ghost from_gives = { λ _ fault. fault ≡ StretchesFault.Memory };
+
+    fn from(_error: AllocError) -> StretchesFault {
+        StretchesFault::Memory
     }
 }

@@ -1,8 +1,7 @@
 //! Cutting records into stretches.
-ghost use Rattle.std.specs.Prelude.{◌≡◌, ◌≤◌, ◌^◌, [], length, OnOk};
-ghost use Rattle.std.specs.List.{AllByRecursion};
-ghost use Rattle.mseed_audit.specs.Follows.{IsSound};
+ghost use Rattle.std.specs.Prelude.{◌≡◌, [], OnOk};
 ghost use Rattle.mseed_repack.specs.private.Planning.{IsCut, IsCutAs, stretches_by};
+ghost use Rattle.mseed_repack.specs.private.Reading.{CanBeCut};
 
 use crate::walk::Walk;
 use mseed_stretches::Stretch;
@@ -28,9 +27,7 @@ pub(crate) fn cut_records<'a, A: Allocator, R: Walk<'a>>(
     cutting: Cutting,
     lengths: &mut Vec<usize, A>,
 ) -> Result<(), AllocError>
-    requires led { R.leads records }
-    requires few { length (R.left records) ≤ 2 ^ 40 }
-    requires sound { AllByRecursion IsSound (R.left records) }
+    requires cut { CanBeCut R.leads R.left records }
     requires none { lengths.old.items ≡ [] }
     ensures { OnOk result (IsCutAs cutting (R.left records) (stretches_by lengths.new.items (R.left records))) }
 {
@@ -50,9 +47,7 @@ pub(crate) fn cut_stretches<'a, A: Allocator, R: Walk<'a>>(
     records: R,
     lengths: &mut Vec<usize, A>,
 ) -> Result<(), AllocError>
-    requires led { R.leads records }
-    requires few { length (R.left records) ≤ 2 ^ 40 }
-    requires sound { AllByRecursion IsSound (R.left records) }
+    requires cut { CanBeCut R.leads R.left records }
     requires none { lengths.old.items ≡ [] }
     ensures { OnOk result (IsCut lengths.new.items (R.left records)) }
 {

@@ -1,4 +1,4 @@
-//! Records that are gone over one after another.
+//! Records that are walked over one after another.
 ghost use Rattle.std.specs.Prelude.{◌≡◌, List, drop, map, take};
 ghost use Rattle.std.specs.Iterator.{YieldsFirstBy};
 ghost use Rattle.mseed_record.specs.View.{View};
@@ -6,22 +6,22 @@ ghost use Rattle.mseed_record.specs.Viewing.{view_of};
 
 use mseed_record::RecordView;
 
-/// Records that are gone over in their order, and again from each copy.
+/// Records that are walked over in their order; a copy walks over them again from where it was made.
 pub(crate) trait Walk<'a>: Copy {
-    /// Those that are left.
+    /// The records that are left.
     ghost left: { Self → List View };
 
-    /// It leads from each to the next.
+    /// What the walk holds leads from each record to the next.
     ghost leads: { Self → Type 0 };
 
-    /// The next record, where one is left.
+    /// Returns the next record, where one is left.
     fn next(&mut self) -> Option<RecordView<'a>>
         requires { leads self.old }
         ensures leads { leads self.new }
         ensures next { YieldsFirstBy view_of left self.old result self.new };
 }
 
-/// Records that stand one behind another, from an index on.
+/// The records of a list from an index on.
 #[derive(Clone, Copy)]
 pub(crate) struct Row<'r, 'a> {
     pub(crate) records: &'r [RecordView<'a>],
@@ -43,7 +43,7 @@ impl<'r, 'a> Walk<'a> for Row<'r, 'a> {
     }
 }
 
-/// The first so many of the records of a walk.
+/// The first `count` of the records that are left of a walk.
 #[derive(Clone, Copy)]
 pub(crate) struct Part<R> {
     pub(crate) rest: R,
@@ -69,8 +69,8 @@ impl<'a, R: Walk<'a>> Walk<'a> for Part<R> {
     }
 }
 
-/// What is left of a walk behind so many records.
-pub(crate) fn behind<'a, R: Walk<'a>>(records: R, count: usize) -> R
+/// Returns what is left of a walk after so many records.
+pub(crate) fn skip<'a, R: Walk<'a>>(records: R, count: usize) -> R
     requires { R.leads records }
     ensures leads { R.leads result }
     ensures left { R.left result ≡ drop count (R.left records) }

@@ -1,14 +1,35 @@
 -- An archive, its channels, and where the records of each stand.
-use Rattle.std.specs.Prelude.{◌≡◌, ℕ, ◌≤◌, ◌^◌, List, length, map, drop, slice_index_or}
+use Rattle.std.specs.Prelude.{◌≡◌, ℕ, ◌<◌, ◌≤◌, ◌^◌, Bool, true, false, Option, Some, None, List, length, map, drop}
+use Rattle.std.specs.Prelude.{slice_index_or}
+use Rattle.std.specs.List.{AllByRecursion}
 use Rattle.mseed_record.specs.View.{View}
 use Rattle.mseed_record.specs.Viewing.{view_of}
+use Rattle.mseed_steim.specs.Reading.{count_of}
 use Rattle.mseed_audit.specs.Channels.{added_from}
+use Rattle.mseed_audit.specs.Follows.{IsSound}
 use Rattle.mseed_audit.specs.Verdict.{AreVerdicts}
+use Rattle.mseed_audit.specs.declared.finding.Why.{Why}
+use Rattle.mseed_audit.specs.declared.finding.Why.TheVariants.{Time, Rate, Read, RateChange, Leap, Gap, Overlap}
 use Rattle.mseed_repack.specs.private.Reading.{channel_in, steps_of}
 use Rattle.mseed_repack.specs.private.Trails.{AreLaid, AreNexts, IsOfAt}
 use Rattle.mseed_repack.specs.Repack.{Channel, records_in}
 use Rattle.mseed_repack.specs.declared.archive.Archive.{Archive}
 use Rattle.mseed_repack.specs.declared.archive.Trail.{Trail}
+
+-- whether what is found of a record is its own, and not of its border with the record before
+abbrev pub has_own : Option Why → Bool
+has_own None = false
+has_own (Some (Time fault)) = true
+has_own (Some Rate) = true
+has_own (Some (Read fault)) = true
+has_own (Some RateChange) = false
+has_own (Some Leap) = false
+has_own (Some (Gap us)) = false
+has_own (Some (Overlap us)) = false
+
+-- each record with samples is sound
+abbrev pub AreSoundAlone : List View → Type 0
+AreSoundAlone vs = AllByRecursion (λ v. 0 < count_of v → IsSound v) vs
 
 -- the channels and the verdicts on them are those of the records, and the trails are laid
 pub record IsAudited (a : Archive) : Type 0 where

@@ -1,9 +1,10 @@
 -- How the channels of an archive are packed: each by its stretches, of which a channel that is packed whole has one.
 use Rattle.std.specs.Prelude.{⊤, ◌≡◌, ◌≢◌, ℕ, ◌+◌, ◌≤◌, ◌^◌, ℤ, List, [], ◌∷◌, ◌++◌, length, take, drop}
-use Rattle.std.specs.Prelude.{Option, Some, None}
+use Rattle.std.specs.Prelude.{Result, Ok, Err}
 use Rattle.std.specs.List.{concat, AllByRecursion}
 use Rattle.mseed_time.specs.declared.outcome.LeapStep.{LeapStep}
 use Rattle.mseed_record.specs.View.{View}
+use Rattle.mseed_stream.specs.Device.{BytesWritten}
 use Rattle.mseed_audit.specs.Follows.{IsSound}
 use Rattle.mseed_stretches.specs.Clocks.{IsStretchAt}
 use Rattle.mseed_stretches.specs.Stretches.{AreStretches, IsFirstStretch}
@@ -14,9 +15,10 @@ use Rattle.mseed_pack.specs.declared.options.Encoding.{Encoding}
 use Rattle.mseed_pack.specs.declared.options.Options.{Options}
 use Rattle.mseed_repack.specs.private.Reading.{AreOf, samples_of, steps_of}
 use Rattle.mseed_repack.specs.private.Supplying.{AreUnread}
-use Rattle.mseed_repack.specs.Repack.{Channel, IsPackedInPart, IsSeriesText, StretchFits, StretchMisfits, records_in}
-use Rattle.mseed_repack.specs.Restretch.{ArePackedOn, IsNumberedOn}
-use Rattle.mseed_repack.specs.declared.fitting.Misfit.{Misfit as FirstMisfit}
+use Rattle.mseed_repack.specs.Repack.{Channel, IsPackedInPart, IsSeriesText, StretchFits, StretchMisfits, Wrote}
+use Rattle.mseed_repack.specs.Repack.{records_in}
+use Rattle.mseed_repack.specs.ByStretches.{Stands}
+use Rattle.mseed_repack.specs.Restretch.{ArePackedOn, IsChannelPart, IsChannelText, IsNumberedOn}
 use Rattle.mseed_repack.specs.declared.plan.Plan.{Plan}
 use Rattle.mseed_repack.specs.declared.plan.Way.{Way}
 use Rattle.mseed_repack.specs.declared.plan.Way.TheVariants.{Frames, Listed}
@@ -40,6 +42,11 @@ IsBegunBy s (first ∷ rest) = IsStretchAt s first []
 pub record IsStretchText (o : Options) (s : List View) (count : ℕ) (text : List ℕ) : Type 0 where
   pub series : IsSeriesText o s text
   pub count_is : count ≡ length series.records
+
+-- what packing a stretch comes to: all of its records, so many; or, where the output failed, a part of them
+abbrev pub IsStretchWritten : {E : Type 0} → Options → List View → Result ℕ E → BytesWritten → BytesWritten → Type 0
+IsStretchWritten o s (Ok count) old new = Wrote (IsStretchText o s count) 0 old new
+IsStretchWritten o s (Err fault) old new = Wrote (IsPackedInPart o s) 1 old new
 
 -- records one behind another in stretches of so many each, or of as many as are left
 abbrev pub stretches_by : List ℕ → List View → List (List View)
@@ -108,10 +115,11 @@ pub record IsPartOn (o : Options) (ss : List (List View)) (text : List ℕ) : Ty
 
 -- What is found of stretches of so many records each: each can be packed, as it is planned; or this is the first that
 -- can't.
-abbrev pub AreFitting : Options → ℕ → List ℕ → List Plan → List (List View) → Option FirstMisfit → Type 0
-AreFitting o room ns ps ss None =
+abbrev pub AreFitting : Options → ℕ → List ℕ → List Plan → List (List View) → Standing → Type 0
+AreFitting o room ns ps ss Fit =
     AllByRecursion (StretchFits o) ss × EachGoes o.encoding room ps ss × (counts_of ps ≡ ns)
-AreFitting o room ns ps ss (Some misfit) = IsFirstMisfit o misfit.number misfit.fault ss
+AreFitting o room ns ps ss Broken = ⊥
+AreFitting o room ns ps ss (Misfit number fault) = IsFirstMisfit o number fault ss
 
 -- the records begin with stretches of so many records each, up to some that are left
 abbrev pub IsCutUpTo : List ℕ → List View → List View → Type 0
@@ -140,26 +148,26 @@ AreWritable o room places views (c ∷ cs) [] = ⊥
 AreWritable o room places views (c ∷ cs) (ps ∷ ls) =
     CanBeWritten o room places ps (records_in views c.0) × AreWritable o room places views cs ls
 
--- a channel whose records are cut so can be packed
-pub record FitsAs (cutting : Cutting) (o : Options) (vs : List View) : Type 0 where
-  pub sound : AllByRecursion IsSound vs
-  pub stretches : List (List View)
-  pub cut : IsCutAs cutting vs stretches
-  pub fit : AllByRecursion (StretchFits o) stretches
-
--- or this is the first of its stretches that can't be
-pub record MisfitsAs (cutting : Cutting) (o : Options) (number : ℕ) (fault : PackFault) (vs : List View) : Type
-    0 where
-  pub sound : AllByRecursion IsSound vs
-  pub stretches : List (List View)
-  pub cut : IsCutAs cutting vs stretches
-  pub misfit : IsFirstMisfit o number fault stretches
+-- what is found of a channel that is packed whole
+abbrev pub StandsWhole : Options → List View → Standing → Type 0
+StandsWhole o vs Fit = StretchFits o vs
+StandsWhole o vs Broken = ¬ (AllByRecursion IsSound vs)
+StandsWhole o vs (Misfit number fault) = StretchMisfits o fault vs
 
 -- what is found of a channel whose records are cut so
 abbrev pub StandsAs : Cutting → Options → List View → Standing → Type 0
-StandsAs cutting o vs Fit = FitsAs cutting o vs
-StandsAs cutting o vs Broken = ¬ (AllByRecursion IsSound vs)
-StandsAs cutting o vs (Misfit number fault) = MisfitsAs cutting o number fault vs
+StandsAs Whole = StandsWhole
+StandsAs Stretches = Stands
+
+-- the text is what a channel is packed into whose records are cut so
+abbrev pub IsTextAs : Cutting → Options → List View → List ℕ → Type 0
+IsTextAs Whole = IsSeriesText
+IsTextAs Stretches = IsChannelText
+
+-- or a part of it
+abbrev pub IsPartAs : Cutting → Options → List View → List ℕ → Type 0
+IsPartAs Whole = IsPackedInPart
+IsPartAs Stretches = IsChannelPart
 
 -- a channel that fits is written by its stretches, and another by none
 abbrev pub IsPlan : Cutting → Options → ℕ → ℕ → List View → Standing → List Plan → Type 0

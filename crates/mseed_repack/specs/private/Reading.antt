@@ -41,6 +41,12 @@ pub record IsSoundWalk {S : Type 0} (leads : S → Type 0) (left : S → List Vi
   pub some : left walk ≢ []
   pub sound : AllByRecursion IsSound (left walk)
 
+-- a walk leads to records, each of which is sound, and no more than a loop can count
+pub record CanBeCut {S : Type 0} (leads : S → Type 0) (left : S → List View) (walk : S) : Type 0 where
+  pub led : leads walk
+  pub sound : AllByRecursion IsSound (left walk)
+  pub few : length (left walk) ≤ 2 ^ 40
+
 -- no more than a loop can count, and there is room for so many leap seconds
 pub record CanBeRead {S : Type 0} (leads : S → Type 0) (left : S → List View) (walk : S) (places : ℕ) : Type 0 where
   pub walks : IsSoundWalk leads left walk

@@ -2,7 +2,7 @@ use Rattle.std.proofs.Common.{sym, ◌∙◌}
 use Rattle.std.proofs.lemmas.Bool.{false≢true}
 use Rattle.mseed_record.specs.Viewing.{view_of}
 use Rattle.mseed_audit.specs.Follows.{IsSound}
-use Rattle.mseed_repack.proofs.ChannelReadBack.{each_more}
+use Rattle.mseed_repack.proofs.Each.{each_more}
 use Rattle.mseed_repack.proofs.Walks.{gone_more, next_gone, next_of}
 use Rattle.mseed_repack.proofs.channel.are_sound.Goals as goal
 

@@ -1,8 +1,10 @@
 use Rattle.std.proofs.Common.{subst}
+use Rattle.std.proofs.lemmas.List.Elements.{recursion_from_All}
+use Rattle.mseed_repack.specs.ByStretches.{IsFit}
 use Rattle.mseed_repack.specs.Repack.{Channel}
 use Rattle.mseed_repack.specs.private.Restretching.{IsFirstRefused}
 use Rattle.mseed_repack.specs.declared.stretches_fault.StretchesFault.TheVariants.{Broken, Misfit}
-use Rattle.mseed_repack.proofs.Standings.{each_fits, refused_broken, refused_misfit}
+use Rattle.mseed_repack.proofs.Standings.{all_fit, refused_broken, refused_misfit}
 use Rattle.mseed_repack.proofs.refusing.refusal.Goals as goal
 
 pub returns-in-Some-clause-some : goal.returns-in-Some-clause-some
@@ -23,4 +25,6 @@ returns-in-Some-first_misfit-clause-some c = λ o views all.
     c.in_default.ensures.none found.ensures.before all)
 
 pub returns-in-None-clause-fit : goal.returns-in-None-clause-fit
-returns-in-None-clause-fit c = each_fits c.args.standings.now c.in_default.ensures.none c.in-None.ensures.none
+returns-in-None-clause-fit c =
+    recursion_from_All IsFit c.args.standings.now
+    (all_fit c.args.standings.now c.in_default.ensures.none c.in-None.ensures.none)

@@ -30,8 +30,8 @@ pack_supplied-requires g c =
       );
     }
 
-pub returns-in-Ok-clause-ok : goal.returns-in-Ok-clause-ok
-returns-in-Ok-clause-ok g c =
+pub returns-in-Ok : goal.returns-in-Ok
+returns-in-Ok g c =
     let head = c.head_of-head.result in
     let h = steim_of head.start head.rate (c.outline_records-borne.ensures.outline head.codes) c.requires.unread in
     let first : to_z w32 (of_z w32 head.first) ≡ head.first = to_z-of_z w32 _ (search rules) in
@@ -48,8 +48,8 @@ returns-in-Ok-clause-ok g c =
       fits = p.fits;
     }))
 
-pub returns-in-Err-clause-err : goal.returns-in-Err-clause-err
-returns-in-Err-clause-err g c =
+pub returns-in-Err : goal.returns-in-Err
+returns-in-Err g c =
     let head = c.head_of-head.result in
     let h = steim_of head.start head.rate (c.outline_records-borne.ensures.outline head.codes) c.requires.unread in
     let first : to_z w32 (of_z w32 head.first) ≡ head.first = to_z-of_z w32 _ (search rules) in

@@ -1,7 +1,7 @@
-use Rattle.std.proofs.Common.{List, ℕ, length, arith, refl, subst, sym, Option}
+use Rattle.std.proofs.Common.{List, ℕ, length, arith, refl, subst, sym}
 use Rattle.mseed_repack.specs.private.Planning.{AreFitting, IsCutAs, stretches_by}
-use Rattle.mseed_repack.specs.declared.fitting.Misfit.{Misfit}
-use Rattle.mseed_repack.proofs.Planning.{readable_by, ready_fit, some_each}
+use Rattle.mseed_repack.specs.declared.standing.Standing.{Standing}
+use Rattle.mseed_repack.proofs.Planning.{readable_by, ready_by, ready_misfit, some_each}
 use Rattle.mseed_repack.proofs.standing.stand.Goals as goal
 
 pub fit_stretches-requires : goal.fit_stretches-requires
@@ -22,17 +22,31 @@ fit_stretches-requires g c κs =
       ),
     )
 
-pub returns-in-None-clause-ready : goal.returns-in-None-clause-ready
-returns-in-None-clause-ready g c =
+pub returns-in-Misfit-clause-ready : goal.returns-in-Misfit-clause-ready
+returns-in-Misfit-clause-ready g c =
+    let o = c.args.options.now in
     let vs = g.R.Walk.left c.args.records in
     let ns = c.deref.result.now in
     let room : ℕ = length c.fit_stretches.new.samples.items in
+    let cut = subst (λ (ms : List ℕ). IsCutAs c.args.cutting vs (stretches_by ms vs)) (sym c.deref.ensures.value)
+    c.in_ok-cut_records.ensures in
+    let found = subst (λ (s : Standing). AreFitting o room ns c.fit_stretches.new.plans.items (stretches_by ns vs) s)
+    c.in-Misfit.is c.in_ok-standing.ensures.found in
+    ready_misfit c.args.cutting o room (length c.fit_stretches.new.steps) (stretches_by ns vs) c.clear.new.self.items vs
+    c.in-Misfit.number c.in-Misfit.fault (c.are_all_sound.ensures.0 c.if-not-are_all_sound.false) cut found
+    c.clear.ensures.items
+
+pub returns-clause-ready : goal.returns-clause-ready
+returns-clause-ready g c =
+    let vs = g.R.Walk.left c.args.records in
+    let ns = c.deref.result.now in
     let places : ℕ = length c.fit_stretches.new.steps in
     let sound = c.are_all_sound.ensures.0 c.if-not-are_all_sound.false in
     let cut = subst (λ (ms : List ℕ). IsCutAs c.args.cutting vs (stretches_by ms vs)) (sym c.deref.ensures.value)
     c.in_ok-cut_records.ensures in
-    let found = subst (λ (m : Option Misfit). AreFitting c.args.options.now room ns c.fit_stretches.new.plans.items
-    (stretches_by ns vs) m) c.in-None.is c.in_ok-fit_stretches.ensures.found in
-    ready_fit c.args.cutting c.args.options.now room places ns c.fit_stretches.new.plans.items vs sound cut
-    (readable_by places ns vs (some_each c.args.cutting vs (stretches_by ns vs) c.requires.some cut) sound
-    c.requires.few (omega (arith, c.requires.steps_fit, c.fit_stretches.auto.steps))) found.0 found.1 found.2
+    let some = some_each c.args.cutting vs (stretches_by ns vs) c.requires.some cut in
+    ready_by c.args.cutting c.args.options.now (length c.fit_stretches.new.samples.items) places ns
+    c.fit_stretches.new.plans.items vs sound cut
+    (readable_by places ns vs some sound c.requires.few
+    (omega (arith, c.requires.steps_fit, c.fit_stretches.auto.steps)))
+    c.in_ok-standing.standing c.in_default.not-Misfit c.in_ok-standing.ensures.found

@@ -1,7 +1,11 @@
-use Rattle.std.proofs.Common.{◌≡◌, ◌+◌, ◌++◌, ◌∙◌, List, [], ◌∷◌, ap, arith, length, map, refl, subst, sym, take, ℕ}
+use Rattle.std.proofs.Common.{◌≡◌, ◌+◌, ◌++◌, ◌∙◌, List, [], ◌∷◌, ap, arith, length, map, refl, subst, sym, take}
+use Rattle.std.proofs.Common.{⊎_elim, ℕ}
+use Rattle.std.specs.List.{AllByRecursion}
 use Rattle.std.proofs.lemmas.List.{map-append, take_more}
 use Rattle.mseed_record.specs.View.{View}
 use Rattle.mseed_record.specs.Viewing.{view_of}
+use Rattle.mseed_audit.specs.Follows.{IsSound}
+use Rattle.mseed_audit.specs.Verdict.{says_continuous}
 use Rattle.mseed_audit.proofs.Behind.{views_are}
 use Rattle.mseed_repack.specs.Repack.{Channel, records_in}
 use Rattle.mseed_repack.specs.private.Archives.{records_on}
@@ -10,6 +14,7 @@ use Rattle.mseed_repack.specs.declared.plan.Plan.{Plan}
 use Rattle.mseed_repack.specs.declared.standing.Standing.{Standing}
 use Rattle.mseed_repack.proofs.Archives.{few_trail, of_channel, some_on}
 use Rattle.mseed_repack.proofs.Planning.{ready_more}
+use Rattle.mseed_repack.proofs.Sound.{sound_in}
 use Rattle.mseed_repack.proofs.Standings.{sound_by, steps_gathered}
 use Rattle.mseed_repack.proofs.standing.stand_all.Goals as goal
 
@@ -30,9 +35,11 @@ stand-requires g c κs =
           (
             λ whole. some_on a l.number t c.loop-number-test.true c.trail.ensures (c.requires.whole whole),
             (
-              λ continuous. sound_by views a.channels.now l.number d c.is_continuous-continuous.result (records_on t)
-                  c.requires.places.audited.verdicts c.loop-number-test.true c.channel-item.is
-                  c.is_continuous-continuous.ensures own continuous,
+              λ known. ⊎_elim
+                  (λ sound. subst (AllByRecursion IsSound) (sym own) (sound_in d.0 views (c.requires.sound sound)))
+                  (λ continuous. sound_by views a.channels.now l.number d (says_continuous d.1) (records_on t)
+                  c.requires.places.audited.verdicts c.loop-number-test.true c.channel-item.is refl own continuous)
+                  (c.is_known_sound-known.ensures known),
               (
                 c.new-own.ensures.items,
                 omega (arith, fits, l.auto.steps),

@@ -12,7 +12,7 @@ pub returns-in_ok-push-in-Whole : goal.returns-in_ok-push-in-Whole
 returns-in_ok-push-in-Whole g c =
     let vs = g.R.Walk.left c.args.records in
     subst (λ (cutting : Cutting). IsCutAs cutting vs (stretches_by c.push.new.self.items vs)) (sym c.in-Whole.is)
-    (whole_is c.push.new.self.items vs c.requires.few
+    (whole_is c.push.new.self.items vs c.requires.cut.few
     (c.in_ok-push-in-Whole.ensures.items ∙ ap (λ (ns : List ℕ). ns ++ (2 ^ 64 - 1) ∷ []) c.requires.none))
 
 pub returns-in-Stretches : goal.returns-in-Stretches

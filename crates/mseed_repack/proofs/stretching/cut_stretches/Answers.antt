@@ -9,13 +9,13 @@ loop-view-init g c = (
   c.in-Some.ensures.leads,
   subst (λ (ns : List ℕ). IsCutSo ns (g.R.Walk.left c.args.records) (g.R.Walk.left c.next.new.self)
       c.begin-stretch.result) (sym c.requires.none)
-      (cut_first c.in-Some.ensures.next c.requires.sound c.begin-stretch.ensures.stretch),
+      (cut_first c.in-Some.ensures.next c.requires.cut.sound c.begin-stretch.ensures.stretch),
 )
 
 pub with-stretch-requires : goal.with-stretch-requires
 with-stretch-requires g c =
     let few = few_more c.loop-view.invariant.1 c.in-Some-next.ensures.next in
-    omega (arith, few, c.requires.few)
+    omega (arith, few, c.requires.cut.few)
 
 pub loop-view-preserved-then-goes_on : goal.loop-view-preserved-then-goes_on
 loop-view-preserved-then-goes_on g c =

@@ -1,7 +1,7 @@
 use Rattle.std.proofs.Common.{◌∙◌, sym}
 use Rattle.mseed_record.specs.Viewing.{view_of}
 use Rattle.mseed_repack.proofs.Walks.{dropped_all, dropped_more}
-use Rattle.mseed_repack.proofs.walk.behind.Goals as goal
+use Rattle.mseed_repack.proofs.walk.skip.Goals as goal
 
 pub returns-in-None-clause-left : goal.returns-in-None-clause-left
 returns-in-None-clause-left g c =

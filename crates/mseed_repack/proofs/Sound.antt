@@ -1,0 +1,59 @@
+-- Records that are known to be sound by what the audit finds of them.
+use Rattle.std.proofs.Common.{◌≡◌, ℕ, ◌+◌, ◌<◌, ◌&&◌, Bool, true, false, if◌then◌else◌, List, [], ◌∷◌, ◌++◌, length}
+use Rattle.std.proofs.Common.{map}
+use Rattle.std.proofs.Common.{take, get_or, sym, ap, refl, subst, ◌∙◌, nat_lt, Option, None, IsSome}
+use Rattle.std.specs.List.{AllByRecursion}
+use Rattle.std.proofs.lemmas.Bool.{false≢true, ltb-true}
+use Rattle.std.proofs.lemmas.List.{map_more}
+use Rattle.mseed_time.specs.Rate.{Ratio}
+use Rattle.mseed_record.specs.Header.{key_at}
+use Rattle.mseed_record.specs.View.{View}
+use Rattle.mseed_record.specs.Viewing.{view_of}
+use Rattle.mseed_record.specs.declared.view.RecordView.{RecordView}
+use Rattle.mseed_steim.specs.Reading.{count_of}
+use Rattle.mseed_audit.specs.Channels.{Placed, same_key}
+use Rattle.mseed_audit.specs.Follows.{IsSound}
+use Rattle.mseed_audit.specs.Judging.{IsFound, time, rate, read, after}
+use Rattle.mseed_audit.specs.Reported.{IsFoundBehind, last_of}
+use Rattle.mseed_audit.specs.Reported.{channel_in as channel_in_placed}
+use Rattle.mseed_audit.specs.declared.finding.Why.{Why}
+use Rattle.mseed_audit.proofs.Continuity.{HaveOneReading}
+use Rattle.mseed_repack.specs.private.Archives.{AreSoundAlone, has_own}
+use Rattle.mseed_repack.specs.private.Reading.{channel_in}
+use Rattle.mseed_repack.proofs.Each.{each_more}
+
+-- a record of which no finding of its own is found
+sound_found : HaveOneReading → (before : Option View) (v : View) (why : Option Why) → IsFound before v why
+    → has_own why ≡ false → IsSound v
+sound_found single before v _ (time fault e) none = absurd (false≢true (sym none))
+sound_found single before v _ (rate e r) none = absurd (false≢true (sym none))
+sound_found single before v _ (read next known fault f) none = absurd (false≢true (sym none))
+sound_found single before v _ (after next known samples whole) none = record {
+  timed = subst (λ (r : Option Ratio). IsSome r) (sym known) refl;
+  samples = samples;
+  whole = whole;
+  only = λ others r. single v others samples r whole.0;
+}
+
+-- so is each of a channel, where each of all is
+pub sound_in : (key : List ℕ) (vs : List View) → AreSoundAlone vs → AllByRecursion IsSound (channel_in key vs)
+sound_in key [] all = tt
+sound_in key (v ∷ vs) all = by (nat_lt 0 (count_of v)) refl (same_key key (key_at v.bytes)) (sound_in key vs all.1)
+  where
+    by : (some : Bool) → nat_lt 0 (count_of v) ≡ some → (same : Bool) → AllByRecursion IsSound (channel_in key vs)
+        → AllByRecursion IsSound (if some && same then v ∷ channel_in key vs else channel_in key vs)
+    by true some true rest = (all.0 (ltb-true 0 (count_of v) some), rest)
+    by true some false rest = rest
+    by false none same rest = rest
+
+-- and so are those that a loop has passed, with one more
+pub sound_next : HaveOneReading → (rs : List RecordView) (n : ℕ) (r : RecordView) (earlier : List Placed)
+    (why : Option Why) → n < length rs → r ≡ get_or rs n r → IsFoundBehind earlier (view_of r) why
+    → has_own why ≡ false → AreSoundAlone (map view_of (take n rs)) → AreSoundAlone (map view_of (take (n + 1) rs))
+sound_next single rs n r earlier why lt is found none before =
+    let next : map view_of (take (n + 1) rs) ≡ map view_of (take n rs) ++ view_of r ∷ [] =
+    map_more view_of rs n r lt ∙ ap (λ (q : RecordView). map view_of (take n rs) ++ view_of q ∷ []) (sym is) in
+    subst AreSoundAlone (sym next)
+    (each_more (λ (v : View). 0 < count_of v → IsSound v) (map view_of (take n rs)) (view_of r) before
+    (λ some. sound_found single (last_of None (channel_in_placed (key_at (view_of r).bytes) earlier)) (view_of r) why
+    (found.judged some) none))

@@ -1,0 +1,56 @@
+use Rattle.std.proofs.Common.{arith, map}
+use Rattle.mseed_record.specs.Viewing.{view_of}
+use Rattle.mseed_repack.specs.declared.stretching.Cutting.TheVariants.{Whole}
+use Rattle.mseed_repack.proofs.Outcomes.{as_found, refused, repacked, repacked_in_part}
+use Rattle.mseed_repack.proofs.Planning.{ready_planned}
+use Rattle.mseed_repack.proofs.Wholes.{archive_of}
+use Rattle.mseed_repack.proofs.repacking.repack_records.Goals as goal
+
+pub bounds-channels-number : goal.bounds-channels-number
+bounds-channels-number g c =
+    let size = as_found c.args.options.now _ _ (map view_of c.args.views.now) c.as_slice-channels.result.now _ _ Whole
+    c.deref.result.now c.deref.ensures.value c.in_ok-planned.ensures.ready in
+    omega (arith, size, c.in-Some-first_misfit.ensures.inside)
+
+pub bounds-channels-number-in-Some-first_misfit : goal.bounds-channels-number-in-Some-first_misfit
+bounds-channels-number-in-Some-first_misfit g c =
+    let size = as_found c.args.options.now _ _ (map view_of c.args.views.now) c.as_slice-channels.result.now _ _ Whole
+    c.deref.result.now c.deref.ensures.value c.in_ok-planned.ensures.ready in
+    omega (arith, size, c.in-Some-first_misfit.ensures.inside)
+
+pub returns-in-Some-first_misfit : goal.returns-in-Some-first_misfit
+returns-in-Some-first_misfit g c = λ read whole.
+    let m = c.in-Some-first_misfit in
+    refused c.args.options.now _ _ (map view_of c.args.views.now) c.as_slice-channels.result.now _ _ m.number
+    m.field-0-1 m.fault c.index-channels-number.result read (g.W.Sink.written c.args.output.now)
+    (archive_of whole c.in_ok-judged.ensures.verdicts c.as_slice-channels.ensures) c.in_default.ensures.none
+    c.in_ok-planned.ensures.ready (rw c.deref.ensures.value at m.ensures.inside)
+    (rw c.deref.ensures.value at m.ensures.some) (rw c.deref.ensures.value at m.ensures.before)
+
+pub pack_channels-requires-clause-ready : goal.pack_channels-requires-clause-ready
+pack_channels-requires-clause-ready g c =
+    rw (
+      c.deref_mut.ensures.value,
+      c.deref_mut-2.ensures.value,
+      c.archive.ensures.views,
+      c.archive.ensures.channels,
+      c.deref-2.ensures.value,
+    )
+    (ready_planned Whole c.args.options.now _ _ (map view_of c.args.views.now) c.as_slice-channels.result.now _ _
+    c.in_ok-planned.ensures.ready)
+
+pub returns-in-Ok : goal.returns-in-Ok
+returns-in-Ok g c = λ read whole.
+    repacked c.args.options.now _ _ (map view_of c.args.views.now) c.as_slice-channels.result.now _ _ read
+    (g.W.Sink.written c.args.output.now) (g.W.Sink.written c.pack_channels.new.output)
+    (archive_of whole c.in_ok-judged.ensures.verdicts c.as_slice-channels.ensures) c.in_default.ensures.none
+    c.in_ok-planned.ensures.ready (rw c.deref.ensures.value at c.in_default-first_misfit.ensures.none)
+    (rw (c.archive.ensures.views, c.archive.ensures.channels, c.deref-2.ensures.value) at c.in-Ok.ensures.ok)
+
+pub returns : goal.returns
+returns g c = λ read whole.
+    repacked_in_part c.args.options.now _ _ (map view_of c.args.views.now) c.as_slice-channels.result.now _ _ read
+    (g.W.Sink.written c.args.output.now) (g.W.Sink.written c.pack_channels.new.output)
+    (archive_of whole c.in_ok-judged.ensures.verdicts c.as_slice-channels.ensures) c.in_default.ensures.none
+    c.in_ok-planned.ensures.ready (rw c.deref.ensures.value at c.in_default-first_misfit.ensures.none)
+    (rw (c.archive.ensures.views, c.archive.ensures.channels, c.deref-2.ensures.value) at c.in-Err.ensures.err)

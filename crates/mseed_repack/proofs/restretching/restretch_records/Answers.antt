@@ -1,0 +1,59 @@
+use Rattle.std.proofs.Common.{map}
+use Rattle.mseed_record.specs.Viewing.{view_of}
+use Rattle.mseed_repack.specs.declared.stretching.Cutting.TheVariants.{Stretches}
+use Rattle.mseed_repack.proofs.Outcomes.{as_found, restretched, restretched_in_part}
+use Rattle.mseed_repack.proofs.Planning.{ready_planned, standings_of}
+use Rattle.mseed_repack.proofs.Standings.{refused_is}
+use Rattle.mseed_repack.proofs.Wholes.{archive_of}
+use Rattle.mseed_repack.proofs.restretching.restretch_records.Goals as goal
+
+pub refusal_unless-requires : goal.refusal_unless-requires
+refusal_unless-requires g c =
+    as_found c.args.options.now _ _ (map view_of c.args.views.now) c.as_slice-channels.result.now _ _ Stretches _
+    c.deref.ensures.value c.in_ok-planned.ensures.ready
+
+pub tell_left-requires : goal.tell_left-requires
+tell_left-requires g c =
+    as_found c.args.options.now _ _ (map view_of c.args.views.now) c.as_slice-channels.result.now _ _ Stretches _
+    c.deref-2.ensures.value c.in_ok-planned.ensures.ready
+
+pub returns-in-Some : goal.returns-in-Some
+returns-in-Some g c = λ read whole.
+    let views = map view_of c.args.views.now in
+    refused_is c.args.options.now c.args.leave read (g.W.Sink.written c.args.output.now)
+    (g.E.Sink.written c.args.errors.now) views c.as_slice-channels.result.now c.in-Some.fault
+    ((rw c.deref.ensures.value at c.in-Some.ensures.some) c.args.options.now views
+    (standings_of Stretches c.args.options.now _ _ views c.as_slice-channels.result.now _ _
+    c.in_ok-planned.ensures.ready))
+    c.in-Some.ensures.refuses (archive_of whole c.in_ok-judged.ensures.verdicts c.as_slice-channels.ensures)
+
+pub pack_channels-requires-clause-ready : goal.pack_channels-requires-clause-ready
+pack_channels-requires-clause-ready g c =
+    rw (
+      c.deref_mut.ensures.value,
+      c.deref_mut-2.ensures.value,
+      c.archive.ensures.views,
+      c.archive.ensures.channels,
+      c.deref-3.ensures.value,
+    )
+    (ready_planned Stretches c.args.options.now _ _ (map view_of c.args.views.now) c.as_slice-channels.result.now _ _
+    c.in_ok-planned.ensures.ready)
+
+pub returns-in-Ok : goal.returns-in-Ok
+returns-in-Ok g c = λ read whole.
+    rw (c.left_of.ensures, c.deref-in-Ok.ensures.value)
+    (restretched c.args.options.now _ _ (map view_of c.args.views.now) c.as_slice-channels.result.now _ _ c.args.leave
+    read (g.W.Sink.written c.args.output.now) (g.W.Sink.written c.pack_channels.new.output)
+    (g.E.Sink.written c.args.errors.now) (g.E.Sink.written c.tell_left.new.errors)
+    (archive_of whole c.in_ok-judged.ensures.verdicts c.as_slice-channels.ensures) c.in_ok-planned.ensures.ready
+    (rw c.deref.ensures.value at c.in_default.ensures.fit) (rw c.deref-2.ensures.value at c.tell_left.ensures)
+    (rw (c.archive.ensures.views, c.archive.ensures.channels, c.deref-3.ensures.value) at c.in-Ok.ensures.ok))
+
+pub returns : goal.returns
+returns g c = λ read whole.
+    restretched_in_part c.args.options.now _ _ (map view_of c.args.views.now) c.as_slice-channels.result.now _ _
+    c.args.leave read (g.W.Sink.written c.args.output.now) (g.W.Sink.written c.pack_channels.new.output)
+    (g.E.Sink.written c.args.errors.now) (g.E.Sink.written c.tell_left.new.errors)
+    (archive_of whole c.in_ok-judged.ensures.verdicts c.as_slice-channels.ensures) c.in_ok-planned.ensures.ready
+    (rw c.deref.ensures.value at c.in_default.ensures.fit) (rw c.deref-2.ensures.value at c.tell_left.ensures)
+    (rw (c.archive.ensures.views, c.archive.ensures.channels, c.deref-3.ensures.value) at c.in-Err.ensures.err)

@@ -1,0 +1,84 @@
+//! How the channels of an archive are packed, known before anything is written.
+ghost use Rattle.std.specs.Prelude.{◌≡◌, ◌≤◌, ◌^◌, length, map, true, IfOk};
+ghost use Rattle.mseed_record.specs.Viewing.{view_of};
+ghost use Rattle.mseed_audit.specs.Channels.{added_from};
+ghost use Rattle.mseed_audit.specs.Verdict.{AreVerdicts};
+ghost use Rattle.mseed_repack.specs.Repack.{AreContinuous};
+ghost use Rattle.mseed_repack.specs.declared.stretching.Cutting.TheVariants.{Whole};
+ghost use Rattle.mseed_repack.specs.private.Archives.{AreSoundAlone};
+ghost use Rattle.mseed_repack.specs.private.Planning.{AreReady};
+ghost use Rattle.mseed_repack.specs.private.Trails.{AreLaid};
+
+use crate::plan::Plan;
+use crate::reading::count_steps;
+use crate::room::blank_steps;
+use crate::standing::{Standing, stand_all};
+use crate::stretching::Cutting;
+use crate::trail::{Trails, lay_trails};
+use mseed_audit::Verdict;
+use mseed_pack::Options;
+use mseed_record::{Codes, RecordView};
+use mseed_time::LeapStep;
+use std::alloc::{AllocError, Allocator};
+
+/// What packing an archive needs beside its records and channels: all memory that it takes.
+#[derive(Drop)]
+pub(crate) struct Planned<A: Allocator> {
+    /// Where the records of each channel stand.
+    pub(crate) trails: Trails<A>,
+    /// What is found of each channel.
+    pub(crate) standings: Vec<Standing, A>,
+    /// How the stretches of each channel are packed; none of one that doesn't fit.
+    pub(crate) plans: Vec<Vec<Plan, A>, A>,
+    /// Room for the samples of each stretch that goes by a list.
+    pub(crate) samples: Vec<i32, A>,
+    /// Room for the leap seconds of each stretch.
+    pub(crate) steps: Vec<(u64, LeapStep), A>,
+}
+
+/// How the records of an archive are packed, each channel's cut so, by what the audit says of the channels, and whether
+/// no record has a finding of its own. A channel that isn't to be cut is continuous.
+///
+/// # Errors
+///
+/// `AllocError` where an allocation was refused.
+pub(crate) fn plan_archive<A: Allocator + Copy>(
+    alloc: A,
+    views: &[RecordView],
+    channels: &[(Codes, Verdict)],
+    sound: bool,
+    cutting: Cutting,
+    options: &Options,
+) -> Result<Planned<A>, AllocError>
+    requires few { length views.now ≤ 2 ^ 40 }
+    requires verdicts { AreVerdicts (added_from 0 (map view_of views.now)) channels.now }
+    requires sound { sound ≡ true → AreSoundAlone (map view_of views.now) }
+    requires whole { cutting ≡ Whole → AreContinuous (map view_of views.now) channels.now }
+    ensures laid { IfOk result (λ planned.
+        AreLaid views.now channels.now planned.trails.firsts.items planned.trails.nexts.items) }
+    ensures ready { IfOk result (λ planned. AreReady cutting options.now (length planned.samples.items)
+        (length planned.steps.items) (map view_of views.now) channels.now planned.standings.items
+        (map (λ own. own.items) planned.plans.items)) }
+{
+    let trails = lay_trails(alloc, views, channels)?;
+    let mut steps = blank_steps(alloc, count_steps(views))?;
+    let mut samples = Vec::new(alloc);
+    let mut plans = Vec::new(alloc);
+    let standings = stand_all(
+        alloc,
+        &trails.archive(views, channels),
+        sound,
+        cutting,
+        options,
+        &mut plans,
+        &mut samples,
+        &mut steps,
+    )?;
+    Ok(Planned {
+        trails,
+        standings,
+        plans,
+        samples,
+        steps,
+    })
+}
