@@ -523,6 +523,29 @@ supplied_still {left = left} {room = room} {at = at} {end = end} {given = given}
       held = h.held;
     })
 
+-- the last of those that were given
+last_at : (x : ℤ) (xs behind : List ℤ) → get_or (x ∷ xs ++ behind) (length xs) (pos 0) ≡ last_behind x xs
+last_at x [] behind = refl
+last_at x (y ∷ xs) behind = last_at y xs behind
+
+last_unpacked : (last : ℤ) (xs behind : List ℤ) → IsLast last xs behind → 0 < length xs
+    → last ≡ get_or (xs ++ behind) (length xs - 1) (pos 0)
+last_unpacked last [] behind h some = absurd (omega (arith, some))
+last_unpacked last (x ∷ xs) behind h some =
+    let at : length xs ≡ length (x ∷ xs) - 1 = omega arith in
+    sym (sym (ap (λ (n : ℕ). get_or (x ∷ xs ++ behind) n (pos 0)) at) ∙ last_at x xs behind ∙ h)
+
+pub last_given : {S : Type 0} {leads : S → Type 0} {left : S → List View} {rest : S} {last : ℤ} {room : List ℤ}
+    {at end given : ℕ} {samples : List ℤ} → IsSupplied leads left rest last room at end samples given → end ≤ at
+    → 0 < given → last ≡ get_or samples (given - 1) (pos 0)
+last_given {last = last} {given = given} h done some =
+    let order = h.order in
+    let given_is = h.given_is in
+    let all : length h.unpacked ≡ given = omega (arith, order, given_is, done) in
+    subst (λ (xs : List ℤ). last ≡ get_or xs (given - 1) (pos 0)) (sym h.parts)
+    (last_unpacked last h.unpacked h.behind h.last_is (omega (arith, all, some))
+    ∙ ap (λ (n : ℕ). get_or (h.unpacked ++ h.behind) (n - 1) (pos 0)) all)
+
 -- what packing from a supply wants to know, of records of Steim frames that fit as a series
 pub record HasSupply {S : Type 0} (leads : S → Type 0) (left : S → List View) (rest : S) (first : ℤ) (room : List ℤ)
     (samples : List ℤ) (o : Options) (s : Trace) : Type 0 where

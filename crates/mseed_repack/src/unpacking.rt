@@ -65,6 +65,13 @@ impl<'a, R: Walk<'a>> Supply for Unpacking<'a, R> {
         self.at = begun;
         begun
     }
+
+    fn last(&self) -> Option<i32> {
+        if self.at < self.end {
+            return None;
+        }
+        Some(self.last)
+    }
 }
 
 impl<'a, R> Unpacking<'a, R> {
