@@ -14,7 +14,7 @@ reader_of b = inner_of b.counted
 abbrev pub read_through : {T A : Type 0} → Buffered T A → BytesRead
 read_through b = read_by b.counted
 
--- what it will tell, where its reader is known to have it left: what stands in the buffer comes first
+-- what it has left, where its reader is known to have it: what stands in the buffer comes first
 abbrev pub left_of : {T A : Type 0} → (T → Option (List ℕ)) → Buffered T A → Option (List ℕ)
 left_of remaining b = remaining_of (reader_remaining remaining) b.counted
 

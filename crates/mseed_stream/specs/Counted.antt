@@ -20,7 +20,7 @@ read_by c = record {
 abbrev pub written_by : {T : Type 0} → Counted T → BytesWritten
 written_by c = record { bytes = c.writes.bytes; calls = c.writes.calls; failures = c.writes.failures }
 
--- what it will tell: nothing, once it is at its end, and else what its reader is known to have left
+-- what it has left: nothing, once it is at its end, and else what its reader is known to have left
 abbrev pub remaining_of : {T : Type 0} → (T → Option (List ℕ)) → Counted T → Option (List ℕ)
 remaining_of remaining c = if c.is_at_end then Some [] else remaining c.inner
 

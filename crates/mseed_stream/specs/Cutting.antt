@@ -1,4 +1,4 @@
--- How a cutter stands to what its source gave, and what its answers mean.
+-- What a cutter holds of what was read of its source, and what its results mean.
 use Rattle.std.specs.Prelude.{⊤, ◌≡◌, ◌≢◌, Bool, true, false, ℕ, ◌+◌, ◌*◌, ◌^◌, ◌<◌, ◌≤◌, List, [], ◌∷◌, ◌++◌, length}
 use Rattle.std.specs.Prelude.{take, drop, if◌then◌else◌, Option, Some, None, IfSome, IfErr, Result, Ok, Err}
 use Rattle.std.specs.Io.KnownBytes.{Consumes, IsAtEnd}
@@ -37,7 +37,7 @@ IsReadTo bytes false = IsStop bytes (length bytes)
 IsReadTo bytes true = FallsShort bytes
 
 -- What a fault means, of the offset where the next record begins and of what was read. Bytes are refused once all
--- that was requested is there, or at the input's end; where a read failed or the turns ran out, more was requested.
+-- that was requested is there, or at the input's end; where a read failed or the reads ran out, more was requested.
 abbrev pub IsCutFault : StreamFault → ℕ → BytesRead → Type 0
 IsCutFault (Frame n f) offset h = (n ≡ offset) × IsEndOf (read_from offset h) (frame f)
     × IsReadTo (read_from offset h) h.is_at_end
@@ -66,7 +66,7 @@ pub record IsRead (h : BytesRead) (c : Standing) : Type 0 where
   pub within : length c.prefix ≤ c.room
   pub small : c.room ≤ 2 ^ 20
 
--- And it goes on, where the framing steps are to be taken next, or has answered for ever.
+-- And it goes on, where the framing steps are to be taken next, or it has ended.
 pub record IsAlong (h : BytesRead) (c : Standing) : Type 0 where
   pub read : IsRead h c
   pub stop : c.answer ≡ None → IsStop (held_of c) (length (held_of c))
@@ -74,8 +74,7 @@ pub record IsAlong (h : BytesRead) (c : Standing) : Type 0 where
   pub going_on : c.answer ≡ None → h.is_at_end ≡ false
   pub ended : IfSome c.answer (λ e. IsEnding e c.offset h)
 
--- A record of so many bytes begins what the source holds, and the cutter, which goes on and holds nothing, can go
--- after
+-- A record of so many bytes begins what the source holds, and the cutter, which goes on and holds nothing, can go past
 -- it.
 pub record IsAhead (size : ℕ) (c : Standing) (lent : List ℕ) : Type 0 where
   pub whole : size ≤ length lent
@@ -97,7 +96,7 @@ lent_whole h bytes = record {
 abbrev pub TellsMore : BytesRead → BytesRead → Option (List ℕ) → Option (List ℕ) → Type 0
 TellsMore old new left rest = (more : List ℕ) × (new.bytes ≡ old.bytes ++ more) × Consumes left rest more
 
--- whether less was read before an answer than was requested: at the input's end, a failed read and the last turn
+-- whether less was read before a result than was requested: at the input's end, a failed read and the last read
 abbrev pub is_short : {X : Type 0} → Result X StreamFault → Bool → Bool
 is_short (Err (Read n)) is_at_end = true
 is_short (Err (Turns n)) is_at_end = true
@@ -110,7 +109,7 @@ is_short (Ok r) is_at_end = is_at_end
 abbrev pub NeedsRoom : ℕ → List ℕ → Type 0
 NeedsRoom room bytes = (n : ℕ) × (room < n) × Decides bytes (Need n)
 
--- how far an answer moves the offset: by the bytes of the record that it lends
+-- how far a result moves the offset: by the bytes of the record that it lends
 abbrev pub moves_by : {X : Type 0} → Result (Option X) StreamFault → List ℕ → ℕ
 moves_by (Ok (Some r)) bytes = length bytes
 moves_by (Ok None) bytes = 0
@@ -121,7 +120,7 @@ abbrev pub asks_of : List ℕ → ℕ
 asks_of [] = 0
 asks_of (x ∷ xs) = 1
 
--- how many failed reads a fault tells of
+-- how many reads failed, by a fault
 abbrev pub failed_reads : StreamFault → ℕ
 failed_reads (Read n) = 1
 failed_reads (Frame n f) = 0
@@ -129,17 +128,17 @@ failed_reads (Truncated n have) = 0
 failed_reads (Turns n) = 0
 failed_reads Memory = 0
 
--- and an answer
+-- and by a result
 abbrev pub failed_by : {X : Type 0} → Result (Option X) StreamFault → ℕ
 failed_by (Ok o) = 0
 failed_by (Err e) = failed_reads e
 
--- the answer that a cutter gives once it has ended
+-- what a cutter returns once it has ended
 abbrev pub answer_of : {X : Type 0} → Ending → Result (Option X) StreamFault
 answer_of Clean = Ok None
 answer_of (Fault e) = Err e
 
--- the answer that is kept for ever: all but a record and a want of memory
+-- how a result ends the cutter: all but a record and refused memory do
 abbrev pub kept_of : {X : Type 0} → Result (Option X) StreamFault → Option Ending
 kept_of (Ok (Some r)) = None
 kept_of (Ok None) = Some Clean
@@ -149,19 +148,19 @@ kept_of (Err (Truncated n have)) = Some (Fault (Truncated n have))
 kept_of (Err (Read n)) = Some (Fault (Read n))
 kept_of (Err (Turns n)) = Some (Fault (Turns n))
 
--- how many records an answer hands out
+-- how many records a result hands out
 abbrev pub count_of : {X : Type 0} → Result (Option X) StreamFault → ℕ
 count_of (Ok (Some r)) = 1
 count_of (Ok None) = 0
 count_of (Err e) = 0
 
--- the record that an answer hands out
+-- the record that a result hands out
 abbrev pub handed_by : {X : Type 0} → Result (Option X) StreamFault → List ℕ → List (List ℕ)
 handed_by (Ok (Some r)) bytes = bytes ∷ []
 handed_by (Ok None) bytes = []
 handed_by (Err e) bytes = []
 
--- where an answer ends the records for ever: any but a record and a want of memory
+-- where a result ends the records: any but a record and refused memory
 abbrev pub IfEnds : {X : Type 0} → Result (Option X) StreamFault → Type 0 → Type 0
 IfEnds (Ok (Some r)) P = ⊤
 IfEnds (Ok None) P = P
@@ -171,11 +170,11 @@ IfEnds (Err (Read n)) P = P
 IfEnds (Err (Turns n)) P = P
 IfEnds (Err Memory) P = ⊤
 
--- What the next answer says, by a cutter as it stood, what was read of its source before and after, and what the source
+-- What the next result says, by a cutter as it stood, what was read of its source before and after, and what the source
 -- is known to have left.
 pub record IsNextAnswer {X : Type 0} (result : Result (Option X) StreamFault) (c : Standing) (old new : BytesRead)
     (left rest : Option (List ℕ)) : Type 0 where
-  -- What the source gave is kept, and what it is known to have left is what was read of it..
+  -- What was read before stays, and what the source is known to have left is what was read of it..
   pub more : TellsMore old new left rest
   -- ..up to its end where the input is at its end.
   pub known : c.answer ≡ None → new.is_at_end ≡ true → IsAtEnd rest
@@ -187,16 +186,16 @@ pub record IsNextAnswer {X : Type 0} (result : Result (Option X) StreamFault) (c
   pub records : (records : List (List ℕ)) → HasRecords old.bytes c.offset records
       → HasRecords new.bytes (c.offset + moves_by result (read_from c.offset new))
       (records ++ handed_by result (read_from c.offset new))
-  -- Where the records end for ever, those so far and the rest are the archive of the bytes read.
+  -- Where the records end, those so far and the rest are the archive of the bytes read.
   pub archive : (records : List (List ℕ)) → HasRecords old.bytes c.offset records
       → IfEnds result (IsArchive new.bytes records (read_from c.offset new))
-  -- Memory is wanted only where framing wanted more than the buffer ever had.
+  -- Memory is requested only where framing asks for more bytes than the buffer has room for.
   pub memory : result ≡ Err Memory → NeedsRoom c.room (read_from c.offset new)
-  -- No more is read than framing asks for, and less only at the end, a failed read or the last turn.
+  -- No more is read than framing asks for, and less only at the end, a failed read or the last read.
   pub read_to : c.answer ≡ None → IsReadTo (read_from c.offset new) (is_short result new.is_at_end)
-  -- A read failed exactly where the answer says so.
+  -- A read failed exactly where the result says so.
   pub failed : c.answer ≡ None → new.failures ≡ old.failures + failed_by result
-  -- The answer for ever is given again, and the source is not called.
+  -- A cutter that has ended returns the same again, and the source is not called.
   pub repeats : IfSome c.answer (λ e. (result ≡ answer_of e) × (new ≡ old))
   -- No more bytes are held than the longest record has.
   pub most : length new.bytes ≤ c.offset + 2 ^ 20

@@ -4,7 +4,7 @@ use Rattle.mseed_stream.specs.Device.{BytesRead}
 use Rattle.mseed_stream.specs.declared.fault.StreamFault.{StreamFault}
 use Rattle.mseed_stream.specs.declared.fault.StreamFault.TheVariants.{Frame, Truncated, Read, Turns, Memory}
 
--- by what was read of the source before the call and after it: where a read failed or the turns ran out,
+-- by what was read of the source before the call and after it: where a read failed or the reads ran out,
 -- the input wasn't at its end; no record is looked for
 abbrev pub IsStreamFault : StreamFault → BytesRead → BytesRead → Type 0
 IsStreamFault (Frame n f) old new = ⊥

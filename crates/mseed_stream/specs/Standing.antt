@@ -3,7 +3,7 @@ use Rattle.std.specs.Prelude.{ℕ, Bool, List, Option}
 use Rattle.mseed_stream.specs.declared.cutter.Ending.{Ending}
 
 -- where the next record begins, the bytes at the buffer's beginning and whether they're a record that was lent, the
--- buffer's length, how often the source was called, and the answer for ever
+-- buffer's length, how often the source was called, and how it ended
 pub record Standing : Type 0 where
   pub offset : ℕ
   pub prefix : List ℕ

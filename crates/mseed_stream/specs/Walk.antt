@@ -27,7 +27,7 @@ abbrev pub IsEnd : Option StreamFault → ℕ → BytesRead → Type 0
 IsEnd None offset h = IsCleanEnd offset h × (h.failures ≡ 0)
 IsEnd (Some fault) offset h = IsCutFault fault offset h × (fault ≢ Memory) × (h.failures ≡ failed_reads fault)
 
--- A cutter that goes on has handed out these records, each for two asks of its source at least, and no read failed.
+-- A cutter that goes on has handed out these records, each for two calls of its source at least, and no read failed.
 pub record HasHandedOut (h : BytesRead) (c : Standing) (views : List View) : Type 0 where
   pub along : IsAlong h c
   pub goes_on : c.answer ≡ None
@@ -42,7 +42,7 @@ pub record AreAllViews (h : BytesRead) (views : List View) (end : Option StreamF
   pub ends : IsEnd end offset h
   pub few : length views < 2 ^ 40
 
--- the records that an answer of a cutter that goes on adds to those handed out
+-- the records that a result of a cutter that goes on adds to those handed out
 abbrev pub IfGoesOn : Result (Option RecordView) StreamFault → (List View → Type 0) → Type 0
 IfGoesOn (Ok (Some r)) P = P (view_of r ∷ [])
 IfGoesOn (Ok None) P = ⊤
@@ -52,7 +52,7 @@ IfGoesOn (Err (Truncated n have)) P = ⊤
 IfGoesOn (Err (Read n)) P = ⊤
 IfGoesOn (Err (Turns n)) P = ⊤
 
--- with which fault an answer ends the input, if with any
+-- with which fault a result ends the input, if with any
 abbrev pub end_of : {X : Type 0} → Result (Option X) StreamFault → Option StreamFault
 end_of (Ok o) = None
 end_of (Err fault) = Some fault

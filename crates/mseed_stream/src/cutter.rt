@@ -158,7 +158,7 @@ impl<A: Allocator> Cutter<A> {
         ensures record { IfOk result (λ o. IfSome o (λ r. IsView (view_of r)
             × ((view_of r).bytes ≡ read_from self.old.offset (R.read source.new)))) }
 
-        // Where the records end for ever, those so far are all of what was read.
+        // Where the records end, those so far are all of what was read.
         ensures all { (views : List View) → HasHandedOut (R.read source.old) self.old views
             → IfEnds result (AreAllViews (R.read source.new) views (end_of result)) }
 

@@ -3,8 +3,8 @@
 //! Bytes are read from a [`Source`] and written to a [`Sink`]. Each has a record, for proofs alone, of all
 //! the bytes that went through it, of the calls that were made and of those that failed, so that a
 //! contract can speak of a whole run over a device. [`Counted`] makes either of any reader or
-//! writer of `std::io`, and a [`Duplex`] of what does both. A [`Tally`] is such a record: whoever
-//! counts other calls for proofs keeps one too. [`Exchanges`] are those of one link after another.
+//! writer of `std::io`, and a [`Duplex`] of what does both. A [`Tally`] is that record: whoever
+//! counts other calls for proofs has one too. [`Exchanges`] are those of one link after another.
 //!
 //! A [`Cutter`] hands out the records of a source, one by one, and [`split`] those of a slice. [`read_all`] and
 //! [`write_all_of`] are the plain loops over devices, [`write_beyond`] writes a text that is gathered some at a time,
