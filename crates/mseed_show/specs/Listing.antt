@@ -6,7 +6,6 @@ use Rattle.mseed_time.specs.declared.order.Order.TheVariants.{Big, Little}
 use Rattle.mseed_time.specs.Rate.{Ratio, rate_of}
 use Rattle.mseed_record.specs.Header.{key_at, quality_at, samples_at, factor_at, multiplier_at}
 use Rattle.mseed_record.specs.View.{View}
-use Rattle.mseed_select.specs.Halves.{Placed}
 use Rattle.mseed_text.specs.Name.{name_text}
 use Rattle.mseed_text.specs.Time.{ratio_text, start_text}
 
@@ -44,11 +43,6 @@ payload_words v = codes " encoding " ++ decimal v.encoding ++ order_word v.paylo
 -- a record's line, by where it begins
 abbrev pub record_line : ℕ → View → List ℕ
 record_line offset v = offset_words offset v ++ size_words v ++ time_words v ++ payload_words v
-
--- the lines of records, each by where it begins
-abbrev pub lines_of : List Placed → List ℕ
-lines_of [] = []
-lines_of (p ∷ ps) = record_line p.offset p.view ++ lines_of ps
 
 -- how many records there are
 abbrev pub count_line : ℕ → List ℕ

@@ -1,7 +1,6 @@
 //! The lines of a listing.
 ghost use Rattle.std.specs.Prelude.{◌≡◌, ◌≤◌, ◌+◌, ◌++◌, OnErr, OnOk, codes, length};
 ghost use Rattle.mseed_record.specs.Viewing.{view_of};
-ghost use Rattle.mseed_text.specs.Time.{start_text};
 ghost use Rattle.mseed_show.specs.Listing.{record_line, offset_words, size_words, time_words, payload_words};
 ghost use Rattle.mseed_show.specs.Listing.{count_line, rate_text, order_word, last_words};
 
@@ -80,19 +79,9 @@ fn put_times(line: &mut Line, view: &RecordView)
     ensures text { line.new ≡ line.old ++ time_words (view_of view.now) }
     ensures most { length line.new ≤ length line.old + 80 }
 {
-    put_start(line, view);
-    put_rate(line, view);
-}
-
-/// Puts a record's start at a line's end.
-#[inline(always)]
-fn put_start(line: &mut Line, view: &RecordView)
-    requires { length line.old + 33 ≤ LONGEST_LINE }
-    ensures text { line.new ≡ line.old ++ codes " start " ++ start_text (view_of view.now) }
-    ensures most { length line.new ≤ length line.old + 33 }
-{
     line.put(b" start ");
     line.put_start(view);
+    put_rate(line, view);
 }
 
 /// Puts a record's sample rate at a line's end.

@@ -1,8 +1,7 @@
 //! The listing of an input's records.
 ghost use Rattle.std.specs.Prelude.{◌≡◌};
 ghost use Rattle.mseed_stream.specs.Device.{nothing_read};
-ghost use Rattle.mseed_show.specs.Show.{IsSelectedShown, IsShown};
-ghost use Rattle.mseed_show.specs.private.Texts.{listing_texts};
+ghost use Rattle.mseed_show.specs.Show.{IsSelectedShown, IsShown, listing_texts};
 
 use crate::fault::ShowFault;
 use crate::lines::{push_count_line, push_record_line};
