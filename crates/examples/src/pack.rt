@@ -105,6 +105,11 @@ impl<'a> Supply for Pieces<'a> {
     }
 }
 
+/// The sample of the last difference that was given, where it is at hand.
+pub fn last_given(pieces: &Pieces<'_>) -> Option<i32> {
+    pieces.last()
+}
+
 /// Packs a series that fits in a Steim encoding, of which 100 samples come at once.
 pub fn pack_in_pieces<W: Sink>(
     series: &SeriesView,
