@@ -22,9 +22,9 @@ flag_rule name = record (option_rule name) { action = Some SetTrue }
 abbrev pub word_rule : Rule
 word_rule = new_rule (codes "command")
 
--- further places
+-- files or further places, for which the help has another name
 abbrev pub places_rule : Rule
-places_rule = record (new_rule (codes "place")) { action = Some Append }
+places_rule = record (new_rule (codes "place")) { action = Some Append; value_names = 1 }
 
 -- which records are asked for; `--from` is that of a feed too
 abbrev pub selection_rules : List Rule

@@ -21,8 +21,8 @@ pub const COMMANDS: &str = "Commands:
           reads the parts that audit --part wrote, one after another in the archives' order,
           writes the lines of an audit, with its statuses
           options: --part, in place of the lines the joint part; or --each, first a line for
-          each finding between the end of a channel in one archive and its begin in a later one;
-          --past-faults, go on after a part that ends with a fault, tell the fault and count it: status 2;
+          each finding between the end of a channel in one archive and its beginning in a later one;
+          --past-faults, go on after a part that ends with a fault, report it and count it: status 2;
           --expect, how many parts there have to be: with fewer or more no audit is written, status 2
             mseed join --expect 31 january/*.part
   show    lists the records
@@ -31,17 +31,17 @@ pub const COMMANDS: &str = "Commands:
             mseed show my.mseed
   select  copies the records of some channels and of a window of time, byte for byte
           reads an archive, writes those of its records that are asked for; status 0, also for none
-          options: --channels, patterns parted by commas, each NET_STA_LOC_CHA: * takes any
+          options: --channels, patterns separated by commas, each NET_STA_LOC_CHA: * takes any
           characters, ? one, -- is the empty location; --from and --until, times as 2024-05-14,
           2024-135 or 2024-05-14T03:20:00.5: records that reach into the window, which --until
-          isn't part of; a record whose start isn't known isn't in it, and such are counted
+          isn't part of; a record without a known start isn't in it, and how many there are is reported
             mseed select --channels 'IU_ANMO_00_BH?' --from 2024-05-14 my.mseed > some.mseed
   repack  packs each channel anew, in records of one length and one encoding
           reads an archive, writes an archive, which is bytes, to a terminal too: name a file
           after >; status 1: a channel isn't continuous
-          options: --length, --encoding; --stretches, take each channel as a list of stretches, so
-          that a channel may have gaps and its clock may drift; with it --leave, leave out and tell
-          the channels that can't be packed: status 1 or 2; those of select, of whole records
+          options: --length, --encoding; --stretches, pack each channel in stretches, each from
+          its own start, so that it may have gaps and its clock may drift; with it --leave, leave out
+          and report the channels that can't be packed: status 1 or 2; those of select, of whole records
             mseed repack --length 4096 --encoding steim1 my.mseed > packed.mseed
   serve   sends the records of stations to clients, over SeedLink 3
           reads an archive of records of 512 bytes from standard input, writes nothing
@@ -54,15 +54,15 @@ pub const COMMANDS: &str = "Commands:
   fetch   asks a server for the records of stations, over SeedLink 3
           reads nothing, writes each record as soon as it is whole
           options: --port, --station and --network, which it needs, --address, --timeout,
-          --from, --tries; further stations as NET_STA or NET_STA:HEX; --tell-next, tell on
-          standard error each station's first number and, at the end, the words to go on;
+          --from, --tries; further stations as NET_STA or NET_STA:HEX; --tell-next, report on
+          standard error each station's first number and, at the end, the options to go on with;
           --holes, for servers that number all their stations together: take records whose
-          numbers are ahead and tell each hole, in which records may be lost unseen
+          numbers are ahead and report each hole, in which records may be lost unseen
             mseed fetch --port 18000 --station ANMO --network IU > fetched.mseed
 
 Files:
   audit, join, show, select and repack read the files that are named, one after another, as one input;
-  - is standard input, and after -- each word is a file. Where no file is named, and by serve,
+  - is standard input, and after -- each argument is a file. Where no file is named, and by serve,
   what is read is standard input. What is written is standard output; messages go to standard
   error.
 

@@ -147,11 +147,11 @@ impl Named {
     fn help(self) -> &'static str {
         match self {
             Named::Channels => {
-                "select, audit, show, repack: the channels, NET_STA_LOC_CHA with * and ?, parted by commas; \
+                "select, audit, show, repack: the channels, NET_STA_LOC_CHA with * and ?, separated by commas; \
                  by default all"
             }
             Named::From => {
-                "select, audit, show, repack: the window's begin, such as 2024-05-14T03:20; \
+                "select, audit, show, repack: the window's beginning, such as 2024-05-14T03:20; \
                  fetch: the first number, in hexadecimal"
             }
             Named::Until => {
@@ -175,20 +175,21 @@ impl Named {
             }
             Named::Part => "audit, join: write a part instead of the lines of an audit",
             Named::PastFaults => {
-                "join: go on behind a part that ends with a fault, and count the faults"
+                "join: go on after a part that ends with a fault, report each fault and count it"
             }
             Named::Expect => {
                 "join: how many parts there have to be; with fewer or more no audit is written"
             }
             Named::TellNext => {
-                "fetch: tell each first record's number, and at the end the words to go on"
+                "fetch: report each first record's number, and at the end the options to go on with"
             }
-            Named::Holes => "fetch: take records whose numbers are ahead, and tell each hole",
+            Named::Holes => "fetch: take records whose numbers are ahead, and report each hole",
             Named::Stretches => {
-                "repack: take each channel as a list of stretches, whose clocks go on"
+                "repack: pack each channel in stretches, each from its own start, \
+                 so that it may have gaps and its clock may drift"
             }
             Named::Leave => {
-                "repack --stretches: leave out, and tell, the channels that can't be packed"
+                "repack --stretches: leave out, and report, the channels that can't be packed"
             }
             Named::Live => "serve: read the input while clients are served, many at once",
             Named::Clients => { "serve --live: how many clients to serve at once; by default 64" }
@@ -220,9 +221,13 @@ fn with_places<'a>(alloc: Global, command: Command<'a>) -> Result<Command<'a>, A
     ensures { IfOk result (λ c. app_of c ≡ with_rule (with_rule (app_of command.entry) word_rule) places_rule) }
 {
     let word = Arg::new(alloc, "command").help("audit, join, show, select, repack, serve or fetch");
-    let places = Arg::new(alloc, "place").action(ArgAction::Append).help(
-        "audit, join, show, select, repack: files; serve, fetch: further stations, NET_STA; of fetch also NET_STA:HEX",
-    );
+    let places = Arg::new(alloc, "place")
+        .value_name("file or station")
+        .action(ArgAction::Append)
+        .help(
+            "audit, join, show, select, repack: files; serve, fetch: further stations, NET_STA; \
+             of fetch also NET_STA:HEX",
+        );
     command.arg(word)?.arg(places)
 }
 
