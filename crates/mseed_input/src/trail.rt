@@ -25,17 +25,13 @@ enum End {
 }
 
 impl<A: Allocator> Trail<A> {
-    /// A trail of an input of which nothing came yet. In one that isn't an archive no record is looked for.
-    pub(crate) fn new(alloc: A, is_archive: bool) -> Trail<A> {
+    /// A trail of an input of which nothing came yet.
+    pub(crate) fn new(alloc: A) -> Trail<A> {
         Trail {
             held: Vec::new(alloc),
             header: 0,
             others: 0,
-            end: if is_archive {
-                None
-            } else {
-                Some(End::NoRecord)
-            },
+            end: None,
         }
     }
 

@@ -9,30 +9,41 @@ use std::alloc::{AllocError, Allocator, Global};
 pub struct Watched<R, A: Allocator = Global> {
     source: R,
     trail: Trail<A>,
+    // Whether records are looked for.
+    is_archive: bool,
 }
 
 impl<R: Source, A: Allocator> Watched<R, A> {
-    ghost use Rattle.std.specs.Prelude.{◌≡◌};
-    ghost use Rattle.mseed_input.specs.Watched.{source_of};
+    ghost use Rattle.std.specs.Prelude.{◌≡◌, Ok, false};
+    ghost use Rattle.mseed_input.specs.Watched.{follows_records, source_of};
 
     /// A source of which nothing was read yet. In one that isn't an archive, as a text of parts, no record is looked
     /// for.
     pub fn new(alloc: A, source: R, is_archive: bool) -> Watched<R, A>
-        ensures { source_of result ≡ source }
+        ensures source { source_of result ≡ source }
+        ensures follows { follows_records result ≡ is_archive }
     {
         Watched {
             source,
-            trail: Trail::new(alloc, is_archive),
+            trail: Trail::new(alloc),
+            is_archive,
         }
     }
 
-    /// The length in bytes of the last whole record that was read of the source: 0 where there was none.
+    /// The length in bytes of the last whole record that was read of the source: 0 where there was none, and where it
+    /// isn't an archive.
     ///
     /// # Errors
     ///
     /// Where there was no memory for the piece of a record that was read.
-    pub fn last_size(&self) -> Result<u64, AllocError> {
-        self.trail.last_size()
+    pub fn last_size(&self) -> Result<u64, AllocError>
+        ensures { follows_records self.now ≡ false → result ≡ Ok 0 }
+    {
+        if self.is_archive {
+            self.trail.last_size()
+        } else {
+            Ok(0)
+        }
     }
 }
 
@@ -49,7 +60,9 @@ impl<R: Source, A: Allocator> Source for Watched<R, A> {
 
     fn pull(&mut self, buf: &mut [u8]) -> Result<usize, Failed> {
         let count = self.source.pull(buf)?;
-        self.trail.follow(&buf[..count]);
+        if self.is_archive {
+            self.trail.follow(&buf[..count]);
+        }
         Ok(count)
     }
 
