@@ -5,7 +5,8 @@ use mseed_pack::Options;
 use mseed_record::RecordView;
 use mseed_repack::{
     ChannelFault, RepackFault, StretchesFault, repack, repack_channel, repack_selected,
-    repack_selected_stretches, repack_stretches, tell_broken, tell_misfit, tell_without_time,
+    misfit_number, repack_selected_stretches, repack_stretches, tell_broken, tell_misfit,
+    tell_without_time,
 };
 use mseed_select::Selector;
 use mseed_stream::Counted;
@@ -118,4 +119,12 @@ pub fn packed_by_stretches(
     let mut output = Counted::new(Vec::new(alloc));
     repack_channel(alloc, records, options, &mut output)?;
     Ok(output.into_inner())
+}
+
+/// The number by which the line says why an archive isn't packed, where a channel can't be.
+pub fn number_of_reason(fault: &RepackFault) -> Option<u64> {
+    match fault {
+        RepackFault::Misfit(_, fault) => Some(misfit_number(*fault)),
+        _ => None,
+    }
 }
