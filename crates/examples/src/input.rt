@@ -1,8 +1,8 @@
 //! Calls of `mseed_input`.
 use mseed_files::{Chain, Named};
 use mseed_input::{
-    Blame, Watched, blame_by, blame_of, tell_blame, tell_no_memory, tell_unreadable, texts_of,
-    word_of,
+    Blame, Watched, blame_by, blame_of, report_fault, report_number, tell_blame, tell_no_memory,
+    tell_unreadable, texts_of, word_of,
 };
 use mseed_stream::{Sink, Source, StreamFault};
 use std::alloc::{AllocError, Global};
@@ -62,4 +62,10 @@ pub fn tell_unread<E: Sink>(
         Ok(false) => tell_unreadable(alloc, errors, word),
         Err(AllocError) => tell_no_memory(errors),
     }
+}
+
+/// Reports the fault with which an input ended, and how many bytes stand before it.
+pub fn report_end<E: Sink>(fault: &StreamFault, before: u64, errors: &mut E) {
+    report_fault(errors, fault);
+    report_number(errors, b"mseed: ", before, b" bytes are read\n");
 }

@@ -3,6 +3,7 @@
 
 pub mod audits;
 pub mod feed;
+pub mod feed_commands;
 pub mod files;
 pub mod input;
 pub mod join;

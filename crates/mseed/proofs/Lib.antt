@@ -1,6 +1,4 @@
 pub mod Asking
 pub mod Encodings
-pub mod Fills
-pub mod OneFilling
-pub mod Numbered
 mod Lines
+mod Requests

@@ -9,7 +9,3 @@ pub mod Selected
 pub mod Streams
 pub mod OfRecords
 pub mod Run
-pub mod Filling
-pub mod Plans
-pub mod Live
-pub mod private

@@ -16,11 +16,9 @@ use Rattle.mseed_input.specs.declared.blame.Blame.TheVariants.{Nothing}
 use Rattle.mseed.specs.declared.outcome.Ended.{Ended}
 
 -- the line about a channel that can't be packed
-abbrev pub reason_text : PackFault → List ℕ
-reason_text fault = codes " does not fit " ++ decimal (misfit_number fault) ++ codes "\n"
-
 abbrev pub misfit_text : List ℕ → PackFault → List ℕ
-misfit_text key fault = codes "mseed: " ++ name_text key ++ reason_text fault
+misfit_text key fault =
+    codes "mseed: " ++ name_text key ++ codes " does not fit " ++ decimal (misfit_number fault) ++ codes "\n"
 
 -- the line of a fault
 abbrev pub refusal_text : RepackFault → List ℕ

@@ -1,5 +1,5 @@
-//! The command line.
-ghost use Rattle.std.specs.Prelude.{◌≡◌, ℕ, IfOk, List, map, Option, option_map, true};
+//! The command line: what its arguments request, and what is done with an input.
+ghost use Rattle.std.specs.Prelude.{◌≡◌, ℕ, IfOk, List, map, None, OnOk, Option, option_map, Some, true};
 ghost use Rattle.mseed_input.specs.Files.{no_memory};
 ghost use Rattle.mseed_join.specs.declared.joining.Form.{Form};
 ghost use Rattle.mseed_select.specs.Selecting.{selection_of};
@@ -10,35 +10,39 @@ ghost use Rattle.mseed_words.specs.Files.{takes_files};
 ghost use Rattle.mseed_words.specs.Words.{AreRefused, AsksFor, AsksForNothing, CanBeCalled};
 ghost use Rattle.mseed_words.specs.declared.request.Request.{Request};
 ghost use Rattle.mseed.specs.Asked.{HasRefusedRequest, HasRefusedWords, IsAsked, UnlessMemoryLacks};
-ghost use Rattle.mseed.specs.Done.{EndsRefused, bad_value};
+ghost use Rattle.mseed.specs.Done.{EndsRefused};
 ghost use Rattle.mseed.specs.Outcome.{write_failed};
 ghost use Rattle.mseed.specs.Repacked.{AreOptionsOf};
 ghost use Rattle.mseed.specs.Run.{HasCarriedOut, HasJoined};
+ghost use Rattle.mseed.specs.Selected.{everything};
 ghost use Rattle.mseed.specs.Streams.{streams};
 
-use crate::asked::{
-    audit_asked, audit_each_asked, repack_asked, restretch_asked, select_asked, show_asked,
+use crate::ending::{
+    audited, audited_each, audited_each_some, audited_some, joined, repacked, restretched,
+    selected, shown, shown_some,
 };
-use crate::ending::{audited, audited_each, joined};
 use crate::outcome::{BAD_COMMAND, Ended};
+use mseed_audit::{audit, audit_each, audit_each_selected, audit_selected};
 use mseed_input::tell_no_memory;
 use mseed_join::{Form, audit_part, audit_part_each, join, join_each};
 use mseed_pack::Options;
-use mseed_select::Selector;
+use mseed_repack::{repack, repack_selected, repack_selected_stretches, repack_stretches};
+use mseed_select::{Selector, select};
+use mseed_show::{show, show_selected};
 use mseed_stream::{Sink, Source, report};
 use mseed_words::{Command, Joining, Packing, Refusal, Request};
 use slink_links::FAULT;
 use std::alloc::{Allocator, Global};
 
-/// Reads the words of the command line, those after the program's name, and answers the command that they ask for: what
-/// it does, with which records, and of which files. Where they request nothing a line on `errors` says why. The input
-/// and the output are lent so that a contract can say that they are left alone until the words are understood.
+/// Reads the arguments of the command line, and returns the command that they request: what it does, with which
+/// records, and of which files. Where they request nothing, a line on `errors` says why. The input and the output are
+/// lent so that a contract can say that they are left alone until the arguments are understood.
 ///
 /// # Errors
 ///
-/// The exit status, after the line on `errors`: 3 where the words aren't those of a command line (the line is the text
-/// of the parser, which is also the help and the version) or ask for nothing that there is, and 2 where there was no
-/// memory for them.
+/// The exit status, after the line on `errors`: 3 where the arguments aren't those of a command line (the line is the
+/// text of the parser, which is also the help and the version) or request nothing that there is, and 2 where there was
+/// no memory for them.
 #[tactic(auto, using(crate::proofs::Asking::asked_is))]
 pub fn command_of<'a, R: Source, W: Sink, E: Sink>(
     alloc: Global,
@@ -55,6 +59,7 @@ pub fn command_of<'a, R: Source, W: Sink, E: Sink>(
     ensures refused { AreRefused (map (λ word. word.now) words.entry.now)
         → UnlessMemoryLacks HasRefusedWords result (E.written errors.old) (E.written errors.new) }
     ensures range { IfOk result (λ command. CanBeCalled command.request) }
+    ensures silent { OnOk result (E.written errors.new ≡ E.written errors.old) }
     ensures unread { R.read input.new ≡ R.read input.old }
     ensures unwritten { W.written output.new ≡ W.written output.old }
 {
@@ -64,8 +69,8 @@ pub fn command_of<'a, R: Source, W: Sink, E: Sink>(
     }
 }
 
-/// Carries out what is requested of an input of which nothing was read yet, with the records that are asked for, and
-/// answers how that ended. An allocator that refuses can be lent.
+/// Carries out a command with an input of which nothing was read yet, and returns how that ended. An allocator that
+/// refuses can be lent.
 ///
 /// `audit` writes the audit of the records of `input` to `output`: status 0 where every channel is continuous, 1 where
 /// one is broken, and 2 where the input ended with a fault, which the text names, or where the text couldn't be written
@@ -81,45 +86,125 @@ pub fn command_of<'a, R: Source, W: Sink, E: Sink>(
 /// says so.
 pub fn run<A: Allocator + Copy, R: Source, W: Sink, E: Sink>(
     alloc: A,
-    request: Request,
-    selector: &Option<Selector<'_>>,
+    command: &Command<'_>,
     input: &mut R,
     output: &mut W,
     errors: &mut E,
 ) -> Ended
     requires unread { R.read input.old ≡ nothing_read }
-    requires called { CanBeCalled request }
-    requires reads { takes_files request ≡ true }
-    ensures called { HasCarriedOut request (option_map selection_of selector.now) result
+    requires called { CanBeCalled command.now.request }
+    requires reads { takes_files command.now.request ≡ true }
+    ensures called { HasCarriedOut command.now.request (option_map selection_of command.now.selector) result
+        (streams (R.read input.old) (W.written output.old) (E.written errors.old))
+        (streams (R.read input.new) (W.written output.new) (E.written errors.new)) }
+{
+    match &command.selector {
+        None => run_over_all(alloc, &command.request, input, output, errors),
+        Some(selector) => {
+            run_over_some(alloc, &command.request, selector, input, output, errors)
+        }
+    }
+}
+
+/// Carries out a request with all records of an input, and returns how that ended.
+fn run_over_all<A: Allocator + Copy, R: Source, W: Sink, E: Sink>(
+    alloc: A,
+    request: &Request,
+    input: &mut R,
+    output: &mut W,
+    errors: &mut E,
+) -> Ended
+    requires unread { R.read input.old ≡ nothing_read }
+    requires called { CanBeCalled request.now }
+    requires reads { takes_files request.now ≡ true }
+    ensures called { HasCarriedOut request.now None result
         (streams (R.read input.old) (W.written output.old) (E.written errors.old))
         (streams (R.read input.new) (W.written output.new) (E.written errors.new)) }
 {
     match request {
-        Request::Audit => audit_asked(alloc, selector, input, output, errors),
-        Request::AuditEach => audit_each_asked(alloc, selector, input, output, errors),
+        Request::Audit => audited(audit(alloc, input, output), errors),
+        Request::AuditEach => audited_each(audit_each(alloc, input, output), errors),
         Request::AuditPart => audited(audit_part(alloc, input, output), errors),
         Request::AuditPartEach => audited_each(audit_part_each(alloc, input, output), errors),
-        Request::Join(by) => joined_as(alloc, Form::Audit, by, input, output, errors),
+        Request::Join(by) => joined_as(alloc, Form::Audit, *by, input, output, errors),
         Request::JoinEach(by) => {
             let outcome = join_each(alloc, by.past_faults, by.expected, input, output, errors);
             joined(outcome, errors)
         }
-        Request::JoinPart(by) => joined_as(alloc, Form::Part, by, input, output, errors),
-        Request::Show => show_asked(alloc, selector, input, output, errors),
-        Request::Select => select_asked(alloc, selector, input, output, errors),
+        Request::JoinPart(by) => joined_as(alloc, Form::Part, *by, input, output, errors),
+        Request::Show => shown(show(alloc, input, output), errors),
+        Request::Select => selected(select(alloc, &all_records(), input, output), errors),
         Request::Repack(packing) => {
-            let options = options_of(packing);
-            repack_asked(alloc, &options, selector, input, output, errors)
+            let options = options_of(*packing);
+            repacked(repack(alloc, &options, input, output), errors)
         }
         Request::RepackStretches { packing, leave } => {
-            let options = options_of(packing);
-            restretch_asked(alloc, &options, leave, selector, input, output, errors)
+            let options = options_of(*packing);
+            let outcome = repack_stretches(alloc, &options, *leave, input, output, errors);
+            restretched(outcome, errors)
         }
         Request::Serve(_) | Request::Live(_) | Request::Fetch(_) => unreachable!(),
     }
 }
 
-/// Joins parts to the text of an audit, or to a part, and answers how joining ended.
+/// Carries out a request with the records of an input that are asked for, and returns how that ended. Parts are made
+/// and joined of all records.
+fn run_over_some<A: Allocator + Copy, R: Source, W: Sink, E: Sink>(
+    alloc: A,
+    request: &Request,
+    selector: &Selector<'_>,
+    input: &mut R,
+    output: &mut W,
+    errors: &mut E,
+) -> Ended
+    requires unread { R.read input.old ≡ nothing_read }
+    requires called { CanBeCalled request.now }
+    requires reads { takes_files request.now ≡ true }
+    ensures called { HasCarriedOut request.now (Some (selection_of selector.now)) result
+        (streams (R.read input.old) (W.written output.old) (E.written errors.old))
+        (streams (R.read input.new) (W.written output.new) (E.written errors.new)) }
+{
+    match request {
+        Request::Audit => {
+            let outcome = audit_selected(alloc, selector, input, output);
+            audited_some(outcome, errors)
+        }
+        Request::AuditEach => {
+            let outcome = audit_each_selected(alloc, selector, input, output);
+            audited_each_some(outcome, errors)
+        }
+        Request::Show => {
+            let outcome = show_selected(alloc, selector, input, output);
+            shown_some(outcome, errors)
+        }
+        Request::Select => selected(select(alloc, selector, input, output), errors),
+        Request::Repack(packing) => {
+            let options = options_of(*packing);
+            let outcome = repack_selected(alloc, selector, &options, input, output, errors);
+            repacked(outcome, errors)
+        }
+        Request::RepackStretches { packing, leave } => {
+            let options = options_of(*packing);
+            let outcome = repack_selected_stretches(
+                alloc, selector, &options, *leave, input, output, errors,
+            );
+            restretched(outcome, errors)
+        }
+        _ => run_over_all(alloc, request, input, output, errors),
+    }
+}
+
+/// What asks for all records.
+fn all_records<'a>() -> Selector<'a>
+    ensures { selection_of result ≡ everything }
+{
+    match Selector::new(None, None, None) {
+        Ok(all) => all,
+        Err(_) => unreachable!(),
+    }
+}
+
+/// Joins parts to the text of an audit, or to a part, and returns how joining ended.
 fn joined_as<A: Allocator + Copy, R: Source, W: Sink, E: Sink>(
     alloc: A,
     form: Form,
@@ -156,7 +241,7 @@ fn options_of(packing: Packing) -> Options
     }
 }
 
-/// Says that the output failed.
+/// Reports that the output failed, and returns the exit status.
 pub fn write_failed<E: Sink>(errors: &mut E) -> u8
     ensures status { result ≡ 2 }
     ensures reported { Tells write_failed (E.written errors.old) (E.written errors.new) }
@@ -165,30 +250,27 @@ pub fn write_failed<E: Sink>(errors: &mut E) -> u8
     FAULT
 }
 
-/// Says why the words of the command line request nothing, and answers the exit status.
+/// Reports why the arguments of the command line request nothing, and returns the exit status.
 fn refuse<E: Sink>(errors: &mut E, refusal: &Refusal) -> u8
     ensures { EndsRefused refusal.now result (E.written errors.old) (E.written errors.new) }
 {
     match refusal {
-        Refusal::Text(text) => {
-            report(errors, text.as_bytes());
-            BAD_COMMAND
-        }
-        Refusal::NoRequest => refuse_words(errors),
+        Refusal::Text(text) => refuse_line(errors, text.as_bytes()),
+        Refusal::NoRequest => refuse_line(errors, b"mseed: bad value\n"),
         Refusal::Memory => refuse_memory(errors),
     }
 }
 
-/// Says that the words of the command line ask for nothing that there is, or aren't UTF-8.
-pub fn refuse_words<E: Sink>(errors: &mut E) -> u8
+/// Reports a bad command line, and returns the exit status.
+fn refuse_line<E: Sink>(errors: &mut E, line: &[u8]) -> u8
     ensures status { result ≡ 3 }
-    ensures reported { Tells bad_value (E.written errors.old) (E.written errors.new) }
+    ensures reported { Tells line.now (E.written errors.old) (E.written errors.new) }
 {
-    report(errors, b"mseed: bad value\n");
+    report(errors, line);
     BAD_COMMAND
 }
 
-/// Says that memory was refused: to a command, or for the words of the command line.
+/// Reports that memory was refused, to a command or for the arguments of the command line, and returns the exit status.
 pub fn refuse_memory<E: Sink>(errors: &mut E) -> u8
     ensures status { result ≡ 2 }
     ensures reported { Tells no_memory (E.written errors.old) (E.written errors.new) }

@@ -12,11 +12,9 @@ ghost use Rattle.mseed.specs.Selected.{untimed_lines};
 use crate::blame::{join_blame, packing_blame, stretches_blame};
 use crate::command::{refuse_memory, write_failed};
 use crate::outcome::{BROKEN, Ended};
-use crate::refusal::{
-    refuse_to_join, refuse_to_repack, refuse_to_stretch, tell_fault, tell_number,
-};
+use crate::refusal::{refuse_input, refuse_to_join, refuse_to_repack, refuse_to_stretch};
 use mseed_audit::{AuditFault, EachFault, SelectedSummary, Summary};
-use mseed_input::{blame_by, blame_of};
+use mseed_input::{blame_by, blame_of, report_number};
 use mseed_join::{Joined, JoinsFault};
 use mseed_repack::{Left, RepackFault, StretchesFault};
 use mseed_select::{SelectFault, Selected};
@@ -24,7 +22,7 @@ use mseed_show::{ShowFault, Shown};
 use mseed_stream::{Sink, StreamFault};
 use slink_links::{DONE, FAULT};
 
-/// Says why not all of an audit was written, and answers how it ended. A fault of the input is in the text.
+/// Reports why not all of an audit was written, and returns how it ended. A fault of the input is in the text.
 pub fn audited<E: Sink>(outcome: Result<Summary, AuditFault>, errors: &mut E) -> Ended
     ensures { EndsAudit outcome result (E.written errors.old) (E.written errors.new) }
 {
@@ -35,8 +33,8 @@ pub fn audited<E: Sink>(outcome: Result<Summary, AuditFault>, errors: &mut E) ->
     }
 }
 
-/// Says why not all of an audit that reports each finding was written, and answers how it ended. A fault of the input
-/// is in the text.
+/// Reports why not all of an audit with a line for each finding was written, and returns how it ended. A fault of the
+/// input is in the text.
 pub fn audited_each<E: Sink>(outcome: Result<Summary, EachFault>, errors: &mut E) -> Ended
     ensures { EndsEach outcome result (E.written errors.old) (E.written errors.new) }
 {
@@ -47,7 +45,7 @@ pub fn audited_each<E: Sink>(outcome: Result<Summary, EachFault>, errors: &mut E
     }
 }
 
-/// Says why parts weren't joined, and answers how joining ended.
+/// Reports why parts weren't joined, and returns how joining ended.
 pub fn joined<E: Sink>(outcome: Result<Joined, JoinsFault>, errors: &mut E) -> Ended
     ensures { EndsJoin outcome result (E.written errors.old) (E.written errors.new) }
 {
@@ -71,8 +69,8 @@ fn ended_by(summary: &Summary) -> Ended
     }
 }
 
-/// Says how many records lack a time, and why not all of the audit of the records that are asked for was written, and
-/// answers how it ended. A fault of the input is in the text.
+/// Reports how many records lack a time, and why not all of an audit of the records that are asked for was written,
+/// and returns how it ended. A fault of the input is in the text.
 pub fn audited_some<E: Sink>(outcome: Result<SelectedSummary, AuditFault>, errors: &mut E) -> Ended
     ensures { EndsSelectedAudit outcome result (E.written errors.old) (E.written errors.new) }
 {
@@ -86,8 +84,8 @@ pub fn audited_some<E: Sink>(outcome: Result<SelectedSummary, AuditFault>, error
     }
 }
 
-/// Says how many records lack a time, and why not all of an audit was written that reports each finding of the records
-/// that are asked for, and answers how it ended. A fault of the input is in the text.
+/// Reports how many records lack a time, and why not all of an audit with a line for each finding of the records that
+/// are asked for was written, and returns how it ended. A fault of the input is in the text.
 pub fn audited_each_some<E: Sink>(
     outcome: Result<SelectedSummary, EachFault>,
     errors: &mut E,
@@ -117,7 +115,7 @@ fn verdict_status(fault: bool, broken: u64) -> u8
     }
 }
 
-/// Says why not all of a listing was written, and answers how it ended. A fault of the input is in the listing.
+/// Reports why not all of a listing was written, and returns how it ended. A fault of the input is in the listing.
 pub fn shown<E: Sink>(outcome: Result<Option<StreamFault>, ShowFault>, errors: &mut E) -> Ended
     ensures { EndsShow outcome result (E.written errors.old) (E.written errors.new) }
 {
@@ -128,8 +126,8 @@ pub fn shown<E: Sink>(outcome: Result<Option<StreamFault>, ShowFault>, errors: &
     }
 }
 
-/// Says how many records lack a time, and why not all of the listing of the records that are asked for was written, and
-/// answers how it ended. A fault of the input is in the listing.
+/// Reports how many records lack a time, and why not all of a listing of the records that are asked for was written,
+/// and returns how it ended. A fault of the input is in the listing.
 pub fn shown_some<E: Sink>(outcome: Result<Shown, ShowFault>, errors: &mut E) -> Ended
     ensures { EndsSelectedShow outcome result (E.written errors.old) (E.written errors.new) }
 {
@@ -157,7 +155,7 @@ fn ended_at(end: &Option<StreamFault>) -> Ended
     }
 }
 
-/// Says why an archive wasn't packed anew, and answers how packing ended.
+/// Reports why an archive wasn't packed anew, and returns how packing ended.
 pub fn repacked<E: Sink>(outcome: Result<(), RepackFault>, errors: &mut E) -> Ended
     ensures { EndsRepack outcome result (E.written errors.old) (E.written errors.new) }
 {
@@ -170,7 +168,7 @@ pub fn repacked<E: Sink>(outcome: Result<(), RepackFault>, errors: &mut E) -> En
     }
 }
 
-/// Says why an archive wasn't packed anew by stretches, and answers how packing ended: what was left out counts.
+/// Reports why an archive wasn't packed anew by stretches, and returns how packing ended: what was left out counts.
 pub fn restretched<E: Sink>(outcome: Result<Left, StretchesFault>, errors: &mut E) -> Ended
     ensures { EndsStretches outcome result (E.written errors.old) (E.written errors.new) }
 {
@@ -185,7 +183,7 @@ pub fn restretched<E: Sink>(outcome: Result<Left, StretchesFault>, errors: &mut 
     }
 }
 
-/// Says what of a selection isn't in its records, and answers how it ended.
+/// Reports what of a selection isn't in its records, and returns how it ended.
 pub fn selected<E: Sink>(outcome: Result<Selected, SelectFault>, errors: &mut E) -> Ended
     ensures { EndsSelect outcome result (E.written errors.old) (E.written errors.new) }
 {
@@ -196,7 +194,7 @@ pub fn selected<E: Sink>(outcome: Result<Selected, SelectFault>, errors: &mut E)
     }
 }
 
-/// Says how many of the records lack a time, and with what fault the input ended, if with one.
+/// Reports how many of the records lack a time, and with what fault the input ended, if with one.
 #[tactic(auto, using(crate::proofs::Lines::both_told))]
 fn selected_to<E: Sink>(selected: Selected, errors: &mut E) -> Ended
     ensures { EndsSelect (Ok selected) result (E.written errors.old) (E.written errors.new) }
@@ -209,22 +207,22 @@ fn selected_to<E: Sink>(selected: Selected, errors: &mut E) -> Ended
     }
 }
 
-/// Says how many records lack a time, where some do.
+/// Reports how many records lack a time, where some do.
 fn tell_untimed<E: Sink>(count: u64, errors: &mut E)
     ensures { TellsLines (untimed_lines count) (E.written errors.old) (E.written errors.new) }
 {
     if count > 0 {
-        tell_number(errors, b"mseed: ", count, b" records without a time\n");
+        report_number(errors, b"mseed: ", count, b" records without a time\n");
     }
 }
 
-/// Says with what fault an input ended, if with one, and answers the exit status.
+/// Reports with what fault an input ended, if with one, and returns the exit status.
 fn tell_end<E: Sink>(end: &Option<StreamFault>, errors: &mut E) -> u8
     ensures status { result ≡ end_status end.now }
     ensures lines { TellsLines (end_lines end.now) (E.written errors.old) (E.written errors.new) }
 {
     match end {
         None => DONE,
-        Some(fault) => tell_fault(errors, fault),
+        Some(fault) => refuse_input(errors, fault),
     }
 }

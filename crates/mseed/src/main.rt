@@ -2,26 +2,23 @@
 //! and fetches their records.
 #![tactic(auto)]
 
-mod asked;
 mod blame;
 mod command;
 mod ending;
 mod files;
-mod filling;
-mod live;
 mod outcome;
-mod planning;
 mod refusal;
 
 use command::{command_of, refuse_memory};
-use files::{run_over_files, run_over_input, serve_input};
+use files::{ROOM, run_over_files, run_over_input};
+use mseed_feed::{fetch, serve, serve_live_tcp};
 use mseed_files::words_of;
 use mseed_input::texts_of;
-use mseed_stream::{Counted, Sink};
+use mseed_stream::{Buffered, Counted, Sink};
 use mseed_words::Request;
-use planning::plan_fetch;
 use std::alloc::{AllocError, Global};
 use std::io;
+use std::io::BufReader;
 use std::process::ExitCode;
 
 fn main(rt: HostRuntime) -> ExitCode {
@@ -33,13 +30,13 @@ fn main(rt: HostRuntime) -> ExitCode {
     ExitCode::from(status)
 }
 
-/// Runs the command with the words of the command line over the standard streams, and answers the exit status. What
-/// the command needs is asked for once it is known what the words request: a server of records that come, and a client,
-/// have no buffer for an input. No clause says what the system gives: this is only tested.
+/// Does what the arguments of the command line request, over the standard streams, and returns the exit status. A buffer
+/// for an input is made once it is known that one is read: a server of records that come, and a client, have none. No
+/// clause says what the system gives: this is only tested.
 ///
 /// # Errors
 ///
-/// Where there was no room for the words or a buffer. Nothing was read or written then.
+/// Where there was no room for the arguments or a buffer. Nothing was read or written then.
 fn run_with_words<E: Sink>(rt: &HostRuntime, errors: &mut E) -> io::Result<u8> {
     let words = words_of(rt)?;
     let texts = texts_of(rt.alloc(), &words)?;
@@ -51,25 +48,26 @@ fn run_with_words<E: Sink>(rt: &HostRuntime, errors: &mut E) -> io::Result<u8> {
         Err(status) => return Ok(status),
     };
     match &command.request {
-        Request::Serve(serving) => serve_input(rt, serving, errors),
-        Request::Live(live) => Ok(live::serve(rt, rt.alloc(), live, rt.stdin(), errors)),
-        Request::Fetch(fetching) => {
-            Ok(slink_links::fetch(rt, &mut plan_fetch(fetching), &mut output, errors))
+        Request::Serve(serving) => {
+            let input = Buffered::new(BufReader::with_capacity(rt.alloc(), ROOM, rt.reader())?);
+            Ok(serve(rt, rt.alloc(), serving, input, errors))
         }
-        _ if command.files.is_empty() => run_over_input(rt, command, &mut output, errors),
-        _ => run_over_files(rt, command, &words, &mut output, errors),
+        Request::Live(live) => Ok(serve_live_tcp(rt, rt.alloc(), live, rt.stdin(), errors)),
+        Request::Fetch(fetching) => Ok(fetch(rt, fetching, &mut output, errors)),
+        _ if command.files.is_empty() => run_over_input(rt, &command, &mut output, errors),
+        _ => run_over_files(rt, &command, &words, &mut output, errors),
     }
 }
 
-/// The words, lent.
+/// The texts, lent.
 ///
 /// # Errors
 ///
 /// Where there was no room for them.
-fn lend<'a>(alloc: Global, words: &'a [String]) -> Result<Vec<&'a str>, AllocError> {
+fn lend<'a>(alloc: Global, texts: &'a [String]) -> Result<Vec<&'a str>, AllocError> {
     let mut lent = Vec::new(alloc);
-    for word in words {
-        lent.push(word.as_str())?;
+    for text in texts {
+        lent.push(text.as_str())?;
     }
     Ok(lent)
 }

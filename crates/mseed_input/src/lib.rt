@@ -7,12 +7,14 @@
 #![tactic(auto)]
 
 mod blame;
+mod lines;
 mod naming;
 mod texts;
 mod trail;
 mod watched;
 
 pub use blame::{Blame, blame_by, blame_of};
-pub use naming::{tell_blame, tell_no_memory, tell_unreadable};
+pub use lines::{report_fault, report_number, tell_no_memory};
+pub use naming::{tell_blame, tell_unreadable};
 pub use texts::{texts_of, word_of};
 pub use watched::Watched;

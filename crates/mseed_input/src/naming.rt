@@ -5,6 +5,7 @@ ghost use Rattle.mseed_input.specs.Files.{cannot_read, fault_in, last_of, no_mem
 ghost use Rattle.mseed_stream.specs.Telling.{Tells};
 
 use crate::blame::Blame;
+use crate::lines::tell_no_memory;
 use mseed_files::{Chain, Open, Place};
 use mseed_stream::{Sink, report};
 use mseed_text::Line;
@@ -139,13 +140,6 @@ pub fn tell_unreadable<E: Sink>(alloc: Global, errors: &mut E, word: &[u8])
     ensures { TellsName (cannot_read word.now) (E.written errors.old) (E.written errors.new) }
 {
     tell_named(alloc, errors, b"mseed: cannot read ", word, b"\n");
-}
-
-/// Says that memory was refused: to a command, or for the words of the command line.
-pub fn tell_no_memory<E: Sink>(errors: &mut E)
-    ensures { Tells no_memory (E.written errors.old) (E.written errors.new) }
-{
-    report(errors, b"mseed: no memory\n");
 }
 
 /// Says that a fault lies in the file that a word names, after so many bytes of it.

@@ -11,6 +11,6 @@ some (suc n) h = refl
 pub returns-then-count-gt0 : goal.returns-then-count-gt0
 returns-then-count-gt0 g c =
     let old : BytesWritten = g.E.Sink.written c.args.errors.now in
-    let new : BytesWritten = g.E.Sink.written c.tell_number.new.errors in
+    let new : BytesWritten = g.E.Sink.written c.report_number.new.errors in
     subst (λ (lines : List (List ℕ)). TellsLines lines old new) (sym (some c.args.count c.if-count-gt0.true))
-    c.tell_number.ensures.reported
+    c.report_number.ensures

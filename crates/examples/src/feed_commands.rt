@@ -1,0 +1,90 @@
+//! Calls of `mseed_feed`.
+ghost use Rattle.std.specs.Prelude.{◌≡◌, []};
+ghost use Rattle.mseed_stream.specs.Device.{nothing_read};
+ghost use Rattle.mseed_words.specs.FeedWords.{CanFetch, CanServe, CanServeLive};
+
+use mseed_feed::{Device, fetch, plan_fetch, plan_serve, serve, serve_live, serve_live_tcp};
+use mseed_stream::{Buffered, Sink, Source};
+use mseed_words::{Fetching, LiveServing, Serving};
+use std::alloc::Global;
+use std::io;
+use std::io::{BufReader, Read};
+use std::net::Net;
+use std::os::fd::AsRawFd;
+use std::time::Clock;
+
+/// How many connections are to be served with the records of an input: none where they aren't all of the stations.
+pub fn connections_planned<R: Source, E: Sink>(
+    alloc: Global,
+    serving: &Serving,
+    input: &mut R,
+    errors: &mut E,
+) -> u32
+    requires unread { R.read input.old ≡ nothing_read }
+    requires called { CanServe serving.now }
+{
+    match plan_serve(alloc, serving, input, errors) {
+        Ok(plan) => plan.connections,
+        Err(_) => 0,
+    }
+}
+
+/// Serves what a reader gives, and answers the exit status.
+pub fn serve_reader<N: Net + Clock, T: Read + Drop, E: Sink>(
+    host: &N,
+    alloc: Global,
+    serving: &Serving,
+    reader: T,
+    errors: &mut E,
+) -> io::Result<u8>
+    requires { CanServe serving.now }
+{
+    let input = Buffered::new(BufReader::new(alloc, reader)?);
+    Ok(serve(host, alloc, serving, input, errors))
+}
+
+/// Serves what an input gives while it comes, and answers whether all went well.
+pub fn has_served_live<N: Net + Clock, I: Read + AsRawFd + Drop, E: Sink>(
+    host: &N,
+    alloc: Global,
+    live: &LiveServing,
+    input: I,
+    errors: &mut E,
+) -> bool
+    requires { CanServeLive live.now }
+{
+    serve_live_tcp(host, alloc, live, input, errors) == 0
+}
+
+/// Serves over a device, and answers whether that failed meanwhile.
+pub fn has_failed_serving<R: Device, E: Sink>(
+    alloc: Global,
+    live: &LiveServing,
+    ready: &mut R,
+    errors: &mut E,
+) -> bool
+    requires new { R.log ready.old ≡ [] }
+    requires called { CanServeLive live.now }
+{
+    serve_live(alloc, live, ready, errors);
+    ready.has_failed()
+}
+
+/// How many connections are tried at most.
+pub fn tries_planned(fetching: &Fetching) -> u32
+    requires { CanFetch fetching.now }
+{
+    plan_fetch(fetching).tries
+}
+
+/// Fetches what is requested, and answers whether the server said that there are no more records.
+pub fn has_fetched_all<N: Net + Clock, W: Sink, E: Sink>(
+    host: &N,
+    fetching: &Fetching,
+    output: &mut W,
+    errors: &mut E,
+) -> bool
+    requires { CanFetch fetching.now }
+{
+    fetch(host, fetching, output, errors) == 0
+}

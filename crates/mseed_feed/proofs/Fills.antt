@@ -1,0 +1,340 @@
+-- The rings of a feed, record after record.
+use Rattle.std.proofs.Common.{◌≡◌, ◌≢◌, ℕ, ◌+◌, ◌<◌, ◌≤◌, ◌^◌, inl, inr, zero, suc, refl, sym, ap, subst, ◌∙◌, arith}
+use Rattle.std.proofs.Common.{Bool, true, false, ◌&&◌, ◌||◌, not, List, [], ◌∷◌, ◌++◌, length, append-nil}
+use Rattle.std.proofs.Common.{if◌then◌else◌, ◌-◌, map, get_or, take, take_all, Option, Some, None, Result}
+use Rattle.std.proofs.Common.{Ok, Err, IfErr, OnErr, OnOk, slice_get, bytes_eq, IsErrAnd}
+use Rattle.std.specs.List.{filter}
+use Rattle.std.proofs.lemmas.List.{length-map, map-append, map_more}
+use Rattle.std.proofs.lemmas.Option.{slice_get_read}
+use Rattle.std.proofs.lemmas.List.Elements.{filter-append}
+use Rattle.std.proofs.lemmas.Slice.Eq.{bytes_eq-Decides}
+use Rattle.mseed_record.specs.View.{View}
+use Rattle.mseed_record.specs.Viewing.{view_of}
+use Rattle.mseed_record.specs.declared.view.RecordView.{RecordView}
+use Rattle.mseed_stream.specs.Device.{BytesRead}
+use Rattle.mseed_stream.specs.Standing.{Standing}
+use Rattle.mseed_stream.specs.Cutting.{IfEnds, failed_by}
+use Rattle.mseed_stream.specs.Walk.{AreAllViews, HasHandedOut, IfGoesOn, bytes_in}
+use Rattle.mseed_stream.specs.declared.fault.StreamFault.{StreamFault}
+use Rattle.mseed_stream.specs.declared.fault.StreamFault.TheVariants.{Frame, Truncated, Read, Turns, Memory}
+use Rattle.slink_wire.specs.Place.{Bears, Fields}
+use Rattle.slink_wire.proofs.Bearing.{bears_fails, one_place, passes_bears}
+use Rattle.slink_wire.proofs.Cuts.{both}
+use Rattle.slink_feed.specs.Intake.{IsOfFeed, is_of, places_of, pushed}
+use Rattle.slink_feed.specs.Rings.{HasPlace}
+use Rattle.slink_feed.specs.Window.{Shows, Window, window, with_record}
+use Rattle.slink_feed.specs.declared.input.InputFault.{InputFault}
+use Rattle.slink_feed.specs.declared.input.InputFault.TheVariants.{Stream, Foreign}
+use Rattle.slink_feed.proofs.Items.{drop_none, get_mapped, map_got, shows_more}
+use Rattle.mseed_words.specs.Places.{Called, are_different, has_place, is_same}
+use Rattle.mseed_words.specs.FeedWords.{CanServe}
+use Rattle.mseed_words.specs.declared.request.Serving.{Serving}
+use Rattle.mseed_feed.specs.Filling.{AreOfFeed, IsFilling, feed_of, records_of, ring_of, served}
+use Rattle.mseed_feed.specs.private.Pushing.{IsNextPushed}
+use Rattle.mseed_feed.specs.declared.filling.Step.{Step}
+use Rattle.mseed_feed.specs.declared.filling.Step.TheVariants.{Pushed}
+
+records_taken : (p : Fields) (rs : List (List ℕ)) (r : List ℕ) → is_of p r ≡ true
+    → records_of p (rs ++ r ∷ []) ≡ records_of p rs ++ r ∷ []
+records_taken p rs r is = filter-append (is_of p) rs (r ∷ [])
+    ∙ ap (λ (t : Bool). records_of p rs ++ (if t then r ∷ [] else [])) is
+
+records_left : (p : Fields) (rs : List (List ℕ)) (r : List ℕ) → is_of p r ≡ false
+    → records_of p (rs ++ r ∷ []) ≡ records_of p rs
+records_left p rs r is =
+    filter-append (is_of p) rs (r ∷ [])
+    ∙ (ap (λ (t : Bool). records_of p rs ++ (if t then r ∷ [] else [])) is
+    ∙ append-nil (records_of p rs))
+
+-- the ring of a place, by its records
+abbrev with_list : Serving → Fields → List (List ℕ) → Window
+with_list s p rs = record {
+  place = p;
+  capacity = s.capacity;
+  records = window s.capacity rs;
+  next = s.first + length rs;
+}
+
+ring_taken : (s : Serving) (rs : List (List ℕ)) (r : List ℕ) (p : Fields) → is_of p r ≡ true
+    → with_record (ring_of s rs p) r ≡ ring_of s (rs ++ r ∷ []) p
+ring_taken s rs r p is =
+    let old : Window = ring_of s rs p in
+    let more : Shows (with_record old r) s.first (records_of p rs ++ r ∷ []) =
+    shows_more old s.first (records_of p rs) r (record { records = refl; next = refl }) in
+    ap (λ (xs : List (List ℕ)). record {
+      place = p;
+      capacity = s.capacity;
+      records = xs;
+      next = (with_record old r).next;
+    }) more.records
+    ∙ (ap (λ (n : ℕ). record {
+      place = p;
+      capacity = s.capacity;
+      records = window s.capacity (records_of p rs ++ r ∷ []);
+      next = n;
+    }) more.next
+    ∙ ap (with_list s p) (sym (records_taken p rs r is)))
+
+ring_left : (s : Serving) (rs : List (List ℕ)) (r : List ℕ) (p : Fields) → is_of p r ≡ false
+    → ring_of s rs p ≡ ring_of s (rs ++ r ∷ []) p
+ring_left s rs r p is = ap (with_list s p) (sym (records_left p rs r is))
+
+-- No place stands twice.
+abbrev Lacks : Fields → List Fields → Type 0
+Lacks p [] = Unit {0}
+Lacks p (q ∷ qs) = (q ≢ p) × Lacks p qs
+
+abbrev pub Distinct : List Fields → Type 0
+Distinct [] = Unit {0}
+Distinct (p ∷ ps) = Lacks p ps × Distinct ps
+
+same_self : (p : Fields) → is_same p p ≡ true
+same_self p = ap (λ (t : Bool). t && bytes_eq p.network p.network) ((bytes_eq-Decides p.station p.station).1 refl)
+    ∙ (bytes_eq-Decides p.network p.network).1 refl
+
+lacks_of : (p : Fields) (qs : List Called) → has_place p qs ≡ false → Lacks p (map (λ (q : Called). q.0) qs)
+lacks_of p [] h = tt
+lacks_of p (q ∷ qs) h =
+    let each : (is_same q.0 p ≡ false) × (has_place p qs ≡ false) = none_true (is_same q.0 p) (has_place p qs) h in (
+      λ same. let bad : true ≡ false = sym (same_self p) ∙ (ap (λ (x : Fields). is_same x p) (sym same) ∙ each.0) in
+          cc bad,
+      lacks_of p qs each.1,
+    )
+  where
+    none_true : (a b : Bool) → (a || b) ≡ false → (a ≡ false) × (b ≡ false)
+    none_true true b h = absurd (let bad : true ≡ false = h in cc bad)
+    none_true false b h = (refl, h)
+
+pub distinct_of : (ps : List Called) → are_different ps ≡ true → Distinct (map (λ (q : Called). q.0) ps)
+distinct_of [] h = tt
+distinct_of (p ∷ ps) h =
+    let each : (not (has_place p.0 ps) ≡ true) × (are_different ps ≡ true) =
+    both (not (has_place p.0 ps)) (are_different ps) h in
+    (lacks_of p.0 ps (negated (has_place p.0 ps) each.0), distinct_of ps each.1)
+  where
+    negated : (a : Bool) → not a ≡ true → a ≡ false
+    negated true h = absurd (let bad : false ≡ true = h in cc bad)
+    negated false h = refl
+
+lacks_at : (p q : Fields) (ps : List Fields) (k : ℕ) → Lacks p ps → slice_get ps k ≡ Some q → q ≢ p
+lacks_at p q [] k lacks is = absurd (let bad : None ≡ Some q = is in cc bad)
+lacks_at p q (x ∷ ps) zero lacks is = let same : x ≡ q = cc is in subst (λ (y : Fields). y ≢ p) same lacks.0
+lacks_at p q (x ∷ ps) (suc k) lacks is = lacks_at p q ps k lacks.1 is
+
+rings_left : (s : Serving) (rs : List (List ℕ)) (r : List ℕ) (p : Fields) (ps : List Fields) → Bears r p → Lacks p ps
+    → map (ring_of s rs) ps ≡ map (ring_of s (rs ++ r ∷ [])) ps
+rings_left s rs r p [] h lacks = refl
+rings_left s rs r p (q ∷ qs) h lacks =
+    ap (λ (w : Window). w ∷ map (ring_of s rs) qs)
+    (ring_left s rs r q (bears_fails q r (λ other. lacks.0 (one_place r q p other h))))
+    ∙ ap (λ (ws : List Window). ring_of s (rs ++ r ∷ []) q ∷ ws) (rings_left s rs r p qs h lacks.1)
+
+-- the ring of its place takes a record, and the other rings stay
+rings_more : (s : Serving) (rs : List (List ℕ)) (r : List ℕ) (ps : List Fields) → Distinct ps
+    → pushed (map (ring_of s rs) ps) r ≡ map (ring_of s (rs ++ r ∷ [])) ps
+rings_more s rs r [] distinct = refl
+rings_more s rs r (p ∷ ps) distinct = by_test (is_of p r) refl (rings_more s rs r ps distinct.1)
+  where
+    by_test : (t : Bool) → is_of p r ≡ t
+        → pushed (map (ring_of s rs) ps) r ≡ map (ring_of s (rs ++ r ∷ [])) ps
+        → pushed (map (ring_of s rs) (p ∷ ps)) r ≡ map (ring_of s (rs ++ r ∷ [])) (p ∷ ps)
+    by_test true is more =
+        ap (λ (t : Bool). if t then with_record (ring_of s rs p) r ∷ map (ring_of s rs) ps
+        else ring_of s rs p ∷ pushed (map (ring_of s rs) ps) r) is
+        ∙ (ap (λ (v : Window). v ∷ map (ring_of s rs) ps) (ring_taken s rs r p is)
+        ∙ ap (λ (ws : List Window). ring_of s (rs ++ r ∷ []) p ∷ ws)
+        (rings_left s rs r p ps (passes_bears p r is) distinct.0))
+    by_test false is more =
+        ap (λ (t : Bool). if t then with_record (ring_of s rs p) r ∷ map (ring_of s rs) ps
+        else ring_of s rs p ∷ pushed (map (ring_of s rs) ps) r) is
+        ∙ (ap (λ (v : Window). v ∷ pushed (map (ring_of s rs) ps) r) (ring_left s rs r p is)
+        ∙ ap (λ (ws : List Window). ring_of s (rs ++ r ∷ []) p ∷ ws) more)
+
+-- the rings are of the places, whatever they have
+places_are : (s : Serving) (rs : List (List ℕ)) (ps : List Fields) → places_of (map (ring_of s rs) ps) ≡ ps
+places_are s rs [] = refl
+places_are s rs (p ∷ ps) = ap (λ (qs : List Fields). p ∷ qs) (places_are s rs ps)
+
+places_in : (s : Serving) (rs : List (List ℕ)) (feed : List Window) → feed ≡ feed_of s rs → places_of feed ≡ served s
+places_in s rs feed is = ap places_of is ∙ places_are s rs (served s)
+
+filter_short : (t : List ℕ → Bool) (xs : List (List ℕ)) → length (filter t xs) ≤ length xs
+filter_short t [] = omega arith
+filter_short t (x ∷ xs) = by_test (t x) (filter_short t xs)
+  where
+    by_test : (b : Bool) → length (filter t xs) ≤ length xs
+        → length (if b then x ∷ filter t xs else filter t xs) ≤ suc (length xs)
+    by_test true more = omega (arith, more)
+    by_test false more = omega (arith, more)
+
+-- how far the numbers went
+pub next_at_most : (s : Serving) (rs : List (List ℕ)) (feed : List Window) (k : ℕ) (w : Window) → feed ≡ feed_of s rs
+    → slice_get feed k ≡ Some w → w.next ≤ s.first + length rs
+next_at_most s rs feed k w is here =
+    let at : (q : Fields) × (slice_get (served s) k ≡ Some q) × (ring_of s rs q ≡ w) =
+    get_mapped (ring_of s rs) (served s) k w (subst (λ (ws : List Window). slice_get ws k ≡ Some w) is here) in
+    let next : s.first + length (records_of at.0 rs) ≡ w.next = ap (λ (v : Window). v.next) at.2 in
+    omega (arith, next, filter_short (is_of at.0) rs)
+
+pub all_of_feed : (places : List Fields) (rs : List (List ℕ)) (r : List ℕ) → AreOfFeed places rs → IsOfFeed places r
+    → AreOfFeed places (rs ++ r ∷ [])
+all_of_feed places [] r all is = (is, tt)
+all_of_feed places (x ∷ rs) r all is = (all.0, all_of_feed places rs r all.1 is)
+
+-- before the first record
+pub empty_ring : (s : Serving) (p : Fields) → record { place = p; capacity = s.capacity; records = []; next = s.first }
+    ≡ ring_of s [] p
+empty_ring s p =
+    ap (λ (xs : List (List ℕ)). record { place = p; capacity = s.capacity; records = xs; next = s.first })
+    (sym (drop_none (0 - s.capacity)))
+    ∙ ap (λ (n : ℕ). record { place = p; capacity = s.capacity; records = window s.capacity []; next = n })
+    {x = s.first} {y = s.first + 0} (omega arith)
+
+pub no_double : (s : Serving) (ps : List Called) (i : ℕ) (p : Called) → Distinct (map (λ (q : Called). q.0) ps)
+    → slice_get ps i ≡ Some p → HasPlace (map (ring_of s []) (map (λ (q : Called). q.0) (take i ps))) p.0 → ⊥
+no_double s [] i p distinct is has = absurd (let bad : None ≡ Some p = is in cc bad)
+no_double s (q ∷ qs) zero p distinct is has = has
+no_double s (q ∷ qs) (suc i) p distinct is (inl same) =
+    lacks_at q.0 p.0 (map (λ (a : Called). a.0) qs) i distinct.0 (map_got (λ (a : Called). a.0) qs i p is) (sym same)
+no_double s (q ∷ qs) (suc i) p distinct is (inr more) = no_double s qs i p distinct.1 is more
+
+-- The feed while rings are added.
+abbrev opening : Serving → ℕ → List Window
+opening s i = map (ring_of s []) (map (λ (p : Called). p.0) (take i s.places))
+
+item_there : (ps : List Called) (i : ℕ) (p : Called) → i < length ps → p ≡ get_or ps i p → slice_get ps i ≡ Some p
+item_there ps i p lt is = slice_get_read ps (length ps) i p refl lt is
+
+pub opened_few : (s : Serving) (i : ℕ) (feed : List Window) → i < length s.places → length s.places ≤ 16
+    → feed ≡ opening s i → length feed < 16
+opened_few s i feed lt most is =
+    let size : length feed ≡ length (opening s i) = ap length is in
+    let rings : length (opening s i) ≡ length (map (λ (p : Called). p.0) (take i s.places)) =
+    length-map (map (λ (p : Called). p.0) (take i s.places)) (ring_of s []) in
+    let few : length (map (λ (p : Called). p.0) (take i s.places)) ≡ length (take i s.places) =
+    length-map (take i s.places) (λ (p : Called). p.0) in
+    let short : length (take i s.places) ≤ i = take_short i s.places in
+    omega (arith, size, rings, few, short, lt, most)
+  where
+    take_short : (n : ℕ) (xs : List Called) → length (take n xs) ≤ n
+    take_short zero xs = omega arith
+    take_short (suc n) [] = omega arith
+    take_short (suc n) (x ∷ xs) = let more : length (take n xs) ≤ n = take_short n xs in omega (arith, more)
+
+pub opened_other : (s : Serving) (i : ℕ) (p : Called) (feed : List Window) (ring : Window)
+    → are_different s.places ≡ true → i < length s.places → p ≡ get_or s.places i p
+    → ring ≡ record { place = p.0; capacity = s.capacity; records = []; next = s.first } → feed ≡ opening s i
+    → ¬ (HasPlace feed ring.place)
+opened_other s i p feed ring different lt item is opened has =
+    no_double s s.places i p (distinct_of s.places different) (item_there s.places i p lt item)
+    (subst (λ (ws : List Window). HasPlace ws p.0) opened (subst (HasPlace feed) (ap (λ (w : Window). w.place) is) has))
+
+pub opened_more : (s : Serving) (i : ℕ) (p : Called) (feed new : List Window) (ring : Window) → i < length s.places
+    → p ≡ get_or s.places i p → ring ≡ record { place = p.0; capacity = s.capacity; records = []; next = s.first }
+    → feed ≡ opening s i → new ≡ feed ++ ring ∷ [] → new ≡ opening s (i + 1)
+opened_more s i p feed new ring lt item is opened added =
+    added ∙ (ap (λ (ws : List Window). ws ++ ring ∷ []) opened
+    ∙ (ap (λ (w : Window). opening s i ++ w ∷ []) (is
+    ∙ (empty_ring s p.0 ∙ ap (λ (q : Called). ring_of s [] q.0) item))
+    ∙ (sym (map-append (ring_of s []) (map (λ (q : Called). q.0) (take i s.places)) ((get_or s.places i p).0 ∷ []))
+    ∙ ap (map (ring_of s [])) (sym (map_more (λ (q : Called). q.0) s.places i p lt)))))
+
+pub opened_all : (s : Serving) (i : ℕ) (feed : List Window) → length s.places ≤ i → feed ≡ opening s i
+    → feed ≡ feed_of s []
+opened_all s i feed past opened = opened ∙ ap (λ (ps : List Called). map (ring_of s []) (map (λ (q : Called). q.0) ps))
+    (take_all i s.places past)
+
+-- the numbers stay small
+pub next_small : (s : Serving) (views : List View) (calls : ℕ) (feed : List Window) (k : ℕ) (w : Window)
+    → s.first < 2 ^ 24 → length views ≤ 2 ^ 40 → feed ≡ feed_of s (bytes_in views) → slice_get feed k ≡ Some w
+    → w.next < 2 ^ 63
+next_small s views calls feed k w first few is there =
+    let most : w.next ≤ s.first + length (bytes_in views) = next_at_most s (bytes_in views) feed k w is there in
+    omega (arith, most, first, few, length-map views (λ (v : View). v.bytes))
+
+-- one record more
+bytes_more : (views : List View) (v : View) → bytes_in (views ++ v ∷ []) ≡ bytes_in views ++ v.bytes ∷ []
+bytes_more views v = map-append (λ (x : View). x.bytes) views (v ∷ [])
+
+feed_reported : (s : Serving) (views : List View) (v : View) (r : List ℕ) (feed new : List Window)
+    → are_different s.places ≡ true → r ≡ v.bytes → feed ≡ feed_of s (bytes_in views) → new ≡ pushed feed r
+    → new ≡ feed_of s (bytes_in (views ++ v ∷ []))
+feed_reported s views v r feed new different same is taken =
+    taken ∙ (ap (λ (ws : List Window). pushed ws r) is
+    ∙ (rings_more s (bytes_in views) r (served s) (distinct_of s.places different)
+    ∙ ap (feed_of s) (ap (λ (x : List ℕ). bytes_in views ++ x ∷ []) same ∙ sym (bytes_more views v))))
+
+records_reported : (s : Serving) (views : List View) (v : View) (r : List ℕ) (feed : List Window) → r ≡ v.bytes
+    → feed ≡ feed_of s (bytes_in views) → IsOfFeed (places_of feed) r → AreOfFeed (served s) (bytes_in views)
+    → AreOfFeed (served s) (bytes_in (views ++ v ∷ []))
+records_reported s views v r feed same is of before =
+    subst (AreOfFeed (served s)) (sym (bytes_more views v))
+    (all_of_feed (served s) (bytes_in views) v.bytes before
+    (subst (IsOfFeed (served s)) same
+    (subst (λ ps. IsOfFeed ps r) (places_in s (bytes_in views) feed is) of)))
+
+-- the cutter has handed out one record more
+pub handed_on : (r : Result (Option RecordView) StreamFault) (o : Option RecordView) (view : RecordView) (P : List View
+    → Type 0) → r ≡ Ok o → o ≡ Some view → IfGoesOn r P → P (view_of view ∷ [])
+handed_on r o view P is some goes =
+    subst (λ (q : Result (Option RecordView) StreamFault). IfGoesOn q P) (is ∙ ap Ok some) goes
+
+-- the next record, by whether a ring accepted it
+pub pushed_next : (s : Serving) (views : List View) (view : View) (bytes : List ℕ) (number : ℕ)
+    (result : Result Step InputFault) (taken : Result ℕ InputFault) (feed new : List Window) (old h : BytesRead)
+    (c : Standing) → CanServe s → bytes ≡ view.bytes → HasHandedOut h c (views ++ view ∷ []) → old.calls < h.calls
+    → AreOfFeed (served s) (bytes_in views) → feed ≡ feed_of s (bytes_in views) → number ≡ length views + 1
+    → OnOk taken (IsOfFeed (places_of feed) bytes) → OnOk taken (new ≡ pushed feed bytes)
+    → OnErr taken (¬ (IsOfFeed (places_of feed) bytes)) → IfErr taken (λ e. e ≡ Foreign number)
+    → OnOk taken (result ≡ Ok Pushed) → IfErr taken (λ e. result ≡ Err e)
+    → IsNextPushed s result views old h c new
+pushed_next s views view bytes m result (Ok k) feed new old h c can same handed called each is n of taken _ _ ok _ =
+    subst (λ (r : Result Step InputFault). IsNextPushed s r views old h c new) (sym ok) (record {
+      view = view;
+      filled = record {
+        handed = handed;
+        each = records_reported s views view bytes feed same is of each;
+        feed_is = feed_reported s views view bytes feed new can.places.different same is taken;
+      };
+      called = called;
+    })
+pushed_next s views view bytes m result (Err e) feed new old h c can same handed called each is n _ _ none f _ err =
+    subst (λ (r : Result Step InputFault). IsNextPushed s r views old h c new) (sym (err ∙ ap Err f)) (record {
+      before = views;
+      view = view;
+      offset = c.offset;
+      views = handed.records;
+      fine = handed.fine;
+      each = each;
+      other = λ of. none (subst (λ ps. IsOfFeed ps bytes) (sym (places_in s (bytes_in views) feed is))
+          (subst (IsOfFeed (served s)) (sym same) of));
+      number_is = n;
+    })
+
+-- what is wrong comes of an error
+pub not_filled : (s : Serving) (r : Result (List Window) InputFault) (Q : InputFault → Type 0) (fault : InputFault)
+    (h : BytesRead) → IsErrAnd r Q → ((e : InputFault) → Q e → e ≡ fault) → IsFilling s (Err fault) h
+    → IsFilling s r h
+not_filled s (Ok feed) Q fault h is q wrong = absurd is
+not_filled s (Err e) Q fault h is q wrong =
+    subst (λ (x : InputFault). IsFilling s (Err x) h) (sym (q e is)) wrong
+
+pub not_pushed : (s : Serving) (r : Result Step InputFault) (Q : InputFault → Type 0) (fault : InputFault)
+    (views : List View) (old h : BytesRead) (c : Standing) (new : List Window) → IsErrAnd r Q
+    → ((e : InputFault) → Q e → e ≡ fault) → IsFilling s (Err fault) h → IsNextPushed s r views old h c new
+not_pushed s (Ok step) Q fault views old h c new is q wrong = absurd is
+not_pushed s (Err e) Q fault views old h c new is q wrong =
+    subst (λ (x : InputFault). IsFilling s (Err x) h) (sym (q e is)) wrong
+
+-- the input ended with a fault, or memory was wanted
+pub broken_off : (X : Type 0) (s : Serving) (fault : StreamFault) (h : BytesRead) (views : List View)
+    → AreOfFeed (served s) (bytes_in views) → IfEnds {X = X} (Err fault) (AreAllViews h views (Some fault))
+    → h.failures ≡ failed_by {X = X} (Err fault) → IsFilling s (Err (Stream fault)) h
+broken_off X s (Frame n f) h views each all failed = record { views = views; all = all; each = each }
+broken_off X s (Truncated n have) h views each all failed = record { views = views; all = all; each = each }
+broken_off X s (Read n) h views each all failed = record { views = views; all = all; each = each }
+broken_off X s (Turns n) h views each all failed = record { views = views; all = all; each = each }
+broken_off X s Memory h views each all failed = failed
+
+pub number_of : {n : ℕ} (views : List View) → n ≡ length views → n + 1 ≡ length views + 1
+number_of views is = ap (λ (m : ℕ). m + 1) is

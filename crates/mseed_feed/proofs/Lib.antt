@@ -1,0 +1,4 @@
+pub mod Fills
+pub mod OneFilling
+pub mod Numbered
+mod Served

@@ -1,0 +1,56 @@
+use Rattle.std.proofs.Common.{◌≡◌, ℕ, ◌++◌, ◌∷◌, [], ◌∙◌, List, length, take, sym, ap, arith}
+use Rattle.mseed_record.specs.View.{View}
+use Rattle.mseed_record.specs.Viewing.{view_of}
+use Rattle.mseed_record.specs.declared.view.RecordView.{RecordView}
+use Rattle.mseed_stream.specs.Device.{BytesRead}
+use Rattle.mseed_stream.specs.Walk.{HasHandedOut}
+use Rattle.mseed_stream.specs.declared.fault.StreamFault.{StreamFault}
+use Rattle.slink_feed.specs.declared.input.InputFault.TheVariants.{Stream}
+use Rattle.mseed_feed.proofs.Fills.{broken_off, handed_on, not_pushed, pushed_next}
+use Rattle.mseed_feed.proofs.filling.push_next.Goals as goal
+
+pub returns-in-Some : goal.returns-in-Some
+returns-in-Some g c = λ serving views can filled number.
+    let view : View = view_of c.in-Some.view in
+    let lent : List ℕ = g.R.Source.lent c.args.input.now in
+    let is = c.in-Some.ensures.record in
+    let same : view.bytes ≡ take (length c.bytes-size.result.now) lent =
+    is.1 ∙ ap (λ (xs : List ℕ). take (length xs) lent) (sym c.bytes-size.ensures.value) in
+    pushed_next serving views view c.bytes.result.now c.args.number c.answer.result c.take_record-taken.result
+    c.args.feed.now c.take_record-taken.new.self (g.R.Source.read c.args.input.now)
+    (g.R.Source.read c.pass.new.source) c.pass.new.self can c.bytes.ensures.value
+    (c.pass.ensures.handed views view filled.handed is.0 same)
+    (omega (arith, ap (λ (h : BytesRead). h.calls) c.pass.ensures.reported)) filled.each filled.feed_is number
+    c.take_record-taken.ensures.of c.take_record-taken.ensures.pushed c.take_record-taken.ensures.foreign
+    c.take_record-taken.ensures.fault c.answer.ensures.ok c.answer.ensures.err
+
+pub returns-in-Some-2 : goal.returns-in-Some-2
+returns-in-Some-2 g c = λ serving views can filled number.
+    let view : View = view_of c.in-Some-2.view in
+    let read : BytesRead = g.R.Source.read c.next.new.source in
+    let some = c.in-Some-2.is in
+    let called = rw some at c.in_ok-view.ensures.called in
+    let handed : HasHandedOut read c.next.follows.lender-at-none (views ++ view ∷ []) =
+    handed_on c.next.result c.in_ok-view.field-0 c.in-Some-2.view
+    (λ more. HasHandedOut read c.next.follows.lender-at-none (views ++ more)) c.in_ok-view.was
+    c.in-Some-2.is (c.next.follows.holds-at-none.4 views filled.handed) in
+    pushed_next serving views view c.bytes-in-Some-2.result.now c.args.number c.answer-in-Some-2.result
+    c.take_record.result c.args.feed.now c.take_record.new.self (g.R.Source.read c.args.input.now) read
+    c.next.follows.lender-at-none can c.bytes-in-Some-2.ensures.value handed called filled.each filled.feed_is
+    number c.take_record.ensures.of c.take_record.ensures.pushed c.take_record.ensures.foreign
+    c.take_record.ensures.fault c.answer-in-Some-2.ensures.ok c.answer-in-Some-2.ensures.err
+
+pub returns-in-None : goal.returns-in-None
+returns-in-None g c = λ serving views can filled number.
+    let all = rw c.in-None.is at c.in_ok-view.ensures.all views filled.handed in
+    record { views = views; all = all; each = filled.each; feed_is = filled.feed_is }
+
+pub returns-in_err-view : goal.returns-in_err-view
+returns-in_err-view g c = λ serving views can filled number.
+    let read : BytesRead = g.R.Source.read c.next.new.source in
+    let fault : StreamFault = c.in_err-view.field-0.0 in
+    let failed = c.in_err-view.ensures.answer.failed filled.handed.goes_on in
+    not_pushed serving c.from_residual.result _ (Stream fault) views (g.R.Source.read c.args.input.now) read
+    c.next.follows.lender-at-none c.args.feed.now c.from_residual.ensures.1 (λ e q. q)
+    (broken_off RecordView serving fault read views filled.each (c.in_err-view.ensures.all views filled.handed)
+    (omega (arith, failed, filled.handed.fine)))

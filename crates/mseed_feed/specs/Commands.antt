@@ -1,0 +1,37 @@
+-- What serving the records of an archive and fetching come to: the exit status, and what was written.
+use Rattle.std.specs.Prelude.{◌≡◌, ℕ, List, Result, Ok, Err}
+use Rattle.mseed_stream.specs.Device.{BytesRead, BytesWritten}
+use Rattle.mseed_stream.specs.Telling.{Tells}
+use Rattle.slink_feed.specs.Listening.{Listening}
+use Rattle.slink_feed.specs.Window.{Window}
+use Rattle.slink_feed.specs.declared.input.InputFault.{InputFault}
+use Rattle.slink_links.specs.Fetched.{HasFetched, ReportsOfAll, fetch_status}
+use Rattle.slink_links.specs.Served.{HasServed}
+use Rattle.slink_links.specs.declared.fetching.FetchEnd.{FetchEnd}
+use Rattle.mseed_words.specs.declared.request.Fetching.{Fetching}
+use Rattle.mseed_words.specs.declared.request.Serving.{Serving}
+use Rattle.mseed_feed.specs.Filling.{IsFilling, IsOneFilling}
+use Rattle.mseed_feed.specs.Plans.{fill_text, first_client}
+
+-- by what filling the feed came to: it was served; or status 2, and the line of what is wrong with the input
+abbrev pub IsServedBy : Result (List Window) InputFault → ℕ → BytesWritten → BytesWritten → Type 0
+IsServedBy (Ok feed) status old new = HasServed status old new
+IsServedBy (Err fault) status old new = (status ≡ 2) × Tells (fill_text fault) old new
+
+-- A feed was filled by what was read of an input, which decides it but for memory, and served where it could be.
+pub record HasServedInput (serving : Serving) (read : BytesRead) (status : ℕ) (old new : BytesWritten) : Type 0 where
+  pub outcome : Result (List Window) InputFault
+  pub filling : IsFilling serving outcome read
+  pub only : IsOneFilling serving outcome read
+  pub served : IsServedBy outcome status old new
+
+-- A new client of the places that were requested fetched up to an end: its records were written, and standard error
+-- got the lines of that end, and those that were requested.
+pub record HasFetchedRequested (fetching : Fetching) (status : ℕ)
+    (written_old written_new reported_old reported_new : BytesWritten) : Type 0 where
+  pub end : FetchEnd
+  pub last : Listening
+  pub fetched : HasFetched end (first_client fetching) last written_old written_new
+  pub status_is : status ≡ fetch_status end
+  pub reports : ReportsOfAll fetching.tell_next end fetched.records (first_client fetching).talk.wants last.talk.wants
+      reported_old reported_new

@@ -1,0 +1,50 @@
+//! The two commands of a feed that go from a plan to sockets.
+ghost use Rattle.std.specs.Prelude.{◌≡◌};
+ghost use Rattle.mseed_stream.specs.Device.{BytesRead, nothing_read};
+ghost use Rattle.mseed_words.specs.FeedWords.{CanFetch, CanServe};
+ghost use Rattle.mseed_feed.specs.Commands.{HasFetchedRequested, HasServedInput};
+
+use crate::planning::{plan_fetch, plan_serve};
+use mseed_stream::{Sink, Source};
+use mseed_words::{Fetching, Serving};
+use std::alloc::Global;
+use std::net::Net;
+use std::time::Clock;
+
+/// Serves the records of an input over TCP, to one connection after another, once all of it is read, and returns the
+/// exit status: 0 where each of the connections was served to its end, and 2 otherwise, after a line on `errors` that
+/// says why. The input is dropped before the first connection is taken.
+pub fn serve<N: Net + Clock, R: Source + Drop, E: Sink>(
+    host: &N,
+    alloc: Global,
+    serving: &Serving,
+    mut input: R,
+    errors: &mut E,
+) -> u8
+    requires unread { R.read input ≡ nothing_read }
+    requires called { CanServe serving.now }
+    ensures { (read : BytesRead)
+        × HasServedInput serving.now read result (E.written errors.old) (E.written errors.new) }
+{
+    let planned = plan_serve(alloc, serving, &mut input, errors);
+    drop(input);
+    match planned {
+        Ok(plan) => slink_links::serve(host, &plan, errors),
+        Err(status) => status,
+    }
+}
+
+/// Fetches the records that are requested over TCP, writes each once it is whole, and returns the exit status: 0 where
+/// the server said that there are no more, and 2 otherwise, after a line on `errors` that says why.
+pub fn fetch<N: Net + Clock, W: Sink, E: Sink>(
+    host: &N,
+    fetching: &Fetching,
+    output: &mut W,
+    errors: &mut E,
+) -> u8
+    requires { CanFetch fetching.now }
+    ensures { HasFetchedRequested fetching.now result (W.written output.old) (W.written output.new)
+        (E.written errors.old) (E.written errors.new) }
+{
+    slink_links::fetch(host, &mut plan_fetch(fetching), output, errors)
+}

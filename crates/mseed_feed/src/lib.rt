@@ -1,0 +1,19 @@
+//! The program's commands of a feed: `serve`, `serve --live` and `fetch`, from what the arguments request to the exit
+//! status.
+//!
+//! [`serve`] fills the rings of a feed with the records of an input and then serves them over one connection after
+//! another. [`serve_live_tcp`] serves many clients at once while the records of an input come, and [`serve_live`] does
+//! so over any [`Device`]. [`fetch`] writes the records that a server sends.
+#![tactic(auto)]
+
+mod commands;
+mod filling;
+mod law;
+mod live;
+mod planning;
+mod refusal;
+
+pub use commands::{fetch, serve};
+pub use law::one_filling;
+pub use live::{Device, serve_live, serve_live_tcp};
+pub use planning::{plan_fetch, plan_serve};

@@ -1,0 +1,143 @@
+//! Serving the records of an input to many clients at once, while they come.
+ghost use Rattle.std.specs.Prelude.{◌≡◌, ◌⊎◌, [], List, IfErr, IfOk, codes, length, true};
+ghost use Rattle.mseed_stream.specs.Telling.{Tells};
+ghost use Rattle.slink_feed.specs.Intake.{places_of};
+ghost use Rattle.slink_feed.specs.Window.{Window};
+ghost use Rattle.slink_live.specs.Happening.{input_of};
+ghost use Rattle.slink_live.specs.Input.{IsInputFault};
+ghost use Rattle.slink_live.specs.Served.{IsFinished, IsServing, IsSound, ServerState};
+ghost use Rattle.mseed_words.specs.FeedWords.{CanServeLive};
+ghost use Rattle.mseed_feed.specs.Filling.{feed_of};
+ghost use Rattle.mseed_feed.specs.Live.{EndsWith, HasEnded, HasServed, HasServedTcp};
+
+use crate::filling::open_feed;
+use crate::refusal::{link_failed, refuse_memory, report_filling};
+use mseed_stream::Sink;
+use mseed_words::LiveServing;
+use slink_links::{DONE, FAULT};
+use slink_live::{Ready, Server};
+use slink_live_tcp::{Plan, Tcp};
+use std::alloc::{AllocError, Global};
+use std::io::{ErrorKind, Read};
+use std::net::{Ipv4Addr, Net, SocketAddr};
+use std::os::fd::AsRawFd;
+use std::time::Clock;
+
+/// An input and links of which it is known whether they failed all together.
+pub trait Device: Ready {
+    /// Whether nothing comes any more.
+    fn has_failed(&self) -> bool
+        ensures { result ≡ Self.is_over self.now };
+}
+
+impl<C: Clock, I: Read + AsRawFd + Drop> Device for Tcp<'_, C, I> {
+    fn has_failed(&self) -> bool {
+        Tcp::has_failed(self)
+    }
+}
+
+/// Serves a feed over TCP to many clients at once, as the records of an input come, and returns the exit status. A port
+/// that can't be had is as a link that failed.
+pub fn serve_live_tcp<N: Net + Clock, I: Read + AsRawFd + Drop, E: Sink>(
+    host: &N,
+    alloc: Global,
+    live: &LiveServing,
+    input: I,
+    errors: &mut E,
+) -> u8
+    requires { CanServeLive live.now }
+    ensures { HasServedTcp (feed_of live.now.serving []) result (E.written errors.old) (E.written errors.new) }
+{
+    match Tcp::bind(host, alloc, links_of(live), input) {
+        Ok(mut device) => {
+            let status = serve_live(alloc, live, &mut device, errors);
+            device.finish();
+            status
+        }
+        Err(error) if error.kind() == ErrorKind::OutOfMemory => refuse_memory(errors),
+        Err(_) => link_failed(errors),
+    }
+}
+
+/// Where links are taken, how many stand at once, and how long each may be silent.
+fn links_of(live: &LiveServing) -> Plan {
+    let listener = &live.serving.listener;
+    let address = Ipv4Addr::from(listener.host.octets);
+    Plan {
+        address: SocketAddr::from((address, listener.port)),
+        clients: live.clients as usize,
+        timeout: listener.timeout.limit(),
+    }
+}
+
+/// Serves a feed to the links of a device, as the records of its input come, and returns the exit status. Each place
+/// has a ring of the capacity that was requested, without records at first.
+///
+/// What is wrong with the input is reported on `errors` at once. What came before it stays served, and nothing after
+/// it is.
+pub fn serve_live<R: Device, E: Sink>(
+    alloc: Global,
+    live: &LiveServing,
+    ready: &mut R,
+    errors: &mut E,
+) -> u8
+    requires new { R.log ready.old ≡ [] }
+    requires called { CanServeLive live.now }
+    ensures { HasServed (feed_of live.now.serving []) (R.is_over ready.new) (R.log ready.new) result
+        (E.written errors.old) (E.written errors.new) }
+{
+    match server_of(alloc, live) {
+        Ok(mut server) => serve_to_the_end(&mut server, ready, errors),
+        Err(AllocError) => refuse_memory(errors),
+    }
+}
+
+/// A server of the rings that were requested, without records, and with a slot for each client that is served at once.
+///
+/// # Errors
+///
+/// Where there is no memory for the rings or the slots.
+fn server_of(alloc: Global, live: &LiveServing) -> Result<Server, AllocError>
+    requires { CanServeLive live.now }
+    ensures serving { IfOk result (λ server. IsServing (feed_of live.now.serving []) server []) }
+    ensures sound { IfOk result IsSound }
+    ensures clients { IfOk result (λ server. length server.links ≡ live.now.clients) }
+{
+    match open_feed(alloc, &live.serving) {
+        Ok(feed) => Server::new(alloc, feed, live.clients as usize),
+        Err(_) => Err(AllocError),
+    }
+}
+
+/// Serves until nothing is left to do, or the device failed, and returns the exit status.
+fn serve_to_the_end<R: Device, E: Sink>(server: &mut Server, ready: &mut R, errors: &mut E) -> u8
+    requires sound { IsSound server.old }
+    ensures serving { (start : List Window) → IsServing start server.old (R.log ready.old)
+        → IsServing start server.new (R.log ready.new) }
+    ensures ended { (start : List Window) → IsServing start server.old (R.log ready.old)
+        → HasEnded (places_of start) server.new (R.is_over ready.new) (R.log ready.new) result
+        (E.written errors.old) (E.written errors.new) }
+{
+    match server.serve(ready) {
+        Ok(()) => end_of(ready, DONE, errors),
+        Err(fault) => {
+            report_filling(errors, &fault);
+            match server.serve(ready) {
+                Ok(()) => end_of(ready, FAULT, errors),
+                Err(_) => link_failed(errors),
+            }
+        }
+    }
+}
+
+/// The exit status that is due, unless the device failed.
+fn end_of<R: Device, E: Sink>(ready: &R, due: u8, errors: &mut E) -> u8
+    ensures { (s : ServerState) → IsFinished s ⊎ (R.is_over ready.now ≡ true)
+        → EndsWith s (R.is_over ready.now) due result (E.written errors.old) (E.written errors.new) }
+{
+    if ready.has_failed() {
+        link_failed(errors)
+    } else {
+        due
+    }
+}

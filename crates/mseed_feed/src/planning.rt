@@ -1,0 +1,74 @@
+//! The plans of the two commands of a feed.
+ghost use Rattle.std.specs.Prelude.{◌≡◌};
+ghost use Rattle.mseed_stream.specs.Device.{nothing_read};
+ghost use Rattle.mseed_words.specs.FeedWords.{CanFetch, CanServe};
+ghost use Rattle.mseed_feed.specs.Plans.{IsFetchPlan, IsServeRun, first_client};
+
+use crate::filling::fill;
+use crate::law::one_filling;
+use crate::refusal::report_filling;
+use mseed_stream::{Sink, Source};
+use mseed_words::{Fetching, Serving};
+use slink_feed::{Client, Mode};
+use slink_links::{FAULT, FetchPlan, ServePlan};
+use std::alloc::Allocator;
+
+/// Fills the feed that is to be served with the records of an input, and returns how it is served.
+///
+/// # Errors
+///
+/// The exit status, 2, after a line on `errors` that says why there is no feed: the input's records aren't all the
+/// feed's, or it doesn't end where a record ends, or there was no memory.
+pub fn plan_serve<A: Allocator + Copy, R: Source, E: Sink>(
+    alloc: A,
+    serving: &Serving,
+    input: &mut R,
+    errors: &mut E,
+) -> Result<ServePlan<A>, u8>
+    requires unread { R.read input.old ≡ nothing_read }
+    requires called { CanServe serving.now }
+    ensures { IsServeRun serving.now result (R.read input.new) (E.written errors.old) (E.written errors.new) }
+{
+    one_filling();
+    match fill(alloc, serving, input) {
+        Ok(feed) => Ok(ServePlan {
+            address: serving.listener.host,
+            port: serving.listener.port,
+            connections: serving.connections,
+            timeout: serving.listener.timeout,
+            feed,
+        }),
+        Err(fault) => {
+            report_filling(errors, &fault);
+            Err(FAULT)
+        }
+    }
+}
+
+/// How the records that are requested are fetched: by a new client, from the host and over as many tries as are named.
+pub fn plan_fetch(fetching: &Fetching) -> FetchPlan
+    requires { CanFetch fetching.now }
+    ensures { IsFetchPlan fetching.now result }
+{
+    FetchPlan {
+        host: fetching.server.host,
+        port: fetching.server.port,
+        tries: fetching.tries,
+        timeout: fetching.server.timeout,
+        tell_next: fetching.tell_next,
+        client: client_of(fetching),
+    }
+}
+
+/// A new client of the places that are requested, which goes past holes where that is requested.
+fn client_of(fetching: &Fetching) -> Client
+    requires { CanFetch fetching.now }
+    ensures { result ≡ first_client fetching.now }
+{
+    let places = fetching.places.as_slice();
+    if fetching.holes {
+        Client::past_holes(places, Mode::Fetch)
+    } else {
+        Client::new(places, Mode::Fetch)
+    }
+}
