@@ -27,7 +27,7 @@ use std::time::Clock;
 pub trait Device: Ready {
     /// Whether nothing comes any more.
     fn has_failed(&self) -> bool
-        ensures { result ≡ Self.is_over self.now };
+        ensures { result ≡ Self.has_failed self.now };
 }
 
 impl<C: Clock, I: Read + AsRawFd + Drop> Device for Tcp<'_, C, I> {
@@ -83,7 +83,7 @@ pub fn serve_live<R: Device, E: Sink>(
 ) -> u8
     requires new { R.log ready.old ≡ [] }
     requires called { CanServeLive live.now }
-    ensures { HasServed (feed_of live.now.serving []) (R.is_over ready.new) (R.log ready.new) result
+    ensures { HasServed (feed_of live.now.serving []) (R.has_failed ready.new) (R.log ready.new) result
         (E.written errors.old) (E.written errors.new) }
 {
     match server_of(alloc, live) {
@@ -115,7 +115,7 @@ fn serve_to_the_end<R: Device, E: Sink>(server: &mut Server, ready: &mut R, erro
     ensures serving { (start : List Window) → IsServing start server.old (R.log ready.old)
         → IsServing start server.new (R.log ready.new) }
     ensures ended { (start : List Window) → IsServing start server.old (R.log ready.old)
-        → HasEnded (places_of start) server.new (R.is_over ready.new) (R.log ready.new) result
+        → HasEnded (places_of start) server.new (R.has_failed ready.new) (R.log ready.new) result
         (E.written errors.old) (E.written errors.new) }
 {
     match server.serve(ready) {
@@ -132,8 +132,8 @@ fn serve_to_the_end<R: Device, E: Sink>(server: &mut Server, ready: &mut R, erro
 
 /// The exit status that is due, unless the device failed.
 fn end_of<R: Device, E: Sink>(ready: &R, due: u8, errors: &mut E) -> u8
-    ensures { (s : ServerState) → IsFinished s ⊎ (R.is_over ready.now ≡ true)
-        → EndsWith s (R.is_over ready.now) due result (E.written errors.old) (E.written errors.new) }
+    ensures { (s : ServerState) → IsFinished s ⊎ (R.has_failed ready.now ≡ true)
+        → EndsWith s (R.has_failed ready.now) due result (E.written errors.old) (E.written errors.new) }
 {
     if ready.has_failed() {
         link_failed(errors)
