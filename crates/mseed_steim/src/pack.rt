@@ -127,29 +127,38 @@ fn pack_run(
     // The frame that is being filled: its first word, and the codes that belong there.
     let mut head = 0;
     let mut codes = 0;
-    // The differences that are left, and the place of the first of them in what is known ahead.
+    // The differences from where was looked ahead last, the place of the first of them in what is known, and the place
+    // of the next.
     let mut left = diffs;
-    let mut place = known.begin(diffs.len());
+    let mut start = known.begin(diffs.len());
+    let mut place = start;
     'filling: loop {
         while index < head + FRAME {
             let held = usize::from(known.most[place]);
             if held < 2 {
-                if left.is_empty() {
+                let at = place - start;
+                if at == left.len() {
                     break 'filling;
                 }
                 if KNOWN <= place {
+                    left = &left[at..];
+                    start = 0;
                     place = 0;
                     look(scheme, left, &mut known.most, &mut known.cut);
                     continue;
                 }
             }
-            let Ok((code, word, count)) = next_word(scheme, held, left, &known.cut[place..]) else {
-                let index = diffs.len() - left.len();
+            let Ok((code, word, count)) = next_word(
+                scheme,
+                held,
+                &left[place - start..],
+                &known.cut[place..],
+            ) else {
+                let index = diffs.len() - left.len() + (place - start);
                 return Err(TooLargeAt { index });
             };
             write_word(frames, index, word);
             codes = with_code(codes, code);
-            left = &left[count..];
             place += count;
             index += 1;
         }
@@ -164,7 +173,7 @@ fn pack_run(
     write_word(frames, head, codes_to(codes, index));
     known.place = place;
     Ok(Packed {
-        used: diffs.len() - left.len(),
+        used: diffs.len() - left.len() + (place - start),
         words: index - 3 - (index - 1) / FRAME,
     })
 }

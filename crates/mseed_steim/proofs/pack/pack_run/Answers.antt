@@ -1,7 +1,5 @@
 use Rattle.std.proofs.Common.{◌≡◌, ◌≢◌, ◌⊎◌, ℕ, ℤ, ◌+◌, ◌-◌, ◌*◌, ◌/◌, ◌%◌, ◌<◌, ◌≤◌, ◌∙◌, List, arith, ap, sym, subst}
 use Rattle.std.proofs.Common.{inl, inr, drop, length, rules, take, refl}
-use Rattle.std.proofs.lemmas.Bool.Decides.{nat_tests}
-use Rattle.std.proofs.lemmas.Bool.{eqb-true}
 use Rattle.std.proofs.lemmas.List.{take_rest, length-drop, drop-drop}
 use Rattle.mseed_steim.specs.declared.pack.Packed.{Packed}
 use Rattle.mseed_steim.specs.Frames.{word_count}
@@ -14,33 +12,61 @@ use Rattle.mseed_steim.proofs.Held.{fullest_few}
 use Rattle.mseed_steim.proofs.Lookaheads.{known_at, known_early, known_here, known_next}
 use Rattle.mseed_steim.proofs.Coding.{Pushing, pushing_none, pushing_past, pushing_more, pushed}
 use Rattle.mseed_steim.proofs.pack.pack_run.Goals.{else-held-lt2, else-loop-index-test+then-index-frames}
-use Rattle.mseed_steim.proofs.pack.pack_run.Goals.{then-held-lt2+else-is_empty+else-place-ge-KNOWN}
-use Rattle.mseed_steim.proofs.pack.pack_run.Goals.{then-loop-index-test+then-held-lt2+then-is_empty}
+use Rattle.mseed_steim.proofs.pack.pack_run.Goals.{then-held-lt2+else-at-left+else-place-ge-KNOWN}
+use Rattle.mseed_steim.proofs.pack.pack_run.Goals.{then-loop-index-test+then-held-lt2+then-at-left}
 use Rattle.mseed_steim.proofs.pack.pack_run.Goals as goal
 
 -- the rest of a list whose length is known
 rest_long : (n at : ℕ) (xs : List ℤ) → length xs ≡ n → take (n - at) (drop at xs) ≡ drop at xs
 rest_long n at xs long = subst (λ (m : ℕ). take (m - at) (drop at xs) ≡ drop at xs) long (take_rest xs at)
 
+-- those from a place on, of the last ones
+rest_of : (ds left : List ℤ) (at : ℕ) → left ≡ drop (length ds - length left) ds
+    → drop at left ≡ drop (length ds - length left + at) ds
+rest_of ds left at is = ap (λ (xs : List ℤ). drop at xs) is ∙ drop-drop at (length ds - length left) ds
+
 pub filling-init : goal.filling-init
 filling-init c =
     let s = c.args.scheme in
     let ds = c.args.diffs.now in
-    let none : length ds - length ds ≡ 0 = omega arith in record {
-      pushing = subst (λ (n : ℕ). Pushing s ds c.fill.new.self 0 0 3 n) (sym none)
+    let start = c.begin-start.result in
+    let none : length ds - length ds ≡ 0 = omega arith in
+    let first : start - start ≡ 0 = omega arith in
+    let zero : 0 ≡ length ds - length ds + (start - start) = omega arith in
+    record {
+      pushing = subst (λ (n : ℕ). Pushing s ds c.fill.new.self 0 0 3 n) zero
           (pushing_none s ds c.fill.new.self (length c.args.frames.now) (c.fill.ensures.after (λ y e. e)));
       left = rw none refl;
-      known = c.begin-place.ensures s ds c.requires.known.0 refl c.requires.known.1;
+      known = rw first (c.begin-start.ensures s ds c.requires.known.0 refl c.requires.known.1);
+      order = omega arith;
       frame = omega (arith, c.fill.ensures.len, c.requires.some, c.requires.whole);
     }
 
 pub loop-index-preserved-then-place-ge-KNOWN : goal.loop-index-preserved-then-place-ge-KNOWN
-loop-index-preserved-then-place-ge-KNOWN c = record {
-  pushing = c.loop-index.invariant.pushing;
-  left = c.loop-index.invariant.left;
-  known = c.look.ensures;
-  frame = c.loop-index.invariant.frame;
-}
+loop-index-preserved-then-place-ge-KNOWN c =
+    let s = c.args.scheme in
+    let ds = c.args.diffs.now in
+    let left = c.loop-index.left.now in
+    let at = c.loop-index.place - c.loop-index.start in
+    let rest : take (length left - at) (drop at left) ≡ drop at left = take_rest left at in
+    let inside = c.loop-index.invariant.pushing.coding.filling.inside in
+    let long : length (take (length left - at) (drop at left)) ≡ length left - at =
+    ap (λ (xs : List ℤ). length xs) rest ∙ length-drop at left in
+    let whole : length left ≡ length ds - (length ds - length left) =
+    ap (λ (xs : List ℤ). length xs) c.loop-index.invariant.left ∙ length-drop (length ds - length left) ds in
+    let used : length ds - length left + at ≡ length ds - length (take (length left - at) (drop at left)) =
+    omega (arith, long, whole, inside) in
+    let next : length ds - length left + at ≡ length ds - length (take (length left - at) (drop at left)) + (0 - 0) =
+    omega (arith, used) in
+    record {
+      pushing = subst (λ (n : ℕ).
+          Pushing s ds c.loop-index.frames c.filling.head c.loop-index.codes c.loop-index.index n) next
+          c.loop-index.invariant.pushing;
+      left = rest ∙ rest_of ds left at c.loop-index.invariant.left ∙ ap (λ (n : ℕ). drop n ds) used;
+      known = c.look.ensures;
+      order = omega arith;
+      frame = c.loop-index.invariant.frame;
+    }
 
 pub filling-preserved : goal.filling-preserved
 filling-preserved c =
@@ -53,10 +79,11 @@ filling-preserved c =
     record {
       pushing = pushing_past c.args.scheme c.args.diffs.now c.loop-index.frames c.write_word-in-filling.new.frames
           c.filling.head c.loop-index.codes c.loop-index.index
-          (length c.args.diffs.now - length c.loop-index.left.now) first
+          (length c.args.diffs.now - length c.loop-index.left.now + (c.loop-index.place - c.loop-index.start)) first
           c.write_word-in-filling.ensures c.loop-index.invariant.pushing;
       left = c.loop-index.invariant.left;
       known = c.loop-index.invariant.known;
+      order = c.loop-index.invariant.order;
       frame = omega (
         arith,
         first,
@@ -73,40 +100,57 @@ filling-preserved c =
 
 pub next_word-requires-clause-some : goal.next_word-requires-clause-some
 next_word-requires-clause-some c =
+    let ds = c.args.diffs.now in
     let left = c.loop-index.left.now in
-    elim c.if-held-lt2.branch [
-      | then-held-lt2+else-is_empty+else-place-ge-KNOWN w ↦
-          grind (arith, nat_tests, w.is_empty.ensures, w.if-is_empty.false)
-      | else-held-lt2 w ↦ let known = (known_here c.args.scheme _ left c.loop-index.invariant.known).0
+    let at = c.loop-index.place - c.loop-index.start in
+    let inside = c.loop-index.invariant.pushing.coding.filling.inside in
+    let long : length (take (length left - at) (drop at left)) ≡ length left - at =
+    ap (λ (xs : List ℤ). length xs) (take_rest left at) ∙ length-drop at left in
+    let whole : length left ≡ length ds - (length ds - length left) =
+    ap (λ (xs : List ℤ). length xs) c.loop-index.invariant.left ∙ length-drop (length ds - length left) ds in
+    let some : at < length left = elim c.if-held-lt2.branch [
+      | then-held-lt2+else-at-left+else-place-ge-KNOWN w ↦ let more : at ≢ length left = w.if-at-left.false in
+          omega (arith, more, whole, inside)
+      | else-held-lt2 w ↦ let known = (known_here c.args.scheme _ (drop at left) c.loop-index.invariant.known).0
           (omega (arith, w.if-held-lt2.false, c.from-held.ensures)) in
-          omega (arith, known.1)
-    ]
+          omega (arith, known.1, length-drop at left)
+    ] in
+    omega (arith, long, some)
 
 pub next_word-requires-clause-ahead : goal.next_word-requires-clause-ahead
 next_word-requires-clause-ahead c =
-    subst (λ (m : ℕ). IsAhead c.args.scheme c.loop-index.left.now m) (sym c.from-held.ensures)
-    (known_here c.args.scheme _ c.loop-index.left.now c.loop-index.invariant.known).0
+    let left = c.loop-index.left.now in
+    let at = c.loop-index.place - c.loop-index.start in
+    subst (λ (xs : List ℤ). IsAhead c.args.scheme xs c.from-held.result) (sym (take_rest left at))
+    (subst (λ (m : ℕ). IsAhead c.args.scheme (drop at left) m) (sym c.from-held.ensures)
+    (known_here c.args.scheme _ (drop at left) c.loop-index.invariant.known).0)
 
 pub next_word-requires-clause-cut : goal.next_word-requires-clause-cut
 next_word-requires-clause-cut c =
     let left = c.loop-index.left.now in
+    let at = c.loop-index.place - c.loop-index.start in
     let cut = c.loop-index.known.cut in
     let place = c.loop-index.place in
     let held = c.from-held.result in
     let long : length cut ≡ 64 = search rules in
-    subst (λ (xs : List ℤ). IsCut c.args.scheme held left xs) (sym (rest_long 64 place cut long))
-    (subst (λ (m : ℕ). IsCut c.args.scheme m left (drop place cut)) (sym c.from-held.ensures)
-    (known_here c.args.scheme _ left c.loop-index.invariant.known).1)
+    subst (λ (xs : List ℤ). IsCut c.args.scheme held (take (length left - at) (drop at left)) xs)
+    (sym (rest_long 64 place cut long))
+    (subst (λ (xs : List ℤ). IsCut c.args.scheme held xs (drop place cut)) (sym (take_rest left at))
+    (subst (λ (m : ℕ). IsCut c.args.scheme m (drop at left) (drop place cut)) (sym c.from-held.ensures)
+    (known_here c.args.scheme _ (drop at left) c.loop-index.invariant.known).1))
 
 pub returns-in_default : goal.returns-in_default
 returns-in_default c =
     let s = c.args.scheme in
     let ds = c.args.diffs.now in
     let left = c.loop-index.left.now in
-    let used = length ds - length left in
+    let at = c.loop-index.place - c.loop-index.start in
+    let used = length ds - length left + at in
     let coding = c.loop-index.invariant.pushing.coding in
+    let rest : take (length left - at) (drop at left) ≡ drop used ds = take_rest left at
+    ∙ rest_of ds left at c.loop-index.invariant.left in
     let large : IsTooLargeAt s (drop used ds) 0 =
-    subst (λ (xs : List ℤ). IsTooLargeAt s xs 0) c.loop-index.invariant.left c.in_default.ensures.refused in
+    subst (λ (xs : List ℤ). IsTooLargeAt s xs 0) rest c.in_default.ensures.refused in
     let same : length coding.whole ≡ length c.loop-index.frames = coding.long in
     let begin = coding.at in
     let from = coding.filling.from in
@@ -136,11 +180,14 @@ loop-index-preserved c =
     let s = c.args.scheme in
     let ds = c.args.diffs.now in
     let left = c.loop-index.left.now in
+    let start = c.loop-index.start in
+    let at = c.loop-index.place - start in
     let count = c.in-Ok.count in
-    let used = length ds - length left in
+    let used = length ds - length left + at in
+    let next = take (length left - at) (drop at left) in
+    let rest : next ≡ drop used ds = take_rest left at ∙ rest_of ds left at c.loop-index.invariant.left in
     let full : IsFullest s (drop used ds) c.in-Ok.code c.in-Ok.word count =
-    subst (λ (xs : List ℤ). IsFullest s xs c.in-Ok.code c.in-Ok.word count) c.loop-index.invariant.left
-    c.in-Ok.ensures.fullest in
+    subst (λ (xs : List ℤ). IsFullest s xs c.in-Ok.code c.in-Ok.word count) rest c.in-Ok.ensures.fullest in
     let small = spelled_code s c.in-Ok.code c.in-Ok.word (take count (drop used ds)) full.spelled in
     let coding = c.loop-index.invariant.pushing.coding in
     let begin = coding.at in
@@ -148,33 +195,30 @@ loop-index-preserved c =
     let plain : c.loop-index.index % 16 ≢ 0 = λ e. absurd (omega (arith, e, begin, from, c.loop-index-test.true)) in
     let room : 4 * (c.loop-index.index + 1) ≤ length c.write_word.new.frames =
     omega (arith, c.write_word.auto.frames, c.loop-index-test.true, c.loop-index.invariant.frame) in
-    let few = fullest_few s left c.in-Ok.code c.in-Ok.word count c.in-Ok.ensures.fullest in
+    let few = fullest_few s next c.in-Ok.code c.in-Ok.word count c.in-Ok.ensures.fullest in
     let early : c.loop-index.place < 57 = elim c.if-held-lt2.branch [
-      | then-held-lt2+else-is_empty+else-place-ge-KNOWN w ↦ omega (arith, w.if-place-ge-KNOWN.false)
-      | else-held-lt2 w ↦ known_early s (known_at c.loop-index.known.most c.loop-index.known.cut c.loop-index.place) left
-          c.from-held.result c.loop-index.invariant.known c.from-held.ensures (omega (arith, w.if-held-lt2.false))
+      | then-held-lt2+else-at-left+else-place-ge-KNOWN w ↦ omega (arith, w.if-place-ge-KNOWN.false)
+      | else-held-lt2 w ↦ known_early s (known_at c.loop-index.known.most c.loop-index.known.cut c.loop-index.place)
+          (drop at left) c.from-held.result c.loop-index.invariant.known c.from-held.ensures
+          (omega (arith, w.if-held-lt2.false))
     ] in
-    let rest : take (length left - count) (drop count left) ≡ drop count left = take_rest left count in
-    let long : length (take (length left - count) (drop count left)) ≡ length left - count =
-    ap (λ (xs : List ℤ). length xs) rest ∙ length-drop count left in
-    let whole : length left ≡ length ds - (length ds - length left) =
-    ap (λ (xs : List ℤ). length xs) c.loop-index.invariant.left ∙ length-drop (length ds - length left) ds in
-    let inside = c.in-Ok.ensures.fullest.inside in
-    let next : used + count ≡ length ds - length (take (length left - count) (drop count left)) =
-    omega (arith, long, whole, inside) in
+    let order = c.loop-index.invariant.order in
+    let on : at + count ≡ c.loop-index.place + count - start = omega (arith, order) in
+    let more : used + count ≡ length ds - length left + (c.loop-index.place + count - start) = omega (arith, order) in
     record {
       pushing = subst (λ (n : ℕ). Pushing s ds c.write_word.new.frames c.filling.head
-          c.with_code-codes.result (c.loop-index.index + 1) n) next
+          c.with_code-codes.result (c.loop-index.index + 1) n) more
           (pushing_more s ds c.loop-index.frames c.write_word.new.frames c.filling.head
           c.loop-index.codes c.loop-index.index used c.in-Ok.code c.in-Ok.word count c.with_code-codes.result
           plain room small c.loop-index.invariant.pushing full c.write_word.ensures
           c.with_code-codes.ensures);
-      left = rest ∙ ap (λ (xs : List ℤ). drop count xs) c.loop-index.invariant.left ∙ drop-drop count used ds
-          ∙ ap (λ (n : ℕ). drop n ds) next;
+      left = c.loop-index.invariant.left;
       known = subst (λ (xs : List ℤ).
           IsLookahead s (known_at c.loop-index.known.most c.loop-index.known.cut (c.loop-index.place + count)) xs)
-          (sym rest) (known_next s c.loop-index.known.most c.loop-index.known.cut c.loop-index.place count left
+          (drop-drop count at left ∙ ap (λ (n : ℕ). drop n left) on)
+          (known_next s c.loop-index.known.most c.loop-index.known.cut c.loop-index.place count (drop at left)
           c.loop-index.invariant.known (omega (arith, early, few)));
+      order = omega (arith, order);
       frame = omega (arith, c.loop-index.invariant.frame, c.write_word.auto.frames);
     }
 
@@ -183,7 +227,8 @@ returns c =
     let s = c.args.scheme in
     let ds = c.args.diffs.now in
     let left = c.loop-index.left.now in
-    let used = length ds - length left in
+    let at = c.loop-index.place - c.loop-index.start in
+    let used = length ds - length left + at in
     let words = c.loop-index.index - 3 - (c.loop-index.index - 1) / 16 in
     let filling : Filling s ds c.write_word-2.new.frames c.loop-index.index used words =
     pushed s ds c.loop-index.frames c.write_word-2.new.frames c.filling.head c.loop-index.codes c.loop-index.index
@@ -195,9 +240,7 @@ returns c =
     let end : (used ≡ length ds) ⊎ (c.loop-index.index ≡ word_count c.write_word-2.new.frames) =
     elim c.loop-index-test.branch [
       | else-loop-index-test+then-index-frames w ↦ inr (omega (arith, count, w.if-index-frames.true))
-      | then-loop-index-test+then-held-lt2+then-is_empty w ↦
-          let none : length left ≡ 0 = eqb-true (length left) 0 (sym w.is_empty.ensures ∙ w.if-is_empty.true) in
-          inl (omega (arith, long, none))
+      | then-loop-index-test+then-held-lt2+then-at-left w ↦ inl (omega (arith, long, w.if-at-left.true))
     ] in
     let begin = c.loop-index.invariant.pushing.coding.at in
     let from = c.loop-index.invariant.pushing.coding.filling.from in
@@ -218,6 +261,6 @@ returns c =
         refused = λ i. (λ e. cc, λ h. absurd (done.refused i h.0 h.1));
       };
       known = subst (λ (xs : List ℤ). IsLookahead s
-          (known_at c.loop-index.known.most c.loop-index.known.cut c.loop-index.place) xs) c.loop-index.invariant.left
-          c.loop-index.invariant.known;
+          (known_at c.loop-index.known.most c.loop-index.known.cut c.loop-index.place) xs)
+          (rest_of ds left at c.loop-index.invariant.left) c.loop-index.invariant.known;
     }
