@@ -9,6 +9,7 @@ minutes.txt.
 
 from __future__ import annotations
 
+import operator
 import re
 from typing import Callable, Iterator, NamedTuple
 
@@ -105,8 +106,8 @@ def minutes_from(lowest: str) -> Callable[[Sources], int]:
 
 
 def constant_of(path: str, name: str) -> int:
-    """A constant of a source file: a number or another of its constants, or two with `<<` or `*` between them."""
-    found = re.search(rf"\bconst {name}: \w+ = ([\w]+)(?: (<<|\*) ([\w]+))?;", text_of(path))
+    """A constant of a source file: a number or another of its constants, or two with `<<`, `*` or `+` between them."""
+    found = re.search(rf"\bconst {name}: \w+ = ([\w]+)(?: (<<|\*|\+) ([\w]+))?;", text_of(path))
     if not found:
         raise ValueError(f"{path} has no constant {name}")
 
@@ -116,7 +117,7 @@ def constant_of(path: str, name: str) -> int:
     first, sign, second = found.groups()
     if not sign:
         return number_of(first)
-    return number_of(first) << number_of(second) if sign == "<<" else number_of(first) * number_of(second)
+    return {"<<": operator.lshift, "*": operator.mul, "+": operator.add}[sign](number_of(first), number_of(second))
 
 
 def size(page: str, before: str, after: str, path: str, name: str) -> Figure:
@@ -141,9 +142,9 @@ FIGURES = [
     Figure("docs/DECISIONS.md", "the most of each crate**, ", " of ", in_gate),
     Figure("docs/DECISIONS.md", " of ", "; the others are in `tests/must-fail`", edits),
     size("docs/format.md", "if it has samples, at most ", " a second", "mseed_pack/src/fitting.rt", "FASTEST"),
-    size("docs/protocol.md", "A packet has ", " bytes: `SL`", "slink_feed/src/cutting.rt", "PACKET"),
+    size("docs/protocol.md", "A packet has ", " bytes: `SL`", "slink_wire/src/packet.rt", "PACKET"),
     size("docs/protocol.md", "and has at most ", " bytes including it", "slink_feed/src/cutting.rt", "LONGEST_REPLY"),
-    size("docs/protocol.md", "a fixed number of them, 1 to ", ".", "slink_feed/src/ring.rt", "LARGEST"),
+    size("docs/protocol.md", "a fixed number of them, 1 to ", ".", "slink_feed/src/ring.rt", "MOST_RECORDS"),
     size("docs/protocol.md", "Otherwise it reads at most ", " bytes", "slink_feed/src/serving.rt", "ROOM"),
     size("docs/protocol.md", "until the client closes the link, ", " bytes", "slink_links/src/closing.rt", "MOST"),
     size("docs/protocol.md", "the input gives at most ", " bytes", "slink_live/src/server.rt", "INPUT"),

@@ -25,7 +25,7 @@ from models.schedules import schedule, two_stations
 # Random schedules.
 COUNT = 3000
 TESTS = CRATES / "slink_tests" / "out" / "slink_tests_tests"
-ROW = "model::schedule::goes_on_behind_the_last_record"
+ROW = "model::schedule::goes_on_after_the_last_record"
 
 
 def schedules() -> Cases:

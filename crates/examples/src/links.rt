@@ -6,8 +6,8 @@ ghost use Rattle.slink_links.specs.Served.{IsServed};
 use mseed_stream::Sink;
 use slink_feed::{Client, Feed, LinkFault};
 use slink_links::{
-    Accept, Dial, FetchEnd, FetchPlan, Pause, ServePlan, EndsHandshake, fetch, fetch_all, fetch_link,
-    fetch_planned, serve, serve_all, serve_link, serve_planned,
+    Accept, Dial, EndsHandshake, FetchEnd, FetchPlan, Pause, ServePlan, fetch, fetch_all,
+    fetch_link, fetch_planned, serve, serve_all, serve_link, serve_planned,
 };
 use slink_wire::{Address, Host, Timeout};
 use std::net::Net;
@@ -91,7 +91,11 @@ pub fn serve_over<S: EndsHandshake>(feed: &Feed, link: &mut S) -> Result<(), Lin
 }
 
 /// Fetches over one link; whether the server has sent all that was requested.
-pub fn fetch_over<S: EndsHandshake, W: Sink>(client: &mut Client, link: &mut S, output: &mut W) -> bool {
+pub fn fetch_over<S: EndsHandshake, W: Sink>(
+    client: &mut Client,
+    link: &mut S,
+    output: &mut W,
+) -> bool {
     fetch_link(client, link, output) == FetchEnd::Done
 }
 

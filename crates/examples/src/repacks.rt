@@ -4,8 +4,8 @@ ghost use Rattle.std.specs.Prelude.{◌≤◌, ◌^◌, length};
 use mseed_pack::Options;
 use mseed_record::RecordView;
 use mseed_repack::{
-    ChannelFault, RepackFault, StretchesFault, repack, repack_channel, repack_selected,
-    misfit_number, repack_selected_stretches, repack_stretches, tell_broken, tell_misfit,
+    ChannelFault, RepackFault, StretchesFault, misfit_number, repack, repack_channel,
+    repack_selected, repack_selected_stretches, repack_stretches, tell_broken, tell_misfit,
     tell_without_time,
 };
 use mseed_select::Selector;
@@ -108,6 +108,15 @@ pub fn line_of_refusal(alloc: Global, fault: &StretchesFault) -> Vec<u8> {
     line.into_inner()
 }
 
+/// The number by which a line says why an archive can't be packed by stretches; none where it is refused for another
+/// reason.
+pub fn number_of_misfit(fault: &StretchesFault) -> Option<u64> {
+    match fault {
+        StretchesFault::Misfit(_channel, _stretch, fault) => Some(misfit_number(*fault)),
+        _ => None,
+    }
+}
+
 /// The records of a channel packed anew by its stretches.
 pub fn packed_by_stretches(
     alloc: Global,
@@ -119,12 +128,4 @@ pub fn packed_by_stretches(
     let mut output = Counted::new(Vec::new(alloc));
     repack_channel(alloc, records, options, &mut output)?;
     Ok(output.into_inner())
-}
-
-/// The number by which the line says why an archive isn't packed, where a channel can't be.
-pub fn number_of_reason(fault: &RepackFault) -> Option<u64> {
-    match fault {
-        RepackFault::Misfit(_, fault) => Some(misfit_number(*fault)),
-        _ => None,
-    }
 }
