@@ -172,19 +172,19 @@ abbrev pub all_widths : Scheme → List ℕ
 all_widths One = all_widths_one
 all_widths Two = all_widths_two
 
--- the differences of a word by its row
-abbrev pub differences_at : Scheme → List ℕ → ℕ → ℕ → List ℤ
-differences_at scheme frame from word =
-    digits (slice_index (widths_of scheme) (row_at frame from word)) (word_at frame word)
-    (slice_index (counts_of scheme) (row_at frame from word))
+-- the differences of a word by its row, where one table has how many they are and another of how many bits
+abbrev pub differences_by : List ℕ → List ℕ → List ℕ → ℕ → ℕ → List ℤ
+differences_by counts widths frame from word =
+    digits (slice_index widths (row_at frame from word)) (word_at frame word)
+    (slice_index counts (row_at frame from word))
 
--- their sum
+-- their sum, where none has 30 or 32 bits
 abbrev pub moved : Scheme → List ℕ → ℕ → ℕ → ℤ
-moved scheme frame from word = total (differences_at scheme frame from word)
+moved scheme frame from word = total (differences_by (counts_of scheme) (widths_of scheme) frame from word)
 
 -- how far they go in all, up and down
 abbrev pub spanned : Scheme → List ℕ → ℕ → ℕ → ℕ
-spanned scheme frame from word = span (differences_at scheme frame from word)
+spanned scheme frame from word = span (differences_by (counts_of scheme) (widths_of scheme) frame from word)
 
 unfoldable pub low_one : ℕ → ℕ → ℕ → ℕ → ℕ → ℕ
 low_one row a b c d =

@@ -6,8 +6,7 @@ use Rattle.mseed_steim.specs.declared.scheme.Scheme.TheVariants.{One, Two}
 use Rattle.mseed_steim.specs.declared.unpack.Unpacking.{Unpacking}
 use Rattle.mseed_steim.specs.Frames.{DataWord, words_from}
 use Rattle.mseed_steim.specs.private.Items.{items_of}
-use Rattle.mseed_steim.specs.private.Digits.{digits}
-use Rattle.mseed_steim.specs.private.Lanes.{Begins, row_at, word_at, all_counts, all_widths, span}
+use Rattle.mseed_steim.specs.private.Lanes.{Begins, all_counts, all_widths, differences_by, row_at, span}
 
 -- no fewer than the differences of a word, as far as they have at most 16 bits
 abbrev pub lanes_of : Scheme → ℕ
@@ -37,11 +36,9 @@ FitIn scheme frame from lanes =
     (lanes_of scheme ≤ lanes)
     ⊎ ((word : ℕ) → word < 16 → slice_index (all_counts scheme) (row_at frame from word) ≤ lanes)
 
--- the differences of a word by its row
+-- the differences of a word, those of 30 and 32 bits too
 abbrev pub differences_at : Scheme → List ℕ → ℕ → ℕ → List ℤ
-differences_at scheme frame from word =
-    digits (slice_index (all_widths scheme) (row_at frame from word)) (word_at frame word)
-    (slice_index (all_counts scheme) (row_at frame from word))
+differences_at scheme frame from word = differences_by (all_counts scheme) (all_widths scheme) frame from word
 
 -- the differences of n words, one after another
 unfoldable pub unpacked : Scheme → List ℕ → ℕ → ℕ → ℕ → List ℤ
