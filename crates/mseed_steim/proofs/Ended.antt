@@ -10,9 +10,9 @@ use Rattle.mseed_steim.specs.declared.fault.ReadFault.TheVariants.{Short, LastDi
 use Rattle.mseed_steim.specs.declared.sum.Sum.{Sum}
 use Rattle.mseed_steim.specs.Frames.{word_count, data_words, first_constant, last_constant}
 use Rattle.mseed_steim.specs.private.Items.{items_of}
-use Rattle.mseed_steim.specs.Samples.{IsSample, AreSums, IsFrameFault, short, last_differs, IsChecked, IsPayloadReading}
-use Rattle.mseed_steim.specs.Samples.{EndsOnConstant}
-use Rattle.mseed_steim.specs.private.Sums.{IsKept, fold, met_in, lack, the_sample, walk}
+use Rattle.mseed_steim.specs.Samples.{IsSample, AreSums, IsFrameFault, short, last_differs, IsChecked}
+use Rattle.mseed_steim.specs.private.Sums.{AreKept, IsKept, fold, in_places, kept_in, met_in, lack}
+use Rattle.mseed_steim.specs.private.Sums.{the_sample, walk}
 use Rattle.mseed_steim.proofs.Walking.{words_none}
 use Rattle.mseed_steim.proofs.Given.{items_given, words_small}
 use Rattle.mseed_steim.proofs.Folded.{last_of, kept_all, Lacks, lacks}
@@ -40,22 +40,6 @@ walked s p n sum h octets e =
     (items_of s (data_words p)) r) (sym e) (begins n (first_constant p) (items_of s (data_words p)) h) in
     all_met s p n _ (items_of s (data_words p)) sum (items_given s (data_words p) (words_small p octets 3 _))
     (constant_fits p octets 1) b
-
-pub ends_met : (s : Scheme) (p : List ℕ) (n : ℕ) (sum : Sum) → 0 < n → ((i : ℕ) → get_or p i 0 < 256)
-    → Ok sum ≡ fold n (record { met = 0; last = first_constant p }) (items_of s (data_words p))
-    → (ends : Ends) → ends.first ≡ first_constant p → ends.last ≡ last_constant p → sum.last ≡ last_constant p
-    → IsChecked (Frames s) Big p n (Ok ends)
-ends_met s p n sum h octets e ends first last same =
-    let m = walked s p n sum h octets e in
-    let found : slice_get (first_constant p ∷ m.others) (length (first_constant p ∷ m.others) - 1)
-    ≡ Some (last_constant p) = get_end (first_constant p) m.others ∙ ap (λ (z : ℤ). Some z) (sym m.ends ∙ same) in (
-      first_constant p ∷ m.others,
-      (
-        (refl, m.sums, m.range),
-        found,
-        (ap (λ (z : ℤ). Some z) (sym first), found ∙ ap (λ (z : ℤ). Some z) (sym last)),
-      ),
-    )
 
 pub ends_differ : (s : Scheme) (p : List ℕ) (n : ℕ) (sum : Sum) → 0 < n → ((i : ℕ) → get_or p i 0 < 256)
     → Ok sum ≡ fold n (record { met = 0; last = first_constant p }) (items_of s (data_words p))
@@ -99,18 +83,6 @@ pub get_pushed : (prefix : List ℤ) (last : ℤ) → slice_get (prefix ++ last 
 get_pushed [] last = refl
 get_pushed (x ∷ prefix) last = get_end x (prefix ++ last ∷ []) ∙ ap (λ (z : ℤ). Some z) (last_pushed x prefix last)
 
--- samples that were put in their places
-pub filled_met : (s : Scheme) (p : List ℕ) (n : ℕ) (sum : Sum) (out : List ℤ) → 0 < n → ((i : ℕ) → get_or p i 0 < 256)
-    → Ok sum ≡ fold n (record { met = 0; last = first_constant p }) (items_of s (data_words p))
-    → out ≡ met_in the_sample n (record { met = 0; last = first_constant p }) (items_of s (data_words p))
-    → sum.last ≡ last_constant p → IsPayloadReading (Frames s) Big p n out × EndsOnConstant (Frames s) p out
-filled_met s p n sum out h octets e put same =
-    let m = walked s p n sum h octets e in
-    let found : slice_get (first_constant p ∷ m.others) (length (first_constant p ∷ m.others) - 1)
-    ≡ Some (last_constant p) = get_end (first_constant p) m.others ∙ ap (λ (z : ℤ). Some z) (sym m.ends ∙ same) in
-    subst (λ (xs : List ℤ). IsPayloadReading (Frames s) Big p n xs × EndsOnConstant (Frames s) p xs)
-    (sym (put ∙ m.kept)) ((refl, m.sums, m.range), found)
-
 -- without a frame there are no words
 pub no_frame : (s : Scheme) (p : List ℕ) (n : ℕ) → length p < 64 → 0 < n → IsFrameFault s p n (Short 0)
 no_frame s p n small some =
@@ -118,26 +90,43 @@ no_frame s p n small some =
     let none : data_words p ≡ [] = rw over (words_none p 3) in
     short [] (rw none refl) some
 
--- what the tail of a walk answers, where nothing is kept of its samples
-pub walk_checked : (s : Scheme) (p : List ℕ) (n : ℕ) (constants : Ends) (walked : Result Sum ReadFault)
-    (r : Result Ends ReadFault) → 0 < n → ((i : ℕ) → get_or p i 0 < 256) → walked ≡ walk s p n
+-- what the tail of a walk answers, and what is kept
+pub ends_kept : (keep : Option (ℤ → ℤ → ℤ)) (s : Scheme) (p : List ℕ) (n : ℕ) (out before : List ℤ) → 0 < n
+    → in_places keep out
+    ≡ kept_in keep n (record { met = 0; last = first_constant p }) before (items_of s (data_words p))
+    → AreKept keep (met_in the_sample n (record { met = 0; last = first_constant p }) (items_of s (data_words p))) out
+ends_kept None s p n out before h e = tt
+ends_kept (Some keep) s p n out before h e = e ∙ kept_all keep n (first_constant p) (items_of s (data_words p)) h
+
+pub walk_kept : (keep : Option (ℤ → ℤ → ℤ)) (s : Scheme) (p : List ℕ) (n : ℕ) (constants : Ends)
+    (walked : Result Sum ReadFault) (out before : List ℤ) (r : Result Ends ReadFault) → 0 < n
+    → ((i : ℕ) → get_or p i 0 < 256) → walked ≡ walk s p n
+    → OnOk walked (in_places keep out
+    ≡ kept_in keep n (record { met = 0; last = first_constant p }) before (items_of s (data_words p)))
     → constants.first ≡ first_constant p → constants.last ≡ last_constant p → IfOk r (λ ends. ends ≡ constants)
     → OnOk r (IsOkAnd walked (λ sum. sum.last ≡ last_constant p)) → IfErr r (λ fault. IsFrameFault s p n fault)
-    → IsChecked (Frames s) Big p n r
-walk_checked s p n constants (Ok sum) (Ok ends) h octets e first last same met fault =
-    ends_met s p n sum h octets e ends (ap (λ (x : Ends). x.first) same ∙ first) (ap (λ (x : Ends). x.last) same ∙ last)
-    met
-walk_checked s p n constants (Err f) (Ok ends) h octets e first last same met fault = absurd met
-walk_checked s p n constants (Ok sum) (Err g) h octets e first last same met fault = fault
-walk_checked s p n constants (Err f) (Err g) h octets e first last same met fault = fault
-
--- and where something is
-pub walk_kept : (keep : ℤ → ℤ → ℤ) (s : Scheme) (p : List ℕ) (n : ℕ) (walked : Result Sum ReadFault) (out : List ℤ)
-    → 0 < n → ((i : ℕ) → get_or p i 0 < 256) → walked ≡ walk s p n
-    → OnOk walked (out ≡ met_in keep n (record { met = 0; last = first_constant p }) (items_of s (data_words p)))
-    → IsOkAnd walked (λ sum. sum.last ≡ last_constant p) → IsKept keep (Frames s) Big p n out (Ok tt)
-walk_kept keep s p n (Ok sum) out h octets e kept met =
+    → IsKept keep (Frames s) Big p n out r
+walk_kept keep s p n constants (Ok sum) out before (Ok ends) h octets e kept first last same met fault =
+    let m = walked s p n sum h octets e in
     let all = met_in the_sample n (record { met = 0; last = first_constant p }) (items_of s (data_words p)) in
-    let whole = filled_met s p n sum all h octets e refl met in
-    (all, (whole.0, whole.1, kept ∙ kept_all keep n (first_constant p) (items_of s (data_words p)) h))
-walk_kept keep s p n (Err f) out h octets e kept met = absurd met
+    let found : slice_get (first_constant p ∷ m.others) (length (first_constant p ∷ m.others) - 1)
+    ≡ Some (last_constant p) = get_end (first_constant p) m.others ∙ ap (λ (z : ℤ). Some z) (sym m.ends ∙ met) in
+    let starts = ap (λ (x : Ends). x.first) same ∙ first in
+    let ends_on = ap (λ (x : Ends). x.last) same ∙ last in (
+      first_constant p ∷ m.others,
+      (
+        (refl, m.sums, m.range),
+        found,
+        (ap (λ (z : ℤ). Some z) (sym starts), found ∙ ap (λ (z : ℤ). Some z) (sym ends_on)),
+        subst (λ (xs : List ℤ). AreKept keep xs out) m.kept (ends_kept keep s p n out before h kept),
+      ),
+    )
+walk_kept keep s p n constants (Err f) out before (Ok ends) h octets e kept first last same met fault = absurd met
+walk_kept keep s p n constants (Ok sum) out before (Err g) h octets e kept first last same met fault = fault
+walk_kept keep s p n constants (Err f) out before (Err g) h octets e kept first last same met fault = fault
+
+-- where nothing is kept
+pub kept_checked : (s : Scheme) (p : List ℕ) (n : ℕ) (out : List ℤ) (r : Result Ends ReadFault)
+    → IsKept None (Frames s) Big p n out r → IsChecked (Frames s) Big p n r
+kept_checked s p n out (Ok ends) h = (h.0, (h.1.0, h.1.1, h.1.2))
+kept_checked s p n out (Err fault) h = h

@@ -1,15 +1,17 @@
 -- Differences that are added up at once, while the limits of 32 bits are out of reach.
 use Rattle.std.proofs.Common.{◌≡◌, ℕ, ◌+◌, ◌<◌, ◌≤◌, ◌^◌, suc, List, [], ◌∷◌, ◌++◌, map, drop, get_or, length, ℤ, pos}
 use Rattle.std.proofs.Common.{negsuc, ◌+ℤ◌, nat_abs, w32, FitsSigned, arith, refl, ap, ◌∙◌, true, Ok, Result}
+use Rattle.std.proofs.Common.{⊎_elim}
 use Rattle.std.proofs.Math.Seq.{drop-cons}
 use Rattle.std.proofs.lemmas.Int.{ints}
-use Rattle.std.proofs.lemmas.Bool.{lt-ltb}
+use Rattle.std.proofs.lemmas.Bool.{cases_eq, eq-eqb, lt-ltb, ne_eqb}
 use Rattle.mseed_steim.specs.declared.differences.BadWordAt.{BadWordAt}
 use Rattle.mseed_steim.specs.declared.sum.Sum.{Sum}
 use Rattle.mseed_steim.specs.private.Lanes.{total, span}
-use Rattle.mseed_steim.specs.private.Sums.{fits, fold, kept_along, met_in, one_more, sums, the_sample}
-use Rattle.mseed_steim.proofs.Folds.{fold_add}
-use Rattle.mseed_steim.proofs.Folded.{met_add}
+use Rattle.mseed_steim.specs.private.Sums.{IsCounted, fits, fold, kept_along, kept_at, met_in, one_more, sums}
+use Rattle.mseed_steim.specs.private.Sums.{the_difference, the_sample, with_first}
+use Rattle.mseed_steim.proofs.Folds.{fold_add, fold_first}
+use Rattle.mseed_steim.proofs.Folded.{met_add, met_first}
 
 pub abs_sum : (a b : ℤ) → nat_abs (a +ℤ b) ≤ nat_abs a + nat_abs b
 abs_sum (pos a) (pos b) = omega arith
@@ -25,60 +27,102 @@ pub total_near : (ds : List ℤ) → nat_abs (total ds) ≤ span ds
 total_near [] = omega arith
 total_near (d ∷ ds) = let later = total_near ds in omega (arith, later, abs_sum d (total ds))
 
+-- a difference that counts
+pub counted_later : (m : ℕ) (ds : List ℤ) → 0 < m → IsCounted m ds
+counted_later m [] h = tt
+counted_later m (d ∷ ds) h = λ e. absurd (omega (arith, e, h))
+
+same_last : (m : ℕ) (l d : ℤ) → (m ≡ 0 → d ≡ pos 0) → m ≡ 0 → l ≡ l +ℤ d
+same_last m l d counts e = let none : d ≡ pos 0 = counts e in omega (arith, ints, none)
+
+fold_near : (n : ℕ) (s : Sum) (d : ℤ) (more : List (Result ℤ BadWordAt)) → s.met < n → (s.met ≡ 0 → d ≡ pos 0)
+    → fits (s.last +ℤ d) ≡ true → fold n s (Ok d ∷ more) ≡ fold n (one_more s (s.last +ℤ d)) more
+fold_near n s d more less counts fit = ⊎_elim
+    (λ (e : s.met ≡ 0). fold_first n s d more less e
+    ∙ ap (λ (z : ℤ). fold n (one_more s z) more) (same_last s.met s.last d counts e))
+    (λ (e : s.met ≡ 0 → ⊥). fold_add n s d more less (omega (arith, e)) fit)
+    (cases_eq s.met 0)
+
+met_near : (keep : ℤ → ℤ → ℤ) (n : ℕ) (s : Sum) (d : ℤ) (more : List (Result ℤ BadWordAt)) → s.met < n
+    → (s.met ≡ 0 → d ≡ pos 0) → fits (s.last +ℤ d) ≡ true
+    → met_in keep n s (Ok d ∷ more)
+    ≡ kept_at keep s.met d (s.last +ℤ d) ∷ met_in keep n (one_more s (s.last +ℤ d)) more
+met_near keep n s d more less counts fit = ⊎_elim
+    (λ (e : s.met ≡ 0). rw (eq-eqb s.met 0 e) (met_first keep n s d more less e
+    ∙ ap (λ (z : ℤ). z ∷ met_in keep n (one_more s z) more) (same_last s.met s.last d counts e)))
+    (λ (e : s.met ≡ 0 → ⊥). rw (ne_eqb s.met 0 e) (met_add keep n s d more less (omega (arith, e)) fit))
+    (cases_eq s.met 0)
+
 -- while the limits of 32 bits are out of reach, a walk goes on from the sum of the differences
-pub goes_far : (n : ℕ) (ds : List ℤ) (s : Sum) (more : List (Result ℤ BadWordAt)) → 0 < s.met → s.met + length ds ≤ n
-    → nat_abs s.last + span ds < 2 ^ 31
+pub goes_far : (n : ℕ) (ds : List ℤ) (s : Sum) (more : List (Result ℤ BadWordAt)) → IsCounted s.met ds
+    → s.met + length ds ≤ n → nat_abs s.last + span ds < 2 ^ 31
     → fold n s (map Ok ds ++ more) ≡ fold n (record { met = s.met + length ds; last = s.last +ℤ total ds }) more
-goes_far n [] s more some room far =
+goes_far n [] s more counted room far =
     let met : s.met + 0 ≡ s.met = omega arith in
     let last : s.last +ℤ pos 0 ≡ s.last = omega (arith, ints) in
     rw (met, last) refl
-goes_far n (d ∷ ds) s more some room far =
+goes_far n (d ∷ ds) s more counted room far =
     let near = abs_sum s.last d in
     let met : s.met + 1 + length ds ≡ s.met + length (d ∷ ds) = omega arith in
     let last : (s.last +ℤ d) +ℤ total ds ≡ s.last +ℤ total (d ∷ ds) = omega (arith, ints) in
     let within = near_fits (s.last +ℤ d) (omega (arith, near)) in
-    let later = rw (met, last) at (goes_far n ds (one_more s (s.last +ℤ d)) more (omega arith) (omega arith)
-    (omega (arith, near))) in
-    fold_add n s d (map Ok ds ++ more) (omega arith) some within ∙ later
+    let later = rw (met, last) at (goes_far n ds (one_more s (s.last +ℤ d)) more
+    (counted_later (s.met + 1) ds (omega arith)) (omega arith) (omega (arith, near))) in
+    fold_near n s d (map Ok ds ++ more) (omega arith) counted within ∙ later
 
 -- and keeps what is kept of each
-pub keeps_far : (keep : ℤ → ℤ → ℤ) (n : ℕ) (ds : List ℤ) (s : Sum) (more : List (Result ℤ BadWordAt)) → 0 < s.met
-    → s.met + length ds ≤ n → nat_abs s.last + span ds < 2 ^ 31
-    → met_in keep n s (map Ok ds ++ more)
-    ≡ kept_along keep s.last ds ++ met_in keep n (record { met = s.met + length ds; last = s.last +ℤ total ds }) more
-keeps_far keep n [] s more some room far =
+pub keeps_far : (keep : ℤ → ℤ → ℤ) (n : ℕ) (ds : List ℤ) (s : Sum) (more : List (Result ℤ BadWordAt))
+    → IsCounted s.met ds → s.met + length ds ≤ n → nat_abs s.last + span ds < 2 ^ 31
+    → met_in keep n s (map Ok ds ++ more) ≡ kept_along keep s.met s.last ds
+    ++ met_in keep n (record { met = s.met + length ds; last = s.last +ℤ total ds }) more
+keeps_far keep n [] s more counted room far =
     let met : s.met + 0 ≡ s.met = omega arith in
     let last : s.last +ℤ pos 0 ≡ s.last = omega (arith, ints) in
     rw (met, last) refl
-keeps_far keep n (d ∷ ds) s more some room far =
+keeps_far keep n (d ∷ ds) s more counted room far =
     let near = abs_sum s.last d in
     let met : s.met + 1 + length ds ≡ s.met + length (d ∷ ds) = omega arith in
     let last : (s.last +ℤ d) +ℤ total ds ≡ s.last +ℤ total (d ∷ ds) = omega (arith, ints) in
     let within = near_fits (s.last +ℤ d) (omega (arith, near)) in
-    let later = rw (met, last) at (keeps_far keep n ds (one_more s (s.last +ℤ d)) more (omega arith) (omega arith)
-    (omega (arith, near))) in
-    met_add keep n s d (map Ok ds ++ more) (omega arith) some within
-    ∙ ap (λ (zs : List ℤ). keep d (s.last +ℤ d) ∷ zs) later
+    let later = rw (met, last) at (keeps_far keep n ds (one_more s (s.last +ℤ d)) more
+    (counted_later (s.met + 1) ds (omega arith)) (omega arith) (omega (arith, near))) in
+    met_near keep n s d (map Ok ds ++ more) (omega arith) counted within
+    ∙ ap (λ (zs : List ℤ). kept_at keep s.met d (s.last +ℤ d) ∷ zs) later
 
 -- what is kept of some differences, where that is each sample, and where it is each difference
-pub sums_kept : (l : ℤ) (ds : List ℤ) → kept_along the_sample l ds ≡ sums l ds
-sums_kept l [] = refl
-sums_kept l (d ∷ ds) = ap (λ (zs : List ℤ). (l +ℤ d) ∷ zs) (sums_kept (l +ℤ d) ds)
+sample_kept : (m : ℕ) (d s : ℤ) → kept_at the_sample m d s ≡ s
+sample_kept m d s = ⊎_elim
+    (λ (e : m ≡ 0). rw (eq-eqb m 0 e) refl)
+    (λ (e : m ≡ 0 → ⊥). rw (ne_eqb m 0 e) refl)
+    (cases_eq m 0)
 
-pub differences_kept : (keep : ℤ → ℤ → ℤ) → ((d s : ℤ) → keep d s ≡ d) → (l : ℤ) (ds : List ℤ)
-    → kept_along keep l ds ≡ ds
-differences_kept keep e l [] = refl
-differences_kept keep e l (d ∷ ds) =
-    ap (λ (z : ℤ). z ∷ kept_along keep (l +ℤ d) ds) (e d (l +ℤ d))
-    ∙ ap (λ (zs : List ℤ). d ∷ zs) (differences_kept keep e (l +ℤ d) ds)
+pub sums_kept : (m : ℕ) (l : ℤ) (ds : List ℤ) → kept_along the_sample m l ds ≡ sums l ds
+sums_kept m l [] = refl
+sums_kept m l (d ∷ ds) =
+    ap (λ (z : ℤ). z ∷ kept_along the_sample (m + 1) (l +ℤ d) ds) (sample_kept m d (l +ℤ d))
+    ∙ ap (λ (zs : List ℤ). (l +ℤ d) ∷ zs) (sums_kept (m + 1) (l +ℤ d) ds)
+
+steps_later : (m : ℕ) (l : ℤ) (ds : List ℤ) → 0 < m → kept_along the_difference m l ds ≡ ds
+steps_later m l [] some = refl
+steps_later m l (d ∷ ds) some =
+    rw (ne_eqb m 0 (λ (e : m ≡ 0). omega (arith, e, some)))
+    (ap (λ (zs : List ℤ). d ∷ zs) (steps_later (m + 1) (l +ℤ d) ds (omega arith)))
+
+pub steps_kept : (m : ℕ) (l : ℤ) (ds : List ℤ) → IsCounted m ds → kept_along the_difference m l ds ≡ with_first m l ds
+steps_kept m l [] counted = refl
+steps_kept m l (d ∷ ds) counted = ⊎_elim
+    (λ (e : m ≡ 0). rw (eq-eqb m 0 e, ← same_last m l d counted e)
+    (ap (λ (zs : List ℤ). l ∷ zs) (steps_later (m + 1) l ds (omega arith))))
+    (λ (e : m ≡ 0 → ⊥). rw (ne_eqb m 0 e)
+    (ap (λ (zs : List ℤ). d ∷ zs) (steps_later (m + 1) (l +ℤ d) ds (omega arith))))
+    (cases_eq m 0)
 
 pub near_signed : (z : ℤ) → nat_abs z < 2 ^ 31 → FitsSigned w32 z
 near_signed (pos n) h = record { sfits = omega (arith, h) }
 near_signed (negsuc n) h = record { sfits = omega (arith, h) }
 
 -- the next of some differences, and those after it
-next_cut : (ds : List ℤ) (i : ℕ) (z : ℤ) → i < length ds → drop i ds ≡ get_or ds i z ∷ drop (i + 1) ds
+pub next_cut : (ds : List ℤ) (i : ℕ) (z : ℤ) → i < length ds → drop i ds ≡ get_or ds i z ∷ drop (i + 1) ds
 next_cut ds i z h =
     let next : suc i ≡ i + 1 = omega arith in
     drop-cons ds i z h ∙ ap (λ (k : ℕ). get_or ds i z ∷ drop k ds) next

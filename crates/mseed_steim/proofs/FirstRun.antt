@@ -1,36 +1,37 @@
--- The first frames at once: what their words have, but for the first difference.
-use Rattle.std.proofs.Common.{◌≡◌, ℕ, ◌+◌, ◌-◌, ◌*◌, ◌<◌, ◌≤◌, List, [], ◌∷◌, ◌++◌, map, length, ℤ, ◌-ℤ◌, pos, negsuc}
-use Rattle.std.proofs.Common.{take, nat_abs, refl, sym, ap, ◌∙◌, subst, arith, Ok, Result, Some, w32, FitsSigned}
+-- Frames at once: what their words have, but for the first sample's difference.
+use Rattle.std.proofs.Common.{◌≡◌, ℕ, ◌+◌, ◌-◌, ◌*◌, ◌<◌, ◌≤◌, List, [], ◌∷◌, ◌++◌, map, length, ℤ, ◌-ℤ◌, pos}
+use Rattle.std.proofs.Common.{take, drop, eqb, refl, sym, ap, ◌∙◌, subst, arith, Ok, Result, Option, Some, None, IfSome, ⊎_elim}
+use Rattle.std.proofs.Common.{◌+ℤ◌, ◌/◌, ◌^◌, nat_abs, w32, FitsSigned}
+use Rattle.std.specs.Bool.{OnTrue}
+use Rattle.std.specs.Prelude.{min}
+use Rattle.std.specs.Simd.{first_chunks}
+use Rattle.std.proofs.lemmas.Bool.{cases_eq, eq-eqb, ne_eqb}
 use Rattle.std.proofs.lemmas.Int.{ints}
-use Rattle.std.proofs.lemmas.List.{get_or-take}
+use Rattle.std.proofs.lemmas.List.{get_or-drop, get_or-take}
 use Rattle.mseed_steim.specs.declared.scheme.Scheme.{Scheme}
 use Rattle.mseed_steim.specs.declared.differences.BadWordAt.{BadWordAt}
 use Rattle.mseed_steim.specs.Frames.{DataWord, words_from}
 use Rattle.mseed_steim.specs.private.Digits.{differences_of, digit_at, digits}
 use Rattle.mseed_steim.specs.private.Items.{items_of}
 use Rattle.mseed_steim.specs.private.Moves.{AreFrames, Moves, MovesBy}
-use Rattle.mseed_steim.proofs.Far.{near_signed, total_near}
+use Rattle.mseed_steim.specs.declared.frame.TheConstants.{REACH}
+use Rattle.mseed_steim.specs.declared.sum.Sum.{Sum}
+use Rattle.mseed_steim.specs.private.Lanes.{Begins}
+use Rattle.mseed_steim.specs.private.Sums.{AddsRun, fold}
+use Rattle.mseed_steim.specs.private.Unpacked.{data_in, left_from}
+use Rattle.mseed_steim.proofs.Far.{counted_later, goes_far, near_signed, total_near}
+use Rattle.mseed_steim.proofs.Folds.{fold_first}
 use Rattle.mseed_steim.proofs.Spelled.{digits_over, digits_step}
-use Rattle.mseed_steim.proofs.Walking.{items_group, no_items, take_most, take_shorter, words_cut}
+use Rattle.mseed_steim.proofs.Walking.{frame_at, frames_cut, items_group, length-first_chunks, no_items, take_most}
+use Rattle.mseed_steim.proofs.Walking.{words_cut}
 
 begins_with : (ds : List ℤ) (d : ℤ) (more : List (Result ℤ BadWordAt)) → map Ok ds ++ [] ≡ Ok d ∷ more
     → (es : List ℤ) × (ds ≡ d ∷ es)
 begins_with [] d more e = let long = ap length e in absurd (omega (arith, long))
 begins_with (x ∷ xs) d more e = let same : x ≡ d = cc in (xs, ap (λ z. z ∷ xs) same)
 
--- the differences behind the first
-pub others : (c reach : ℕ) (b d : ℤ) (es : List ℤ) → Moves c b reach (d ∷ es) → Moves (c - 1) (b -ℤ d) reach es
-others c reach b d es m = record {
-  count_is = omega (arith, m.count_is);
-  by_is = omega (arith, ints, m.by_is);
-  near = omega (arith, m.near);
-}
-
-first_near : (c reach : ℕ) (b d : ℤ) (es : List ℤ) → Moves c b reach (d ∷ es) → nat_abs d ≤ reach
-first_near c reach b d es m = omega (arith, m.near)
-
 -- what the words from word 3 on have, the first of which is this
-pub found : (s : Scheme) (p : List ℕ) (n count reach : ℕ) (by d : ℤ) (w : DataWord)
+found : (s : Scheme) (p : List ℕ) (n count reach : ℕ) (by d : ℤ) (w : DataWord)
     → words_from p 3 13 ≡ w ∷ words_from p 4 12
     → ((ws : List DataWord) → (more : List (Result ℤ BadWordAt)) × (items_of s (w ∷ ws) ≡ Ok d ∷ more))
     → 0 < n → MovesBy s (words_from p 3 (16 * n - 3)) count by reach
@@ -55,24 +56,112 @@ found s p n count reach by d w cut first some moves =
       ),
     )
 
-abs_minus : (a b : ℤ) → nat_abs (a -ℤ b) ≤ nat_abs a + nat_abs b
-abs_minus (pos a) (pos b) = omega (arith, ints)
-abs_minus (pos a) (negsuc b) = omega (arith, ints)
-abs_minus (negsuc a) (pos b) = omega (arith, ints)
-abs_minus (negsuc a) (negsuc b) = omega (arith, ints)
+-- the first of these differences counts for nothing
+others : (c reach : ℕ) (b d : ℤ) (es : List ℤ) → Moves c b reach (d ∷ es) → Moves c (b -ℤ d) reach (pos 0 ∷ es)
+others c reach b d es m = record {
+  count_is = m.count_is;
+  by_is = omega (arith, ints, m.by_is);
+  near = omega (arith, m.near);
+}
 
--- without the first, their sum is a number of 32 bits
-pub others_fit : (c reach : ℕ) (b d : ℤ) (es : List ℤ) → Moves c b reach (d ∷ es) → reach ≤ 15728640
-    → FitsSigned w32 (b -ℤ d)
-others_fit c reach b d es m few =
-    let all = total_near (d ∷ es) in
-    let by : nat_abs b ≤ reach = rw (← m.by_is) (omega (arith, all, m.near)) in
-    let first = first_near c reach b d es m in
-    let apart = abs_minus b d in
-    near_signed (b -ℤ d) (omega (arith, by, first, apart, few))
+found_one : (s : Scheme) (p : List ℕ) (n i : ℕ) (sum : Sum) (d : ℤ) (w : DataWord) → i ≡ 0 → sum.met ≡ 0 → 0 < n
+    → words_from p 3 13 ≡ w ∷ words_from p 4 12
+    → ((ws : List DataWord) → (more : List (Result ℤ BadWordAt)) × (items_of s (w ∷ ws) ≡ Ok d ∷ more))
+    → AddsRun s p n i sum d
+found_one s p n i sum d w e none some cut first k count reach by more inside moves =
+    let less : sum.met < n = omega (arith, none, some) in
+    let from : data_in sum.met i ≡ 3 = ap (λ (m : ℕ). data_in m i) none ∙ ap (data_in 0) e in
+    let place : 16 * i + 3 ≡ 3 = omega (arith, e) in
+    let words : words_from p (16 * i + data_in sum.met i) (16 * k - data_in sum.met i) ≡ words_from p 3 (16 * k - 3) =
+    rw (from, place) refl in
+    let all = found s p k count reach by d w cut first more
+    (subst (λ (ws : List DataWord). MovesBy s ws count by reach) words moves) in (
+      pos 0 ∷ all.0,
+      (
+        others count reach by d all.0 all.1.0,
+        λ z. refl,
+        λ later. let behind = map Ok all.0 ++ items_of s (left_from p later (i + k)) in
+            ap (λ (ws : List DataWord). fold n sum (items_of s ws)) (frames_cut p sum.met later i k more inside)
+            ∙ ap (λ (ws : List DataWord). fold n sum (items_of s (ws ++ left_from p later (i + k)))) words
+            ∙ ap (λ (items : List (Result ℤ BadWordAt)). fold n sum items) (all.1.1 (left_from p later (i + k)))
+            ∙ fold_first n sum d behind less none ∙ sym (fold_first n sum (pos 0) behind less none),
+      ),
+    )
+
+pub found_run : (s : Scheme) (p : List ℕ) (n i : ℕ) (sum : Sum) (w : DataWord) (o : Option ℤ) → i ≡ 0 → sum.met ≡ 0
+    → 0 < n → words_from p 3 13 ≡ w ∷ words_from p 4 12
+    → IfSome o (λ d. (ws : List DataWord) → (more : List (Result ℤ BadWordAt)) × (items_of s (w ∷ ws) ≡ Ok d ∷ more))
+    → IfSome o (λ unused. AddsRun s p n i sum unused)
+found_run s p n i sum w None e none some cut first = tt
+found_run s p n i sum w (Some d) e none some cut first = found_one s p n i sum d w e none some cut first
+
+-- behind the first sample each difference counts
+pub moved_run : (s : Scheme) (p : List ℕ) (n i : ℕ) (sum : Sum) → 0 < sum.met → AddsRun s p n i sum (pos 0)
+moved_run s p n i sum some k count reach by more inside moves =
+    let same : by -ℤ pos 0 ≡ by = omega (arith, ints) in (
+      moves.0,
+      (
+        rw same moves.1.0,
+        counted_later sum.met moves.0 some,
+        λ later. ap (λ (ws : List DataWord). fold n sum (items_of s ws)) (frames_cut p sum.met later i k more inside)
+            ∙ ap (λ (items : List (Result ℤ BadWordAt)). fold n sum items) (moves.1.1 (left_from p later (i + k))),
+      ),
+    )
+
+-- what a run adds up, while the limits of 32 bits are out of its reach
+pub record RunAdds (s : Scheme) (p : List ℕ) (n i k count : ℕ) (by : ℤ) (sum : Sum) : Type 0 where
+  pub fits : FitsSigned w32 by
+  pub near : nat_abs sum.last + nat_abs by < 2 ^ 31
+  pub folded : (later : ℕ) → fold n sum (items_of s (left_from p sum.met i))
+      ≡ fold n (record { met = sum.met + count; last = sum.last +ℤ by }) (items_of s (left_from p later (i + k)))
+
+pub run_adds : (s : Scheme) (p : List ℕ) (n i k count reach : ℕ) (by unused : ℤ) (sum : Sum)
+    → AddsRun s p n i sum unused → 0 < k → i + k ≤ length p / 64
+    → MovesBy s (words_from p (16 * i + data_in sum.met i) (16 * k - data_in sum.met i)) count by reach
+    → sum.met + count ≤ n → nat_abs sum.last + reach < 2 ^ 31 → RunAdds s p n i k count (by -ℤ unused) sum
+run_adds s p n i k count reach by unused sum adds some inside moves room near =
+    let found = adds k count reach by some inside moves in
+    let ds : List ℤ = found.0 in
+    let m = found.1.0 in
+    let all = total_near ds in
+    let less : nat_abs (by -ℤ unused) ≤ reach = rw (← m.by_is) (omega (arith, all, m.near)) in
+    record {
+      fits = near_signed (by -ℤ unused) (omega (arith, less, near));
+      near = omega (arith, less, near);
+      folded = λ later. found.1.2 later
+          ∙ (rw (m.count_is, m.by_is) at (goes_far n ds sum (items_of s (left_from p later (i + k))) found.1.1
+          (omega (arith, m.count_is, room)) (omega (arith, m.near, near))));
+    }
+
+-- frames from one on are frames of the payload
+frames_from : (n k m : ℕ) (p : List ℕ) → k + m ≤ n → AreFrames (take m (drop k (first_chunks 64 n p))) p k
+frames_from n k m p inside i less =
+    let most = take_most m (drop k (first_chunks 64 n p)) in
+    let few : i < m = omega (arith, less, most) in
+    get_or-take m (drop k (first_chunks 64 n p)) i [] few ∙ get_or-drop k (first_chunks 64 n p) i []
+    ∙ frame_at n p (k + i) (omega (arith, few, inside))
+
+-- what a run adds up of the frames from one on, as many of them as are taken at once
+pub taken_run : (s : Scheme) (p : List ℕ) (n i k m most count : ℕ) (by unused : ℤ) (sum : Sum) (begin : List ℕ)
+    (frames : List (List ℕ)) → AddsRun s p n i sum unused → Begins begin (data_in sum.met i)
+    → frames ≡ first_chunks 64 (length p / 64) p → m ≡ min (length frames) (i + most)
+    → (0 < most → nat_abs sum.last + REACH * most < 2 ^ 31) → k ≤ length (take (m - i) (drop i frames))
+    → ((q : List ℕ) (j from : ℕ) → Begins begin from → AreFrames (take (m - i) (drop i frames)) q j
+    → MovesBy s (words_from q (16 * j + from) (16 * k - from)) count by (REACH * k))
+    → i < length p / 64 → sum.met + count ≤ n → 0 < k → RunAdds s p n i k count (by -ℤ unused) sum
+taken_run s p n i k m most count by unused sum begin frames adds begins front least near few moves inside room some =
+    let long = length-first_chunks (length p / 64) p in
+    let all : length frames ≡ length p / 64 = rw front long in
+    let within : i + (m - i) ≤ length p / 64 = omega (arith, least, all, inside) in
+    let all_taken = take_most (m - i) (drop i frames) in
+    let taken : k ≤ most = omega (arith, least, all_taken, few) in
+    let reach = near (omega (arith, taken, some)) in
+    run_adds s p n i k count (REACH * k) by unused sum adds some (omega (arith, within, all_taken, few))
+    (moves p i (data_in sum.met i) begins (rw front (frames_from (length p / 64) i (m - i) p within))) room
+    (omega (arith, reach, taken))
 
 -- a word of one difference
-pub one_item : (s : Scheme) (w : DataWord) (width bits count : ℕ)
+one_item : (s : Scheme) (w : DataWord) (width bits count : ℕ)
     → differences_of s w.code w.bits ≡ Some (digits width bits count) → count ≡ 1 → (ws : List DataWord)
     → items_of s (w ∷ ws) ≡ Ok (digit_at width bits 0) ∷ items_of s ws
 one_item s w width bits count e one ws =
@@ -85,35 +174,10 @@ one_item s w width bits count e one ws =
     items_group s (w ∷ ws) ws w (digits width bits count) refl e
     ∙ ap (λ (ds : List ℤ). map Ok ds ++ items_of s ws) step
 
--- what the words from word 3 on have, where the first of them has this difference alone
-pub found_behind : (s : Scheme) (p : List ℕ) (n count reach : ℕ) (by d : ℤ) (w : DataWord)
-    → words_from p 3 13 ≡ w ∷ words_from p 4 12
-    → ((ws : List DataWord) → items_of s (w ∷ ws) ≡ Ok d ∷ items_of s ws)
-    → 0 < n → MovesBy s (words_from p 4 (16 * n - 4)) count by reach
-    → (es : List ℤ) × (Moves count by reach es × ((rest : List DataWord)
-    → items_of s (words_from p 3 (16 * n - 3) ++ rest) ≡ Ok d ∷ (map Ok es ++ items_of s rest)))
-found_behind s p n count reach by d w cut first some moves =
-    let all : 13 + (16 * n - 16) ≡ 16 * n - 3 = omega (arith, some) in
-    let less : 12 + (16 * n - 16) ≡ 16 * n - 4 = omega (arith, some) in
-    let behind : words_from p 4 (16 * n - 4) ≡ words_from p 4 12 ++ words_from p 16 (16 * n - 16) =
-    rw less at (words_cut p 4 12 (16 * n - 16)) in
-    let words : words_from p 3 (16 * n - 3) ≡ w ∷ words_from p 4 (16 * n - 4) =
-    (rw all at (words_cut p 3 13 (16 * n - 16)))
-    ∙ ap (λ (ws : List DataWord). ws ++ words_from p 16 (16 * n - 16)) cut
-    ∙ ap (λ (ws : List DataWord). w ∷ ws) (sym behind) in (
-      moves.0,
-      (
-        moves.1.0,
-        λ rest. ap (λ (ws : List DataWord). items_of s (ws ++ rest)) words
-            ∙ first (words_from p 4 (16 * n - 4) ++ rest)
-            ∙ ap (λ (items : List (Result ℤ BadWordAt)). Ok d ∷ items) (moves.1.1 rest),
-      ),
-    )
-
--- the first of some frames
-pub prefix : (frames : List (List ℕ)) (p : List ℕ) (m : ℕ) → AreFrames frames p 0 → AreFrames (take m frames) p 0
-prefix frames p m are i less =
-    let most = take_most m frames in
-    let few : i < m = omega (arith, less, most) in
-    let long = take_shorter m frames in
-    get_or-take m frames i [] few ∙ are i (omega (arith, less, long))
+pub single_if : (s : Scheme) (w : DataWord) (width bits count : ℕ)
+    → differences_of s w.code w.bits ≡ Some (digits width bits count)
+    → OnTrue (eqb count 1) ((d : ℤ) × ((rest : List DataWord) → items_of s (w ∷ rest) ≡ Ok d ∷ items_of s rest))
+single_if s w width bits count e = ⊎_elim
+    (λ (one : count ≡ 1). rw (eq-eqb count 1 one) (digit_at width bits 0, one_item s w width bits count e one))
+    (λ (other : count ≡ 1 → ⊥). rw (ne_eqb count 1 other) tt)
+    (cases_eq count 1)

@@ -102,26 +102,6 @@ met_bad : (keep : ℤ → ℤ → ℤ) (n : ℕ) (s : Sum) (at : BadWordAt) (mor
 unfolding met_in
 met_bad keep n s at more = refl
 
--- two ways to keep that are one at each difference and sample
-met_same : (j k : ℤ → ℤ → ℤ) (n : ℕ) (s : Sum) (items : List (Result ℤ BadWordAt)) → ((d z : ℤ) → j d z ≡ k d z)
-    → met_in j n s items ≡ met_in k n s items
-unfolding met_in
-met_same j k n s [] e = refl
-met_same j k n s (Err at ∷ more) e = refl
-met_same j k n s (Ok d ∷ more) e =
-    rw (
-      met_same j k n (one_more s s.last) more e,
-      met_same j k n (one_more s (s.last +ℤ d)) more e,
-      e d (s.last +ℤ d),
-    ) refl
-
-pub kept_same : (j k : ℤ → ℤ → ℤ) (n : ℕ) (s next : Sum) (xs ys : List ℤ) (items behind : List (Result ℤ BadWordAt))
-    → ((d z : ℤ) → j d z ≡ k d z) → xs ++ met_in k n next behind ≡ ys ++ met_in k n s items
-    → xs ++ met_in j n next behind ≡ ys ++ met_in j n s items
-kept_same j k n s next xs ys items behind e h =
-    ap (λ (zs : List ℤ). xs ++ zs) (met_same j k n next behind e) ∙ h
-    ∙ sym (ap (λ (zs : List ℤ). ys ++ zs) (met_same j k n s items e))
-
 -- where two lists of what is kept are both empty
 both_empty : (keep : ℤ → ℤ → ℤ) (l : ℤ) (xs ys : List ℤ) → xs ≡ [] → ys ≡ [] → xs ≡ kept_from keep l ys
 both_empty keep l xs ys e h = e ∙ sym (ap (kept_from keep l) h)

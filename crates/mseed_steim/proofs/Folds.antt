@@ -1,6 +1,7 @@
 -- One item after another: how a walk goes on.
-use Rattle.std.proofs.Common.{◌≡◌, ◌≢◌, ℕ, ◌<◌, ◌^◌, List, [], ◌∷◌, ◌++◌, map, take, ◌∙◌, ℤ, pos, negsuc, ◌+ℤ◌}
-use Rattle.std.proofs.Common.{arith, refl, sym, ap, subst, eqb, false, true, Some, None, Result, Ok, Err, w32}
+use Rattle.std.proofs.Common.{◌≡◌, ◌≢◌, ℕ, ◌<◌, ◌^◌, List, [], ◌∷◌, ◌++◌, map, ◌∙◌, ℤ, pos, negsuc, ◌+ℤ◌}
+use Rattle.std.proofs.Common.{arith, refl, sym, ap, subst, eqb, false, true, Option, Some, None, Result, Ok}
+use Rattle.std.proofs.Common.{Err, w32}
 use Rattle.std.proofs.Common.{FitsSigned}
 use Rattle.std.proofs.lemmas.Bool.{ne_eqb, eq-eqb, lt-ltb, le-ltb}
 use Rattle.mseed_steim.specs.declared.differences.BadWordAt.{BadWordAt}
@@ -10,9 +11,9 @@ use Rattle.mseed_steim.specs.declared.scheme.Scheme.{Scheme}
 use Rattle.mseed_steim.specs.declared.sum.Sum.{Sum}
 use Rattle.mseed_steim.specs.private.Digits.{differences_of}
 use Rattle.mseed_steim.specs.private.Items.{items_of}
-use Rattle.mseed_steim.specs.Frames.{DataWord, words_from}
+use Rattle.mseed_steim.specs.Frames.{DataWord}
 use Rattle.mseed_steim.specs.Runs.{place_of}
-use Rattle.mseed_steim.specs.private.Sums.{GoesOn, Keeps, fits, fold, met_in, one_more}
+use Rattle.mseed_steim.specs.private.Sums.{Walks, fits, fold, one_more}
 use Rattle.mseed_steim.proofs.Walking.{items_group, items_bad}
 
 pub fold_enough : (n : ℕ) (s : Sum) (items : List (Result ℤ BadWordAt)) → s.met ≡ n → fold n s items ≡ Ok s
@@ -64,46 +65,18 @@ pub fold_short : (n : ℕ) (s : Sum) → s.met ≢ n → fold n s [] ≡ Err (Sh
 unfolding fold
 fold_short n s h = rw (ne_eqb s.met n h) refl
 
--- a walk that is at another sum by now
-pub goes_from : (n : ℕ) (s t : Sum) (items later behind : List (Result ℤ BadWordAt)) (r : Result Sum ReadFault)
-    → fold n s items ≡ fold n t later → GoesOn n t later behind r → GoesOn n s items behind r
-goes_from n s t items later behind (Ok next) e h = e ∙ h
-goes_from n s t items later behind (Err fault) e h = e ∙ h
-
-pub keeps_from : (keep : ℤ → ℤ → ℤ) (n : ℕ) (s t : Sum) (before between after : List ℤ)
-    (items later behind : List (Result ℤ BadWordAt)) (r : Result Sum ReadFault)
-    → take t.met between ++ met_in keep n t later ≡ take s.met before ++ met_in keep n s items
-    → Keeps keep n t between later behind after r → Keeps keep n s before items behind after r
-keeps_from keep n s t before between after items later behind (Ok next) e h = h ∙ e
-keeps_from keep n s t before between after items later behind (Err fault) e h = tt
-
-pub keeps_same : (keep : ℤ → ℤ → ℤ) (n : ℕ) (s : Sum) (before between after : List ℤ)
-    (items behind : List (Result ℤ BadWordAt)) (r : Result Sum ReadFault) → take s.met between ≡ take s.met before
-    → Keeps keep n s between items behind after r → Keeps keep n s before items behind after r
-keeps_same keep n s before between after items behind r e h =
-    keeps_from keep n s s before between after items items behind r
-    (ap (λ (xs : List ℤ). xs ++ met_in keep n s items) e) h
-
 -- no more is needed, whatever stands behind
 pub fold_done : (n : ℕ) (s : Sum) (items later : List (Result ℤ BadWordAt)) → s.met ≡ n
     → fold n s items ≡ fold n s later
 fold_done n s items later e = fold_enough n s items e ∙ sym (fold_enough n s later e)
 
 -- a word's differences, or that it is bad
-pub word_goes_on : (n : ℕ) (s : Scheme) (w : DataWord) (ds : List ℤ) (a : Sum) (r : Result Sum ReadFault)
-    → differences_of s w.code w.bits ≡ Some ds
-    → ((more : List (Result ℤ BadWordAt)) → GoesOn n a (map Ok ds ++ more) more r) → (rest : List DataWord)
-    → GoesOn n a (items_of s (w ∷ rest)) (items_of s rest) r
-word_goes_on n s w ds a r e h rest =
-    subst (λ (items : List (Result ℤ BadWordAt)). GoesOn n a items (items_of s rest) r)
-    (sym (items_group s (w ∷ rest) rest w ds refl e)) (h (items_of s rest))
-
-pub word_keeps : (keep : ℤ → ℤ → ℤ) (n : ℕ) (s : Scheme) (w : DataWord) (ds : List ℤ) (a : Sum)
+pub word_walks : (keep : Option (ℤ → ℤ → ℤ)) (n : ℕ) (s : Scheme) (w : DataWord) (ds : List ℤ) (a : Sum)
     (before after : List ℤ) (r : Result Sum ReadFault) → differences_of s w.code w.bits ≡ Some ds
-    → ((more : List (Result ℤ BadWordAt)) → Keeps keep n a before (map Ok ds ++ more) more after r)
-    → (rest : List DataWord) → Keeps keep n a before (items_of s (w ∷ rest)) (items_of s rest) after r
-word_keeps keep n s w ds a before after r e h rest =
-    subst (λ (items : List (Result ℤ BadWordAt)). Keeps keep n a before items (items_of s rest) after r)
+    → ((more : List (Result ℤ BadWordAt)) → Walks keep n a before (map Ok ds ++ more) more after r)
+    → (rest : List DataWord) → Walks keep n a before (items_of s (w ∷ rest)) (items_of s rest) after r
+word_walks keep n s w ds a before after r e h rest =
+    subst (λ (items : List (Result ℤ BadWordAt)). Walks keep n a before items (items_of s rest) after r)
     (sym (items_group s (w ∷ rest) rest w ds refl e)) (h (items_of s rest))
 
 pub bad_word : (n : ℕ) (s : Scheme) (w : DataWord) (a : Sum) → differences_of s w.code w.bits ≡ None → a.met < n
@@ -111,14 +84,3 @@ pub bad_word : (n : ℕ) (s : Scheme) (w : DataWord) (a : Sum) → differences_o
 bad_word n s w a e less rest =
     ap (λ (items : List (Result ℤ BadWordAt)). fold n a items) (items_bad s (w ∷ rest) rest w refl e)
     ∙ fold_bad n a (place_of w) [] less
-
--- the first frame, once its first data word has been taken
-pub first_goes_on : (n : ℕ) (s : Scheme) (p : List ℕ) (w : DataWord) (a t : Sum) (r : Result Sum ReadFault)
-    → words_from p 3 13 ≡ w ∷ words_from p 4 12
-    → ((rest : List DataWord) → fold n a (items_of s (w ∷ rest)) ≡ fold n t (items_of s rest)) → (rest : List DataWord)
-    → GoesOn n t (items_of s (words_from p 4 12 ++ rest)) (items_of s rest) r
-    → GoesOn n a (items_of s (words_from p 3 13 ++ rest)) (items_of s rest) r
-first_goes_on n s p w a t r cut step rest =
-    goes_from n a t (items_of s (words_from p 3 13 ++ rest)) (items_of s (words_from p 4 12 ++ rest)) (items_of s rest)
-    r
-    (ap (λ (ws : List DataWord). fold n a (items_of s (ws ++ rest))) cut ∙ step (words_from p 4 12 ++ rest))

@@ -266,21 +266,20 @@ payload_filled v form p n order out (Ok done) some holds count ordered h =
     payload_read v form p n order out some holds count ordered h.0 h.1
 payload_filled v form p n order out (Err f) some holds count ordered h = payload_lacks v form p n f holds count h
 
--- where samples are kept, they are filled in
-pub kept_filled : (form : Form) (order : Order) (p : List ℕ) (n : ℕ) (out : List ℤ) (r : Result (Unit {0}) ReadFault)
-    → IsKept the_sample form order p n out r → IsFilled form order p n out r
-kept_filled form order p n out (Ok done) h =
-    subst (λ (xs : List ℤ). IsPayloadReading form order p n xs × EndsOnConstant form p xs)
-    (sym (h.1.2 ∙ samples_are h.0)) (h.1.0, h.1.1)
-kept_filled form order p n out (Err f) h = h
+-- where samples are kept, they are the record's, and where differences are, these are its samples' steps
+pub payload_kept : (v : View) (form : Form) (p : List ℕ) (n : ℕ) (order : Order) (out : List ℤ)
+    (r : Result Ends ReadFault) → 0 < count_of v → HoldsIn v form p → n ≡ count_of v → order ≡ v.payload_order
+    → IsKept (Some the_sample) form order p n out r → MatchResult r (λ _. IsWhole v out) (λ f. IsFault v f)
+payload_kept v form p n order out (Ok ends) some holds count ordered h =
+    rw (h.1.3 ∙ samples_are h.0) (payload_read v form p n order h.0 some holds count ordered h.1.0 h.1.1)
+payload_kept v form p n order out (Err f) some holds count ordered h = payload_lacks v form p n f holds count h
 
--- and where differences are, the steps of the samples
 pub payload_stepped : (v : View) (form : Form) (p : List ℕ) (n : ℕ) (order : Order) (out : List ℤ)
-    (r : Result (Unit {0}) ReadFault) → 0 < count_of v → HoldsIn v form p → n ≡ count_of v → order ≡ v.payload_order
-    → IsKept the_difference form order p n out r
+    (r : Result Ends ReadFault) → 0 < count_of v → HoldsIn v form p → n ≡ count_of v → order ≡ v.payload_order
+    → IsKept (Some the_difference) form order p n out r
     → MatchResult r (λ _. (s : List ℤ) × (IsWhole v s × (out ≡ steps_of s))) (λ f. IsFault v f)
-payload_stepped v form p n order out (Ok done) some holds count ordered h =
-    (h.0, (payload_read v form p n order h.0 some holds count ordered h.1.0 h.1.1, h.1.2 ∙ steps_are h.0))
+payload_stepped v form p n order out (Ok ends) some holds count ordered h =
+    (h.0, (payload_read v form p n order h.0 some holds count ordered h.1.0 h.1.1, h.1.3 ∙ steps_are h.0))
 payload_stepped v form p n order out (Err f) some holds count ordered h = payload_lacks v form p n f holds count h
 
 -- what the answer of a read means

@@ -54,5 +54,5 @@ pub mod FrameUnpacked
 pub mod Classes
 pub mod Below
 pub mod Summed
-pub mod Needed
+pub mod Continuing
 pub mod Placed

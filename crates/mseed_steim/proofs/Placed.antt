@@ -4,10 +4,10 @@ use Rattle.std.proofs.Common.{ℤ, ◌+ℤ◌, ◌-ℤ◌, arith, refl, ap, sym,
 use Rattle.std.proofs.Common.{Bool, false, true, Option, Some, None, IfSome, get_or, min}
 use Rattle.std.specs.Bool.{OnTrue}
 use Rattle.std.proofs.Math.ListN.{set}
-use Rattle.std.proofs.Math.Seq.{take-append-add, take-length}
+use Rattle.std.proofs.Math.Seq.{take-length}
 use Rattle.std.proofs.lemmas.Int.{ints}
-use Rattle.std.proofs.lemmas.List.{length-take-le, map-append, take-append-drop, take-append-le, take-take}
-use borrow.Rule.Slice.PartMut.{post_of, put_mid}
+use Rattle.std.proofs.lemmas.List.{length-take-le, map-append, take-append-drop, take-take}
+use borrow.Rule.Slice.PartMut.{put_mid}
 use Rattle.mseed_record.specs.View.{View}
 use Rattle.mseed_steim.specs.declared.differences.BadWordAt.{BadWordAt}
 use Rattle.mseed_steim.specs.declared.form.Form.TheVariants.{Frames}
@@ -18,15 +18,12 @@ use Rattle.mseed_steim.specs.Samples.{Adds, AreSums, StartsAndAdds, differences_
 use Rattle.mseed_steim.specs.private.Digits.{differences_of}
 use Rattle.mseed_steim.specs.private.Items.{items_of}
 use Rattle.mseed_steim.specs.private.Lanes.{Begins}
-use Rattle.mseed_steim.specs.private.Unpacked.{AreUnpacked, data_in}
+use Rattle.mseed_steim.specs.private.Unpacked.{AreUnpacked, data_in, left_from}
 use Rattle.mseed_steim.proofs.Given.{IsWord, all_after, prefix_words, words_small}
 use Rattle.mseed_steim.proofs.Laws.{same_payload}
-use Rattle.mseed_steim.proofs.Walking.{data_behind, items_group}
+use Rattle.mseed_steim.proofs.Summed.{put_next}
+use Rattle.mseed_steim.proofs.Walking.{frames_cut, items_group}
 use Rattle.std.specs.List.{AllByRecursion}
-
--- the data words of a payload from a frame on
-abbrev pub left_from : List ℕ → ℕ → List DataWord
-left_from p i = words_from p (16 * i + data_in i) (word_count p - (16 * i + data_in i))
 
 -- the first of a frame's differences stand there, as many as there are places
 abbrev pub Put : Scheme → List ℕ → List ℕ → ℕ → List ℤ → ℕ → Type 0
@@ -52,27 +49,16 @@ put_in_place s begin frame (Some count) out places e room h =
     put_of s begin frame out out count count places h (omega (arith, e, room, few)) (omega (arith, few, room))
     (sym (take-take count count out (omega arith)))
 
--- what is put behind what there is
-pub put_next : (k rest m : ℕ) (out after : List ℤ) → k ≤ length out → m ≤ length after
-    → take (k + m) (put_mid k rest out after) ≡ take k out ++ take m after
-put_next k rest m out after inside filled =
-    let behind : List ℤ = post_of k rest out in
-    let first : length (take k out) ≡ k = length-take-le k out inside in
-    let at : k + m ≡ length (take k out) + m = omega (arith, first) in
-    ap (λ (n : ℕ). take n (take k out ++ (after ++ behind))) at
-    ∙ take-append-add (take k out) (after ++ behind) m
-    ∙ ap (λ (ys : List ℤ). take k out ++ ys) (take-append-le m after behind filled)
-
 -- a frame's differences, behind those of the frames before it
 pub next_items : (s : Scheme) (p begin frame : List ℕ) (i count : ℕ) (done ds : List ℤ) → i < length p / 64
-    → Begins begin (data_in i) → frame ≡ take 64 (drop (64 * i) p) → AreUnpacked s begin frame ds count
-    → items_of s (data_words p) ≡ map Ok done ++ items_of s (left_from p i)
-    → items_of s (data_words p) ≡ map Ok (done ++ ds) ++ items_of s (left_from p (i + 1))
+    → Begins begin (data_in 0 i) → frame ≡ take 64 (drop (64 * i) p) → AreUnpacked s begin frame ds count
+    → items_of s (data_words p) ≡ map Ok done ++ items_of s (left_from p 0 i)
+    → items_of s (data_words p) ≡ map Ok (done ++ ds) ++ items_of s (left_from p 0 (i + 1))
 next_items s p begin frame i count done ds inside begins e unpacked same =
-    let rest : List (Result ℤ BadWordAt) = items_of s (left_from p (i + 1)) in
-    same ∙ ap (λ (ws : List DataWord). map Ok done ++ items_of s ws) (data_behind p i inside)
+    let rest : List (Result ℤ BadWordAt) = items_of s (left_from p 0 (i + 1)) in
+    same ∙ ap (λ (ws : List DataWord). map Ok done ++ items_of s ws) (frames_cut p 0 0 i 1 (omega arith) (omega (arith, inside)))
     ∙ ap (λ (items : List (Result ℤ BadWordAt)). map Ok done ++ items)
-    (unpacked.items p i (data_in i) (left_from p (i + 1)) begins e)
+    (unpacked.items p i (data_in 0 i) (left_from p 0 (i + 1)) begins e)
     ∙ sym (append_assoc (map Ok done) (map Ok ds) rest)
     ∙ ap (λ (items : List (Result ℤ BadWordAt)). items ++ rest) (sym (map-append Ok done ds))
 
@@ -100,18 +86,18 @@ word_put s w ws done ds full left e q =
 -- where a frame's words fill the places, so do those of all frames
 pub rest_put : (r : Bool) (s : Scheme) (p : List ℕ) (i met : ℕ) (out before after : List ℤ) → i < length p / 64
     → take met before ≡ take met out
-    → items_of s (data_words p) ≡ map Ok (take met out) ++ items_of s (left_from p i)
+    → items_of s (data_words p) ≡ map Ok (take met out) ++ items_of s (left_from p 0 i)
     → OnTrue r ((rest : List DataWord) → (more : List (Result ℤ BadWordAt))
-    × (map Ok (take met before) ++ items_of s (words_from p (16 * i + data_in i) (16 - data_in i) ++ rest)
+    × (map Ok (take met before) ++ items_of s (words_from p (16 * i + data_in 0 i) (16 - data_in 0 i) ++ rest)
     ≡ map Ok after ++ more))
     → OnTrue r ((more : List (Result ℤ BadWordAt)) × (items_of s (data_words p) ≡ map Ok after ++ more))
 rest_put false s p i met out before after inside kept same h = tt
 rest_put true s p i met out before after inside kept same h =
-    let found = h (left_from p (i + 1)) in (
+    let found = h (left_from p 0 (i + 1)) in (
       found.0,
-      same ∙ ap (λ (ws : List DataWord). map Ok (take met out) ++ items_of s ws) (data_behind p i inside)
-          ∙ ap (λ (ys : List ℤ). map Ok ys ++ items_of s (words_from p (16 * i + data_in i) (16 - data_in i)
-          ++ left_from p (i + 1))) (sym kept) ∙ found.1,
+      same ∙ ap (λ (ws : List DataWord). map Ok (take met out) ++ items_of s ws) (frames_cut p 0 0 i 1 (omega arith) (omega (arith, inside)))
+          ∙ ap (λ (ys : List ℤ). map Ok ys ++ items_of s (words_from p (16 * i + data_in 0 i) (16 - data_in 0 i)
+          ++ left_from p 0 (i + 1))) (sym kept) ∙ found.1,
     )
 
 -- samples that differences add up to are that far apart
@@ -164,14 +150,14 @@ record_sums v s p n ss holds places whole =
 
 -- a frame's differences, put behind those before them
 pub put_on : (s : Scheme) (p begin frame : List ℕ) (i met rest count places : ℕ) (out after : List ℤ)
-    → i < length p / 64 → Begins begin (data_in i) → frame ≡ take 64 (drop (64 * i) p)
+    → i < length p / 64 → Begins begin (data_in 0 i) → frame ≡ take 64 (drop (64 * i) p)
     → Put s begin frame places after count → length after ≡ places → met + places ≡ length out
-    → items_of s (data_words p) ≡ map Ok (take met out) ++ items_of s (left_from p i)
+    → items_of s (data_words p) ≡ map Ok (take met out) ++ items_of s (left_from p 0 i)
     → (more : List (Result ℤ BadWordAt))
     × (items_of s (data_words p) ≡ map Ok (take (met + count) (put_mid met rest out after)) ++ more)
 put_on s p begin frame i met rest count places out after inside begins e put all room same =
     let ds : List ℤ = put.0 in
-    let behind : List (Result ℤ BadWordAt) = items_of s (left_from p (i + 1)) in
+    let behind : List (Result ℤ BadWordAt) = items_of s (left_from p 0 (i + 1)) in
     let least : count ≤ places = omega (arith, put.1.1) in
     let there : take (met + count) (put_mid met rest out after) ≡ take met out ++ take count ds =
     put_next met rest count out after (omega (arith, room)) (omega (arith, all, least))
@@ -181,11 +167,11 @@ put_on s p begin frame i met rest count places out after inside begins e put all
 
 -- and where there are more places, the later frames' differences come behind it
 pub goes_on : (s : Scheme) (p begin frame : List ℕ) (i met rest count places : ℕ) (out after : List ℤ)
-    → i < length p / 64 → Begins begin (data_in i) → frame ≡ take 64 (drop (64 * i) p)
+    → i < length p / 64 → Begins begin (data_in 0 i) → frame ≡ take 64 (drop (64 * i) p)
     → Put s begin frame places after count → length after ≡ places → met + places ≡ length out → count < places
-    → items_of s (data_words p) ≡ map Ok (take met out) ++ items_of s (left_from p i)
+    → items_of s (data_words p) ≡ map Ok (take met out) ++ items_of s (left_from p 0 i)
     → items_of s (data_words p)
-    ≡ map Ok (take (met + count) (put_mid met rest out after)) ++ items_of s (left_from p (i + 1))
+    ≡ map Ok (take (met + count) (put_mid met rest out after)) ++ items_of s (left_from p 0 (i + 1))
 goes_on s p begin frame i met rest count places out after inside begins e put all room more same =
     let ds : List ℤ = put.0 in
     let whole : count ≡ length ds = omega (arith, put.1.1, more) in

@@ -1,6 +1,6 @@
 -- Sums of differences, four at once and in whole turns.
 use Rattle.std.proofs.Common.{◌≡◌, ℕ, ◌+◌, ◌-◌, ◌<◌, ◌≤◌, ◌^◌, suc, List, [], ◌∷◌, ◌++◌, map, take, drop, length}
-use Rattle.std.proofs.Common.{ℤ, pos, ◌+ℤ◌, nat_abs, w32, to_z, of_z, FitsSigned, arith, refl, ap, sym, ◌∙◌, Result, Ok}
+use Rattle.std.proofs.Common.{ℤ, pos, ◌+ℤ◌, nat_abs, w32, to_z, of_z, FitsSigned, arith, refl, ap, sym, ◌∙◌}
 use Rattle.std.specs.Prelude.{⊤}
 use Rattle.std.proofs.Common.{append_assoc, get_or, zero}
 use Rattle.std.specs.Prelude.{replicate}
@@ -11,10 +11,8 @@ use borrow.Rule.Slice.PartMut.{mid_of, post_of, put_mid}
 use lib.Lanes.{put_chunk}
 use Rattle.std.proofs.lemmas.Int.{ints, to_z-of_z}
 use Rattle.mseed_steim.specs.private.Lanes.{total, span}
-use Rattle.mseed_steim.specs.declared.differences.BadWordAt.{BadWordAt}
-use Rattle.mseed_steim.specs.declared.sum.Sum.{Sum}
-use Rattle.mseed_steim.specs.private.Sums.{fold, kept_along, met_in, sums, the_sample}
-use Rattle.mseed_steim.proofs.Far.{abs_sum, goes_far, keeps_far, near_signed, sums_kept, total_near}
+use Rattle.mseed_steim.specs.private.Sums.{sums}
+use Rattle.mseed_steim.proofs.Far.{abs_sum, near_signed, total_near}
 use Rattle.mseed_steim.proofs.FrameItems.{span-append}
 
 -- a list of four
@@ -225,22 +223,22 @@ pub record Summed (ds : List ℤ) (begin : ℤ) (k : ℕ) (out : List ℤ) (last
   pub kept : take k out ++ sums last (drop k ds) ≡ sums begin ds
   pub moved : last +ℤ total (drop k ds) ≡ begin +ℤ total ds
 
-pub next_four : (ds : List ℤ) (begin : ℤ) (k n : ℕ) (out after : List ℤ) (last next : ℤ) → n ≡ k + 4
-    → Summed ds begin k out last → take n after ≡ take k out ++ sums last (take 4 (drop k ds))
-    → next ≡ last +ℤ total (take 4 (drop k ds)) → Summed ds begin n after next
-next_four ds begin k n out after last next at s put moved =
-    let cut : drop k ds ≡ take 4 (drop k ds) ++ drop n ds = rw at (chunk-drop k 4 ds) in
-    let spans : span (drop k ds) ≡ span (take 4 (drop k ds)) + span (drop n ds) = rw at (span_cut ds k 4) in
-    let totals : total (drop k ds) ≡ total (take 4 (drop k ds)) +ℤ total (drop n ds) =
-    ap total cut ∙ total_more (take 4 (drop k ds)) (drop n ds) in
-    let step = abs_sum last (total (take 4 (drop k ds))) in
+pub next_some : (ds : List ℤ) (begin : ℤ) (k m n : ℕ) (out after : List ℤ) (last next : ℤ) → n ≡ k + m
+    → Summed ds begin k out last → take n after ≡ take k out ++ sums last (take m (drop k ds))
+    → next ≡ last +ℤ total (take m (drop k ds)) → Summed ds begin n after next
+next_some ds begin k m n out after last next at s put moved =
+    let some : List ℤ = take m (drop k ds) in
+    let cut : drop k ds ≡ some ++ drop n ds = rw at (chunk-drop k m ds) in
+    let spans : span (drop k ds) ≡ span some + span (drop n ds) = rw at (span_cut ds k m) in
+    let totals : total (drop k ds) ≡ total some +ℤ total (drop n ds) = ap total cut ∙ total_more some (drop n ds) in
+    let step = abs_sum last (total some) in
     record {
-      near = rw moved (omega (arith, s.near, spans, step, total_near (take 4 (drop k ds))));
+      near = rw moved (omega (arith, s.near, spans, step, total_near some));
       kept = ap (λ (xs : List ℤ). xs ++ sums next (drop n ds)) put
-          ∙ append_assoc (take k out) (sums last (take 4 (drop k ds))) (sums next (drop n ds))
+          ∙ append_assoc (take k out) (sums last some) (sums next (drop n ds))
           ∙ ap (λ (xs : List ℤ). take k out ++ xs)
-          (ap (λ (z : ℤ). sums last (take 4 (drop k ds)) ++ sums z (drop n ds)) moved
-          ∙ sym (ap (sums last) cut ∙ sums_more last (take 4 (drop k ds)) (drop n ds)))
+          (ap (λ (z : ℤ). sums last some ++ sums z (drop n ds)) moved
+          ∙ sym (ap (sums last) cut ∙ sums_more last some (drop n ds)))
           ∙ s.kept;
       moved = rw moved (omega (arith, ints, totals, s.moved));
     }
@@ -301,58 +299,23 @@ put_front k rest out after inside =
     let first : length (take k out) ≡ k = length-take-le k out inside in
     take_at (take k out) (after ++ post_of k rest out) k first
 
--- while the limits of 32 bits are out of reach, a walk goes on from the sum of the differences
-pub goes_next : (n : ℕ) (ds : List ℤ) (s next : Sum) (more : List (Result ℤ BadWordAt)) → next.met ≡ s.met + length ds
-    → next.last ≡ s.last +ℤ total ds → 0 < s.met → s.met + length ds ≤ n → nat_abs s.last + span ds < 2 ^ 31
-    → fold n s (map Ok ds ++ more) ≡ fold n next more
-goes_next n ds s next more met last some room near =
-    let far = goes_far n ds s more some room near in
-    rw (← met, ← last) at far
-
--- and what is kept of them is put in its places
-pub put_kept : (keep : ℤ → ℤ → ℤ) (n rest : ℕ) (ds : List ℤ) (s next : Sum) (out after : List ℤ)
-    (more : List (Result ℤ BadWordAt)) → next.met ≡ s.met + length ds → next.last ≡ s.last +ℤ total ds → 0 < s.met
-    → s.met + length ds ≤ n → nat_abs s.last + span ds < 2 ^ 31 → s.met ≤ length out → length ds ≤ length after
-    → take (length ds) after ≡ kept_along keep s.last ds
-    → take next.met (put_mid s.met rest out after) ++ met_in keep n next more
-    ≡ take s.met out ++ met_in keep n s (map Ok ds ++ more)
-put_kept keep n rest ds s next out after more met last some room near inside filled put =
-    let behind : List ℤ = post_of s.met rest out in
-    let first : length (take s.met out) ≡ s.met = length-take-le s.met out inside in
-    let at : next.met ≡ length (take s.met out) + length ds = omega (arith, first, met) in
-    let places : take next.met (put_mid s.met rest out after) ≡ take s.met out ++ kept_along keep s.last ds =
-    ap (λ (m : ℕ). take m (take s.met out ++ (after ++ behind))) at
-    ∙ take-append-add (take s.met out) (after ++ behind) (length ds)
-    ∙ ap (λ (ys : List ℤ). take s.met out ++ ys) (take-append-le (length ds) after behind filled ∙ put) in
-    let far = rw (← met, ← last) at (keeps_far keep n ds s more some room near) in
-    ap (λ (ys : List ℤ). ys ++ met_in keep n next more) places
-    ∙ append_assoc (take s.met out) (kept_along keep s.last ds) (met_in keep n next more)
-    ∙ ap (λ (ys : List ℤ). take s.met out ++ ys) (sym far)
+-- what is put behind what there is
+pub put_next : (k rest m : ℕ) (out after : List ℤ) → k ≤ length out → m ≤ length after
+    → take (k + m) (put_mid k rest out after) ≡ take k out ++ take m after
+put_next k rest m out after inside filled =
+    let behind : List ℤ = post_of k rest out in
+    let first : length (take k out) ≡ k = length-take-le k out inside in
+    let at : k + m ≡ length (take k out) + m = omega (arith, first) in
+    ap (λ (n : ℕ). take n (take k out ++ (after ++ behind))) at
+    ∙ take-append-add (take k out) (after ++ behind) m
+    ∙ ap (λ (ys : List ℤ). take k out ++ ys) (take-append-le m after behind filled)
 
 -- what is put by whole turns, as far as the differences go
-pub whole_kept : (n count k rest : ℕ) (ds : List ℤ) (s : Sum) (out after : List ℤ) (z : ℤ)
-    (more : List (Result ℤ BadWordAt)) → length ds ≡ count → 0 < s.met → s.met + count ≤ n
-    → nat_abs s.last + span ds < 2 ^ 31 → s.met ≤ length out → count ≤ length after
-    → take (length (ds ++ replicate k (pos 0))) after ≡ sums s.last (ds ++ replicate k (pos 0))
-    → z ≡ s.last +ℤ total ds
-    → take (s.met + count) (put_mid s.met rest out after)
-    ++ met_in the_sample n (record { met = s.met + count; last = z }) more
-    ≡ take s.met out ++ met_in the_sample n s (map Ok ds ++ more)
-whole_kept n count k rest ds s out after z more long some room near inside filled put moved =
+pub whole_put : (count k : ℕ) (ds after : List ℤ) (l : ℤ) → length ds ≡ count
+    → take (length (ds ++ replicate k (pos 0))) after ≡ sums l (ds ++ replicate k (pos 0))
+    → take count after ≡ sums l ds
+whole_put count k ds after l long put =
     let whole : List ℤ = ds ++ replicate k (pos 0) in
     let few : count ≤ length whole = omega (arith, long, length-append ds (replicate k (pos 0))) in
-    let kept : take count after ≡ sums s.last ds =
-    sym (take-take count (length whole) after few) ∙ ap (take count) (put ∙ sums_more s.last ds (replicate k (pos 0)))
-    ∙ take_at (sums s.last ds) (sums (s.last +ℤ total ds) (replicate k (pos 0))) count
-    (length-sums s.last ds ∙ long) in
-    put_kept the_sample n rest ds s (record { met = s.met + count; last = z }) out after more
-    (ap (λ (k : ℕ). s.met + k) (sym long)) moved some (omega (arith, long, room)) near inside
-    (omega (arith, long, filled))
-    (ap (λ (k : ℕ). take k after) long ∙ kept ∙ sym (sums_kept s.last ds))
-
-pub whole_goes_on : (n count : ℕ) (ds : List ℤ) (s : Sum) (z : ℤ) (more : List (Result ℤ BadWordAt))
-    → length ds ≡ count → 0 < s.met → s.met + count ≤ n → nat_abs s.last + span ds < 2 ^ 31 → z ≡ s.last +ℤ total ds
-    → fold n s (map Ok ds ++ more) ≡ fold n (record { met = s.met + count; last = z }) more
-whole_goes_on n count ds s z more long some room near moved =
-    goes_next n ds s (record { met = s.met + count; last = z }) more (ap (λ (k : ℕ). s.met + k) (sym long)) moved some
-    (omega (arith, long, room)) near
+    sym (take-take count (length whole) after few) ∙ ap (take count) (put ∙ sums_more l ds (replicate k (pos 0)))
+    ∙ take_at (sums l ds) (sums (l +ℤ total ds) (replicate k (pos 0))) count (length-sums l ds ∙ long)

@@ -2,7 +2,7 @@
 use Rattle.std.specs.Simd.{first_chunks}
 use Rattle.std.proofs.Common.{◌≡◌, ◌≢◌, ◌⊎◌, ⊎_elim, take, drop, get_or, ◌*◌, ◌∙◌, inl, inr, ℕ, zero, suc, ◌+◌, ◌%◌}
 use Rattle.std.proofs.Common.{◌-◌, ◌/◌, ◌<◌, ◌≤◌, List, [], ◌∷◌, ◌++◌, map, length, ℤ, arith, refl, ap}
-use Rattle.std.proofs.Common.{add-one, sym, Option, Some, None, Ok, Err}
+use Rattle.std.proofs.Common.{sym, Option, Some, None, Ok, Err}
 use Rattle.std.proofs.lemmas.Bool.{ne_eqb, cases_lt}
 use Rattle.std.proofs.lemmas.List.{drop-drop}
 use Rattle.mseed_steim.specs.declared.scheme.Scheme.{Scheme}
@@ -10,7 +10,8 @@ use Rattle.mseed_steim.specs.private.Digits.{differences_of}
 use Rattle.mseed_steim.specs.Frames.{DataWord, data_word, data_words, words_from, word_count}
 use Rattle.mseed_steim.specs.Runs.{place_of}
 use Rattle.mseed_steim.specs.private.Items.{with_items, items_of}
-use Rattle.mseed_steim.specs.private.Unpacked.{data_in, first_in}
+use Rattle.mseed_steim.specs.private.Lanes.{Begins}
+use Rattle.mseed_steim.specs.private.Unpacked.{AreUnpacked, data_in, left_from}
 
 -- none
 pub words_none : (p : List ℕ) (k : ℕ) → words_from p k 0 ≡ []
@@ -95,35 +96,7 @@ pub length-first_chunks : (n : ℕ) (p : List ℕ) → length (first_chunks 64 n
 length-first_chunks zero p = refl
 length-first_chunks (suc n) p = ap suc (length-first_chunks n (drop 64 p))
 
--- the data words of the first frame, and those behind it
-pub first_cut : (p : List ℕ) → 64 ≤ length p → data_words p ≡ words_from p 3 13 ++ words_from p 16 (word_count p - 16)
-first_cut p framed =
-    let count : 13 + (word_count p - 16) ≡ word_count p - 3 = omega (arith, framed) in
-    rw (← count) (words_cut p 3 13 (word_count p - 16))
-
--- the words of a later frame, and those behind it
-pub frame_cut : (p : List ℕ) (k : ℕ) → k < length p / 64
-    → words_from p (16 * k) (word_count p - 16 * k)
-    ≡ words_from p (16 * k) 16 ++ words_from p (16 * (k + 1)) (word_count p - 16 * (k + 1))
-frame_cut p k inside =
-    let count : 16 + (word_count p - 16 * (k + 1)) ≡ word_count p - 16 * k = omega (arith, inside) in
-    let place : 16 * k + 16 ≡ 16 * (k + 1) = omega arith in
-    rw (count, place) at (words_cut p (16 * k) 16 (word_count p - 16 * (k + 1)))
-
--- the data words of the first frame behind the first of them
-pub behind_first : (p : List ℕ) (w : DataWord) (ws : List DataWord) → words_from p 3 13 ≡ w ∷ ws
-    → ws ≡ words_from p 4 12
-behind_first p w ws e =
-    let some : 3 % 16 ≢ 0 = λ e. omega arith in
-    let step = words_step p 3 12 some in
-    let same : w ∷ ws ≡ data_word p 3 ∷ words_from p 4 12 = sym e ∙ step in
-    cc
-
--- behind the first data word stand the words of the first frame from word 4 on, and those of the later ones from word 1
-pub first_few : (i : ℕ) → first_in i ≤ 4
-first_few zero = omega arith
-first_few (suc i) = omega arith
-
+-- behind the first data word stand the words of the first frame from word 4 on, and those of the later frames
 pub first_behind : (p : List ℕ) (w : DataWord) → 64 ≤ length p → words_from p 3 13 ≡ w ∷ words_from p 4 12
     → data_words p ≡ w ∷ words_from p 4 (word_count p - 4)
 first_behind p w framed e =
@@ -138,38 +111,42 @@ skip_codes p k (suc n) e =
     let less : suc n - 1 ≡ n = omega arith in
     rw less (words_skip p k n e)
 
--- the words of a frame from one on, and those of the later frames from word 1 on
-frame_from : (p : List ℕ) (i from : ℕ) → from ≤ 16 → i < length p / 64
-    → words_from p (16 * i + from) (word_count p - (16 * i + from))
-    ≡ words_from p (16 * i + from) (16 - from) ++ words_from p (16 * (i + 1) + 1) (word_count p - (16 * (i + 1) + 1))
-frame_from p i from few inside =
-    let count : 16 - from + (word_count p - 16 * (i + 1)) ≡ word_count p - (16 * i + from) =
-    omega (arith, inside, few) in
-    let place : 16 * i + from + (16 - from) ≡ 16 * (i + 1) = omega (arith, few) in
-    let less : word_count p - 16 * (i + 1) - 1 ≡ word_count p - (16 * (i + 1) + 1) = omega arith in
-    let cut = rw (count, place) at (words_cut p (16 * i + from) (16 - from) (word_count p - 16 * (i + 1))) in
-    let skip = rw less at (skip_codes p (16 * (i + 1)) (word_count p - 16 * (i + 1)) (omega arith)) in
-    cut ∙ ap (λ (ws : List DataWord). words_from p (16 * i + from) (16 - from) ++ ws) skip
+-- the data words of some frames that aren't taken yet, and those of the later ones
+pub data_few : (met i : ℕ) → data_in met i ≤ 4
+data_few zero zero = omega arith
+data_few (suc met) zero = omega arith
+data_few zero (suc i) = omega arith
+data_few (suc met) (suc i) = omega arith
 
-pub frame_behind : (p : List ℕ) (i : ℕ) → i < length p / 64
-    → words_from p (16 * i + first_in i) (word_count p - (16 * i + first_in i))
-    ≡ words_from p (16 * i + first_in i) (16 - first_in i)
-    ++ words_from p (16 * (i + 1) + first_in (i + 1)) (word_count p - (16 * (i + 1) + first_in (i + 1)))
-frame_behind p i inside =
-    let few = first_few i in
-    let next : first_in (i + 1) ≡ 1 = ap first_in (add-one i) in
-    rw next (frame_from p i (first_in i) (omega (arith, few)) inside)
+later_in : (met i : ℕ) → 0 < i → data_in met i ≡ 1
+later_in met zero h = absurd (omega (arith, h))
+later_in zero (suc i) h = refl
+later_in (suc met) (suc i) h = refl
 
--- the data words of a frame, and those of the later ones
-pub data_few : (i : ℕ) → data_in i ≤ 3
-data_few zero = omega arith
-data_few (suc i) = omega arith
+pub frames_cut : (p : List ℕ) (met later i k : ℕ) → 0 < k → i + k ≤ length p / 64
+    → left_from p met i ≡ words_from p (16 * i + data_in met i) (16 * k - data_in met i) ++ left_from p later (i + k)
+frames_cut p met later i k some inside =
+    let from : ℕ = data_in met i in
+    let few = data_few met i in
+    let next = later_in later (i + k) (omega (arith, some)) in
+    let count : 16 * k - from + (word_count p - 16 * (i + k)) ≡ word_count p - (16 * i + from) =
+    omega (arith, inside, few, some) in
+    let place : 16 * i + from + (16 * k - from) ≡ 16 * (i + k) = omega (arith, few, some) in
+    let less : word_count p - 16 * (i + k) - 1 ≡ word_count p - (16 * (i + k) + 1) = omega arith in
+    let cut = rw (count, place) at (words_cut p (16 * i + from) (16 * k - from) (word_count p - 16 * (i + k))) in
+    let skip = rw less at (skip_codes p (16 * (i + k)) (word_count p - 16 * (i + k)) (omega arith)) in
+    rw next (cut ∙ ap (λ (ws : List DataWord). words_from p (16 * i + from) (16 * k - from) ++ ws) skip)
 
-pub data_behind : (p : List ℕ) (i : ℕ) → i < length p / 64
-    → words_from p (16 * i + data_in i) (word_count p - (16 * i + data_in i))
-    ≡ words_from p (16 * i + data_in i) (16 - data_in i)
-    ++ words_from p (16 * (i + 1) + data_in (i + 1)) (word_count p - (16 * (i + 1) + data_in (i + 1)))
-data_behind p i inside =
-    let few = data_few i in
-    let next : data_in (i + 1) ≡ 1 = ap data_in (add-one i) in
-    rw next (frame_from p i (data_in i) (omega (arith, few)) inside)
+-- behind the last frame there are none
+pub none_left : (p : List ℕ) (met i : ℕ) → length p / 64 ≤ i → left_from p met i ≡ []
+none_left p met i over =
+    let none : word_count p - (16 * i + data_in met i) ≡ 0 = omega (arith, over) in
+    rw none (words_none p (16 * i + data_in met i))
+
+-- a frame's items, and those of the later frames
+pub frame_items : (s : Scheme) (p begin frame : List ℕ) (met later i count : ℕ) (ds : List ℤ) → i < length p / 64
+    → Begins begin (data_in met i) → AreUnpacked s begin frame ds count → frame ≡ take 64 (drop (64 * i) p)
+    → items_of s (left_from p met i) ≡ map Ok ds ++ items_of s (left_from p later (i + 1))
+frame_items s p begin frame met later i count ds inside begins unpacked e =
+    ap (λ (ws : List DataWord). items_of s ws) (frames_cut p met later i 1 (omega arith) (omega (arith, inside)))
+    ∙ unpacked.items p i (data_in met i) (left_from p later (i + 1)) begins e

@@ -1,17 +1,16 @@
 //! Differences that are added up in lanes, eight in one turn. Turns are whole: behind the last difference stand zeros.
 
-ghost use Rattle.std.specs.Prelude.{◌≡◌, ◌+◌, ◌*◌, ◌^◌, ◌≤◌, ◌<◌, ◌++◌, ℕ, List, ℤ, ◌+ℤ◌, nat_abs, Result, Ok, map};
+ghost use Rattle.std.specs.Prelude.{◌≡◌, ◌+◌, ◌*◌, ◌^◌, ◌≤◌, ◌<◌, ◌++◌, ℕ, ℤ, ◌+ℤ◌, nat_abs};
 ghost use Rattle.std.specs.Prelude.{drop, take, length, pos, slice_index_or};
-ghost use Rattle.mseed_steim.specs.declared.differences.BadWordAt.{BadWordAt};
 ghost use Rattle.mseed_steim.specs.private.Lanes.{span, total};
-ghost use Rattle.mseed_steim.specs.private.Sums.{fold, met_in, sums, the_sample};
+ghost use Rattle.mseed_steim.specs.private.Sums.{sums};
 
-use crate::sum::Sum;
+use crate::sum::add_near;
 use crate::unpack::Room;
 use std::simd::prelude::*;
 
 /// How many differences are added up in one turn.
-pub(crate) const TURN: usize = 8;
+const TURN: usize = 8;
 
 /// The sums of four differences, each with those before it: the last lane of the past is where they begin.
 #[inline(always)]
@@ -64,33 +63,38 @@ fn put_turns(differences: &[i32], last: i32, out: &mut [i32]) -> i32
     sum.to_array()[3]
 }
 
-/// Differences that are all needed, while the limits of 32 bits are out of reach, and there is room for one turn more.
+/// Differences added up one by one, and the sums put in their places.
 #[inline(always)]
-pub(crate) fn put_whole(
-    differences: &mut Room,
-    count: usize,
-    samples: usize,
-    sum: Sum,
-    out: &mut [i32],
-) -> Sum
-    requires few { count ≤ 120 }
-    requires places { length out.old ≡ samples }
-    requires some { 0 < sum.met }
-    requires left { sum.met + count + 8 ≤ samples }
-    requires near { nat_abs sum.last + span (take count differences.old) < 2 ^ 31 }
-    ensures goes_on { (more : List (Result ℤ BadWordAt))
-        → fold samples sum (map Ok (take count differences.old) ++ more) ≡ fold samples result more }
-    ensures kept { (more : List (Result ℤ BadWordAt))
-        → take result.met out.new ++ met_in the_sample samples result more
-        ≡ take sum.met out.old ++ met_in the_sample samples sum (map Ok (take count differences.old) ++ more) }
-    ensures met { result.met ≡ sum.met + count }
-    ensures places { length out.new ≡ samples }
+fn put_each(differences: &[i32], last: i32, out: &mut [i32]) -> i32
+    requires places { length differences.now ≤ length out.old }
+    requires near { nat_abs last + span differences.now < 2 ^ 31 }
+    ensures sums { take (length differences.now) out.new ≡ sums last differences.now }
+    ensures last { result ≡ last +ℤ total differences.now }
+    ensures places { length out.new ≡ length out.old }
 {
+    let mut sum = last;
+    for i in 0..differences.len() {
+        sum = add_near(sum, differences[i]);
+        out[i] = sum;
+    }
+    sum
+}
+
+/// The sums of the first of some differences put in their places, while the limits of 32 bits are out of reach: in
+/// lanes, where there is room for one turn more.
+#[inline(always)]
+pub(crate) fn put_sums(differences: &mut Room, count: usize, last: i32, out: &mut [i32]) -> i32
+    requires few { count ≤ 120 }
+    requires places { count ≤ length out.old }
+    requires near { nat_abs last + span (take count differences.old) < 2 ^ 31 }
+    ensures sums { take count out.new ≡ sums last (take count differences.old) }
+    ensures last { result ≡ last +ℤ total (take count differences.old) }
+    ensures places { length out.new ≡ length out.old }
+{
+    if out.len() < count + TURN {
+        return put_each(&differences[..count], last, out);
+    }
     i32x8::splat(0).copy_to_slice(&mut differences[count..]);
     let whole = TURN * ((count + (TURN - 1)) / TURN);
-    let last = put_turns(&differences[..whole], sum.last, &mut out[sum.met..]);
-    Sum {
-        met: sum.met + count,
-        last,
-    }
+    put_turns(&differences[..whole], last, out)
 }

@@ -1,4 +1,4 @@
-//! Payloads that are checked without keeping their samples.
+//! Payloads that are checked, with what is kept of their samples or without keeping any.
 
 ghost use Rattle.std.specs.Prelude.{◌≡◌, ◌↔◌, ◌<◌, ◌≤◌, ℕ, List, ℤ, IfOk, IfErr, IfSome, IfNone, IsOkAnd, OnOk, Err};
 ghost use Rattle.std.specs.Prelude.{length};
@@ -7,7 +7,7 @@ ghost use Rattle.mseed_time.specs.declared.order.Order.TheVariants.{Big};
 ghost use Rattle.mseed_steim.specs.declared.form.Form.TheVariants.{Integers, Frames};
 ghost use Rattle.mseed_steim.specs.Frames.{first_constant, last_constant};
 ghost use Rattle.mseed_steim.specs.Samples.{IsChecked, IsFrameFault, AreEnds};
-ghost use Rattle.mseed_steim.specs.private.Sums.{walk};
+ghost use Rattle.mseed_steim.specs.private.Sums.{IsKept, places_for, walk};
 ghost use Rattle.mseed_steim.specs.declared.fault.ReadFault.{ReadFault};
 ghost use Rattle.mseed_steim.specs.Reading.{count_of, IsReading, EndsOnConstants, IsFault, Denies, HoldsIn, IsAnswer};
 ghost use Rattle.mseed_steim.specs.Reading.{is_little_steim};
@@ -15,9 +15,10 @@ ghost use Rattle.mseed_steim.specs.Reading.{is_little_steim};
 use crate::data_words::read_word;
 use crate::fault::{Ends, ReadFault};
 use crate::form::{Form, Width, form_of, integer_at};
+use crate::keep::{Keeper, Sums, Task};
 use crate::scheme::Scheme;
 use crate::sum::Walked;
-use crate::walk::{add_frames, find_lack};
+use crate::walk::{find_lack, walk};
 use mseed_record::RecordView;
 use mseed_time::Order;
 
@@ -40,7 +41,7 @@ pub(crate) fn constants_of(payload: &[u8]) -> Option<Ends>
 /// The constants, where so many samples that were added up from the first of them end on the last; else the fault that
 /// comes first.
 #[inline(always)]
-pub(crate) fn ends_of_walk(
+fn ends_of_walk(
     payload: &[u8],
     scheme: Scheme,
     samples: usize,
@@ -69,18 +70,41 @@ pub(crate) fn ends_of_walk(
     }
 }
 
-/// The ends of so many samples of Steim frames.
+/// The ends of so many samples of Steim frames, with what is kept of each sample put in its place; frames are unpacked
+/// in the room.
 #[tactic(auto, using(crate::proofs::Ended::no_frame))]
+#[inline(always)]
+pub(crate) fn walk_frames<K: Keeper>(
+    payload: &[u8],
+    scheme: Scheme,
+    samples: usize,
+    room: &mut [i32],
+    out: &mut [i32],
+) -> Result<Ends, ReadFault>
+    requires some { 0 < samples }
+    requires places { length out.old ≡ places_for K.kept samples }
+    ensures { IsKept K.kept (Frames scheme) Big payload.now samples out.new result }
+{
+    let Some(constants) = constants_of(payload) else {
+        return Err(ReadFault::Short(0));
+    };
+    let walked = walk::<K>(
+        Task { scheme, samples },
+        payload,
+        constants.first,
+        room,
+        out,
+    );
+    ends_of_walk(payload, scheme, samples, constants, walked)
+}
+
+/// The ends of so many samples of Steim frames, of which none is kept.
 #[inline(never)]
 fn check_frames(payload: &[u8], scheme: Scheme, samples: usize) -> Result<Ends, ReadFault>
     requires { 0 < samples }
     ensures { IsChecked (Frames scheme) Big payload.now samples result }
 {
-    let Some(constants) = constants_of(payload) else {
-        return Err(ReadFault::Short(0));
-    };
-    let walked = add_frames(scheme, payload, samples, constants.first);
-    ends_of_walk(payload, scheme, samples, constants, walked)
+    walk_frames::<Sums>(payload, scheme, samples, &mut [], &mut [])
 }
 
 /// The ends of so many integers.

@@ -7,6 +7,7 @@ ghost use Rattle.mseed_steim.specs.private.Lanes.{AddsUp, AreLanes, Begins, row_
 ghost use Rattle.mseed_steim.specs.private.Lanes.{fine_two, ones_two, coarse_two, low_one, high_one};
 ghost use Rattle.mseed_steim.specs.Frames.{words_from};
 ghost use Rattle.mseed_steim.specs.private.Moves.{Adds, AreFrames, MovesBy, Raises, Tells};
+ghost use Rattle.mseed_steim.specs.private.Unpacked.{data_in};
 
 use crate::lanes::{
     Rows, counted, minus, part, part_by, planes, plus, rows_of, shifted, sum_of, tally, turn,
@@ -57,19 +58,47 @@ macro_rules! rows_two {
 pub(crate) const COUNT_TWO: Rows = [0, 0, 0, 0, 4, 4, 4, 4, 128, 128, 2, 3, 5, 6, 7, 128];
 
 /// The bits of the codes from word 4 on: each byte of word 0 has those of four words.
-pub(crate) const FROM_4: Rows = [
+const FROM_4: Rows = [
     0, 0, 0, 0, 0xC0, 0x30, 0x0C, 0x03, 0xC0, 0x30, 0x0C, 0x03, 0xC0, 0x30, 0x0C, 0x03,
 ];
 
 /// The bits of the codes from word 3 on.
-pub(crate) const FROM_3: Rows = [
+const FROM_3: Rows = [
     0, 0, 0, 0x03, 0xC0, 0x30, 0x0C, 0x03, 0xC0, 0x30, 0x0C, 0x03, 0xC0, 0x30, 0x0C, 0x03,
 ];
 
 /// The bits of the codes from word 1 on.
-pub(crate) const FROM_1: Rows = [
+const FROM_1: Rows = [
     0, 0x30, 0x0C, 0x03, 0xC0, 0x30, 0x0C, 0x03, 0xC0, 0x30, 0x0C, 0x03, 0xC0, 0x30, 0x0C, 0x03,
 ];
+
+/// The first data word of a frame that isn't taken yet, once so many samples have been met. The first frame has the
+/// payload's constants in front; its first data word may be taken alone.
+pub(crate) fn data_in(met: usize, frame: usize) -> usize
+    ensures { result ≡ data_in met frame }
+{
+    if frame > 0 {
+        1
+    } else if met > 0 {
+        4
+    } else {
+        3
+    }
+}
+
+/// The bits of the codes of a frame's words that aren't taken yet: of the first frame, before the first sample and once
+/// it has been met, and of a later frame.
+static BEGINS: [[Rows; 2]; 2] = [[FROM_3, FROM_4], [FROM_1, FROM_1]];
+
+/// Those of a frame, once so many samples have been met.
+#[inline(always)]
+pub(crate) fn begin_in(met: usize, frame: usize) -> Rows
+    ensures { Begins result (data_in met frame) }
+{
+    let row = frame.min(1);
+    let column = met.min(1);
+    BEGINS[row][column]
+}
 
 /// The rows of a frame's words, and the planes of their bytes, of which some bits are turned over by row.
 #[inline(always)]
@@ -292,12 +321,12 @@ fn run_up_to(frames: usize, count: u32, by: u32x4) -> Run
 /// more, or with a word that is bad or has one of 30 or 32 bits. A frame behind those with so many isn't looked at.
 #[inline(always)]
 fn run_of(scheme: Scheme, frames: &[[u8; 64]], begin: Rows, most: usize) -> Run
-    requires { length frames.now ≤ 15 }
+    requires { length frames.now ≤ RUN }
     ensures inside { result.frames ≤ length frames.now }
     ensures few { result.moved.count ≤ most }
     ensures moves { (p : List ℕ) (k from : ℕ) → Begins begin from → AreFrames frames.now p k
         → MovesBy scheme (words_from p (16 * k + from) (16 * result.frames - from)) result.moved.count result.moved.by
-        (2 ^ 20 * result.frames) }
+        (REACH * result.frames) }
 {
     let mut count = 0;
     let mut by = u32x4::splat(0);
@@ -318,12 +347,12 @@ fn run_of(scheme: Scheme, frames: &[[u8; 64]], begin: Rows, most: usize) -> Run
 
 /// The same, by a body for each scheme.
 pub(crate) fn moves_of(scheme: Scheme, frames: &[[u8; 64]], begin: Rows, most: usize) -> Run
-    requires { length frames.now ≤ 15 }
+    requires { length frames.now ≤ RUN }
     ensures inside { result.frames ≤ length frames.now }
     ensures few { result.moved.count ≤ most }
     ensures moves { (p : List ℕ) (k from : ℕ) → Begins begin from → AreFrames frames.now p k
         → MovesBy scheme (words_from p (16 * k + from) (16 * result.frames - from)) result.moved.count result.moved.by
-        (2 ^ 20 * result.frames) }
+        (REACH * result.frames) }
 {
     match scheme {
         Scheme::One => run_of(Scheme::One, frames, begin, most),

@@ -1,39 +1,110 @@
-//! What is kept of differences that are added up: each sample that they come to, or each of them.
+//! What a walk over a record's frames keeps of its samples, and how it takes frames at once: in lanes where nothing is
+//! kept of them, and else unpacked.
 
-ghost use Rattle.std.specs.Prelude.{◌≡◌, ◌+◌, ◌-◌, ◌*◌, ◌^◌, ◌≤◌, ◌<◌, ◌++◌, ◌+ℤ◌, ℕ, List, ℤ, nat_abs, Result};
-ghost use Rattle.std.specs.Prelude.{IfNone, IfSome, Ok, drop, map, min, take, length, true, false};
+ghost use Rattle.std.specs.Prelude.{◌≡◌, ◌+◌, ◌-◌, ◌*◌, ◌/◌, ◌^◌, ◌≤◌, ◌<◌, ◌∷◌, ◌++◌, [], ◌+ℤ◌, ℕ, List, ℤ, nat_abs};
+ghost use Rattle.std.specs.Prelude.{IfNone, IfSome, Ok, None, true, Option, Result, Some, length, map, take};
 ghost use Rattle.mseed_steim.specs.declared.differences.BadWordAt.{BadWordAt};
-ghost use Rattle.mseed_steim.specs.Frames.{DataWord, words_from};
+ghost use Rattle.mseed_steim.specs.Frames.{DataWord};
 ghost use Rattle.mseed_steim.specs.private.Items.{items_of};
-ghost use Rattle.mseed_steim.specs.private.Lanes.{Begins, span, total};
-ghost use Rattle.mseed_steim.specs.private.Sums.{fold, kept_at, met_in, the_difference, the_sample};
-ghost use Rattle.mseed_steim.specs.private.Unpacked.{AreNarrow};
+ghost use Rattle.mseed_steim.specs.private.Lanes.{span, total};
+ghost use Rattle.mseed_steim.specs.private.Reads.{as_data};
+ghost use Rattle.mseed_steim.specs.private.Sums.{AddsRun, Continues, HasPlaces, IsCounted, Puts, fold, kept_along};
+ghost use Rattle.mseed_steim.specs.private.Sums.{kept_at, places_for, the_difference, the_sample, with_first};
+ghost use Rattle.mseed_steim.specs.private.Unpacked.{left_from};
 
-use crate::adding::{TURN, put_whole};
-use crate::frame::REACH;
-use crate::lanes::Rows;
+use crate::adding::put_sums;
+use crate::data_words::{Word, first_word};
+use crate::frame::{REACH, RUN, begin_in, moves_of};
+use crate::group::group_of;
 use crate::scheme::Scheme;
-use crate::sum::{Sum, add_near, add_some};
+use crate::sum::{Sum, add_all, add_near};
 use crate::unpack::{PLACES, Room, unpack_frame};
+use crate::word::read_digit;
 
-/// What is kept of a walk over differences, one place for each sample.
+/// What is asked of a walk over a payload.
+#[derive(Clone, Copy)]
+pub(crate) struct Task {
+    /// The scheme of its words.
+    pub(crate) scheme: Scheme,
+    /// How many samples are needed.
+    pub(crate) samples: usize,
+}
+
+/// Frames that were taken at once.
+#[derive(Clone, Copy)]
+pub(crate) struct Taken {
+    /// How many these are.
+    pub(crate) frames: usize,
+    /// The sum behind them.
+    pub(crate) sum: Sum,
+}
+
+/// What a walk keeps of the samples that it meets, one place for each.
 pub(crate) trait Keeper {
-    /// What is kept of a difference and the sample that it comes to.
-    ghost kept: { ℤ → ℤ → ℤ };
+    // Of a difference and the sample that it comes to, where anything is kept.
+    ghost kept: { Option (ℤ → ℤ → ℤ) };
 
-    /// Whether that is the difference; else it is the sample.
-    fn keeps_differences() -> bool
-        ensures differences { result ≡ true → (d s : ℤ) → kept d s ≡ d }
-        ensures samples { result ≡ false → (d s : ℤ) → kept d s ≡ s };
+    /// Keeps a sample at its place, or its difference; of the first sample itself.
+    fn keep(place: usize, difference: i32, sample: i32, out: &mut [i32])
+        requires inside { HasPlaces kept (place + 1) out.old }
+        ensures put { Puts kept place (λ keep. kept_at keep place difference sample ∷ []) out.old out.new }
+        ensures places { length out.new ≡ length out.old };
+
+    /// Keeps the first of some differences, or the samples that they come to, while the limits of 32 bits are out of
+    /// reach: the last sample.
+    fn keep_near(differences: &mut Room, count: usize, sum: Sum, out: &mut [i32]) -> i32
+        requires few { count ≤ 120 }
+        requires counted { IsCounted sum.met (take count differences.old) }
+        requires near { nat_abs sum.last + span (take count differences.old) < 2 ^ 31 }
+        requires inside { HasPlaces kept (sum.met + count) out.old }
+        ensures last { result ≡ sum.last +ℤ total (take count differences.old) }
+        ensures put { Puts kept sum.met (λ keep. kept_along keep sum.met sum.last (take count differences.old))
+            out.old out.new }
+        ensures places { length out.new ≡ length out.old };
+
+    /// Whether nothing is kept.
+    fn keeps_nothing() -> bool
+        ensures { result ≡ true → kept ≡ None };
+}
+
+/// Nothing is kept of the samples: they are added up alone.
+pub(crate) struct Sums;
+
+impl Keeper for Sums {
+    ghost kept = { None };
+
+    #[inline(always)]
+    fn keep(_place: usize, _difference: i32, _sample: i32, _out: &mut [i32]) {}
+
+    #[inline(always)]
+    fn keep_near(differences: &mut Room, count: usize, sum: Sum, _out: &mut [i32]) -> i32 {
+        add_all(&differences[..count], sum.last)
+    }
+
+    #[inline(always)]
+    fn keeps_nothing() -> bool {
+        true
+    }
 }
 
 /// Each sample is kept.
 pub(crate) struct Samples;
 
 impl Keeper for Samples {
-    ghost kept = { the_sample };
+    ghost kept = { Some the_sample };
 
-    fn keeps_differences() -> bool {
+    #[inline(always)]
+    fn keep(place: usize, _difference: i32, sample: i32, out: &mut [i32]) {
+        out[place] = sample;
+    }
+
+    #[inline(always)]
+    fn keep_near(differences: &mut Room, count: usize, sum: Sum, out: &mut [i32]) -> i32 {
+        put_sums(differences, count, sum.last, &mut out[sum.met..])
+    }
+
+    #[inline(always)]
+    fn keeps_nothing() -> bool {
         false
     }
 }
@@ -42,65 +113,40 @@ impl Keeper for Samples {
 pub(crate) struct Steps;
 
 impl Keeper for Steps {
-    ghost kept = { the_difference };
+    ghost kept = { Some the_difference };
 
-    fn keeps_differences() -> bool {
-        true
+    #[inline(always)]
+    fn keep(place: usize, difference: i32, sample: i32, out: &mut [i32]) {
+        out[place] = if place == 0 { sample } else { difference };
+    }
+
+    #[inline(always)]
+    fn keep_near(differences: &mut Room, count: usize, sum: Sum, out: &mut [i32]) -> i32 {
+        let last = add_all(&differences[..count], sum.last);
+        put_first(sum.met, sum.last, differences);
+        out[sum.met..sum.met + count].copy_from_slice(&differences[..count]);
+        last
+    }
+
+    #[inline(always)]
+    fn keeps_nothing() -> bool {
+        false
     }
 }
 
-/// What is kept of a difference and the sample that it comes to.
+/// Puts a number in place of the first sample's difference, where no sample was met before.
 #[inline(always)]
-pub(crate) fn keep<K: Keeper>(difference: i32, sample: i32) -> i32
-    ensures { result ≡ K.kept difference sample }
-{
-    if K::keeps_differences() {
-        difference
-    } else {
-        sample
-    }
-}
-
-/// What is kept of a sample, before which so many have been met.
-#[inline(always)]
-pub(crate) fn kept_at<K: Keeper>(met: usize, difference: i32, sample: i32) -> i32
-    ensures { result ≡ kept_at K.kept met difference sample }
+fn put_first(met: usize, number: i32, differences: &mut Room)
+    ensures { (count : ℕ) → take count differences.new ≡ with_first met number (take count differences.old) }
 {
     if met == 0 {
-        sample
-    } else {
-        keep::<K>(difference, sample)
+        differences[0] = number;
     }
 }
 
-/// The samples of differences that are all needed, while the limits of 32 bits are out of reach.
+/// Keeps the first of some differences, as far as they are needed, while the limits of 32 bits are out of reach.
 #[inline(always)]
-fn put_some(differences: &[i32], samples: usize, sum: Sum, out: &mut [i32]) -> Sum
-    requires places { length out.old ≡ samples }
-    requires some { 0 < sum.met }
-    requires left { sum.met + length differences.now ≤ samples }
-    requires near { nat_abs sum.last + span differences.now < 2 ^ 31 }
-    ensures goes_on { (more : List (Result ℤ BadWordAt))
-        → fold samples sum (map Ok differences.now ++ more) ≡ fold samples result more }
-    ensures kept { (more : List (Result ℤ BadWordAt))
-        → take result.met out.new ++ met_in the_sample samples result more
-        ≡ take sum.met out.old ++ met_in the_sample samples sum (map Ok differences.now ++ more) }
-    ensures met { result.met ≡ sum.met + length differences.now }
-    ensures places { length out.new ≡ samples }
-{
-    let mut sum = sum;
-    for i in 0..differences.len() {
-        let next = add_near(differences[i], samples, sum);
-        out[sum.met] = next.last;
-        sum = next;
-    }
-    sum
-}
-
-/// The samples of the first of some differences, as far as they are needed, while the limits of 32 bits are out of
-/// reach.
-#[inline(always)]
-fn put_needed(
+pub(crate) fn keep_needed<K: Keeper>(
     differences: &mut Room,
     count: usize,
     samples: usize,
@@ -108,228 +154,153 @@ fn put_needed(
     out: &mut [i32],
 ) -> Sum
     requires few { count ≤ 120 }
-    requires places { length out.old ≡ samples }
-    requires some { 0 < sum.met }
+    requires some { 0 < samples }
     requires met { sum.met ≤ samples }
+    requires places { length out.old ≡ places_for K.kept samples }
     requires near { nat_abs sum.last + span (take count differences.old) < 2 ^ 31 }
-    ensures goes_on { (more : List (Result ℤ BadWordAt))
-        → fold samples sum (map Ok (take count differences.old) ++ more) ≡ fold samples result more }
-    ensures kept { (more : List (Result ℤ BadWordAt))
-        → take result.met out.new ++ met_in the_sample samples result more
-        ≡ take sum.met out.old ++ met_in the_sample samples sum (map Ok (take count differences.old) ++ more) }
-    ensures met { result.met ≡ sum.met + min count (samples - sum.met) }
-    ensures places { length out.new ≡ samples }
+    ensures { (more : List (Result ℤ BadWordAt)) → Continues K.kept samples sum out.old
+        (map Ok (take count differences.old) ++ more) more out.new result }
 {
+    put_first(sum.met, 0, differences);
     let needed = count.min(samples - sum.met);
-    put_some(&differences[..needed], samples, sum, out)
+    Sum {
+        met: sum.met + needed,
+        last: K::keep_near(differences, needed, sum, out),
+    }
 }
 
-/// The same in lanes, where there is room for a turn more.
+/// Takes a frame at once, unpacked in a room for its differences, as far as these are needed. None where a word of it is
+/// bad or has a wide difference, or the limits of 32 bits are within its reach.
 #[inline(always)]
-fn put_in_lanes(
-    differences: &mut Room,
-    count: usize,
-    samples: usize,
+fn keep_frame<K: Keeper>(
+    task: Task,
+    payload: &[u8],
+    index: usize,
     sum: Sum,
+    room: &mut [i32],
     out: &mut [i32],
-) -> Sum
-    requires few { count ≤ 120 }
-    requires places { length out.old ≡ samples }
-    requires some { 0 < sum.met }
-    requires met { sum.met ≤ samples }
-    requires near { nat_abs sum.last + span (take count differences.old) < 2 ^ 31 }
-    ensures goes_on { (more : List (Result ℤ BadWordAt))
-        → fold samples sum (map Ok (take count differences.old) ++ more) ≡ fold samples result more }
-    ensures kept { (more : List (Result ℤ BadWordAt))
-        → take result.met out.new ++ met_in the_sample samples result more
-        ≡ take sum.met out.old ++ met_in the_sample samples sum (map Ok (take count differences.old) ++ more) }
-    ensures met { result.met ≡ sum.met + min count (samples - sum.met) }
-    ensures places { length out.new ≡ samples }
+) -> Option<Taken>
+    requires inside { index < length payload.now / 64 }
+    requires left { sum.met < task.samples }
+    requires places { length out.old ≡ places_for K.kept task.samples }
+    ensures some { IfSome result (λ taken. 0 < taken.frames) }
+    ensures frames { IfSome result (λ taken. index + taken.frames ≤ length payload.now / 64) }
+    ensures continues { IfSome result (λ taken. Continues K.kept task.samples sum out.old
+        (items_of task.scheme (left_from payload.now sum.met index))
+        (items_of task.scheme (left_from payload.now taken.sum.met (index + taken.frames))) out.new taken.sum) }
+    ensures none { IfNone result (out.new ≡ out.old) }
 {
-    if samples - sum.met < count + TURN {
-        put_needed(differences, count, samples, sum, out)
+    if sum.last.unsigned_abs() >= (1 << 31) - REACH {
+        return None;
+    }
+    let (frames, _) = payload.as_chunks::<64>();
+    let begin = begin_in(sum.met, index);
+    let differences = room.as_mut_array::<PLACES>()?;
+    let count = unpack_frame(task.scheme, &frames[index], begin, differences)?;
+    Some(Taken {
+        frames: 1,
+        sum: keep_needed::<K>(differences, count, task.samples, sum, out),
+    })
+}
+
+/// How many frames are added up at once behind a sum: so many that none of their sums leaves 32 bits, as far as they
+/// have no difference of 30 or 32 bits.
+#[inline(always)]
+fn frames_at_once(sum: Sum) -> usize
+    ensures few { result ≤ RUN }
+    ensures near { 0 < result → nat_abs sum.last + REACH * result < 2 ^ 31 }
+{
+    let size = sum.last.unsigned_abs();
+    let room = i32::MAX.unsigned_abs().saturating_sub(size);
+    RUN.min((room / REACH) as usize)
+}
+
+/// The first difference of a word that has several, each of 16 bits at the most.
+#[inline(always)]
+fn first_difference(scheme: Scheme, word: Word) -> Option<i32>
+    ensures { IfSome result (λ d. (ws : List DataWord)
+        → (more : List (Result ℤ BadWordAt)) × (items_of scheme (as_data word ∷ ws) ≡ Ok d ∷ more)) }
+{
+    let group = group_of(scheme, word.code, word.bits)?;
+    if group.count < 2 {
+        return None;
+    }
+    Some(read_digit(word.bits, group.width, group.count - 1))
+}
+
+/// What isn't used of that which the frames from one on add up to: the first sample's difference, where none was met
+/// before. None where it doesn't stand in the first word, or has more than 16 bits.
+#[inline(always)]
+fn unused_in(task: Task, payload: &[u8], index: usize, sum: Sum) -> Option<i32>
+    requires inside { index < length payload.now / 64 }
+    requires left { sum.met < task.samples }
+    ensures { IfSome result (λ unused. AddsRun task.scheme payload.now task.samples index sum unused) }
+{
+    if sum.met > 0 {
+        return Some(0);
+    }
+    if index > 0 {
+        return None;
+    }
+    first_difference(task.scheme, first_word(payload))
+}
+
+/// Adds up frames from one on at once, as many as it can. None where the first has to be looked at.
+#[inline(always)]
+fn add_frames(task: Task, payload: &[u8], index: usize, sum: Sum) -> Option<Taken>
+    requires inside { index < length payload.now / 64 }
+    requires left { sum.met < task.samples }
+    ensures some { IfSome result (λ taken. 0 < taken.frames) }
+    ensures frames { IfSome result (λ taken. index + taken.frames ≤ length payload.now / 64) }
+    ensures folded { IfSome result (λ taken.
+        fold task.samples sum (items_of task.scheme (left_from payload.now sum.met index))
+        ≡ fold task.samples taken.sum
+        (items_of task.scheme (left_from payload.now taken.sum.met (index + taken.frames)))) }
+    ensures met { IfSome result (λ taken. taken.sum.met ≤ task.samples) }
+{
+    let unused = unused_in(task, payload, index, sum)?;
+    let (frames, _) = payload.as_chunks::<64>();
+    let some = &frames[index..frames.len().min(index + frames_at_once(sum))];
+    let begin = begin_in(sum.met, index);
+    let run = moves_of(task.scheme, some, begin, task.samples - sum.met);
+    if run.frames == 0 {
+        return None;
+    }
+    let by = run.moved.by - unused;
+    let sum = Sum {
+        met: sum.met + run.moved.count as usize,
+        last: add_near(sum.last, by),
+    };
+    Some(Taken {
+        frames: run.frames,
+        sum,
+    })
+}
+
+/// Takes frames from one on at once, as many as it can. None where the first has to be looked at: where a word of it is
+/// bad or has a wide difference, or the limits of 32 bits are within its reach. Nothing is kept then.
+#[inline(always)]
+pub(crate) fn take_frames<K: Keeper>(
+    task: Task,
+    payload: &[u8],
+    index: usize,
+    sum: Sum,
+    room: &mut [i32],
+    out: &mut [i32],
+) -> Option<Taken>
+    requires inside { index < length payload.now / 64 }
+    requires left { sum.met < task.samples }
+    requires places { length out.old ≡ places_for K.kept task.samples }
+    ensures some { IfSome result (λ taken. 0 < taken.frames) }
+    ensures frames { IfSome result (λ taken. index + taken.frames ≤ length payload.now / 64) }
+    ensures continues { IfSome result (λ taken. Continues K.kept task.samples sum out.old
+        (items_of task.scheme (left_from payload.now sum.met index))
+        (items_of task.scheme (left_from payload.now taken.sum.met (index + taken.frames))) out.new taken.sum) }
+    ensures none { IfNone result (out.new ≡ out.old) }
+{
+    if K::keeps_nothing() {
+        add_frames(task, payload, index, sum)
     } else {
-        put_whole(differences, count, samples, sum, out)
+        keep_frame::<K>(task, payload, index, sum, room, out)
     }
-}
-
-/// The samples of the first of some differences, where those are what is kept.
-#[inline(always)]
-fn put_samples<K: Keeper>(
-    differences: &mut Room,
-    count: usize,
-    samples: usize,
-    sum: Sum,
-    out: &mut [i32],
-) -> Sum
-    requires samples { (d s : ℤ) → K.kept d s ≡ s }
-    requires few { count ≤ 120 }
-    requires places { length out.old ≡ samples }
-    requires some { 0 < sum.met }
-    requires met { sum.met ≤ samples }
-    requires near { nat_abs sum.last + span (take count differences.old) < 2 ^ 31 }
-    ensures goes_on { (more : List (Result ℤ BadWordAt))
-        → fold samples sum (map Ok (take count differences.old) ++ more) ≡ fold samples result more }
-    ensures kept { (more : List (Result ℤ BadWordAt))
-        → take result.met out.new ++ met_in K.kept samples result more
-        ≡ take sum.met out.old ++ met_in K.kept samples sum (map Ok (take count differences.old) ++ more) }
-    ensures met { result.met ≡ sum.met + min count (samples - sum.met) }
-    ensures places { length out.new ≡ samples }
-{
-    put_in_lanes(differences, count, samples, sum, out)
-}
-
-/// The first of some differences, as far as they are needed, while the limits of 32 bits are out of reach.
-#[inline(always)]
-fn copy_needed<K: Keeper>(
-    differences: &mut Room,
-    count: usize,
-    samples: usize,
-    sum: Sum,
-    out: &mut [i32],
-) -> Sum
-    requires differences { (d s : ℤ) → K.kept d s ≡ d }
-    requires few { count ≤ 120 }
-    requires places { length out.old ≡ samples }
-    requires some { 0 < sum.met }
-    requires met { sum.met ≤ samples }
-    requires near { nat_abs sum.last + span (take count differences.old) < 2 ^ 31 }
-    ensures goes_on { (more : List (Result ℤ BadWordAt))
-        → fold samples sum (map Ok (take count differences.old) ++ more) ≡ fold samples result more }
-    ensures kept { (more : List (Result ℤ BadWordAt))
-        → take result.met out.new ++ met_in K.kept samples result more
-        ≡ take sum.met out.old ++ met_in K.kept samples sum (map Ok (take count differences.old) ++ more) }
-    ensures met { result.met ≡ sum.met + min count (samples - sum.met) }
-    ensures places { length out.new ≡ samples }
-{
-    let needed = count.min(samples - sum.met);
-    out[sum.met..sum.met + needed].copy_from_slice(&differences[..needed]);
-    add_some(&differences[..needed], samples, sum)
-}
-
-/// The differences of a frame, which are all needed, unpacked in their places, while the limits of 32 bits are out of
-/// reach of a frame. None where a word is bad or its differences wide.
-#[inline(always)]
-fn unpack_in_place(
-    scheme: Scheme,
-    frame: &[u8; 64],
-    begin: Rows,
-    samples: usize,
-    sum: Sum,
-    places: &mut [i32],
-) -> Option<Sum>
-    requires room { 120 ≤ length places.old }
-    requires some { 0 < sum.met }
-    requires left { sum.met + 120 ≤ samples }
-    requires begins { (from : ℕ) × Begins begin from }
-    requires near { nat_abs sum.last + 2 ^ 20 < 2 ^ 31 }
-    ensures { IfSome result (λ next. (count : ℕ) × (AreNarrow scheme begin frame.now (take count places.new) count
-        × (next.met ≡ sum.met + length (take count places.new))
-        × (next.last ≡ sum.last +ℤ total (take count places.new)))) }
-{
-    let count = unpack_frame(scheme, frame, begin, places)?;
-    Some(add_some(&places[..count], samples, sum))
-}
-
-/// What is kept of the first of some differences, as far as they are needed, while the limits of 32 bits are out of
-/// reach.
-#[inline(always)]
-pub(crate) fn put_near<K: Keeper>(
-    differences: &mut Room,
-    count: usize,
-    samples: usize,
-    sum: Sum,
-    out: &mut [i32],
-) -> Sum
-    requires few { count ≤ 120 }
-    requires places { length out.old ≡ samples }
-    requires some { 0 < sum.met }
-    requires met { sum.met ≤ samples }
-    requires near { nat_abs sum.last + span (take count differences.old) < 2 ^ 31 }
-    ensures goes_on { (more : List (Result ℤ BadWordAt))
-        → fold samples sum (map Ok (take count differences.old) ++ more) ≡ fold samples result more }
-    ensures kept { (more : List (Result ℤ BadWordAt))
-        → take result.met out.new ++ met_in K.kept samples result more
-        ≡ take sum.met out.old ++ met_in K.kept samples sum (map Ok (take count differences.old) ++ more) }
-    ensures met { result.met ≡ sum.met + min count (samples - sum.met) }
-    ensures places { length out.new ≡ samples }
-{
-    if K::keeps_differences() {
-        copy_needed::<K>(differences, count, samples, sum, out)
-    } else {
-        put_samples::<K>(differences, count, samples, sum, out)
-    }
-}
-
-/// The differences of a frame, where those are what is kept and all are needed, unpacked in their places.
-#[inline(always)]
-fn put_in_place<K: Keeper>(
-    scheme: Scheme,
-    frame: &[u8; 64],
-    begin: Rows,
-    samples: usize,
-    sum: Sum,
-    out: &mut [i32],
-) -> Option<Sum>
-    requires differences { (d s : ℤ) → K.kept d s ≡ d }
-    requires room { sum.met + 128 ≤ samples }
-    requires places { length out.old ≡ samples }
-    requires some { 0 < sum.met }
-    requires begins { (from : ℕ) × Begins begin from }
-    requires near { nat_abs sum.last + 2 ^ 20 < 2 ^ 31 }
-    ensures goes_on { IfSome result (λ next. (p : List ℕ) (k from : ℕ) (rest : List DataWord) → Begins begin from
-        → frame.now ≡ take 64 (drop (64 * k) p)
-        → fold samples sum (items_of scheme (words_from p (16 * k + from) (16 - from) ++ rest))
-        ≡ fold samples next (items_of scheme rest)) }
-    ensures kept { IfSome result (λ next. (p : List ℕ) (k from : ℕ) (rest : List DataWord) → Begins begin from
-        → frame.now ≡ take 64 (drop (64 * k) p)
-        → take next.met out.new ++ met_in K.kept samples next (items_of scheme rest)
-        ≡ take sum.met out.old
-        ++ met_in K.kept samples sum (items_of scheme (words_from p (16 * k + from) (16 - from) ++ rest))) }
-    ensures met { IfSome result (λ next. next.met ≤ samples) }
-    ensures places { length out.new ≡ samples }
-    ensures none { IfNone result (take sum.met out.new ≡ take sum.met out.old) }
-{
-    let next = unpack_in_place(scheme, frame, begin, samples, sum, &mut out[sum.met..])?;
-    Some(next)
-}
-
-/// What is kept of the differences of a frame from word 1 or word 4 on, as far as they are needed, while the limits of
-/// 32 bits are out of reach of a frame. None where a word is bad or its differences wide; the places of what was kept
-/// before are as they were.
-#[inline(always)]
-pub(crate) fn put_frame<K: Keeper>(
-    scheme: Scheme,
-    frame: &[u8; 64],
-    begin: Rows,
-    samples: usize,
-    sum: Sum,
-    differences: &mut Room,
-    out: &mut [i32],
-) -> Option<Sum>
-    requires places { length out.old ≡ samples }
-    requires some { 0 < sum.met }
-    requires met { sum.met ≤ samples }
-    requires begins { (from : ℕ) × Begins begin from }
-    requires near { nat_abs sum.last + 2 ^ 20 < 2 ^ 31 }
-    ensures goes_on { IfSome result (λ next. (p : List ℕ) (k from : ℕ) (rest : List DataWord) → Begins begin from
-        → frame.now ≡ take 64 (drop (64 * k) p)
-        → fold samples sum (items_of scheme (words_from p (16 * k + from) (16 - from) ++ rest))
-        ≡ fold samples next (items_of scheme rest)) }
-    ensures kept { IfSome result (λ next. (p : List ℕ) (k from : ℕ) (rest : List DataWord) → Begins begin from
-        → frame.now ≡ take 64 (drop (64 * k) p)
-        → take next.met out.new ++ met_in K.kept samples next (items_of scheme rest)
-        ≡ take sum.met out.old
-        ++ met_in K.kept samples sum (items_of scheme (words_from p (16 * k + from) (16 - from) ++ rest))) }
-    ensures met { IfSome result (λ next. next.met ≤ samples) }
-    ensures places { length out.new ≡ samples }
-    ensures none { IfNone result (take sum.met out.new ≡ take sum.met out.old) }
-{
-    if K::keeps_differences() {
-        if samples - sum.met >= PLACES {
-            return put_in_place::<K>(scheme, frame, begin, samples, sum, out);
-        }
-    }
-    let count = unpack_frame(scheme, frame, begin, differences)?;
-    Some(put_near::<K>(differences, count, samples, sum, out))
 }

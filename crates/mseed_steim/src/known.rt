@@ -16,7 +16,7 @@ ghost use Rattle.mseed_steim.specs.private.Unpacked.{AreUnpacked, data_in};
 use crate::check::{constants_of, payload_of};
 use crate::data_words::{FRAME, Words};
 use crate::form::Form;
-use crate::frame::{FROM_1, FROM_3};
+use crate::frame::{begin_in, data_in};
 use crate::group::{Group, group_of};
 use crate::lanes::Rows;
 use crate::read::fill_differences;
@@ -24,24 +24,6 @@ use crate::scheme::Scheme;
 use crate::sum::next_difference;
 use crate::unpack::{PLACES, Room, unpack_frame, unpack_wide};
 use mseed_record::RecordView;
-
-/// The bits of the codes of the data words: of the first frame, and of a later one.
-static DATA: [Rows; 2] = [FROM_3, FROM_1];
-
-/// Those of a frame.
-#[inline(always)]
-fn begin_in(frame: usize) -> Rows
-    ensures { Begins result (data_in frame) }
-{
-    DATA[frame.min(1)]
-}
-
-/// The first data word of a frame.
-fn data_in(frame: usize) -> usize
-    ensures { result ≡ data_in frame }
-{
-    if frame == 0 { 3 } else { 1 }
-}
 
 /// The differences of a frame's words, in their order, and the lanes behind the last of them: how many there are. None
 /// where a word is bad.
@@ -134,9 +116,13 @@ fn unpack_rest(scheme: Scheme, payload: &[u8], index: usize, met: usize, out: &m
     ensures places { length out.new ≡ length out.old }
     ensures put { OnTrue result ((rest : List DataWord) → (more : List (Result ℤ BadWordAt))
         × (map Ok (take met out.old) ++ items_of scheme
-        (words_from payload.now (16 * index + data_in index) (16 - data_in index) ++ rest) ≡ map Ok out.new ++ more)) }
+        (words_from payload.now (16 * index + data_in 0 index) (16 - data_in 0 index) ++ rest) ≡ map Ok out.new ++ more)) }
 {
-    let words = Words::between(payload, FRAME * index + data_in(index), FRAME * (index + 1));
+    let words = Words::between(
+        payload,
+        FRAME * index + data_in(0, index),
+        FRAME * (index + 1),
+    );
     unpack_each(scheme, words, met, out)
 }
 
@@ -152,7 +138,7 @@ fn unpack_frames(scheme: Scheme, payload: &[u8], out: &mut [i32]) -> bool
     let mut room = [0; PLACES];
     let mut met = 0;
     for index in 0..frames.len() {
-        let begin = begin_in(index);
+        let begin = begin_in(0, index);
         let Some(count) = unpack_some(scheme, &frames[index], begin, &mut room, &mut out[met..])
         else {
             return unpack_rest(scheme, payload, index, met, out);

@@ -18,7 +18,6 @@ mod lanes;
 mod law;
 mod layout;
 mod pack;
-mod put;
 mod read;
 mod ready;
 mod row;

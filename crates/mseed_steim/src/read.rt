@@ -2,46 +2,21 @@
 
 ghost use Rattle.std.specs.Prelude.{◌≡◌, ◌≢◌, ◌↔◌, ◌<◌, List, ℤ, Err, IsOk, IfOk, IfErr, IsTrue, OnOk, MatchResult};
 ghost use Rattle.std.specs.Prelude.{length};
-ghost use Rattle.mseed_time.specs.declared.order.Order.TheVariants.{Big};
 ghost use Rattle.mseed_record.specs.Viewing.{view_of};
-ghost use Rattle.mseed_steim.specs.declared.form.Form.TheVariants.{Integers, Frames};
+ghost use Rattle.mseed_steim.specs.declared.form.Form.TheVariants.{Integers};
 ghost use Rattle.mseed_steim.specs.declared.fault.ReadFault.{ReadFault};
 ghost use Rattle.mseed_steim.specs.declared.fault.ReadFault.TheVariants.{Memory};
 ghost use Rattle.mseed_steim.specs.Reading.{count_of, IsFault, IsSteim, IsWhole, IsRefusal, Denies};
 ghost use Rattle.mseed_steim.specs.Samples.{IsFilled, steps_of};
-ghost use Rattle.mseed_steim.specs.private.Sums.{IsKept};
 
-use crate::check::{check_samples, constants_of, ends_of_walk, payload_of};
+use crate::check::{check_samples, payload_of, walk_frames};
 use crate::fault::ReadFault;
 use crate::form::{Form, Width, form_of, integer_at};
-use crate::keep::{Keeper, Samples, Steps};
-use crate::put::put_words;
-use crate::scheme::Scheme;
+use crate::keep::{Samples, Steps};
+use crate::unpack::PLACES;
 use mseed_record::RecordView;
 use mseed_time::Order;
 use std::alloc::{AllocError, Allocator};
-
-/// Fills in what is kept of so many samples of Steim frames.
-#[tactic(auto, using(crate::proofs::Ended::no_frame))]
-fn fill_frames<K: Keeper>(
-    payload: &[u8],
-    scheme: Scheme,
-    samples: usize,
-    out: &mut [i32],
-) -> Result<(), ReadFault>
-    requires some { 0 < samples }
-    requires room { length out.old ≡ samples }
-    ensures { IsKept K.kept (Frames scheme) Big payload.now samples out.new result }
-{
-    let Some(constants) = constants_of(payload) else {
-        return Err(ReadFault::Short(0));
-    };
-    let walked = put_words::<K>(payload, scheme, samples, constants.first, out);
-    match ends_of_walk(payload, scheme, samples, constants, walked) {
-        Ok(_) => Ok(()),
-        Err(fault) => Err(fault),
-    }
-}
 
 /// Fills in so many integers.
 fn fill_integers(
@@ -79,7 +54,16 @@ fn fill_record(view: &RecordView<'_>, out: &mut [i32]) -> Result<(), ReadFault>
     let samples = usize::from(view.samples());
     match form {
         Form::Integers(width) => fill_integers(payload, width, view.payload_order(), samples, out),
-        Form::Frames(scheme) => fill_frames::<Samples>(payload, scheme, samples, out),
+        Form::Frames(scheme) => match walk_frames::<Samples>(
+            payload,
+            scheme,
+            samples,
+            &mut [0; PLACES],
+            out,
+        ) {
+            Ok(_) => Ok(()),
+            Err(fault) => Err(fault),
+        },
     }
 }
 
@@ -130,7 +114,11 @@ fn fill_steps(view: &RecordView<'_>, out: &mut [i32]) -> Result<(), ReadFault>
     match form {
         Form::Integers(_) => unreachable!(),
         Form::Frames(scheme) => {
-            fill_frames::<Steps>(payload, scheme, usize::from(view.samples()), out)
+            let samples = usize::from(view.samples());
+            match walk_frames::<Steps>(payload, scheme, samples, &mut [0; PLACES], out) {
+                Ok(_) => Ok(()),
+                Err(fault) => Err(fault),
+            }
         }
     }
 }

@@ -1,10 +1,11 @@
 -- What is added up at once.
-use Rattle.std.specs.Prelude.{◌≡◌, ◌<◌, ◌≤◌, ◌+◌, ◌*◌, ◌%◌, ◌^◌, ℕ, List, [], ◌++◌, map}
+use Rattle.std.specs.Prelude.{◌≡◌, ◌<◌, ◌≤◌, ◌+◌, ◌*◌, ◌%◌, ℕ, List, [], ◌++◌, map}
 use Rattle.std.specs.Prelude.{length, slice_index, ℤ, pos, ◌+ℤ◌, Ok}
 use Rattle.std.specs.Prelude.{drop, take, slice_index_or}
 use Rattle.std.specs.Simd.Lanes.{sum_l}
 use Rattle.mseed_steim.specs.declared.scheme.Scheme.{Scheme}
 use Rattle.mseed_steim.specs.declared.frame.Lanes.{Lanes}
+use Rattle.mseed_steim.specs.declared.frame.TheConstants.{REACH}
 use Rattle.mseed_steim.specs.Frames.{DataWord}
 use Rattle.mseed_steim.specs.private.Items.{items_of}
 use Rattle.mseed_steim.specs.private.Lanes.{total, span, words, row_at, counts_of, moved, sum_z}
@@ -35,7 +36,7 @@ pub record Adds (scheme : Scheme) (frame : List ℕ) (from : ℕ) (lanes : Lanes
 -- the lanes tell what the words move by; given where none of them is bad or holds a difference of 30 or 32 bits
 abbrev pub Tells : Scheme → List DataWord → Lanes → Type 0
 Tells scheme words lanes =
-    lanes.count < 128 → (by : ℤ) × (Raises (sum_l lanes.by) by × MovesBy scheme words lanes.count by (2 ^ 20))
+    lanes.count < 128 → (by : ℤ) × (Raises (sum_l lanes.by) by × MovesBy scheme words lanes.count by REACH)
 
 -- the frames are those of a payload from frame k on
 abbrev pub AreFrames : List (List ℕ) → List ℕ → ℕ → Type 0

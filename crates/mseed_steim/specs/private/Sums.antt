@@ -1,16 +1,20 @@
 -- A walk over items that adds them up. What it answers is stated in Samples.
-use Rattle.std.specs.Prelude.{◌≡◌, ⊤, ℕ, ◌+◌, ◌^◌, ◌==◌, nat_lt, Bool, if◌then◌else◌, List, [], ◌∷◌, ◌++◌, take, ℤ, pos}
-use Rattle.std.specs.Prelude.{negsuc, ◌+ℤ◌, ◌-ℤ◌, Option, Some, None, Result, Ok, Err}
+use Rattle.std.specs.Prelude.{◌≡◌, ⊤, ℕ, ◌+◌, ◌-◌, ◌*◌, ◌/◌, ◌^◌, ◌<◌, ◌≤◌, ◌==◌, nat_lt, Bool, if◌then◌else◌, List}
+use Rattle.std.specs.Prelude.{[], ◌∷◌, ◌++◌, map, take, length, ℤ, pos, negsuc, ◌+ℤ◌, ◌-ℤ◌, Option, Some, None, Result}
+use Rattle.std.specs.Prelude.{Ok, Err}
 use Rattle.mseed_steim.specs.declared.differences.BadWordAt.{BadWordAt}
 use Rattle.mseed_steim.specs.declared.fault.ReadFault.{ReadFault}
 use Rattle.mseed_steim.specs.declared.fault.ReadFault.TheVariants.{Short, BadWord, Overflow}
 use Rattle.mseed_steim.specs.declared.sum.Sum.{Sum}
 use Rattle.mseed_steim.specs.declared.scheme.Scheme.{Scheme}
-use Rattle.mseed_steim.specs.Frames.{data_words, first_constant}
+use Rattle.mseed_steim.specs.declared.fault.Ends.{Ends}
+use Rattle.mseed_steim.specs.Frames.{data_words, first_constant, words_from}
 use Rattle.mseed_time.specs.declared.order.Order.{Order}
 use Rattle.mseed_steim.specs.declared.form.Form.{Form}
-use Rattle.mseed_steim.specs.Samples.{EndsOnConstant, IsPayloadFault, IsPayloadReading}
+use Rattle.mseed_steim.specs.Samples.{AreEnds, EndsOnConstant, IsPayloadFault, IsPayloadReading}
 use Rattle.mseed_steim.specs.private.Items.{items_of}
+use Rattle.mseed_steim.specs.private.Moves.{Moves, MovesBy}
+use Rattle.mseed_steim.specs.private.Unpacked.{data_in, left_from}
 
 -- 32 bits hold the number
 abbrev pub fits : ℤ → Bool
@@ -57,10 +61,20 @@ met_in keep n sum (Ok d ∷ more) =
 abbrev pub kept_at : (ℤ → ℤ → ℤ) → ℕ → ℤ → ℤ → ℤ
 kept_at keep met d s = if met == 0 then s else keep d s
 
--- what is kept of some differences and their sums, each with those before it
-abbrev pub kept_along : (ℤ → ℤ → ℤ) → ℤ → List ℤ → List ℤ
-kept_along keep last [] = []
-kept_along keep last (d ∷ ds) = keep d (last +ℤ d) ∷ kept_along keep (last +ℤ d) ds
+-- what is kept of some differences and their sums, each with those before it, once so many samples have been met
+abbrev pub kept_along : (ℤ → ℤ → ℤ) → ℕ → ℤ → List ℤ → List ℤ
+kept_along keep met last [] = []
+kept_along keep met last (d ∷ ds) = kept_at keep met d (last +ℤ d) ∷ kept_along keep (met + 1) (last +ℤ d) ds
+
+-- some differences, with another number in place of the first sample's
+abbrev pub with_first : ℕ → ℤ → List ℤ → List ℤ
+with_first met z [] = []
+with_first met z (d ∷ ds) = (if met == 0 then z else d) ∷ ds
+
+-- the first sample's difference, which no sample is by, is 0
+abbrev pub IsCounted : ℕ → List ℤ → Type 0
+IsCounted met [] = ⊤
+IsCounted met (d ∷ ds) = met ≡ 0 → d ≡ pos 0
 
 -- what is kept of some samples behind one, of each by its difference from the one before it, and of all samples
 abbrev pub kept_from : (ℤ → ℤ → ℤ) → ℤ → List ℤ → List ℤ
@@ -71,11 +85,16 @@ abbrev pub kept_of : (ℤ → ℤ → ℤ) → List ℤ → List ℤ
 kept_of keep [] = []
 kept_of keep (x ∷ xs) = x ∷ kept_from keep x xs
 
--- what is kept of samples that are a reading and end on their constant, or why there are none
-abbrev pub IsKept : (ℤ → ℤ → ℤ) → Form → Order → List ℕ → ℕ → List ℤ → Result (Unit {0}) ReadFault → Type 0
-IsKept keep form order payload n out (Ok done) =
+-- where something is kept, it is what is kept of the samples
+abbrev pub AreKept : Option (ℤ → ℤ → ℤ) → List ℤ → List ℤ → Type 0
+AreKept None samples out = ⊤
+AreKept (Some keep) samples out = out ≡ kept_of keep samples
+
+-- the ends of samples that are a reading and end on their constant, with what is kept of them; or why there are none
+abbrev pub IsKept : Option (ℤ → ℤ → ℤ) → Form → Order → List ℕ → ℕ → List ℤ → Result Ends ReadFault → Type 0
+IsKept keep form order payload n out (Ok ends) =
     (samples : List ℤ) × (IsPayloadReading form order payload n samples × EndsOnConstant form payload samples
-    × (out ≡ kept_of keep samples))
+    × AreEnds ends samples × AreKept keep samples out)
 IsKept keep form order payload n out (Err fault) = IsPayloadFault form payload n fault
 
 -- the sums of some differences, each with those before it
@@ -94,10 +113,53 @@ abbrev pub GoesOn : ℕ → Sum → List (Result ℤ BadWordAt) → List (Result
 GoesOn n sum items behind (Ok next) = (fold n sum items ≡ fold n next behind)
 GoesOn n sum items behind (Err fault) = (fold n sum items ≡ Err fault)
 
--- Where the walk goes on, what stands in the places before and after it is the same prefix of all that is kept: what
--- has been put in its place, and behind it what is kept of the samples that are still to be met.
-abbrev pub Keeps : (ℤ → ℤ → ℤ) → ℕ → Sum → List ℤ → List (Result ℤ BadWordAt) → List (Result ℤ BadWordAt) → List ℤ
-    → Result Sum ReadFault → Type 0
-Keeps keep n sum before items behind after (Ok next) =
-    take next.met after ++ met_in keep n next behind ≡ take sum.met before ++ met_in keep n sum items
-Keeps keep n sum before items behind after (Err fault) = ⊤
+-- how many places there are for n samples: one for each, where something is kept of them
+abbrev pub places_for : Option (ℤ → ℤ → ℤ) → ℕ → ℕ
+places_for None n = 0
+places_for (Some keep) n = n
+
+-- so many places are there, where something is kept
+abbrev pub HasPlaces : Option (ℤ → ℤ → ℤ) → ℕ → List ℤ → Type 0
+HasPlaces None n out = ⊤
+HasPlaces (Some keep) n out = n ≤ length out
+
+-- where something is kept, it is put into the next places; those before are as they were
+abbrev pub Puts : Option (ℤ → ℤ → ℤ) → ℕ → ((ℤ → ℤ → ℤ) → List ℤ) → List ℤ → List ℤ → Type 0
+Puts None met put before after = ⊤
+Puts (Some keep) met put before after = take (met + length (put keep)) after ≡ take met before ++ put keep
+
+-- all that a walk keeps: what stands in the first places, and behind it what is kept of the samples to come
+abbrev pub kept_in : Option (ℤ → ℤ → ℤ) → ℕ → Sum → List ℤ → List (Result ℤ BadWordAt) → List ℤ
+kept_in None n sum out items = []
+kept_in (Some keep) n sum out items = take sum.met out ++ met_in keep n sum items
+
+-- what stands in all places, where something is kept
+abbrev pub in_places : Option (ℤ → ℤ → ℤ) → List ℤ → List ℤ
+in_places None out = []
+in_places (Some keep) out = out
+
+-- A walk over all these items, with these places, goes on from the next sum with those behind, and with the places
+-- after it: it answers the same, and keeps the same in all.
+pub record Continues (keep : Option (ℤ → ℤ → ℤ)) (n : ℕ) (sum : Sum) (before : List ℤ)
+    (items behind : List (Result ℤ BadWordAt)) (after : List ℤ) (next : Sum) : Type 0 where
+  pub folded : fold n sum items ≡ fold n next behind
+  pub kept : kept_in keep n next after behind ≡ kept_in keep n sum before items
+  pub met : next.met ≤ n
+  pub places : length after ≡ places_for keep n
+
+-- it goes on so from the answer, or ends with the answer's fault
+abbrev pub Walks : Option (ℤ → ℤ → ℤ) → ℕ → Sum → List ℤ → List (Result ℤ BadWordAt) → List (Result ℤ BadWordAt)
+    → List ℤ → Result Sum ReadFault → Type 0
+Walks keep n sum before items behind after (Ok next) = Continues keep n sum before items behind after next
+Walks keep n sum before items behind after (Err fault) = fold n sum items ≡ Err fault
+
+-- Whatever the words of a run of frames move a sum by, but for a number that isn't used, is what the walk adds up over
+-- these frames.
+abbrev pub AddsRun : Scheme → List ℕ → ℕ → ℕ → Sum → ℤ → Type 0
+AddsRun scheme payload n index sum unused =
+    (k count reach : ℕ) (by : ℤ) → 0 < k → index + k ≤ length payload / 64
+    → MovesBy scheme (words_from payload (16 * index + data_in sum.met index) (16 * k - data_in sum.met index)) count by
+    reach
+    → (ds : List ℤ) × (Moves count (by -ℤ unused) reach ds × IsCounted sum.met ds × ((met : ℕ)
+    → fold n sum (items_of scheme (left_from payload sum.met index))
+    ≡ fold n sum (map Ok ds ++ items_of scheme (left_from payload met (index + k)))))

@@ -3,8 +3,9 @@ use Rattle.std.specs.Prelude.{◌≡◌, ◌⊎◌, ℕ, zero, suc, ◌+◌, ◌
 use Rattle.std.specs.Prelude.{slice_index, slice_index_or, take, drop, map, Ok}
 use Rattle.mseed_steim.specs.declared.scheme.Scheme.{Scheme}
 use Rattle.mseed_steim.specs.declared.scheme.Scheme.TheVariants.{One, Two}
+use Rattle.mseed_steim.specs.declared.frame.TheConstants.{REACH}
 use Rattle.mseed_steim.specs.declared.unpack.Unpacking.{Unpacking}
-use Rattle.mseed_steim.specs.Frames.{DataWord, words_from}
+use Rattle.mseed_steim.specs.Frames.{DataWord, word_count, words_from}
 use Rattle.mseed_steim.specs.private.Items.{items_of}
 use Rattle.mseed_steim.specs.private.Lanes.{Begins, all_counts, all_widths, differences_by, row_at, span}
 
@@ -55,14 +56,16 @@ pub record AreUnpacked (scheme : Scheme) (begin frame : List ℕ) (differences :
 -- the same, where none of them has 30 or 32 bits
 pub record AreNarrow (scheme : Scheme) (begin frame : List ℕ) (differences : List ℤ) (count : ℕ) : Type 0 where
   pub unpacked : AreUnpacked scheme begin frame differences count
-  pub near : span differences ≤ 2 ^ 20
+  pub near : span differences ≤ REACH
 
--- the first word of a frame whose differences come behind that of the payload's first data word
-abbrev pub first_in : ℕ → ℕ
-first_in zero = 4
-first_in (suc frame) = 1
+-- The first data word of a frame that isn't taken yet, once so many samples have been met. The first frame has the
+-- payload's constants in front; its first data word may be taken alone.
+abbrev pub data_in : ℕ → ℕ → ℕ
+data_in zero zero = 3
+data_in (suc met) zero = 4
+data_in met (suc frame) = 1
 
--- the first data word of a frame
-abbrev pub data_in : ℕ → ℕ
-data_in zero = 3
-data_in (suc frame) = 1
+-- the data words of a payload that aren't taken yet, from a frame on
+abbrev pub left_from : List ℕ → ℕ → ℕ → List DataWord
+left_from payload met frame =
+    words_from payload (16 * frame + data_in met frame) (word_count payload - (16 * frame + data_in met frame))

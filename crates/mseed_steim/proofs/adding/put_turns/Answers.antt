@@ -2,7 +2,7 @@ use Rattle.std.proofs.Common.{◌≡◌, ◌+◌, ◌*◌, ◌^◌, ◌<◌, ℕ
 use Rattle.std.proofs.Common.{FitsSigned, arith, rules, refl}
 use Rattle.std.proofs.lemmas.Int.{to_z-of_z}
 use Rattle.std.proofs.lemmas.List.{length-map}
-use Rattle.mseed_steim.proofs.Summed.{next_four, span_cut, top_held}
+use Rattle.mseed_steim.proofs.Summed.{next_some, span_cut, top_held}
 use Rattle.mseed_steim.proofs.adding.put_turns.Goals as goal
 
 pub put_four-sum-requires-clause-near : goal.put_four-sum-requires-clause-near
@@ -12,7 +12,7 @@ put_four-sum-requires-clause-near c =
     let begin : FitsSigned w32 c.args.last = search rules in
     let past = get_or (map (to_z w32) c.loop-turn.sum) 3 (pos 0) in
     let next = get_or c.put_four-half.result 3 (pos 0) in
-    let half = next_four ds c.args.last k (k + 4) c.loop-turn.out c.put_four-half.new.out past next refl
+    let half = next_some ds c.args.last k 4 (k + 4) c.loop-turn.out c.put_four-half.new.out past next refl
     (rw to_z-of_z at c.loop-turn.invariant.summed) c.put_four-half.ensures.sums c.put_four-half.ensures.last in
     let near : nat_abs next < 2 ^ 31 = omega (arith, half.near, c.requires.near) in
     rw (top_held c.put_four-half.result c.put_four-half.ensures.whole near)
@@ -26,11 +26,11 @@ loop-turn-preserved c =
     let past = get_or (map (to_z w32) c.loop-turn.sum) 3 (pos 0) in
     let next = get_or c.put_four-half.result 3 (pos 0) in
     let last = get_or c.put_four-sum.result 3 (pos 0) in
-    let half = next_four ds c.args.last k (k + 4) c.loop-turn.out c.put_four-half.new.out past next refl
+    let half = next_some ds c.args.last k 4 (k + 4) c.loop-turn.out c.put_four-half.new.out past next refl
     (rw to_z-of_z at c.loop-turn.invariant.summed) c.put_four-half.ensures.sums c.put_four-half.ensures.last in
     let near : nat_abs next < 2 ^ 31 = omega (arith, half.near, c.requires.near) in
     let held = top_held c.put_four-half.result c.put_four-half.ensures.whole near in
-    let whole = next_four ds c.args.last (k + 4) (k + 4 + 4) c.put_four-half.new.out c.put_four-sum.new.out next last
+    let whole = next_some ds c.args.last (k + 4) 4 (k + 4 + 4) c.put_four-half.new.out c.put_four-sum.new.out next last
     refl half (rw held at c.put_four-sum.ensures.sums) (rw held at c.put_four-sum.ensures.last) in
     let near_last : nat_abs last < 2 ^ 31 = omega (arith, whole.near, c.requires.near) in
     let turn : 8 * (c.loop-turn.turn + 1) ≡ k + 4 + 4 = omega arith in

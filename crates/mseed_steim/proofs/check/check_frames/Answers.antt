@@ -1,18 +1,5 @@
-use Rattle.std.proofs.Common.{rules, w32, FitsSigned}
-use Rattle.std.proofs.lemmas.Int.{to_z-of_z}
-use Rattle.mseed_steim.proofs.Ended.{walk_checked}
+use Rattle.mseed_steim.proofs.Ended.{kept_checked}
 use Rattle.mseed_steim.proofs.check.check_frames.Goals as goal
 
-pub ends_of_walk-requires-clause-walked : goal.ends_of_walk-requires-clause-walked
-ends_of_walk-requires-clause-walked c =
-    let fits : FitsSigned w32 c.in-Some.constants.first = search rules in
-    rw (to_z-of_z, c.in-Some.ensures.first) at c.add_frames-walked.ensures
-
 pub returns : goal.returns
-returns c =
-    let fits : FitsSigned w32 c.in-Some.constants.first = search rules in
-    walk_checked c.args.scheme c.args.payload.now c.args.samples c.in-Some.constants c.add_frames-walked.result
-    c.ends_of_walk.result c.requires (λ i. (c.type_inv.payload i).fits)
-    (rw (to_z-of_z, c.in-Some.ensures.first) at c.add_frames-walked.ensures)
-    c.in-Some.ensures.first c.in-Some.ensures.last c.ends_of_walk.ensures.ends c.ends_of_walk.ensures.met
-    c.ends_of_walk.ensures.fault
+returns c = kept_checked c.args.scheme c.args.payload.now c.args.samples c.walk_frames.new.out c.walk_frames.result c.walk_frames.ensures

@@ -1,9 +1,8 @@
-use Rattle.std.proofs.Common.{◌∙◌, sym}
+use Rattle.std.proofs.Common.{◌∙◌, sym, Ok, Err}
 use Rattle.mseed_record.specs.Viewing.{view_of}
-use Rattle.mseed_time.specs.declared.order.Order.TheVariants.{Big}
 use Rattle.mseed_steim.specs.declared.form.Form.TheVariants.{Integers, Frames}
 use Rattle.mseed_steim.specs.Reading.{HoldsIn}
-use Rattle.mseed_steim.proofs.Laws.{kept_filled, payload_filled}
+use Rattle.mseed_steim.proofs.Laws.{payload_filled, payload_kept}
 use Rattle.mseed_steim.proofs.read.fill_record.Goals as goal
 
 pub returns-in-Integers : goal.returns-in-Integers
@@ -12,11 +11,18 @@ returns-in-Integers c =
     c.fill_integers.result c.requires.some (rw c.in-Integers.is at c.in-Ok.ensures.held)
     (c.from-samples.ensures ∙ c.samples.ensures) c.payload_order.ensures c.fill_integers.ensures
 
-pub returns-in-Frames : goal.returns-in-Frames
-returns-in-Frames c =
+pub returns-in-Ok-walk_frames : goal.returns-in-Ok-walk_frames
+returns-in-Ok-walk_frames c =
     let held : HoldsIn (view_of c.args.view.now) (Frames c.in-Frames.scheme) c.in-Ok.found.1.now =
     rw c.in-Frames.is at c.in-Ok.ensures.held in
-    payload_filled (view_of c.args.view.now) (Frames c.in-Frames.scheme) c.in-Ok.found.1.now _ _ _
-    c.fill_frames.result c.requires.some held (c.from-samples.ensures ∙ c.samples.ensures) (sym held.2)
-    (kept_filled (Frames c.in-Frames.scheme) Big c.in-Ok.found.1.now c.from-samples.result c.fill_frames.new.out
-    c.fill_frames.result c.fill_frames.ensures)
+    payload_kept (view_of c.args.view.now) (Frames c.in-Frames.scheme) c.in-Ok.found.1.now _ _ c.walk_frames.new.out
+    (Ok _) c.requires.some held (c.from-samples.ensures ∙ c.samples.ensures) (sym held.2)
+    c.in-Ok-walk_frames.ensures
+
+pub returns-in-Err-walk_frames : goal.returns-in-Err-walk_frames
+returns-in-Err-walk_frames c =
+    let held : HoldsIn (view_of c.args.view.now) (Frames c.in-Frames.scheme) c.in-Ok.found.1.now =
+    rw c.in-Frames.is at c.in-Ok.ensures.held in
+    payload_kept (view_of c.args.view.now) (Frames c.in-Frames.scheme) c.in-Ok.found.1.now _ _ c.walk_frames.new.out
+    (Err c.in-Err-walk_frames.fault) c.requires.some held (c.from-samples.ensures ∙ c.samples.ensures) (sym held.2)
+    c.in-Err-walk_frames.ensures

@@ -1,0 +1,240 @@
+-- A walk that goes on, step by step.
+use Rattle.std.proofs.Common.{◌≡◌, ◌⊎◌, ⊎_elim, ℕ, zero, suc, ◌+◌, ◌-◌, ◌<◌, ◌≤◌, ◌^◌, List, [], ◌∷◌, ◌++◌, map, take, drop, length}
+use Rattle.std.proofs.Common.{ℤ, pos, ◌+ℤ◌, nat_abs, Option, Some, None, Result, Ok, Err, arith, refl, ap, sym, subst}
+use Rattle.std.proofs.Common.{◌∙◌, inl, inr, append_assoc}
+use Rattle.std.specs.Prelude.{IfOk, IfSome, OnOk, min}
+use Rattle.std.proofs.lemmas.Bool.{cases_eq, cases_lt, eq-eqb, ne_eqb}
+use Rattle.std.proofs.lemmas.List.{map-append, take-append-drop, take-take}
+use Rattle.mseed_steim.specs.declared.differences.BadWordAt.{BadWordAt}
+use Rattle.mseed_steim.specs.declared.fault.ReadFault.{ReadFault}
+use Rattle.mseed_steim.specs.declared.keep.Taken.{Taken}
+use Rattle.mseed_steim.specs.declared.sum.Sum.{Sum}
+use Rattle.mseed_steim.specs.private.Lanes.{span, total}
+use Rattle.mseed_steim.specs.private.Sums.{Continues, HasPlaces, IsCounted, Puts, Walks, fold, in_places, kept_along}
+use Rattle.mseed_steim.specs.private.Sums.{kept_in, met_in, places_for, with_first}
+use Rattle.mseed_steim.proofs.Far.{goes_far, keeps_far}
+use Rattle.mseed_steim.proofs.Folds.{fold_done, fold_first, fold_short}
+use Rattle.mseed_steim.proofs.Folded.{all_kept, met_enough, met_first}
+use Rattle.mseed_steim.proofs.FrameItems.{span-append}
+
+pub continues_self : (keep : Option (ℤ → ℤ → ℤ)) (n : ℕ) (s : Sum) (out : List ℤ)
+    (items : List (Result ℤ BadWordAt)) → s.met ≤ n → length out ≡ places_for keep n
+    → Continues keep n s out items items out s
+continues_self keep n s out items met places = record { folded = refl; kept = refl; met = met; places = places }
+
+pub walks_then : (keep : Option (ℤ → ℤ → ℤ)) (n : ℕ) (s t : Sum) (before between after : List ℤ)
+    (items later behind : List (Result ℤ BadWordAt)) (r : Result Sum ReadFault)
+    → Continues keep n s before items later between t → Walks keep n t between later behind after r
+    → Walks keep n s before items behind after r
+walks_then keep n s t before between after items later behind (Ok next) c w =
+    record { folded = c.folded ∙ w.folded; kept = w.kept ∙ c.kept; met = w.met; places = w.places }
+walks_then keep n s t before between after items later behind (Err fault) c w = c.folded ∙ w
+
+-- over the same items
+pub walks_over : (keep : Option (ℤ → ℤ → ℤ)) (n : ℕ) (s : Sum) (before after : List ℤ)
+    (items others behind : List (Result ℤ BadWordAt)) (r : Result Sum ReadFault) → items ≡ others
+    → Walks keep n s before others behind after r → Walks keep n s before items behind after r
+walks_over keep n s before after items others behind r e w =
+    subst (λ (xs : List (Result ℤ BadWordAt)). Walks keep n s before xs behind after r) (sym e) w
+
+-- no more is needed, whatever stands behind
+kept_done : (keep : Option (ℤ → ℤ → ℤ)) (n : ℕ) (s : Sum) (out : List ℤ) (items later : List (Result ℤ BadWordAt))
+    → s.met ≡ n → kept_in keep n s out items ≡ kept_in keep n s out later
+kept_done None n s out items later e = refl
+kept_done (Some keep) n s out items later e =
+    ap (λ (xs : List ℤ). take s.met out ++ xs) (met_enough keep n s items e ∙ sym (met_enough keep n s later e))
+
+pub continues_done : (keep : Option (ℤ → ℤ → ℤ)) (n : ℕ) (s next : Sum) (before after : List ℤ)
+    (items behind later : List (Result ℤ BadWordAt)) → Continues keep n s before items behind after next
+    → next.met ≡ n → Continues keep n s before items later after next
+continues_done keep n s next before after items behind later c e = record {
+  folded = c.folded ∙ fold_done n next behind later e;
+  kept = kept_done keep n next after later behind e ∙ c.kept;
+  met = c.met;
+  places = c.places;
+}
+
+-- all places are filled, or a sample lacks
+pub ends_kept : (keep : Option (ℤ → ℤ → ℤ)) (n : ℕ) (s : Sum) (out : List ℤ) (items : List (Result ℤ BadWordAt))
+    → length out ≡ places_for keep n → s.met ≡ n → in_places keep out ≡ kept_in keep n s out items
+ends_kept None n s out items places e = refl
+ends_kept (Some keep) n s out items places e = all_kept keep n s out items places e
+
+on_any : (r : Result Sum ReadFault) (X : Type 0) → X → OnOk r X
+on_any (Ok sum) X x = x
+on_any (Err fault) X x = tt
+
+pub all_ends : (keep : Option (ℤ → ℤ → ℤ)) (n : ℕ) (s : Sum) (out : List ℤ) (r : Result Sum ReadFault)
+    → length out ≡ places_for keep n → r ≡ fold n s [] → OnOk r (in_places keep out ≡ kept_in keep n s out [])
+all_ends keep n s out r places e = ⊎_elim
+    (λ (all : s.met ≡ n). on_any r _ (ends_kept keep n s out [] places all))
+    (λ (some : s.met ≡ n → ⊥). rw (e ∙ fold_short n s some) tt)
+    (cases_eq s.met n)
+
+-- there is a place for each sample, where anything is kept
+pub has_places : (keep : Option (ℤ → ℤ → ℤ)) (n m : ℕ) (out : List ℤ) → length out ≡ places_for keep n → m ≤ n
+    → HasPlaces keep m out
+has_places None n m out e h = tt
+has_places (Some keep) n m out e h = let long : length out ≡ n = e in omega (arith, long, h)
+
+-- what is put in its places is kept
+pub puts_kept : (keep : Option (ℤ → ℤ → ℤ)) (n : ℕ) (s next : Sum) (before after : List ℤ)
+    (put : (ℤ → ℤ → ℤ) → List ℤ) (items behind : List (Result ℤ BadWordAt))
+    → ((k : ℤ → ℤ → ℤ) → next.met ≡ s.met + length (put k)) → Puts keep s.met put before after
+    → ((k : ℤ → ℤ → ℤ) → met_in k n s items ≡ put k ++ met_in k n next behind)
+    → kept_in keep n next after behind ≡ kept_in keep n s before items
+puts_kept None n s next before after put items behind count puts met = refl
+puts_kept (Some k) n s next before after put items behind count puts met =
+    ap (λ (m : ℕ). take m after ++ met_in k n next behind) (count k)
+    ∙ ap (λ (xs : List ℤ). xs ++ met_in k n next behind) puts
+    ∙ append_assoc (take s.met before) (put k) (met_in k n next behind)
+    ∙ ap (λ (xs : List ℤ). take s.met before ++ xs) (sym (met k))
+
+length-kept_along : (keep : ℤ → ℤ → ℤ) (m : ℕ) (l : ℤ) (ds : List ℤ) → length (kept_along keep m l ds) ≡ length ds
+length-kept_along keep m l [] = refl
+length-kept_along keep m l (d ∷ ds) = ap suc (length-kept_along keep (m + 1) (l +ℤ d) ds)
+
+-- while the limits of 32 bits are out of reach
+pub continues_near : (keep : Option (ℤ → ℤ → ℤ)) (n : ℕ) (ds : List ℤ) (s next : Sum) (before after : List ℤ)
+    (more : List (Result ℤ BadWordAt)) → IsCounted s.met ds → s.met + length ds ≤ n → nat_abs s.last + span ds < 2 ^ 31
+    → next.met ≡ s.met + length ds → next.last ≡ s.last +ℤ total ds
+    → Puts keep s.met (λ k. kept_along k s.met s.last ds) before after → length after ≡ places_for keep n
+    → Continues keep n s before (map Ok ds ++ more) more after next
+continues_near keep n ds s next before after more counted room near met last puts places = record {
+  folded = let far = goes_far n ds s more counted room near in rw (← met, ← last) at far;
+  kept = puts_kept keep n s next before after (λ k. kept_along k s.met s.last ds) (map Ok ds ++ more) more
+      (λ k. met ∙ ap (λ (i : ℕ). s.met + i) (sym (length-kept_along k s.met s.last ds))) puts
+      (λ k. let far = keeps_far k n ds s more counted room near in rw (← met, ← last) at far);
+  met = omega (arith, met, room);
+  places = places;
+}
+
+-- the first sample's difference isn't used
+pub first_counted : (m : ℕ) (ds : List ℤ) → IsCounted m (with_first m (pos 0) ds)
+first_counted m [] = tt
+first_counted m (d ∷ ds) = λ e. rw (eq-eqb m 0 e) refl
+
+pub first_span : (m : ℕ) (ds : List ℤ) → span (with_first m (pos 0) ds) ≤ span ds
+first_span m [] = omega arith
+first_span m (d ∷ ds) = ⊎_elim
+    (λ (e : m ≡ 0). rw (eq-eqb m 0 e) (omega arith))
+    (λ (e : m ≡ 0 → ⊥). rw (ne_eqb m 0 e) (omega arith))
+    (cases_eq m 0)
+
+pub length-with_first : (m : ℕ) (z : ℤ) (ds : List ℤ) → length (with_first m z ds) ≡ length ds
+length-with_first m z [] = refl
+length-with_first m z (d ∷ ds) = refl
+
+pub first_put : (m count : ℕ) (z : ℤ) (d : ℤ) (ds : List ℤ) → m ≡ 0
+    → take count (z ∷ ds) ≡ with_first m z (take count (d ∷ ds))
+first_put m zero z d ds e = refl
+first_put m (suc count) z d ds e = rw (eq-eqb m 0 e) refl
+
+pub first_same : (m : ℕ) (z : ℤ) (ds : List ℤ) → (m ≡ 0 → ⊥) → ds ≡ with_first m z ds
+first_same m z [] e = refl
+first_same m z (d ∷ ds) e = rw (ne_eqb m 0 e) refl
+
+fold_unused : (n : ℕ) (s : Sum) (z : ℤ) (ds : List ℤ) (more : List (Result ℤ BadWordAt)) → 0 < n
+    → fold n s (map Ok ds ++ more) ≡ fold n s (map Ok (with_first s.met z ds) ++ more)
+fold_unused n s z [] more some = refl
+fold_unused n s z (d ∷ ds) more some = ⊎_elim
+    (λ (e : s.met ≡ 0). let less : s.met < n = omega (arith, e, some) in
+    rw (eq-eqb s.met 0 e) (fold_first n s d (map Ok ds ++ more) less e
+    ∙ sym (fold_first n s z (map Ok ds ++ more) less e)))
+    (λ (e : s.met ≡ 0 → ⊥). rw (ne_eqb s.met 0 e) refl)
+    (cases_eq s.met 0)
+
+met_unused : (keep : ℤ → ℤ → ℤ) (n : ℕ) (s : Sum) (z : ℤ) (ds : List ℤ) (more : List (Result ℤ BadWordAt)) → 0 < n
+    → met_in keep n s (map Ok ds ++ more) ≡ met_in keep n s (map Ok (with_first s.met z ds) ++ more)
+met_unused keep n s z [] more some = refl
+met_unused keep n s z (d ∷ ds) more some = ⊎_elim
+    (λ (e : s.met ≡ 0). let less : s.met < n = omega (arith, e, some) in
+    rw (eq-eqb s.met 0 e) (met_first keep n s d (map Ok ds ++ more) less e
+    ∙ sym (met_first keep n s z (map Ok ds ++ more) less e)))
+    (λ (e : s.met ≡ 0 → ⊥). rw (ne_eqb s.met 0 e) refl)
+    (cases_eq s.met 0)
+
+kept_unused : (keep : Option (ℤ → ℤ → ℤ)) (n : ℕ) (s : Sum) (z : ℤ) (out ds : List ℤ)
+    (more : List (Result ℤ BadWordAt)) → 0 < n
+    → kept_in keep n s out (map Ok ds ++ more) ≡ kept_in keep n s out (map Ok (with_first s.met z ds) ++ more)
+kept_unused None n s z out ds more some = refl
+kept_unused (Some keep) n s z out ds more some =
+    ap (λ (xs : List ℤ). take s.met out ++ xs) (met_unused keep n s z ds more some)
+
+pub continues_unused : (keep : Option (ℤ → ℤ → ℤ)) (n : ℕ) (s next : Sum) (z : ℤ) (before after ds : List ℤ)
+    (more : List (Result ℤ BadWordAt)) → 0 < n
+    → Continues keep n s before (map Ok (with_first s.met z ds) ++ more) more after next
+    → Continues keep n s before (map Ok ds ++ more) more after next
+continues_unused keep n s next z before after ds more some c = record {
+  folded = fold_unused n s z ds more some ∙ c.folded;
+  kept = c.kept ∙ sym (kept_unused keep n s z before ds more some);
+  met = c.met;
+  places = c.places;
+}
+
+-- where nothing is kept, the sum alone goes on
+nothing_continues : (keep : Option (ℤ → ℤ → ℤ)) (n : ℕ) (s next : Sum) (out : List ℤ)
+    (items behind : List (Result ℤ BadWordAt)) → keep ≡ None → length out ≡ places_for keep n
+    → fold n s items ≡ fold n next behind → next.met ≤ n → Continues keep n s out items behind out next
+nothing_continues None n s next out items behind e places folded met =
+    record { folded = folded; kept = refl; met = met; places = places }
+nothing_continues (Some keep) n s next out items behind e places folded met = cc
+
+pub nothing_kept : (keep : Option (ℤ → ℤ → ℤ)) (n : ℕ) (s : Sum) (out : List ℤ) (items : List (Result ℤ BadWordAt))
+    (behind : Taken → List (Result ℤ BadWordAt)) (o : Option Taken) → keep ≡ None → length out ≡ places_for keep n
+    → IfSome o (λ taken. fold n s items ≡ fold n taken.sum (behind taken)) → IfSome o (λ taken. taken.sum.met ≤ n)
+    → IfSome o (λ taken. Continues keep n s out items (behind taken) out taken.sum)
+nothing_kept keep n s out items behind None e places folded met = tt
+nothing_kept keep n s out items behind (Some taken) e places folded met =
+    nothing_continues keep n s taken.sum out items (behind taken) e places folded met
+
+-- Differences of which the first alone are needed: those behind them aren't looked at.
+parts : (k count : ℕ) (ds : List ℤ) → k ≤ count → take count ds ≡ take k ds ++ drop k (take count ds)
+parts k count ds less =
+    sym (take-append-drop k (take count ds))
+    ∙ ap (λ (xs : List ℤ). xs ++ drop k (take count ds)) (take-take k count ds less)
+
+cut : (k count : ℕ) (ds : List ℤ) (rest : List (Result ℤ BadWordAt)) → k ≤ count
+    → map Ok (take count ds) ++ rest ≡ map Ok (take k ds) ++ (map Ok (drop k (take count ds)) ++ rest)
+cut k count ds rest less =
+    ap (λ (xs : List ℤ). map Ok xs ++ rest) (parts k count ds less)
+    ∙ ap (λ (xs : List (Result ℤ BadWordAt)). xs ++ rest) (map-append Ok (take k ds) (drop k (take count ds)))
+    ∙ append_assoc (map Ok (take k ds)) (map Ok (drop k (take count ds))) rest
+
+-- all are taken, or as many as are needed
+all_or_enough : (count left k : ℕ) → k ≡ min count left → (k ≡ count) ⊎ ((k ≡ left) × (k ≤ count))
+all_or_enough count left k e = ⊎_elim
+    (λ (more : left < count). inr (omega (arith, e, more), omega (arith, e, more)))
+    (λ (few : count ≤ left). inl (omega (arith, e, few)))
+    (cases_lt left count)
+
+enough : (keep : Option (ℤ → ℤ → ℤ)) (n : ℕ) (s : Sum) (ds : List ℤ) (count k : ℕ) (before after : List ℤ)
+    (rest : List (Result ℤ BadWordAt)) (r : Result Sum ReadFault) → k ≤ count → s.met + k ≡ n
+    → ((more : List (Result ℤ BadWordAt)) → Walks keep n s before (map Ok (take k ds) ++ more) more after r)
+    → IfOk r (λ next. next.met ≡ s.met + k) → Walks keep n s before (map Ok (take count ds) ++ rest) rest after r
+enough keep n s ds count k before after rest (Ok next) less all walks met =
+    let behind : List (Result ℤ BadWordAt) = map Ok (drop k (take count ds)) ++ rest in
+    continues_done keep n s next before after (map Ok (take count ds) ++ rest) behind rest
+    (walks_over keep n s before after (map Ok (take count ds) ++ rest) (map Ok (take k ds) ++ behind) behind (Ok next)
+    (cut k count ds rest less) (walks behind)) (met ∙ all)
+enough keep n s ds count k before after rest (Err fault) less all walks met =
+    ap (λ (items : List (Result ℤ BadWordAt)). fold n s items) (cut k count ds rest less)
+    ∙ walks (map Ok (drop k (take count ds)) ++ rest)
+
+-- a walk over the first of them, as far as they are needed, is one over all
+pub walks_needed : (keep : Option (ℤ → ℤ → ℤ)) (n : ℕ) (s : Sum) (ds : List ℤ) (count k : ℕ) (before after : List ℤ)
+    (rest : List (Result ℤ BadWordAt)) (r : Result Sum ReadFault) → s.met ≤ n → k ≡ min count (n - s.met)
+    → ((more : List (Result ℤ BadWordAt)) → Walks keep n s before (map Ok (take k ds) ++ more) more after r)
+    → IfOk r (λ next. next.met ≡ s.met + k) → Walks keep n s before (map Ok (take count ds) ++ rest) rest after r
+walks_needed keep n s ds count k before after rest r inside e walks met = ⊎_elim
+    (λ (all : k ≡ count). subst (λ (m : ℕ). Walks keep n s before (map Ok (take m ds) ++ rest) rest after r) all
+    (walks rest))
+    (λ (some : (k ≡ n - s.met) × (k ≤ count)).
+    enough keep n s ds count k before after rest r some.1 (omega (arith, inside, some.0)) walks met)
+    (all_or_enough count (n - s.met) k e)
+
+-- the first of them go no further than all do
+pub span_needed : (ds : List ℤ) (k count : ℕ) → k ≤ count → span (take k ds) ≤ span (take count ds)
+span_needed ds k count less =
+    let all = ap span (parts k count ds less) ∙ span-append (take k ds) (drop k (take count ds)) in
+    omega (arith, all)

@@ -1,0 +1,51 @@
+use Rattle.std.proofs.Common.{◌≡◌, ◌+◌, ◌-◌, ◌*◌, ◌/◌, ◌≤◌, ◌++◌, ◌∙◌, ℕ, ℤ, ◌+ℤ◌, take, pos, length, ap, arith, rules}
+use Rattle.std.proofs.Common.{w32, FitsSigned}
+use Rattle.std.specs.Prelude.{replicate}
+use Rattle.std.proofs.lemmas.Int.{to_z-of_z}
+use Rattle.std.proofs.lemmas.List.{length-take-le}
+use Rattle.mseed_steim.specs.private.Lanes.{total}
+use Rattle.mseed_steim.proofs.Summed.{padded, padded_span, padded_total, whole_put}
+use Rattle.mseed_steim.proofs.adding.put_sums.Goals as goal
+
+-- the turns end behind the differences, and where the zeros do at the latest
+turns_more : (count : ℕ) → count ≤ 8 * ((count + 7) / 8)
+turns_more count = omega arith
+
+turns_less : (count : ℕ) → 8 * ((count + 7) / 8) ≤ count + 8
+turns_less count = omega arith
+
+pub put_turns-requires-clause-near : goal.put_turns-requires-clause-near
+put_turns-requires-clause-near c =
+    let ds = c.args.differences.now in
+    let count : ℕ = c.args.count in
+    let whole : ℕ = 8 * ((count + 7) / 8) in
+    let long : length ds ≡ 128 = search rules in
+    let fits : FitsSigned w32 c.args.last = search rules in
+    rw (padded ds count whole long c.requires.few (turns_more count) (turns_less count), to_z-of_z)
+    (omega (arith, padded_span (take count ds) (whole - count), c.requires.near))
+
+pub returns-clause-sums : goal.returns-clause-sums
+returns-clause-sums c =
+    let ds = c.args.differences.now in
+    let count : ℕ = c.args.count in
+    let whole : ℕ = 8 * ((count + 7) / 8) in
+    let all : length ds ≡ 128 = search rules in
+    let long : length (take count ds) ≡ count = length-take-le count ds (omega (arith, all, c.requires.few)) in
+    let fits : FitsSigned w32 c.args.last = search rules in
+    whole_put count (whole - count) (take count ds) c.put_turns.new.out c.args.last long
+    (rw (padded ds count whole all c.requires.few (turns_more count) (turns_less count), to_z-of_z)
+    at c.put_turns.ensures.sums)
+
+pub returns-clause-last : goal.returns-clause-last
+returns-clause-last c =
+    let ds = c.args.differences.now in
+    let count : ℕ = c.args.count in
+    let whole : ℕ = 8 * ((count + 7) / 8) in
+    let all : length ds ≡ 128 = search rules in
+    let fits : FitsSigned w32 c.args.last = search rules in
+    let last : FitsSigned w32 c.put_turns.result = search rules in
+    let sum : c.put_turns.result ≡ c.args.last +ℤ total (take count ds ++ replicate (whole - count) (pos 0)) =
+    rw (padded ds count whole all c.requires.few (turns_more count) (turns_less count), to_z-of_z)
+    at c.put_turns.ensures.last in
+    rw (to_z-of_z w32 c.put_turns.result last)
+    (sum ∙ ap (λ (z : ℤ). c.args.last +ℤ z) (padded_total (take count ds) (whole - count)))

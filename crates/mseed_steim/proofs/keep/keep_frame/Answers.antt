@@ -1,0 +1,28 @@
+use Rattle.std.proofs.Common.{◌≡◌, ◌/◌, ◌^◌, ◌≤◌, length, nat_abs, take, arith, Ok, rules, w32}
+use Rattle.std.proofs.Common.{FitsSigned}
+use Rattle.std.proofs.lemmas.Int.{to_z-of_z}
+use Rattle.mseed_steim.specs.private.Lanes.{span}
+use Rattle.mseed_steim.specs.private.Unpacked.{data_in}
+use Rattle.mseed_steim.proofs.Continuing.{walks_over}
+use Rattle.mseed_steim.proofs.Walking.{frame_at, frame_items}
+use Rattle.mseed_steim.proofs.keep.keep_frame.Goals as goal
+
+pub unpack_frame-requires-clause-begins : goal.unpack_frame-requires-clause-begins
+unpack_frame-requires-clause-begins g c = (data_in c.args.sum.met c.args.index, c.begin_in-begin.ensures)
+
+pub keep_needed-requires-clause-near : goal.keep_needed-requires-clause-near
+keep_needed-requires-clause-near g c =
+    let narrow : span (take c.in_ok-count.count c.unpack_frame.new.differences) ≤ 2 ^ 20 = c.in_ok-count.ensures.near in
+    let fits : FitsSigned w32 c.args.sum.last = search rules in
+    let size : c.unsigned_abs.result ≡ nat_abs c.args.sum.last = rw to_z-of_z at c.unsigned_abs.ensures.value in
+    omega (arith, narrow, size)
+
+pub returns-clause-continues : goal.returns-clause-continues
+returns-clause-continues g c =
+    let p = c.args.payload.now in
+    walks_over g.K.Keeper.kept c.args.task.samples c.args.sum c.args.out.now c.keep_needed.new.out _ _ _
+    (Ok c.keep_needed.result)
+    (frame_items c.args.task.scheme p _ _ c.args.sum.met c.keep_needed.result.met c.args.index _ _ c.requires.inside
+    c.begin_in-begin.ensures c.in_ok-count.ensures.unpacked
+    (rw c.as_chunks.ensures.front (frame_at (length p / 64) p c.args.index c.requires.inside)))
+    (c.keep_needed.ensures _)

@@ -1,0 +1,14 @@
+use Rattle.std.proofs.Common.{arith}
+use Rattle.mseed_steim.specs.private.Reads.{as_data}
+use Rattle.mseed_steim.proofs.FirstRun.{found_run, moved_run}
+use Rattle.mseed_steim.proofs.keep.unused_in.Goals as goal
+
+pub returns-then-sum-gt0 : goal.returns-then-sum-gt0
+returns-then-sum-gt0 c =
+    moved_run c.args.task.scheme c.args.payload.now c.args.task.samples c.args.index c.args.sum (omega arith)
+
+pub returns : goal.returns
+returns c =
+    found_run c.args.task.scheme c.args.payload.now c.args.task.samples c.args.index c.args.sum
+    (as_data c.first_word.result) c.first_difference.result (omega arith) (omega arith) (omega arith)
+    c.first_word.ensures c.first_difference.ensures
