@@ -389,41 +389,6 @@ pub reported_more : (xs ys zs : List (List ℕ)) (a b c : BytesWritten) → AreR
 reported_more xs ys zs a b c p q e =
     subst (λ (lines : List (List ℕ)). AreReported lines a c) (sym e) (reported_also xs ys a b c p q)
 
--- ---- the outcome
-abbrev pub stopped : (past : Bool) (h now : BytesRead) (s : Stage) (reported at : BytesWritten) → IsStoppedAt h now s
-    → AreReported (passed_lines past (parts_at s)) reported at → IsStopped past h now reported at
-stopped past h now s reported at step are = record {
-  bytes = step.bytes;
-  more = step.reported;
-  stage = s;
-  lines = record { count = step.count; before = step.before; reported = are };
-}
-
-pub failed : {A : Type 0} → (past : Bool) (expected : Option ℕ) (h now : BytesRead) (s : Stage) (r : Reader A)
-    (fault : PartsFault) (reported at : BytesWritten) → IsNextStep {A = A} past h s (Err fault) now r
-    → AreReported (passed_lines past (parts_at s)) reported at
-    → IsReadOutcome {A = A} (Err fault) past expected h now reported at
-failed past expected h now s r (BadLine k offset) reported at step are = (
-  step.bytes,
-  (
-    step.reported,
-    record {
-      bad = step.bad;
-      count = step.count;
-      behind = step.behind;
-      stage = s;
-      before = step.before;
-      reported = are;
-    },
-  ),
-)
-failed past expected h now s r (Count parts due) reported at step are = absurd step
-failed past expected h now s r (Stream fault) reported at step are = (
-  step.0,
-  record { stopped = stopped past h now s reported at step.1.stopped are; none_bad = step.1.none_bad },
-)
-failed past expected h now s r Memory reported at step are = stopped past h now s reported at step are
-
 -- nothing was read
 pub none_read : (h : BytesRead) → IsStoppedAt h h start
 none_read h = record {
@@ -442,40 +407,6 @@ none_read h = record {
 pub none_reported : (past : Bool) (at : BytesWritten) → AreReported (passed_lines past (parts_at start)) at at
 none_reported past at = subst (λ (lines : List (List ℕ)). AreReported lines at at) (sym (reported_none past))
     (AreReported.none at)
-
-pub all_read : {A : Type 0} → (past : Bool) (expected : Option ℕ) (h now : BytesRead) (s : Stage) (r : Reader A)
-    (result : Result (JointPart A) PartsFault) (reported at : BytesWritten) → HasEnded past h now s r
-    → AreReported (passed_lines past (parts_at s)) reported at → IsFinished r.joint expected result
-    → IsReadOutcome result past expected h now reported at
-all_read {A = A} past expected h now s r (Ok joint) reported at e are f =
-    subst (λ (j : JointPart A). IsReadOutcome (Ok j) past expected h now reported at) (sym f.0) (
-      e.bytes,
-      (
-        e.reported,
-        e.at_end,
-        (
-          record { parts = parts_at s; spells = e.spells; is_joint = e.joint; reported = are },
-          subst (λ (n : ℕ). AreExpected expected n) e.number f.1,
-        ),
-      ),
-    )
-all_read past expected h now s r (Err (Count parts due)) reported at e are f = (
-  e.bytes,
-  (
-    e.reported,
-    e.at_end,
-    record {
-      joint = written_of r.joint.so_far;
-      read = record { parts = parts_at s; spells = e.spells; is_joint = e.joint; reported = are };
-      number = f.0 ∙ e.number;
-      due_is = f.1;
-      differ = f.2;
-    },
-  ),
-)
-all_read past expected h now s r (Err (BadLine k offset)) reported at e are f = absurd f
-all_read past expected h now s r (Err (Stream fault)) reported at e are f = absurd f
-all_read past expected h now s r (Err Memory) reported at e are f = absurd f
 
 -- ---- at the beginning
 empty : (xs : List ℕ) → length xs ≡ 0 → xs ≡ []

@@ -1,39 +1,38 @@
--- The lines of borders, as they are gathered and written while parts are read.
+-- Parts that are read with a report of their borders, and the lines of borders as they are gathered and written.
 use Rattle.std.proofs.Common.{◌≡◌, ◌+◌, ◌<◌, ℕ, List, [], ◌++◌, Bool, length, take, refl, sym, ap, ◌∙◌, subst, arith}
-use Rattle.std.proofs.Common.{inl, inr, Option}
-use Rattle.std.proofs.Common.{append_assoc, append-nil, Ok, Err}
+use Rattle.std.proofs.Common.{inl, inr, Option, Some, append_assoc, append-nil, Ok, Err}
 use Rattle.std.specs.Prelude.{Result}
-use Rattle.std.specs.Result.{IsErrAnd}
 use Rattle.mseed_stream.specs.Device.{BytesRead, BytesWritten, nothing_read}
 use Rattle.mseed_stream.specs.Fault.{IsStreamFault}
-use Rattle.mseed_stream.specs.Gathered.{AreGathered, EmittedFirst, EmittedPart}
-use Rattle.mseed_stream.proofs.Gathered.{all_behind, first_behind, gathered_first, gathered_more, gathered_written}
-use Rattle.mseed_stream.proofs.Gathered.{part_behind, part_of}
+use Rattle.mseed_stream.specs.Gathered.{AreGathered, EmittedFirst, EmittedPart, IsCutOff}
+use Rattle.mseed_stream.proofs.Gathered.{all_behind, all_written, cut_part, first_behind, gathered_also, gathered_first}
+use Rattle.mseed_stream.proofs.Gathered.{gathered_written, part_behind, part_of}
 use Rattle.mseed_join.specs.declared.joining.Joined.{Joined as Answer}
 use Rattle.mseed_join.specs.declared.joining.JoinsFault.{JoinsFault}
 use Rattle.mseed_join.specs.declared.joining.JoinsFault.TheVariants.{Line, Count, Stream, Write, Memory}
 use Rattle.mseed_join.specs.declared.joint.JointPart.{JointPart}
+use Rattle.mseed_join.specs.declared.joint.Reported.{Reported}
 use Rattle.mseed_join.specs.declared.reader.PartsFault.{PartsFault}
 use Rattle.mseed_join.specs.declared.reader.PartsFault.TheVariants.{Line as BadLine, Count as Miscount}
-use Rattle.mseed_join.specs.declared.reader.PartsFault.TheVariants.{Stream as Unread}
-use Rattle.mseed_join.specs.declared.reader.PartsFault.TheVariants.{Memory as NoMemory}
+use Rattle.mseed_join.specs.declared.reader.PartsFault.TheVariants.{Stream as Unread, Memory as NoMemory}
 use Rattle.mseed_join.specs.declared.reader.Reader.{Reader}
 use Rattle.mseed_join.specs.Borders.{AreBorders, AreBordersOf, Border, border_lines}
 use Rattle.mseed_join.specs.Joined.{HasNoBadLine, IsBadLine, join_text}
-use Rattle.mseed_join.specs.Joins.{IsAnswer}
+use Rattle.mseed_join.specs.Joins.{IsAnswer, refusal}
 use Rattle.mseed_join.specs.JoinsEach.{AreEachTo, AreLinesWritten, IsJoinEachOutcome}
 use Rattle.mseed_join.specs.Reached.{AreLinesRead, AreReported, Stage, parts_at, passed_lines, start}
-use Rattle.mseed_join.specs.ReadParts.{AreExpected, AreReadParts, written_of}
+use Rattle.mseed_join.specs.ReadParts.{AreExpected, AreReadParts, IsReadOutcome, IsStopped, written_of}
 use Rattle.mseed_join.specs.Written.{Written, Spells}
 use Rattle.mseed_join.specs.private.Along.{HasEnded, IsAlong, IsFinished, IsNextStep, IsStoppedAt}
-use Rattle.mseed_join.specs.private.Bordered.{AreAllEach, IsCutShort, IsEachReading, IsFlushed, MovesOn}
-use Rattle.mseed_join.specs.private.Refused.{refusal}
-use Rattle.mseed_join.proofs.Along.{none_read, none_reported}
+use Rattle.mseed_join.specs.private.Bordered.{AreAllRead, AreLined, IsCutShort, IsEndedBy, IsFlushed, IsReading}
+use Rattle.mseed_join.specs.private.Bordered.{IsUnderWay}
+use Rattle.mseed_join.specs.private.Taking.{border_by, passed_by}
+use Rattle.mseed_join.proofs.Along.{none_read, none_reported, reported_more}
 use Rattle.mseed_join.proofs.Bordering.{lines_append}
 
 -- ---- how far was read
 -- by any step that ends reading
-pub stopped_by : {A : Type 0} → (past : Bool) (h now : BytesRead) (s : Stage) (r : Reader A) (fault : PartsFault)
+stopped_by : {A : Type 0} → (past : Bool) (h now : BytesRead) (s : Stage) (r : Reader A) (fault : PartsFault)
     → IsNextStep {A = A} past h s (Err fault) now r → IsStoppedAt h now s
 stopped_by past h now s r (BadLine k offset) step =
     record { bytes = step.bytes; reported = step.reported; count = step.count; before = step.before }
@@ -42,7 +41,7 @@ stopped_by past h now s r (Unread fault) step = step.1.stopped
 stopped_by past h now s r NoMemory step = step
 
 -- before it
-pub along_by : {A : Type 0} → (past : Bool) (h now : BytesRead) (s : Stage) (r : Reader A) → IsAlong past h now s r
+along_by : {A : Type 0} → (past : Bool) (h now : BytesRead) (s : Stage) (r : Reader A) → IsAlong past h now s r
     → IsStoppedAt h now s
 along_by past h now s r a = record {
   bytes = a.by.passed ++ r.lines.held;
@@ -75,295 +74,366 @@ each_to past h now s found reported at first stop borders are = record {
   borders = borders;
 }
 
--- ---- what is gathered
--- all of it
-lines_written : (first old new : BytesWritten) (text : List ℕ) (found : List Border)
-    → AreGathered first old text (border_lines found) → new.bytes ≡ old.bytes ++ text → old.failures ≡ first.failures
-    → new.failures ≡ old.failures → AreLinesWritten found first new
-lines_written first old new text found before bytes same fine = record {
-  text = bytes ∙ ap (λ (t : List ℕ). t ++ text) before.bytes ∙ append_assoc first.bytes before.taken text
-      ∙ ap (λ (t : List ℕ). first.bytes ++ t) before.joined;
-  fine = fine ∙ same;
+-- ---- with any report of the borders
+-- one more line
+pub on_way : {A : Type 0} → (past : Bool) (h old now : BytesRead) (before after : Reader A) (reported : Reported)
+    (first at later : BytesWritten) (Before After : List Border → Type 0)
+    → (u : IsUnderWay past h old before first at Before) → IsNextStep past h u.stage (Ok (Some reported)) now after
+    → AreReported (passed_by reported) at later
+    → ((found : List Border) → Before found → After (found ++ border_by reported))
+    → IsUnderWay past h now after first later After
+on_way past h old now before after reported first at later Before After u step passed on = record {
+  stage = step.0;
+  found = u.found ++ border_by reported;
+  along = step.1.0;
+  reported = reported_more _ _ _ _ _ _ u.reported passed step.1.1.passed;
+  borders = step.1.1.borders u.found u.borders;
+  stands = on u.found u.stands;
 }
 
--- one more line was added
-pub moved_on : (first old new : BytesWritten) (text next : List ℕ) (found more : List Border)
-    → AreGathered first old text (border_lines found) → MovesOn old new text next (border_lines more)
-    → AreGathered first new next (border_lines (found ++ more))
-moved_on first old new text next found more before m =
-    subst (λ (t : List ℕ). AreGathered first new next t) (sym (lines_append found more))
-    (gathered_more first old new text next (border_lines found) (border_lines more) before m.gathered)
+-- the report failed at it
+pub cut_off : {A F : Type 0} → (past : Bool) (expected : Option ℕ) (h now : BytesRead) (r : Reader A) (fault : F)
+    (first at : BytesWritten) (Stands : List Border → Type 0) (Cuts : List Border → F → Type 0)
+    (Stops : List Border → PartsFault → F → Type 0) → h ≡ nothing_read
+    → IsUnderWay past h now r first at (λ found. Cuts found fault)
+    → IsReading {A = A} (Err fault) past expected now first at Stands Cuts Stops
+cut_off past expected h now r fault first at Stands Cuts Stops begin u = (
+  u.found,
+  (
+    each_to past h now u.stage u.found first at begin (along_by past h now u.stage r u.along) u.borders u.reported,
+    inl u.stands,
+  ),
+)
 
--- ---- at a fault
--- the output failed, as what is gathered was written
-short_each : (past : Bool) (expected : Option ℕ) (h now : BytesRead) (s : Stage)
-    (first old new reported at : BytesWritten) (text : List ℕ) (found : List Border) → h ≡ nothing_read
-    → IsStoppedAt h now s → AreBordersOf past (parts_at s) found
-    → AreReported (passed_lines past (parts_at s)) reported at → AreGathered first old text (border_lines found)
-    → old.failures ≡ first.failures → new.failures ≡ old.failures + 1 → EmittedPart old new text
-    → IsJoinEachOutcome past expected (Err Write) now first new reported at
-short_each past expected h now s first old new reported at text found begin stop borders are before same failed
-    emitted = (
-      omega (arith, failed, same),
-      inl (
-        found,
-        (
-          each_to past h now s found reported at begin stop borders are,
-          part_of first old new text (border_lines found) before emitted,
-        ),
-      ),
-    )
+-- no line was read
+pub none_read_yet : {A F : Type 0} → (past : Bool) (expected : Option ℕ) (h : BytesRead) (fault : F)
+    (first : BytesWritten) (Stands : List Border → Type 0) (Cuts : List Border → F → Type 0)
+    (Stops : List Border → PartsFault → F → Type 0) → h ≡ nothing_read → Stops [] NoMemory fault
+    → IsReading {A = A} (Err fault) past expected h first first Stands Cuts Stops
+none_read_yet past expected h fault first Stands Cuts Stops begin stops = (
+  [],
+  (
+    each_to past h h start [] first first begin (none_read h) (AreBorders.none []) (none_reported past first),
+    inr (NoMemory, (tt, stops)),
+  ),
+)
 
-pub fault_each : {A : Type 0} → (past : Bool) (expected : Option ℕ) (h now : BytesRead) (s : Stage) (r : Reader A)
-    (fault : PartsFault) (result : JoinsFault) (first old new reported at : BytesWritten) (text : List ℕ)
-    (found : List Border) → h ≡ nothing_read → IsNextStep {A = A} past h s (Err fault) now r
-    → AreBordersOf past (parts_at s) found → AreReported (passed_lines past (parts_at s)) reported at
-    → AreGathered first old text (border_lines found)
-    → old.failures ≡ first.failures → IsFlushed (refusal fault) old new text result
-    → IsJoinEachOutcome past expected (Err result) now first new reported at
-fault_each past expected h now s r fault result first old new reported at text found begin step borders are before same
-    (IsFlushed.short failed emitted) =
-    short_each past expected h now s first old new reported at text found begin (stopped_by past h now s r fault step)
-    borders are before same failed emitted
-fault_each past expected h now s r (BadLine k offset) result first old new reported at text found begin step borders are
-    before same (IsFlushed.all bytes fine) =
-    let all : step.bytes ≡ now.bytes = all_bytes h now step.bytes begin step.reported in (
-      found,
+ended_by : {A : Type 0} → (ended : PartsFault) (past : Bool) (expected : Option ℕ) (h now : BytesRead) (s : Stage)
+    (r : Reader A) (found : List Border) (first at : BytesWritten) → h ≡ nothing_read
+    → IsNextStep {A = A} past h s (Err ended) now r → AreBordersOf past (parts_at s) found
+    → AreReported (passed_lines past (parts_at s)) first at → IsEndedBy ended past expected now found first at
+ended_by (BadLine k offset) past expected h now s r found first at begin step borders are =
+    let all : step.bytes ≡ now.bytes = all_bytes h now step.bytes begin step.reported in
+    record {
+      bad = record {
+        bad = subst (λ (b : List ℕ). IsBadLine past b now.is_at_end k offset) all step.bad;
+        count = step.count;
+        behind = step.behind;
+        stage = s;
+        before = subst (λ (b : List ℕ). AreLinesRead b step.count s) all step.before;
+        reported = are;
+      };
+      borders = borders;
+    }
+ended_by (Miscount parts due) past expected h now s r found first at begin step borders are = absurd step
+ended_by (Unread fault) past expected h now s r found first at begin step borders are = (
+  subst (λ (k : BytesRead). IsStreamFault fault k now) begin step.0,
+  subst (λ (b : List ℕ). HasNoBadLine past b) (all_bytes h now step.1.stopped.bytes begin step.1.stopped.reported)
+      step.1.none_bad,
+)
+ended_by NoMemory past expected h now s r found first at begin step borders are = tt
+
+-- the next line is bad, or can't be read
+pub stopped_at : {A F : Type 0} → (past : Bool) (expected : Option ℕ) (h old now : BytesRead) (before after : Reader A)
+    (ended : PartsFault) (fault : F) (first at : BytesWritten) (Before Stands : List Border → Type 0)
+    (Cuts : List Border → F → Type 0) (Stops : List Border → PartsFault → F → Type 0) → h ≡ nothing_read
+    → (u : IsUnderWay past h old before first at Before) → IsNextStep {A = A} past h u.stage (Err ended) now after
+    → ((found : List Border) → Before found → Stops found ended fault)
+    → IsReading {A = A} (Err fault) past expected now first at Stands Cuts Stops
+stopped_at past expected h old now before after ended fault first at Before Stands Cuts Stops begin u step stops = (
+  u.found,
+  (
+    each_to past h now u.stage u.found first at begin (stopped_by past h now u.stage after ended step) u.borders
+        u.reported,
+    inr (
+      ended,
       (
-        record {
-          bad = record {
-            bad = subst (λ (b : List ℕ). IsBadLine past b now.is_at_end k offset) all step.bad;
-            count = step.count;
-            behind = step.behind;
-            stage = s;
-            before = subst (λ (b : List ℕ). AreLinesRead b step.count s) all step.before;
-            reported = are;
-          };
-          borders = borders;
-        },
-        lines_written first old new text found before bytes same fine,
+        ended_by ended past expected h now u.stage after u.found first at begin step u.borders u.reported,
+        stops u.found u.stands,
       ),
-    )
-fault_each past expected h now s r (Miscount parts due) result first old new reported at text found begin step borders
-    are before same (IsFlushed.all bytes fine) = absurd step
-fault_each past expected h now s r (Unread fault) result first old new reported at text found begin step borders are
-    before same (IsFlushed.all bytes fine) = (
-      found,
-      (
-        each_to past h now s found reported at begin step.1.stopped borders are,
-        lines_written first old new text found before bytes same fine,
-        subst (λ (k : BytesRead). IsStreamFault fault k now) begin step.0,
-        subst (λ (b : List ℕ). HasNoBadLine past b)
-            (all_bytes h now step.1.stopped.bytes begin step.1.stopped.reported) step.1.none_bad,
-      ),
-    )
-fault_each past expected h now s r NoMemory result first old new reported at text found begin step borders are before
-    same (IsFlushed.all bytes fine) = (
-      fine ∙ same,
-      inl (
-        found,
-        (
-          each_to past h now s found reported at begin step borders are,
-          gathered_first first new [] (border_lines found)
-              (gathered_written first old new text [] (border_lines found) before bytes refl),
-        ),
-      ),
-    )
-
--- no memory, or a failed output, as a line is added
-pub cut_each : (past : Bool) (expected : Option ℕ) (h now : BytesRead) (s : Stage) (fault : JoinsFault)
-    (first old new reported at : BytesWritten)
-    (text : List ℕ) (found more : List Border) → h ≡ nothing_read → IsStoppedAt h now s
-    → AreBordersOf past (parts_at s) (found ++ more) → AreReported (passed_lines past (parts_at s)) reported at
-    → AreGathered first old text (border_lines found) → old.failures ≡ first.failures
-    → IsCutShort fault old new (text ++ border_lines more)
-    → IsJoinEachOutcome past expected (Err fault) now first new reported at
-cut_each past expected h now s
-    (Line k offset) first old new reported at text found more begin stop borders are before same
-    cut = absurd cut
-cut_each past expected h now s (Count n d) first old new reported at text found more begin stop borders are before same
-    cut = absurd cut
-cut_each past expected h now s (Stream f) first old new reported at text found more begin stop borders are before same
-    cut = absurd cut
-cut_each past expected h now s Write first old new reported at text found more begin stop borders are before same
-    cut = (
-      omega (arith, cut.0, same),
-      inl (
-        found ++ more,
-        (
-          each_to past h now s (found ++ more) reported at begin stop borders are,
-          subst (λ (t : List ℕ). EmittedPart first new t) (sym (lines_append found more))
-              (part_behind first old new text (border_lines found) (border_lines more) before cut.1),
-        ),
-      ),
-    )
-cut_each past expected h now s Memory first old new reported at text found more begin stop borders are before same
-    cut = (
-      cut.0 ∙ same,
-      inl (
-        found ++ more,
-        (
-          each_to past h now s (found ++ more) reported at begin stop borders are,
-          subst (λ (t : List ℕ). EmittedFirst first new t) (sym (lines_append found more))
-              (first_behind first old new text (border_lines found) (border_lines more) before cut.1),
-        ),
-      ),
-    )
+    ),
+  ),
+)
 
 -- ---- at the input's end
 abbrev all_parts : {A : Type 0} → (past : Bool) (h now : BytesRead) (s : Stage) (r : Reader A)
-    (reported at : BytesWritten) → h ≡ nothing_read → HasEnded past h now s r
-    → AreReported (passed_lines past (parts_at s)) reported at
-    → AreReadParts past now.bytes (written_of r.joint.so_far) reported at
-all_parts past h now s r reported at begin e are = record {
+    (first at : BytesWritten) → h ≡ nothing_read → HasEnded past h now s r
+    → AreReported (passed_lines past (parts_at s)) first at
+    → AreReadParts past now.bytes (written_of r.joint.so_far) first at
+all_parts past h now s r first at begin e are = record {
   parts = parts_at s;
   spells = subst (λ (b : List ℕ). Spells b (parts_at s)) (all_bytes h now e.bytes begin e.reported) e.spells;
   is_joint = e.joint;
   reported = are;
 }
 
--- the lines of all borders were written, where another number of parts is expected
-pub finished_each : {A : Type 0} → (past : Bool) (expected : Option ℕ) (h now : BytesRead) (s : Stage) (r : Reader A)
-    (fault : PartsFault) (result : JoinsFault) (first old new reported at : BytesWritten) (text : List ℕ)
-    (found : List Border) → h ≡ nothing_read → HasEnded past h now s r → IsFinished {A = A} r.joint expected (Err fault)
-    → AreBordersOf past (parts_at s) found → AreReported (passed_lines past (parts_at s)) reported at
-    → AreGathered first old text (border_lines found) → old.failures ≡ first.failures
-    → IsFlushed (refusal fault) old new text result
-    → IsJoinEachOutcome past expected (Err result) now first new reported at
-finished_each past expected h now s r fault result first old new reported at text found begin e f borders are before
-    same (IsFlushed.short failed emitted) =
-    short_each past expected h now s first old new reported at text found begin e.stopped borders are before same failed
-    emitted
-finished_each past expected h now s r (Miscount parts due) result first old new reported at text found begin e f borders
-    are before same (IsFlushed.all bytes fine) = (
-      found,
-      (
-        record {
-          whole = e.at_end;
-          miscounted = record {
-            joint = written_of r.joint.so_far;
-            read = all_parts past h now s r reported at begin e are;
-            number = f.0 ∙ e.number;
-            due_is = f.1;
-            differ = f.2;
-          };
-          borders = borders;
-        },
-        lines_written first old new text found before bytes same fine,
-      ),
-    )
-finished_each past expected h now s r
-    (BadLine k offset) result first old new reported at text found begin e f borders are
-    before same (IsFlushed.all bytes fine) = absurd f
-finished_each past expected h now s r (Unread fault) result first old new reported at text found begin e f borders are
-    before same (IsFlushed.all bytes fine) = absurd f
-finished_each past expected h now s r NoMemory result first old new reported at text found begin e f borders are before
-    same (IsFlushed.all bytes fine) = absurd f
+counted_by : {A : Type 0} → (ended : PartsFault) (past : Bool) (expected : Option ℕ) (h now : BytesRead) (s : Stage)
+    (r : Reader A) (found : List Border) (first at : BytesWritten) → h ≡ nothing_read → HasEnded past h now s r
+    → IsFinished {A = A} r.joint expected (Err ended) → AreBordersOf past (parts_at s) found
+    → AreReported (passed_lines past (parts_at s)) first at → IsEndedBy ended past expected now found first at
+counted_by (Miscount parts due) past expected h now s r found first at begin e f borders are = record {
+  whole = e.at_end;
+  miscounted = record {
+    joint = written_of r.joint.so_far;
+    read = all_parts past h now s r first at begin e are;
+    number = f.0 ∙ e.number;
+    due_is = f.1;
+    differ = f.2;
+  };
+  borders = borders;
+}
+counted_by (BadLine k offset) past expected h now s r found first at begin e f borders are = absurd f
+counted_by (Unread fault) past expected h now s r found first at begin e f borders are = absurd f
+counted_by NoMemory past expected h now s r found first at begin e f borders are = absurd f
 
-pub all_each : {A : Type 0} → (past : Bool) (expected : Option ℕ) (h now : BytesRead) (s : Stage) (r : Reader A)
-    (joint : JointPart A) (first old reported at : BytesWritten) (text : List ℕ) (found : List Border)
-    → h ≡ nothing_read → HasEnded past h now s r → IsFinished r.joint expected (Ok joint)
-    → AreBordersOf past (parts_at s) found → AreReported (passed_lines past (parts_at s)) reported at
-    → AreGathered first old text (border_lines found) → old.failures ≡ first.failures
-    → AreAllEach past expected joint now first old reported at text
-all_each past expected h now s r joint first old reported at text found begin e f borders are before same =
-    subst (λ j. AreAllEach past expected j now first old reported at text) (sym f.0) (record {
-      found = found;
+-- another number of parts is expected
+pub miscounted : {A F : Type 0} → (past : Bool) (expected : Option ℕ) (h old now : BytesRead) (before after : Reader A)
+    (ended : PartsFault) (fault : F) (first at : BytesWritten) (Before Stands : List Border → Type 0)
+    (Cuts : List Border → F → Type 0) (Stops : List Border → PartsFault → F → Type 0) → h ≡ nothing_read
+    → (u : IsUnderWay past h old before first at Before) → HasEnded past h now u.stage after
+    → IsFinished {A = A} after.joint expected (Err ended)
+    → ((found : List Border) → Before found → Stops found ended fault)
+    → IsReading {A = A} (Err fault) past expected now first at Stands Cuts Stops
+miscounted past expected h old now before after ended fault first at Before Stands Cuts Stops begin u e f stops = (
+  u.found,
+  (
+    each_to past h now u.stage u.found first at begin e.stopped u.borders u.reported,
+    inr (
+      ended,
+      (
+        counted_by ended past expected h now u.stage after u.found first at begin e f u.borders u.reported,
+        stops u.found u.stands,
+      ),
+    ),
+  ),
+)
+
+pub all_read : {A : Type 0} → (past : Bool) (expected : Option ℕ) (h old now : BytesRead) (before after : Reader A)
+    (joint : JointPart A) (first at : BytesWritten) (Stands : List Border → Type 0) → h ≡ nothing_read
+    → (u : IsUnderWay past h old before first at Stands) → HasEnded past h now u.stage after
+    → IsFinished after.joint expected (Ok joint) → AreAllRead past expected joint now first at Stands
+all_read past expected h old now before after joint first at Stands begin u e f =
+    subst (λ j. AreAllRead past expected j now first at Stands) (sym f.0) (record {
+      found = u.found;
       read = record {
         read = record {
           whole = e.at_end;
-          parts = all_parts past h now s r reported at begin e are;
+          parts = all_parts past h now u.stage after first at begin e u.reported;
           number = subst (λ (n : ℕ). AreExpected expected n) e.number f.1;
         };
-        borders = borders;
+        borders = u.borders;
       };
-      gathered = before;
-      fine = same;
+      stands = u.stands;
     })
+
+-- ---- with no report
+abbrev stopped : (past : Bool) (h : BytesRead) (found : List Border) (first at : BytesWritten)
+    → AreEachTo past h found first at → IsStopped past nothing_read h first at
+stopped past h found first at to = record { bytes = h.bytes; more = refl; stage = to.stage; lines = to.lines }
+
+refused_by : {A : Type 0} → (fault : PartsFault) (past : Bool) (expected : Option ℕ) (h : BytesRead)
+    (found : List Border) (first at : BytesWritten) → AreEachTo past h found first at
+    → IsEndedBy fault past expected h found first at
+    → IsReadOutcome {A = A} (Err fault) past expected nothing_read h first at
+refused_by (BadLine k offset) past expected h found first at to by = (h.bytes, (refl, by.bad))
+refused_by (Miscount parts due) past expected h found first at to by = (h.bytes, (refl, by.whole, by.miscounted))
+refused_by (Unread fault) past expected h found first at to by =
+    (by.0, record { stopped = stopped past h found first at to; none_bad = by.1 })
+refused_by NoMemory past expected h found first at to by = stopped past h found first at to
+
+pub unreported : {A : Type 0} → (result : Result (JointPart A) PartsFault) (past : Bool) (expected : Option ℕ)
+    (old h : BytesRead) (first at : BytesWritten) (Stands : List Border → Type 0) → old ≡ nothing_read
+    → IsReading result past expected h first at Stands (λ found fault. ⊥) (λ found ended fault. fault ≡ ended)
+    → IsReadOutcome result past expected old h first at
+unreported {A = A} result past expected old h first at Stands begin reading =
+    subst (λ (s : BytesRead). IsReadOutcome result past expected s h first at) (sym begin) (by result reading)
+  where
+    by : (r : Result (JointPart A) PartsFault)
+        → IsReading r past expected h first at Stands (λ found fault. ⊥) (λ found ended fault. fault ≡ ended)
+        → IsReadOutcome r past expected nothing_read h first at
+    by (Ok joint) all = (h.bytes, (refl, all.read.read.whole, (all.read.read.parts, all.read.read.number)))
+    by (Err fault) (found, (to, inl cut)) = absurd cut
+    by (Err fault) (found, (to, inr (ended, (end, same)))) =
+        subst (λ (f : PartsFault). IsReadOutcome {A = A} (Err f) past expected nothing_read h first at) (sym same)
+        (refused_by ended past expected h found first at to end)
+
+-- ---- with a report of lines
+-- one more line was added, and perhaps written
+pub lined_more : (first old new : BytesWritten) (text whole next : List ℕ) (found more : List Border)
+    → AreLined first old text found → whole ≡ text ++ border_lines more → AreGathered old new next whole
+    → new.failures ≡ old.failures → AreLined first new next (found ++ more)
+lined_more first old new text whole next found more before e written fine = record {
+  lines = gathered_also first old new text next (border_lines found) (border_lines more) (border_lines (found ++ more))
+      before.lines (subst (λ (t : List ℕ). AreGathered old new next t) e written) (lines_append found more);
+  fine = fine ∙ before.fine;
+}
+
+-- there was no memory for it
+pub lined_no_more : (first old : BytesWritten) (text : List ℕ) (found more : List Border)
+    → AreLined first old text found → IsCutShort first old (border_lines (found ++ more)) Memory
+lined_no_more first old text found more before = (
+  before.fine,
+  subst (λ (t : List ℕ). EmittedFirst first old t) (sym (lines_append found more))
+      (first_behind first old old text (border_lines found) (border_lines more) before.lines
+      (0, sym (append-nil old.bytes))),
+)
+
+-- or the output failed
+pub lined_in_part : (first old new : BytesWritten) (taken : ℕ) (text whole : List ℕ) (found more : List Border)
+    → AreLined first old text found → whole ≡ text ++ border_lines more → IsCutOff taken whole old new
+    → IsCutShort first new (border_lines (found ++ more)) Write
+lined_in_part first old new taken text whole found more before e cut = (
+  omega (arith, cut.failed, before.fine),
+  subst (λ (t : List ℕ). EmittedPart first new t) (sym (lines_append found more))
+      (cut_part first old new taken text (border_lines found) (border_lines more) before.lines
+      (subst (λ (t : List ℕ). IsCutOff taken t old new) e cut)),
+)
+
+-- what is gathered was written
+pub flushed : (first old new : BytesWritten) (text whole : List ℕ) (found : List Border) (ended : PartsFault)
+    (fault : JoinsFault) → AreLined first old text found → whole ≡ text → new.bytes ≡ old.bytes ++ whole
+    → new.failures ≡ old.failures → fault ≡ refusal ended → IsFlushed first new found ended fault
+flushed first old new text whole found ended fault before e bytes fine same =
+    let all : AreGathered first new [] (border_lines found) =
+    gathered_written first old new text [] (border_lines found) before.lines
+    (bytes ∙ ap (λ (t : List ℕ). old.bytes ++ t) e) refl in
+    inl (
+      record { text = all_written first new (border_lines found) [] all refl; fine = fine ∙ before.fine },
+      same,
+    )
+
+-- or a part of it, before the output failed
+pub flushed_in_part : (first old new : BytesWritten) (text whole : List ℕ) (taken : ℕ) (found : List Border)
+    (ended : PartsFault) → AreLined first old text found → whole ≡ text → new.bytes ≡ old.bytes ++ take taken whole
+    → taken < length whole → new.failures ≡ old.failures + 1 → IsFlushed first new found ended Write
+flushed_in_part first old new text whole taken found ended before e bytes within failed = inr (
+  (
+    omega (arith, failed, before.fine),
+    part_of first old new text (border_lines found) before.lines
+        (subst (λ (t : List ℕ). EmittedPart old new t) e (taken, (within, bytes))),
+  ),
+  refl,
+)
+
+cut_by : (fault : JoinsFault) (past : Bool) (expected : Option ℕ) (h : BytesRead) (found : List Border)
+    (first new reported at : BytesWritten) → AreEachTo past h found reported at
+    → IsCutShort first new (border_lines found) fault
+    → IsJoinEachOutcome past expected (Err fault) h first new reported at
+cut_by (Line k offset) past expected h found first new reported at to cut = absurd cut
+cut_by (Count parts due) past expected h found first new reported at to cut = absurd cut
+cut_by (Stream fault) past expected h found first new reported at to cut = absurd cut
+cut_by Write past expected h found first new reported at to cut = (cut.0, inl (found, (to, cut.1)))
+cut_by Memory past expected h found first new reported at to cut = (cut.0, inl (found, (to, cut.1)))
+
+written_by : (ended : PartsFault) (past : Bool) (expected : Option ℕ) (h : BytesRead) (found : List Border)
+    (first new reported at : BytesWritten) → AreEachTo past h found reported at
+    → IsEndedBy ended past expected h found reported at → AreLinesWritten found first new
+    → IsJoinEachOutcome past expected (Err (refusal ended)) h first new reported at
+written_by (BadLine k offset) past expected h found first new reported at to by written = (found, (by, written))
+written_by (Miscount parts due) past expected h found first new reported at to by written = (found, (by, written))
+written_by (Unread fault) past expected h found first new reported at to by written =
+    (found, (to, written, by.0, by.1))
+written_by NoMemory past expected h found first new reported at to by written =
+    let all : AreGathered first new [] (border_lines found) =
+    record { taken = border_lines found; bytes = written.text; joined = append-nil (border_lines found) } in
+    (written.fine, inl (found, (to, gathered_first first new [] (border_lines found) all)))
+
+-- the parts weren't read whole
+pub each_unread : {A : Type 0} → (fault : JoinsFault) (past : Bool) (expected : Option ℕ) (h : BytesRead)
+    (first new reported at : BytesWritten) (Stands : List Border → Type 0) (Also : Type 0)
+    → IsReading {A = A} (Err fault) past expected h reported at Stands
+    (λ found f. IsCutShort first new (border_lines found) f × Also)
+    (λ found ended f. IsFlushed first new found ended f × Also)
+    → IsJoinEachOutcome past expected (Err fault) h first new reported at × Also
+each_unread fault past expected h first new reported at Stands Also (found, (to, inl cut)) =
+    (cut_by fault past expected h found first new reported at to cut.0, cut.1)
+each_unread fault past expected h first new reported at Stands Also
+    (found, (to, inr (ended, (by, (inl (written, same), also))))) = (
+      subst (λ (f : JoinsFault). IsJoinEachOutcome past expected (Err f) h first new reported at) (sym same)
+          (written_by ended past expected h found first new reported at to by written),
+      also,
+    )
+each_unread fault past expected h first new reported at Stands Also
+    (found, (to, inr (ended, (by, (inr (cut, same), also))))) = (
+      subst (λ (f : JoinsFault). IsJoinEachOutcome past expected (Err f) h first new reported at) (sym same)
+          (cut_by Write past expected h found first new reported at to cut),
+      also,
+    )
 
 -- the whole text was written
 pub each_written : {A : Type 0} → (past : Bool) (expected : Option ℕ) (joint : JointPart A) (h : BytesRead)
-    (answer : Answer) (first old new reported at : BytesWritten) (text whole slice : List ℕ)
-    → AreAllEach past expected joint h first old reported at text → whole ≡ text ++ join_text (written_of joint)
-    → slice ≡ whole
-    → IsAnswer answer (written_of joint) → new.bytes ≡ old.bytes ++ slice → new.failures ≡ old.failures
+    (answer : Answer) (first old new reported at : BytesWritten) (text whole slice : List ℕ) (Also : Type 0)
+    → AreAllRead past expected joint h reported at (λ found. AreLined first old text found × Also)
+    → whole ≡ text ++ join_text (written_of joint) → slice ≡ whole → IsAnswer answer (written_of joint)
+    → new.bytes ≡ old.bytes ++ slice → new.failures ≡ old.failures
     → IsJoinEachOutcome past expected (Ok answer) h first new reported at
-each_written past expected joint h answer first old new reported at text whole slice a e same is bytes fine =
-    let w : Written = written_of joint in
-    let tail : List ℕ = join_text w in (
-      w,
-      (
-        a.found,
-        (
-          a.read,
-          record {
-            answer_is = is;
-            text = all_behind first old new text (border_lines a.found) tail a.gathered
-                (bytes ∙ ap (λ (t : List ℕ). old.bytes ++ t) (same ∙ e));
-            fine = fine ∙ a.fine;
-          },
-        ),
-      ),
-    )
+each_written past expected joint h answer first old new reported at text whole slice Also a e same is bytes fine = (
+  written_of joint,
+  (
+    a.found,
+    (
+      a.read,
+      record {
+        answer_is = is;
+        text = all_behind first old new text (border_lines a.found) (join_text (written_of joint)) a.stands.0.lines
+            (bytes ∙ ap (λ (t : List ℕ). old.bytes ++ t) (same ∙ e));
+        fine = fine ∙ a.stands.0.fine;
+      },
+    ),
+  ),
+)
 
 -- a prefix of it was written, and then the output failed
 pub each_cut_off : {A : Type 0} → (past : Bool) (expected : Option ℕ) (joint : JointPart A) (h : BytesRead)
-    (first old new reported at : BytesWritten) (text whole slice : List ℕ) (n : ℕ)
-    → AreAllEach past expected joint h first old reported at text → whole ≡ text ++ join_text (written_of joint)
-    → slice ≡ whole
-    → new.bytes ≡ old.bytes ++ take n slice → n < length slice → new.failures ≡ old.failures + 1
+    (first old new reported at : BytesWritten) (text whole slice : List ℕ) (n : ℕ) (Also : Type 0)
+    → AreAllRead past expected joint h reported at (λ found. AreLined first old text found × Also)
+    → whole ≡ text ++ join_text (written_of joint) → slice ≡ whole → new.bytes ≡ old.bytes ++ take n slice
+    → n < length slice → new.failures ≡ old.failures + 1
     → IsJoinEachOutcome past expected (Err Write) h first new reported at
-each_cut_off past expected joint h first old new reported at text whole slice n a e same bytes within failed =
+each_cut_off past expected joint h first old new reported at text whole slice n Also a e same bytes within failed =
     let w : Written = written_of joint in
     let emitted : EmittedPart old new (text ++ join_text w) =
     subst (λ (t : List ℕ). EmittedPart old new t) (same ∙ e) (n, (within, bytes)) in (
-      omega (arith, failed, a.fine),
-      inr (
-        w,
-        (a.found, (a.read, part_behind first old new text (border_lines a.found) (join_text w) a.gathered emitted)),
-      ),
-    )
-
--- no memory for it
-pub each_no_memory : {A : Type 0} → (past : Bool) (expected : Option ℕ) (joint : JointPart A) (h : BytesRead)
-    (first old reported at : BytesWritten) (text : List ℕ) → AreAllEach past expected joint h first old reported at text
-    → IsJoinEachOutcome past expected (Err Memory) h first old reported at
-each_no_memory past expected joint h first old reported at text a =
-    let w : Written = written_of joint in (
-      a.fine,
+      omega (arith, failed, a.stands.0.fine),
       inr (
         w,
         (
           a.found,
           (
             a.read,
-            first_behind first old old text (border_lines a.found) (join_text w) a.gathered
-                (0, sym (append-nil old.bytes)),
+            part_behind first old new text (border_lines a.found) (join_text w) a.stands.0.lines emitted,
           ),
         ),
       ),
     )
 
--- ---- at the beginning, and where a step fails
-pub nothing_each : (past : Bool) (expected : Option ℕ) (h : BytesRead) (first reported : BytesWritten)
-    → h ≡ nothing_read → IsJoinEachOutcome past expected (Err Memory) h first first reported reported
-nothing_each past expected h first reported begin = (
-  refl,
-  inl (
-    [],
-    (
-      each_to past h h start [] reported reported begin (none_read h) (AreBorders.none [])
-          (none_reported past reported),
-      (0, sym (append-nil first.bytes)),
-    ),
-  ),
-)
-
-pub err_each : {A : Type 0} → (r : Result (JointPart A) JoinsFault) (Q : JoinsFault → Type 0) (fault : JoinsFault)
-    (past : Bool) (expected : Option ℕ) (h : BytesRead) (first new reported at : BytesWritten) (text : List ℕ)
-    → IsErrAnd r Q
-    → ((e : JoinsFault) → Q e → e ≡ fault) → IsJoinEachOutcome past expected (Err fault) h first new reported at
-    → IsEachReading r past expected h first new reported at text
-err_each (Ok joint) Q fault past expected h first new reported at text is q short = absurd is
-err_each (Err e) Q fault past expected h first new reported at text is q short =
-    subst (λ (x : JoinsFault). IsJoinEachOutcome past expected (Err x) h first new reported at) (sym (q e is)) short
+-- no memory for it
+pub each_no_memory : {A : Type 0} → (past : Bool) (expected : Option ℕ) (joint : JointPart A) (h : BytesRead)
+    (first old reported at : BytesWritten) (text : List ℕ) (Also : Type 0)
+    → AreAllRead past expected joint h reported at (λ found. AreLined first old text found × Also)
+    → IsJoinEachOutcome past expected (Err Memory) h first old reported at
+each_no_memory past expected joint h first old reported at text Also a =
+    let w : Written = written_of joint in (
+      a.stands.0.fine,
+      inr (
+        w,
+        (
+          a.found,
+          (
+            a.read,
+            first_behind first old old text (border_lines a.found) (join_text w) a.stands.0.lines
+                (0, sym (append-nil old.bytes)),
+          ),
+        ),
+      ),
+    )

@@ -5,9 +5,8 @@ use Rattle.mseed_join.specs.declared.joining.Form.{Form}
 use Rattle.mseed_join.specs.declared.joint.JointPart.{JointPart}
 use Rattle.mseed_join.specs.declared.reader.PartsFault.{PartsFault}
 use Rattle.mseed_join.specs.declared.reader.PartsFault.TheVariants.{Line, Count, Stream, Memory}
-use Rattle.mseed_join.specs.Joins.{IsJoinOutcome, IsRead}
+use Rattle.mseed_join.specs.Joins.{IsJoinOutcome, IsRead, refusal}
 use Rattle.mseed_join.specs.ReadParts.{AreBadParts, AreExpected, AreMiscounted, AreReadParts, IsReadOutcome, written_of}
-use Rattle.mseed_join.specs.private.Refused.{refusal}
 
 pub refused_so : (A : Type 0) (form : Form) (past : Bool) (expected : Option ℕ) (fault : PartsFault)
     (start h : BytesRead) (old reported now : BytesWritten) → start ≡ nothing_read

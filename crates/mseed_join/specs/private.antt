@@ -4,7 +4,6 @@ pub mod Bordered
 pub mod Reading
 pub mod LineReading
 pub mod Parted
-pub mod Refused
 pub mod Steps
 pub mod Taking
 pub mod Found

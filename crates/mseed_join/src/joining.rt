@@ -2,8 +2,7 @@
 ghost use Rattle.std.specs.Prelude.{◌≡◌, ◌||◌, ◌++◌, ℕ, nat_lt, List, IfOk, OnOk, is_some};
 ghost use Rattle.mseed_stream.specs.Calls.{ReadsOn, WritesOn};
 ghost use Rattle.mseed_stream.specs.Device.{nothing_read};
-ghost use Rattle.mseed_join.specs.Joins.{IsAnswer, IsJoinOutcome, text_by};
-ghost use Rattle.mseed_join.specs.private.Refused.{refusal};
+ghost use Rattle.mseed_join.specs.Joins.{IsAnswer, IsJoinOutcome, refusal, text_by};
 
 use crate::auditing::count_broken;
 use crate::joint::JointPart;
@@ -60,6 +59,20 @@ pub enum JoinsFault {
     Memory,
 }
 
+/// Parts that weren't read aren't joined.
+impl From<PartsFault> for JoinsFault {
+    ghost from_gives = { λ unread fault. fault ≡ refusal unread };
+
+    fn from(unread: PartsFault) -> JoinsFault {
+        match unread {
+            PartsFault::Line { number, offset } => JoinsFault::Line { number, offset },
+            PartsFault::Count(parts, expected) => JoinsFault::Count(parts, expected),
+            PartsFault::Stream(fault) => JoinsFault::Stream(fault),
+            PartsFault::Memory => JoinsFault::Memory,
+        }
+    }
+}
+
 /// Reads parts, one after another, and writes what they are joined to. Without `past_faults` a part after one that
 /// ends with a fault isn't counted; with it each faulty part counts as if it had none, and its fault is one more that
 /// was passed and is reported on `errors` as it is read. Where a number of parts is `expected` they have to be as many,
@@ -91,16 +104,8 @@ pub fn join<A: Allocator + Copy, R: Source, W: Sink, E: Sink>(
     ensures writes { WritesOn (W.written sink.old) (W.written sink.new) (W.contents sink.old) (W.contents sink.new)
         (W.beside sink.old) (W.beside sink.new) }
 {
-    let JointPart { part, faults, end } = match read_parts(
-        alloc,
-        past_faults,
-        expected,
-        source,
-        errors,
-    ) {
-        Ok(joint) => joint,
-        Err(fault) => return Err(refused(fault)),
-    };
+    let JointPart { part, faults, end } =
+        read_parts(alloc, past_faults, expected, source, errors)?;
     let mut text = Vec::new(alloc);
     let joined = match push_joined(&mut text, alloc, form, part, faults, &end) {
         Ok(joined) => joined,
@@ -109,18 +114,6 @@ pub fn join<A: Allocator + Copy, R: Source, W: Sink, E: Sink>(
     match write_all_of(sink, &text) {
         Ok(()) => Ok(joined),
         Err(_) => Err(JoinsFault::Write),
-    }
-}
-
-/// Why parts aren't joined that weren't read.
-pub(crate) fn refused(fault: PartsFault) -> JoinsFault
-    ensures { result ≡ refusal fault }
-{
-    match fault {
-        PartsFault::Line { number, offset } => JoinsFault::Line { number, offset },
-        PartsFault::Count(parts, expected) => JoinsFault::Count(parts, expected),
-        PartsFault::Stream(fault) => JoinsFault::Stream(fault),
-        PartsFault::Memory => JoinsFault::Memory,
     }
 }
 

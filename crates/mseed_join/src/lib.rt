@@ -17,6 +17,7 @@ mod parts;
 mod reader;
 mod reading;
 mod reasons;
+mod report;
 mod text;
 mod writing;
 

@@ -1,14 +1,16 @@
 //! Parts one after another, read and joined.
-ghost use Rattle.std.specs.Prelude.{◌≡◌};
+ghost use Rattle.std.specs.Prelude.{◌≡◌, []};
 ghost use Rattle.mseed_stream.specs.Calls.{ReadsOn};
 ghost use Rattle.mseed_stream.specs.Device.{nothing_read};
 ghost use Rattle.mseed_stream.specs.Telling.{Tells};
 ghost use Rattle.mseed_join.specs.ReadParts.{IsReadOutcome};
 ghost use Rattle.mseed_join.specs.Reached.{AreReported, passed_line};
+ghost use Rattle.mseed_join.specs.private.Bordered.{IsReading};
 ghost use Rattle.mseed_join.specs.private.Taking.{passed_by};
 
 use crate::joint::{JointPart, Reported};
 use crate::reader::{PartsFault, Reader};
+use crate::report::{Report, Unreported};
 use mseed_audit::Memory;
 use mseed_stream::{Sink, Source, StreamFault, report};
 use mseed_text::Line;
@@ -40,20 +42,55 @@ pub fn read_parts<A: Allocator + Copy, R: Source, E: Sink>(
     ensures reads { ReadsOn (R.read source.old) (R.read source.new) (R.remaining source.old) (R.remaining source.new)
         (R.beside source.old) (R.beside source.new) }
 {
+    read_with(alloc, past, expected, source, errors, &mut Unreported, &mut ())
+}
+
+/// Reads the texts of parts as `read_parts` does, and reports the borders that have a finding. A report that has
+/// gathered something has it still once all parts are read.
+///
+/// # Errors
+///
+/// Those of `read_parts`, as the report answers them, and those of the report.
+pub(crate) fn read_with<A: Allocator + Copy, R: Source, E: Sink, O, F, P: Report<O, F>>(
+    alloc: A,
+    past: bool,
+    expected: Option<u64>,
+    source: &mut R,
+    errors: &mut E,
+    report: &mut P,
+    output: &mut O,
+) -> Result<JointPart<A>, F>
+    requires read { R.read source.old ≡ nothing_read }
+    requires report { P.stands output.old report.old output.old [] }
+    ensures outcome { IsReading result past expected (R.read source.new) (E.written errors.old) (E.written errors.new)
+        (P.stands output.old report.new output.new) (P.cuts output.old output.new) (P.stops output.old output.new) }
+    ensures reads { ReadsOn (R.read source.old) (R.read source.new) (R.remaining source.old) (R.remaining source.new)
+        (R.beside source.old) (R.beside source.new) }
+{
     let mut reader = match Reader::new(alloc, past) {
         Ok(reader) => reader,
-        Err(Memory) => return Err(PartsFault::Memory),
+        Err(Memory) => return Err(report.stop(output, PartsFault::Memory)),
     };
     'lines: loop {
-        match reader.next(source)? {
-            Some(reported) => tell_passed(errors, &reported),
-            None => return reader.finish(expected),
+        match reader.next(source) {
+            Ok(Some(reported)) => {
+                tell_passed(errors, &reported);
+                match report.add(output, &reported) {
+                    Ok(()) => {}
+                    Err(fault) => return Err(fault),
+                }
+            }
+            Ok(None) => match reader.finish(expected) {
+                Ok(joint) => return Ok(joint),
+                Err(unread) => return Err(report.stop(output, unread)),
+            },
+            Err(unread) => return Err(report.stop(output, unread)),
         }
     }
 }
 
 /// Tells a fault that is passed.
-pub(crate) fn tell_passed<E: Sink>(errors: &mut E, reported: &Reported)
+fn tell_passed<E: Sink>(errors: &mut E, reported: &Reported)
     ensures { AreReported (passed_by reported.now) (E.written errors.old) (E.written errors.new) }
 {
     match reported {

@@ -1,39 +1,46 @@
-use Rattle.mseed_stream.proofs.Calls.{writes_on}
-use Rattle.mseed_join.proofs.Each.{each_cut_off, each_no_memory, each_written}
+use Rattle.std.proofs.Common.{[]}
+use Rattle.mseed_stream.proofs.Calls.{writes_none, writes_on}
+use Rattle.mseed_stream.proofs.Gathered.{gathered_all}
+use Rattle.mseed_join.proofs.Each.{each_cut_off, each_no_memory, each_unread, each_written}
 use Rattle.mseed_join.proofs.joining_each.join_each.Goals as goal
+
+pub read_with-requires-clause-report : goal.read_with-requires-clause-report
+read_with-requires-clause-report g c = ?
+
+pub returns-in_err-part : goal.returns-in_err-part
+returns-in_err-part g c = ?
 
 pub returns-in-Err-clause-outcome : goal.returns-in-Err-clause-outcome
 returns-in-Err-clause-outcome g c =
-    each_no_memory c.args.past_faults c.args.expected _ (g.R.Source.read c.read_each.new.source)
-    (g.W.Sink.written c.args.sink.now) (g.W.Sink.written c.read_each.new.sink) (g.E.Sink.written c.args.errors.now)
-    (g.E.Sink.written c.read_each.new.errors) c.read_each.new.text.items c.in_ok-part.ensures.reported
+    each_no_memory c.args.past_faults c.args.expected _ (g.R.Source.read c.read_with.new.source)
+    (g.W.Sink.written c.args.sink.now) (g.W.Sink.written c.read_with.new.output) (g.E.Sink.written c.args.errors.now)
+    (g.E.Sink.written c.read_with.new.errors) c.read_with.new.report.items _ c.in_ok-part.ensures.outcome
 
 pub returns-in-Ok-write_all_of : goal.returns-in-Ok-write_all_of
 returns-in-Ok-write_all_of g c =
     let write = c.in-Ok-write_all_of.ensures in
+    let all = c.in_ok-part.ensures.outcome in
     record {
-      outcome = each_written c.args.past_faults c.args.expected _ (g.R.Source.read c.read_each.new.source)
-          c.in-Ok.joined (g.W.Sink.written c.args.sink.now) (g.W.Sink.written c.read_each.new.sink)
+      outcome = each_written c.args.past_faults c.args.expected _ (g.R.Source.read c.read_with.new.source)
+          c.in-Ok.joined (g.W.Sink.written c.args.sink.now) (g.W.Sink.written c.read_with.new.output)
           (g.W.Sink.written c.write_all_of.new.sink) (g.E.Sink.written c.args.errors.now)
-          (g.E.Sink.written c.read_each.new.errors) c.read_each.new.text.items c.push_joined.new.text.items
-          c.deref.result.now c.in_ok-part.ensures.reported c.in-Ok.ensures.text c.deref.ensures.value
-          c.in-Ok.ensures.answer write.ok write.fine;
+          (g.E.Sink.written c.read_with.new.errors) c.read_with.new.report.items c.push_joined.new.text.items
+          c.deref.result.now _ all c.in-Ok.ensures.text c.deref.ensures.value c.in-Ok.ensures.answer write.ok write.fine;
       reads = c.in_ok-part.ensures.reads;
-      writes = writes_on _ _ _ _ _ _ _ _ _ c.in_ok-part.ensures.writes
-          write.writes;
+      writes = writes_on _ _ _ _ _ _ _ _ _ all.stands.1 write.writes;
     }
 
 pub returns : goal.returns
 returns g c =
     let write = c.in-Err-write_all_of.ensures in
+    let all = c.in_ok-part.ensures.outcome in
     record {
-      outcome = each_cut_off c.args.past_faults c.args.expected _ (g.R.Source.read c.read_each.new.source)
-          (g.W.Sink.written c.args.sink.now) (g.W.Sink.written c.read_each.new.sink)
+      outcome = each_cut_off c.args.past_faults c.args.expected _ (g.R.Source.read c.read_with.new.source)
+          (g.W.Sink.written c.args.sink.now) (g.W.Sink.written c.read_with.new.output)
           (g.W.Sink.written c.write_all_of.new.sink) (g.E.Sink.written c.args.errors.now)
-          (g.E.Sink.written c.read_each.new.errors) c.read_each.new.text.items c.push_joined.new.text.items
-          c.deref.result.now c.in-Err-write_all_of.field-0 c.in_ok-part.ensures.reported c.in-Ok.ensures.text
-          c.deref.ensures.value write.err write.within write.failed;
+          (g.E.Sink.written c.read_with.new.errors) c.read_with.new.report.items c.push_joined.new.text.items
+          c.deref.result.now c.in-Err-write_all_of.field-0 _ all c.in-Ok.ensures.text c.deref.ensures.value write.err
+          write.within write.failed;
       reads = c.in_ok-part.ensures.reads;
-      writes = writes_on _ _ _ _ _ _ _ _ _ c.in_ok-part.ensures.writes
-          write.writes;
+      writes = writes_on _ _ _ _ _ _ _ _ _ all.stands.1 write.writes;
     }

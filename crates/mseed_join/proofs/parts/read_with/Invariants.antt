@@ -1,13 +1,12 @@
 use Rattle.std.proofs.Common.{◌≡◌, ◌+◌, ◌-◌, ◌^◌, false}
 use Rattle.mseed_stream.specs.Cutting.{TellsMore}
-use Rattle.mseed_join.specs.Reached.{AreReported, Stage, parts_at, passed_lines}
-use Rattle.mseed_join.specs.private.Along.{IsAlong}
-use Rattle.mseed_join.proofs.parts.read_parts.Given as goal
+use Rattle.mseed_join.specs.private.Bordered.{IsUnderWay}
+use Rattle.mseed_join.proofs.parts.read_with.Given as goal
 
 abbrev pub invariant-lines : goal.invariant-lines
 invariant-lines g l = record {
-  along : (s : Stage) × (IsAlong l.fn.past (g.R.Source.read l.fn.source) (g.R.Source.read l.source) s l.reader
-      × AreReported (passed_lines l.fn.past (parts_at s)) (g.E.Sink.written l.fn.errors) (g.E.Sink.written l.errors));
+  along : IsUnderWay l.fn.past (g.R.Source.read l.fn.source) (g.R.Source.read l.source) l.reader
+      (g.E.Sink.written l.fn.errors) (g.E.Sink.written l.errors) (g.P.Report.stands l.fn.output l.report l.output);
   goes_on : (g.R.Source.read l.source).is_at_end ≡ false;
   more : TellsMore (g.R.Source.read l.fn.source) (g.R.Source.read l.source) (g.R.Source.remaining l.fn.source)
       (g.R.Source.remaining l.source);

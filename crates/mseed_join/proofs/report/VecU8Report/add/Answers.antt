@@ -1,0 +1,30 @@
+use Rattle.mseed_stream.proofs.Calls.{writes_on}
+use Rattle.mseed_join.specs.private.Taking.{border_by}
+use Rattle.mseed_join.proofs.Each.{lined_in_part, lined_more, lined_no_more}
+use Rattle.mseed_join.proofs.report.VecU8Report.add.Goals as goal
+
+pub returns-in-Ok-write_beyond : goal.returns-in-Ok-write_beyond
+returns-in-Ok-write_beyond g c = λ first found before.
+    let write = c.in-Ok-write_beyond.ensures in (
+      lined_more (g.W.Sink.written first) (g.W.Sink.written c.args.output.now)
+          (g.W.Sink.written c.write_beyond.new.sink) c.args.self.now.items c.push_reported.new.text.items
+          c.write_beyond.new.text.items found (border_by c.args.reported.now) before.0 c.in-Ok.ensures write.ok
+          write.fine,
+      writes_on _ _ _ _ _ _ _ _ _ before.1 write.writes,
+    )
+
+pub returns-in-Err : goal.returns-in-Err
+returns-in-Err g c = λ first found before. (
+  lined_no_more (g.W.Sink.written first) (g.W.Sink.written c.args.output.now) c.args.self.now.items found
+      (border_by c.args.reported.now) before.0,
+  before.1,
+)
+
+pub returns-in-Err-write_beyond : goal.returns-in-Err-write_beyond
+returns-in-Err-write_beyond g c = λ first found before.
+    let write = c.in-Err-write_beyond.ensures in (
+      lined_in_part (g.W.Sink.written first) (g.W.Sink.written c.args.output.now)
+          (g.W.Sink.written c.write_beyond.new.sink) c.in-Err-write_beyond.field-0 c.args.self.now.items
+          c.push_reported.new.text.items found (border_by c.args.reported.now) before.0 c.in-Ok.ensures write.err,
+      writes_on _ _ _ _ _ _ _ _ _ before.1 write.writes,
+    )
