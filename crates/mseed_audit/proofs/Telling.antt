@@ -1,7 +1,7 @@
 -- What is reported of records, with one more record.
 use Rattle.std.proofs.Common.{◌≡◌, ◌≢◌, ℕ, ◌+◌, ◌++◌, List, [], ◌∷◌}
 use Rattle.std.proofs.Common.{length, Option, refl, sym, ap, ◌∙◌, subst, append_assoc}
-use Rattle.std.proofs.Common.{append-nil, arith, Result, Ok, Err, None, Bool, true, false, if◌then◌else◌}
+use Rattle.std.proofs.Common.{append-nil, arith, Result, Ok, Err, Bool, true, false, if◌then◌else◌}
 use Rattle.std.specs.Prelude.{MatchResult}
 use Rattle.std.specs.Result.{IsErrAnd}
 use Rattle.std.proofs.lemmas.Bool.{false≢true}
@@ -91,37 +91,23 @@ judged_asked s bytes offset views v held next p answer why Before After is asked
     (subst (λ (more : List Placed). HasReport (ps ++ more) After) (sym one) report)
 
 -- it is reported then, unless there is no memory for it
-pub judged_reported : {E : Type 0} (r : Result (Unit {0}) E) (s : Selection) (bytes : List ℕ) (offset number : ℕ)
+pub judged_reported : {E : Type 0} (r : Result (Unit {0}) E) (s : Selection) (bytes : List ℕ) (offset : ℕ)
     (views : List View) (v : View) (held next : Held) (p : Passed) (answer : Answer) (why : Option Why)
-    (Before After : List Reported → Type 0) → answer ≡ answer_of s v → answer ≡ AskedFor → number ≡ held.added + 1
-    → AreViews bytes offset views → IsJudged s held p Before views
+    (more : List Reported) (Before After : List Reported → Type 0) → answer ≡ answer_of s v → answer ≡ AskedFor
+    → more ≡ reported_at (placed_next held v offset) why → AreViews bytes offset views → IsJudged s held p Before views
     → ((ps : List Placed) (count : ℕ) → IsAuditAmong held ps count
     → IsAuditAmong next (ps ++ placed_next held v offset ∷ []) (count + 1))
     → ((ps : List Placed) (count : ℕ) → IsAuditAmong held ps count → IsFoundBehind ps v why)
-    → ((reported : List Reported) → Before reported → MatchResult r
-    (λ _. After (reported ++ reported_at (record { view = v; offset = offset; number = number }) why))
+    → ((reported : List Reported) → Before reported → MatchResult r (λ _. After (reported ++ more))
     (λ _. After reported))
     → MatchResult r (λ _. IsJudged s next p After (views ++ v ∷ [])) (λ _. HasReport (asked_of s views) After)
-judged_reported (Ok u) s bytes offset number views v held next p answer why Before After is asked e shown judged adds
+judged_reported (Ok u) s bytes offset views v held next p answer why more Before After is asked e shown judged adds
     finds reports =
     judged_asked s bytes offset views v held next p answer why Before After is asked shown judged adds finds
-    (λ reported before. subst (λ (n : ℕ). After (reported
-    ++ reported_at (record { view = v; offset = offset; number = n }) why)) e (reports reported before))
-judged_reported (Err e) s bytes offset number views v held next p answer why Before After is asked same shown judged
-    adds finds reports =
+    (λ reported before. subst (λ (ts : List Reported). After (reported ++ ts)) e (reports reported before))
+judged_reported (Err e) s bytes offset views v held next p answer why more Before After is asked same shown judged adds
+    finds reports =
     report_on (asked_of s views) Before After judged.report reports
-
--- nothing is found of it
-pub judged_sound : (s : Selection) (bytes : List ℕ) (offset : ℕ) (views : List View) (v : View) (held next : Held)
-    (p : Passed) (answer : Answer) (Stands : List Reported → Type 0) → answer ≡ answer_of s v → answer ≡ AskedFor
-    → AreViews bytes offset views → IsJudged s held p Stands views
-    → ((ps : List Placed) (count : ℕ) → IsAuditAmong held ps count
-    → IsAuditAmong next (ps ++ placed_next held v offset ∷ []) (count + 1))
-    → ((ps : List Placed) (count : ℕ) → IsAuditAmong held ps count → IsFoundBehind ps v None)
-    → IsJudged s next p Stands (views ++ v ∷ [])
-judged_sound s bytes offset views v held next p answer Stands is asked shown judged adds finds =
-    judged_asked s bytes offset views v held next p answer None Stands Stands is asked shown judged adds finds
-    (λ reported before. subst (λ (ts : List Reported). Stands ts) (sym (append-nil reported)) before)
 
 -- ---- it isn't asked for
 pub not_asked : (answer : Answer) → answer ≢ AskedFor → is_asked answer ≡ false

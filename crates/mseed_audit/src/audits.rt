@@ -127,12 +127,9 @@ impl<A: Allocator + Copy> Audit<A> {
         ensures memory { (count_of (view_of view.now) ≡ 0)
             ⊎ HoldsKey self.old (key_at (view_of view.now).bytes) → IsOk result }
     {
-        match self.add_sound(view) {
-            Ok(()) => Ok(()),
-            Err(examined) => match self.add_learnt(view, offset, examined) {
-                Ok(_) => Ok(()),
-                Err(Memory) => Err(Memory),
-            },
+        match self.add_judged(view, offset) {
+            Ok(_) => Ok(()),
+            Err(Memory) => Err(Memory),
         }
     }
 
@@ -167,6 +164,7 @@ impl<A: Allocator + Copy> Audit<A> {
     /// # Errors
     ///
     /// `Memory` as `add`.
+    #[inline(always)]
     pub fn add_judged(&mut self, view: &RecordView, offset: u64) -> Result<Option<Why>, Memory>
         requires { self.old.added < 2 ^ 40 }
         ensures adds { (added : List Added) → IsAuditOf self.old added
@@ -180,12 +178,17 @@ impl<A: Allocator + Copy> Audit<A> {
             ∷ []) (count + 1)) }
         ensures found { (added : List Added) → IsAuditOf self.old added
             → IfOk result (λ why. IsFoundBehind (numbered 1 added) (view_of view.now) why) }
+        ensures found_among { (ps : List Placed) (count : ℕ) → IsAuditAmong self.old ps count
+            → IfOk result (λ why. IsFoundBehind ps (view_of view.now) why) }
         ensures number { OnOk result (self.new.added ≡ self.old.added + 1) }
         ensures unchanged { OnErr result (self.new ≡ self.old) }
         ensures memory { (count_of (view_of view.now) ≡ 0)
             ⊎ HoldsKey self.old (key_at (view_of view.now).bytes) → IsOk result }
     {
-        self.add_learnt(view, offset, None)
+        match self.add_sound(view) {
+            Ok(()) => Ok(None),
+            Err(examined) => self.add_learnt(view, offset, examined),
+        }
     }
 
     /// [`Audit::add_judged`] of a record of which this was learnt.

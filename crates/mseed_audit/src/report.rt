@@ -1,12 +1,12 @@
 //! What an audit does with the records that have a finding.
 ghost use Rattle.std.specs.Prelude.{◌≡◌, ◌+◌, ◌++◌, ⊤, List, MatchResult};
 ghost use Rattle.mseed_record.specs.Viewing.{view_of};
-ghost use Rattle.mseed_audit.specs.Reported.{Reported, reported_at};
-ghost use Rattle.mseed_audit.specs.private.Gathered.{AreLined, AreLinedInPart};
+ghost use Rattle.mseed_audit.specs.Reported.{Reported};
+ghost use Rattle.mseed_audit.specs.private.Gathered.{AreLined, AreLinedInPart, reported_by};
 
 use crate::audits::Memory;
-use crate::finding::Why;
-use crate::text::push_reported;
+use crate::finding::Finding;
+use crate::text::push_reported_line;
 use mseed_record::RecordView;
 use mseed_stream::{Failed, Sink, write_beyond};
 use std::alloc::Allocator;
@@ -23,25 +23,14 @@ pub(crate) trait Report<O> {
     // So the output stands where it failed as these were reported: by the output at first, and the output.
     ghost fails: { O → O → List Reported → Type 0 };
 
-    /// Adds a record, by its number (from 1) and its offset (in bytes) in the whole input, with what is found of it:
-    /// where that is nothing, the record isn't reported.
+    /// Adds a record with its finding: without one, the record isn't reported.
     ///
     /// # Errors
     ///
     /// `Memory` where an allocation was refused: the record isn't reported then.
-    fn add(
-        &mut self,
-        view: &RecordView,
-        number: u64,
-        offset: u64,
-        why: Option<Why>,
-    ) -> Result<(), Memory>
+    fn add(&mut self, view: &RecordView, finding: Option<Finding>) -> Result<(), Memory>
         ensures { (first now : O) (reported : List Reported) → stands first self.old now reported → MatchResult result
-            (λ _. stands first self.new now (reported ++ reported_at (record {
-              view = view_of view.now;
-              offset = offset;
-              number = number;
-            }) why))
+            (λ _. stands first self.new now (reported ++ reported_by (view_of view.now) finding))
             (λ _. stands first self.new now reported) };
 
     /// Writes to the output the lines that were gathered, once they have many bytes.
@@ -65,13 +54,7 @@ impl Report<()> for Unreported {
     ghost fails = { λ _ _ _. ⊥ };
 
     #[inline(always)]
-    fn add(
-        &mut self,
-        _view: &RecordView,
-        _number: u64,
-        _offset: u64,
-        _why: Option<Why>,
-    ) -> Result<(), Memory> {
+    fn add(&mut self, _view: &RecordView, _finding: Option<Finding>) -> Result<(), Memory> {
         Ok(())
     }
 
@@ -90,14 +73,14 @@ impl<A: Allocator, W: Sink> Report<W> for Vec<u8, A> {
         (W.contents now) (W.beside first) (W.beside now) reported };
 
     #[inline(always)]
-    fn add(
-        &mut self,
-        view: &RecordView,
-        number: u64,
-        offset: u64,
-        why: Option<Why>,
-    ) -> Result<(), Memory> {
-        push_reported(self, view, number, offset, why)
+    fn add(&mut self, view: &RecordView, finding: Option<Finding>) -> Result<(), Memory> {
+        let Some(finding) = finding else {
+            return Ok(());
+        };
+        match push_reported_line(self, view, &finding) {
+            Ok(()) => Ok(()),
+            Err(_) => Err(Memory),
+        }
     }
 
     #[inline(always)]

@@ -9,6 +9,7 @@ ghost use Rattle.mseed_select.specs.Selection.{Selection};
 
 use crate::audits::{Audit, Memory};
 use crate::each::EachFault;
+use crate::finding::finding_at;
 use crate::passed::Passed;
 use crate::report::{Report, Unreported};
 use crate::text::push_audit;
@@ -314,12 +315,8 @@ fn judge<A: Allocator + Copy, C: Choice, O, P: Report<O>>(
 {
     let answer = choice.answer(view);
     if let Answer::AskedFor = answer {
-        let examined = match audit.add_sound(view) {
-            Ok(()) => return Ok(()),
-            Err(examined) => examined,
-        };
-        let why = audit.add_learnt(view, offset, examined)?;
-        return report.add(view, audit.added(), offset, why);
+        let why = audit.add_judged(view, offset)?;
+        return report.add(view, finding_at(audit.added(), offset, why));
     }
     audit.pass();
     passed.add(answer);

@@ -4,11 +4,9 @@ ghost use Rattle.std.specs.Fmt.{signed_decimal};
 ghost use Rattle.mseed_steim.specs.declared.fault.ReadFault.TheVariants.{LastDiffers};
 ghost use Rattle.mseed_stream.specs.Device.{IsPrefixOf};
 ghost use Rattle.mseed_audit.specs.Text.{audit_text, verdict_lines, verdict_line, continuous_words};
-ghost use Rattle.mseed_audit.specs.Text.{broken_words, total_line, why_text, read_text, reported_line, reported_lines};
-ghost use Rattle.mseed_audit.specs.Reported.{reported_at};
+ghost use Rattle.mseed_audit.specs.Text.{broken_words, total_line, why_text, read_text, reported_line};
 ghost use Rattle.mseed_record.specs.Viewing.{view_of};
 
-use crate::audits::Memory;
 use crate::finding::{Finding, Why};
 use crate::verdict::Verdict;
 use mseed_record::{Codes, RecordView};
@@ -124,36 +122,14 @@ fn put_broken(line: &mut Line, first: &Finding, count: u64)
     line.put(b"\n");
 }
 
-/// Adds the line of a record, if something is found of it.
+/// Adds the line of a record with a finding.
+///
+/// # Errors
+///
+/// `AllocError` where memory is refused. The text is as it was.
 #[cold]
 #[inline(never)]
-pub(crate) fn push_reported<A: Allocator>(
-    text: &mut Vec<u8, A>,
-    view: &RecordView,
-    number: u64,
-    offset: u64,
-    why: Option<Why>,
-) -> Result<(), Memory>
-    ensures ok { OnOk result (text.new.items ≡ text.old.items ++ reported_lines
-        (reported_at (record { view = view_of view.now; offset = offset; number = number }) why)) }
-    ensures unchanged { OnErr result (text.new.items ≡ text.old.items) }
-{
-    let Some(why) = why else {
-        return Ok(());
-    };
-    let finding = Finding {
-        number,
-        offset,
-        why,
-    };
-    match push_reported_line(text, view, &finding) {
-        Ok(()) => Ok(()),
-        Err(_) => Err(Memory),
-    }
-}
-
-/// Adds the line of a record with a finding.
-fn push_reported_line<A: Allocator>(
+pub(crate) fn push_reported_line<A: Allocator>(
     text: &mut Vec<u8, A>,
     view: &RecordView,
     finding: &Finding,

@@ -1,5 +1,6 @@
 -- Statements of the records that an audit reads, and of what it reports of them: no public contract cites them.
-use Rattle.std.specs.Prelude.{◌≡◌, ℕ, ◌+◌, ◌<◌, if◌then◌else◌, List, [], ◌∷◌, ◌++◌, length, Option, Result, Ok, Err}
+use Rattle.std.specs.Prelude.{◌≡◌, ℕ, ◌+◌, ◌<◌, if◌then◌else◌, List, [], ◌∷◌, ◌++◌, length, Option, Some, None, Result}
+use Rattle.std.specs.Prelude.{Ok, Err}
 use Rattle.std.specs.List.{count_by}
 use Rattle.mseed_record.specs.View.{View}
 use Rattle.mseed_stream.specs.Calls.{WritesOn}
@@ -12,6 +13,7 @@ use Rattle.mseed_select.specs.Selection.{Selection, asks_for, lacks_time}
 use Rattle.mseed_audit.specs.declared.audits.Memory.{Memory as NoRoom}
 use Rattle.mseed_audit.specs.declared.each.EachFault.{EachFault}
 use Rattle.mseed_audit.specs.declared.each.EachFault.TheVariants.{Write, Memory}
+use Rattle.mseed_audit.specs.declared.finding.Finding.{Finding}
 use Rattle.mseed_audit.specs.declared.passed.Passed.{Passed}
 use Rattle.mseed_audit.specs.declared.summary.Gathered.{Gathered}
 use Rattle.mseed_audit.specs.declared.summary.SelectedSummary.{SelectedSummary}
@@ -42,6 +44,11 @@ pub record IsPassed (s : Selection) (p : Passed) (views : List View) : Type 0 wh
 pub record IsPassedAlso (s : Selection) (before after : Passed) (p : Placed) : Type 0 where
   pub all : length (asked_at s p) + after.left + after.without_time ≡ before.left + before.without_time + 1
   pub without_time : after.without_time ≡ before.without_time + (if lacks_time s p.view then 1 else 0)
+
+-- what is reported of a record, by its finding
+abbrev pub reported_by : View → Option Finding → List Reported
+reported_by view None = []
+reported_by view (Some finding) = record { view = view; finding = finding } ∷ []
 
 -- what is reported of these records, where a report stands so with it
 pub record HasReport (ps : List Placed) (Stands : List Reported → Type 0) : Type 0 where
