@@ -1,4 +1,4 @@
--- What an audit writes that tells each record with a finding, and what it answers.
+-- What an audit writes that reports each record with a finding, and what it answers.
 use Rattle.std.specs.Prelude.{◌≡◌, ◌⊎◌, ℕ, ◌+◌, List, [], ◌++◌, Option, Result, Ok, Err}
 use Rattle.mseed_record.specs.View.{View}
 use Rattle.mseed_stream.specs.Device.{BytesRead, BytesWritten}

@@ -33,7 +33,7 @@ pub enum NotContinuous {
     Memory,
 }
 
-/// The series of a channel: the samples of its records, one after another.
+/// Returns the series of a channel: the samples of its records, one after another.
 ///
 /// # Errors
 ///
@@ -76,7 +76,7 @@ fn first_rate(views: &[RecordView], codes: &Codes) -> Option<Rate>
     None
 }
 
-/// What is kept of a channel once all records came; nothing where none of them has samples of it.
+/// Returns what an audit of the records holds of a channel; nothing where none of them has samples of it.
 fn channel_of(views: &[RecordView], codes: &Codes) -> Option<Channel>
     requires { length views.now < 2 ^ 40 }
     ensures { StandsAt result (records_of codes.now (added_from 0 (map view_of views.now))) }
@@ -90,7 +90,7 @@ fn channel_of(views: &[RecordView], codes: &Codes) -> Option<Channel>
     channel
 }
 
-/// What is kept of a channel once a further record came, which may be of another.
+/// Returns what an audit holds of a channel after a further record, which may be of another channel.
 fn channel_with(
     channel: Option<Channel>,
     view: &RecordView,
@@ -120,7 +120,7 @@ fn channel_with(
     }
 }
 
-/// Whether a record has samples, and is of a channel.
+/// Returns whether a record has samples and is of this channel.
 pub fn is_of(codes: &Codes, view: &RecordView) -> bool
     ensures { result ≡ is_of codes.now (view_of view.now) }
 {

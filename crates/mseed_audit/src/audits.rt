@@ -23,7 +23,7 @@ use std::marker::Model;
 #[derive(Clone, Copy, Debug, PartialEq, Eq)]
 pub struct Memory;
 
-/// The audit of records as they come, of any number of channels. It keeps one value of a fixed size for each
+/// The audit of records as they come, of any number of channels. It holds one value of a fixed size for each
 /// channel with samples, and no record.
 ///
 /// Contracts see an audit as what is `Held`, and say by `IsAuditOf` of which records it is the audit, or, where it
@@ -60,7 +60,7 @@ impl<A: Allocator> Model for Verdicts<A> {
     ghost view = { λ v. v.verdicts.items };
 }
 
-/// What an audit keeps of each channel with samples, ascending by the 12 bytes of their keys.
+/// What an audit holds of each channel with samples, ascending by the 12 bytes of their keys.
 #[derive(Drop)]
 pub struct Channels<A: Allocator = Global> {
     channels: Vec<(Codes, Channel), A>,
@@ -95,7 +95,7 @@ impl<A: Allocator + Copy> Audit<A> {
         self.added
     }
 
-    /// Whether a record with samples of this channel was added.
+    /// Returns whether a record with samples of this channel was added.
     pub fn holds(&self, codes: &Codes) -> bool
         ensures value { IsTrue result ↔ HoldsKey self.now codes.now }
         ensures among { (added : List Added) → IsAuditOf self.now added
@@ -159,11 +159,11 @@ impl<A: Allocator + Copy> Audit<A> {
         Ok(())
     }
 
-    /// Adds a record as `add` does, and answers what is found of it: of a silent one, nothing.
+    /// Adds a record as `add` does, and returns what is found of it: of a silent one, nothing.
     ///
     /// # Errors
     ///
-    /// `Memory` as `add`.
+    /// `Memory` where the channel is new and there was no room for it; the audit is then as it was.
     #[inline(always)]
     pub fn add_judged(&mut self, view: &RecordView, offset: u64) -> Result<Option<Why>, Memory>
         requires { self.old.added < 2 ^ 40 }
@@ -223,7 +223,7 @@ impl<A: Allocator + Copy> Audit<A> {
     }
 
     /// Passes a record that isn't judged: it is counted, so that the numbers of those that come after it are those
-    /// among all, and nothing else is kept of it.
+    /// among all, and nothing else is held of it.
     pub fn pass(&mut self)
         requires { self.old.added < 2 ^ 40 }
         ensures passes { (ps : List Placed) (count : ℕ) → IsAuditAmong self.old ps count
@@ -234,7 +234,7 @@ impl<A: Allocator + Copy> Audit<A> {
         self.added += 1; // Its number is taken.
     }
 
-    /// What the audit says of the records that were added: of each channel with samples its verdict, which says
+    /// Returns what the audit says of the records that were added: of each channel with samples its verdict, which says
     /// that the channel is continuous exactly where it is. It takes no memory.
     pub fn finish(self) -> Verdicts<A>
         ensures verdicts { (added : List Added) → IsAuditOf self added → AreVerdicts added result }
@@ -246,7 +246,7 @@ impl<A: Allocator + Copy> Audit<A> {
         }
     }
 
-    /// What the audit keeps of the records that were added, by channel.
+    /// Returns what the audit holds of each channel with samples, ascending by the 12 bytes of their keys.
     ///
     /// # Errors
     ///
@@ -261,7 +261,7 @@ impl<A: Allocator + Copy> Audit<A> {
 }
 
 impl<A: Allocator> Channels<A> {
-    /// Returns what is kept of each channel, ascending by the 12 bytes of their keys.
+    /// Returns what an audit holds of each channel, ascending by the 12 bytes of their keys.
     pub fn as_slice(&self) -> &[(Codes, Channel)]
         ensures { result.now ≡ self.now }
     {

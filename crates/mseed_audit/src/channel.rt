@@ -1,4 +1,4 @@
-//! What is kept of a channel while its records come.
+//! What an audit holds of a channel.
 ghost use Rattle.std.specs.Prelude.{◌≡◌, ◌<◌, ◌≤◌, ◌+◌, ◌^◌, ℕ, List, [], ◌∷◌, ◌++◌, Option, Some};
 ghost use Rattle.std.specs.Prelude.{IfOk, IfErr, OnOk, OnErr, None};
 ghost use Rattle.mseed_record.specs.View.{View};
@@ -53,7 +53,7 @@ pub enum Findings {
     },
 }
 
-/// What is kept of a channel. It has a fixed size, however many records came.
+/// What an audit holds of a channel. It has a fixed size, however many records came.
 #[derive(Clone, Copy, Debug, PartialEq, Eq)]
 pub struct Channel {
     /// The number of records with samples.

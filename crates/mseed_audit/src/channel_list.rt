@@ -22,19 +22,19 @@ use std::collections::BTreeMap;
 use std::collections::btree_map::Entry;
 use std::marker::Model;
 
-/// What is kept of each channel, in the order in which they came. The channel that was found last is found without a
-/// search, and so is the one that came first after it, or first of all where that one came last; each other by a
+/// What is held of each channel, in the order in which they came. The channel that was found last is found without a
+/// search, and so is the one that came next after it, or first of all where that one came last; each other by a
 /// search.
 ///
 /// Contracts see it as the list of its channels, each with its key.
 #[derive(Drop)]
 pub struct ChannelList<A: Allocator = Global> {
     channels: Vec<(Codes, Channel), A>,
-    // Where each of them stands, by its key.
+    // The index of each, by its key.
     places: BTreeMap<Codes, usize, A>,
-    // Where the one stands that was found or kept last. In most archives the next record is of it too.
+    // The index of the one that was found or added last. In most archives the next record is of it too.
     last: usize,
-    // The key that was last searched for in vain: a new channel is looked for again before it is kept.
+    // The key that was last searched for in vain: a new channel is looked for again before it is added.
     missed: Option<Codes>,
 }
 
@@ -79,7 +79,7 @@ impl<A: Allocator + Copy> ChannelList<A> {
         &self.channels
     }
 
-    /// Where each channel stands, ascending by the 12 bytes of their keys.
+    /// Returns the index of each channel, ascending by the 12 bytes of their keys.
     pub fn places(&self) -> &BTreeMap<Codes, usize, A>
         ensures { ArePlaced result.now.entries self.now }
     {
@@ -93,7 +93,7 @@ impl<A: Allocator + Copy> ChannelList<A> {
         self.places.contains_key(codes)
     }
 
-    /// Where a channel stands, if it is there. It is then the one that was found last.
+    /// Returns the index of a channel, if it is on the list. It is then the one that was found last.
     #[inline(always)]
     #[tactic(auto, using(crate::proofs::Rosters::place_within))]
     pub fn find(&mut self, codes: Codes) -> Option<usize>
@@ -110,7 +110,7 @@ impl<A: Allocator + Copy> ChannelList<A> {
         }
     }
 
-    /// Returns the channel at a place, to be changed. Its key stays what it is.
+    /// Returns the channel at an index, to be changed. Its key stays what it is.
     #[inline(always)]
     pub fn channel_mut(&mut self, index: usize) -> &mut Channel
         requires { index < length self.old }
@@ -121,7 +121,7 @@ impl<A: Allocator + Copy> ChannelList<A> {
         &mut self.channels[index].1
     }
 
-    /// Keeps a new channel after the others. It is then the one that was found last.
+    /// Adds a new channel after the others. It is then the one that was found last.
     ///
     /// # Errors
     ///
@@ -146,8 +146,8 @@ impl<A: Allocator + Copy> ChannelList<A> {
         Ok(())
     }
 
-    /// Where a channel stands, if it is there; else it is kept after the others, as it is given. It is then the one
-    /// that was found last.
+    /// Returns the index of a channel, if it is on the list; else adds it after the others, as it is given. It is then
+    /// the one that was found last.
     ///
     /// # Errors
     ///
@@ -171,7 +171,7 @@ impl<A: Allocator + Copy> ChannelList<A> {
         }
     }
 
-    /// The channels, ascending by the 12 bytes of their keys.
+    /// Returns the channels, ascending by the 12 bytes of their keys.
     ///
     /// # Errors
     ///
@@ -192,8 +192,8 @@ impl<A: Allocator + Copy> ChannelList<A> {
         Ok(sorted)
     }
 
-    /// Where a channel stands, if it is the one that was found last, or came first after that one, or first of all
-    /// where that one came last.
+    /// Returns the index of a channel, if it is the one that was found last, or came next after that one, or first of
+    /// all where that one came last.
     #[inline(always)]
     fn near(&self, codes: Codes) -> Option<usize>
         ensures { IfSome result (λ i. place_of (same_key codes) self.now ≡ Some i) }
@@ -206,7 +206,7 @@ impl<A: Allocator + Copy> ChannelList<A> {
         }
     }
 
-    /// A place, if the channel stands there.
+    /// Returns an index, if it is the channel's.
     #[inline(always)]
     fn look(&self, index: usize, codes: Codes) -> Option<usize>
         ensures { IfSome result (λ i. place_of (same_key codes) self.now ≡ Some i) }
@@ -217,7 +217,7 @@ impl<A: Allocator + Copy> ChannelList<A> {
         }
     }
 
-    /// Where a channel stands, by a search of the map.
+    /// Returns the index of a channel, by a search of the map.
     #[inline(never)]
     #[tactic(auto, using(crate::proofs::Rosters::place_within))]
     fn search(&mut self, codes: Codes) -> Option<usize>
@@ -279,7 +279,7 @@ impl<A: Allocator + Copy> ChannelList<A> {
     }
 }
 
-/// Where a channel stands by its key, if the key is there; else it is entered with a place.
+/// Returns the index of a channel by its key, if the key is there; else enters it with an index.
 #[inline(always)]
 fn find_or_enter<A: Allocator + Copy>(
     places: &mut BTreeMap<Codes, usize, A>,

@@ -92,7 +92,7 @@ impl<A: Allocator + Copy> Series<A> {
         &self.samples
     }
 
-    /// The leap seconds: each with the number of samples before it, which rises strictly from 1 on.
+    /// Returns the leap seconds: each with the number of samples before it, which rises strictly from 1 on.
     pub fn steps(&self) -> &[(u64, LeapStep)]
         ensures value { result.now ≡ self.now.steps }
         ensures places { AreSteps (length self.now.samples) self.now.steps }
@@ -162,7 +162,7 @@ fn append_samples<A: Allocator>(
     }
 }
 
-/// The first leap second that so many samples can't have.
+/// Returns the index of the first leap second that a series of so many samples can't have.
 fn first_bad(steps: &[(u64, LeapStep)], size: usize) -> Option<usize>
     ensures none { (result ≡ None) ↔ AreSteps size steps.now }
     ensures some { IfSome result (λ index. IsBadStep size steps.now index) }
@@ -177,7 +177,7 @@ fn first_bad(steps: &[(u64, LeapStep)], size: usize) -> Option<usize>
     None
 }
 
-/// Whether a leap second stands after a place, and at most so many samples before it.
+/// Returns whether a leap second comes after a place, with at most so many samples before it.
 fn is_after(before: u64, place: u64, size: u64) -> bool
     ensures { IsTrue result ↔ ((before < place) × (place ≤ size)) }
 {

@@ -1,4 +1,4 @@
-//! The audit of an archive that tells each record with a finding.
+//! The audit of an archive that reports each record with a finding.
 ghost use Rattle.std.specs.Prelude.{◌≡◌, []};
 ghost use Rattle.mseed_stream.specs.Calls.{ReadsOn, WritesOn};
 ghost use Rattle.mseed_stream.specs.Device.{nothing_read};
@@ -12,7 +12,7 @@ use mseed_stream::{Sink, Source, StreamFault, write_all_of};
 use std::alloc::Allocator;
 use thiserror::Error;
 
-/// Why a text that tells each record with a finding wasn't written whole. A prefix of it was written.
+/// Why a text that reports each record with a finding wasn't written whole. A prefix of it was written.
 #[derive(Clone, Copy, Debug, PartialEq, Eq, Error)]
 pub enum EachFault {
     /// The output failed.
@@ -90,7 +90,7 @@ pub fn audit_each_selected<A: Allocator + Copy, C: Choice, R: Source, W: Sink>(
     }
 }
 
-/// Audits the records that a source tells as `gather` does, and writes a line for each record with a finding, in the
+/// Audits the records that a source gives as `gather` does, and writes a line for each record with a finding, in the
 /// order of the input. The lines are written as records come, some at a time; the last are left in `text`, which is
 /// empty at first.
 ///

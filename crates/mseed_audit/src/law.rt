@@ -62,7 +62,7 @@ pub fn one_list_of_verdicts()
     one_fault();
 }
 
-/// What is kept of channels tells the verdicts on them.
+/// What an audit holds of channels determines the verdicts on them.
 pub fn channels_have_verdicts()
     ensures { (added : List Added) (channels : List (List ℕ × Channel)) → AreChannels added channels
         → AreVerdicts added (map (λ e. (e.0, verdict_of e.1)) channels) }
@@ -79,7 +79,7 @@ pub fn one_audit()
     one_input();
 }
 
-/// What is reported of an archive's records is reported once, and what was read has one text that tells them.
+/// What is reported of an archive's records is determined, and what was read has one text that reports it.
 pub fn one_telling()
     ensures reported { (added : List Added) (a b : List Reported) → AreReportedOf added a → AreReportedOf added b
         → a ≡ b }

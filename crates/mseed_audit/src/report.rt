@@ -11,7 +11,7 @@ use mseed_record::RecordView;
 use mseed_stream::{Failed, Sink, write_beyond};
 use std::alloc::Allocator;
 
-/// At most so many bytes of lines are kept for the next record.
+/// How many bytes of lines are gathered at most, before they are written.
 const GATHERED: usize = (1 << 16) - 1;
 
 /// What is done with the records that have a finding: nothing, or a line for each goes to an output. A loop over

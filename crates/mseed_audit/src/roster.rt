@@ -1,4 +1,4 @@
-//! What is kept of each channel while records come.
+//! What an audit holds of all channels.
 ghost use Rattle.std.specs.Prelude.{◌≡◌, ◌↔◌, ◌⊎◌, ◌+◌, ◌<◌, ◌^◌, List, ℕ, [], ◌∷◌, ◌++◌, OnOk};
 ghost use Rattle.std.specs.Prelude.{OnErr, IfOk, IfErr, IsOk};
 ghost use Rattle.std.specs.Prelude.{IfSome, IsSome, IsTrue, Option, Some, None};
@@ -26,7 +26,7 @@ use mseed_record::{Codes, RecordView};
 use std::alloc::{Allocator, Global};
 use std::marker::Model;
 
-/// What is kept of each channel, with room for the verdict on each.
+/// What an audit holds of each channel, with room for the verdict on each.
 ///
 /// Contracts see a roster as the list of its channels, each with its key, in the order in which they came.
 #[derive(Drop)]
@@ -59,7 +59,7 @@ impl<A: Allocator + Copy> Roster<A> {
         }
     }
 
-    /// Whether a channel is on it.
+    /// Returns whether a channel is on it.
     pub(crate) fn holds(&self, codes: &Codes) -> bool
         ensures { IsTrue result ↔ IsSome (lookup (same_key codes.now) self.now) }
     {
@@ -95,8 +95,8 @@ impl<A: Allocator + Copy> Roster<A> {
         Ok(())
     }
 
-    /// Adds a record, of which this was learnt, to its channel, which may be new, and answers what is found of it.
-    /// Nothing is kept of a silent one, and nothing is found of it.
+    /// Adds a record, of which this was learnt, to its channel, which may be new, and returns what is found of it.
+    /// Of a silent one nothing is held, and nothing is found.
     ///
     /// # Errors
     ///
@@ -135,7 +135,7 @@ impl<A: Allocator + Copy> Roster<A> {
         }
     }
 
-    /// Begins a channel with its first record, and answers what is found of it.
+    /// Begins a channel with its first record, and returns what is found of it.
     #[inline(never)]
     fn begin(
         &mut self,
@@ -156,7 +156,7 @@ impl<A: Allocator + Copy> Roster<A> {
         Ok(why)
     }
 
-    /// Keeps a new channel, once there is room for it and for its verdict.
+    /// Adds a new channel, once there is room for it and for its verdict.
     fn keep(&mut self, codes: Codes, channel: Channel) -> Result<(), Memory>
         requires { lookup (same_key codes) self.old ≡ None }
         ensures kept { OnOk result (self.new ≡ self.old ++ (codes, channel) ∷ []) }
@@ -168,7 +168,7 @@ impl<A: Allocator + Copy> Roster<A> {
         self.channels.keep(codes, channel)
     }
 
-    /// The verdict on each channel, ascending by the 12 bytes of their keys. It takes no memory.
+    /// Returns the verdict on each channel, ascending by the 12 bytes of their keys. It takes no memory.
     pub(crate) fn into_verdicts(self) -> Vec<(Codes, Verdict), A>
         ensures ascending { IsStrictlySortedBy (slice_cmp nat_cmp) (keys_of result.items) }
         ensures each { (key : List ℕ) → lookup (same_key key) result.items
@@ -187,7 +187,7 @@ impl<A: Allocator + Copy> Roster<A> {
         verdicts
     }
 
-    /// What is kept of each channel, ascending by the 12 bytes of their keys.
+    /// Returns what is held of each channel, ascending by the 12 bytes of their keys.
     pub(crate) fn into_channels(self, alloc: A) -> Result<Vec<(Codes, Channel), A>, Memory>
         ensures ascending { IfOk result (λ sorted. IsStrictlySortedBy (slice_cmp nat_cmp) (keys_of sorted.items)) }
         ensures each { IfOk result (λ sorted. (key : List ℕ)

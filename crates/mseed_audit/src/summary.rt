@@ -85,7 +85,7 @@ ghost use Rattle.mseed_stream.specs.Walk.{AreViews, HasHandedOut};
 ghost use Rattle.mseed_audit.specs.Selected.{IsSelectedOutcome};
 ghost use Rattle.mseed_audit.specs.Summary.{IsOutcome, IsGathered, broken_count};
 
-/// Audits the records that a source tells, and writes the text of the audit. The source is one of which
+/// Audits the records that a source gives, and writes the text of the audit. The source is one of which
 /// nothing was read yet.
 ///
 /// # Errors
@@ -113,7 +113,7 @@ pub fn audit<A: Allocator + Copy, R: Source, W: Sink>(
     }
 }
 
-/// Audits those of the records that a source tells that are asked for, as if no others were there, and writes the text
+/// Audits those of the records that a source gives that are asked for, as if no others were there, and writes the text
 /// of the audit: it counts the records that are asked for and their channels, and a finding's number and offset, and
 /// the fault's, are those in the whole input. The source is one of which nothing was read yet.
 ///
@@ -153,7 +153,7 @@ pub fn audit_selected<A: Allocator + Copy, C: Choice, R: Source, W: Sink>(
     }
 }
 
-/// Adds the audit's text, and answers what it says in numbers.
+/// Adds the audit's text, and returns what it says in numbers.
 pub(crate) fn push_finished<A: Allocator + Copy>(
     text: &mut Vec<u8, A>,
     gathered: Gathered<A>,
@@ -186,7 +186,7 @@ pub(crate) fn push_finished<A: Allocator + Copy>(
     }
 }
 
-/// Audits the records that a source tells, and answers the audit, the fault with which the input ends, if with one, and
+/// Audits the records that a source gives, and returns the audit, the fault with which the input ends, if with one, and
 /// how many bytes the records have. The source is one of which nothing was read yet.
 ///
 /// # Errors
@@ -210,7 +210,7 @@ pub fn gather<A: Allocator + Copy, R: Source>(
     }
 }
 
-/// Audits those of the records that a source tells that are asked for, up to its end, and reports those with a finding.
+/// Audits those of the records that a source gives that are asked for, up to its end, and reports those with a finding.
 ///
 /// # Errors
 ///
@@ -253,7 +253,7 @@ pub(crate) fn gather_with<A: Allocator + Copy, C: Choice, R: Source, O, P: Repor
     }
 }
 
-/// Judges the next record where it is asked for, and reports it, if something is found of it, or passes it; or answers
+/// Judges the next record where it is asked for, and reports it, if something is found of it, or passes it; or returns
 /// how the input ends. A record that the source holds whole isn't copied.
 #[inline(always)]
 fn take_next<A: Allocator + Copy, C: Choice, R: Source, O, P: Report<O>>(
@@ -323,7 +323,7 @@ fn judge<A: Allocator + Copy, C: Choice, O, P: Report<O>>(
     Ok(())
 }
 
-/// How many verdicts say that a channel is broken.
+/// Returns how many verdicts say that a channel is broken.
 pub(crate) fn count_broken(verdicts: &[(Codes, Verdict)]) -> u64
     ensures { result ≡ broken_count verdicts.now }
 {

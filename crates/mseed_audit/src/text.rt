@@ -161,7 +161,7 @@ fn put_reported_line(line: &mut Line, view: &RecordView, finding: &Finding)
     line.put(b"\n");
 }
 
-/// Adds the line that tells how many records there were, and of how many channels.
+/// Adds the line with the numbers of records and of channels.
 ///
 /// # Errors
 ///

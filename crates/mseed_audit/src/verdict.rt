@@ -29,7 +29,7 @@ pub enum Verdict {
 }
 
 impl Verdict {
-    /// Whether the channel is continuous.
+    /// Returns whether the channel is continuous.
     pub fn is_continuous(&self) -> bool
         ensures { result ≡ says_continuous self.now }
     {

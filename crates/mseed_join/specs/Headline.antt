@@ -9,7 +9,7 @@ use Rattle.mseed_join.specs.AuditPart.{AuditedPart}
 use Rattle.mseed_join.specs.Joined.{join_text, verdict_at}
 use Rattle.mseed_join.specs.Written.{Written}
 
--- an archive ends so by its bytes alone: no read failed, and the turns of one audit were enough
+-- an archive ends so by its bytes alone: no read failed, and the reads that one audit may make were enough
 abbrev pub EndsByBytes : Option StreamFault → Type 0
 EndsByBytes None = ⊤
 EndsByBytes (Some (Frame offset fault)) = ⊤

@@ -21,7 +21,7 @@ pub data AreReportedApart : List ℕ → List Written → List Notice → Type 0
       (notices_of a.reported ++ moved_notices a.parted.written.part.records a.parted.written.part.bytes reported)
 
 -- the lines of the archives alone and those of the borders, merged by offset, and then the text of the joint part, are
--- the text of the audit that tells each record with a finding
+-- the text of the audit that reports each record with a finding
 pub record SaysEach (reported : List Notice) (found : List Border) (joint : Written) {h : BytesRead} (a : AuditedEach h)
     : Type 0 where
   pub merged : List Notice

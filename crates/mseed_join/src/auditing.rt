@@ -17,7 +17,7 @@ use mseed_record::Codes;
 use mseed_stream::{Sink, Source, StreamFault, write_all_of};
 use std::alloc::Allocator;
 
-/// Audits the records that a source tells as `audit` does, and writes in place of the audit's text the part of what was
+/// Audits the records that a source gives as `audit` does, and writes in place of the audit's text the part of what was
 /// read. The source is one of which nothing was read yet.
 ///
 /// # Errors
@@ -88,7 +88,7 @@ pub fn audit_part_each<A: Allocator + Copy, R: Source, W: Sink>(
     }
 }
 
-/// Adds the part's text, and answers what the audit's text says in numbers.
+/// Adds the part's text, and returns what the audit's text says in numbers.
 fn push_audited<A: Allocator + Copy>(
     text: &mut Vec<u8, A>,
     alloc: A,
@@ -114,7 +114,7 @@ fn push_audited<A: Allocator + Copy>(
     }
 }
 
-/// How many channels are broken.
+/// Returns how many channels are broken.
 pub(crate) fn count_broken(channels: &[(Codes, Channel)]) -> u64
     ensures { result ≡ broken_count (map verdict_at channels.now) }
 {

@@ -10,7 +10,7 @@ use mseed_text::{Line, push_line};
 use mseed_time::{Micros, show_time};
 use std::alloc::{AllocError, Allocator};
 
-/// Adds the line of a border, if a line of a part tells one. Where memory is refused, the first bytes of it may have
+/// Adds the line of a border, if a line of a part reports one. Where memory is refused, the first bytes of it may have
 /// been added.
 pub(crate) fn push_reported<A: Allocator>(
     text: &mut Vec<u8, A>,

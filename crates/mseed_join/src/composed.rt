@@ -46,7 +46,7 @@ pub fn joined_audit()
 
 /// The headline with a line for each finding: the lines of archives, of which each but the last ends without a fault,
 /// with their numbers and offsets gone up, and the lines of the borders of their parts, merged by offset, and then the
-/// text of the joint part, are what the audit of the archives one after another writes that tells each record with a
+/// text of the joint part, are what the audit of the archives one after another writes that reports each record with a
 /// finding.
 pub fn joined_each()
     ensures says { (archive : List ℕ) (ws : List Written) (reported : List Notice) (found : List Border)

@@ -117,7 +117,7 @@ pub fn join<A: Allocator + Copy, R: Source, W: Sink, E: Sink>(
     }
 }
 
-/// Adds the text of a joint part, and answers what is found of its archives.
+/// Adds the text of a joint part, and returns what is found of its archives.
 pub(crate) fn push_joined<A: Allocator + Copy>(
     text: &mut Vec<u8, A>,
     alloc: A,
@@ -149,7 +149,7 @@ pub(crate) fn push_joined<A: Allocator + Copy>(
     }
 }
 
-/// Whether there is a fault at the end, or faults were passed.
+/// Returns whether there is a fault at the end, or faults were passed.
 fn is_faulty(faults: u64, end: &Option<StreamFault>) -> bool
     ensures { result ≡ (is_some end.now || nat_lt 0 faults) }
 {

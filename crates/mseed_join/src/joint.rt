@@ -24,7 +24,7 @@ use std::cmp::Ordering;
 /// The joint part of parts.
 #[derive(Drop)]
 pub struct JointPart<A: Allocator = Global> {
-    /// What is kept of the channels, and how many records and bytes there are.
+    /// What is held of the channels, and how many records and bytes there are.
     pub part: Part<A>,
     /// How many archives before the last end with a fault, which was passed.
     pub faults: u64,
@@ -32,7 +32,7 @@ pub struct JointPart<A: Allocator = Global> {
     pub end: Option<StreamFault>,
 }
 
-/// What a line of a part tells a listener.
+/// What is reported of a line of a part.
 #[derive(Clone, Copy)]
 pub(crate) enum Reported {
     /// Nothing.
@@ -126,7 +126,7 @@ impl<A: Allocator + Copy> Joint<A> {
         }
     }
 
-    /// Whether the last part is over, or none has begun.
+    /// Returns whether the last part is over, or none has begun.
     pub(crate) fn can_end(&self) -> bool
         ensures { result ≡ can_end self.now.place }
     {
@@ -318,7 +318,7 @@ fn fault_after(bytes: u64, fault: &StreamFault) -> StreamFault
     }
 }
 
-/// Whether a channel's key is after that of the last.
+/// Returns whether a channel's key is after that of the last.
 fn is_after(last: Option<Codes>, codes: Codes) -> bool
     ensures { IsTrue result ↔ IsBehindKey last codes }
 {
@@ -331,7 +331,7 @@ fn is_after(last: Option<Codes>, codes: Codes) -> bool
     }
 }
 
-/// What is reported of a channel, by what is found between it and its further records.
+/// Returns what is reported of a channel, by what is found between it and its further records.
 fn reported_of(codes: Codes, channel: &Channel, found: Option<Finding>) -> Reported
     ensures passed { passed_by result ≡ [] }
     ensures border { border_by result ≡ border_at codes (head_in channel.now.findings) found }

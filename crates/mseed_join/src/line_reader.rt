@@ -1,4 +1,4 @@
-//! Lines of what a source tells.
+//! Lines of what a source gives.
 ghost use Rattle.std.specs.Prelude.{◌≡◌, ◌==◌, ◌+◌, ◌-◌, ◌*◌, ◌^◌, ◌<◌, ◌≤◌, ◌++◌, [], length, take, drop, false, true};
 ghost use Rattle.std.specs.Prelude.{IfOk, OnOk, IfErr, IfSome, IfNone, IsTrue, Ok, position};
 ghost use Rattle.std.specs.List.{position_or_len};
@@ -16,16 +16,16 @@ use std::alloc::Allocator;
 use std::marker::Model;
 use std::simd::prelude::*;
 
-/// At most so many reads of one input.
+/// How often one input is read at most.
 const TURNS: u64 = 1 << 40;
 
-/// The bytes of the buffer.
+/// How many bytes the buffer has.
 const ROOM: usize = 1 << 16;
 
 /// No line has more bytes, its LF included.
 const LONGEST: usize = 512;
 
-/// So many bytes are compared at once.
+/// How many bytes are compared at once.
 const LANES: usize = 32;
 
 /// What lies ahead of a reader of lines.
@@ -165,7 +165,7 @@ impl<A: Allocator> LineReader<A> {
         self.lines += 1;
     }
 
-    /// How many lines were passed.
+    /// Returns how many lines were passed.
     pub(crate) fn lines(&self) -> u64
         ensures value { result ≡ self.now.lines }
         ensures few { self.now.bytes ≤ 2 ^ 56 }
@@ -181,7 +181,7 @@ impl<A: Allocator> LineReader<A> {
         self.bytes - (self.end - self.begin) as u64
     }
 
-    /// What lies ahead, where the bytes that are held tell it.
+    /// Returns what lies ahead, where the bytes that are held show it.
     #[tactic(auto, using(crate::proofs::LineEnds::no_end_in_few))]
     fn see(&mut self) -> Option<Ahead>
         ensures some { IfSome result (λ a. LiesAhead a self.new false) }
@@ -200,7 +200,7 @@ impl<A: Allocator> LineReader<A> {
         }
     }
 
-    /// What lies ahead at the input's end.
+    /// Returns what lies ahead at the input's end.
     fn left(&self) -> Ahead
         requires { HasNoEnd self.now.held }
         ensures ahead { LiesAhead result self.now true }
@@ -213,7 +213,7 @@ impl<A: Allocator> LineReader<A> {
         }
     }
 
-    /// Reads once, and answers whether the input ended.
+    /// Reads once, and returns whether the input ended.
     fn fill<R: Source>(&mut self, source: &mut R) -> Result<bool, StreamFault>
         requires { length self.old.held < 512 }
         ensures more { Grows (R.read source.old) (R.read source.new) (R.remaining source.old) (R.remaining source.new)
@@ -239,7 +239,7 @@ impl<A: Allocator> LineReader<A> {
         self.begin = 0;
     }
 
-    /// Reads into the room after what is held, and answers whether the input ended.
+    /// Reads into the room after what is held, and returns whether the input ended.
     fn read<R: Source>(&mut self, source: &mut R) -> Result<bool, StreamFault>
         requires room { 0 < self.old.room }
         requires turns { self.old.reads < 2 ^ 40 }
@@ -261,7 +261,7 @@ impl<A: Allocator> LineReader<A> {
     }
 }
 
-/// The length of the line that the bytes begin with, its LF included.
+/// Returns the length in bytes of the line that the bytes begin with, its LF included.
 fn size_of_line(held: &[u8]) -> Option<usize>
     ensures some { IfSome result (λ size. IsLineAhead size held.now) }
     ensures none { IfNone result (HasNoEnd (take 512 held.now)) }
@@ -272,7 +272,7 @@ fn size_of_line(held: &[u8]) -> Option<usize>
     }
 }
 
-/// The place of the first LF.
+/// Returns the index of the first LF.
 fn place_of_end(bytes: &[u8]) -> Option<usize>
     ensures { result ≡ position (λ b. b == 10) bytes.now }
 {
@@ -283,14 +283,15 @@ fn place_of_end(bytes: &[u8]) -> Option<usize>
     }
 }
 
-/// The place of the first LF of a few bytes.
+/// Returns the index of the first LF of a few bytes.
 fn place_one_by_one(bytes: &[u8]) -> Option<usize>
     ensures { result ≡ position (λ b. b == 10) bytes.now }
 {
     bytes.iter().position(|b| *b == b'\n')
 }
 
-/// How many bytes from the start are known to hold no LF: all before the first, or all but the last thirty-one at most.
+/// Returns how many bytes from the start are known to hold no LF: all before the first, or all but the last thirty-one
+/// at most.
 #[tactic(auto, using(crate::proofs::LineEnds::no_end_farther))]
 fn pass_lanes(bytes: &[u8]) -> usize
     ensures within { result ≤ length bytes.now }
@@ -307,7 +308,8 @@ fn pass_lanes(bytes: &[u8]) -> usize
     at
 }
 
-/// The place of the first LF among the thirty-two bytes from `at` on, or 32 where none is one.
+/// Returns the index of the first LF among the thirty-two bytes from `at` on, counted from there, or 32 where none is
+/// one.
 fn place_in_lanes(bytes: &[u8], at: usize) -> usize
     requires { at + 32 ≤ length bytes.now }
     ensures { result ≡ position_or_len (λ b. b == 10) (take 32 (drop at bytes.now)) }

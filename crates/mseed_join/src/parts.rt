@@ -18,7 +18,7 @@ use std::alloc::Allocator;
 
 /// Reads the texts of parts, one after another, and joins them as they are read. A part after one that ends with a
 /// fault isn't counted; where faults are passed (`past`), each part counts as if it ended without one, and a line on
-/// `errors` tells the fault. Where a number of parts is `expected` they have to be as many, those that aren't counted
+/// `errors` reports the fault. Where a number of parts is `expected` they have to be as many, those that aren't counted
 /// too. It takes memory for the channels, and a buffer of a fixed size. The source is one of which nothing was read
 /// yet.
 ///
@@ -89,7 +89,7 @@ pub(crate) fn read_with<A: Allocator + Copy, R: Source, E: Sink, O, F, P: Report
     }
 }
 
-/// Tells a fault that is passed.
+/// Reports a fault that is passed.
 fn tell_passed<E: Sink>(errors: &mut E, reported: &Reported)
     ensures { AreReported (passed_by reported.now) (E.written errors.old) (E.written errors.new) }
 {
@@ -100,7 +100,7 @@ fn tell_passed<E: Sink>(errors: &mut E, reported: &Reported)
     }
 }
 
-/// Tells the fault with which the part of this number ends.
+/// Reports the fault with which the part of this number ends.
 fn tell_fault<E: Sink>(errors: &mut E, part: u64, fault: &StreamFault)
     ensures { Tells (passed_line part fault.now) (E.written errors.old) (E.written errors.new) }
 {

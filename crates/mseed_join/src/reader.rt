@@ -43,7 +43,7 @@ pub(crate) struct Reader<A: Allocator> {
 }
 
 impl<A: Allocator + Copy> Reader<A> {
-    /// A reader that read nothing.
+    /// Returns a reader that read nothing.
     ///
     /// # Errors
     ///
@@ -58,7 +58,7 @@ impl<A: Allocator + Copy> Reader<A> {
         })
     }
 
-    /// Takes the next line, and answers what it tells; nothing at the input's end.
+    /// Takes the next line, and returns what is reported of it; nothing at the input's end.
     ///
     /// # Errors
     ///
@@ -100,15 +100,15 @@ impl<A: Allocator + Copy> Reader<A> {
         }
     }
 
-    /// Whether what lies ahead is the input's end, where a part can end.
+    /// Returns whether what lies ahead is the input's end, where a part can end.
     fn is_over(&self, ahead: Ahead) -> bool
         ensures { result ≡ is_over ahead self.now.joint.place }
     {
         matches!(ahead, Ahead::Nothing) && self.joint.can_end()
     }
 
-    /// The joint part, at the input's end. Where a number of parts is expected they have to be as many, those that
-    /// don't count too.
+    /// Returns the joint part, at the input's end. Where a number of parts is `expected` they have to be as many, those
+    /// that don't count too.
     ///
     /// # Errors
     ///

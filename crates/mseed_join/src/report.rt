@@ -14,7 +14,7 @@ use crate::reader::PartsFault;
 use mseed_stream::{Sink, write_all_of, write_beyond};
 use std::alloc::Allocator;
 
-/// At most so many bytes of lines are kept for the next border.
+/// How many bytes of lines are gathered at most, before they are written.
 const GATHERED: usize = (1 << 16) - 1;
 
 /// What is done with the borders that have a finding: nothing, or a line for each goes to an output. The loop over the

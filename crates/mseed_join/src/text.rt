@@ -67,7 +67,7 @@ fn push_faults<A: Allocator>(
     }
 }
 
-/// Adds the text of the audit of which these channels are kept, with so many faults passed, which ends with this fault,
+/// Adds the text of the audit that holds these channels, with so many faults passed, which ends with this fault,
 /// if with one. Where memory is refused, the first bytes of it may have been added.
 pub(crate) fn push_join<A: Allocator>(
     text: &mut Vec<u8, A>,

@@ -39,7 +39,7 @@ pub fn push_channel_line<A: Allocator>(
     push_line(text, line.as_slice())
 }
 
-/// Adds the line that tells how many records and bytes there are.
+/// Adds the line with the numbers of records and of bytes.
 ///
 /// # Errors
 ///
@@ -62,7 +62,7 @@ pub fn push_counts_line<A: Allocator>(
     push_line(text, line.as_slice())
 }
 
-/// Adds the line that tells how many faults were passed; none where none does.
+/// Adds the line with the number of faults that were passed; none where none was.
 ///
 /// # Errors
 ///
@@ -191,7 +191,7 @@ fn put_known<E: HeadOrTail>(line: &mut Line, word: &[u8], end: &Option<E>)
     }
 }
 
-/// The word for the leap seconds that a record carries.
+/// Returns the word for the leap seconds that a record carries.
 fn leap_word(leap: Leap) -> &'static [u8]
     ensures text { result.now ≡ leap_text leap }
     ensures most { length result.now ≤ 8 }

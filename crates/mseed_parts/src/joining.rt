@@ -1,4 +1,4 @@
-//! How what is kept of a channel is joined with what is kept of its further records.
+//! How what is held of a channel is joined with what is held of its further records.
 ghost use Rattle.std.specs.Prelude.{◌≡◌, ◌↔◌, ◌<◌, ◌+◌, ◌^◌, length, IsOk, IfOk, IsTrue, OnErr, OnOk};
 ghost use Rattle.std.specs.Option.{option_map, option_to_list};
 ghost use Rattle.mseed_audit.specs.declared.channel.Findings.TheVariants.{Nothing};
@@ -18,7 +18,7 @@ const LARGEST: u64 = 0x7fff_ffff_ffff_ffff;
 #[derive(Clone, Copy, Debug, PartialEq, Eq)]
 pub struct TooLarge;
 
-/// The sum of two numbers of a part: of records, samples, findings, faults or bytes.
+/// Returns the sum of two numbers of a part: of records, samples, findings, faults or bytes.
 ///
 /// # Errors
 ///
@@ -163,14 +163,14 @@ fn put_findings(
     Ok(())
 }
 
-/// How many findings there are between two records.
+/// Returns how many findings there are between two records: one or none.
 fn size_of(border: Option<Finding>) -> u64
     ensures { result ≡ length (option_to_list border) }
 {
     if border.is_some() { 1 } else { 0 }
 }
 
-/// Puts further records after a channel, and answers what is found between the two. Where a count would pass the
+/// Puts further records after a channel, and returns what is found between the two. Where a count would pass the
 /// limit, the channel is then as it was.
 #[inline(always)]
 pub(crate) fn add_further(
@@ -192,7 +192,7 @@ pub(crate) fn add_further(
     Ok(border)
 }
 
-/// Whether no count of a channel passes the limit.
+/// Returns whether no count of a channel passes 2^63 - 1.
 pub(crate) fn counts_fit(channel: &Channel) -> bool
     ensures { IsTrue result ↔ CountsFit channel.now }
 {

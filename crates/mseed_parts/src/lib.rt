@@ -1,4 +1,4 @@
-//! The part of an archive: what an audit keeps of it, so that parts add up.
+//! The part of an archive: what an audit holds of it, so that parts add up.
 #![tactic(auto)]
 
 mod border;

@@ -22,7 +22,7 @@ pub enum JoinFault {
     Limit,
 }
 
-/// The part of an archive: what an audit keeps of each channel, and how many records and bytes there are. It keeps one
+/// The part of an archive: what an audit holds of each channel, and how many records and bytes there are. It holds one
 /// value of a fixed size for each channel with samples, and no record.
 ///
 /// Contracts see a part as what is `Held`, and say by `IsPartOf` of which records it is the part.
@@ -167,7 +167,7 @@ impl<A: Allocator + Copy> Part<A> {
         }
     }
 
-    /// What is kept of each channel, ascending by the 12 bytes of their keys.
+    /// Returns what is held of each channel, ascending by the 12 bytes of their keys.
     ///
     /// # Errors
     ///

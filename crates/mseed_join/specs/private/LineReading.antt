@@ -65,7 +65,7 @@ pub record GoesOn (start now : BytesRead) (r : LinesRead) : Type 0 where
   pub failures : now.failures ≡ start.failures
   pub is_at_end : 0 < r.reads → now.is_at_end ≡ false
 
--- the answer tells neither the input's end nor a fault
+-- the answer is neither the input's end nor a fault
 abbrev pub IfGoesOn : Result Ahead StreamFault → Type 0 → Type 0
 IfGoesOn (Ok Line) X = X
 IfGoesOn (Ok TooLong) X = X

@@ -55,7 +55,7 @@ pub record IsReadTo {A : Type 0} (lines : List ℕ) (s : Stage) (j : Joint A) : 
   pub place : IsPlace j.place s.behind
   pub number : j.parts ≡ length (parts_at s)
 
--- ---- what a line tells
+-- ---- what is reported of a line
 abbrev pub passed_by : Reported → List (List ℕ)
 passed_by Nothing = []
 passed_by (AtBorder key start found) = []
