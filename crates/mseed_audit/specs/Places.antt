@@ -1,5 +1,6 @@
 -- Channels in a list, each with its key, and where each of them stands.
-use Rattle.std.specs.Prelude.{⊤, ◌≡◌, ◌<◌, ℕ, zero, suc, Bool, cond, List, [], ◌∷◌, length, Option, Some, None}
+use Rattle.std.specs.Prelude.{⊤, ◌≡◌, ◌<◌, ℕ, zero, suc, Bool, cond, List, [], ◌∷◌, ◌++◌, length, Option, Some, None}
+use Rattle.std.specs.Prelude.{Result, Ok, Err}
 use Rattle.std.specs.List.{All}
 use Rattle.std.specs.BTreeMap.{insert_entry}
 use Rattle.std.specs.Map.{keys_of, lookup, values_of}
@@ -42,3 +43,16 @@ pub record ArePlaced (ps : List (List ℕ × ℕ)) (channels : List (List ℕ ×
   pub apart : AreApart channels
   pub ascending : IsStrictlySortedBy (slice_cmp nat_cmp) (keys_of ps)
   pub many : length ps ≡ length channels
+
+-- a channel with this key is on the list, at this index, and the list stays as it was
+pub record IsFoundAt (key : List ℕ) (i : ℕ) (old new : List (List ℕ × Channel)) : Type 0 where
+  pub place : place_of (same_key key) old ≡ Some i
+  pub within : i < length old
+  pub stays : new ≡ old
+
+-- By the answer: its index, or none where it wasn't on the list and was added. Without memory the list stays as it was.
+abbrev pub IsFoundOrAdded : {E : Type 0} → Result (Option ℕ) E → List ℕ → Channel → List (List ℕ × Channel)
+    → List (List ℕ × Channel) → Type 0
+IsFoundOrAdded (Ok (Some i)) key c old new = IsFoundAt key i old new
+IsFoundOrAdded (Ok None) key c old new = (place_of (same_key key) old ≡ None) × (new ≡ old ++ (key, c) ∷ [])
+IsFoundOrAdded (Err e) key c old new = (place_of (same_key key) old ≡ None) × (new ≡ old)

@@ -10,7 +10,7 @@ ghost use Rattle.std.specs.Option.{option_map};
 ghost use Rattle.std.specs.Ordering.{nat_cmp};
 ghost use Rattle.std.specs.Vec.{vec_capacity, vec_len};
 ghost use Rattle.mseed_audit.specs.Channels.{same_key};
-ghost use Rattle.mseed_audit.specs.Places.{ArePlaced, by_key, place_of, with_channel};
+ghost use Rattle.mseed_audit.specs.Places.{ArePlaced, IsFoundOrAdded, by_key, place_of, with_channel};
 ghost use Rattle.mseed_audit.specs.contracts.channel.Channel.{the_row as channel_row};
 ghost use Rattle.mseed_audit.specs.contracts.channel_list.ChannelList.{the_row};
 
@@ -153,14 +153,8 @@ impl<A: Allocator + Copy> ChannelList<A> {
     ///
     /// `Memory` where it is new and there was no room for it. The list is as it was.
     #[inline(always)]
-    #[tactic(auto, using(crate::proofs::Rosters::place_within))]
     pub fn find_or_keep(&mut self, codes: Codes, channel: &Channel) -> Result<Option<usize>, Memory>
-        ensures place { IfOk result (λ found. found ≡ place_of (same_key codes) self.old) }
-        ensures within { IfOk result (λ found. IfSome found (λ i. i < length self.old)) }
-        ensures stays { IfOk result (λ found. OnSome found (self.new ≡ self.old)) }
-        ensures kept { IfOk result (λ found. IfNone found (self.new ≡ self.old ++ (codes, channel.now) ∷ [])) }
-        ensures new { OnErr result (place_of (same_key codes) self.old ≡ None) }
-        ensures unchanged { OnErr result (self.new ≡ self.old) }
+        ensures { IsFoundOrAdded result codes channel.now self.old self.new }
     {
         match self.near(codes) {
             Some(index) => {
@@ -246,14 +240,8 @@ impl<A: Allocator + Copy> ChannelList<A> {
     /// [`ChannelList::find_or_keep`] by one search of the map, whether the channel is there or not: the map makes room
     /// where a key is missing. Where the list is full there are two, since a channel that is there asks for no memory.
     #[inline(never)]
-    #[tactic(auto, using(crate::proofs::Rosters::place_within))]
     fn search_or_keep(&mut self, codes: Codes, channel: &Channel) -> Result<Option<usize>, Memory>
-        ensures place { IfOk result (λ found. found ≡ place_of (same_key codes) self.old) }
-        ensures within { IfOk result (λ found. IfSome found (λ i. i < length self.old)) }
-        ensures stays { IfOk result (λ found. OnSome found (self.new ≡ self.old)) }
-        ensures kept { IfOk result (λ found. IfNone found (self.new ≡ self.old ++ (codes, channel.now) ∷ [])) }
-        ensures new { OnErr result (place_of (same_key codes) self.old ≡ None) }
-        ensures unchanged { OnErr result (self.new ≡ self.old) }
+        ensures { IsFoundOrAdded result codes channel.now self.old self.new }
     {
         if self.channels.len() >= self.channels.capacity() {
             return match self.search(codes) {

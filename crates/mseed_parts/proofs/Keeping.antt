@@ -13,7 +13,7 @@ use Rattle.std.proofs.lemmas.Map.{lookup-set_value}
 use Rattle.std.proofs.lemmas.Map.Views.{All-values-insert_entry, All-values-set_value}
 use Rattle.mseed_audit.specs.declared.channel.Channel.{Channel}
 use Rattle.mseed_audit.specs.Channels.{same_key}
-use Rattle.mseed_audit.specs.Places.{by_key, place_of, with_channel}
+use Rattle.mseed_audit.specs.Places.{IsFoundAt, by_key, place_of, with_channel}
 use Rattle.mseed_audit.proofs.ByKey.{itself, kept_by_key}
 use Rattle.mseed_audit.proofs.Maps.{keys_alike, same_back, same_is}
 use Rattle.mseed_audit.proofs.Rosters.{found_at, kept_more, made_at, made_next, with_is}
@@ -38,24 +38,23 @@ by_key_within (e ∷ es) all =
     (by_key_within es (λ k d l. all (suc k) d (omega (arith, l)))) (all 0 e.1 (omega arith))
 
 -- ---- where the channel is there
-module _ (es now : Entries) (code : List ℕ) (i : ℕ) (c : Channel) (stays : now ≡ es)
-    (place : Some i ≡ place_of (same_key code) es)
+module _ (es now : Entries) (code : List ℕ) (i : ℕ) (c : Channel) (f : IsFoundAt code i es now)
     (at : option_map (λ (e : List ℕ × Channel). e.1) (slice_get now i) ≡ Some c) where
   there : place_of (same_key code) now ≡ Some i
-  there = ap (λ (fs : Entries). place_of (same_key code) fs) stays ∙ sym place
+  there = ap (λ (fs : Entries). place_of (same_key code) fs) f.stays ∙ f.place
 
   found : lookup (same_key code) now ≡ Some c
   found = found_at (same_key code) now i c there at
 
   pub kept_there : Some c ≡ kept_of code (by_key es)
-  kept_there = sym (kept_by_key es code ∙ ap (λ (fs : Entries). kept_of code fs) (sym stays) ∙ found)
+  kept_there = sym (kept_by_key es code ∙ ap (λ (fs : Entries). kept_of code fs) (sym f.stays) ∙ found)
 
   -- and becomes something else
   pub with_within : (after : Channel) → AreWithin es → IsWithin after → AreWithin (with_channel now i after)
   with_within after all one =
       subst (λ (fs : Entries). AreWithin fs) (sym (with_is (same_key code) now i after there))
       (All-values-set_value (same_key code) (λ (d : Channel). IsWithin d) now after
-      (subst (λ (fs : Entries). AreWithin fs) (sym stays) all) one)
+      (subst (λ (fs : Entries). AreWithin fs) (sym f.stays) all) one)
 
   found_set : (after : Channel) (key : List ℕ)
       → kept_of key (set_value (same_key code) now after) ≡ cond (same_key code key) (Some after) (kept_of key now)
@@ -70,7 +69,7 @@ module _ (es now : Entries) (code : List ℕ) (i : ℕ) (c : Channel) (stays : n
       ∙ ap (λ (fs : Entries). kept_of key fs) (with_is (same_key code) now i after there)
       ∙ found_set after key
       ∙ ap (λ (o : Option Channel). cond (same_key code key) (Some after) o)
-      (ap (λ (fs : Entries). kept_of key fs) stays ∙ sym (kept_by_key es key))
+      (ap (λ (fs : Entries). kept_of key fs) f.stays ∙ sym (kept_by_key es key))
 
 -- ---- where it is new
 pub none_kept : (es : Entries) (code : List ℕ) → kept_of code es ≡ None → kept_of code (by_key es) ≡ None
