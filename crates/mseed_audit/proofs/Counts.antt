@@ -10,7 +10,3 @@ within_more m n c le h = record { records = omega (arith, h.records, le); sample
 
 pub all_within_more : (m n : ℕ) (es : List (List ℕ × Channel)) → m ≤ n → AreBounded m es → AreBounded n es
 all_within_more m n es le all = λ k d lt. within_more m n _ le (all k d lt)
-
-pub among_within : (n : ℕ) (es : List (List ℕ × Channel)) (c : Channel) → AreBounded n es → IsAmong (values_of es) c
-    → IsBounded n c
-among_within n es c all among = subst (λ (d : Channel). IsBounded n d) (sym among.1.1) (all among.0 c among.1.0)

@@ -35,12 +35,6 @@ pub records_more : (key : List ℕ) (added : List Added) (a : Added)
 records_more key added a = ap (λ (ps : List Placed). filter (λ q. is_of key q.view) ps) (numbered_more 1 added a)
     ∙ filter_more key (numbered 1 added) (placed_at a (1 + length added))
 
--- a silent record is of no channel
-pub silent_more : (key : List ℕ) (ps : List Placed) (p : Placed) → count_of p.view ≡ 0 → with_record key ps p ≡ ps
-silent_more key ps p none =
-    let no : nat_lt 0 (count_of p.view) ≡ false = search rules in
-    ap (λ (b : Bool). if b && same_key key (key_at p.view.bytes) then ps ++ p ∷ [] else ps) no
-
 -- an audit that takes a record in
 pub audit_more : (h new : Held) (ps : List Placed) (count : ℕ) (p : Placed) → IsAuditAmong h ps count
     → new.added ≡ h.added + 1

@@ -67,15 +67,3 @@ new_stands old new code p c at some kept none stands key ps before =
     λ qs s. subst (λ (rs : List Placed). Stands c (rs ++ p ∷ [])) (sym (subst (λ o. StandsAt o qs) none s)) stands in
     stands_more old new code p c at some (λ q. kept q ∙ ap (λ (b : Bool). cond b (Some c) (lookup (same_key q) old))
     (same_back q code)) begins key ps before
-
-snoc_some : (ps prefix : List Placed) (last : Placed) → ps ≡ prefix ++ last ∷ [] → ps ≢ []
-snoc_some ps prefix last e none =
-    let size : length prefix + 1 ≡ 0 = sym (length-append prefix (last ∷ []))
-    ∙ sym (ap (λ (qs : List Placed). length qs) e) ∙ ap (λ (qs : List Placed). length qs) none in
-    omega (arith, size)
-
--- a channel is kept exactly where it has records
-pub kept_some : (o : Option Channel) (ps : List Placed) → StandsAt o ps
-    → (is_some o ≡ true → ps ≢ []) × (ps ≢ [] → is_some o ≡ true)
-kept_some None ps none = (λ e. absurd (false≢true e), λ no. absurd (no none))
-kept_some (Some c) ps s = (λ e. snoc_some ps s.prefix s.last s.ends, λ no. refl)

@@ -25,9 +25,6 @@ use Rattle.mseed_audit.proofs.Maps.{same_itself}
 use Rattle.mseed_audit.specs.Channels.{same_key}
 
 -- ---- the lines up to a stage
-stage_rows : Stage → List Line
-stage_rows s = all_rows s.over ++ rows_behind s.behind
-
 stage_all : (s : Stage) (lines : List ℕ) → IsStage lines s → AreAll (all_rows s.over ++ rows_behind s.behind)
 stage_all s lines i =
     all_append IsLine (all_rows s.over) (rows_behind s.behind)

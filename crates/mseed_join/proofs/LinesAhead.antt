@@ -204,24 +204,11 @@ pub reads_so_far : (old new : BytesRead) (left rest : Option (List ℕ)) (r afte
 reads_so_far old new left rest r after x y grows goes_on beside =
     reads_to old new left rest r after x y grows (λ end. absurd (false≢true (sym goes_on ∙ end))) beside
 
--- what was seen lies ahead, wherever the input ends
-pub seen_ahead : (a : Ahead) (r : LinesRead) (at_end : Bool) → LiesAhead a r false → LiesAhead a r at_end
-seen_ahead Line r at_end is = is
-seen_ahead TooLong r at_end is = is
-seen_ahead Unended r at_end is = absurd (let e : false ≡ true = is.0 in cc e)
-seen_ahead Nothing r at_end is = absurd (let e : false ≡ true = is.0 in cc e)
-
 pub if_it_does : (a : Ahead) (X : Type 0) → X → IfGoesOn (Ok a) X
 if_it_does Line X x = x
 if_it_does TooLong X x = x
 if_it_does Unended X x = tt
 if_it_does Nothing X x = tt
-
-pub if_it_ends : (a : Ahead) (X : Type 0) → IfGoesOn (Ok a) ⊥ → IfGoesOn (Ok a) X
-if_it_ends Line X never = absurd never
-if_it_ends TooLong X never = absurd never
-if_it_ends Unended X never = tt
-if_it_ends Nothing X never = tt
 
 -- the fault of one read is that of all
 pub fault_since : (e : StreamFault) (start old new : BytesRead) (r after : LinesRead) → IsReadFault e after old new

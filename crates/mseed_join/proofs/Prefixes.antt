@@ -22,9 +22,6 @@ use Rattle.mseed_join.proofs.Digits.{Ends}
 abbrev pub ratio_then : Ratio → List ℕ → List ℕ
 ratio_then r rest = decimal r.num ++ (codes "/" ++ (decimal r.den ++ rest))
 
-pub ratio_leading : (r : Ratio) (rest : List ℕ) → ratio_text r ++ rest ≡ ratio_then r rest
-ratio_leading r rest = simp append_assoc
-
 abbrev pub head_then : Head → List ℕ → List ℕ
 head_then h rest =
     decimal h.number ++ (codes " " ++ (decimal h.offset ++ (codes " " ++ (signed_decimal h.start ++ (codes " "

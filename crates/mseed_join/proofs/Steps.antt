@@ -386,9 +386,6 @@ always_free past ws h p j =
 some_none : (f : StreamFault) → Some f ≡ None → ⊥
 some_none f k = cc
 
-by_past : {X : Type 0} → (past : Bool) → past ≡ true → past ≡ false → X
-by_past past p q = absurd (false≢true (sym q ∙ p))
-
 fault_silent : (past : Bool) (over : List Written) (b : Behind) (l : ℕ) (f : StreamFault) → past ≡ false
     → passed_lines past (parts_at (goes over b (fault l f))) ≡ passed_lines past (over ++ part_behind b) ++ []
 fault_silent past over b l f p =
