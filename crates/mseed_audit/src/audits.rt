@@ -45,34 +45,26 @@ impl<A: Allocator> Model for Audit<A> {
     ghost invariant = { λ a. AreBounded a.added a.roster };
 }
 
-/// What an audit says of each channel with samples, ascending by the 12 bytes of their keys.
+/// What there is of each channel with samples, ascending by the 12 bytes of their keys.
+///
+/// Contracts see it as the list of its entries.
 #[derive(Drop)]
-pub struct Verdicts<A: Allocator = Global> {
-    verdicts: Vec<(Codes, Verdict), A>,
+pub struct ByChannel<T, A: Allocator = Global> {
+    entries: Vec<(Codes, T), A>,
 }
 
-impl<A: Allocator> Model for Verdicts<A> {
-    ghost use Rattle.std.specs.Prelude.{List, ℕ};
-    ghost use Rattle.mseed_audit.specs.declared.verdict.Verdict.{Verdict};
-
-    ghost Value = { List (List ℕ × Verdict) };
-
-    ghost view = { λ v. v.verdicts.items };
-}
+/// What an audit says of each channel with samples, ascending by the 12 bytes of their keys.
+pub type Verdicts<A = Global> = ByChannel<Verdict, A>;
 
 /// What an audit holds of each channel with samples, ascending by the 12 bytes of their keys.
-#[derive(Drop)]
-pub struct Channels<A: Allocator = Global> {
-    channels: Vec<(Codes, Channel), A>,
-}
+pub type Channels<A = Global> = ByChannel<Channel, A>;
 
-impl<A: Allocator> Model for Channels<A> {
+impl<T, A: Allocator> Model for ByChannel<T, A> {
     ghost use Rattle.std.specs.Prelude.{List, ℕ};
-    ghost use Rattle.mseed_audit.specs.declared.channel.Channel.{Channel};
 
-    ghost Value = { List (List ℕ × Channel) };
+    ghost Value = { List (List ℕ × T) };
 
-    ghost view = { λ c. c.channels.items };
+    ghost view = { λ l. l.entries.items };
 }
 
 impl<A: Allocator + Copy> Audit<A> {
@@ -241,8 +233,8 @@ impl<A: Allocator + Copy> Audit<A> {
         ensures among { (ps : List Placed) (count : ℕ) → IsAuditAmong self ps count → AreVerdictsAmong ps result }
     {
         continuous_exactly();
-        Verdicts {
-            verdicts: self.roster.into_verdicts(),
+        ByChannel {
+            entries: self.roster.into_verdicts(),
         }
     }
 
@@ -254,26 +246,17 @@ impl<A: Allocator + Copy> Audit<A> {
     pub fn into_channels(self, alloc: A) -> Result<Channels<A>, Memory>
         ensures { (added : List Added) → IsAuditOf self added → IfOk result (λ channels. AreChannels added channels) }
     {
-        Ok(Channels {
-            channels: self.roster.into_channels(alloc)?,
+        Ok(ByChannel {
+            entries: self.roster.into_channels(alloc)?,
         })
     }
 }
 
-impl<A: Allocator> Channels<A> {
-    /// Returns what an audit holds of each channel, ascending by the 12 bytes of their keys.
-    pub fn as_slice(&self) -> &[(Codes, Channel)]
+impl<T, A: Allocator> ByChannel<T, A> {
+    /// Returns each channel with what there is of it, ascending by the 12 bytes of their keys.
+    pub fn as_slice(&self) -> &[(Codes, T)]
         ensures { result.now ≡ self.now }
     {
-        &self.channels
-    }
-}
-
-impl<A: Allocator> Verdicts<A> {
-    /// Returns each channel with its verdict, ascending by the 12 bytes of their keys.
-    pub fn as_slice(&self) -> &[(Codes, Verdict)]
-        ensures { result.now ≡ self.now }
-    {
-        &self.verdicts
+        &self.entries
     }
 }

@@ -18,7 +18,7 @@ mod text;
 mod verdict;
 
 pub use assembly::{NotContinuous, is_of, series};
-pub use audits::{Audit, Channels, Memory, Verdicts};
+pub use audits::{Audit, ByChannel, Channels, Memory, Verdicts};
 pub use channel::{Channel, Findings, Head};
 pub use channel_list::ChannelList;
 pub use channel_series::{BadStep, Series};
