@@ -1,20 +1,18 @@
 -- The lines of records with a finding, as they are gathered, written, and followed by the audit's text.
-use Rattle.std.proofs.Common.{◌≡◌, ℕ, ◌++◌, List, [], refl, sym, ap, ◌∙◌, subst}
-use Rattle.std.proofs.Common.{arith, inl, inr, Option, Result, Ok, Err, OnErr, OnOk}
-use Rattle.std.specs.Prelude.{MatchResult}
+use Rattle.std.proofs.Common.{◌≡◌, ℕ, ◌++◌, List, [], refl, sym, ap, ◌∙◌, subst, arith, inl, inr, Option, Ok, Err}
 use Rattle.mseed_record.specs.View.{View}
 use Rattle.mseed_stream.specs.Calls.{WritesOn}
 use Rattle.mseed_stream.specs.Device.{BytesRead, BytesWritten}
 use Rattle.mseed_stream.specs.Gathered.{AreGathered, EmittedFirst, EmittedPart, IsCutOff}
 use Rattle.mseed_stream.specs.Walk.{AreViews}
 use Rattle.mseed_stream.proofs.Calls.{writes_none, writes_on}
-use Rattle.mseed_stream.proofs.Gathered.{all_behind, cut_part, gathered_all, gathered_first, gathered_more}
-use Rattle.mseed_stream.proofs.Gathered.{gathered_on, part_of}
+use Rattle.mseed_stream.proofs.Gathered.{all_behind, cut_part, gathered_all, gathered_first, gathered_more, gathered_on}
+use Rattle.mseed_stream.proofs.Gathered.{part_of}
 use Rattle.mseed_select.specs.Selection.{Selection}
 use Rattle.mseed_audit.specs.declared.summary.SelectedSummary.{SelectedSummary}
 use Rattle.mseed_audit.specs.declared.each.EachFault.{EachFault}
 use Rattle.mseed_audit.specs.declared.each.EachFault.TheVariants.{Write, Memory}
-use Rattle.mseed_audit.specs.Each.{AuditedEachIn, EndsInLinesIn, EndsShortIn, IsLinesFaultIn, each_text_in}
+use Rattle.mseed_audit.specs.Each.{AuditedEachIn, EndsInLinesIn, IsLinesFaultIn}
 use Rattle.mseed_audit.specs.private.Gathered.{AreLined, AreLinedInPart, IsFinished, IsGathering}
 use Rattle.mseed_audit.specs.Scope.{Scope, asked, asked_of}
 use Rattle.mseed_audit.specs.Selected.{IsEachSelectedOutcome}
@@ -37,8 +35,14 @@ gathered_reported first old text next reported more before e =
 in_lines : (scope : Scope) (Emitted : List ℕ → Type 0) (h : BytesRead) (offset : ℕ) (views : List View)
     (reported : List Reported) → AreViews h.bytes offset views → AreReported [] (scope.judged views) reported
     → Emitted (reported_lines reported) → EndsInLinesIn scope Emitted h
-in_lines scope Emitted h offset views reported shown are prefix =
-    (offset, (views, (reported, record { shown = shown; are_reported = are; prefix = prefix })))
+in_lines scope Emitted h offset views reported shown are prefix = record {
+  offset = offset;
+  views = views;
+  reported = reported;
+  shown = shown;
+  are_reported = are;
+  prefix = prefix;
+}
 
 -- no memory for more than these lines
 pub memory_short : (scope : Scope) (h : BytesRead) (first new : BytesWritten) (text : List ℕ) (offset : ℕ)
@@ -61,20 +65,15 @@ lined_first first held apart text none = record {
   writes = writes_none first held apart;
 }
 
--- one more record is reported, unless there is no memory for its line
-pub lined_more : {E : Type 0} (r : Result (Unit {0}) E) (first now : BytesWritten) (held holds : Option (List ℕ))
-    (apart later : BytesRead) (text next : List ℕ) (reported more : List Reported)
-    → AreLined first now held holds apart later text reported → OnOk r (next ≡ text ++ reported_lines more)
-    → OnErr r (next ≡ text)
-    → MatchResult r (λ _. AreLined first now held holds apart later next (reported ++ more))
-    (λ _. AreLined first now held holds apart later next reported)
-lined_more (Ok u) first now held holds apart later text next reported more before e none = record {
+-- the lines of more records are gathered
+pub lined_more : (first now : BytesWritten) (held holds : Option (List ℕ)) (apart later : BytesRead)
+    (text next : List ℕ) (reported more : List Reported) → AreLined first now held holds apart later text reported
+    → next ≡ text ++ reported_lines more → AreLined first now held holds apart later next (reported ++ more)
+lined_more first now held holds apart later text next reported more before e = record {
   lines = gathered_reported first now text next reported more before.lines e;
   fine = before.fine;
   writes = before.writes;
 }
-lined_more (Err e) first now held holds apart later text next reported more before one none =
-    subst (λ (xs : List ℕ). AreLined first now held holds apart later xs reported) (sym none) before
 
 -- some of what is gathered was written
 pub lined_on : (first old new : BytesWritten) (held holds keeps : Option (List ℕ)) (apart later last : BytesRead)
@@ -117,22 +116,11 @@ lines_fault A s Memory h first new held holds apart later text (offset, (views, 
 )
 
 -- ---- before the audit's text
--- what was written of the lines was written of a text that begins with them
-ends_short : (s : Selection) (Emitted : List ℕ → Type 0) (h : BytesRead) → EndsInLinesIn (asked s) Emitted h
-    → EndsShortIn (asked s) Emitted h
-ends_short s Emitted h (offset, (views, (reported, short))) = (
-  offset,
-  (
-    views,
-    (reported, record { shown = short.shown; are_reported = short.are_reported; prefix = inl short.prefix }),
-  ),
-)
-
 -- the lines that were written are those before a text
 pub lines_outcome : (s : Selection) (fault : EachFault) (h : BytesRead) (old new : BytesWritten)
     → IsLinesFaultIn (asked s) fault h old new → IsEachSelectedOutcome s (Err fault) h old new
-lines_outcome s Write h old new f = (f.0, ends_short s (EmittedPart old new) h f.1)
-lines_outcome s Memory h old new f = (f.0, ends_short s (EmittedFirst old new) h f.1)
+lines_outcome s Write h old new f = (f.0, inl f.1)
+lines_outcome s Memory h old new f = (f.0, inl f.1)
 
 -- what was audited and reported, where the audit's text was added to what is gathered
 abbrev reported_also : (s : Selection) {h : BytesRead} (found : SelectedSummary) (views : List View)
@@ -165,21 +153,7 @@ each_written s found views reported first old new text whole f are before bytes 
       ),
     )
 
--- a prefix of it was written, of lines and then the audit's text
-short_text : (s : Selection) {h : BytesRead} (Emitted : List ℕ → Type 0) (a : AuditedEachIn (asked s) h)
-    → Emitted (each_text_in (asked s) a) → EndsShortIn (asked s) Emitted h
-short_text s Emitted a part = (
-  a.audited.all.offset,
-  (
-    a.audited.views,
-    (
-      a.reported,
-      record { shown = a.audited.all.records; are_reported = a.are_reported; prefix = inr (a, part) },
-    ),
-  ),
-)
-
--- before the output failed
+-- a prefix of it was written, before the output failed
 pub each_short : (s : Selection) {h : BytesRead} (taken : ℕ) (found : SelectedSummary) (views : List View)
     (reported : List Reported) (first old new : BytesWritten) (text whole : List ℕ)
     → IsFinished s found h views text whole → AreReported [] (asked_of s views) reported
@@ -190,6 +164,9 @@ each_short s taken found views reported first old new text whole f are before sa
     let a : AuditedEachIn (asked s) _ = reported_also s found views reported text whole f are in
     let tail : List ℕ = text_in (asked s) f.audited in (
       omega (arith, same, cut.failed),
-      short_text s (EmittedPart first new) a (cut_part first old new taken text (reported_lines reported) tail before
-          (subst (λ (xs : List ℕ). IsCutOff taken xs old new) f.text_is cut)),
+      inr (
+        a,
+        cut_part first old new taken text (reported_lines reported) tail before
+            (subst (λ (xs : List ℕ). IsCutOff taken xs old new) f.text_is cut),
+      ),
     )

@@ -37,16 +37,19 @@ pub record IsEachWrittenIn (scope : Scope) {h : BytesRead} (s : Summary) (a : Au
   pub text : new.bytes ≡ old.bytes ++ each_text_in scope a
   pub fine : new.failures ≡ old.failures
 
--- what was written is so of a text: the lines of the first records, or the whole
-pub record IsCutShortIn (scope : Scope) (Emitted : List ℕ → Type 0) (h : BytesRead) (offset : ℕ) (views : List View)
-    (reported : List Reported) : Type 0 where
+-- what was written is so of the lines of the first records
+pub record EndsInLinesIn (scope : Scope) (Emitted : List ℕ → Type 0) (h : BytesRead) : Type 0 where
+  pub offset : ℕ
+  pub views : List View
+  pub reported : List Reported
   pub shown : AreViews h.bytes offset views
   pub are_reported : AreReported [] (scope.judged views) reported
-  pub prefix : Emitted (reported_lines reported) ⊎ ((a : AuditedEachIn scope h) × Emitted (each_text_in scope a))
+  pub prefix : Emitted (reported_lines reported)
 
+-- or of the whole text
 abbrev pub EndsShortIn : Scope → (List ℕ → Type 0) → BytesRead → Type 0
-EndsShortIn scope Emitted h = (offset : ℕ) × ((views : List View)
-    × ((reported : List Reported) × IsCutShortIn scope Emitted h offset views reported))
+EndsShortIn scope Emitted h =
+    EndsInLinesIn scope Emitted h ⊎ ((a : AuditedEachIn scope h) × Emitted (each_text_in scope a))
 
 -- By the outcome. An output that failed isn't called again.
 abbrev pub IsEachOutcomeIn : Scope → Result Summary EachFault → BytesRead → BytesWritten → BytesWritten → Type 0
@@ -63,31 +66,13 @@ IsEachOutcome result h old new = IsEachOutcomeIn whole result h old new
 -- ---- the lines, as records are added
 -- all records up to the end came, and the lines of those with a finding were written or are gathered
 pub record HasLinesIn (scope : Scope) (held : Held) (end : Option StreamFault) (bytes : ℕ) (h : BytesRead)
-    (old new : BytesWritten) (text : List ℕ) (views : List View) (reported : List Reported) : Type 0 where
+    (old new : BytesWritten) (text : List ℕ) : Type 0 where
+  pub views : List View
+  pub reported : List Reported
   pub all : IsGatheredIn scope held end bytes h views
   pub are_reported : AreReported [] (scope.judged views) reported
   pub lines : AreGathered old new text (reported_lines reported)
   pub fine : new.failures ≡ old.failures
-
-abbrev pub HasLines : Held → Option StreamFault → ℕ → BytesRead → BytesWritten → BytesWritten → List ℕ → List View
-    → List Reported → Type 0
-HasLines held end bytes h old new text views reported =
-    HasLinesIn whole held end bytes h old new text views reported
-
--- what was written is so of the lines of the first records
-pub record HasLinesShortIn (scope : Scope) (Emitted : List ℕ → Type 0) (h : BytesRead) (offset : ℕ)
-    (views : List View) (reported : List Reported) : Type 0 where
-  pub shown : AreViews h.bytes offset views
-  pub are_reported : AreReported [] (scope.judged views) reported
-  pub prefix : Emitted (reported_lines reported)
-
-abbrev pub EndsInLinesIn : Scope → (List ℕ → Type 0) → BytesRead → Type 0
-EndsInLinesIn scope Emitted h =
-    (offset : ℕ) × ((views : List View)
-    × ((reported : List Reported) × HasLinesShortIn scope Emitted h offset views reported))
-
-abbrev pub EndsInLines : (List ℕ → Type 0) → BytesRead → Type 0
-EndsInLines Emitted h = EndsInLinesIn whole Emitted h
 
 -- By the fault: an output that failed isn't called again.
 abbrev pub IsLinesFaultIn : Scope → EachFault → BytesRead → BytesWritten → BytesWritten → Type 0
@@ -99,6 +84,5 @@ IsLinesFaultIn scope Memory h old new =
 -- by the outcome: the audit, how the input ends, and how many bytes the records have; the last lines are left in a text
 abbrev pub IsTelling : Result (Held × Option StreamFault × ℕ) EachFault → BytesRead → BytesWritten → BytesWritten
     → List ℕ → Type 0
-IsTelling (Ok found) h old new text =
-    (views : List View) × ((reported : List Reported) × HasLines found.0 found.1 found.2 h old new text views reported)
+IsTelling (Ok found) h old new text = HasLinesIn whole found.0 found.1 found.2 h old new text
 IsTelling (Err fault) h old new text = IsLinesFaultIn whole fault h old new

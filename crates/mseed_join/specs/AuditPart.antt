@@ -8,7 +8,8 @@ use Rattle.mseed_audit.specs.declared.each.EachFault.{EachFault}
 use Rattle.mseed_audit.specs.declared.each.EachFault.TheVariants.{Write as NotWritten, Memory as NoMemory}
 use Rattle.mseed_audit.specs.Channels.{added_from}
 use Rattle.mseed_stream.specs.Gathered.{EmittedFirst, EmittedPart, IsCutOff}
-use Rattle.mseed_audit.specs.Each.{EndsInLines}
+use Rattle.mseed_audit.specs.Each.{EndsInLinesIn}
+use Rattle.mseed_audit.specs.Scope.{whole}
 use Rattle.mseed_audit.specs.Summary.{Audited, IsSummary}
 use Rattle.mseed_audit.specs.Text.{reported_lines}
 use Rattle.mseed_audit.specs.Reported.{Reported, AreReportedOf}
@@ -54,10 +55,11 @@ pub record IsReportedWritten {h : BytesRead} (s : Summary) (a : ReportedPart h) 
 
 -- what was written is so of a text: the lines of the first records, or the whole
 abbrev pub EndsInPart : (List ℕ → Type 0) → BytesRead → Type 0
-EndsInPart Emitted h = EndsInLines Emitted h ⊎ ((a : ReportedPart h) × Emitted (reported_text a))
+EndsInPart Emitted h = EndsInLinesIn whole Emitted h ⊎ ((a : ReportedPart h) × Emitted (reported_text a))
 
 -- By the outcome. An output that failed isn't called again.
 abbrev pub IsPartEachOutcome : Result Summary EachFault → BytesRead → BytesWritten → BytesWritten → Type 0
 IsPartEachOutcome (Ok summary) h old new = (a : ReportedPart h) × IsReportedWritten summary a old new
 IsPartEachOutcome (Err NotWritten) h old new = (new.failures ≡ old.failures + 1) × EndsInPart (EmittedPart old new) h
-IsPartEachOutcome (Err NoMemory) h old new = (new.failures ≡ old.failures) × EndsInLines (EmittedFirst old new) h
+IsPartEachOutcome (Err NoMemory) h old new =
+    (new.failures ≡ old.failures) × EndsInLinesIn whole (EmittedFirst old new) h

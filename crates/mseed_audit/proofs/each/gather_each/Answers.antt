@@ -17,19 +17,16 @@ returns-in-Ok-clause-reported g c =
     let new : BytesWritten = g.W.Sink.written c.gather_with.new.output in
     let found = c.in-Ok.found in
     let o = c.in-Ok.ensures.gathered in
-    let r = o.1.1 in (
-      o.0,
-      (
-        r.reported,
-        subst (λ (scope : Scope). HasLinesIn scope found.audit found.end found.bytes read old new
-            c.gather_with.new.report.items o.0 r.reported) asked_all (record {
-              all = o.1.0.all;
-              are_reported = r.are_reported;
-              lines = r.stands.lines;
-              fine = r.stands.fine;
-            }),
-      ),
-    )
+    let r = o.1.1 in
+    subst (λ (scope : Scope). HasLinesIn scope found.audit found.end found.bytes read old new
+    c.gather_with.new.report.items) asked_all (record {
+      views = o.0;
+      reported = r.reported;
+      all = o.1.0.all;
+      are_reported = r.are_reported;
+      lines = r.stands.lines;
+      fine = r.stands.fine;
+    })
 
 pub returns-in-Ok-clause-writes : goal.returns-in-Ok-clause-writes
 returns-in-Ok-clause-writes g c = c.in-Ok.ensures.gathered.1.1.stands.writes
