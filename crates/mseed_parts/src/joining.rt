@@ -1,5 +1,5 @@
 //! How what is held of a channel is joined with what is held of its further records.
-ghost use Rattle.std.specs.Prelude.{◌≡◌, ◌↔◌, ◌<◌, ◌+◌, ◌^◌, length, IsOk, IfOk, IsTrue, OnErr, OnOk};
+ghost use Rattle.std.specs.Prelude.{◌≡◌, ◌↔◌, ◌<◌, ◌+◌, ◌^◌, length, IsOk, IfErr, IfOk, IsTrue, OnErr, OnOk};
 ghost use Rattle.std.specs.Option.{option_map, option_to_list};
 ghost use Rattle.mseed_audit.specs.declared.channel.Findings.TheVariants.{Nothing};
 ghost use Rattle.mseed_parts.specs.Joining.{moved_head, moved_findings, moved_channel};
@@ -9,6 +9,7 @@ ghost use Rattle.mseed_audit.specs.declared.tail.Tail.{Tail};
 ghost use Rattle.mseed_parts.specs.Parts.{HeadFits, FirstFits, Moves, CountFits, CountsFit};
 
 use crate::border::border_of;
+use crate::part::JoinFault;
 use mseed_audit::{Channel, Finding, Findings, Head};
 
 /// No count, number or offset is larger.
@@ -176,11 +177,12 @@ fn size_of(border: Option<Finding>) -> u64
 pub(crate) fn add_further(
     kept: &mut Channel,
     further: &Channel,
-) -> Result<Option<Finding>, TooLarge>
+) -> Result<Option<Finding>, JoinFault>
     ensures value { OnOk result (kept.new ≡ channel_then kept.old further.now) }
     ensures border { IfOk result
         (λ found. found ≡ border_of (tail_in kept.old.findings) (head_in further.now.findings)) }
     ensures fits { IsOk result ↔ CountsFit (channel_then kept.old further.now) }
+    ensures fault { IfErr result (λ fault. fault ≡ JoinFault.Limit) }
     ensures unchanged { OnErr result (kept.new ≡ kept.old) }
 {
     let border = border_of(kept.findings.tail(), further.findings.head());

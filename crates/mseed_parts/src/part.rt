@@ -1,13 +1,12 @@
 //! The part of an archive.
-ghost use Rattle.std.specs.Prelude.{◌≡◌, ◌++◌, [], List, Some, None, IfOk, IfErr, OnOk, OnErr, IsOk};
-ghost use Rattle.std.specs.Prelude.{◌↔◌, IsErrOf};
+ghost use Rattle.std.specs.Prelude.{◌≡◌, ◌++◌, [], List, Some, None, IfOk, OnOk, OnErr, IsErrOf};
 ghost use Rattle.mseed_record.specs.View.{View};
-ghost use Rattle.mseed_parts.specs.Joining.{border_between, border_of, channel_then, moved_channel};
-ghost use Rattle.mseed_audit.specs.Audit.{head_in, tail_in};
-ghost use Rattle.mseed_parts.specs.Parts.{IsPartOf, IsJoint, Fits, FitsAt, CountsFit, kept_of, one_channel};
+ghost use Rattle.mseed_parts.specs.declared.part.JoinFault.TheVariants.{Limit};
+ghost use Rattle.mseed_parts.specs.Joining.{border_between, moved_channel};
+ghost use Rattle.mseed_parts.specs.Parts.{IsPartOf, IsJoint, Fits, FitsAt, kept_of, one_channel};
 ghost use Rattle.mseed_parts.specs.Parts.{counts_alone, HasNewChannel, IsAscending, IsSmall};
 
-use crate::joining::{add_further, counts_fit, moved, sum};
+use crate::joining::{TooLarge, add_further, counts_fit, moved, sum};
 use mseed_audit::{Channel, ChannelList, Finding, Memory, one_finding};
 use mseed_record::Codes;
 use std::alloc::{Allocator, Global};
@@ -20,6 +19,14 @@ pub enum JoinFault {
     Memory,
     /// A number would pass 2^63 - 1.
     Limit,
+}
+
+impl From<TooLarge> for JoinFault {
+    ghost from_gives = { λ _ fault. fault ≡ Limit };
+
+    fn from(_large: TooLarge) -> JoinFault {
+        JoinFault::Limit
+    }
 }
 
 /// The part of an archive: what an audit holds of each channel, and how many records and bytes there are. It holds one
@@ -107,7 +114,7 @@ impl<A: Allocator + Copy> Part<A> {
             return Err(JoinFault::Limit);
         }
         match self.kept.find_or_keep(codes, &further) {
-            Ok(Some(index)) => put_further(self.kept.channel_mut(index), &further),
+            Ok(Some(index)) => add_further(self.kept.channel_mut(index), &further),
             Ok(None) => Ok(None),
             Err(Memory) => Err(JoinFault::Memory),
         }
@@ -126,14 +133,8 @@ impl<A: Allocator + Copy> Part<A> {
         ensures fault { IsErrOf result JoinFault.Memory → ⊥ }
         ensures unchanged { OnErr result (self.new ≡ self.old) }
     {
-        let records = match sum(self.records, records) {
-            Ok(records) => records,
-            Err(_) => return Err(JoinFault::Limit),
-        };
-        let bytes = match sum(self.bytes, bytes) {
-            Ok(bytes) => bytes,
-            Err(_) => return Err(JoinFault::Limit),
-        };
+        let records = sum(self.records, records)?;
+        let bytes = sum(self.bytes, bytes)?;
         self.records = records;
         self.bytes = bytes;
         Ok(())
@@ -176,21 +177,5 @@ impl<A: Allocator + Copy> Part<A> {
         ensures { IfOk result (λ channels. channels.items ≡ self.channels) }
     {
         self.kept.by_key(alloc)
-    }
-}
-
-/// Puts further records after a channel, and answers what is found between the two.
-#[inline(always)]
-fn put_further(kept: &mut Channel, further: &Channel) -> Result<Option<Finding>, JoinFault>
-    ensures value { OnOk result (kept.new ≡ channel_then kept.old further.now) }
-    ensures border { IfOk result
-        (λ found. found ≡ border_of (tail_in kept.old.findings) (head_in further.now.findings)) }
-    ensures fits { IsOk result ↔ CountsFit (channel_then kept.old further.now) }
-    ensures fault { IfErr result (λ fault. fault ≡ JoinFault.Limit) }
-    ensures unchanged { OnErr result (kept.new ≡ kept.old) }
-{
-    match add_further(kept, further) {
-        Ok(border) => Ok(border),
-        Err(_) => Err(JoinFault::Limit),
     }
 }

@@ -1,13 +1,12 @@
-use Rattle.std.proofs.Common.{◌≡◌, ◌∙◌, None, Option, Some, length, refl, sym, ap, subst}
-use Rattle.std.proofs.Common.{arith, rules}
+use Rattle.std.proofs.Common.{◌≡◌, ◌∙◌, None, Option, Some, length, refl, sym, ap, subst, arith, rules}
 use Rattle.mseed_audit.specs.Channels.{same_key}
 use Rattle.mseed_audit.specs.Places.{by_key, with_channel}
 use Rattle.mseed_audit.proofs.ByKey.{by_key_ascends}
 use Rattle.mseed_audit.proofs.Found.{there_unchanged}
 use Rattle.mseed_audit.proofs.Rosters.{none_there}
 use Rattle.mseed_audit.specs.declared.channel.Channel.{Channel}
-use Rattle.mseed_parts.proofs.Adding.{Entries, there_joined, there_border, there_fits, there_limit}
-use Rattle.mseed_parts.proofs.Adding.{err_from, held, new_joined}
+use Rattle.mseed_parts.proofs.Adding.{Entries, there_joined, there_border, there_fits, there_limit, err_from, held}
+use Rattle.mseed_parts.proofs.Adding.{new_joined}
 use Rattle.mseed_parts.proofs.Keeping.{by_key_within, has_new, has_with, kept_there, none_kept, with_within}
 use Rattle.mseed_parts.proofs.Keeping.{within_push}
 use Rattle.mseed_parts.proofs.Within.{after_within, counts_before, new_within}
@@ -25,12 +24,12 @@ pub invariant_of-self : goal.invariant_of-self
 invariant_of-self g c =
     let f = rw c.in-Ok-Some.field-0-is at c.in-Ok-Some.ensures in
     let at = c.channel_mut.ensures.value in
-    let after : Channel = c.put_further.new.kept in
+    let after : Channel = c.add_further.new.kept in
     let within : IsWithin after =
     after_within c.self.inside.records c.self.inside.bytes c.args.codes (by_key c.self.inside.kept) _
-    c.args.channel.now c.in-Ok.further after c.put_further.result (kept_there _ _ _ _ _ f at)
+    c.args.channel.now c.in-Ok.further after c.add_further.result (kept_there _ _ _ _ _ f at)
     (by_key_within c.self.inside.kept c.self.invariant.0) (c.in-Ok.ensures.fits.0 refl) c.in-Ok.ensures.value
-    c.put_further.ensures.fits c.put_further.ensures.value c.put_further.ensures.unchanged in (
+    c.add_further.ensures.fits c.add_further.ensures.value c.add_further.ensures.unchanged in (
       with_within _ _ _ _ _ f at after c.self.invariant.0 within,
       c.self.invariant.1,
       c.self.invariant.2,
@@ -40,38 +39,38 @@ pub returns-in-Ok-Some-clause-joined : goal.returns-in-Ok-Some-clause-joined
 returns-in-Ok-Some-clause-joined g c =
     let f = rw c.in-Ok-Some.field-0-is at c.in-Ok-Some.ensures in
     let at = c.channel_mut.ensures.value in
-    let after : Channel = c.put_further.new.kept in
+    let after : Channel = c.add_further.new.kept in
     there_joined (by_key c.self.inside.kept) _ _ _ c.self.view_is _ _ _ _ (kept_there _ _ _ _ _ f at)
     c.in-Ok.ensures.value _ after _ (has_with _ _ _ _ _ f at after)
-    (by_key_ascends (with_channel c.find_or_keep.new.self c.in-Ok-Some.index after)) c.put_further.ensures.value
+    (by_key_ascends (with_channel c.find_or_keep.new.self c.in-Ok-Some.index after)) c.add_further.ensures.value
 
 pub returns-in-Ok-Some-clause-border : goal.returns-in-Ok-Some-clause-border
 returns-in-Ok-Some-clause-border g c =
     let f = rw c.in-Ok-Some.field-0-is at c.in-Ok-Some.ensures in
     there_border (by_key c.self.inside.kept) _ _ _ c.self.view_is _ _ _ _
-    (kept_there _ _ _ _ _ f c.channel_mut.ensures.value) c.in-Ok.ensures.value _ c.put_further.ensures.border
+    (kept_there _ _ _ _ _ f c.channel_mut.ensures.value) c.in-Ok.ensures.value _ c.add_further.ensures.border
 
 pub returns-in-Ok-Some-clause-fits : goal.returns-in-Ok-Some-clause-fits
 returns-in-Ok-Some-clause-fits g c =
     let f = rw c.in-Ok-Some.field-0-is at c.in-Ok-Some.ensures in
     there_fits (by_key c.self.inside.kept) _ _ _ c.self.view_is _ _ _ _
-    (kept_there _ _ _ _ _ f c.channel_mut.ensures.value) c.in-Ok.ensures.value _ c.put_further.ensures.fits
+    (kept_there _ _ _ _ _ f c.channel_mut.ensures.value) c.in-Ok.ensures.value _ c.add_further.ensures.fits
     (c.in-Ok.ensures.fits.0 refl)
 
 pub returns-in-Ok-Some-clause-limit : goal.returns-in-Ok-Some-clause-limit
 returns-in-Ok-Some-clause-limit g c =
     let f = rw c.in-Ok-Some.field-0-is at c.in-Ok-Some.ensures in
     there_limit (by_key c.self.inside.kept) _ _ _ c.self.view_is _ _ _ _
-    (kept_there _ _ _ _ _ f c.channel_mut.ensures.value) c.in-Ok.ensures.value _ c.put_further.ensures.fits
+    (kept_there _ _ _ _ _ f c.channel_mut.ensures.value) c.in-Ok.ensures.value _ c.add_further.ensures.fits
 
 pub returns-in-Ok-Some-clause-unchanged : goal.returns-in-Ok-Some-clause-unchanged
 returns-in-Ok-Some-clause-unchanged g c =
     let es : Entries = c.self.inside.kept in
     let f = rw c.in-Ok-Some.field-0-is at c.in-Ok-Some.ensures in
-    err_from c.put_further.result c.put_further.ensures.unchanged
+    err_from c.add_further.result c.add_further.ensures.unchanged
     (λ same. ap (λ (fs : Entries). held (by_key fs) c.self.inside.records c.self.inside.bytes)
     (there_unchanged c.find_or_keep.new.self es es c.in-Ok-Some.index c.channel_mut.result.now
-    c.put_further.new.kept f.stays refl c.channel_mut.ensures.value same) ∙ c.self.view_is)
+    c.add_further.new.kept f.stays refl c.channel_mut.ensures.value same) ∙ c.self.view_is)
 
 -- where it is new
 pub invariant_of-self-in-Ok-None : goal.invariant_of-self-in-Ok-None
