@@ -1,7 +1,6 @@
 -- What is kept of the channels of a part, by their keys.
 use Rattle.std.proofs.Common.{◌≡◌, ◌∙◌, ◌<◌, ◌++◌, ◌∷◌, [], ℕ, suc, is_some, List, Bool, cond, Option, Some, None}
-use Rattle.std.proofs.Common.{length}
-use Rattle.std.proofs.Common.{get_or, sym, ap, subst, arith}
+use Rattle.std.proofs.Common.{length, get_or, sym, ap, subst, arith}
 use Rattle.std.specs.Cmp.Lexicographic.{slice_cmp}
 use Rattle.std.specs.List.{All, slice_get}
 use Rattle.std.specs.Map.{lookup, set_value, values_of}
@@ -87,6 +86,8 @@ has_new es fs code c more none = λ key.
 -- ---- those of a further part, in turn
 pub turns_next : (a b now : Held) (key : List ℕ) (i : ℕ) (ps : List (List ℕ × ℕ)) (es : Entries) (e : List ℕ × Channel)
     → InTurn a b now (made_at itself es ((key, i) ∷ ps)) → All (λ j. j < length es) (values_of ((key, i) ∷ ps))
-    → e ≡ get_or es i e → InTurn a b now ((key, e.1) ∷ made_at itself es ps)
+    → e ≡ get_or es i e → InTurn a b now ((key, (get_or es i e).1) ∷ made_at itself es ps)
 turns_next a b now key i ps es e turn within at =
-    subst (λ (rest : Entries). InTurn a b now rest) (made_next itself es key i ps e (within 0 0 (omega arith)) at) turn
+    subst (λ (rest : Entries). InTurn a b now rest)
+    (made_next itself es key i ps (get_or es i e) (within 0 0 (omega arith))
+    (ap (λ (d : List ℕ × Channel). get_or es i d) at)) turn

@@ -1,7 +1,6 @@
-use Rattle.std.proofs.Common.{◌≡◌, ◌<◌, ◌∙◌, ℕ, suc, List, length, get_or, subst, sym, ap, arith, rules}
+use Rattle.std.proofs.Common.{◌≡◌, ◌<◌, ◌∙◌, ℕ, suc, List, length, subst, sym, ap, arith, rules}
 use Rattle.std.specs.List.{All}
 use Rattle.std.specs.Map.{values_of}
-use Rattle.mseed_audit.specs.declared.channel.Channel.{Channel}
 use Rattle.mseed_parts.specs.declared.part.JoinFault.TheVariants.{Limit, Memory}
 use Rattle.mseed_parts.specs.Parts.{Fits, Held, IsAscending, IsJoint, counts_alone}
 use Rattle.mseed_audit.proofs.ByKey.{by_key_ascends, itself, placed_by_key}
@@ -36,15 +35,10 @@ loop-codes-init g c =
 pub loop-codes-preserved : goal.loop-codes-preserved
 loop-codes-preserved g c =
     let es : Entries = c.as_slice-channels.result.now in
-    let i : ℕ = c.in-Some.index.now in
-    let found : c.index-channels-index.result ≡ get_or es i c.index-channels-index.result = search rules in
-    let e : List ℕ × Channel = get_or es i c.index-channels-index.result in
-    let at : e ≡ get_or es i e = ap (λ (d : List ℕ × Channel). get_or es i d) found in
-    let x : List ℕ × Channel = (c.in-Some.codes.now, e.1) in
     let before = rw c.in-Some.ensures.steps at c.loop-codes.invariant in
     let next = turns_next c.args.self c.args.other.now c.loop-codes.joint c.in-Some.codes.now c.in-Some.index.now
-    c.next.new.self es e before.0 before.1 at in (
-      turns_more c.args.self c.args.other.now c.loop-codes.joint c.add_channel.new.self x
+    c.next.new.self es c.index-channels-index.result before.0 before.1 (search rules) in (
+      turns_more c.args.self c.args.other.now c.loop-codes.joint c.add_channel.new.self _
           (made_at itself es c.next.new.self) next c.in-Ok.ensures.joined c.in-Ok.ensures.fits,
       λ k d l. before.1 (suc k) d (omega (arith, l)),
     )
@@ -52,29 +46,19 @@ loop-codes-preserved g c =
 pub returns-in-Err-clause-limit : goal.returns-in-Err-clause-limit
 returns-in-Err-clause-limit g c = λ limit fit.
     let es : Entries = c.as_slice-channels.result.now in
-    let i : ℕ = c.in-Some.index.now in
-    let found : c.index-channels-index.result ≡ get_or es i c.index-channels-index.result = search rules in
-    let e : List ℕ × Channel = get_or es i c.index-channels-index.result in
-    let at : e ≡ get_or es i e = ap (λ (d : List ℕ × Channel). get_or es i d) found in
-    let x : List ℕ × Channel = (c.in-Some.codes.now, e.1) in
     let before = rw c.in-Some.ensures.steps at c.loop-codes.invariant in
     let next = turns_next c.args.self c.args.other.now c.loop-codes.joint c.in-Some.codes.now c.in-Some.index.now
-    c.next.new.self es e before.0 before.1 at in
+    c.next.new.self es c.index-channels-index.result before.0 before.1 (search rules) in
     c.in-Err.ensures.limit (same_error c.in-Err.fault Limit limit)
-    (first_fits c.args.other.now c.loop-codes.joint x (made_at itself es c.next.new.self) (next.fits_back fit))
+    (first_fits c.args.other.now c.loop-codes.joint _ (made_at itself es c.next.new.self) (next.fits_back fit))
 
 pub returns-in-Err-clause-memory : goal.returns-in-Err-clause-memory
 returns-in-Err-clause-memory g c = λ memory.
     let es : Entries = c.as_slice-channels.result.now in
-    let i : ℕ = c.in-Some.index.now in
-    let found : c.index-channels-index.result ≡ get_or es i c.index-channels-index.result = search rules in
-    let e : List ℕ × Channel = get_or es i c.index-channels-index.result in
-    let at : e ≡ get_or es i e = ap (λ (d : List ℕ × Channel). get_or es i d) found in
-    let x : List ℕ × Channel = (c.in-Some.codes.now, e.1) in
     let before = rw c.in-Some.ensures.steps at c.loop-codes.invariant in
     let next = turns_next c.args.self c.args.other.now c.loop-codes.joint c.in-Some.codes.now c.in-Some.index.now
-    c.next.new.self es e before.0 before.1 at in
-    first_new c.args.self c.args.other.now c.loop-codes.joint x (made_at itself es c.next.new.self) next
+    c.next.new.self es c.index-channels-index.result before.0 before.1 (search rules) in
+    first_new c.args.self c.args.other.now c.loop-codes.joint _ (made_at itself es c.next.new.self) next
     (c.in-Err.ensures.memory (same_error c.in-Err.fault Memory memory))
 
 pub returns-in-Ok-add_counts-clause-joint : goal.returns-in-Ok-add_counts-clause-joint
