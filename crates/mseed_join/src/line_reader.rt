@@ -185,7 +185,7 @@ impl<A: Allocator> LineReader<A> {
     #[tactic(auto, using(crate::proofs::LineEnds::no_end_in_few))]
     fn see(&mut self) -> Option<Ahead>
         ensures some { IfSome result (λ a. LiesAhead a self.new false) }
-        ensures none { IfNone result ((length self.new.held < 512) × HasNoEnd self.new.held) }
+        ensures none { IfNone result ((length self.new.held < LONGEST) × HasNoEnd self.new.held) }
         ensures stays { self.new ≡ record self.old { size = self.new.size } }
     {
         let held = &self.buffer[self.begin..self.end];
@@ -215,12 +215,12 @@ impl<A: Allocator> LineReader<A> {
 
     /// Reads once, and returns whether the input ended.
     fn fill<R: Source>(&mut self, source: &mut R) -> Result<bool, StreamFault>
-        requires { length self.old.held < 512 }
+        requires { length self.old.held < LONGEST }
         ensures more { Grows (R.read source.old) (R.read source.new) (R.remaining source.old) (R.remaining source.new)
             self.old self.new }
         ensures read { IsOneRead result (R.read source.old) (R.read source.new) (R.remaining source.new) self.old
             self.new }
-        ensures turns { OnOk result (self.new.reads ≤ 2 ^ 40) }
+        ensures turns { OnOk result (self.new.reads ≤ TURNS) }
         ensures beside { R.beside source.new ≡ R.beside source.old }
     {
         if self.reads == TURNS {
@@ -232,7 +232,7 @@ impl<A: Allocator> LineReader<A> {
 
     /// Moves what is held to the buffer's start.
     fn make_room(&mut self)
-        ensures { self.new ≡ record self.old { room = 2 ^ 16 - length self.old.held } }
+        ensures { self.new ≡ record self.old { room = ROOM - length self.old.held } }
     {
         self.buffer.copy_within(self.begin..self.end, 0);
         self.end -= self.begin;
@@ -242,7 +242,7 @@ impl<A: Allocator> LineReader<A> {
     /// Reads into the room after what is held, and returns whether the input ended.
     fn read<R: Source>(&mut self, source: &mut R) -> Result<bool, StreamFault>
         requires room { 0 < self.old.room }
-        requires turns { self.old.reads < 2 ^ 40 }
+        requires turns { self.old.reads < TURNS }
         ensures more { Grows (R.read source.old) (R.read source.new) (R.remaining source.old) (R.remaining source.new)
             self.old self.new }
         ensures read { IsOneRead result (R.read source.old) (R.read source.new) (R.remaining source.new) self.old
@@ -264,7 +264,7 @@ impl<A: Allocator> LineReader<A> {
 /// Returns the length in bytes of the line that the bytes begin with, its LF included.
 fn size_of_line(held: &[u8]) -> Option<usize>
     ensures some { IfSome result (λ size. IsLineAhead size held.now) }
-    ensures none { IfNone result (HasNoEnd (take 512 held.now)) }
+    ensures none { IfNone result (HasNoEnd (take LONGEST held.now)) }
 {
     match place_of_end(&held[..held.len().min(LONGEST)]) {
         Some(place) => Some(place + 1),
@@ -311,8 +311,8 @@ fn pass_lanes(bytes: &[u8]) -> usize
 /// Returns the index of the first LF among the thirty-two bytes from `at` on, counted from there, or 32 where none is
 /// one.
 fn place_in_lanes(bytes: &[u8], at: usize) -> usize
-    requires { at + 32 ≤ length bytes.now }
-    ensures { result ≡ position_or_len (λ b. b == 10) (take 32 (drop at bytes.now)) }
+    requires { at + LANES ≤ length bytes.now }
+    ensures { result ≡ position_or_len (λ b. b == 10) (take LANES (drop at bytes.now)) }
 {
     let ends = u8x32::from_slice(&bytes[at..])
         .simd_eq(u8x32::splat(b'\n'))
