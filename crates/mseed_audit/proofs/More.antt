@@ -1,18 +1,21 @@
 -- One more record of an archive.
-use Rattle.std.proofs.Common.{◌≡◌, ℕ, ◌+◌, ◌&&◌, nat_lt, List, [], ◌∷◌, ◌++◌, length, Bool, true, false, if◌then◌else◌}
-use Rattle.std.proofs.Common.{cond, sym, ap, subst, refl, append-nil, ◌∙◌, rules, arith, Result, Ok, Err, OnOk}
+use Rattle.std.proofs.Common.{◌≡◌, ℕ, ◌+◌, List, [], ◌∷◌, ◌++◌, length, Bool, true, false, if◌then◌else◌}
+use Rattle.std.proofs.Common.{cond, sym, ap, subst, refl, append-nil, ◌∙◌, arith, Result, Ok, Err, OnOk}
 use Rattle.std.specs.List.{filter}
 use Rattle.std.proofs.lemmas.List.Elements.{filter-append}
 use Rattle.std.specs.Map.{lookup}
 use Rattle.std.proofs.lemmas.List.{length-append}
-use Rattle.mseed_record.specs.Header.{key_at}
-use Rattle.mseed_steim.specs.Reading.{count_of}
+use Rattle.mseed_record.specs.View.{View}
 use Rattle.mseed_audit.specs.declared.channel.Channel.{Channel}
 use Rattle.mseed_audit.specs.Channels.{Added, Placed, channel_in, numbered, same_key, is_of, records_of, with_record}
 use Rattle.mseed_audit.specs.Audit.{Held, StandsAt, IsAuditAmong, IsAuditOf}
 
 abbrev pub placed_at : Added → ℕ → Placed
 placed_at a n = record { view = a.view; offset = a.offset; number = n }
+
+-- a record that comes next, with its number among all
+abbrev pub placed_next : Held → View → ℕ → Placed
+placed_next held view offset = record { view = view; offset = offset; number = held.added + 1 }
 
 pub numbered_more : (n : ℕ) (added : List Added) (a : Added)
     → numbered n (added ++ a ∷ []) ≡ numbered n added ++ placed_at a (n + length added) ∷ []

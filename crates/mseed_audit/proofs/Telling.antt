@@ -1,7 +1,6 @@
 -- What is reported of records, with one more record.
-use Rattle.std.proofs.Common.{◌≡◌, ◌≢◌, ℕ, ◌+◌, ◌++◌, List, [], ◌∷◌}
-use Rattle.std.proofs.Common.{length, Option, refl, sym, ap, ◌∙◌, subst, append_assoc}
-use Rattle.std.proofs.Common.{append-nil, arith, Result, Ok, Err, Bool, true, false, if◌then◌else◌}
+use Rattle.std.proofs.Common.{◌≡◌, ◌≢◌, ℕ, ◌+◌, ◌++◌, List, [], ◌∷◌, length, Option, refl, sym, ap, ◌∙◌, subst}
+use Rattle.std.proofs.Common.{append_assoc, append-nil, arith, Result, Ok, Err, Bool, true, false, if◌then◌else◌}
 use Rattle.std.specs.Prelude.{MatchResult}
 use Rattle.std.specs.Result.{IsErrAnd}
 use Rattle.std.proofs.lemmas.Bool.{false≢true}
@@ -19,10 +18,11 @@ use Rattle.mseed_audit.specs.declared.summary.Step.{Step}
 use Rattle.mseed_audit.specs.Channels.{Placed, added_from}
 use Rattle.mseed_audit.specs.Audit.{Held, IsAuditAmong}
 use Rattle.mseed_audit.specs.Scope.{asked_of}
-use Rattle.mseed_audit.specs.private.Gathered.{HasReport, IsJudged, IsNext, asked_at, placed_next}
+use Rattle.mseed_audit.specs.private.Gathered.{HasReport, IsJudged, IsNext}
 use Rattle.mseed_audit.specs.Text.{reported_line, reported_lines}
 use Rattle.mseed_audit.specs.Reported.{Reported, AreReported, IsFoundBehind, none, one, reported_at}
-use Rattle.mseed_audit.proofs.Views.{judged_also}
+use Rattle.mseed_audit.proofs.More.{placed_next}
+use Rattle.mseed_audit.proofs.Views.{asked_at, judged_also}
 
 pub reported_snoc : (earlier ps : List Placed) (p : Placed) (why : Option Why) (reported : List Reported)
     → AreReported earlier ps reported

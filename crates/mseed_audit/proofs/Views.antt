@@ -18,8 +18,17 @@ use Rattle.mseed_audit.specs.Audit.{Held, IsAuditAmong}
 use Rattle.mseed_audit.specs.Channels.{Added, Placed, added_from, numbered}
 use Rattle.mseed_audit.specs.Scope.{asked_of, placed_of}
 use Rattle.mseed_audit.specs.Reported.{Reported}
-use Rattle.mseed_audit.specs.private.Gathered.{HasReport, IsJudged, IsPassedAlso, asked_at, placed_next}
-use Rattle.mseed_audit.proofs.More.{numbered_more}
+use Rattle.mseed_audit.specs.private.Gathered.{HasReport, IsJudged}
+use Rattle.mseed_audit.proofs.More.{numbered_more, placed_next}
+
+-- it is judged where it is asked for
+abbrev pub asked_at : Selection → Placed → List Placed
+asked_at s p = if asks_for s p.view then p ∷ [] else []
+
+-- one more is judged or passed
+pub record IsPassedAlso (s : Selection) (before after : Passed) (p : Placed) : Type 0 where
+  pub all : length (asked_at s p) + after.left + after.without_time ≡ before.left + before.without_time + 1
+  pub without_time : after.without_time ≡ before.without_time + (if lacks_time s p.view then 1 else 0)
 
 pub added_length : (offset : ℕ) (views : List View) → length (added_from offset views) ≡ length views
 added_length offset [] = refl

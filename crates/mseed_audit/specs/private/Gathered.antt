@@ -1,6 +1,5 @@
 -- Statements of the records that an audit reads, and of what it reports of them: no public contract cites them.
-use Rattle.std.specs.Prelude.{◌≡◌, ℕ, ◌+◌, ◌<◌, if◌then◌else◌, List, [], ◌∷◌, ◌++◌, length, Option, Some, None, Result}
-use Rattle.std.specs.Prelude.{Ok, Err}
+use Rattle.std.specs.Prelude.{◌≡◌, ℕ, ◌+◌, ◌<◌, List, [], ◌∷◌, ◌++◌, length, Option, Some, None, Result, Ok, Err}
 use Rattle.std.specs.List.{count_by}
 use Rattle.mseed_record.specs.View.{View}
 use Rattle.mseed_stream.specs.Calls.{WritesOn}
@@ -9,7 +8,7 @@ use Rattle.mseed_stream.specs.Gathered.{AreGathered, EmittedPart}
 use Rattle.mseed_stream.specs.Standing.{Standing}
 use Rattle.mseed_stream.specs.Walk.{AreViews, HasHandedOut}
 use Rattle.mseed_stream.specs.declared.fault.StreamFault.{StreamFault}
-use Rattle.mseed_select.specs.Selection.{Selection, asks_for, lacks_time}
+use Rattle.mseed_select.specs.Selection.{Selection, lacks_time}
 use Rattle.mseed_audit.specs.declared.audits.Memory.{Memory as NoRoom}
 use Rattle.mseed_audit.specs.declared.each.EachFault.{EachFault}
 use Rattle.mseed_audit.specs.declared.each.EachFault.TheVariants.{Write, Memory}
@@ -26,24 +25,10 @@ use Rattle.mseed_audit.specs.Scope.{asked, asked_of}
 use Rattle.mseed_audit.specs.Summary.{AuditedIn, IsGatheredIn, IsSummaryIn, text_in}
 use Rattle.mseed_audit.specs.Text.{reported_lines}
 
--- ---- the records that are asked for, and the others
--- a record that comes next, with its number among all
-abbrev pub placed_next : Held → View → ℕ → Placed
-placed_next held view offset = record { view = view; offset = offset; number = held.added + 1 }
-
--- it is judged where it is asked for
-abbrev pub asked_at : Selection → Placed → List Placed
-asked_at s p = if asks_for s p.view then p ∷ [] else []
-
 -- so many of these records were passed
 pub record IsPassed (s : Selection) (p : Passed) (views : List View) : Type 0 where
   pub all : length (asked_of s views) + p.left + p.without_time ≡ length views
   pub without_time : p.without_time ≡ count_by (lacks_time s) views
-
--- one more is judged or passed
-pub record IsPassedAlso (s : Selection) (before after : Passed) (p : Placed) : Type 0 where
-  pub all : length (asked_at s p) + after.left + after.without_time ≡ before.left + before.without_time + 1
-  pub without_time : after.without_time ≡ before.without_time + (if lacks_time s p.view then 1 else 0)
 
 -- what is reported of a record, by its finding
 abbrev pub reported_by : View → Option Finding → List Reported

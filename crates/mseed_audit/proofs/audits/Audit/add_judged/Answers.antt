@@ -1,4 +1,4 @@
-use Rattle.std.proofs.Common.{◌≡◌, ◌⊎◌, ◌+◌, ◌++◌, ◌∷◌, [], ◌∙◌, ℕ, List, Ok, OnOk, ap, length, subst, sym}
+use Rattle.std.proofs.Common.{◌≡◌, ◌⊎◌, ◌+◌, ◌++◌, ◌∷◌, [], ℕ, List, Ok, OnOk, length, subst, sym}
 use Rattle.std.specs.Prelude.{IfOk}
 use Rattle.mseed_record.specs.Header.{key_at}
 use Rattle.mseed_record.specs.Viewing.{view_of}
@@ -6,8 +6,7 @@ use Rattle.mseed_steim.specs.Reading.{count_of}
 use Rattle.mseed_audit.specs.Audit.{Held, HoldsKey, IsAuditAmong}
 use Rattle.mseed_audit.specs.Channels.{Placed, numbered}
 use Rattle.mseed_audit.specs.Reported.{IsFoundBehind}
-use Rattle.mseed_audit.specs.private.Gathered.{placed_next}
-use Rattle.mseed_audit.proofs.More.{audit_all, audit_all_ok}
+use Rattle.mseed_audit.proofs.More.{audit_all, audit_all_ok, placed_next}
 use Rattle.mseed_audit.proofs.audits.Audit.add_judged.Goals as goal
 
 pub returns-in-Ok-clause-among : goal.returns-in-Ok-clause-among

@@ -3,8 +3,7 @@ use Rattle.mseed_record.specs.Header.{key_at}
 use Rattle.mseed_record.specs.Viewing.{view_of}
 use Rattle.mseed_audit.specs.Audit.{Held, IsAuditAmong}
 use Rattle.mseed_audit.specs.Channels.{channel_in}
-use Rattle.mseed_audit.specs.private.Gathered.{placed_next}
-use Rattle.mseed_audit.proofs.More.{audit_more}
+use Rattle.mseed_audit.proofs.More.{audit_more, placed_next}
 use Rattle.mseed_audit.proofs.audits.Audit.add_sound.Goals as goal
 
 pub invariant_of-self-2 : goal.invariant_of-self-2

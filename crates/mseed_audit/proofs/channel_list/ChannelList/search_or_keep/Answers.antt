@@ -1,4 +1,4 @@
-use Rattle.std.proofs.Common.{◌≡◌, ◌++◌, ◌∷◌, [], ◌∙◌, ℕ, List, None, Some, length, sym, ap, rules}
+use Rattle.std.proofs.Common.{◌≡◌, ◌++◌, ◌∷◌, [], ◌∙◌, ℕ, List, None, Some, length, ap, rules}
 use Rattle.std.specs.BTreeMap.{insert_entry}
 use Rattle.std.specs.Cmp.Lexicographic.{slice_cmp}
 use Rattle.std.specs.List.Sorted.{IsStrictlySortedBy}
@@ -11,11 +11,14 @@ use Rattle.mseed_audit.proofs.Placed.{placed_push}
 use Rattle.mseed_audit.proofs.Rosters.{none_there, place_within}
 use Rattle.mseed_audit.proofs.channel_list.ChannelList.search_or_keep.Goals as goal
 
-pub returns-in-Some-2-clause-within : goal.returns-in-Some-2-clause-within
-returns-in-Some-2-clause-within g c =
-    let code : List ℕ = c.args.codes in
-    let place : Some c.in-Some-2.index ≡ place_of (same_key code) c.args.self.now = search rules in
-    place_within (same_key code) c.args.self.now c.in-Some-2.index (sym place)
+pub returns-in-Some-2 : goal.returns-in-Some-2
+returns-in-Some-2 g c =
+    let place : place_of (same_key c.args.codes) c.args.self.now ≡ Some c.in-Some-2.index = search rules in
+    record {
+      place = place;
+      within = place_within (same_key c.args.codes) c.args.self.now c.in-Some-2.index place;
+      stays = search rules;
+    }
 
 pub invariant_of-self-2 : goal.invariant_of-self-2
 invariant_of-self-2 g c =
