@@ -1,31 +1,24 @@
 -- Parts that are read along lines: what was passed, and what lies ahead.
-use Rattle.std.proofs.Common.{◌≡◌, ◌≢◌, ℕ, ◌+◌, ◌*◌, ◌≤◌, ◌<◌, ◌^◌, List, [], ◌∷◌, ◌++◌, length, take, drop, Bool}
-use Rattle.std.proofs.Common.{true, false, Option, Ok, Err, refl, sym, ap, ◌∙◌, subst, arith, inl}
-use Rattle.std.proofs.Common.{append_assoc, append-nil, length-append}
-use Rattle.std.proofs.Common.{take-append-drop, length-take}
+use Rattle.std.proofs.Common.{◌≡◌, ◌≢◌, ℕ, ◌+◌, ◌*◌, ◌≤◌, ◌<◌, ◌^◌, List, [], ◌∷◌, ◌++◌, length, take, drop, Bool, true}
+use Rattle.std.proofs.Common.{false, Option, refl, sym, ap, ◌∙◌, subst, arith, inl, append_assoc, append-nil}
+use Rattle.std.proofs.Common.{length-append, take-append-drop, length-take}
 use Rattle.std.proofs.lemmas.List.{append_cancel_left, append_cancel_right}
-use Rattle.std.specs.Prelude.{Result}
 use Rattle.mseed_stream.specs.Device.{BytesRead, BytesWritten}
 use Rattle.mseed_join.specs.declared.line_reader.Ahead.{Ahead}
 use Rattle.mseed_join.specs.declared.line_reader.Ahead.TheVariants.{Line as WholeLine, TooLong, Unended, Nothing}
 use Rattle.mseed_join.specs.declared.joint.Joint.{Joint}
-use Rattle.mseed_join.specs.declared.joint.JointPart.{JointPart}
 use Rattle.mseed_join.specs.declared.joint.Place.{Place}
 use Rattle.mseed_join.specs.declared.joint.Place.TheVariants.{Start, Channels, Whole}
 use Rattle.mseed_join.specs.declared.joint.Reported.{Reported}
 use Rattle.mseed_join.specs.declared.reader.Reader.{Reader}
 use Rattle.mseed_join.specs.Joined.{AreLines, Begins, HasNoEnd, IsBadLine, IsJointOf, IsOfOneLine}
 use Rattle.mseed_join.specs.Lines.{Line, counts_line, header_line}
-use Rattle.mseed_join.specs.Reached.{AreLinesRead, Behind, Stage, IsStage, none, begun, whole, part_behind}
-use Rattle.mseed_join.specs.Reached.{AreReported, parts_at, passed_lines, start, text_behind}
-use Rattle.mseed_join.specs.ReadParts.{AreExpected, IsReadOutcome, IsStopped, written_of}
-use Rattle.mseed_join.specs.declared.reader.PartsFault.{PartsFault}
-use Rattle.mseed_join.specs.declared.reader.PartsFault.TheVariants.{Line as BadLine, Count, Stream, Memory}
+use Rattle.mseed_join.specs.Reached.{Behind, Stage, IsStage, none, begun, whole, part_behind, AreReported}
+use Rattle.mseed_join.specs.Reached.{parts_at, passed_lines, start, text_behind}
+use Rattle.mseed_join.specs.ReadParts.{written_of}
 use Rattle.mseed_join.specs.Written.{Written, Spells, channel_lines, part_text, texts}
-use Rattle.mseed_join.specs.private.Along.{HasEnded, IsAlong, IsBadBehind, IsFailedAt, IsFinished, IsNextStep}
-use Rattle.mseed_join.specs.private.Along.{IsStoppedAt, can_end, is_over}
-use Rattle.mseed_join.specs.private.LineReading.{GoesOn, Grows, IsLineAhead, IsOpen, IsReadBy, LiesAhead}
-use Rattle.mseed_join.specs.private.LineReading.{LinesRead}
+use Rattle.mseed_join.specs.private.Along.{HasEnded, IsAlong, IsBadBehind, IsFailedAt, IsStoppedAt, can_end, is_over}
+use Rattle.mseed_join.specs.private.LineReading.{GoesOn, Grows, IsLineAhead, IsOpen, IsReadBy, LiesAhead, LinesRead}
 use Rattle.mseed_join.specs.private.Taking.{IsPlace, IsReadTo, IsTaken}
 use Rattle.mseed_join.proofs.Ahead.{IsAhead, ahead, too_long}
 use Rattle.mseed_join.proofs.LinesAhead.{read_by_more}
@@ -187,37 +180,10 @@ looked_few past h now s lines j l few = (
   omega (arith, few, l.by.bytes, lines_few l.by.passed lines.lines l.by.lines),
 )
 
-abbrev before : {A : Type 0} → (past : Bool) (h now : BytesRead) (s : Stage) (lines : LinesRead) (j : Joint A)
-    → (l : IsLooked past h now s lines j) → AreLinesRead (l.by.passed ++ lines.held) lines.lines s
-before past h now s lines j l = record {
-  lines = l.by.passed;
-  rest = lines.held;
-  bytes_are = refl;
-  number = l.by.lines;
-  stage = l.read.stage;
-}
-
 begun_so : {A : Type 0} → (past : Bool) (h now : BytesRead) (s : Stage) (lines : LinesRead) (j : Joint A)
     → (l : IsLooked past h now s lines j) → Begins past l.by.passed
 begun_so past h now s lines j l =
     subst (λ (p : Bool). Begins p l.by.passed) l.past_is (begins l.by.passed s j l.read)
-
--- the first bytes that are held are wrong
-pub wrong_line : {A : Type 0} → (past : Bool) (h now : BytesRead) (s : Stage) (lines : LinesRead) (j : Joint A)
-    (n : ℕ) → (l : IsLooked past h now s lines j) → IsOfOneLine (take n lines.held)
-    → (Begins past (l.by.passed ++ take n lines.held) → ⊥)
-    → IsBadBehind past h now s (lines.lines + 1) (length l.by.passed)
-wrong_line past h now s lines j n l one refused = record {
-  bytes = l.by.passed ++ lines.held;
-  reported = l.by.reported ∙ append_assoc h.bytes l.by.passed lines.held;
-  bad = IsBadLine.wrong l.by.passed (take n lines.held) (drop n lines.held) lines.lines
-      (ap (λ (t : List ℕ). l.by.passed ++ t) (sym (take-append-drop n lines.held))
-      ∙ sym (append_assoc l.by.passed (take n lines.held) (drop n lines.held))) l.by.lines
-      (begun_so past h now s lines j l) one refused;
-  count = lines.lines;
-  behind = refl;
-  before = before past h now s lines j l;
-}
 
 -- no line more was passed
 abbrev pub stops : {A : Type 0} → (past : Bool) (h now : BytesRead) (s : Stage) (lines : LinesRead) (j : Joint A)
@@ -226,7 +192,27 @@ stops past h now s lines j l = record {
   bytes = l.by.passed ++ lines.held;
   reported = l.by.reported ∙ append_assoc h.bytes l.by.passed lines.held;
   count = lines.lines;
-  before = before past h now s lines j l;
+  before = record {
+    lines = l.by.passed;
+    rest = lines.held;
+    bytes_are = refl;
+    number = l.by.lines;
+    stage = l.read.stage;
+  };
+}
+
+-- the first bytes that are held are wrong
+pub wrong_line : {A : Type 0} → (past : Bool) (h now : BytesRead) (s : Stage) (lines : LinesRead) (j : Joint A)
+    (n : ℕ) → (l : IsLooked past h now s lines j) → IsOfOneLine (take n lines.held)
+    → (Begins past (l.by.passed ++ take n lines.held) → ⊥)
+    → IsBadBehind past h now s (lines.lines + 1) (length l.by.passed)
+wrong_line past h now s lines j n l one refused = record {
+  stopped = stops past h now s lines j l;
+  bad = IsBadLine.wrong l.by.passed (take n lines.held) (drop n lines.held) lines.lines
+      (ap (λ (t : List ℕ). l.by.passed ++ t) (sym (take-append-drop n lines.held))
+      ∙ sym (append_assoc l.by.passed (take n lines.held) (drop n lines.held))) l.by.lines
+      (begun_so past h now s lines j l) one refused;
+  behind = refl;
 }
 
 -- and none that was held is bad
@@ -258,13 +244,10 @@ unended_line : {A : Type 0} → (past : Bool) (h now : BytesRead) (s : Stage) (l
     → (l : IsLooked past h now s lines j) → now.is_at_end ≡ true → HasNoEnd lines.held → lines.held ≢ []
     → IsBadBehind past h now s (lines.lines + 1) (length l.by.passed)
 unended_line past h now s lines j l at_end no_end some = record {
-  bytes = l.by.passed ++ lines.held;
-  reported = l.by.reported ∙ append_assoc h.bytes l.by.passed lines.held;
+  stopped = stops past h now s lines j l;
   bad = IsBadLine.unended l.by.passed lines.held lines.lines at_end refl l.by.lines
       (begun_so past h now s lines j l) some no_end;
-  count = lines.lines;
   behind = refl;
-  before = before past h now s lines j l;
 }
 
 -- nothing is held
@@ -273,16 +256,12 @@ all_passed : {A : Type 0} → (past : Bool) (h now : BytesRead) (s : Stage) (lin
 all_passed past h now s lines j l held =
     l.by.reported ∙ ap (λ (t : List ℕ). h.bytes ++ l.by.passed ++ t) held ∙ append-nil (h.bytes ++ l.by.passed)
 
-lacking : {A : Type 0} → (past : Bool) (h now : BytesRead) (s : Stage) (lines : LinesRead) (j : Joint A)
-    → (l : IsLooked past h now s lines j) → now.is_at_end ≡ true → lines.held ≡ [] → can_end j.place ≡ false
-    → IsBadBehind past h now s (lines.lines + 1) (length l.by.passed)
-lacking past h now s lines j l at_end held e = record {
+abbrev stops_all : {A : Type 0} → (past : Bool) (h now : BytesRead) (s : Stage) (lines : LinesRead) (j : Joint A)
+    → IsLooked past h now s lines j → lines.held ≡ [] → IsStoppedAt h now s
+stops_all past h now s lines j l held = record {
   bytes = l.by.passed;
   reported = all_passed past h now s lines j l held;
-  bad = IsBadLine.lacks lines.lines at_end l.by.lines (begun_so past h now s lines j l)
-      (lacks l.by.passed s j l.read e);
   count = lines.lines;
-  behind = refl;
   before = record {
     lines = l.by.passed;
     rest = [];
@@ -292,17 +271,25 @@ lacking past h now s lines j l at_end held e = record {
   };
 }
 
+lacking : {A : Type 0} → (past : Bool) (h now : BytesRead) (s : Stage) (lines : LinesRead) (j : Joint A)
+    → (l : IsLooked past h now s lines j) → now.is_at_end ≡ true → lines.held ≡ [] → can_end j.place ≡ false
+    → IsBadBehind past h now s (lines.lines + 1) (length l.by.passed)
+lacking past h now s lines j l at_end held e = record {
+  stopped = stops_all past h now s lines j l held;
+  bad = IsBadLine.lacks lines.lines at_end l.by.lines (begun_so past h now s lines j l)
+      (lacks l.by.passed s j l.read e);
+  behind = refl;
+}
+
 has_ended : {A : Type 0} → (past : Bool) (h now : BytesRead) (s : Stage) (r : Reader A)
     → IsLooked past h now s r.lines r.joint → now.is_at_end ≡ true → r.lines.held ≡ [] → can_end r.joint.place ≡ true
     → HasEnded past h now s r
 has_ended past h now s r l at_end held e = record {
-  bytes = l.by.passed;
-  reported = all_passed past h now s r.lines r.joint l held;
+  stopped = stops_all past h now s r.lines r.joint l held;
   at_end = at_end;
   spells = ended l.by.passed s r.joint l.read e;
   joint = subst (λ (p : Bool). IsJointOf p (parts_at s) (written_of r.joint.so_far)) l.past_is l.read.joint;
   number = l.read.number;
-  stopped = stops past h now s r.lines r.joint l;
 }
 
 -- by what lies ahead, if it is no line

@@ -1,6 +1,6 @@
 -- Parts that are read with a report of their borders, and the lines of borders as they are gathered and written.
 use Rattle.std.proofs.Common.{◌≡◌, ◌+◌, ◌<◌, ℕ, List, [], ◌++◌, Bool, length, take, refl, sym, ap, ◌∙◌, subst, arith}
-use Rattle.std.proofs.Common.{inl, inr, Option, Some, append_assoc, append-nil, Ok, Err}
+use Rattle.std.proofs.Common.{◌⊎◌, inl, inr, Option, Some, append-nil, Ok, Err}
 use Rattle.std.specs.Prelude.{Result}
 use Rattle.mseed_stream.specs.Device.{BytesRead, BytesWritten, nothing_read}
 use Rattle.mseed_stream.specs.Fault.{IsStreamFault}
@@ -19,23 +19,21 @@ use Rattle.mseed_join.specs.declared.reader.Reader.{Reader}
 use Rattle.mseed_join.specs.Borders.{AreBorders, AreBordersOf, Border, border_lines}
 use Rattle.mseed_join.specs.Joined.{HasNoBadLine, IsBadLine, join_text}
 use Rattle.mseed_join.specs.Joins.{IsAnswer, refusal}
-use Rattle.mseed_join.specs.JoinsEach.{AreEachTo, AreLinesWritten, IsJoinEachOutcome}
+use Rattle.mseed_join.specs.JoinsEach.{AreEachTo, AreLinesWritten, IsJoinEachOutcome, IsReadEach}
 use Rattle.mseed_join.specs.Reached.{AreLinesRead, AreReported, Stage, parts_at, passed_lines, start}
 use Rattle.mseed_join.specs.ReadParts.{AreExpected, AreReadParts, IsReadOutcome, IsStopped, written_of}
 use Rattle.mseed_join.specs.Written.{Written, Spells}
 use Rattle.mseed_join.specs.private.Along.{HasEnded, IsAlong, IsFinished, IsNextStep, IsStoppedAt}
-use Rattle.mseed_join.specs.private.Bordered.{AreAllRead, AreLined, IsCutShort, IsEndedBy, IsFlushed, IsReading}
-use Rattle.mseed_join.specs.private.Bordered.{IsUnderWay}
+use Rattle.mseed_join.specs.private.Bordered.{AreLined, IsCutShort, IsEndedBy, IsFlushed, IsReading, IsUnread}
 use Rattle.mseed_join.specs.private.Taking.{border_by, passed_by}
-use Rattle.mseed_join.proofs.Along.{none_read, none_reported, reported_more}
+use Rattle.mseed_join.proofs.Along.{none_read, none_reported, reported_more, stops}
 use Rattle.mseed_join.proofs.Bordering.{lines_append}
 
 -- ---- how far was read
 -- by any step that ends reading
 stopped_by : {A : Type 0} → (past : Bool) (h now : BytesRead) (s : Stage) (r : Reader A) (fault : PartsFault)
     → IsNextStep {A = A} past h s (Err fault) now r → IsStoppedAt h now s
-stopped_by past h now s r (BadLine k offset) step =
-    record { bytes = step.bytes; reported = step.reported; count = step.count; before = step.before }
+stopped_by past h now s r (BadLine k offset) step = step.stopped
 stopped_by past h now s r (Miscount parts due) step = absurd step
 stopped_by past h now s r (Unread fault) step = step.1.stopped
 stopped_by past h now s r NoMemory step = step
@@ -43,18 +41,8 @@ stopped_by past h now s r NoMemory step = step
 -- before it
 along_by : {A : Type 0} → (past : Bool) (h now : BytesRead) (s : Stage) (r : Reader A) → IsAlong past h now s r
     → IsStoppedAt h now s
-along_by past h now s r a = record {
-  bytes = a.by.passed ++ r.lines.held;
-  reported = a.by.reported ∙ append_assoc h.bytes a.by.passed r.lines.held;
-  count = r.lines.lines;
-  before = record {
-    lines = a.by.passed;
-    rest = r.lines.held;
-    bytes_are = refl;
-    number = a.by.lines;
-    stage = a.read.stage;
-  };
-}
+along_by past h now s r a =
+    stops past h now s r.lines r.joint (record { by = a.by; read = a.read; past_is = a.past_is })
 
 all_bytes : (h now : BytesRead) (bytes : List ℕ) → h ≡ nothing_read → now.bytes ≡ h.bytes ++ bytes
     → bytes ≡ now.bytes
@@ -75,6 +63,16 @@ each_to past h now s found reported at first stop borders are = record {
 }
 
 -- ---- with any report of the borders
+-- parts were read up to a stage: the faults that were passed are reported, and the report of the borders stands so
+pub record IsUnderWay {A : Type 0} (past : Bool) (h now : BytesRead) (r : Reader A) (first at : BytesWritten)
+    (Stands : List Border → Type 0) : Type 0 where
+  pub stage : Stage
+  pub found : List Border
+  pub along : IsAlong past h now stage r
+  pub reported : AreReported (passed_lines past (parts_at stage)) first at
+  pub borders : AreBordersOf past (parts_at stage) found
+  pub stands : Stands found
+
 -- one more line
 pub on_way : {A : Type 0} → (past : Bool) (h old now : BytesRead) (before after : Reader A) (reported : Reported)
     (first at later : BytesWritten) (Before After : List Border → Type 0)
@@ -93,44 +91,39 @@ on_way past h old now before after reported first at later Before After u step p
 
 -- the report failed at it
 pub cut_off : {A F : Type 0} → (past : Bool) (expected : Option ℕ) (h now : BytesRead) (r : Reader A) (fault : F)
-    (first at : BytesWritten) (Stands : List Border → Type 0) (Cuts : List Border → F → Type 0)
-    (Stops : List Border → PartsFault → F → Type 0) → h ≡ nothing_read
-    → IsUnderWay past h now r first at (λ found. Cuts found fault)
-    → IsReading {A = A} (Err fault) past expected now first at Stands Cuts Stops
-cut_off past expected h now r fault first at Stands Cuts Stops begin u = (
-  u.found,
-  (
-    each_to past h now u.stage u.found first at begin (along_by past h now u.stage r u.along) u.borders u.reported,
-    inl u.stands,
-  ),
-)
+    (first at : BytesWritten) (Cuts : List Border → F → Type 0) (Stops : List Border → PartsFault → F → Type 0)
+    → h ≡ nothing_read → IsUnderWay past h now r first at (λ found. Cuts found fault)
+    → IsUnread fault past expected now first at Cuts Stops
+cut_off past expected h now r fault first at Cuts Stops begin u = record {
+  found = u.found;
+  to = each_to past h now u.stage u.found first at begin (along_by past h now u.stage r u.along) u.borders u.reported;
+  by = inl u.stands;
+}
 
 -- no line was read
-pub none_read_yet : {A F : Type 0} → (past : Bool) (expected : Option ℕ) (h : BytesRead) (fault : F)
-    (first : BytesWritten) (Stands : List Border → Type 0) (Cuts : List Border → F → Type 0)
-    (Stops : List Border → PartsFault → F → Type 0) → h ≡ nothing_read → Stops [] NoMemory fault
-    → IsReading {A = A} (Err fault) past expected h first first Stands Cuts Stops
-none_read_yet past expected h fault first Stands Cuts Stops begin stops = (
-  [],
-  (
-    each_to past h h start [] first first begin (none_read h) (AreBorders.none []) (none_reported past first),
-    inr (NoMemory, (tt, stops)),
-  ),
-)
+pub none_read_yet : {F : Type 0} → (past : Bool) (expected : Option ℕ) (h : BytesRead) (fault : F)
+    (first : BytesWritten) (Cuts : List Border → F → Type 0) (Stops : List Border → PartsFault → F → Type 0)
+    → h ≡ nothing_read → Stops [] NoMemory fault → IsUnread fault past expected h first first Cuts Stops
+none_read_yet past expected h fault first Cuts Stops begin ends = record {
+  found = [];
+  to = each_to past h h start [] first first begin (none_read h) (AreBorders.none []) (none_reported past first);
+  by = inr (NoMemory, (tt, ends));
+}
 
 ended_by : {A : Type 0} → (ended : PartsFault) (past : Bool) (expected : Option ℕ) (h now : BytesRead) (s : Stage)
     (r : Reader A) (found : List Border) (first at : BytesWritten) → h ≡ nothing_read
     → IsNextStep {A = A} past h s (Err ended) now r → AreBordersOf past (parts_at s) found
     → AreReported (passed_lines past (parts_at s)) first at → IsEndedBy ended past expected now found first at
 ended_by (BadLine k offset) past expected h now s r found first at begin step borders are =
-    let all : step.bytes ≡ now.bytes = all_bytes h now step.bytes begin step.reported in
+    let stop : IsStoppedAt h now s = step.stopped in
+    let all : stop.bytes ≡ now.bytes = all_bytes h now stop.bytes begin stop.reported in
     record {
       bad = record {
         bad = subst (λ (b : List ℕ). IsBadLine past b now.is_at_end k offset) all step.bad;
-        count = step.count;
+        count = stop.count;
         behind = step.behind;
         stage = s;
-        before = subst (λ (b : List ℕ). AreLinesRead b step.count s) all step.before;
+        before = subst (λ (b : List ℕ). AreLinesRead b stop.count s) all stop.before;
         reported = are;
       };
       borders = borders;
@@ -145,25 +138,23 @@ ended_by NoMemory past expected h now s r found first at begin step borders are 
 
 -- the next line is bad, or can't be read
 pub stopped_at : {A F : Type 0} → (past : Bool) (expected : Option ℕ) (h old now : BytesRead) (before after : Reader A)
-    (ended : PartsFault) (fault : F) (first at : BytesWritten) (Before Stands : List Border → Type 0)
+    (ended : PartsFault) (fault : F) (first at : BytesWritten) (Before : List Border → Type 0)
     (Cuts : List Border → F → Type 0) (Stops : List Border → PartsFault → F → Type 0) → h ≡ nothing_read
     → (u : IsUnderWay past h old before first at Before) → IsNextStep {A = A} past h u.stage (Err ended) now after
     → ((found : List Border) → Before found → Stops found ended fault)
-    → IsReading {A = A} (Err fault) past expected now first at Stands Cuts Stops
-stopped_at past expected h old now before after ended fault first at Before Stands Cuts Stops begin u step stops = (
-  u.found,
-  (
-    each_to past h now u.stage u.found first at begin (stopped_by past h now u.stage after ended step) u.borders
-        u.reported,
-    inr (
-      ended,
-      (
-        ended_by ended past expected h now u.stage after u.found first at begin step u.borders u.reported,
-        stops u.found u.stands,
-      ),
+    → IsUnread fault past expected now first at Cuts Stops
+stopped_at past expected h old now before after ended fault first at Before Cuts Stops begin u step ends = record {
+  found = u.found;
+  to = each_to past h now u.stage u.found first at begin (stopped_by past h now u.stage after ended step) u.borders
+      u.reported;
+  by = inr (
+    ended,
+    (
+      ended_by ended past expected h now u.stage after u.found first at begin step u.borders u.reported,
+      ends u.found u.stands,
     ),
-  ),
-)
+  );
+}
 
 -- ---- at the input's end
 abbrev all_parts : {A : Type 0} → (past : Bool) (h now : BytesRead) (s : Stage) (r : Reader A)
@@ -172,7 +163,8 @@ abbrev all_parts : {A : Type 0} → (past : Bool) (h now : BytesRead) (s : Stage
     → AreReadParts past now.bytes (written_of r.joint.so_far) first at
 all_parts past h now s r first at begin e are = record {
   parts = parts_at s;
-  spells = subst (λ (b : List ℕ). Spells b (parts_at s)) (all_bytes h now e.bytes begin e.reported) e.spells;
+  spells = subst (λ (b : List ℕ). Spells b (parts_at s))
+      (all_bytes h now e.stopped.bytes begin e.stopped.reported) e.spells;
   is_joint = e.joint;
   reported = are;
 }
@@ -198,74 +190,85 @@ counted_by NoMemory past expected h now s r found first at begin e f borders are
 
 -- another number of parts is expected
 pub miscounted : {A F : Type 0} → (past : Bool) (expected : Option ℕ) (h old now : BytesRead) (before after : Reader A)
-    (ended : PartsFault) (fault : F) (first at : BytesWritten) (Before Stands : List Border → Type 0)
+    (ended : PartsFault) (fault : F) (first at : BytesWritten) (Before : List Border → Type 0)
     (Cuts : List Border → F → Type 0) (Stops : List Border → PartsFault → F → Type 0) → h ≡ nothing_read
     → (u : IsUnderWay past h old before first at Before) → HasEnded past h now u.stage after
     → IsFinished {A = A} after.joint expected (Err ended)
     → ((found : List Border) → Before found → Stops found ended fault)
-    → IsReading {A = A} (Err fault) past expected now first at Stands Cuts Stops
-miscounted past expected h old now before after ended fault first at Before Stands Cuts Stops begin u e f stops = (
-  u.found,
-  (
-    each_to past h now u.stage u.found first at begin e.stopped u.borders u.reported,
-    inr (
-      ended,
-      (
-        counted_by ended past expected h now u.stage after u.found first at begin e f u.borders u.reported,
-        stops u.found u.stands,
-      ),
+    → IsUnread fault past expected now first at Cuts Stops
+miscounted past expected h old now before after ended fault first at Before Cuts Stops begin u e f ends = record {
+  found = u.found;
+  to = each_to past h now u.stage u.found first at begin e.stopped u.borders u.reported;
+  by = inr (
+    ended,
+    (
+      counted_by ended past expected h now u.stage after u.found first at begin e f u.borders u.reported,
+      ends u.found u.stands,
     ),
-  ),
-)
+  );
+}
 
 pub all_read : {A : Type 0} → (past : Bool) (expected : Option ℕ) (h old now : BytesRead) (before after : Reader A)
     (joint : JointPart A) (first at : BytesWritten) (Stands : List Border → Type 0) → h ≡ nothing_read
     → (u : IsUnderWay past h old before first at Stands) → HasEnded past h now u.stage after
-    → IsFinished after.joint expected (Ok joint) → AreAllRead past expected joint now first at Stands
+    → IsFinished after.joint expected (Ok joint)
+    → (found : List Border) × (IsReadEach past expected now (written_of joint) found first at × Stands found)
 all_read past expected h old now before after joint first at Stands begin u e f =
-    subst (λ j. AreAllRead past expected j now first at Stands) (sym f.0) (record {
-      found = u.found;
-      read = record {
-        read = record {
-          whole = e.at_end;
-          parts = all_parts past h now u.stage after first at begin e u.reported;
-          number = subst (λ (n : ℕ). AreExpected expected n) e.number f.1;
-        };
-        borders = u.borders;
-      };
-      stands = u.stands;
-    })
+    subst (λ j. (found : List Border) × (IsReadEach past expected now (written_of j) found first at × Stands found))
+    (sym f.0) (
+      u.found,
+      (
+        record {
+          read = record {
+            whole = e.at_end;
+            parts = all_parts past h now u.stage after first at begin e u.reported;
+            number = subst (λ (n : ℕ). AreExpected expected n) e.number f.1;
+          };
+          borders = u.borders;
+        },
+        u.stands,
+      ),
+    )
 
 -- ---- with no report
 abbrev stopped : (past : Bool) (h : BytesRead) (found : List Border) (first at : BytesWritten)
     → AreEachTo past h found first at → IsStopped past nothing_read h first at
 stopped past h found first at to = record { bytes = h.bytes; more = refl; stage = to.stage; lines = to.lines }
 
-refused_by : {A : Type 0} → (fault : PartsFault) (past : Bool) (expected : Option ℕ) (h : BytesRead)
+refused_by : (A : Type 0) (fault : PartsFault) (past : Bool) (expected : Option ℕ) (h : BytesRead)
     (found : List Border) (first at : BytesWritten) → AreEachTo past h found first at
     → IsEndedBy fault past expected h found first at
     → IsReadOutcome {A = A} (Err fault) past expected nothing_read h first at
-refused_by (BadLine k offset) past expected h found first at to by = (h.bytes, (refl, by.bad))
-refused_by (Miscount parts due) past expected h found first at to by = (h.bytes, (refl, by.whole, by.miscounted))
-refused_by (Unread fault) past expected h found first at to by =
+refused_by A (BadLine k offset) past expected h found first at to by = (h.bytes, (refl, by.bad))
+refused_by A (Miscount parts due) past expected h found first at to by = (h.bytes, (refl, by.whole, by.miscounted))
+refused_by A (Unread fault) past expected h found first at to by =
     (by.0, record { stopped = stopped past h found first at to; none_bad = by.1 })
-refused_by NoMemory past expected h found first at to by = stopped past h found first at to
+refused_by A NoMemory past expected h found first at to by = stopped past h found first at to
 
-pub unreported : {A : Type 0} → (result : Result (JointPart A) PartsFault) (past : Bool) (expected : Option ℕ)
+unread : (A : Type 0) (fault : PartsFault) (past : Bool) (expected : Option ℕ) (h : BytesRead)
+    (found : List Border) (first at : BytesWritten) → AreEachTo past h found first at
+    → ⊥ ⊎ ((ended : PartsFault) × (IsEndedBy ended past expected h found first at × (fault ≡ ended)))
+    → IsReadOutcome {A = A} (Err fault) past expected nothing_read h first at
+unread A fault past expected h found first at to (inl cut) = absurd cut
+unread A fault past expected h found first at to (inr (ended, (end, same))) =
+    subst (λ (f : PartsFault). IsReadOutcome {A = A} (Err f) past expected nothing_read h first at) (sym same)
+    (refused_by A ended past expected h found first at to end)
+
+read_by : (A : Type 0) (r : Result (JointPart A) PartsFault) (past : Bool) (expected : Option ℕ) (h : BytesRead)
+    (first at : BytesWritten) (Stands : List Border → Type 0)
+    → IsReading r past expected h first at Stands (λ found fault. ⊥) (λ found ended fault. fault ≡ ended)
+    → IsReadOutcome r past expected nothing_read h first at
+read_by A (Ok joint) past expected h first at Stands all =
+    (h.bytes, (refl, all.1.0.read.whole, (all.1.0.read.parts, all.1.0.read.number)))
+read_by A (Err fault) past expected h first at Stands u = unread A fault past expected h u.found first at u.to u.by
+
+pub unreported : (A : Type 0) (result : Result (JointPart A) PartsFault) (past : Bool) (expected : Option ℕ)
     (old h : BytesRead) (first at : BytesWritten) (Stands : List Border → Type 0) → old ≡ nothing_read
     → IsReading result past expected h first at Stands (λ found fault. ⊥) (λ found ended fault. fault ≡ ended)
     → IsReadOutcome result past expected old h first at
-unreported {A = A} result past expected old h first at Stands begin reading =
-    subst (λ (s : BytesRead). IsReadOutcome result past expected s h first at) (sym begin) (by result reading)
-  where
-    by : (r : Result (JointPart A) PartsFault)
-        → IsReading r past expected h first at Stands (λ found fault. ⊥) (λ found ended fault. fault ≡ ended)
-        → IsReadOutcome r past expected nothing_read h first at
-    by (Ok joint) all = (h.bytes, (refl, all.read.read.whole, (all.read.read.parts, all.read.read.number)))
-    by (Err fault) (found, (to, inl cut)) = absurd cut
-    by (Err fault) (found, (to, inr (ended, (end, same)))) =
-        subst (λ (f : PartsFault). IsReadOutcome {A = A} (Err f) past expected nothing_read h first at) (sym same)
-        (refused_by ended past expected h found first at to end)
+unreported A result past expected old h first at Stands begin reading =
+    subst (λ (s : BytesRead). IsReadOutcome result past expected s h first at) (sym begin)
+    (read_by A result past expected h first at Stands reading)
 
 -- ---- with a report of lines
 -- one more line was added, and perhaps written
@@ -348,46 +351,52 @@ written_by NoMemory past expected h found first new reported at to by written =
     record { taken = border_lines found; bytes = written.text; joined = append-nil (border_lines found) } in
     (written.fine, inl (found, (to, gathered_first first new [] (border_lines found) all)))
 
+unread_by : (fault : JoinsFault) (past : Bool) (expected : Option ℕ) (h : BytesRead) (found : List Border)
+    (first new reported at : BytesWritten) (Also : Type 0) → AreEachTo past h found reported at
+    → (IsCutShort first new (border_lines found) fault × Also) ⊎ ((ended : PartsFault)
+    × (IsEndedBy ended past expected h found reported at × (IsFlushed first new found ended fault × Also)))
+    → IsJoinEachOutcome past expected (Err fault) h first new reported at × Also
+unread_by fault past expected h found first new reported at Also to (inl cut) =
+    (cut_by fault past expected h found first new reported at to cut.0, cut.1)
+unread_by fault past expected h found first new reported at Also to (inr (ended, (by, (inl (written, same), also)))) = (
+  subst (λ (f : JoinsFault). IsJoinEachOutcome past expected (Err f) h first new reported at) (sym same)
+      (written_by ended past expected h found first new reported at to by written),
+  also,
+)
+unread_by fault past expected h found first new reported at Also to (inr (ended, (by, (inr (cut, same), also)))) = (
+  subst (λ (f : JoinsFault). IsJoinEachOutcome past expected (Err f) h first new reported at) (sym same)
+      (cut_by Write past expected h found first new reported at to cut),
+  also,
+)
+
 -- the parts weren't read whole
-pub each_unread : {A : Type 0} → (fault : JoinsFault) (past : Bool) (expected : Option ℕ) (h : BytesRead)
-    (first new reported at : BytesWritten) (Stands : List Border → Type 0) (Also : Type 0)
-    → IsReading {A = A} (Err fault) past expected h reported at Stands
-    (λ found f. IsCutShort first new (border_lines found) f × Also)
+pub each_unread : (fault : JoinsFault) (past : Bool) (expected : Option ℕ) (h : BytesRead)
+    (first new reported at : BytesWritten) (Also : Type 0)
+    → IsUnread fault past expected h reported at (λ found f. IsCutShort first new (border_lines found) f × Also)
     (λ found ended f. IsFlushed first new found ended f × Also)
     → IsJoinEachOutcome past expected (Err fault) h first new reported at × Also
-each_unread fault past expected h first new reported at Stands Also (found, (to, inl cut)) =
-    (cut_by fault past expected h found first new reported at to cut.0, cut.1)
-each_unread fault past expected h first new reported at Stands Also
-    (found, (to, inr (ended, (by, (inl (written, same), also))))) = (
-      subst (λ (f : JoinsFault). IsJoinEachOutcome past expected (Err f) h first new reported at) (sym same)
-          (written_by ended past expected h found first new reported at to by written),
-      also,
-    )
-each_unread fault past expected h first new reported at Stands Also
-    (found, (to, inr (ended, (by, (inr (cut, same), also))))) = (
-      subst (λ (f : JoinsFault). IsJoinEachOutcome past expected (Err f) h first new reported at) (sym same)
-          (cut_by Write past expected h found first new reported at to cut),
-      also,
-    )
+each_unread fault past expected h first new reported at Also u =
+    unread_by fault past expected h u.found first new reported at Also u.to u.by
 
 -- the whole text was written
 pub each_written : {A : Type 0} → (past : Bool) (expected : Option ℕ) (joint : JointPart A) (h : BytesRead)
     (answer : Answer) (first old new reported at : BytesWritten) (text whole slice : List ℕ) (Also : Type 0)
-    → AreAllRead past expected joint h reported at (λ found. AreLined first old text found × Also)
+    → ((found : List Border)
+    × (IsReadEach past expected h (written_of joint) found reported at × (AreLined first old text found × Also)))
     → whole ≡ text ++ join_text (written_of joint) → slice ≡ whole → IsAnswer answer (written_of joint)
     → new.bytes ≡ old.bytes ++ slice → new.failures ≡ old.failures
     → IsJoinEachOutcome past expected (Ok answer) h first new reported at
 each_written past expected joint h answer first old new reported at text whole slice Also a e same is bytes fine = (
   written_of joint,
   (
-    a.found,
+    a.0,
     (
-      a.read,
+      a.1.0,
       record {
         answer_is = is;
-        text = all_behind first old new text (border_lines a.found) (join_text (written_of joint)) a.stands.0.lines
+        text = all_behind first old new text (border_lines a.0) (join_text (written_of joint)) a.1.1.0.lines
             (bytes ∙ ap (λ (t : List ℕ). old.bytes ++ t) (same ∙ e));
-        fine = fine ∙ a.stands.0.fine;
+        fine = fine ∙ a.1.1.0.fine;
       },
     ),
   ),
@@ -396,7 +405,8 @@ each_written past expected joint h answer first old new reported at text whole s
 -- a prefix of it was written, and then the output failed
 pub each_cut_off : {A : Type 0} → (past : Bool) (expected : Option ℕ) (joint : JointPart A) (h : BytesRead)
     (first old new reported at : BytesWritten) (text whole slice : List ℕ) (n : ℕ) (Also : Type 0)
-    → AreAllRead past expected joint h reported at (λ found. AreLined first old text found × Also)
+    → ((found : List Border)
+    × (IsReadEach past expected h (written_of joint) found reported at × (AreLined first old text found × Also)))
     → whole ≡ text ++ join_text (written_of joint) → slice ≡ whole → new.bytes ≡ old.bytes ++ take n slice
     → n < length slice → new.failures ≡ old.failures + 1
     → IsJoinEachOutcome past expected (Err Write) h first new reported at
@@ -404,14 +414,14 @@ each_cut_off past expected joint h first old new reported at text whole slice n 
     let w : Written = written_of joint in
     let emitted : EmittedPart old new (text ++ join_text w) =
     subst (λ (t : List ℕ). EmittedPart old new t) (same ∙ e) (n, (within, bytes)) in (
-      omega (arith, failed, a.stands.0.fine),
+      omega (arith, failed, a.1.1.0.fine),
       inr (
         w,
         (
-          a.found,
+          a.0,
           (
-            a.read,
-            part_behind first old new text (border_lines a.found) (join_text w) a.stands.0.lines emitted,
+            a.1.0,
+            part_behind first old new text (border_lines a.0) (join_text w) a.1.1.0.lines emitted,
           ),
         ),
       ),
@@ -420,18 +430,19 @@ each_cut_off past expected joint h first old new reported at text whole slice n 
 -- no memory for it
 pub each_no_memory : {A : Type 0} → (past : Bool) (expected : Option ℕ) (joint : JointPart A) (h : BytesRead)
     (first old reported at : BytesWritten) (text : List ℕ) (Also : Type 0)
-    → AreAllRead past expected joint h reported at (λ found. AreLined first old text found × Also)
+    → ((found : List Border)
+    × (IsReadEach past expected h (written_of joint) found reported at × (AreLined first old text found × Also)))
     → IsJoinEachOutcome past expected (Err Memory) h first old reported at
 each_no_memory past expected joint h first old reported at text Also a =
     let w : Written = written_of joint in (
-      a.stands.0.fine,
+      a.1.1.0.fine,
       inr (
         w,
         (
-          a.found,
+          a.0,
           (
-            a.read,
-            first_behind first old old text (border_lines a.found) (join_text w) a.stands.0.lines
+            a.1.0,
+            first_behind first old old text (border_lines a.0) (join_text w) a.1.1.0.lines
                 (0, sym (append-nil old.bytes)),
           ),
         ),

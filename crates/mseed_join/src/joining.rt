@@ -1,5 +1,5 @@
 //! Parts joined, and what is written of their joint part.
-ghost use Rattle.std.specs.Prelude.{◌≡◌, ◌||◌, ◌++◌, ℕ, nat_lt, List, IfOk, OnOk, is_some};
+ghost use Rattle.std.specs.Prelude.{◌≡◌, ◌||◌, ◌++◌, nat_lt, IfOk, OnOk, is_some};
 ghost use Rattle.mseed_stream.specs.Calls.{ReadsOn, WritesOn};
 ghost use Rattle.mseed_stream.specs.Device.{nothing_read};
 ghost use Rattle.mseed_join.specs.Joins.{IsAnswer, IsJoinOutcome, refusal, text_by};
@@ -104,8 +104,7 @@ pub fn join<A: Allocator + Copy, R: Source, W: Sink, E: Sink>(
     ensures writes { WritesOn (W.written sink.old) (W.written sink.new) (W.contents sink.old) (W.contents sink.new)
         (W.beside sink.old) (W.beside sink.new) }
 {
-    let JointPart { part, faults, end } =
-        read_parts(alloc, past_faults, expected, source, errors)?;
+    let JointPart { part, faults, end } = read_parts(alloc, past_faults, expected, source, errors)?;
     let mut text = Vec::new(alloc);
     let joined = match push_joined(&mut text, alloc, form, part, faults, &end) {
         Ok(joined) => joined,

@@ -42,7 +42,15 @@ pub fn read_parts<A: Allocator + Copy, R: Source, E: Sink>(
     ensures reads { ReadsOn (R.read source.old) (R.read source.new) (R.remaining source.old) (R.remaining source.new)
         (R.beside source.old) (R.beside source.new) }
 {
-    read_with(alloc, past, expected, source, errors, &mut Unreported, &mut ())
+    read_with(
+        alloc,
+        past,
+        expected,
+        source,
+        errors,
+        &mut Unreported,
+        &mut (),
+    )
 }
 
 /// Reads the texts of parts as `read_parts` does, and reports the borders that have a finding. A report that has

@@ -1,5 +1,5 @@
 //! Parts that are read out of a source, line by line.
-ghost use Rattle.std.specs.Prelude.{◌≡◌, ◌≤◌, ◌+◌, ◌^◌, Bool, false, IfOk, Ok, Some};
+ghost use Rattle.std.specs.Prelude.{◌≡◌, ◌≤◌, ◌+◌, ◌^◌, Bool, false, IfOk, OnSome};
 ghost use Rattle.mseed_stream.specs.Calls.{ReadsOn};
 ghost use Rattle.mseed_stream.specs.Device.{BytesRead};
 ghost use Rattle.mseed_join.specs.Reached.{Stage, start};
@@ -68,9 +68,8 @@ impl<A: Allocator + Copy> Reader<A> {
         requires { (past : Bool) × (h : BytesRead) × (s : Stage) × IsAlong past h (R.read source.old) s self.old }
         ensures step { (past : Bool) (h : BytesRead) (s : Stage) → IsAlong past h (R.read source.old) s self.old
             → IsNextStep past h s result (R.read source.new) self.new }
-        ensures line { (reported : Reported) → result ≡ Ok (Some reported)
-            → self.new.lines.lines ≡ self.old.lines.lines + 1 }
-        ensures few { (reported : Reported) → result ≡ Ok (Some reported) → self.old.lines.lines ≤ 2 ^ 56 }
+        ensures line { IfOk result (λ line. OnSome line (self.new.lines.lines ≡ self.old.lines.lines + 1)) }
+        ensures few { IfOk result (λ line. OnSome line (self.old.lines.lines ≤ 2 ^ 56)) }
         ensures reads { (R.read source.old).is_at_end ≡ false → ReadsOn (R.read source.old) (R.read source.new)
             (R.remaining source.old) (R.remaining source.new) (R.beside source.old) (R.beside source.new) }
     {

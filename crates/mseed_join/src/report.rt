@@ -1,5 +1,5 @@
 //! What is done with the borders that have a finding.
-ghost use Rattle.std.specs.Prelude.{◌≡◌, ◌++◌, ⊤, ⊥, List, MatchResult};
+ghost use Rattle.std.specs.Prelude.{◌≡◌, ◌++◌, ⊤, List, MatchResult};
 ghost use Rattle.mseed_stream.specs.Calls.{WritesOn};
 ghost use Rattle.mseed_join.specs.Borders.{Border, border_lines};
 ghost use Rattle.mseed_join.specs.declared.joining.JoinsFault.{JoinsFault};

@@ -49,22 +49,17 @@ pub record IsStoppedAt (h now : BytesRead) (s : Stage) : Type 0 where
 
 -- the input's end: all that was read is the texts of these parts
 pub record HasEnded {A : Type 0} (past : Bool) (h now : BytesRead) (s : Stage) (r : Reader A) : Type 0 where
-  pub bytes : List ℕ
-  pub reported : now.bytes ≡ h.bytes ++ bytes
+  pub stopped : IsStoppedAt h now s
   pub at_end : now.is_at_end ≡ true
-  pub spells : Spells bytes (parts_at s)
+  pub spells : Spells stopped.bytes (parts_at s)
   pub joint : IsJointOf past (parts_at s) (written_of r.joint.so_far)
   pub number : r.joint.parts ≡ length (parts_at s)
-  pub stopped : IsStoppedAt h now s
 
 -- a bad line, after those that were passed
 pub record IsBadBehind (past : Bool) (h now : BytesRead) (s : Stage) (k offset : ℕ) : Type 0 where
-  pub bytes : List ℕ
-  pub reported : now.bytes ≡ h.bytes ++ bytes
-  pub bad : IsBadLine past bytes now.is_at_end k offset
-  pub count : ℕ
-  pub behind : k ≡ count + 1
-  pub before : AreLinesRead bytes count s
+  pub stopped : IsStoppedAt h now s
+  pub bad : IsBadLine past stopped.bytes now.is_at_end k offset
+  pub behind : k ≡ stopped.count + 1
 
 -- and no bad line was read
 pub record IsFailedAt (past : Bool) (h now : BytesRead) (s : Stage) : Type 0 where

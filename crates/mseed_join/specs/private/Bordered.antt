@@ -1,5 +1,5 @@
 -- Reading parts with a report of their borders, and the lines of borders: no public contract is stated by these words.
-use Rattle.std.specs.Prelude.{⊤, ⊥, ◌≡◌, ◌⊎◌, ℕ, ◌+◌, List, Bool, Option, Result, Ok, Err}
+use Rattle.std.specs.Prelude.{⊤, ◌≡◌, ◌⊎◌, ℕ, ◌+◌, List, Bool, Option, Result, Ok, Err}
 use Rattle.mseed_stream.specs.Device.{BytesRead, BytesWritten, nothing_read}
 use Rattle.mseed_stream.specs.Fault.{IsStreamFault}
 use Rattle.mseed_stream.specs.Gathered.{AreGathered, EmittedFirst, EmittedPart}
@@ -9,50 +9,36 @@ use Rattle.mseed_join.specs.declared.joint.JointPart.{JointPart}
 use Rattle.mseed_join.specs.declared.reader.PartsFault.{PartsFault}
 use Rattle.mseed_join.specs.declared.reader.PartsFault.TheVariants.{Line as BadLine, Count as Miscount}
 use Rattle.mseed_join.specs.declared.reader.PartsFault.TheVariants.{Stream as Unread, Memory as NoMemory}
-use Rattle.mseed_join.specs.declared.reader.Reader.{Reader}
-use Rattle.mseed_join.specs.Borders.{AreBordersOf, Border, border_lines}
+use Rattle.mseed_join.specs.Borders.{Border, border_lines}
 use Rattle.mseed_join.specs.Joined.{HasNoBadLine}
 use Rattle.mseed_join.specs.Joins.{refusal}
 use Rattle.mseed_join.specs.JoinsEach.{AreBadEach, AreEachTo, AreLinesWritten, AreMiscountedEach, IsReadEach}
-use Rattle.mseed_join.specs.Reached.{AreReported, Stage, parts_at, passed_lines}
 use Rattle.mseed_join.specs.ReadParts.{written_of}
-use Rattle.mseed_join.specs.private.Along.{IsAlong}
 
 -- ---- any report
--- parts were read up to a stage: the faults that were passed are reported, and the report of the borders stands so
-pub record IsUnderWay {A : Type 0} (past : Bool) (h now : BytesRead) (r : Reader A) (first at : BytesWritten)
-    (Stands : List Border → Type 0) : Type 0 where
-  pub stage : Stage
-  pub found : List Border
-  pub along : IsAlong past h now stage r
-  pub reported : AreReported (passed_lines past (parts_at stage)) first at
-  pub borders : AreBordersOf past (parts_at stage) found
-  pub stands : Stands found
-
--- all parts were read, and the report of their borders stands so
-pub record AreAllRead (past : Bool) (expected : Option ℕ) {A : Type 0} (joint : JointPart A) (h : BytesRead)
-    (first at : BytesWritten) (Stands : List Border → Type 0) : Type 0 where
-  pub found : List Border
-  pub read : IsReadEach past expected h (written_of joint) found first at
-  pub stands : Stands found
-
 -- by the fault with which the parts end, after these borders
 abbrev pub IsEndedBy : PartsFault → Bool → Option ℕ → BytesRead → List Border → BytesWritten → BytesWritten → Type 0
 IsEndedBy (BadLine k offset) past expected h found first at = AreBadEach past h k offset found first at
-IsEndedBy (Miscount parts due) past expected h found first at =
-    AreMiscountedEach past expected h parts due found first at
-IsEndedBy (Unread fault) past expected h found first at =
-    IsStreamFault fault nothing_read h × HasNoBadLine past h.bytes
+IsEndedBy (Miscount n due) past expected h found first at = AreMiscountedEach past expected h n due found first at
+IsEndedBy (Unread f) past expected h found first at = IsStreamFault f nothing_read h × HasNoBadLine past h.bytes
 IsEndedBy NoMemory past expected h found first at = ⊤
 
--- By the outcome: a report that fails cuts reading off, and so does a fault of the parts, at which the report stops.
+-- reading ended so after these borders: the report failed, or the parts end with a fault, at which the report stops
+pub record IsUnread {F : Type 0} (fault : F) (past : Bool) (expected : Option ℕ) (h : BytesRead)
+    (first at : BytesWritten) (Cuts : List Border → F → Type 0) (Stops : List Border → PartsFault → F → Type 0)
+    : Type 0 where
+  pub found : List Border
+  pub to : AreEachTo past h found first at
+  pub by : Cuts found fault
+      ⊎ ((ended : PartsFault) × (IsEndedBy ended past expected h found first at × Stops found ended fault))
+
+-- by the outcome: all parts were read, or not
 abbrev pub IsReading : {A F : Type 0} → Result (JointPart A) F → Bool → Option ℕ → BytesRead → BytesWritten
     → BytesWritten → (List Border → Type 0) → (List Border → F → Type 0) → (List Border → PartsFault → F → Type 0)
     → Type 0
-IsReading (Ok joint) past expected h first at Stands Cuts Stops = AreAllRead past expected joint h first at Stands
-IsReading (Err fault) past expected h first at Stands Cuts Stops =
-    (found : List Border) × (AreEachTo past h found first at × (Cuts found fault
-    ⊎ ((ended : PartsFault) × (IsEndedBy ended past expected h found first at × Stops found ended fault))))
+IsReading (Ok joint) past expected h first at Stands Cuts Stops =
+    (found : List Border) × (IsReadEach past expected h (written_of joint) found first at × Stands found)
+IsReading (Err fault) past expected h first at Stands Cuts Stops = IsUnread fault past expected h first at Cuts Stops
 
 -- ---- a report of lines
 -- the lines were written or are gathered in a text

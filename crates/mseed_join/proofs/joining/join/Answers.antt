@@ -1,55 +1,54 @@
-use Rattle.std.proofs.Common.{◌∙◌, ◌++◌, Err, List, ap, inr, refl, sym, subst, ℕ}
+use Rattle.std.proofs.Common.{◌≡◌, ◌∙◌, ◌++◌, Err, List, ap, inr, refl, rules, sym, subst, ℕ}
 use Rattle.mseed_stream.specs.Device.{BytesRead, BytesWritten}
 use Rattle.mseed_stream.proofs.Calls.{writes_none}
-use Rattle.mseed_join.specs.Joins.{IsJoinOutcome, text_by}
+use Rattle.mseed_join.specs.Joins.{IsJoinOutcome, refusal, text_by}
 use Rattle.mseed_join.specs.ReadParts.{written_of}
-use Rattle.mseed_join.specs.declared.joining.JoinsFault.{JoinsFault}
 use Rattle.mseed_join.proofs.Refusing.{read_so, refused_so}
 use Rattle.mseed_join.proofs.joining.join.Goals as goal
 
-pub returns-in-Err-clause-outcome : goal.returns-in-Err-clause-outcome
-returns-in-Err-clause-outcome g c =
+pub returns-in_err-part-clause-outcome : goal.returns-in_err-part-clause-outcome
+returns-in_err-part-clause-outcome g c =
     let h : BytesRead = g.R.Source.read c.read_parts.new.source in
     let old : BytesWritten = g.W.Sink.written c.args.sink.now in
     let reported : BytesWritten = g.E.Sink.written c.args.errors.now in
     let now : BytesWritten = g.E.Sink.written c.read_parts.new.errors in
-    subst
-    (λ (r : JoinsFault). IsJoinOutcome c.args.form c.args.past_faults c.args.expected (Err r) h old old reported now)
-    (sym c.refused.ensures)
-    (refused_so g.row.A.Denot c.args.form c.args.past_faults c.args.expected c.in-Err.fault
-    (g.R.Source.read c.args.source.now) h old reported now c.requires c.in-Err.ensures.outcome)
+    let same : c.from_residual.result ≡ Err (refusal c.in_err-part.field-0.0) = search rules in
+    subst (λ r. IsJoinOutcome c.args.form c.args.past_faults c.args.expected r h old old reported now) (sym same)
+    (refused_so g.row.A.Denot c.args.form c.args.past_faults c.args.expected c.in_err-part.field-0.0
+    (g.R.Source.read c.args.source.now) h old reported now c.requires c.in_err-part.ensures.outcome)
+
+pub returns-in_err-part-clause-writes : goal.returns-in_err-part-clause-writes
+returns-in_err-part-clause-writes g c = writes_none _ _ _
 
 pub returns-in-Err-clause-writes : goal.returns-in-Err-clause-writes
 returns-in-Err-clause-writes g c = writes_none _ _ _
 
-pub returns-in-Err-push_joined-clause-writes : goal.returns-in-Err-push_joined-clause-writes
-returns-in-Err-push_joined-clause-writes g c = writes_none _ _ _
-
-pub returns-in-Err-push_joined-clause-outcome : goal.returns-in-Err-push_joined-clause-outcome
-returns-in-Err-push_joined-clause-outcome g c = (
+pub returns-in-Err-clause-outcome : goal.returns-in-Err-clause-outcome
+returns-in-Err-clause-outcome g c = (
   refl,
   inr (
-    written_of c.in-Ok.joint,
-    read_so c.args.past_faults c.args.expected c.in-Ok.joint (g.R.Source.read c.args.source.now)
+    written_of c.in_ok-part.field-0,
+    read_so c.args.past_faults c.args.expected c.in_ok-part.field-0 (g.R.Source.read c.args.source.now)
         (g.R.Source.read c.read_parts.new.source) (g.E.Sink.written c.args.errors.now)
-        (g.E.Sink.written c.read_parts.new.errors) c.requires c.in-Ok.ensures.outcome,
+        (g.E.Sink.written c.read_parts.new.errors) c.requires c.in_ok-part.ensures.outcome,
   ),
 )
 
 pub returns-in-Ok-write_all_of-clause-outcome : goal.returns-in-Ok-write_all_of-clause-outcome
 returns-in-Ok-write_all_of-clause-outcome g c =
     let write = c.in-Ok-write_all_of.ensures in (
-      written_of c.in-Ok.joint,
+      written_of c.in_ok-part.field-0,
       (
-        read_so c.args.past_faults c.args.expected c.in-Ok.joint (g.R.Source.read c.args.source.now)
+        read_so c.args.past_faults c.args.expected c.in_ok-part.field-0 (g.R.Source.read c.args.source.now)
             (g.R.Source.read c.read_parts.new.source) (g.E.Sink.written c.args.errors.now)
-            (g.E.Sink.written c.read_parts.new.errors) c.requires c.in-Ok.ensures.outcome,
+            (g.E.Sink.written c.read_parts.new.errors) c.requires c.in_ok-part.ensures.outcome,
         record {
-          answer_is = c.in-Ok-push_joined.ensures.answer;
+          answer_is = c.in-Ok.ensures.answer;
           text = write.ok
               ∙ ap (λ (t : List ℕ). (g.W.Sink.written c.args.sink.now).bytes ++ t)
-              (c.deref.ensures.value ∙ c.in-Ok-push_joined.ensures.text
-              ∙ ap (λ (t : List ℕ). t ++ text_by c.args.form (written_of c.in-Ok.joint)) c.new-text.ensures.items);
+              (c.deref.ensures.value ∙ c.in-Ok.ensures.text
+              ∙ ap (λ (t : List ℕ). t ++ text_by c.args.form (written_of c.in_ok-part.field-0))
+              c.new-text.ensures.items);
           fine = write.fine;
         },
       ),
@@ -58,16 +57,15 @@ returns-in-Ok-write_all_of-clause-outcome g c =
 pub returns-clause-outcome : goal.returns-clause-outcome
 returns-clause-outcome g c =
     let write = c.in-Err-write_all_of.ensures in
-    let taken : ℕ = c.in-Err-write_all_of.field-0 in
-    let text = c.deref.ensures.value ∙ c.in-Ok-push_joined.ensures.text
-    ∙ ap (λ (t : List ℕ). t ++ text_by c.args.form (written_of c.in-Ok.joint)) c.new-text.ensures.items in (
-      written_of c.in-Ok.joint,
+    let text = c.deref.ensures.value ∙ c.in-Ok.ensures.text
+    ∙ ap (λ (t : List ℕ). t ++ text_by c.args.form (written_of c.in_ok-part.field-0)) c.new-text.ensures.items in (
+      written_of c.in_ok-part.field-0,
       (
-        read_so c.args.past_faults c.args.expected c.in-Ok.joint (g.R.Source.read c.args.source.now)
+        read_so c.args.past_faults c.args.expected c.in_ok-part.field-0 (g.R.Source.read c.args.source.now)
             (g.R.Source.read c.read_parts.new.source) (g.E.Sink.written c.args.errors.now)
-            (g.E.Sink.written c.read_parts.new.errors) c.requires c.in-Ok.ensures.outcome,
+            (g.E.Sink.written c.read_parts.new.errors) c.requires c.in_ok-part.ensures.outcome,
         (
-          taken,
+          c.in-Err-write_all_of.field-0,
           record { text = rw text at write.err; part = rw text at write.within; failed = write.failed },
         ),
       ),

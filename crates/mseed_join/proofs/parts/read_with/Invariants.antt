@@ -1,6 +1,6 @@
 use Rattle.std.proofs.Common.{◌≡◌, ◌+◌, ◌-◌, ◌^◌, false}
 use Rattle.mseed_stream.specs.Cutting.{TellsMore}
-use Rattle.mseed_join.specs.private.Bordered.{IsUnderWay}
+use Rattle.mseed_join.proofs.Each.{IsUnderWay}
 use Rattle.mseed_join.proofs.parts.read_with.Given as goal
 
 abbrev pub invariant-lines : goal.invariant-lines

@@ -1,5 +1,4 @@
-use Rattle.std.proofs.Common.{◌≡◌, ◌++◌, ℕ, List, Bool, arith, refl, sym, ap}
-use Rattle.std.proofs.Common.{subst, ◌∙◌}
+use Rattle.std.proofs.Common.{◌≡◌, ◌++◌, ℕ, List, Bool, arith, refl, sym, ap, subst, ◌∙◌}
 use Rattle.mseed_stream.specs.Device.{BytesRead}
 use Rattle.mseed_join.specs.private.LineReading.{GoesOn, IsLineAhead}
 use Rattle.mseed_join.specs.private.Taking.{IsReportedMore}
@@ -70,7 +69,7 @@ returns-else-is_over-clause-step g c = λ past h s along.
     c.in_default.not-Line (sym c.is_over.ensures ∙ c.if-is_over.false))
 
 pub returns-in-Ok-take_line-clause-few : goal.returns-in-Ok-take_line-clause-few
-returns-in-Ok-take_line-clause-few g c = λ reported is.
+returns-in-Ok-take_line-clause-few g c =
     let known = c.requires in
     let l = looked known.0 known.1 _ _ _ _ known.2 _ _ known.3 c.look.ensures.more in
     omega (arith, c.look.ensures.more.lines, (looked_few _ _ _ _ _ _ l c.lines-number.ensures.few).1)

@@ -1,6 +1,6 @@
 use Rattle.mseed_stream.proofs.Calls.{writes_on}
 use Rattle.mseed_join.proofs.Each.{flushed, flushed_in_part}
-use Rattle.mseed_join.proofs.report.VecU8Report.stop.Goals as goal
+use Rattle.mseed_join.proofs.report.VecU8ReportJoinsFault.stop.Goals as goal
 
 pub returns-in-Ok : goal.returns-in-Ok
 returns-in-Ok g c = λ first found before.
