@@ -1,8 +1,7 @@
 -- Nothing is found between two records exactly where the next one follows.
 use Rattle.std.proofs.Common.{◌≡◌, ◌≢◌, ◌*◌, ◌^◌, ℕ, ℤ, pos, negsuc, unsigned_abs, Bool, true, false, if◌then◌else◌}
-use Rattle.std.proofs.Common.{◌==◌, nat_le, Option, Some, None, refl, ap, ◌∙◌}
+use Rattle.std.proofs.Common.{◌==◌, nat_le, Option, Some, None, refl, ap, ◌∙◌, eq-eqb, eqb-true}
 use Rattle.std.proofs.lemmas.Bool.{le-leb, leb-true}
-use Rattle.std.proofs.Common.{eq-eqb, eqb-true}
 use Rattle.mseed_time.specs.declared.outcome.Join.{Join}
 use Rattle.mseed_time.specs.declared.outcome.Join.TheVariants.{Meets}
 use Rattle.mseed_time.specs.declared.outcome.LeapStep.{LeapStep}

@@ -1,7 +1,6 @@
 -- Without a window, what the audit of the records that are asked for says of a channel is what the audit of all says.
-use Rattle.std.proofs.Common.{◌≡◌, ℕ, ℤ, ◌++◌, List, [], ◌∷◌}
-use Rattle.std.proofs.Common.{Bool, true, false, Option, Some, None, if◌then◌else◌, refl}
-use Rattle.std.proofs.Common.{sym, ap, ◌∙◌, subst, append-nil, cond}
+use Rattle.std.proofs.Common.{◌≡◌, ℕ, ℤ, ◌++◌, List, [], ◌∷◌, Bool, true, false, Option, Some, None, if◌then◌else◌}
+use Rattle.std.proofs.Common.{refl, sym, ap, ◌∙◌, subst, append-nil, cond}
 use Rattle.std.proofs.lemmas.Bool.{false≢true}
 use Rattle.std.proofs.lemmas.List.Elements.{filter-append}
 use Rattle.std.proofs.lemmas.List.Kept.{IsStrictlySortedBy-filter}
@@ -29,7 +28,7 @@ use Rattle.mseed_audit.proofs.Continuity.{Excludes}
 use Rattle.mseed_audit.proofs.Maps.{same_is}
 use Rattle.mseed_audit.proofs.OneAudit.{HasOneInput}
 use Rattle.mseed_audit.proofs.OneList.{verdict_at}
-use Rattle.mseed_audit.proofs.OneTelling.{channel_with, channel_without, of_one, of_some, samples_of}
+use Rattle.mseed_audit.proofs.OneTelling.{channel_without, of_one, of_some, samples_of}
 use Rattle.mseed_audit.proofs.OneVerdict.{HasOneFault}
 
 -- ---- a record is asked for by its channel alone

@@ -1,7 +1,5 @@
 -- How high the counts of channels are.
-use Rattle.std.proofs.Common.{ℕ, ◌≤◌, List, arith, sym, subst}
-use Rattle.std.specs.List.{IsAmong}
-use Rattle.std.specs.Map.{values_of}
+use Rattle.std.proofs.Common.{ℕ, ◌≤◌, List, arith}
 use Rattle.mseed_audit.specs.declared.channel.Channel.{Channel}
 use Rattle.mseed_audit.specs.private.ChannelState.{IsBounded, AreBounded}
 

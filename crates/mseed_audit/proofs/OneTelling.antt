@@ -18,8 +18,7 @@ use Rattle.mseed_audit.specs.Judging.{IsFound}
 use Rattle.mseed_audit.specs.Summary.{text_of}
 use Rattle.mseed_audit.specs.Text.{reported_lines}
 use Rattle.mseed_audit.specs.Reported.{Reported, AreReported, AreReportedOf, IsFoundOf, channel_in, finding_count}
-use Rattle.mseed_audit.specs.Reported.{findings_in, last_of}
-use Rattle.mseed_audit.specs.Reported.{reported_at, reported_with, none, one}
+use Rattle.mseed_audit.specs.Reported.{findings_in, last_of, reported_at, reported_with, none, one}
 use Rattle.mseed_audit.specs.Verdict.{AreFindings, AreVerdicts, IsVerdictAt, finding_at, none as no_finding}
 use Rattle.mseed_audit.specs.Verdict.{one as one_finding}
 use Rattle.mseed_audit.proofs.Continuity.{Excludes}

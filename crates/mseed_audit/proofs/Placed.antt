@@ -1,8 +1,6 @@
 -- Channels in a list, and where each of them stands.
 use Rattle.std.proofs.Common.{◌≡◌, ◌∙◌, ◌+◌, ◌<◌, ◌++◌, ◌∷◌, [], ℕ, suc, List, Bool, cond, Option, Some, None, length}
-use Rattle.std.proofs.Common.{get_or}
-use Rattle.std.proofs.Common.{set}
-use Rattle.std.proofs.Common.{refl, sym, ap, subst, arith}
+use Rattle.std.proofs.Common.{get_or, set, refl, sym, ap, subst, arith}
 use Rattle.std.specs.BTreeMap.{insert_entry}
 use Rattle.std.specs.Cmp.Lexicographic.{slice_cmp}
 use Rattle.std.specs.List.{All, slice_get}

@@ -1,10 +1,7 @@
 -- One more record, by channel.
-use Rattle.std.proofs.Common.{◌≡◌, ◌≢◌, ℕ, ◌+◌, ◌<◌, is_some, length, arith, ◌&&◌, Option, IsSome, nat_lt, List, []}
-use Rattle.std.proofs.Common.{◌∷◌, ◌++◌, Bool, true, false, cond, if◌then◌else◌, Some, None, sym, ap, subst, refl, ◌∙◌}
-use Rattle.std.proofs.Common.{rules}
+use Rattle.std.proofs.Common.{◌≡◌, ℕ, ◌+◌, ◌<◌, ◌&&◌, Option, IsSome, nat_lt, List, [], ◌∷◌, ◌++◌, Bool, true, false}
+use Rattle.std.proofs.Common.{cond, if◌then◌else◌, Some, None, sym, ap, subst, refl, ◌∙◌, rules}
 use Rattle.std.specs.Map.{lookup}
-use Rattle.std.proofs.lemmas.Bool.{false≢true}
-use Rattle.std.proofs.lemmas.List.{length-append}
 use Rattle.mseed_record.specs.Header.{key_at}
 use Rattle.mseed_steim.specs.Reading.{count_of}
 use Rattle.mseed_audit.specs.declared.channel.Channel.{Channel}

@@ -1,5 +1,5 @@
 //! What an audit does with the records that have a finding.
-ghost use Rattle.std.specs.Prelude.{◌≡◌, ◌+◌, ◌++◌, ⊤, List, MatchResult};
+ghost use Rattle.std.specs.Prelude.{◌+◌, ◌++◌, ⊤, List, MatchResult};
 ghost use Rattle.mseed_record.specs.Viewing.{view_of};
 ghost use Rattle.mseed_audit.specs.Reported.{Reported};
 ghost use Rattle.mseed_audit.specs.private.Gathered.{AreLined, AreLinedInPart, reported_by};

@@ -79,7 +79,6 @@ pub(crate) struct Gathered<A: Allocator> {
 }
 
 ghost use Rattle.mseed_audit.specs.private.Gathered.{HasEnded, HasReport, IsFinished, IsGathering, IsJudged, IsNext};
-ghost use Rattle.mseed_audit.specs.Reported.{Reported};
 ghost use Rattle.mseed_audit.specs.Scope.{asked_of};
 ghost use Rattle.mseed_stream.specs.Walk.{AreViews, HasHandedOut};
 ghost use Rattle.mseed_audit.specs.Selected.{IsSelectedOutcome};

@@ -1,6 +1,6 @@
 -- What is reported of archives one after another.
-use Rattle.std.proofs.Common.{◌≡◌, ℕ, ◌+◌, List, [], ◌∷◌, ◌++◌, Option, None, refl, sym, ap, ◌∙◌, subst}
-use Rattle.std.proofs.Common.{append_assoc, append-nil, arith, IsPermutation, false}
+use Rattle.std.proofs.Common.{◌≡◌, ℕ, ◌+◌, List, [], ◌∷◌, ◌++◌, Option, None, refl, sym, ap, ◌∙◌, subst, append_assoc}
+use Rattle.std.proofs.Common.{append-nil, arith, IsPermutation, false}
 use Rattle.std.specs.List.{AllByRecursion}
 use Rattle.std.specs.Option.{option_map}
 use Rattle.std.proofs.lemmas.List.{map-append}
@@ -21,8 +21,7 @@ use Rattle.mseed_parts.specs.Notices.{moved_notices, notices_of}
 use Rattle.mseed_parts.specs.Parts.{Held, IsPartOf}
 use Rattle.mseed_parts.proofs.Rising.{reported_first, reported_rise}
 use Rattle.mseed_join.specs.AuditPart.{ReportedPart}
-use Rattle.mseed_join.specs.Borders.{AreBorders, AreBordersOf, Border, border_line, border_lines}
-use Rattle.mseed_join.specs.Borders.{notice_lines}
+use Rattle.mseed_join.specs.Borders.{AreBorders, AreBordersOf, Border, border_line, border_lines, notice_lines}
 use Rattle.mseed_join.specs.Headline.{AreParted, EndsByBytes, IsReadOf, SaysAudit}
 use Rattle.mseed_join.specs.HeadlineEach.{AreReportedApart, SaysEach, last, more, none as none_apart}
 use Rattle.mseed_join.specs.Joined.{AreJoined, IsJointOf, IsNext, counted, counted_by, moved_fault, nothing}

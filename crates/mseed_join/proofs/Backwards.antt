@@ -44,10 +44,9 @@ use Rattle.mseed_join.specs.private.Reading.{counted_findings_at, findings_at, c
 use Rattle.mseed_join.specs.private.Reading.{frame_fault_at, stream_fault_at, fault_at}
 use Rattle.mseed_join.proofs.Digits.{Ends, Begins, begins, number_back, integer_back, IsWithin}
 use Rattle.mseed_join.proofs.Prefixes.{ratio_then, head_then, head_leading, tail_then, tail_leading, first_then}
-use Rattle.mseed_join.proofs.Prefixes.{findings_then}
-use Rattle.mseed_join.proofs.Prefixes.{nothing_leading, counted_leading, channel_leading, counts_leading}
-use Rattle.mseed_join.proofs.Prefixes.{faults_leading}
-use Rattle.mseed_join.proofs.Prefixes.{fault_words, fault_of, findings_ends, bad_word_leading, last_differs_leading}
+use Rattle.mseed_join.proofs.Prefixes.{findings_then, nothing_leading, counted_leading, channel_leading, counts_leading}
+use Rattle.mseed_join.proofs.Prefixes.{faults_leading, fault_words, fault_of, findings_ends, bad_word_leading}
+use Rattle.mseed_join.proofs.Prefixes.{last_differs_leading}
 use Rattle.mseed_join.proofs.Keys.{key_back}
 
 -- a number of a part

@@ -1,6 +1,6 @@
 -- What is found at the borders of parts, with one more line.
-use Rattle.std.proofs.Common.{◌≡◌, ◌+◌, ℕ, List, [], ◌∷◌, ◌++◌, Bool, true, false, Option, Some, None}
-use Rattle.std.proofs.Common.{refl, sym, ap, ◌∙◌, subst, append_assoc, append-nil}
+use Rattle.std.proofs.Common.{◌≡◌, ◌+◌, ℕ, List, [], ◌∷◌, ◌++◌, Bool, true, false, Option, Some, None, refl, sym, ap}
+use Rattle.std.proofs.Common.{◌∙◌, subst, append_assoc, append-nil}
 use Rattle.std.specs.Prelude.{⊤}
 use Rattle.std.specs.Option.{option_map}
 use Rattle.mseed_stream.specs.declared.fault.StreamFault.{StreamFault}
@@ -8,8 +8,7 @@ use Rattle.mseed_audit.specs.declared.channel.Channel.{Channel}
 use Rattle.mseed_audit.specs.Audit.{head_in}
 use Rattle.mseed_parts.specs.Joining.{border_between, moved_channel}
 use Rattle.mseed_join.specs.Borders.{AreBorders, AreBordersOf, Border, border_at, border_line, border_lines}
-use Rattle.mseed_join.specs.Borders.{border_with}
-use Rattle.mseed_join.specs.Borders.{borders_with}
+use Rattle.mseed_join.specs.Borders.{border_with, borders_with}
 use Rattle.mseed_join.specs.Joined.{AreJoined, IsJointOf, IsNext, counted, counted_by, moved_fault, nothing}
 use Rattle.mseed_join.specs.Lines.{Line, header, channel, counts, faults, fault}
 use Rattle.mseed_join.specs.Written.{Written}

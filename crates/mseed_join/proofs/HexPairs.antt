@@ -1,8 +1,7 @@
 -- Bytes that are read four at a time, by eight digits.
-use Rattle.std.proofs.Common.{◌≡◌, ◌∙◌, ◌+◌, ◌-◌, ◌*◌, ◌<◌, ◌≤◌, ◌&&◌, nat_le, ℕ, zero, suc, List, [], ◌∷◌, ◌++◌}
-use Rattle.std.proofs.Common.{Bool, true, false}
-use Rattle.std.proofs.Common.{cond, Option, Some, None, length, map, get_or, take, drop, refl, sym, ap, arith}
-use Rattle.std.proofs.Common.{append_assoc, length-drop, length-take}
+use Rattle.std.proofs.Common.{◌≡◌, ◌∙◌, ◌+◌, ◌-◌, ◌*◌, ◌<◌, ◌≤◌, ◌&&◌, nat_le, ℕ, zero, suc, List, [], ◌∷◌, ◌++◌, Bool}
+use Rattle.std.proofs.Common.{true, false, cond, Option, Some, None, length, map, get_or, take, drop, refl, sym, ap}
+use Rattle.std.proofs.Common.{arith, append_assoc, length-drop, length-take}
 use Rattle.std.proofs.lemmas.Bool.Decides.{nat_tests}
 use Rattle.std.proofs.lemmas.List.{drop-drop, drop_more, get_or-map, get_or-take, length-map, take_all}
 use Rattle.mseed_join.specs.private.Reading.{◌>>=◌, is_digit, nibble_of, bytes_at}

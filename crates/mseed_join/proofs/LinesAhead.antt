@@ -1,8 +1,7 @@
 -- What a reader of lines holds, as it reads more and passes lines.
-use Rattle.std.proofs.Common.{◌≡◌, ℕ, ◌+◌, ◌<◌, ◌≤◌, List, [], ◌++◌, length, take, drop, Bool, true}
-use Rattle.std.proofs.Common.{false}
-use Rattle.std.proofs.Common.{Option, Ok, refl, sym, ap, subst, ◌∙◌, arith, append_assoc, length-append}
-use Rattle.std.proofs.Common.{slice_range, take-append-drop, ⊎_elim, inl, inr, not, ◌&&◌, ◌||◌, ◌==◌}
+use Rattle.std.proofs.Common.{◌≡◌, ℕ, ◌+◌, ◌<◌, ◌≤◌, List, [], ◌++◌, length, take, drop, Bool, true, false, Option, Ok}
+use Rattle.std.proofs.Common.{refl, sym, ap, subst, ◌∙◌, arith, append_assoc, length-append, slice_range}
+use Rattle.std.proofs.Common.{take-append-drop, ⊎_elim, inl, inr, not, ◌&&◌, ◌||◌, ◌==◌}
 use Rattle.std.proofs.lemmas.Bool.{cases_lt, false≢true}
 use Rattle.std.proofs.lemmas.Bool.Decides.{eqb_tells}
 use Rattle.std.proofs.lemmas.List.{append-nil, drop-append-le, drop-drop, length-take-le}
@@ -18,8 +17,7 @@ use Rattle.mseed_stream.specs.declared.fault.StreamFault.TheVariants.{Frame, Tru
 use Rattle.mseed_join.specs.declared.line_reader.Ahead.{Ahead}
 use Rattle.mseed_join.specs.declared.line_reader.Ahead.TheVariants.{Line, TooLong, Unended, Nothing}
 use Rattle.mseed_join.specs.Joined.{AreLines}
-use Rattle.mseed_join.specs.private.LineReading.{LinesRead, Grows, IsReadBy, GoesOn, IfGoesOn, IsLineAhead, LiesAhead}
-use Rattle.mseed_join.specs.private.LineReading.{IsReadFault}
+use Rattle.mseed_join.specs.private.LineReading.{LinesRead, Grows, IsReadBy, GoesOn, IfGoesOn, IsLineAhead, IsReadFault}
 use Rattle.mseed_join.proofs.LineEnds.{lines_more}
 
 -- n bytes more after those that are held

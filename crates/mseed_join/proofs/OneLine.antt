@@ -6,8 +6,7 @@ use Rattle.std.proofs.lemmas.Bool.Decides.{nat_tests}
 use Rattle.mseed_stream.specs.declared.fault.StreamFault.{StreamFault}
 use Rattle.mseed_audit.specs.declared.channel.Channel.{Channel}
 use Rattle.mseed_join.specs.Lines.{hex_digit, channel_line, HasChannelLine, Line, header, channel, counts, faults}
-use Rattle.mseed_join.specs.Lines.{fault}
-use Rattle.mseed_join.specs.Lines.{text_of_line, IsLine}
+use Rattle.mseed_join.specs.Lines.{fault, text_of_line, IsLine}
 use Rattle.mseed_join.specs.private.Reading.{◌>>=◌, number_after, channel_at, counts_at, faults_at, fault_at}
 use Rattle.mseed_join.proofs.Digits.{some_is}
 use Rattle.mseed_join.proofs.Prefixes.{fault_words, fault_then, fault_of}

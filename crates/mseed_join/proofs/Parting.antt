@@ -1,6 +1,6 @@
 -- The part of what was read, by what is kept of its channels, and what is written of it.
-use Rattle.std.proofs.Common.{◌≡◌, ℕ, ◌+◌, ◌++◌, List, [], ◌∷◌, length, map, Option, refl, sym, ap, ◌∙◌}
-use Rattle.std.proofs.Common.{subst, arith, inr, is_some, Err}
+use Rattle.std.proofs.Common.{◌≡◌, ℕ, ◌+◌, ◌++◌, List, [], ◌∷◌, length, map, Option, refl, sym, ap, ◌∙◌, subst, arith}
+use Rattle.std.proofs.Common.{inr, is_some, Err}
 use Rattle.std.proofs.lemmas.List.{length-append, length-map}
 use Rattle.std.specs.List.{concat}
 use Rattle.mseed_record.specs.View.{View}
@@ -20,8 +20,7 @@ use Rattle.mseed_stream.proofs.Gathered.{all_behind, cut_part}
 use Rattle.mseed_audit.proofs.Outcomes.{added_length}
 use Rattle.mseed_audit.proofs.OneAudit.{HasOneInput}
 use Rattle.mseed_parts.specs.Parts.{Held as Part, IsPartOf, bytes_in}
-use Rattle.mseed_join.specs.AuditPart.{AuditedPart, IsPartEachOutcome, IsPartWritten, IsReportedWritten}
-use Rattle.mseed_join.specs.AuditPart.{ReportedPart}
+use Rattle.mseed_join.specs.AuditPart.{AuditedPart, IsPartEachOutcome, IsPartWritten, IsReportedWritten, ReportedPart}
 use Rattle.mseed_join.specs.Joined.{verdict_at}
 use Rattle.mseed_join.specs.Written.{Written, part_text}
 use Rattle.mseed_join.specs.private.Parted.{IsPushed}

@@ -15,7 +15,7 @@ use Rattle.mseed_audit.specs.declared.channel.Findings.{Findings}
 use Rattle.mseed_audit.specs.declared.channel.Findings.TheVariants.{Nothing, Counted}
 use Rattle.mseed_audit.specs.declared.channel.Head.{Head}
 use Rattle.mseed_audit.specs.declared.tail.Tail.{Tail}
-use Rattle.mseed_join.specs.Lines.{key_text, ratio_text, leap_text, head_text, tail_text, text_or_none, first_text}
+use Rattle.mseed_join.specs.Lines.{key_text, leap_text, head_text, tail_text, text_or_none, first_text}
 use Rattle.mseed_join.specs.Lines.{findings_text, channel_line, counts_line, faults_line, IsFaultBehind}
 use Rattle.mseed_join.proofs.Digits.{Ends}
 

@@ -8,8 +8,7 @@ use Rattle.std.proofs.lemmas.Bool.{cases_lt, lt-ltb, le-ltb}
 use Rattle.std.proofs.lemmas.Bool.Decides.{nat_tests}
 use Rattle.std.proofs.lemmas.Int.{ints, unsigned_abs-mul}
 use Rattle.std.proofs.lemmas.Nat.{mul-le}
-use Rattle.mseed_time.specs.Btime.{Parts, IsInstant, IsTime, day_of, first_fault, instant_of}
-use Rattle.mseed_time.specs.Btime.{shift_of}
+use Rattle.mseed_time.specs.Btime.{Parts, IsInstant, IsTime, day_of, first_fault, instant_of, shift_of}
 use Rattle.mseed_time.proofs.Ranges.{day_within, year_days}
 use Rattle.mseed_time.specs.Fields.{number_at}
 use Rattle.mseed_time.specs.Join.{join_of, miss_of, missed_by, step_of}

@@ -39,18 +39,16 @@ use Rattle.mseed_join.specs.Lines.{counts_line, faults_line, IsWord, HasHead, Ha
 use Rattle.mseed_join.specs.Lines.{HasFindings, HasChannelLine, HasCountsLine, HasFaultsLine, HasFrameFault}
 use Rattle.mseed_join.specs.Lines.{HasFaultLine, IsFaultBehind}
 use Rattle.mseed_join.specs.private.Reading.{◌>>=◌, else_by, after, word_at, named_at, number_at, number_after}
-use Rattle.mseed_join.specs.private.Reading.{counted_at}
-use Rattle.mseed_join.specs.private.Reading.{ratio_at, start_at, sample_at, leap_at, some_head_at, some_tail_at}
-use Rattle.mseed_join.specs.private.Reading.{or_none_at, head_at, tail_at, time_at, bad_word_at, last_differs_at}
-use Rattle.mseed_join.specs.private.Reading.{read_fault_at, timed_at, why_at, first_at, counted_findings_at}
-use Rattle.mseed_join.specs.private.Reading.{findings_at, ends, key_at, channel_at, counts_at, faults_at}
-use Rattle.mseed_join.specs.private.Reading.{frame_fault_at, stream_fault_at, fault_at}
+use Rattle.mseed_join.specs.private.Reading.{counted_at, ratio_at, start_at, sample_at, leap_at, some_head_at}
+use Rattle.mseed_join.specs.private.Reading.{some_tail_at, or_none_at, head_at, tail_at, time_at, bad_word_at}
+use Rattle.mseed_join.specs.private.Reading.{last_differs_at, read_fault_at, timed_at, why_at, first_at}
+use Rattle.mseed_join.specs.private.Reading.{counted_findings_at, findings_at, ends, key_at, channel_at, counts_at}
+use Rattle.mseed_join.specs.private.Reading.{faults_at, frame_fault_at, stream_fault_at, fault_at}
 use Rattle.mseed_join.proofs.Digits.{some_is, word_behind, IsNumber, number_behind, IsWithin, IsInteger, integer_behind}
 use Rattle.mseed_join.proofs.Prefixes.{ratio_then, head_then, head_leading, tail_then, tail_leading, first_then}
-use Rattle.mseed_join.proofs.Prefixes.{findings_then}
-use Rattle.mseed_join.proofs.Prefixes.{nothing_leading, counted_leading, channel_leading, counts_leading}
-use Rattle.mseed_join.proofs.Prefixes.{faults_leading}
-use Rattle.mseed_join.proofs.Prefixes.{fault_words, fault_then, fault_of, bad_word_leading, last_differs_leading}
+use Rattle.mseed_join.proofs.Prefixes.{findings_then, nothing_leading, counted_leading, channel_leading, counts_leading}
+use Rattle.mseed_join.proofs.Prefixes.{faults_leading, fault_words, fault_then, fault_of, bad_word_leading}
+use Rattle.mseed_join.proofs.Prefixes.{last_differs_leading}
 use Rattle.mseed_join.proofs.Keys.{IsKey, key_spelled}
 
 -- a step that answered, and the steps after it

@@ -1,6 +1,6 @@
 -- One more line of each kind, taken.
-use Rattle.std.proofs.Common.{◌≡◌, ℕ, ◌+◌, ◌<◌, ◌^◌, List, [], ◌∷◌, ◌++◌, Bool, true, false, cond, Option}
-use Rattle.std.proofs.Common.{Some, None, length, refl, sym, ap, ◌∙◌, subst, arith}
+use Rattle.std.proofs.Common.{◌≡◌, ℕ, ◌+◌, ◌<◌, ◌^◌, List, [], ◌∷◌, ◌++◌, Bool, true, false, cond, Option, Some, None}
+use Rattle.std.proofs.Common.{length, refl, sym, ap, ◌∙◌, subst, arith}
 use Rattle.std.specs.List.Sorted.{IsStrictlySortedBy}
 use Rattle.std.specs.Map.{lookup}
 use Rattle.std.specs.Option.{option_map}
@@ -16,12 +16,10 @@ use Rattle.mseed_parts.specs.Joining.{moved_channel, channel_joined}
 use Rattle.mseed_parts.specs.Parts.{Held, IsAscending, IsJoint, Fits, FitsAt, kept_of, channels_alone, one_channel}
 use Rattle.mseed_parts.specs.Parts.{counts_alone}
 use Rattle.mseed_parts.proofs.Adding.{joined_none}
-use Rattle.mseed_join.specs.Lines.{Line, text_of_line, IsLine}
-use Rattle.mseed_join.specs.Lines.{IsFaultBehind}
+use Rattle.mseed_join.specs.Lines.{Line, text_of_line, IsLine, IsFaultBehind}
 use Rattle.mseed_join.specs.Written.{Written}
 use Rattle.mseed_join.specs.Joined.{none as no_more, one, IsNext, IsJointOf, counted, moved_fault, nothing}
-use Rattle.mseed_join.specs.Reached.{Stage, begun_part, parts_at}
-use Rattle.mseed_join.specs.Reached.{passed_lines}
+use Rattle.mseed_join.specs.Reached.{Stage, begun_part, parts_at, passed_lines}
 use Rattle.mseed_join.specs.ReadParts.{written_of}
 use Rattle.mseed_join.specs.declared.joint.Joint.{Joint}
 use Rattle.mseed_join.specs.declared.joint.Reported.{Reported}

@@ -1,14 +1,16 @@
 -- One more line, taken by a joint part.
-use Rattle.std.proofs.Common.{◌≡◌, ℕ, ◌+◌, ◌<◌, ◌^◌, List, [], ◌∷◌, ◌++◌, Bool, true, false, Option, Some, None}
-use Rattle.std.proofs.Common.{length, refl, sym, ap, ◌∙◌, subst, arith, append-nil}
+use Rattle.std.proofs.Common.{◌≡◌, ℕ, ◌+◌, ◌<◌, ◌^◌, List, [], ◌∷◌, ◌++◌, Bool, true, false, Option, Some, None, length}
+use Rattle.std.proofs.Common.{refl, sym, ap, ◌∙◌, subst, arith, append-nil}
 use Rattle.std.proofs.lemmas.List.{length-append}
 use Rattle.mseed_stream.specs.declared.fault.StreamFault.{StreamFault}
 use Rattle.mseed_audit.specs.declared.channel.Channel.{Channel}
 use Rattle.mseed_parts.specs.Parts.{IsJoint, Fits, FitsAt, kept_of, one_channel, counts_alone}
-use Rattle.mseed_join.specs.Lines.{Line, header, channel, counts, faults, fault, IsLine, header_line}
+use Rattle.mseed_join.specs.Lines.{Line, header, channel, counts, faults, fault, IsLine, header_line, IsFaultBehind}
+use Rattle.mseed_join.specs.Lines.{text_of_line}
 use Rattle.mseed_join.specs.Written.{Written}
-use Rattle.mseed_join.specs.Joined.{IsJointOf}
-use Rattle.mseed_join.specs.Reached.{Behind, none, begun, whole, Stage, begun_part, part_behind, parts_at}
+use Rattle.mseed_join.specs.Joined.{IsJointOf, AreJoined, Begins, counted, counted_by, moved_fault, nothing}
+use Rattle.mseed_join.specs.Reached.{Behind, none, begun, whole, Stage, begun_part, part_behind, parts_at, IsStage}
+use Rattle.mseed_join.specs.Reached.{IsWhere, passed_line, passed_lines}
 use Rattle.mseed_join.specs.ReadParts.{written_of}
 use Rattle.mseed_join.specs.declared.joint.Joint.{Joint}
 use Rattle.mseed_join.specs.declared.joint.JointPart.{JointPart}
@@ -20,18 +22,14 @@ use Rattle.mseed_join.specs.private.Steps.{May, to, goes, counted_part, with_fau
 use Rattle.mseed_join.specs.private.Taking.{IsReadTo, IsTaken, IsPlace, border_by, fault_after, passed_by}
 use Rattle.mseed_join.specs.Borders.{border_with}
 use Rattle.mseed_join.proofs.Bordering.{channel_borders, ends_borders, header_borders, skips_borders}
-use Rattle.std.proofs.lemmas.Bool.{false≢true}
 use Rattle.std.specs.Option.{option_map}
-use Rattle.mseed_join.specs.Joined.{AreJoined, Begins, counted, counted_by, moved_fault, nothing}
-use Rattle.mseed_join.specs.Lines.{IsFaultBehind, text_of_line}
-use Rattle.mseed_join.specs.Reached.{IsStage, IsWhere, passed_line, passed_lines}
 use Rattle.mseed_join.proofs.Ahead.{IsNextLine, channel_fits, counts_fit, faults_fit, next_line, passed_fit}
 use Rattle.mseed_join.proofs.Ended.{IsEnded, ended, no_end_from}
 use Rattle.mseed_join.proofs.OneLine.{line_one}
 use Rattle.mseed_join.proofs.Running.{Extends}
 use Rattle.mseed_join.proofs.Merging.{JoinsChannel, JoinsCounts, JoinsNone}
-use Rattle.mseed_join.proofs.Stepping.{begin_joint, channel_joint, counts_joint}
-use Rattle.mseed_join.proofs.Stepping.{ended_joint, faults_joint, passed_joint, taken}
+use Rattle.mseed_join.proofs.Stepping.{begin_joint, channel_joint, counts_joint, ended_joint, faults_joint}
+use Rattle.mseed_join.proofs.Stepping.{passed_joint, taken}
 use Rattle.mseed_join.proofs.Sums.{HaveOneJoint, IsFirst, first_of, none_of}
 use Rattle.mseed_join.proofs.Taken.{number_same, passed_more, passed_same, stopped}
 

@@ -1,7 +1,6 @@
 -- What is read so far, with one more line.
-use Rattle.std.proofs.Common.{◌≡◌, ℕ, ◌+◌, List, [], ◌∷◌, ◌++◌, Bool, true, false, Option}
-use Rattle.std.proofs.Common.{Some, None, length, refl, sym, ap, ◌∙◌, subst, arith, append_assoc, append-nil}
-use Rattle.std.proofs.Common.{inl, inr, ◌⊎◌}
+use Rattle.std.proofs.Common.{◌≡◌, ℕ, ◌+◌, List, [], ◌∷◌, ◌++◌, Bool, true, false, Option, Some, None, length, refl}
+use Rattle.std.proofs.Common.{sym, ap, ◌∙◌, subst, arith, append_assoc, append-nil, inl, inr, ◌⊎◌}
 use Rattle.std.specs.List.{AllByRecursion}
 use Rattle.std.specs.List.Sorted.{IsStrictlySortedBy}
 use Rattle.std.specs.Option.{option_map}
@@ -13,8 +12,7 @@ use Rattle.mseed_join.specs.Lines.{Line, header, channel, counts, faults, fault,
 use Rattle.mseed_join.specs.Lines.{channel_line, counts_line, faults_line, HasChannelLine, HasFaultLine}
 use Rattle.mseed_join.specs.Written.{Written, HasText, channel_lines, part_text, texts}
 use Rattle.mseed_join.specs.Joined.{AreJoined, none as no_more, one, IsNext, IsJointOf, counted, counted_by}
-use Rattle.mseed_join.specs.Joined.{moved_fault}
-use Rattle.mseed_join.specs.Joined.{nothing}
+use Rattle.mseed_join.specs.Joined.{moved_fault, nothing}
 use Rattle.mseed_join.specs.Reached.{Behind, none, begun, whole, Stage, begun_part, part_behind, parts_at, text_behind}
 use Rattle.mseed_join.specs.Reached.{IsStage, IsWhere, passed_from, passed_lines, passed_line, passed_of}
 use Rattle.mseed_join.specs.private.Steps.{May, to, goes, counted_part, with_faults, with_end}

@@ -1,6 +1,5 @@
 //! The joint part of parts that are read line by line.
-ghost use Rattle.std.specs.Prelude.{◌≡◌, ◌≢◌, ◌↔◌, ◌<◌, ◌+◌, ◌^◌, ◌++◌, List, ℕ, [], codes, false};
-ghost use Rattle.std.specs.Prelude.{IfSome, IfNone, IfErr, OnOk, IsTrue};
+ghost use Rattle.std.specs.Prelude.{◌≡◌, ◌≢◌, ◌↔◌, ◌<◌, ◌+◌, ◌^◌, ◌++◌, List, ℕ, [], codes, false, IfErr, OnOk, IsTrue};
 ghost use Rattle.mseed_audit.specs.Audit.{head_in};
 ghost use Rattle.mseed_join.specs.Borders.{border_at};
 ghost use Rattle.mseed_join.specs.Joined.{HasNoEnd};

@@ -1,6 +1,6 @@
 -- What is kept of a channel with further records after.
-use Rattle.std.proofs.Common.{◌≡◌, ◌+◌, ◌*◌, ◌==◌, if◌then◌else◌, List, [], ◌∷◌, ◌++◌, length, Option, Some, None}
-use Rattle.std.proofs.Common.{refl, sym, ap, ◌∙◌, subst, arith, append_assoc, append-nil, length-append}
+use Rattle.std.proofs.Common.{◌≡◌, ◌+◌, ◌*◌, ◌==◌, if◌then◌else◌, List, [], ◌∷◌, ◌++◌, length, Option, Some, None, refl}
+use Rattle.std.proofs.Common.{sym, ap, ◌∙◌, subst, arith, append_assoc, append-nil, length-append}
 use Rattle.std.specs.Option.{option_to_list}
 use Rattle.mseed_time.specs.Join.{join_of}
 use Rattle.mseed_time.specs.Rate.{Ratio}
@@ -9,8 +9,8 @@ use Rattle.mseed_audit.specs.declared.finding.Finding.{Finding}
 use Rattle.mseed_audit.specs.declared.finding.Why.{Why}
 use Rattle.mseed_audit.specs.declared.finding.Why.TheVariants.{RateChange}
 use Rattle.mseed_audit.specs.Channels.{Placed, sample_count}
-use Rattle.mseed_audit.specs.Judging.{known_rate, why_by, why_from, why_after, IsFound}
-use Rattle.mseed_audit.specs.Judging.{time as by_time, rate as by_rate, read as by_read, after as by_after}
+use Rattle.mseed_audit.specs.Judging.{known_rate, why_by, why_from, why_after, IsFound, time as by_time}
+use Rattle.mseed_audit.specs.Judging.{rate as by_rate, read as by_read, after as by_after}
 use Rattle.mseed_audit.specs.Reported.{last_of}
 use Rattle.mseed_audit.specs.Verdict.{finding_at, AreFindings, none, one}
 use Rattle.mseed_audit.specs.declared.channel.Channel.{Channel}
@@ -18,8 +18,7 @@ use Rattle.mseed_audit.specs.declared.channel.Findings.{Findings}
 use Rattle.mseed_audit.specs.declared.channel.Findings.TheVariants.{Nothing, Counted}
 use Rattle.mseed_audit.specs.declared.channel.Head.{Head}
 use Rattle.mseed_audit.specs.declared.tail.Tail.{Tail}
-use Rattle.mseed_parts.specs.Joining.{border_why, found_at, border_of, findings_with, channel_then}
-use Rattle.mseed_parts.specs.Joining.{channel_joined}
+use Rattle.mseed_parts.specs.Joining.{border_why, found_at, border_of, findings_with, channel_then, channel_joined}
 use Rattle.mseed_audit.specs.Audit.{IsHead, IsHeadOf, IsTail, IsTailOf, head_in, tail_in, AreCounted, Stands, StandsAt}
 
 -- a record has one finding

@@ -12,8 +12,7 @@ use Rattle.mseed_audit.specs.declared.channel.Findings.{Findings}
 use Rattle.mseed_audit.specs.declared.channel.Findings.TheVariants.{Nothing, Counted}
 use Rattle.mseed_audit.specs.declared.channel.Head.{Head}
 use Rattle.mseed_audit.specs.declared.tail.Tail.{Tail}
-use Rattle.mseed_parts.specs.Joining.{moved_head, moved_finding, moved_findings, moved_channel}
-use Rattle.mseed_parts.specs.Joining.{channel_joined}
+use Rattle.mseed_parts.specs.Joining.{moved_head, moved_finding, moved_findings, moved_channel, channel_joined}
 use Rattle.mseed_audit.specs.Audit.{IsHeadOf, IsTailOf, head_in, tail_in, AreCounted, Stands, StandsAt}
 use Rattle.mseed_parts.specs.Parts.{Held, IsAscending, kept_of, IsPartOf, IsJoint}
 use Rattle.mseed_parts.proofs.Adding.{joined_none}

@@ -1,7 +1,6 @@
 -- What is reported of a channel's records, in their order.
-use Rattle.std.proofs.Common.{◌≡◌, ℕ, ◌<◌, List, [], ◌∷◌, ◌++◌, map, Bool}
-use Rattle.std.proofs.Common.{true, false, Option, Some, None, refl, sym, ap, ◌∙◌, subst}
-use Rattle.std.proofs.Common.{append_assoc}
+use Rattle.std.proofs.Common.{◌≡◌, ℕ, ◌<◌, List, [], ◌∷◌, ◌++◌, map, Bool, true, false, Option, Some, None, refl, sym}
+use Rattle.std.proofs.Common.{ap, ◌∙◌, subst, append_assoc}
 use Rattle.std.proofs.lemmas.List.{map-append}
 use Rattle.std.specs.Option.{option_to_list}
 use Rattle.mseed_record.specs.Header.{key_at}
@@ -15,9 +14,8 @@ use Rattle.mseed_audit.specs.Audit.{IsHeadOf, IsTailOf}
 use Rattle.mseed_audit.specs.Channels.{Added, Placed, is_of, numbered, records_of, same_key}
 use Rattle.mseed_audit.specs.Judging.{IsFound}
 use Rattle.mseed_audit.specs.Reported.{Reported, AreReported, AreReportedOf, IsFoundOf, channel_in, last_of}
-use Rattle.mseed_audit.specs.Reported.{reported_at, reported_with}
+use Rattle.mseed_audit.specs.Reported.{reported_at, reported_with, none as nothing_reported, one as one_reported}
 use Rattle.mseed_audit.specs.Verdict.{finding_at}
-use Rattle.mseed_audit.specs.Reported.{none as nothing_reported, one as one_reported}
 use Rattle.mseed_audit.proofs.Maps.{same_is}
 use Rattle.mseed_audit.proofs.OneTelling.{channel_with, channel_without, last_with, last_without, of_some}
 use Rattle.mseed_audit.proofs.OneTelling.{reported_elsewhere, samples_of}

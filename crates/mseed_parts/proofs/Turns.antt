@@ -1,6 +1,6 @@
 -- Channels of a further part that are joined one after another.
-use Rattle.std.proofs.Common.{◌≡◌, ℕ, List, ◌∷◌, Bool, true, false, cond, Option, Some, None, refl, sym, ap, ◌∙◌}
-use Rattle.std.proofs.Common.{subst, arith}
+use Rattle.std.proofs.Common.{◌≡◌, ℕ, List, ◌∷◌, Bool, true, false, cond, Option, Some, None, refl, sym, ap, ◌∙◌, subst}
+use Rattle.std.proofs.Common.{arith}
 use Rattle.std.specs.Prelude.{Result, Ok, Err, IsErrOf, IsSome}
 use Rattle.std.specs.Option.{option_map}
 use Rattle.std.specs.Map.{keys_of}
@@ -14,8 +14,7 @@ use Rattle.mseed_audit.proofs.Maps.{keys_alike, same_itself, same_is}
 use Rattle.mseed_audit.specs.declared.channel.Channel.{Channel}
 use Rattle.mseed_parts.specs.declared.part.JoinFault.{JoinFault}
 use Rattle.mseed_parts.specs.Joining.{moved_channel, channel_joined}
-use Rattle.mseed_parts.specs.Parts.{Held, IsAscending, kept_of, IsJoint, one_channel, FitsAt, Fits}
-use Rattle.mseed_parts.specs.Parts.{HasNewChannel}
+use Rattle.mseed_parts.specs.Parts.{Held, IsAscending, kept_of, IsJoint, one_channel, FitsAt, Fits, HasNewChannel}
 use Rattle.mseed_parts.proofs.Adding.{Entries, held, joined_none}
 
 -- after an entry nothing is kept at its key

@@ -16,8 +16,7 @@ use Rattle.mseed_parts.specs.declared.part.JoinFault.{JoinFault}
 use Rattle.mseed_parts.specs.Joining.{moved_head, moved_findings, moved_channel, border_why, found_at, border_of}
 use Rattle.mseed_parts.specs.Joining.{findings_with, channel_then}
 use Rattle.mseed_audit.specs.Audit.{head_in, tail_in}
-use Rattle.mseed_parts.specs.Parts.{HeadFits, FirstFits, Moves, CountFits, CountsFit, IsWithin, AreWithin}
-use Rattle.mseed_parts.specs.Parts.{kept_of}
+use Rattle.mseed_parts.specs.Parts.{HeadFits, FirstFits, Moves, CountFits, CountsFit, IsWithin, AreWithin, kept_of}
 use Rattle.mseed_parts.proofs.Adding.{Entries}
 use Rattle.mseed_parts.proofs.Behind.{head_with}
 

@@ -1,4 +1,4 @@
-use Rattle.std.proofs.Common.{◌∙◌, ap, length, refl, arith, sym}
+use Rattle.std.proofs.Common.{◌∙◌, ap, length, refl, arith}
 use Rattle.mseed_audit.specs.Summary.{broken_count}
 use Rattle.mseed_audit.proofs.Outcomes.{finished}
 use Rattle.mseed_audit.proofs.summary.push_finished.Goals as goal

@@ -1,14 +1,12 @@
-use Rattle.std.proofs.Common.{◌≡◌, Bool, Result, Ok, Err, IfErr, refl, sym, ap, subst}
-use Rattle.std.proofs.Common.{◌∙◌, arith}
-use Rattle.std.proofs.Common.{rules}
+use Rattle.std.proofs.Common.{◌≡◌, Bool, Result, Ok, Err, IfErr, refl, sym, ap, subst, ◌∙◌, arith, rules}
 use Rattle.mseed_stream.specs.Device.{BytesRead}
 use Rattle.mseed_stream.specs.Fault.{IsStreamFault}
 use Rattle.mseed_stream.specs.declared.fault.StreamFault.{StreamFault}
 use Rattle.mseed_join.specs.declared.line_reader.Ahead.{Ahead}
 use Rattle.mseed_join.specs.private.LineReading.{LinesRead, GoesOn, IsReadBy}
 use Rattle.mseed_join.proofs.LinesAhead.{grows_not, grows_on, grows_seen, grows_through, read_by_more, goes_on_more}
-use Rattle.mseed_join.proofs.LinesAhead.{no_end_by, no_end_yet, not_at_end, reads_so_far, reads_to}
-use Rattle.mseed_join.proofs.LinesAhead.{if_it_does, fault_since}
+use Rattle.mseed_join.proofs.LinesAhead.{no_end_by, no_end_yet, not_at_end, reads_so_far, reads_to, if_it_does}
+use Rattle.mseed_join.proofs.LinesAhead.{fault_since}
 use Rattle.mseed_join.proofs.line_reader.LineReader.look.Goals as goal
 
 pub loop-ahead-init : goal.loop-ahead-init
