@@ -1,52 +1,52 @@
 -- One record more of a selection.
-use Rattle.std.proofs.Common.{◌≡◌, ◌+◌, ◌++◌, ◌∙◌, ℕ, List, [], ◌∷◌, length, take, drop, sym, ap, refl}
+use Rattle.std.proofs.Common.{◌≡◌, ◌+◌, ◌++◌, ◌∙◌, ℕ, Bool, true, false, List, [], ◌∷◌, length, drop, sym, ap, refl}
 use Rattle.std.proofs.Common.{append-nil, length-append, cond}
-use Rattle.std.proofs.Math.Seq.{take-add}
+use Rattle.std.proofs.lemmas.List.{map-append}
+use Rattle.std.proofs.lemmas.List.Elements.{filter-append}
 use Rattle.std.proofs.lemmas.List.Folds.{concat-append}
-use Rattle.std.specs.List.{concat, AllByRecursion}
-use Rattle.mseed_record.specs.Record.{IsRecord}
+use Rattle.std.specs.List.{concat, filter}
 use Rattle.mseed_record.specs.View.{View}
-use Rattle.mseed_stream.specs.Archive.{HasRecords}
 use Rattle.mseed_stream.specs.Walk.{AreViews, bytes_in}
+use Rattle.mseed_stream.proofs.Handed.{records_next}
+use Rattle.mseed_stream.proofs.Records.{view_record}
 use Rattle.mseed_stream.proofs.Walks.{views_more}
 use Rattle.mseed_select.specs.Select.{selected_bytes}
 use Rattle.mseed_select.specs.Selection.{Selection, answer_of, asks_for, is_asked, is_without_time, lacks_time}
 use Rattle.mseed_select.specs.Counting.{one_if}
-use Rattle.mseed_select.specs.private.Copying.{bytes_by}
 use Rattle.mseed_select.specs.declared.answer.Answer.{Answer}
 use Rattle.mseed_select.specs.declared.answer.Answer.TheVariants.{AskedFor, Left, NoTime}
-use Rattle.mseed_select.proofs.Copied.{bytes_more, count_more}
+use Rattle.mseed_select.proofs.Copied.{count_more}
 use Rattle.mseed_c.specs.Decoded.{IsFirst}
 use Rattle.mseed_c.specs.Room.{overwritten}
 use Rattle.mseed_c.specs.private.Copied.{IsSmall, IsSoFar, added, counted, size_by}
 use Rattle.mseed_c.specs.declared.selecting.Selected.{Selected}
 use Rattle.mseed_c.proofs.Walking.{record_fits}
 
-each_more : (records : List (List ℕ)) (b : List ℕ) → AllByRecursion IsRecord records → IsRecord b
-    → AllByRecursion IsRecord (records ++ b ∷ [])
-each_more [] b h one = (one, tt)
-each_more (r ∷ records) b h one = (h.0, each_more records b h.1 one)
-
--- the record that begins the rest is one more
-records_more : (bytes : List ℕ) (offset : ℕ) (records : List (List ℕ)) (b : List ℕ) → HasRecords bytes offset records
-    → IsRecord b → b ≡ take (length b) (drop offset bytes) → HasRecords bytes (offset + length b) (records ++ b ∷ [])
-records_more bytes offset records b has one prefix = record {
-  joined = take-add offset (length b) bytes ∙ (λ i. has.joined i ++ sym prefix i)
-      ∙ ap (λ (xs : List ℕ). concat records ++ xs) (sym (append-nil b)) ∙ sym (concat-append records (b ∷ []));
-  each = each_more records b has.each one;
-}
-
 pub views_on : (bytes : List ℕ) (offset : ℕ) (views : List View) (v : View) → AreViews bytes offset views
     → IsFirst (drop offset bytes) v → AreViews bytes (offset + length v.bytes) (views ++ v ∷ [])
 views_on bytes offset views v are at =
     let is = at.view in
     views_more bytes bytes offset views v v.bytes are is refl
-    (records_more bytes offset (bytes_in views) v.bytes are.records
-    (v.order, (is.0, (is.1.0, is.1.1.1.record_is))) at.prefix)
+    (records_next bytes offset (bytes_in views) v.bytes are.records (view_record v is) at.prefix)
 
--- what is added of a record by its answer
-pub added_by : (s : Selection) (v : View) (answer : Answer) → answer ≡ answer_of s v
-    → added answer v.bytes ≡ bytes_by s v
+-- the bytes of a record come after the others, where it is asked for
+one_by : (b : Bool) (v : View) → concat (bytes_in (cond b (v ∷ []) [])) ≡ cond b v.bytes []
+one_by true v = append-nil v.bytes
+one_by false v = refl
+
+bytes_more : (s : Selection) (views : List View) (v : View)
+    → selected_bytes s (views ++ v ∷ []) ≡ selected_bytes s views ++ cond (asks_for s v) v.bytes []
+bytes_more s views v =
+    let asked : List View = filter (asks_for s) views in
+    let last : List View = filter (asks_for s) (v ∷ []) in
+    ap (λ (vs : List View). concat (bytes_in vs)) (filter-append (asks_for s) views (v ∷ []))
+    ∙ ap (λ (bs : List (List ℕ)). concat bs) (map-append (λ (w : View). w.bytes) asked last)
+    ∙ concat-append (bytes_in asked) (bytes_in last)
+    ∙ ap (λ (bs : List ℕ). selected_bytes s views ++ bs) (one_by (asks_for s v) v)
+
+-- they are what is added by the answer
+added_by : (s : Selection) (v : View) (answer : Answer) → answer ≡ answer_of s v
+    → added answer v.bytes ≡ cond (asks_for s v) v.bytes []
 added_by s v answer e = ap (λ (a : Answer). added a v.bytes) e ∙ by (answer_of s v) v.bytes
   where
     by : (a : Answer) (bytes : List ℕ) → added a bytes ≡ cond (is_asked a) bytes []

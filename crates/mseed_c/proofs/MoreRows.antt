@@ -16,9 +16,9 @@ same_leading : (k filled : ℕ) (old new : List ℤ) → k ≤ filled → take f
 same_leading k filled old new low e =
     sym (take-take k filled old low) ∙ ap (λ (xs : List ℤ). take k xs) (sym e) ∙ take-take k filled new low
 
-kept_samples : (row : Row) (v : View) (filled more : ℕ) (old new : List ℤ) → take filled new ≡ take filled old
+samples_stay : (row : Row) (v : View) (filled more : ℕ) (old new : List ℤ) → take filled new ≡ take filled old
     → HasSamples row v filled old → HasSamples row v (filled + more) new
-kept_samples row v filled more old new e h =
+samples_stay row v filled more old new e h =
     let within : row.first + row.samples ≤ filled = h.within in
     let P : List ℤ → Type 0 = λ xs. IsWhole v (drop row.first xs) in
     record {
@@ -26,13 +26,13 @@ kept_samples row v filled more old new e h =
       whole = λ some. subst P (same_leading (row.first + row.samples) filled old new within e) (h.whole some);
     }
 
-kept_row : (bytes : List ℕ) (filled more : ℕ) (old new : List ℤ) → take filled new ≡ take filled old → (row : Row)
+row_stays : (bytes : List ℕ) (filled more : ℕ) (old new : List ℤ) → take filled new ≡ take filled old → (row : Row)
     → IsRow bytes filled old row → IsRow bytes (filled + more) new row
-kept_row bytes filled more old new e row r = record {
+row_stays bytes filled more old new e row r = record {
   view = r.view;
   at = r.at;
   describes = r.describes;
-  samples = λ zero. kept_samples row r.view filled more old new e (r.samples zero);
+  samples = λ zero. samples_stay row r.view filled more old new e (r.samples zero);
   fault = r.fault;
 }
 
@@ -73,10 +73,10 @@ filled_is row v out n code samples c s =
     (λ d. (s.fault (λ e. d (c ∙ e))).0)
 
 -- samples that are kept
-pub kept_on : (v : View) (filled n code : ℕ) (old new : List ℤ) → take filled new ≡ take filled old
+pub written_on : (v : View) (filled n code : ℕ) (old new : List ℤ) → take filled new ≡ take filled old
     → AreSamples v (drop filled new) n code → TakesOn IsRow v filled (filled + n) code old new
-kept_on v filled n code old new leading s = record {
-  keeps = λ bytes row r. kept_row bytes filled n old new leading row r;
+written_on v filled n code old new leading s = record {
+  keeps = λ bytes row r. row_stays bytes filled n old new leading row r;
   own = λ bytes row at describes first c. own_row bytes row v n filled code new at describes first c s;
   counted = λ row samples c. ap (λ (k : ℕ). filled + k) (filled_is row v (drop filled new) n code samples c s);
 }

@@ -9,7 +9,7 @@ use Rattle.mseed_audit.specs.declared.summary.Summary.{Summary}
 use Rattle.mseed_c.specs.Audited.{IsReadOf, IsShown, status_of, totals_of}
 use Rattle.mseed_c.specs.Lent.{read_by, lent_by, left_of}
 use Rattle.mseed_c.specs.Room.{overwritten}
-use Rattle.mseed_c.specs.private.Told.{IsTold}
+use Rattle.mseed_c.specs.private.Reported.{IsReported}
 use Rattle.mseed_c.specs.declared.auditing.Totals.{Totals}
 use Rattle.mseed_c.specs.declared.lent.Lent.{Lent}
 
@@ -48,15 +48,15 @@ shown Says bytes room after old new summary text held totals status read left te
     }
 
 -- a call that succeeded wrote a text
-pub told_by : {F : Type 0} {h : BytesRead} {old new : BytesWritten} (Says : BytesRead → Summary → List ℕ → Type 0)
+pub reported_by : {F : Type 0} {h : BytesRead} {old new : BytesWritten} (Says : BytesRead → Summary → List ℕ → Type 0)
     (Outcome : Result Summary F → BytesRead → BytesWritten → BytesWritten → Type 0)
     → ((s : Summary) → Outcome (Ok s) h old new
     → (text : List ℕ) × (Says h s text × (new.bytes ≡ old.bytes ++ text)))
     → (r : Result Summary F) → Outcome r h old new → (found : Option Summary) → found ≡ result_ok r
-    → IfSome found (λ s. IsTold Says s h old new)
-told_by {h = h} {old = old} {new = new} Says Outcome wrote (Ok s) is found e =
+    → IfSome found (λ s. IsReported Says s h old new)
+reported_by {h = h} {old = old} {new = new} Says Outcome wrote (Ok s) is found e =
     let one = wrote s is in
-    subst (λ (o : Option Summary). IfSome o (λ s. IsTold Says s h old new)) (sym e)
+    subst (λ (o : Option Summary). IfSome o (λ s. IsReported Says s h old new)) (sym e)
     (record { text = one.0; says = one.1.0; bytes = one.1.1 })
-told_by {h = h} {old = old} {new = new} Says Outcome wrote (Err f) is found e =
-    subst (λ (o : Option Summary). IfSome o (λ s. IsTold Says s h old new)) (sym e) tt
+reported_by {h = h} {old = old} {new = new} Says Outcome wrote (Err f) is found e =
+    subst (λ (o : Option Summary). IfSome o (λ s. IsReported Says s h old new)) (sym e) tt

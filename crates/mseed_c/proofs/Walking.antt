@@ -28,9 +28,9 @@ record_fits bytes v offset inside at =
     ∙ ap (λ (k : ℕ). min (length v.bytes) k) (length-drop offset bytes) in
     omega arith
 
-behind_more : (rows old : List Row) (row : Row) (n : ℕ) → drop n rows ≡ drop n old
+after_more : (rows old : List Row) (row : Row) (n : ℕ) → drop n rows ≡ drop n old
     → drop (n + 1) (slice_set rows n row) ≡ drop (n + 1) old
-behind_more rows old row n e =
+after_more rows old row n e =
     drop-set-lt (n + 1) rows n row (omega arith) ∙ sym (drop-drop 1 n rows)
     ∙ ap (λ (xs : List Row). drop 1 xs) e ∙ drop-drop 1 n old
 
@@ -62,7 +62,7 @@ walk_more Is Is' bytes offset old rows p row size more w free kept last next =
       each = subst P (sym leading) (All-push (Is' more) (take p.rows rows) row before last);
       placed = subst Q (sym leading) (subst R next.size_is (subst S (sym next.counted)
           (placed_more start 0 (take p.rows rows) row p.offset p.filled w.placed next.offset_is next.first_is)));
-      behind = behind_more rows old row p.rows w.behind;
+      after = after_more rows old row p.rows w.after;
     }
 
 -- no row yet
@@ -74,7 +74,7 @@ walk_none Is bytes offset start rows e = record {
   inside = omega arith;
   each = All-nil (Is 0);
   placed = (sym e, refl);
-  behind = refl;
+  after = refl;
 }
 
 -- the number of a reason is reported besides
@@ -83,7 +83,7 @@ pub walk_reported : (Is : ℕ → Row → Type 0) (bytes : List ℕ) (offset : �
     → IsWalk Is bytes offset old rows p
     → IsWalk Is bytes offset old rows (record { rows = p.rows; offset = p.offset; filled = p.filled; needed = needed })
 walk_reported Is bytes offset old rows p needed w =
-    record { counted = w.counted; inside = w.inside; each = w.each; placed = w.placed; behind = w.behind }
+    record { counted = w.counted; inside = w.inside; each = w.each; placed = w.placed; after = w.after }
 
 -- what ends a walk, at the bytes from the next record's offset on
 pub ends_at : (stop : Stop) (bytes ahead : List ℕ) (rows room : ℕ) (p : Progress) → ahead ≡ drop p.offset bytes

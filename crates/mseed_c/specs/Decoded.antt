@@ -27,7 +27,7 @@ pub record IsFilled (v : View) (old new : List ℤ) (n : ℕ) : Type 0 where
   pub count : n ≡ count_of v
   pub fits : n ≤ length new
   pub whole : 0 < n → IsWhole v (take n new)
-  pub behind : drop n new ≡ drop n old
+  pub after : drop n new ≡ drop n old
 
 -- Or why there are none: with a fault of the record, what its places hold is open, and what lies after them stays;
 -- where there's no room for them, all stays.

@@ -96,7 +96,7 @@ pub record IsWalk (Is : ℕ → Row → Type 0) (bytes : List ℕ) (offset : ℕ
   pub inside : p.offset ≤ length bytes
   pub each : All (Is p.filled) (take p.rows rows)
   pub placed : ArePlaced (min offset (length bytes)) 0 (take p.rows rows) p.offset p.filled
-  pub behind : drop p.rows rows ≡ drop p.rows old
+  pub after : drop p.rows rows ≡ drop p.rows old
 
 -- the same with the samples of the records, in the first places
 pub record IsRead (bytes : List ℕ) (offset : ℕ) (old rows : List Row) (out : List ℤ) (p : Progress) : Type 0 where

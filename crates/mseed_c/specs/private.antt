@@ -3,4 +3,4 @@ pub mod Copied
 pub mod Filled
 pub mod Going
 pub mod Parts
-pub mod Told
+pub mod Reported

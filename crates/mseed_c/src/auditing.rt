@@ -4,7 +4,7 @@ ghost use Rattle.mseed_stream.specs.Calls.{ReadsOn, WritesOn};
 ghost use Rattle.mseed_stream.specs.Device.{nothing_read};
 ghost use Rattle.mseed_c.specs.Audited.{IsShown, SaysAudit, SaysEach, SaysPart, Stays, status_of, totals_of};
 ghost use Rattle.mseed_c.specs.Room.{overwritten};
-ghost use Rattle.mseed_c.specs.private.Told.{IsTold, says_of};
+ghost use Rattle.mseed_c.specs.private.Reported.{IsReported, says_of};
 
 use crate::codes::MEMORY;
 use crate::lent::Lent;
@@ -51,8 +51,8 @@ pub extern "C" fn mseed_audit(
     room: &mut [u8],
     totals: &mut Totals,
 ) -> u32
-    ensures shown { result ≢ 3 → IsShown SaysAudit bytes.now room.old room.new totals.new result }
-    ensures refused { result ≡ 3 → Stays room.old room.new totals.old totals.new }
+    ensures shown { result ≢ MEMORY → IsShown SaysAudit bytes.now room.old room.new totals.new result }
+    ensures refused { result ≡ MEMORY → Stays room.old room.new totals.old totals.new }
 {
     show_text(Text::Audit, alloc, bytes, room, totals)
 }
@@ -69,8 +69,8 @@ pub extern "C" fn mseed_audit_each(
     room: &mut [u8],
     totals: &mut Totals,
 ) -> u32
-    ensures shown { result ≢ 3 → IsShown SaysEach bytes.now room.old room.new totals.new result }
-    ensures refused { result ≡ 3 → Stays room.old room.new totals.old totals.new }
+    ensures shown { result ≢ MEMORY → IsShown SaysEach bytes.now room.old room.new totals.new result }
+    ensures refused { result ≡ MEMORY → Stays room.old room.new totals.old totals.new }
 {
     show_text(Text::Each, alloc, bytes, room, totals)
 }
@@ -87,8 +87,8 @@ pub extern "C" fn mseed_part(
     room: &mut [u8],
     totals: &mut Totals,
 ) -> u32
-    ensures shown { result ≢ 3 → IsShown SaysPart bytes.now room.old room.new totals.new result }
-    ensures refused { result ≡ 3 → Stays room.old room.new totals.old totals.new }
+    ensures shown { result ≢ MEMORY → IsShown SaysPart bytes.now room.old room.new totals.new result }
+    ensures refused { result ≡ MEMORY → Stays room.old room.new totals.old totals.new }
 {
     show_text(Text::Part, alloc, bytes, room, totals)
 }
@@ -96,8 +96,8 @@ pub extern "C" fn mseed_part(
 /// Writes a text about an archive that lies in memory into a room, and its counts into `totals`. Returns the status, or
 /// 3 where memory was refused: then nothing is written.
 fn show_text(text: Text, alloc: Global, bytes: &[u8], room: &mut [u8], totals: &mut Totals) -> u32
-    ensures shown { result ≢ 3 → IsShown (says_of text) bytes.now room.old room.new totals.new result }
-    ensures refused { result ≡ 3 → Stays room.old room.new totals.old totals.new }
+    ensures shown { result ≢ MEMORY → IsShown (says_of text) bytes.now room.old room.new totals.new result }
+    ensures refused { result ≡ MEMORY → Stays room.old room.new totals.old totals.new }
 {
     let mut source = Lent::new(bytes);
     let mut sink = Counted::new(Vec::new(alloc));
@@ -107,8 +107,8 @@ fn show_text(text: Text, alloc: Global, bytes: &[u8], room: &mut [u8], totals: &
     }
 }
 
-/// Writes a text about the archive that a source gives. Returns its summary, or none where memory was refused or the
-/// output failed.
+/// Writes a text about the archive that a source gives. Returns its summary, or `None` where memory was refused or
+/// the output failed.
 fn write_text<R: Source, W: Sink>(
     text: Text,
     alloc: Global,
@@ -116,8 +116,8 @@ fn write_text<R: Source, W: Sink>(
     sink: &mut W,
 ) -> Option<Summary>
     requires { R.read source.old ≡ nothing_read }
-    ensures told { IfSome result (λ summary.
-        IsTold (says_of text) summary (R.read source.new) (W.written sink.old) (W.written sink.new)) }
+    ensures reported { IfSome result (λ summary.
+        IsReported (says_of text) summary (R.read source.new) (W.written sink.old) (W.written sink.new)) }
     ensures reads { ReadsOn (R.read source.old) (R.read source.new) (R.remaining source.old) (R.remaining source.new)
         (R.beside source.old) (R.beside source.new) }
     ensures writes { WritesOn (W.written sink.old) (W.written sink.new) (W.contents sink.old) (W.contents sink.new)
@@ -141,7 +141,7 @@ fn show(text: &[u8], summary: &Summary, room: &mut [u8], totals: &mut Totals) ->
     status_of(summary)
 }
 
-/// The counts of a summary, with the length of the whole text.
+/// Returns the counts of a summary, with the length of the whole text in bytes.
 fn totals_of(summary: &Summary, length: usize) -> Totals
     ensures { result ≡ totals_of summary.now length }
 {
@@ -153,7 +153,7 @@ fn totals_of(summary: &Summary, length: usize) -> Totals
     }
 }
 
-/// The status of an audit: 2 at a fault, else 1 where some channel is broken, else 0.
+/// Returns the status of an audit: 2 at a fault, else 1 where some channel is broken, else 0.
 fn status_of(summary: &Summary) -> u32
     ensures { result ≡ status_of summary.now }
 {

@@ -1,4 +1,4 @@
-//! What a call returns, as a code, and the numbers that belong to it.
+//! The codes that calls return, and the numbers that belong to them.
 ghost use Rattle.std.specs.Prelude.{◌≡◌};
 ghost use Rattle.mseed_c.specs.Codes.{code_of, code_of_frame, code_of_read, code_of_refusal};
 ghost use Rattle.mseed_c.specs.Codes.{code_of_misfit, code_of_stop, detail_of, index_of, detail_of_read};
@@ -52,7 +52,7 @@ pub enum Refusal {
 pub struct Detail {
     /// How many samples were written, how many bytes or places are needed, or the first number of the reason; else 0.
     pub first: u64,
-    /// Of a bad word its place in the frame, 1 to 15; else 0.
+    /// Of a bad word its index in the frame, 1 to 15; else 0.
     pub second: u64,
     /// Of a last sample that isn't the record's constant, the sample; else 0.
     pub found: i32,
@@ -60,7 +60,7 @@ pub struct Detail {
     pub constant: i32,
 }
 
-/// The code of what decoding a record came to: 0 where its samples were written.
+/// Returns the code of what decoding a record came to: 0 where its samples were written.
 pub(crate) fn code_of(answer: &Result<usize, SampleFault>) -> u32
     ensures { result ≡ code_of answer.now }
 {
@@ -71,7 +71,7 @@ pub(crate) fn code_of(answer: &Result<usize, SampleFault>) -> u32
     }
 }
 
-/// The numbers that belong to that code.
+/// Returns the numbers that belong to the code of what decoding a record came to.
 pub(crate) fn detail_of(answer: &Result<usize, SampleFault>) -> Detail
     ensures { result ≡ detail_of answer.now }
 {
@@ -82,7 +82,7 @@ pub(crate) fn detail_of(answer: &Result<usize, SampleFault>) -> Detail
     }
 }
 
-/// The code of why no further record is read.
+/// Returns the code of why no further record is read: 4 to 6, or 16 to 22.
 pub(crate) fn code_of_stop(stop: Stop) -> u32
     ensures { result ≡ code_of_stop stop }
 {
@@ -94,7 +94,7 @@ pub(crate) fn code_of_stop(stop: Stop) -> u32
     }
 }
 
-/// How many places or bytes are needed to go on; of a length that no record has, its exponent; else 0.
+/// Returns how many samples' places or bytes are needed to go on; of a length that no record has, its exponent; else 0.
 pub(crate) fn needed_by(stop: Stop) -> usize
     ensures { result ≡ needed_by stop }
 {
@@ -107,7 +107,7 @@ pub(crate) fn needed_by(stop: Stop) -> usize
     }
 }
 
-/// The code of bytes that begin no record, 16 to 22.
+/// Returns the code of bytes that begin no record, 16 to 22.
 fn code_of_frame(fault: FrameFault) -> u32
     ensures { result ≡ code_of_frame fault }
 {
@@ -122,7 +122,7 @@ fn code_of_frame(fault: FrameFault) -> u32
     }
 }
 
-/// The code of why a record's samples can't be read, 32 to 39, or 3.
+/// Returns the code of why a record's samples can't be read: 32 to 39, or 3 where memory was refused.
 pub(crate) fn code_of_read(fault: ReadFault) -> u32
     ensures { result ≡ code_of_read fault }
 {
@@ -139,7 +139,7 @@ pub(crate) fn code_of_read(fault: ReadFault) -> u32
     }
 }
 
-/// The numbers of why a record's samples can't be read.
+/// Returns the numbers that belong to why a record's samples can't be read.
 fn detail_of_read(fault: ReadFault) -> Detail
     ensures { result ≡ detail_of_read fault }
 {
@@ -163,7 +163,7 @@ fn detail_of_read(fault: ReadFault) -> Detail
     }
 }
 
-/// A detail of one number, with 0 for the others.
+/// Returns a detail of one number, with 0 for the others.
 fn number(first: usize) -> Detail
     ensures { result ≡ number first }
 {
@@ -175,7 +175,7 @@ fn number(first: usize) -> Detail
     }
 }
 
-/// The code of why a heading is refused, 64 to 69.
+/// Returns the code of why a heading is refused, 64 to 69.
 pub(crate) fn code_of_refusal(refusal: Refusal) -> u32
     ensures { result ≡ code_of_refusal refusal }
 {
@@ -189,7 +189,7 @@ pub(crate) fn code_of_refusal(refusal: Refusal) -> u32
     }
 }
 
-/// The code of why a series can't be packed, 48 to 52. There is no sink that could fail.
+/// Returns the code of why a series can't be packed, 48 to 52. `Write` doesn't come, since there is no sink.
 pub(crate) fn code_of_misfit(fault: PackFault) -> u32
     ensures { result ≡ code_of_misfit fault }
 {
@@ -203,7 +203,7 @@ pub(crate) fn code_of_misfit(fault: PackFault) -> u32
     }
 }
 
-/// The index of the first sample that the encoding doesn't hold, where that is the reason; else 0.
+/// Returns the index of the first sample that the encoding doesn't hold, where that is the reason; else 0.
 pub(crate) fn index_of(fault: PackFault) -> usize
     ensures { result ≡ index_of fault }
 {

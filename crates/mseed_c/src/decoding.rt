@@ -9,11 +9,11 @@ use crate::codes::{Detail, SampleFault, Stop, code_of, detail_of};
 use mseed_record::{RecordView, ViewFault};
 use mseed_steim::fill_samples;
 
-/// A view of the record with which the bytes begin.
+/// Returns the record with which the bytes begin.
 ///
 /// # Errors
 ///
-/// Why they begin none, or how many bytes are needed before that is known.
+/// `Not` with the reason why they begin none, or `Short` with how many bytes are needed before that is known.
 pub(crate) fn view_at(bytes: &[u8]) -> Result<RecordView<'_>, Stop>
     ensures first { IfOk result (λ view. IsFirst bytes.now (view_of view)) }
     ensures stop { IfErr result (λ stop. IsStopAt bytes.now stop) }
@@ -48,7 +48,12 @@ pub(crate) fn fill(view: &RecordView<'_>, out: &mut [i32]) -> Result<usize, Samp
 }
 
 /// Writes the samples of the record with which the bytes begin to the first places of `out`, and returns how many there
-/// are, or why there are none.
+/// are.
+///
+/// # Errors
+///
+/// Why there are none: `Stop` where no record begins the bytes or `out` is too short, `Read` where the samples can't be
+/// read.
 fn decode(bytes: &[u8], out: &mut [i32]) -> Result<usize, SampleFault>
     ensures { IsDecoded bytes.now out.old out.new result }
 {

@@ -1,4 +1,4 @@
-//! Going through the records of an archive that lies in memory: a row for each.
+//! The walk through the records of an archive that lies in memory: a row for each.
 ghost use Rattle.std.specs.Prelude.{◌≡◌, ◌≤◌, ◌<◌, ◌+◌, ◌^◌, List, ℕ, ℤ, length, drop, IfErr, IfOk, IfSome, IfNone};
 ghost use Rattle.std.specs.Prelude.{OnOk, OnErr};
 ghost use Rattle.mseed_record.specs.Viewing.{view_of};
@@ -27,16 +27,16 @@ pub struct Progress {
     pub needed: usize,
 }
 
-/// What is done with the samples of each record: they are written, or only counted.
+/// What is done with the samples of each record: they are read and written, or only counted.
 pub(crate) trait Places {
-    // What is so of a row of some bytes, where so many samples are counted and the places hold these.
+    // What holds of a row of some bytes, where so many samples are counted and `out` holds these.
     ghost is_row: { List ℕ → ℕ → List ℤ → Row → Type 0 };
 
-    // How many samples can be counted, where there are so many places.
+    // How many samples can be counted, where `out` is so long.
     ghost room: { ℕ → ℕ };
 
-    /// Takes the samples of a record, after `filled` of the records before it. Returns how many there are then in all,
-    /// and 0, or the code of why the record has none.
+    /// Takes the samples of a record, after `filled` samples of the records before it. Returns how many samples there
+    /// are then in all, and 0, or the code of why the record has none.
     ///
     /// # Errors
     ///
@@ -84,8 +84,8 @@ fn row_next<P: Places>(
     Ok(())
 }
 
-/// Writes rows as long as there are records, and rows to write to. Returns why no more are written; none at the end of
-/// the archive.
+/// Writes rows as long as there are records, and rows to write to. Returns why no more are written; `None` at the end
+/// of the archive.
 fn rows_on<P: Places>(
     bytes: &[u8],
     rows: &mut [Row],
@@ -101,7 +101,7 @@ fn rows_on<P: Places>(
     ensures stopped { IfSome result (λ stop.
         EndsWalk stop bytes.now (length rows.new) (P.room (length out.new)) progress.new) }
 {
-    for turn in 0..rows.len() {
+    for index in 0..rows.len() {
         if progress.offset >= bytes.len() {
             return None;
         }
@@ -116,8 +116,8 @@ fn rows_on<P: Places>(
     }
 }
 
-/// Writes a row for each record of an archive from an offset on, and takes their samples. `progress` says how far the
-/// archive was read. Returns 0 at the end of the archive, else the code of why it stopped.
+/// Writes a row for each record of an archive from an offset (in bytes) on, and takes their samples. `progress` gets
+/// how far the archive was read. Returns 0 at the end of the archive, else the code of why it stopped.
 pub(crate) fn go_through<P: Places>(
     bytes: &[u8],
     offset: usize,

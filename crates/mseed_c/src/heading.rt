@@ -2,7 +2,8 @@
 ghost use Rattle.std.specs.Prelude.{◌≡◌, ◌≤◌, ◌<◌, List, ℕ, IfErr, IfOk, IfSome, IfNone};
 ghost use Rattle.mseed_time.specs.declared.outcome.LeapStep.{LeapStep};
 ghost use Rattle.mseed_c.specs.Heading.{HasLeap, IsRefusedFor, exponent_of};
-ghost use Rattle.mseed_c.specs.private.Parts.{AreParts, steps_of};
+ghost use Rattle.std.specs.Option.{option_to_list};
+ghost use Rattle.mseed_c.specs.private.Parts.{AreParts};
 
 use crate::codes::Refusal;
 use mseed_pack::Options;
@@ -32,7 +33,7 @@ pub struct Heading {
     pub key: [u8; 12],
 }
 
-/// The exponent e of a length of 2^e bytes; 0 for a length that isn't written.
+/// Returns the exponent e of a record's length of 2^e bytes; 0 for a length that isn't written.
 fn exponent_of(length: u16) -> u8
     ensures { result ≡ exponent_of length }
 {
@@ -56,17 +57,17 @@ pub(crate) struct Parts {
     pub(crate) step: Option<(u64, LeapStep)>,
 }
 
-/// The leap second of a heading, if it has one, with how many of so many samples stand before it; none where it is of
-/// no kind, or stands after none of the samples.
+/// Returns the leap second of a heading, if it has one, with how many of so many samples stand before it; `None` where
+/// it is of no kind, or stands after none of the samples.
 fn leap_of(heading: &Heading, samples: usize) -> Option<Option<(u64, LeapStep)>>
-    ensures some { IfSome result (λ step. HasLeap heading.now samples (steps_of step)) }
+    ensures some { IfSome result (λ step. HasLeap heading.now samples (option_to_list step)) }
     ensures none { IfNone result ((steps : List (ℕ × LeapStep)) → HasLeap heading.now samples steps → ⊥) }
 {
-    let place = heading.leap_after;
+    let after = heading.leap_after;
     if heading.leap == 0 {
         return Some(None);
     }
-    if heading.leap > 2 || place == 0 || place > samples as u64 {
+    if heading.leap > 2 || after == 0 || after > samples as u64 {
         return None;
     }
     let step = if heading.leap == 1 {
@@ -74,10 +75,10 @@ fn leap_of(heading: &Heading, samples: usize) -> Option<Option<(u64, LeapStep)>>
     } else {
         LeapStep::Minus
     };
-    Some(Some((place, step)))
+    Some(Some((after, step)))
 }
 
-/// The values that a heading gives for so many samples.
+/// Returns the values that a heading gives for so many samples.
 ///
 /// # Errors
 ///

@@ -7,9 +7,9 @@ use crate::row::Row;
 use mseed_record::RecordView;
 
 /// The samples are counted, and not read.
-struct Counted;
+struct Unread;
 
-impl Places for Counted {
+impl Places for Unread {
     ghost is_row = { λ bytes filled out row. IsHead bytes filled row };
 
     ghost room = { λ places. 2 ^ 64 - 1 };
@@ -23,8 +23,8 @@ impl Places for Counted {
     }
 }
 
-/// Writes a row for each record of an archive from an offset on, without reading their samples; rows after those that
-/// are written stay. `progress` says how far the archive was read.
+/// Writes a row for each record of an archive from an offset (in bytes) on, without reading their samples; rows after
+/// those that are written stay. `progress` gets how far the archive was read. No memory is requested.
 ///
 /// Returns 0 at the end of the archive, else the code of why it stopped: 4 where no row is left, 6 where more bytes are
 /// needed, 16 to 22 where the next bytes begin no record.
@@ -38,5 +38,5 @@ pub extern "C" fn mseed_rows(
     ensures heads { IsHeads bytes.now offset rows.old rows.new progress.new }
     ensures end { IsEnd bytes.now (length rows.new) (2 ^ 64 - 1) progress.new result }
 {
-    go_through::<Counted>(bytes, offset, rows, &mut [], progress)
+    go_through::<Unread>(bytes, offset, rows, &mut [], progress)
 }

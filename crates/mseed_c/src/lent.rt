@@ -16,7 +16,7 @@ pub struct Lent<'a> {
 impl<'a> Lent<'a> {
     ghost use Rattle.mseed_c.specs.Lent.{read_by, left_of};
 
-    /// These bytes as a source, of which none was read yet.
+    /// Returns these bytes as a source, of which none was read yet.
     pub fn new(bytes: &'a [u8]) -> Lent<'a>
         ensures read { read_by result ≡ nothing_read }
         ensures left { left_of result ≡ Some bytes.now }

@@ -2,7 +2,6 @@
 ghost use Rattle.std.specs.Prelude.{◌≡◌, length};
 ghost use Rattle.mseed_audit.specs.Series.{AreSteps};
 ghost use Rattle.mseed_pack.specs.Traces.{trace_of};
-ghost use Rattle.mseed_c.specs.Heading.{HasLeap};
 ghost use Rattle.mseed_c.specs.Packed.{IsPackedInto, IsPackOutcome};
 ghost use Rattle.mseed_c.specs.private.Parts.{AreParts};
 
@@ -10,7 +9,6 @@ use crate::codes::{code_of_misfit, code_of_refusal, index_of};
 use crate::heading::{Heading, Parts, parts_of};
 use mseed_pack::{Options, SeriesView, fit_view, pack_into};
 use mseed_record::Codes;
-use mseed_time::LeapStep;
 
 /// What packing came to.
 #[repr(C)]
@@ -55,31 +53,12 @@ fn pack_parts(
     requires { AreParts heading.now (length samples.now) parts.now }
     ensures { IsPackOutcome heading.now samples.now room.old room.new reported.old reported.new result }
 {
-    match parts.step {
-        Some(step) => pack_steps(heading, parts, samples, &[step], room, reported),
-        None => pack_steps(heading, parts, samples, &[], room, reported),
-    }
-}
-
-/// Packs the series of a heading whose values are known, with these leap seconds, and returns the code.
-fn pack_steps(
-    heading: &Heading,
-    parts: &Parts,
-    samples: &[i32],
-    steps: &[(u64, LeapStep)],
-    room: &mut [u8],
-    reported: &mut Packed,
-) -> u32
-    requires parts { AreParts heading.now (length samples.now) parts.now }
-    requires steps { HasLeap heading.now (length samples.now) steps.now }
-    ensures { IsPackOutcome heading.now samples.now room.old room.new reported.old reported.new result }
-{
     let series = SeriesView {
         codes: Codes::of_key(heading.key),
         start: parts.start,
         rate: parts.rate,
         samples,
-        steps,
+        steps: parts.step.as_slice(),
     };
     pack_series(&series, &parts.options, room, reported)
 }

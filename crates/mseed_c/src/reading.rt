@@ -10,10 +10,10 @@ use crate::going::{Places, Progress, go_through};
 use crate::row::Row;
 use mseed_record::RecordView;
 
-/// The samples are written to the caller's places, one record's after another's.
-struct Kept;
+/// The samples are written to the caller's slice, one record's after another's.
+struct Written;
 
-impl Places for Kept {
+impl Places for Written {
     ghost is_row = { IsRow };
 
     ghost room = { λ places. places };
@@ -26,19 +26,20 @@ impl Places for Kept {
     }
 }
 
-/// Writes a record's samples from a place on. Returns how many, and 0, or the code of why there are none.
+/// Writes a record's samples from an index of `out` on. Returns how many, and 0; or 0, and the code of why there are
+/// none.
 ///
 /// # Errors
 ///
-/// How many samples the record has, where there are fewer places: then nothing is written.
-fn fill_row(view: &RecordView<'_>, out: &mut [i32], place: usize) -> Result<(usize, u32), usize>
-    requires { place ≤ length out.old }
-    ensures prefix { take place out.new ≡ take place out.old }
-    ensures row { IfOk result (λ r. AreSamples (view_of view.now) (drop place out.new) r.0 r.1) }
+/// How many samples the record has, where there is room for fewer: then nothing is written.
+fn fill_row(view: &RecordView<'_>, out: &mut [i32], index: usize) -> Result<(usize, u32), usize>
+    requires { index ≤ length out.old }
+    ensures prefix { take index out.new ≡ take index out.old }
+    ensures row { IfOk result (λ r. AreSamples (view_of view.now) (drop index out.new) r.0 r.1) }
     ensures stays { OnErr result (out.new ≡ out.old) }
-    ensures full { IfErr result (λ places. LacksRoom (view_of view.now) (drop place out.new) places) }
+    ensures full { IfErr result (λ places. LacksRoom (view_of view.now) (drop index out.new) places) }
 {
-    match fill(view, &mut out[place..]) {
+    match fill(view, &mut out[index..]) {
         Ok(samples) => Ok((samples, 0)),
         Err(SampleFault::Read(fault)) => Ok((0, code_of_read(fault))),
         Err(SampleFault::Stop(Stop::Room(places))) => Err(places),
@@ -46,9 +47,9 @@ fn fill_row(view: &RecordView<'_>, out: &mut [i32], place: usize) -> Result<(usi
     }
 }
 
-/// Reads the records of an archive from an offset on: each gets a row, and its samples are written to `out`, after
-/// those of the records before it. A record whose samples can't be read has its row with the code of the reason, and
-/// adds no samples. Rows after those that are written stay. `progress` says how far the archive was read.
+/// Reads the records of an archive from an offset (in bytes) on: each gets a row, and its samples are written to `out`,
+/// after those of the records before it. A record whose samples can't be read has its row with the code of the reason,
+/// and adds no samples. Rows after those that are written stay. `progress` gets how far the archive was read.
 ///
 /// Returns 0 at the end of the archive, else the code of why it stopped: 4 where no row is left, 5 where there are
 /// fewer places than the next record has samples, 6 where more bytes are needed, 16 to 22 where the next bytes begin no
@@ -64,5 +65,5 @@ pub extern "C" fn mseed_read(
     ensures read { IsRead bytes.now offset rows.old rows.new out.new progress.new }
     ensures end { IsEnd bytes.now (length rows.new) (length out.new) progress.new result }
 {
-    go_through::<Kept>(bytes, offset, rows, out, progress)
+    go_through::<Written>(bytes, offset, rows, out, progress)
 }

@@ -54,7 +54,7 @@ pub(crate) struct RowRate {
     pub(crate) multiplier: i16,
 }
 
-/// A record's rate, as a row has it; all fields are 0 where it has none.
+/// Returns a record's rate, as a row has it; all fields are 0 where it has none.
 fn rate(view: &RecordView<'_>) -> RowRate
     ensures { HasRate result (view_of view.now) }
 {
@@ -77,8 +77,8 @@ fn rate(view: &RecordView<'_>) -> RowRate
     }
 }
 
-/// A record's start in microseconds from 1970-01-01T00:00:00, and 0; or 0, and the number of the first field of it that
-/// is out of its range.
+/// Returns a record's start in microseconds from 1970-01-01T00:00:00, and 0; or 0, and the number of the first field of
+/// it that is out of its range.
 fn start(view: &RecordView<'_>) -> (i64, u8)
     ensures time { result.1 ≡ time_number (first_fault (time_at (view_of view.now).order (view_of view.now).bytes)) }
     ensures start { result.1 ≡ 0 → result.0 ≡ start_of (view_of view.now) }
@@ -90,7 +90,7 @@ fn start(view: &RecordView<'_>) -> (i64, u8)
     }
 }
 
-/// The number of a field of a BTIME, from 1, the year, to 6, the fraction.
+/// Returns the number of a field of a BTIME, from 1, the year, to 6, the fraction.
 fn time_number(fault: TimeFault) -> u8
     ensures value { result ≡ time_number (Some fault) }
     ensures some { result ≢ 0 }
@@ -105,7 +105,7 @@ fn time_number(fault: TimeFault) -> u8
     }
 }
 
-/// The number of a record's leap seconds: 0 for none, 1 positive, 2 negative, 3 for both flags.
+/// Returns the number of a record's leap seconds: 0 for none, 1 positive, 2 negative, 3 for both flags.
 fn leap_number(leap: Leap) -> u8
     ensures { result ≡ leap_number leap }
 {
@@ -117,8 +117,8 @@ fn leap_number(leap: Leap) -> u8
     }
 }
 
-/// The row of a record that begins at this offset, whose first sample has this index, and whose samples were read with
-/// this code.
+/// Returns the row of a record that begins at this offset (in bytes), whose first sample has this index, and whose
+/// samples were read with this code.
 pub(crate) fn row_of(view: &RecordView<'_>, offset: usize, first: usize, code: u32) -> Row
     ensures describes { Describes result (view_of view.now) }
     ensures offset { result.offset ≡ offset }

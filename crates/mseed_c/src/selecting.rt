@@ -45,7 +45,8 @@ pub struct Selected {
     pub records: usize,
     /// How many of them are asked for.
     pub asked_for: usize,
-    /// How many of the channels that are asked for have no valid start, and so stand in no window; 0 without a window.
+    /// How many records of the channels that are asked for have no valid start, and so lie in no window; 0 without a
+    /// window.
     pub without_time: usize,
     /// The length in bytes of all records that are asked for, also where the room was shorter.
     pub length: usize,
@@ -56,9 +57,9 @@ pub struct Selected {
 }
 
 /// Copies the records of an archive that are asked for, byte for byte and in their order: those of the channels that
-/// the patterns match, or of all where `channels` is empty, that stand in the window, whole also where they straddle
+/// the patterns match, or of all where `channels` is empty, that lie in the window, whole also where they straddle
 /// its ends. The room gets as many bytes of them as it has; what lies after them stays. `reported` gets the counts, and
-/// the length of all. What the records hold isn't judged.
+/// the length of all. Their samples aren't read.
 ///
 /// Returns 0 at the end of the archive, else the code of why it stopped: 6 where more bytes are needed, 16 to 22 where
 /// the next bytes begin no record. Or it returns 80, 81 or 82, the first that applies, where an end of the window is no
@@ -92,7 +93,7 @@ pub extern "C" fn mseed_select(
     select_all(&selector, bytes, room, reported)
 }
 
-/// One end of a window, if it has it; none where that is no instant.
+/// Returns one end of a window, if it has it; `None` where that is no instant.
 fn bound_of(has: u8, micros: i64) -> Option<Option<Micros>>
     ensures some { IfSome result (λ bound. (bound ≡ bound_of has micros) × (has ≢ 0 → IsInstant micros)) }
     ensures none { IfNone result ((has ≢ 0) × ¬ (IsInstant micros)) }

@@ -1,12 +1,12 @@
 use Rattle.std.proofs.Common.{◌≡◌, ◌∙◌, ◌++◌, List, [], ℕ, ap}
 use Rattle.mseed_stream.proofs.Calls.{grown}
-use Rattle.mseed_c.specs.private.Told.{says_of}
+use Rattle.mseed_c.specs.private.Reported.{says_of}
 use Rattle.mseed_c.proofs.Texts.{shown}
 use Rattle.mseed_c.proofs.auditing.show_text.Goals as goal
 
 pub returns-in-Some-clause-shown : goal.returns-in-Some-clause-shown
 returns-in-Some-clause-shown c = λ some.
-    let told = c.in-Some.ensures.told in
+    let told = c.in-Some.ensures.reported in
     let reported = grown _ _ _ _ _ _ told.text c.write_text.ensures.writes told.bytes in
     let none : c.new-sink.result.inner.items ≡ [] = ap (λ v. v.items) c.new-sink.ensures.inner ∙ c.new.ensures.items in
     let held : c.write_text.new.sink.inner.items ≡ told.text =

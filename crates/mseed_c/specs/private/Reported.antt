@@ -13,7 +13,7 @@ says_of Each = SaysEach
 says_of Part = SaysPart
 
 -- a text was written, which says this of what was read, and its numbers are these
-pub record IsTold (Says : BytesRead → Summary → List ℕ → Type 0) (summary : Summary) (h : BytesRead)
+pub record IsReported (Says : BytesRead → Summary → List ℕ → Type 0) (summary : Summary) (h : BytesRead)
     (old new : BytesWritten) : Type 0 where
   pub text : List ℕ
   pub says : Says h summary text

@@ -2,7 +2,7 @@ use Rattle.std.proofs.Common.{◌≡◌, ◌+◌, rules}
 use Rattle.mseed_record.specs.Viewing.{view_of}
 use Rattle.mseed_steim.specs.Reading.{count_of}
 use Rattle.mseed_c.proofs.MoreRows.{counted_on}
-use Rattle.mseed_c.proofs.heads.CountedPlaces.take.Goals as goal
+use Rattle.mseed_c.proofs.heads.UnreadPlaces.take.Goals as goal
 
 pub returns-in-Some-clause-taken : goal.returns-in-Some-clause-taken
 returns-in-Some-clause-taken c =
