@@ -96,13 +96,6 @@ window_bounded None (Some until) v bounded unknown =
 window_bounded (Some from) until v bounded unknown =
     by_known (start_fault v) (reaches (Some from) v && begins_before until v) unknown
 
--- with a bound, by the start
-pub in_window : (from until : Option ℤ) (v : View) → (from ≡ None → until ≡ None → ⊥)
-    → answer_in from until v ≡ answer_by (start_fault v) (reaches from v && begins_before until v)
-in_window None None v ne = absurd (ne refl refl)
-in_window None (Some until) v ne = refl
-in_window (Some from) until v ne = refl
-
 -- ---- both
 chosen : (b : Bool) (a : Answer) → cond b a Left ≡ AskedFor → (b ≡ true) × (a ≡ AskedFor)
 chosen true a e = (refl, e)

@@ -3,7 +3,6 @@ use Rattle.std.proofs.Common.{◌≡◌, ℕ, ◌+◌, ◌++◌, List, [], ◌�
 use Rattle.std.proofs.Common.{append_assoc, append-nil, arith, inl, inr, Bool, true, false, cond, Result, Ok, Err}
 use Rattle.std.proofs.lemmas.List.{length-append}
 use Rattle.std.proofs.lemmas.List.Elements.{filter-append}
-use Rattle.std.proofs.lemmas.List.Folds.{concat-append}
 use Rattle.std.proofs.lemmas.List.Sums.{sum_by-append}
 use Rattle.std.specs.List.{concat, count_by, filter}
 use Rattle.std.specs.Result.{IsErrAnd}
@@ -17,7 +16,6 @@ use Rattle.mseed_stream.specs.Walk.{AreViews, bytes_in}
 use Rattle.mseed_select.specs.Counting.{counts_of, one_if}
 use Rattle.mseed_select.specs.Formatted.{IsFormatted, Texts, asked_text, texts_of, whole_text}
 use Rattle.mseed_select.specs.Halves.{Placed, placed_from}
-use Rattle.mseed_select.specs.Select.{selected_bytes}
 use Rattle.mseed_select.specs.Selection.{Selection, answer_of, asks_for, is_asked, is_without_time, lacks_time}
 use Rattle.mseed_select.specs.declared.answer.Answer.{Answer}
 use Rattle.mseed_select.specs.declared.copying.Step.{Step}
@@ -25,27 +23,9 @@ use Rattle.mseed_select.specs.declared.counts.Counts.{Counts}
 use Rattle.mseed_select.specs.declared.fault.SelectFault.{SelectFault}
 use Rattle.mseed_select.specs.declared.fault.SelectFault.TheVariants.{Write, Memory}
 use Rattle.mseed_select.specs.declared.selected.Selected.{Selected}
-use Rattle.mseed_select.specs.private.Copying.{HasCopied, IsCopying, IsHeld, IsNext, bytes_by, text_by}
+use Rattle.mseed_select.specs.private.Copying.{HasCopied, IsCopying, IsHeld, IsNext, text_by}
 
 -- ---- one more record
-map_bytes : (xs ys : List View) → bytes_in (xs ++ ys) ≡ bytes_in xs ++ bytes_in ys
-map_bytes [] ys = refl
-map_bytes (x ∷ xs) ys = ap (λ (bs : List (List ℕ)). x.bytes ∷ bs) (map_bytes xs ys)
-
-one_by : (b : Bool) (v : View) → concat (bytes_in (cond b (v ∷ []) [])) ≡ cond b v.bytes []
-one_by true v = append-nil v.bytes
-one_by false v = refl
-
--- its bytes come after the others, where it is asked for
-pub bytes_more : (s : Selection) (views : List View) (v : View)
-    → selected_bytes s (views ++ v ∷ []) ≡ selected_bytes s views ++ bytes_by s v
-bytes_more s views v =
-    ap (λ (vs : List View). concat (bytes_in vs)) (filter-append (asks_for s) views (v ∷ []))
-    ∙ ap (λ (bs : List (List ℕ)). concat bs)
-    (map_bytes (filter (asks_for s) views) (filter (asks_for s) (v ∷ [])))
-    ∙ concat-append (bytes_in (filter (asks_for s) views)) (bytes_in (filter (asks_for s) (v ∷ [])))
-    ∙ ap (λ (bs : List ℕ). selected_bytes s views ++ bs) (one_by (asks_for s v) v)
-
 one_alone : (b : Bool) → 0 + cond b 1 0 ≡ one_if b
 one_alone true = refl
 one_alone false = refl

@@ -3,7 +3,7 @@ use Rattle.std.proofs.Common.{◌≡◌, ◌≢◌, ℕ, refl, sym, ap, ◌∙�
 use Rattle.std.proofs.Common.{List, [], ◌∷◌, ◌++◌, length, get_or, drop, eqb, inl, inr, eq-eqb, ◌≤◌}
 use Rattle.std.proofs.lemmas.Bool.Decides.{eqb_tells}
 use Rattle.std.specs.Bool.{Decides}
-use Rattle.mseed_select.specs.Pattern.{Fits, Takes, any_rest, behind_one, fits}
+use Rattle.mseed_select.specs.Pattern.{Fits, Takes, any_rest, after_one, fits}
 
 pub both : (a b : Bool) → (a && b) ≡ true → (a ≡ true) × (b ≡ true)
 both true b h = (refl, h)
@@ -22,17 +22,17 @@ pick_no false x y h = refl
 pick_no true x y h = absurd (let c : true ≡ false = h in cc c)
 
 -- a code that begins with some characters, after which a test holds
-abbrev Behind : (List ℕ → Bool) → (List ℕ → Type 0) → List ℕ → Type 0
-Behind test Q code = (taken : List ℕ) × ((rest : List ℕ) × ((code ≡ taken ++ rest) × Q taken × (test rest ≡ true)))
+abbrev HoldsAfter : (List ℕ → Bool) → (List ℕ → Type 0) → List ℕ → Type 0
+HoldsAfter test Q code = (taken : List ℕ) × ((rest : List ℕ) × ((code ≡ taken ++ rest) × Q taken × (test rest ≡ true)))
 
 any_yes : (test : List ℕ → Bool) (code : List ℕ) → any_rest test code ≡ true
-    → Behind test (λ taken. Unit {0}) code
+    → HoldsAfter test (λ taken. Unit {0}) code
 any_yes test [] e = ([], ([], (refl, tt, e)))
 any_yes test (x ∷ xs) e =
     elim (test (x ∷ xs)) as (λ b. test (x ∷ xs) ≡ b → (b || any_rest test xs) ≡ true
-    → Behind test (λ taken. Unit {0}) (x ∷ xs)) [
+    → HoldsAfter test (λ taken. Unit {0}) (x ∷ xs)) [
       | true ↦ λ is h. ([], (x ∷ xs, (refl, tt, is)))
-      | false ↦ λ is h. let r : Behind test (λ taken. Unit {0}) xs = any_yes test xs h in
+      | false ↦ λ is h. let r : HoldsAfter test (λ taken. Unit {0}) xs = any_yes test xs h in
           (x ∷ r.0, (r.1.0, (ap (λ (cs : List ℕ). x ∷ cs) r.1.1.0, tt, r.1.1.2)))
     ] refl e
 
@@ -43,7 +43,7 @@ any_back test (x ∷ taken) rest e =
     ap (λ (b : Bool). test (x ∷ (taken ++ rest)) || b) (any_back test taken rest e)
     ∙ or_true (test (x ∷ (taken ++ rest)))
 
-one_yes : (c : ℕ) (test : List ℕ → Bool) (code : List ℕ) → behind_one c test code ≡ true → Behind test (Takes c) code
+one_yes : (c : ℕ) (test : List ℕ → Bool) (code : List ℕ) → after_one c test code ≡ true → HoldsAfter test (Takes c) code
 one_yes c test [] e = absurd (let f : false ≡ true = e in cc f)
 one_yes c test (x ∷ xs) e =
     let h : ((eqb c 63 || eqb c x) ≡ true) × (test xs ≡ true) = both (eqb c 63 || eqb c x) (test xs) e in
@@ -60,9 +60,9 @@ itself : (c : ℕ) → (eqb c 63 || eqb c c) ≡ true
 itself c = ap (λ (b : Bool). eqb c 63 || b) (eq-eqb c c refl) ∙ or_true (eqb c 63)
 
 one_back : (c : ℕ) (test : List ℕ → Bool) (taken rest : List ℕ) → Takes c taken → c ≢ 42 → test rest ≡ true
-    → behind_one c test (taken ++ rest) ≡ true
+    → after_one c test (taken ++ rest) ≡ true
 one_back c test taken rest (inl same) ne e =
-    ap (λ (cs : List ℕ). behind_one c test (cs ++ rest)) same
+    ap (λ (cs : List ℕ). after_one c test (cs ++ rest)) same
     ∙ ap (λ (b : Bool). b && test rest) (itself c) ∙ e
 one_back c test [] rest (inr (inl mark)) ne e = absurd (omega (arith, mark.1))
 one_back c test (x ∷ []) rest (inr (inl mark)) ne e =
@@ -79,13 +79,13 @@ fits_yes [] (x ∷ xs) e = elim (eqb_tells (length (x ∷ xs)) 0) [
 fits_yes (c ∷ cs) code e = elim (eqb_tells c 42) [
   | inl star ↦
       let any : any_rest (λ rest. fits cs rest) code ≡ true =
-      sym (pick_yes (eqb c 42) (any_rest (λ rest. fits cs rest) code) (behind_one c (λ rest. fits cs rest) code) star.0)
+      sym (pick_yes (eqb c 42) (any_rest (λ rest. fits cs rest) code) (after_one c (λ rest. fits cs rest) code) star.0)
       ∙ e in
       let r = any_yes (λ rest. fits cs rest) code any in
       (r.0, (r.1.0, (r.1.1.0, inr (inr star.1), fits_yes cs r.1.0 r.1.1.2)))
   | inr other ↦
-      let one : behind_one c (λ rest. fits cs rest) code ≡ true =
-      sym (pick_no (eqb c 42) (any_rest (λ rest. fits cs rest) code) (behind_one c (λ rest. fits cs rest) code) other.0)
+      let one : after_one c (λ rest. fits cs rest) code ≡ true =
+      sym (pick_no (eqb c 42) (any_rest (λ rest. fits cs rest) code) (after_one c (λ rest. fits cs rest) code) other.0)
       ∙ e in
       let r = one_yes c (λ rest. fits cs rest) code one in
       (r.0, (r.1.0, (r.1.1.0, r.1.1.1, fits_yes cs r.1.0 r.1.1.2)))
@@ -100,12 +100,12 @@ fits_back (c ∷ cs) code f =
     let holds : fits cs rest ≡ true = fits_back cs rest f.1.1.2 in
     elim (eqb_tells c 42) [
       | inl star ↦
-          pick_yes (eqb c 42) (any_rest (λ rest. fits cs rest) code) (behind_one c (λ rest. fits cs rest) code) star.0
+          pick_yes (eqb c 42) (any_rest (λ rest. fits cs rest) code) (after_one c (λ rest. fits cs rest) code) star.0
           ∙ ap (λ (xs : List ℕ). any_rest (λ rest. fits cs rest) xs) is
           ∙ any_back (λ rest. fits cs rest) taken rest holds
       | inr other ↦
-          pick_no (eqb c 42) (any_rest (λ rest. fits cs rest) code) (behind_one c (λ rest. fits cs rest) code) other.0
-          ∙ ap (λ (xs : List ℕ). behind_one c (λ rest. fits cs rest) xs) is
+          pick_no (eqb c 42) (any_rest (λ rest. fits cs rest) code) (after_one c (λ rest. fits cs rest) code) other.0
+          ∙ ap (λ (xs : List ℕ). after_one c (λ rest. fits cs rest) xs) is
           ∙ one_back c (λ rest. fits cs rest) taken rest f.1.1.1 other.1 holds
     ]
 
@@ -127,19 +127,8 @@ pub two_stars : (field code : List ℕ) → fits (42 ∷ 42 ∷ field) code ≡ 
 two_stars field code = any_any (λ rest. fits field rest) code
 
 -- ---- by the first character of a field
-pub fits_none : (field code : List ℕ) → length field ≡ 0 → fits field code ≡ eqb (length code) 0
-fits_none [] code h = refl
-fits_none (c ∷ cs) code h = absurd (omega (arith, h))
-
 pub other_star : (c : ℕ) → c ≢ 42 → eqb c 42 ≡ false
 other_star c ne = elim (eqb_tells c 42) [ inl same ↦ absurd (ne same.1) | inr other ↦ other.0 ]
-
-pub fits_over : (field code : List ℕ) → 1 ≤ length field → get_or field 0 0 ≢ 42 → length code ≡ 0
-    → fits field code ≡ false
-fits_over [] code h ne none = absurd (omega (arith, h))
-fits_over (c ∷ cs) [] h ne none = pick_no (eqb c 42) (any_rest (λ rest. fits cs rest) [])
-    (behind_one c (λ rest. fits cs rest) []) (other_star c ne)
-fits_over (c ∷ cs) (x ∷ xs) h ne none = absurd (omega (arith, none))
 
 pub fits_one : (field code : List ℕ) → 1 ≤ length field → get_or field 0 0 ≢ 42 → 1 ≤ length code
     → fits field code ≡ ((eqb (get_or field 0 0) 63 || eqb (get_or field 0 0) (get_or code 0 0))
@@ -147,4 +136,4 @@ pub fits_one : (field code : List ℕ) → 1 ≤ length field → get_or field 0
 fits_one [] code h ne some = absurd (omega (arith, h))
 fits_one (c ∷ cs) [] h ne some = absurd (omega (arith, some))
 fits_one (c ∷ cs) (x ∷ xs) h ne some = pick_no (eqb c 42) (any_rest (λ rest. fits cs rest) (x ∷ xs))
-    (behind_one c (λ rest. fits cs rest) (x ∷ xs)) (other_star c ne)
+    (after_one c (λ rest. fits cs rest) (x ∷ xs)) (other_star c ne)

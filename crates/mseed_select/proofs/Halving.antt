@@ -8,19 +8,19 @@ use Rattle.mseed_record.specs.View.{View, IsView}
 use Rattle.mseed_select.specs.Halves.{AreMerged, IsBefore, Placed, asked_of, others_of, placed_from}
 use Rattle.mseed_select.specs.Selection.{Selection, asks_for}
 
--- what is before all of a list is before what is kept of it
-kept : (p : Placed) (test : Placed → Bool) (ps : List Placed) → IsBefore p ps → IsBefore p (filter test ps)
-kept p test [] before = before
-kept p test (q ∷ qs) before =
+-- what is before all of a list is before what is filtered out of it
+filtered : (p : Placed) (test : Placed → Bool) (ps : List Placed) → IsBefore p ps → IsBefore p (filter test ps)
+filtered p test [] before = before
+filtered p test (q ∷ qs) before =
     elim (test q) as (λ b. IsBefore p (cond b (q ∷ filter test qs) (filter test qs))) [
-      | true ↦ (before.0, kept p test qs before.1)
-      | false ↦ kept p test qs before.1
+      | true ↦ (before.0, filtered p test qs before.1)
+      | false ↦ filtered p test qs before.1
     ]
 
 -- records from a later offset on are after
-behind : (p : Placed) (offset : ℕ) (views : List View) → p.offset < offset → IsBefore p (placed_from offset views)
-behind p offset [] later = tt
-behind p offset (v ∷ vs) later = (later, behind p (offset + length v.bytes) vs (omega (arith, later)))
+later_begins : (p : Placed) (offset : ℕ) (views : List View) → p.offset < offset → IsBefore p (placed_from offset views)
+later_begins p offset [] later = tt
+later_begins p offset (v ∷ vs) later = (later, later_begins p (offset + length v.bytes) vs (omega (arith, later)))
 
 -- a record has a byte
 has_bytes : (v : View) → IsView v → 0 < length v.bytes
@@ -39,7 +39,7 @@ halves s offset (v ∷ vs) each =
     let p : Placed = record { offset = offset; view = v } in
     let next : ℕ = offset + length v.bytes in
     let rest : List Placed = placed_from next vs in
-    let before : IsBefore p rest = behind p next vs (omega (arith, has_bytes v each.0)) in
+    let before : IsBefore p rest = later_begins p next vs (omega (arith, has_bytes v each.0)) in
     merged_more (asks_for s v) p rest (asked_of s rest) (others_of s rest)
-    (kept p (λ q. asks_for s q.view) rest before) (kept p (λ q. not (asks_for s q.view)) rest before)
+    (filtered p (λ q. asks_for s q.view) rest before) (filtered p (λ q. not (asks_for s q.view)) rest before)
     (halves s next vs each.1)

@@ -1,7 +1,7 @@
 -- A field's piece up to its first `*` is best put as far to the front as it fits.
 use Rattle.std.proofs.Common.{◌≡◌, ◌≢◌, ◌⊎◌, ℕ, refl, sym, ap, ◌∙◌, arith, Bool, true, false, cond, ◌&&◌, ◌||◌}
 use Rattle.std.proofs.Common.{List, [], ◌∷◌, length, get_or, drop, eqb, inl, inr, ◌≤◌}
-use Rattle.mseed_select.specs.Pattern.{any_rest, behind_one, fits}
+use Rattle.mseed_select.specs.Pattern.{any_rest, after_one, fits}
 use Rattle.mseed_select.specs.declared.matching.Piece.{Piece}
 use Rattle.mseed_select.specs.declared.matching.Piece.TheVariants.{Whole, Fails, Star}
 use Rattle.mseed_select.specs.private.Pieces.{IsLeft, IsPiece}
@@ -20,11 +20,11 @@ any_more : (test : List ℕ → Bool) (x : ℕ) (xs : List ℕ) → any_rest tes
 any_more test x xs e = ap (λ (b : Bool). test (x ∷ xs) || b) e ∙ or_true (test (x ∷ xs))
 
 -- what holds after a later character holds of a rest
-later_one : (c : ℕ) (test : List ℕ → Bool) (xs : List ℕ) → any_rest (λ rest. behind_one c test rest) xs ≡ true
+later_one : (c : ℕ) (test : List ℕ → Bool) (xs : List ℕ) → any_rest (λ rest. after_one c test rest) xs ≡ true
     → any_rest test xs ≡ true
 later_one c test [] e = absurd (let f : false ≡ true = e in cc f)
 later_one c test (x ∷ xs) e =
-    elim (either ((eqb c 63 || eqb c x) && test xs) (any_rest (λ rest. behind_one c test rest) xs) e) [
+    elim (either ((eqb c 63 || eqb c x) && test xs) (any_rest (λ rest. after_one c test rest) xs) e) [
       | inl here ↦ any_more test x xs (any_first test xs (both (eqb c 63 || eqb c x) (test xs) here).1)
       | inr there ↦ any_more test x xs (later_one c test xs there)
     ]
@@ -36,16 +36,16 @@ absorbs false false r e h = e
 
 -- a `*` before a character that is none
 star_on : (c : ℕ) (cs code : List ℕ) → c ≢ 42
-    → fits (42 ∷ c ∷ cs) code ≡ any_rest (λ rest. behind_one c (λ others. fits cs others) rest) code
+    → fits (42 ∷ c ∷ cs) code ≡ any_rest (λ rest. after_one c (λ others. fits cs others) rest) code
 star_on c cs code ne =
     ap (λ (b : Bool). any_rest (λ rest. cond b (any_rest (λ others. fits cs others) rest)
-    (behind_one c (λ others. fits cs others) rest)) code) (other_star c ne)
+    (after_one c (λ others. fits cs others) rest)) code) (other_star c ne)
 
 -- the first place is the best
 first_place : (c x : ℕ) (cs xs : List ℕ) (r : Bool) → c ≢ 42 → (eqb c 63 || eqb c x) ≡ true → fits cs xs ≡ r
     → fits (42 ∷ cs) xs ≡ r → fits (42 ∷ c ∷ cs) (x ∷ xs) ≡ r
 first_place c x cs xs r ne takes here later =
-    let rests : Bool = any_rest (λ rest. behind_one c (λ others. fits cs others) rest) xs in
+    let rests : Bool = any_rest (λ rest. after_one c (λ others. fits cs others) rest) xs in
     star_on c cs (x ∷ xs) ne ∙ ap (λ (b : Bool). (b && fits cs xs) || rests) takes
     ∙ absorbs (fits cs xs) rests r here (λ e. sym later ∙ later_one c (λ others. fits cs others) xs e)
 
@@ -56,14 +56,14 @@ one_on : (field code : List ℕ) → 1 ≤ length field → get_or field 0 0 ≢
 one_on field code h ne some takes = fits_one field code h ne some
     ∙ ap (λ (b : Bool). b && fits (drop 1 field) (drop 1 code)) takes
 
-left_on : (behind left field code : List ℕ) → 1 ≤ length field → get_or field 0 0 ≢ 42 → 1 ≤ length code
+left_on : (after left field code : List ℕ) → 1 ≤ length field → get_or field 0 0 ≢ 42 → 1 ≤ length code
     → (eqb (get_or field 0 0) 63 || eqb (get_or field 0 0) (get_or code 0 0)) ≡ true
-    → IsLeft behind left (drop 1 field) (drop 1 code) → IsLeft behind left field code
-left_on behind left [] code h ne some takes is = absurd (omega (arith, h))
-left_on behind left (c ∷ cs) [] h ne some takes is = absurd (omega (arith, some))
-left_on behind left (c ∷ cs) (x ∷ xs) h ne some takes is = record {
+    → IsLeft after left (drop 1 field) (drop 1 code) → IsLeft after left field code
+left_on after left [] code h ne some takes is = absurd (omega (arith, h))
+left_on after left (c ∷ cs) [] h ne some takes is = absurd (omega (arith, some))
+left_on after left (c ∷ cs) (x ∷ xs) h ne some takes is = record {
   here = one_on (c ∷ cs) (x ∷ xs) h ne some takes ∙ is.here;
-  later = first_place c x cs xs (fits (42 ∷ behind) left) ne takes is.here is.later;
+  later = first_place c x cs xs (fits (42 ∷ after) left) ne takes is.here is.later;
   shorter = omega (arith, is.shorter);
   no_longer = omega (arith, is.no_longer);
 }
@@ -73,13 +73,8 @@ pub piece_on : (p : Piece) (field code : List ℕ) → 1 ≤ length field → ge
     → IsPiece p (drop 1 field) (drop 1 code) → IsPiece p field code
 piece_on Whole field code h ne some takes is = one_on field code h ne some takes ∙ is
 piece_on Fails field code h ne some takes is = one_on field code h ne some takes ∙ is
-piece_on (Star behind left) field code h ne some takes is =
-    left_on behind.now left.now field code h ne some takes is
-
-pub piece_other : (field code : List ℕ) → 1 ≤ length field → get_or field 0 0 ≢ 42 → 1 ≤ length code
-    → (eqb (get_or field 0 0) 63 || eqb (get_or field 0 0) (get_or code 0 0)) ≡ false → fits field code ≡ false
-piece_other field code h ne some takes = fits_one field code h ne some
-    ∙ ap (λ (b : Bool). b && fits (drop 1 field) (drop 1 code)) takes
+piece_on (Star after left) field code h ne some takes is =
+    left_on after.now left.now field code h ne some takes is
 
 pub piece_star : (field code : List ℕ) → 1 ≤ length field → get_or field 0 0 ≡ 42
     → IsLeft (drop 1 field) code field code
@@ -94,12 +89,3 @@ piece_star (c ∷ cs) code h star = record {
 -- ---- after a `*`
 pub star_whole : (field code : List ℕ) → fits field code ≡ true → fits (42 ∷ field) code ≡ true
 star_whole field code e = any_first (λ rest. fits field rest) code e
-
-pub star_none : (field code : List ℕ) → length code ≡ 0 → fits field code ≡ false → fits (42 ∷ field) code ≡ false
-star_none field [] none e = e
-star_none field (x ∷ xs) none e = absurd (omega (arith, none))
-
-pub star_skip : (field code : List ℕ) → 1 ≤ length code → fits field code ≡ false
-    → fits (42 ∷ field) code ≡ fits (42 ∷ field) (drop 1 code)
-star_skip field [] some e = absurd (omega (arith, some))
-star_skip field (x ∷ xs) some e = ap (λ (b : Bool). b || any_rest (λ rest. fits field rest) xs) e

@@ -9,7 +9,7 @@ abbrev pub is_literal : ℕ → Bool
 is_literal c =
     (nat_le 48 c && nat_le c 57) || (nat_le 65 c && nat_le c 90) || (nat_le 97 c && nat_le c 122) || (c == 45)
 
--- a character of a pattern: such a one, `*`, `?`, or the `_` between two fields
+-- a character of a pattern: one that stands for itself, `*`, `?`, or the `_` between two fields
 abbrev pub is_character : ℕ → Bool
 is_character c = is_literal c || (c == 42) || (c == 63) || (c == 95)
 
@@ -78,13 +78,13 @@ any_rest test [] = test []
 any_rest test (x ∷ xs) = test (x ∷ xs) || any_rest test xs
 
 -- the character takes the first of the code, and the test holds of the rest
-abbrev pub behind_one : ℕ → (List ℕ → Bool) → List ℕ → Bool
-behind_one c test [] = false
-behind_one c test (x ∷ xs) = ((c == 63) || (c == x)) && test xs
+abbrev pub after_one : ℕ → (List ℕ → Bool) → List ℕ → Bool
+after_one c test [] = false
+after_one c test (x ∷ xs) = ((c == 63) || (c == x)) && test xs
 
 abbrev pub fits : List ℕ → List ℕ → Bool
 fits [] code = length code == 0
-fits (c ∷ cs) code = if c == 42 then any_rest (λ rest. fits cs rest) code else behind_one c (λ rest. fits cs rest) code
+fits (c ∷ cs) code = if c == 42 then any_rest (λ rest. fits cs rest) code else after_one c (λ rest. fits cs rest) code
 
 abbrev pub is_dashes : List ℕ → Bool
 is_dashes [] = false

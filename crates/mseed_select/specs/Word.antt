@@ -3,8 +3,8 @@ use Rattle.std.specs.Prelude.{ℕ, ◌+◌, ◌-◌, ◌*◌, ◌^◌, ◌==◌,
 use Rattle.std.specs.Prelude.{length, take, slice_index, fold, sum, Option, Some, None, ℤ, pos, ◌+ℤ◌}
 use Rattle.std.specs.List.{list_all, slice_split}
 use Rattle.mseed_time.specs.Btime.{days_in_year, is_leap, is_within, microsecond_of}
-use Rattle.mseed_select.specs.declared.clock.Clock.{Clock}
-use Rattle.mseed_select.specs.declared.date.Date.{Date}
+use Rattle.mseed_select.specs.declared.clocks.Clock.{Clock}
+use Rattle.mseed_select.specs.declared.dates.Date.{Date}
 
 -- the number of some digits
 abbrev pub number_of : List ℕ → ℕ

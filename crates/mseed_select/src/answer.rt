@@ -7,6 +7,6 @@ pub enum Answer {
     AskedFor,
     /// It isn't: it is of another channel, or stands outside the window.
     Left,
-    /// It isn't, since its start isn't known and a window is given; its channel is asked for.
+    /// It isn't, though its channel is: its start isn't valid, and a window is given.
     NoTime,
 }

@@ -1,4 +1,4 @@
-//! How records are asked for.
+//! Which records are asked for.
 ghost use Rattle.std.specs.Prelude.{◌≡◌};
 ghost use Rattle.mseed_record.specs.Viewing.{view_of};
 ghost use Rattle.mseed_select.specs.Selecting.{selection_of};
@@ -8,8 +8,8 @@ use crate::answer::Answer;
 use crate::selector::Selector;
 use mseed_record::RecordView;
 
-/// Which records of an input are asked for: those of a [`Selector`], or [`All`] of them. A loop over records takes any
-/// choice, so that it costs nothing where all are asked for.
+/// Which records of an input are asked for: those of a [`Selector`], or [`All`] of them. A loop over records is generic
+/// over the choice, so that asking for all costs nothing.
 pub trait Choice {
     // What is asked for.
     ghost selection: { Self → Selection };

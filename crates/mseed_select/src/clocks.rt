@@ -1,14 +1,27 @@
-//! Words for times of day.
+//! Times of day, read from text.
 ghost use Rattle.std.specs.Prelude.{◌≡◌, ◌==◌, ◌≤◌, IfSome};
 ghost use Rattle.std.specs.List.{slice_split};
 ghost use Rattle.mseed_select.specs.Word.{clock_by_seconds, clock_of, number_in};
 ghost use Rattle.mseed_select.specs.private.Ranges.{IsClock};
 
-use crate::clock::Clock;
 use crate::numbers::{fraction_of, number_in};
 use crate::parts::{Parts, first_part, parts_of};
 
-/// The time of day of a word: its hour, minute and second, of which what is left out is 0.
+/// A time of day.
+#[derive(Clone, Copy)]
+pub(crate) struct Clock {
+    /// 0 to 23.
+    pub(crate) hour: u8,
+    /// 0 to 59.
+    pub(crate) minute: u8,
+    /// 0 to 60. Second 60, a leap second, counts as the first second of the next minute.
+    pub(crate) second: u8,
+    /// The microseconds of the second, 0 to 999,999.
+    pub(crate) micros: u32,
+}
+
+/// Returns the time of day that a text gives, its hour, minute and second, of which what is left out is 0; `None` where
+/// it gives none.
 pub(crate) fn clock_of(text: &[u8]) -> Option<Clock>
     ensures value { result ≡ clock_of text.now }
     ensures range { IfSome result (λ c. IsClock c) }
@@ -28,7 +41,7 @@ pub(crate) fn clock_of(text: &[u8]) -> Option<Clock>
     }
 }
 
-/// The first of a minute.
+/// Returns the first microsecond of a minute.
 fn at(hour: u8, minute: u8) -> Clock
     ensures { result ≡ record { hour = hour; minute = minute; second = 0; micros = 0 } }
 {
@@ -40,7 +53,8 @@ fn at(hour: u8, minute: u8) -> Clock
     }
 }
 
-/// The time of day of a minute and a second, which may have a point and one to six digits.
+/// Returns the time of day at a minute and a second, which may have a point and one to six digits; `None` where one of
+/// them is no such text.
 fn clock_by_seconds(hour: u8, minute: &[u8], second: &[u8]) -> Option<Clock>
     requires { hour ≤ 23 }
     ensures value { result ≡ clock_by_seconds hour (number_in 2 0 59 minute.now)

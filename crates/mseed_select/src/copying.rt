@@ -1,4 +1,4 @@
-//! The records of an input that are asked for, as they are written.
+//! Writing the records of an input that are asked for.
 ghost use Rattle.std.specs.Prelude.{◌≡◌, ◌≤◌, ◌++◌, List, [], IfErr, IfOk, OnOk, length};
 ghost use Rattle.mseed_record.specs.View.{View};
 ghost use Rattle.mseed_record.specs.Viewing.{view_of};
@@ -22,27 +22,26 @@ use mseed_record::RecordView;
 use mseed_stream::{Cutter, Sink, Source, StreamFault, write_all_of, write_beyond};
 use std::alloc::{AllocError, Allocator};
 
-/// At most so many bytes are kept for the next record.
+/// At most so many bytes are gathered before they are written.
 const GATHERED: usize = 1 << 16;
 
-/// What comes next of an input.
+/// What was read next of an input.
 #[derive(Clone, Copy)]
 pub(crate) enum Step {
-    /// A record, whose text was added where it is asked for.
+    /// A record, whose text was gathered where it is asked for.
     Judged(Answer),
-    /// Its end, by the fault, if by one.
+    /// Its end, with the fault by which it ended, if by one.
     Ended(Option<StreamFault>),
 }
 
-/// Writes the records of the input that are asked for, byte for byte and in their order, and answers how many there
-/// were, and with what fault the input ended, if with any. What they hold isn't judged. They are written as records
-/// come, some at a time, and before the input is called where it holds no whole record; a record before a fault is
-/// written. The input is one of which nothing was read yet.
+/// Writes the records of the input that are asked for, byte for byte and in their order, and returns how many there
+/// were, and the fault with which the input ended, if with one. Their samples aren't read. Records are written as they
+/// come, at most 64 KiB and a record at a time, and before the input is called where it holds no whole record; a record
+/// before a fault is written. Nothing may have been read of the input before.
 ///
 /// # Errors
 ///
-/// `Write` where the output failed, `Memory` where an allocation was refused. A prefix of the records' bytes was
-/// written then.
+/// `Write` where the output failed, `Memory` where memory was refused. A prefix of the records' bytes was written then.
 pub fn select<A: Allocator + Copy, R: Source, W: Sink>(
     alloc: A,
     selector: &Selector<'_>,
@@ -56,14 +55,14 @@ pub fn select<A: Allocator + Copy, R: Source, W: Sink>(
     write_selected(alloc, selector, &Verbatim, input, output)
 }
 
-/// Writes the records of the input that are asked for, each in a format, and then its end, and answers how many records
-/// there were, and with what fault the input ended, if with any. What they hold isn't judged. They are written as
-/// records come, some at a time, and before the input is called where it holds no whole record; a record before a fault
-/// is written. The input is one of which nothing was read yet.
+/// Writes the records of the input that are asked for, each in a format, and then the format's end, and returns how
+/// many records there were, and the fault with which the input ended, if with one. Their samples aren't read. The text
+/// is written as records come, at most 64 KiB and a record at a time, and before the input is called where it holds no
+/// whole record; a record before a fault is written. Nothing may have been read of the input before.
 ///
 /// # Errors
 ///
-/// `Write` where the output failed, `Memory` where an allocation was refused. A prefix of the text was written then.
+/// `Write` where the output failed, `Memory` where memory was refused. A prefix of the text was written then.
 pub fn write_selected<A: Allocator + Copy, C: Choice, F: Format<A>, R: Source, W: Sink>(
     alloc: A,
     choice: &C,
@@ -84,7 +83,12 @@ pub fn write_selected<A: Allocator + Copy, C: Choice, F: Format<A>, R: Source, W
     }
 }
 
-/// Copies the records that are asked for, up to the input's end. The last of what is written of them is left in `text`.
+/// Writes the records that are asked for, each in a format, up to the input's end, and returns what was found. The last
+/// of the text is left in `text`.
+///
+/// # Errors
+///
+/// Those of [`write_selected`].
 fn copy<A: Allocator + Copy, C: Choice, F: Format<A>, R: Source, W: Sink>(
     alloc: A,
     choice: &C,
@@ -112,8 +116,12 @@ fn copy<A: Allocator + Copy, C: Choice, F: Format<A>, R: Source, W: Sink>(
     }
 }
 
-/// Adds what is written of the next record, where it is asked for, or answers how the input ends. A record that the
-/// input holds whole isn't copied. Where it holds none, what is gathered is written before it is called.
+/// Gathers the text of the next record, where it is asked for, or finds the input's end. A record that the input holds
+/// whole isn't copied. Where it holds none, what is gathered is written before it is called.
+///
+/// # Errors
+///
+/// Those of [`write_selected`].
 fn push_next<A: Allocator, C: Choice, F: Format<A>, R: Source, W: Sink>(
     cutter: &mut Cutter<A>,
     choice: &C,
@@ -141,8 +149,12 @@ fn push_next<A: Allocator, C: Choice, F: Format<A>, R: Source, W: Sink>(
     }
 }
 
-/// Asks the input for the next record and adds what is written of it, where it is asked for, or answers how the input
-/// ends. All that was gathered before it is written.
+/// Reads the next record and gathers its text, where it is asked for, or finds the input's end. All that was gathered
+/// before has to be written.
+///
+/// # Errors
+///
+/// `Memory` where memory was refused.
 fn ask_next<A: Allocator, C: Choice, F: Format<A>, R: Source>(
     cutter: &mut Cutter<A>,
     choice: &C,
@@ -169,11 +181,12 @@ fn ask_next<A: Allocator, C: Choice, F: Format<A>, R: Source>(
     }
 }
 
-/// Adds what is written of a record, where it is asked for, and answers whether it is.
+/// Gathers the text of a record, where it is asked for, and returns whether it is. `offset` is the record's in the
+/// whole input, in bytes.
 ///
 /// # Errors
 ///
-/// `AllocError` where an allocation was refused.
+/// `AllocError` where memory was refused.
 #[inline(always)]
 fn push_record<A: Allocator, C: Choice, F: Format<A>>(
     choice: &C,

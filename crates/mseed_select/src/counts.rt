@@ -1,4 +1,4 @@
-//! How many records a selection came past.
+//! The counts of a selection.
 ghost use Rattle.std.specs.Prelude.{◌≡◌, ◌+◌, ◌<◌, ◌^◌, ◌≤◌};
 ghost use Rattle.mseed_select.specs.Selection.{is_asked, is_without_time};
 
@@ -6,14 +6,14 @@ use crate::answer::Answer;
 use crate::selected::Selected;
 use mseed_stream::StreamFault;
 
-/// What is counted of records: how many there are, how many of them are asked for, and how many lack a time.
+/// How many records there were, how many of them are asked for, and how many lack a time.
 #[derive(Clone, Copy, Debug, PartialEq, Eq)]
 pub struct Counts {
     /// How many records there were.
     pub records: u64,
     /// How many records are asked for.
     pub asked_for: u64,
-    /// How many of them lack a time: their channel is asked for and a window is given, and their start isn't known.
+    /// How many records lack a time: their channel is asked for and a window is given, and their start isn't valid.
     pub without_time: u64,
 }
 
@@ -50,7 +50,7 @@ impl Counts {
         }
     }
 
-    /// All of them, after which the input ended so.
+    /// Returns the counts of all records of an input, with the fault by which it ended, if by one.
     pub(crate) fn selected(self, end: Option<StreamFault>) -> Selected
         ensures { result ≡ record {
           records = self.records;

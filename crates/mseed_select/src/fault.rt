@@ -1,4 +1,4 @@
-//! What is refused, and how a selection ends early.
+//! The errors of a selection.
 use std::alloc::AllocError;
 use thiserror::Error;
 
@@ -7,12 +7,12 @@ use thiserror::Error;
 #[error("no patterns of channels")]
 pub struct BadPatterns;
 
-/// A word that is no time.
+/// A text that is no time.
 #[derive(Clone, Copy, Debug, PartialEq, Eq, Error)]
 #[error("no time")]
 pub struct BadTime;
 
-/// A window that doesn't end after its begin.
+/// A window whose end isn't after its beginning.
 #[derive(Clone, Copy, Debug, PartialEq, Eq, Error)]
 #[error("the window is empty")]
 pub struct BadWindow;
@@ -23,7 +23,7 @@ pub enum SelectFault {
     /// The output failed.
     #[error("the output failed")]
     Write,
-    /// An allocation was refused.
+    /// Memory was refused.
     #[error("no memory")]
     Memory,
 }

@@ -1,11 +1,11 @@
 //! The fields of a pattern.
-ghost use Rattle.std.specs.Prelude.{◌≡◌, ◌≢◌, ◌==◌, ◌∷◌, [], MatchOption, length};
+ghost use Rattle.std.specs.Prelude.{◌≡◌, ◌≢◌, ◌∷◌, [], MatchOption, length};
 ghost use Rattle.std.specs.List.{list_all};
 ghost use Rattle.mseed_select.specs.Pattern.{fields_in, is_character, is_pattern};
 
 use crate::parts::first_part;
 
-/// The fields of a pattern.
+/// The four fields of a pattern.
 #[derive(Clone, Copy)]
 pub(crate) struct Fields<'a> {
     pub(crate) network: &'a [u8],
@@ -14,7 +14,7 @@ pub(crate) struct Fields<'a> {
     pub(crate) channel: &'a [u8],
 }
 
-/// The four fields of a pattern; `None` where there is another number of them.
+/// Returns the four fields of a pattern, between which `_` stands; `None` where there is another number of them.
 pub(crate) fn fields_of(pattern: &[u8]) -> Option<Fields<'_>>
     ensures { MatchOption result (length (fields_in pattern.now) ≢ 4) (λ f. fields_in pattern.now
         ≡ f.network.now ∷ f.station.now ∷ f.location.now ∷ f.channel.now ∷ []) }
@@ -34,31 +34,21 @@ pub(crate) fn fields_of(pattern: &[u8]) -> Option<Fields<'_>>
     }
 }
 
-/// Whether it is a pattern.
+/// Returns whether a text is a pattern: four fields, of characters that a pattern may have.
 pub(crate) fn is_pattern(pattern: &[u8]) -> bool
     ensures { result ≡ is_pattern pattern.now }
 {
-    are_characters(pattern) && has_four_fields(pattern)
+    are_characters(pattern) && fields_of(pattern).is_some()
 }
 
-/// Whether a pattern has four fields.
-fn has_four_fields(pattern: &[u8]) -> bool
-    ensures { result ≡ (length (fields_in pattern.now) == 4) }
-{
-    match fields_of(pattern) {
-        Some(_) => true,
-        None => false,
-    }
-}
-
-/// Whether a text is characters of a pattern alone.
+/// Returns whether a text has no characters but those that a pattern may have.
 fn are_characters(text: &[u8]) -> bool
     ensures { result ≡ list_all is_character text.now }
 {
     text.iter().all(|c| is_character(*c))
 }
 
-/// Whether it is a character of a pattern.
+/// Returns whether a pattern may have a character: a letter, a digit, `-`, `*`, `?`, or the `_` between two fields.
 fn is_character(c: u8) -> bool
     ensures { result ≡ is_character c }
 {

@@ -1,4 +1,4 @@
-//! How the records that are asked for are written.
+//! The form in which records are written.
 ghost use Rattle.std.specs.Prelude.{◌≡◌, ◌++◌, OnOk};
 ghost use Rattle.mseed_record.specs.Viewing.{view_of};
 ghost use Rattle.mseed_select.specs.Formatted.{Texts};
@@ -8,17 +8,17 @@ use crate::selected::Selected;
 use mseed_record::RecordView;
 use std::alloc::{AllocError, Allocator};
 
-/// In what form the records that are asked for are written: a text of each, and one at the end. A loop over records
-/// takes any format, so that none pays for what another writes.
+/// In what form records are written: a text for each, and one at the end. A loop over records is generic over the
+/// format, so that none pays for what another writes.
 pub trait Format<A: Allocator> {
     // What is written of a record, and at the end.
     ghost texts: { Self → Texts };
 
-    /// Adds what is written of a record, by its offset (in bytes) in the whole input.
+    /// Adds the text of a record, by the record's offset (in bytes) in the whole input.
     ///
     /// # Errors
     ///
-    /// `AllocError` where an allocation was refused.
+    /// `AllocError` where memory was refused.
     fn push_record(
         &self,
         offset: u64,
@@ -28,11 +28,11 @@ pub trait Format<A: Allocator> {
         ensures { OnOk result (text.new.items ≡ text.old.items ++ (texts self.now).of_record offset
             (view_of view.now)) };
 
-    /// Adds what is written after the last record, by what was found.
+    /// Adds the text after the last record, by what was found.
     ///
     /// # Errors
     ///
-    /// `AllocError` where an allocation was refused.
+    /// `AllocError` where memory was refused.
     fn push_end(&self, found: &Selected, text: &mut Vec<u8, A>) -> Result<(), AllocError>
         ensures { OnOk result (text.new.items ≡ text.old.items ++ (texts self.now).at_end found.now) };
 }

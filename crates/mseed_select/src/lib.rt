@@ -1,13 +1,11 @@
-//! The records of an archive that are asked for, byte for byte: by channel, and by the time in which they stand.
+//! The records of an archive that are asked for, by channel and by a window of time: as they are, or in another format.
 #![tactic(auto)]
 
 mod answer;
 mod choice;
-mod clock;
 mod clocks;
 mod copying;
 mod counts;
-mod date;
 mod dates;
 mod fault;
 mod fields;

@@ -17,7 +17,7 @@ pub(crate) enum Piece<'a> {
     Star(&'a [u8], &'a [u8]),
 }
 
-/// Whether a pattern matches a channel: each of its four fields fits the channel's code.
+/// Returns whether a pattern matches a channel: each of its four fields fits the channel's code.
 pub(crate) fn matches(pattern: &[u8], codes: &Codes) -> bool
     ensures { result ≡ matches pattern.now codes.now }
 {
@@ -32,7 +32,7 @@ pub(crate) fn matches(pattern: &[u8], codes: &Codes) -> bool
     }
 }
 
-/// Whether a field fits a location: `--` is the empty one too.
+/// Returns whether a field fits a location code: `--` fits the empty one too.
 fn fits_location(field: &[u8], code: &[u8]) -> bool
     ensures { result ≡ fits_location field.now code.now }
 {
@@ -42,30 +42,31 @@ fn fits_location(field: &[u8], code: &[u8]) -> bool
     }
 }
 
-/// Whether a field fits a code: `*` takes any characters, none too, `?` takes one, and any other character itself.
+/// Returns whether a field fits a code: `*` takes any characters, none too, `?` takes one, and any other character
+/// takes itself.
 fn fits(field: &[u8], code: &[u8]) -> bool
     ensures { result ≡ fits field.now code.now }
 {
     match piece_of(field, code) {
         Piece::Whole => true,
         Piece::Fails => false,
-        Piece::Star(behind, left) => fits_after(behind, left),
+        Piece::Star(after, left) => fits_after(after, left),
     }
 }
 
-/// Whether a `*` and the field after it fit a code. Each `*` takes as few characters as the next piece of the field
-/// lets it: whatever fits after a later place of the piece fits after its first one too, with more for the next `*`.
-/// So no `*` is asked again once the next one is reached.
+/// Returns whether a `*` and the field after it fit a code. Each `*` takes as few characters as the next piece of the
+/// field lets it: whatever fits after a later place of the piece fits after its first one too, with more for the next
+/// `*`. So no `*` is tried again once the next one is reached.
 fn fits_after(field: &[u8], code: &[u8]) -> bool
     ensures { result ≡ fits (42 ∷ field.now) code.now }
 {
-    let mut behind = field;
+    let mut after = field;
     let mut left = code;
     'pieces: loop {
-        match piece_of(behind, left) {
+        match piece_of(after, left) {
             Piece::Whole => return true,
             Piece::Star(next, others) => {
-                behind = next;
+                after = next;
                 left = others;
             }
             Piece::Fails => match left {
@@ -76,11 +77,11 @@ fn fits_after(field: &[u8], code: &[u8]) -> bool
     }
 }
 
-/// Takes the characters before a field's first `*` off a code.
+/// Takes the characters before a field's first `*` off a code, and returns what is left of both.
 fn piece_of<'a>(field: &'a [u8], code: &'a [u8]) -> Piece<'a>
     ensures { IsPiece result field.now code.now }
 {
-    let [c, behind @ ..] = field else {
+    let [c, after @ ..] = field else {
         return if code.is_empty() {
             Piece::Whole
         } else {
@@ -88,15 +89,15 @@ fn piece_of<'a>(field: &'a [u8], code: &'a [u8]) -> Piece<'a>
         };
     };
     if *c == b'*' {
-        return Piece::Star(behind, code);
+        return Piece::Star(after, code);
     }
     match code {
-        [x, others @ ..] if takes(*c, *x) => piece_of(behind, others),
+        [x, others @ ..] if takes(*c, *x) => piece_of(after, others),
         _ => Piece::Fails,
     }
 }
 
-/// Whether a character of a pattern that is no `*` takes a character.
+/// Returns whether a character of a pattern that is no `*` takes a character.
 fn takes(c: u8, x: u8) -> bool
     ensures { result ≡ (c == 63 || c == x) }
 {

@@ -1,15 +1,15 @@
-//! Numbers of a fixed number of digits.
+//! Numbers of a fixed number of digits, read from text.
 ghost use Rattle.std.specs.Prelude.{◌≡◌, ◌≤◌, ◌<◌, ◌*◌, ◌-◌, ◌^◌, IsTrue, IfSome, length};
 ghost use Rattle.mseed_select.specs.Word.{are_digits, fraction_of, number_in, number_of};
 
-/// Whether a text is digits alone.
+/// Returns whether all bytes are digits.
 fn are_digits(text: &[u8]) -> bool
     ensures { result ≡ are_digits text.now }
 {
     text.iter().all(|c| (48..=57).contains(c))
 }
 
-/// The number of some digits.
+/// Returns the number that at most six digits spell.
 fn number_of(digits: &[u8]) -> u32
     requires few { length digits.now ≤ 6 }
     requires digits { IsTrue (are_digits digits.now) }
@@ -23,7 +23,7 @@ fn number_of(digits: &[u8]) -> u32
     number
 }
 
-/// The number of so many digits, where it lies from `low` to `high`.
+/// Returns the number that a text of exactly `count` digits spells, where it lies from `low` to `high`; else `None`.
 pub(crate) fn number_in(text: &[u8], count: usize, low: u32, high: u32) -> Option<u32>
     requires { count ≤ 6 }
     ensures value { result ≡ number_in count low high text.now }
@@ -40,7 +40,7 @@ pub(crate) fn number_in(text: &[u8], count: usize, low: u32, high: u32) -> Optio
     Some(number)
 }
 
-/// The microseconds of one to six digits after a point.
+/// Returns the microseconds that one to six digits after a point spell; `None` where the text is none of those.
 pub(crate) fn fraction_of(text: &[u8]) -> Option<u32>
     ensures value { result ≡ fraction_of text.now }
     ensures bound { IfSome result (λ n. n < 1_000_000) }
@@ -51,7 +51,7 @@ pub(crate) fn fraction_of(text: &[u8]) -> Option<u32>
     Some(number_of(text) * scale_of(text.len()))
 }
 
-/// The microseconds of the last of so many digits after a point.
+/// Returns how many microseconds one of the last of so many digits after a point is, 1 to 6.
 fn scale_of(digits: usize) -> u32
     requires low { 1 ≤ digits }
     requires high { digits ≤ 6 }

@@ -1,41 +1,41 @@
-//! What stands between separators.
+//! The parts of a text between separators.
 ghost use Rattle.std.specs.Prelude.{◌≡◌, ◌==◌, ◌∷◌, [], MatchOption, position};
 ghost use Rattle.std.specs.List.{slice_split};
 ghost use Rattle.mseed_select.specs.private.Parts.{AreParts};
 
-/// What stands between the separators of a text, as far as one may have them.
+/// The parts of a text between its separators, up to three.
 #[derive(Clone, Copy)]
 pub(crate) enum Parts<'a> {
-    /// No separator.
+    /// There is no separator.
     One(&'a [u8]),
-    /// One of them.
+    /// There is one.
     Two(&'a [u8], &'a [u8]),
-    /// Two.
+    /// There are two.
     Three(&'a [u8], &'a [u8], &'a [u8]),
-    /// More.
+    /// There are more.
     More,
 }
 
-/// The place of the first separator.
-fn place_of(text: &[u8], separator: u8) -> Option<usize>
+/// Returns the index of the first separator, in bytes.
+fn index_of(text: &[u8], separator: u8) -> Option<usize>
     ensures { result ≡ position (λ c. c == separator) text.now }
 {
     text.iter().position(|c| *c == separator)
 }
 
-/// What stands before the first separator, and what after it, if there is one.
+/// Returns what stands before the first separator, and what stands after it, if there is one.
 pub(crate) fn first_part(text: &[u8], separator: u8) -> (&[u8], Option<&[u8]>)
     ensures { MatchOption result.1 (slice_split (λ c. c == separator) text.now ≡ result.0.now ∷ [])
         (λ rest. slice_split (λ c. c == separator) text.now
         ≡ result.0.now ∷ slice_split (λ c. c == separator) rest.now) }
 {
-    match place_of(text, separator) {
-        Some(place) => (&text[..place], Some(&text[place + 1..])),
+    match index_of(text, separator) {
+        Some(index) => (&text[..index], Some(&text[index + 1..])),
         None => (text, None),
     }
 }
 
-/// What stands between the separators of a text.
+/// Returns the parts of a text between its separators.
 pub(crate) fn parts_of(text: &[u8], separator: u8) -> Parts<'_>
     ensures { AreParts result (slice_split (λ c. c == separator) text.now) }
 {

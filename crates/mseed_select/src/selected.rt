@@ -6,10 +6,10 @@ use mseed_stream::StreamFault;
 pub struct Selected {
     /// How many records there were.
     pub records: u64,
-    /// How many records were asked for, and written.
+    /// How many records are asked for, and were written.
     pub written: u64,
-    /// How many weren't asked for since their start isn't known, though their channel is and a window is given.
+    /// How many records lack a time: their channel is asked for and a window is given, and their start isn't valid.
     pub without_time: u64,
-    /// The fault with which the input ended, if with one.
+    /// The fault with which the input ended; `None` where it ended after a record.
     pub end: Option<StreamFault>,
 }

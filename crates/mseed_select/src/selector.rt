@@ -1,4 +1,4 @@
-//! What is asked for.
+//! A request for channels and a window of time.
 ghost use Rattle.std.specs.Prelude.{◌≡◌, ◌&&◌, ◌↔◌, ℤ, ◌≤ℤ◌, Some, None, IsErr, IfOk};
 ghost use Rattle.mseed_record.specs.View.{View, start_of};
 ghost use Rattle.mseed_record.specs.Header.{key_at, samples_at};
@@ -13,7 +13,7 @@ use crate::patterns::Patterns;
 use mseed_record::RecordView;
 use mseed_time::{Micros, Ratio, drift};
 
-/// What is asked for: channels, and a window of time.
+/// A request for channels and a window of time, as of FDSN's dataselect.
 #[derive(Clone, Copy, Debug)]
 pub struct Selector<'a> {
     channels: Option<Patterns<'a>>,
@@ -24,8 +24,8 @@ pub struct Selector<'a> {
 impl<'a> Selector<'a> {
     ghost use Rattle.mseed_select.specs.Selecting.{selection_of, text_of};
 
-    /// Asks for the records of the channels that the patterns match, and of the window from `from` up to `until`,
-    /// which isn't part of it. What isn't given bounds nothing.
+    /// Returns the request for the records of the channels that the patterns match, in the window from `from` up to
+    /// `until`, which isn't part of it. What isn't given bounds nothing.
     ///
     /// # Errors
     ///
@@ -52,10 +52,10 @@ impl<'a> Selector<'a> {
         })
     }
 
-    /// Whether a record is asked for. It is where a pattern matches its channel, and where it stands in the window: it
-    /// doesn't end before the window's begin, and begins before the window's end. It stands from its first sample to
-    /// its last, by its header's start, number of samples and rate, exactly; without a rate or a sample at its start
-    /// alone. With a window a record whose start isn't known isn't asked for.
+    /// Returns whether a record is asked for. It is where a pattern matches its channel, and it lies in the window: its
+    /// last sample isn't before the window's beginning, and its first is before the window's end. These are by the
+    /// start, the number of samples and the rate of its header, and compared exactly; without a rate or a sample it is
+    /// at its start alone. With a window a record whose start isn't valid isn't asked for.
     #[inline(always)]
     pub fn asks_for(&self, view: &RecordView) -> Answer
         ensures value { result ≡ answer_of (selection_of self.now) (view_of view.now) }
@@ -65,7 +65,7 @@ impl<'a> Selector<'a> {
         self.answer(view)
     }
 
-    /// Whether a record is asked for, as it is computed.
+    /// Returns whether a record is asked for, as it is computed.
     #[inline(always)]
     fn answer(&self, view: &RecordView) -> Answer
         ensures { result ≡ answer_of (selection_of self.now) (view_of view.now) }
@@ -77,7 +77,7 @@ impl<'a> Selector<'a> {
         }
     }
 
-    /// Whether a pattern matches a record's channel.
+    /// Returns whether a pattern matches a record's channel.
     fn is_of_channels(&self, view: &RecordView) -> bool
         ensures { result ≡ is_of_channels (text_of self.now.channels) (key_at (view_of view.now).bytes) }
     {
@@ -87,7 +87,7 @@ impl<'a> Selector<'a> {
         }
     }
 
-    /// Whether a record of a channel that is asked for stands in the window.
+    /// Returns whether a record of a channel that is asked for lies in the window.
     fn by_window(&self, view: &RecordView) -> Answer
         ensures { result ≡ answer_in self.now.from self.now.until (view_of view.now) }
     {
@@ -100,7 +100,7 @@ impl<'a> Selector<'a> {
         }
     }
 
-    /// Whether a record stands in the window, by its start.
+    /// Returns whether a record lies in the window, by its start.
     fn by_start(&self, view: &RecordView, start: Micros) -> Answer
         requires { start ≡ start_of (view_of view.now) }
         ensures { result ≡ answer_by None (reaches self.now.from (view_of view.now)
@@ -114,7 +114,7 @@ impl<'a> Selector<'a> {
     }
 }
 
-/// Whether a record that begins at `start` doesn't end before a window's begin.
+/// Returns whether the last sample of a record that begins at `start` isn't before a window's beginning.
 fn reaches(from: Option<Micros>, view: &RecordView, start: Micros) -> bool
     requires { start ≡ start_of (view_of view.now) }
     ensures { result ≡ reaches from (view_of view.now) }
@@ -125,7 +125,7 @@ fn reaches(from: Option<Micros>, view: &RecordView, start: Micros) -> bool
     }
 }
 
-/// Whether a record that begins at `start` begins before a window's end.
+/// Returns whether a record that begins at `start` begins before a window's end.
 fn begins_before(until: Option<Micros>, start: Micros) -> bool
     ensures { (v : View) → start ≡ start_of v → result ≡ begins_before until v }
 {
@@ -135,7 +135,7 @@ fn begins_before(until: Option<Micros>, start: Micros) -> bool
     }
 }
 
-/// Whether the last sample of a record that begins at `start` is at an instant or after it.
+/// Returns whether the last sample of a record that begins at `start` is at an instant or after it.
 fn lasts_to(view: &RecordView, start: Micros, instant: Micros) -> bool
     ensures { result ≡ lasts_to (rate_in (view_of view.now)) start
         (samples_at (view_of view.now).order (view_of view.now).bytes) instant }
@@ -146,7 +146,7 @@ fn lasts_to(view: &RecordView, start: Micros, instant: Micros) -> bool
     }
 }
 
-/// Whether the last of so many samples from `start` on is at an instant or after it.
+/// Returns whether the last of so many samples from `start` on is at an instant or after it.
 fn is_sampled_to(start: Micros, samples: u16, rate: Ratio, instant: Micros) -> bool
     ensures { result ≡ lasts_to (Some rate) start samples instant }
 {

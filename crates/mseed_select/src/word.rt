@@ -1,31 +1,29 @@
-//! Words for times.
+//! Times, read from text.
 ghost use Rattle.std.specs.Prelude.{◌≡◌};
 ghost use Rattle.std.specs.Result.{result_ok};
 ghost use Rattle.mseed_select.specs.Word.{instant_at, midnight, time_of, without_zone};
 ghost use Rattle.mseed_select.specs.private.Ranges.{IsClock, IsDate};
 
-use crate::clock::Clock;
-use crate::clocks::clock_of;
-use crate::date::Date;
-use crate::dates::date_of;
+use crate::clocks::{Clock, clock_of};
+use crate::dates::{Date, date_of};
 use crate::fault::BadTime;
 use crate::parts::{Parts, parts_of};
 use mseed_time::{Btime, Micros};
 
-/// Reads a time (UTC): `2024-05-14` or `2024-135`, alone or with `T03`, `T03:20` or `T03:20:00`, and one to six digits
-/// after a point after the seconds; `Z` may end it. Its year is 1900 to 2100; second 60 is the next minute's first.
-/// What is left out is its first instant.
+/// Reads a time (UTC): `2024-05-14` or `2024-135`, alone or with `T03`, `T03:20` or `T03:20:00`, which may have a point
+/// and one to six digits after the seconds; `Z` may end it. Its year is 1900 to 2100; second 60 is the first second of
+/// the next minute. What is left out is 0.
 ///
 /// # Errors
 ///
-/// `BadTime` exactly where the word is no such time.
+/// `BadTime` exactly where the text is no such time.
 pub fn read_time(word: &[u8]) -> Result<Micros, BadTime>
     ensures { result_ok result ≡ time_of word.now }
 {
     time_of(word).ok_or(BadTime)
 }
 
-/// The time of a word.
+/// Returns the time that a text gives; `None` where it gives none.
 fn time_of(word: &[u8]) -> Option<Micros>
     ensures { result ≡ time_of word.now }
 {
@@ -43,7 +41,7 @@ fn time_of(word: &[u8]) -> Option<Micros>
     }
 }
 
-/// A word without the `Z` that may end it.
+/// Returns a text without the `Z` that may end it.
 fn without_zone(word: &[u8]) -> &[u8]
     ensures { result.now ≡ without_zone word.now }
 {
@@ -53,7 +51,7 @@ fn without_zone(word: &[u8]) -> &[u8]
     }
 }
 
-/// The first of a day.
+/// Returns the first microsecond of a day.
 fn midnight() -> Clock
     ensures { result ≡ midnight }
 {
@@ -65,7 +63,7 @@ fn midnight() -> Clock
     }
 }
 
-/// The instant of a time of a day.
+/// Returns the instant of a time of day on a date.
 fn instant_at(date: Date, clock: Clock) -> Micros
     requires date { IsDate date }
     requires clock { IsClock clock }

@@ -13,10 +13,6 @@ use Rattle.mseed_select.specs.declared.selected.Selected.{Selected}
 use Rattle.mseed_select.specs.Formatted.{IsFormatted, IsFound, Texts, asked_text}
 use Rattle.mseed_select.specs.Selection.{Selection, answer_of, asks_for}
 
--- the bytes of a record where it is asked for
-abbrev pub bytes_by : Selection → View → List ℕ
-bytes_by s v = if asks_for s v then v.bytes else []
-
 -- the bytes of each record, and nothing at the end
 abbrev pub bytes_alone : Texts
 bytes_alone = record { of_record = λ _ v. v.bytes; at_end = λ _. [] }

@@ -1,8 +1,8 @@
 -- The ranges of a date and of a time of day.
 use Rattle.std.specs.Prelude.{◌≤◌, ◌<◌}
 use Rattle.mseed_time.specs.Btime.{days_in_year}
-use Rattle.mseed_select.specs.declared.clock.Clock.{Clock}
-use Rattle.mseed_select.specs.declared.date.Date.{Date}
+use Rattle.mseed_select.specs.declared.clocks.Clock.{Clock}
+use Rattle.mseed_select.specs.declared.dates.Date.{Date}
 
 abbrev pub IsDate : Date → Type 0
 IsDate d = (1900 ≤ d.year) × (d.year ≤ 2100) × (1 ≤ d.day) × (d.day ≤ days_in_year d.year)

@@ -13,7 +13,7 @@ pub returns-in-len1-up-code : goal.returns-in-len1-up-code
 returns-in-len1-up-code t c =
     let field : List ℕ = c.args.field.now in
     let code : List ℕ = c.args.code.now in
-    let behind = rw (take_rest field 1) at c.piece_of.ensures in
-    let both = rw (take_rest code 1) at behind in
+    let after = rw (take_rest field 1) at c.piece_of.ensures in
+    let both = rw (take_rest code 1) at after in
     piece_on c.piece_of.result field code (omega arith) c.if-c-eq42.false (omega arith)
     (sym c.takes.ensures ∙ c.if-takes.true) both

@@ -3,7 +3,7 @@ use Rattle.mseed_select.specs.Pattern.{fits}
 use Rattle.mseed_select.proofs.matching.fits_after.Given as goal
 
 abbrev pub invariant-pieces : goal.invariant-pieces
-invariant-pieces l = fits (42 ∷ l.fn.field) l.fn.code ≡ fits (42 ∷ l.behind) l.left
+invariant-pieces l = fits (42 ∷ l.fn.field) l.fn.code ≡ fits (42 ∷ l.after) l.left
 
 abbrev pub decreases-pieces : goal.decreases-pieces
-decreases-pieces l = length l.behind + length l.left
+decreases-pieces l = length l.after + length l.left
