@@ -41,6 +41,7 @@ CRATES = {
     "mseed_files": (2.75, "files, one after another"),
     "mseed_input": (3, "files of an input, by name"),
     "mseed_words": (4, "what a command line requests"),
+    "mseed_feed": (4, "serving and fetching as commands"),
     "mseed": (2, "the command"),
 }
 
