@@ -45,7 +45,7 @@ impl Script {
     /// What can be done next.
     fn next_event(&mut self) -> Event
         ensures log { self.new.log ≡ self.old.log }
-        ensures over { result ≡ Event.Nothing → self.new.has_failed ≡ true }
+        ensures failed { result ≡ Event.Nothing → self.new.has_failed ≡ true }
     {
         if self.left == 0 {
             self.has_failed = true;

@@ -62,8 +62,8 @@ fn outcome<N: Net>(
         }
     }
     world.catch_up();
-    world.end_handshake(false);
-    world.end_handshake(true);
+    world.bring_all_due(false);
+    world.bring_all_due(true);
     world.rest();
     world.part();
     Ok((world.seen, world.wrong))

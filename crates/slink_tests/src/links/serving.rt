@@ -73,7 +73,7 @@ fn serves_each_connection(rt: HostRuntime) {
 }
 
 /// How many of three links are left after a planned server of so many connections, if all goes well.
-fn wants_at_end(rt: &impl Abort, alloc: Global, connections: u32) -> Option<usize> {
+fn links_left(rt: &impl Abort, alloc: Global, connections: u32) -> Option<usize> {
     let mut links = Links::new(rt, alloc, &[ASKING, ASKING, ASKING]);
     let plan = serve_plan_of(three_pushed(rt, alloc, 0), connections, 600);
     let mut errors = output(alloc, ALL);
@@ -83,6 +83,6 @@ fn wants_at_end(rt: &impl Abort, alloc: Global, connections: u32) -> Option<usiz
 
 #[test]
 fn serves_as_planned(rt: HostRuntime) {
-    assert!(rt; wants_at_end(&rt, rt.alloc(), 1) == Some(2));
-    assert!(rt; wants_at_end(&rt, rt.alloc(), 2) == Some(1));
+    assert!(rt; links_left(&rt, rt.alloc(), 1) == Some(2));
+    assert!(rt; links_left(&rt, rt.alloc(), 2) == Some(1));
 }

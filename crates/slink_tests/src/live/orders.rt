@@ -77,7 +77,7 @@ impl Order {
     /// What can be done next.
     fn next_event(&mut self) -> Event
         ensures log { self.new.log ≡ self.old.log }
-        ensures over { result ≡ Event.Nothing → self.new.has_failed ≡ true }
+        ensures failed { result ≡ Event.Nothing → self.new.has_failed ≡ true }
     {
         if self.left == 0 {
             self.has_failed = true;
@@ -100,7 +100,7 @@ impl Order {
     /// Goes into the digest.
     fn digest(&mut self, word: u64)
         ensures log { self.new.log ≡ self.old.log }
-        ensures over { self.new.has_failed ≡ self.old.has_failed }
+        ensures failed { self.new.has_failed ≡ self.old.has_failed }
     {
         self.digest = (self.digest ^ word).wrapping_mul(0x0000_0100_0000_01b3);
         self.digest ^= self.digest >> 29;

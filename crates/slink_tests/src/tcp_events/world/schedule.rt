@@ -204,7 +204,7 @@ impl<N: Net> World<'_, N> {
         for client in 0..self.setting.clients {
             self.dial();
         }
-        self.end_handshake(false);
+        self.bring_all_due(false);
         self.wish_all(false, true);
         for tick in 0..20 {
             self.pass();
@@ -217,7 +217,7 @@ impl<N: Net> World<'_, N> {
     }
 
     /// All is wanted, and then whatever is due comes.
-    pub(crate) fn end_handshake(&mut self, writes: bool) {
+    pub(crate) fn bring_all_due(&mut self, writes: bool) {
         self.wish_all(writes, false);
         self.catch_up();
     }
