@@ -267,6 +267,7 @@ fn bound(held: &mut Most)
 }
 
 /// The most differences that are held from each of the first 57 places on; nothing is reported of others.
+#[inline(always)]
 fn look_ahead(scheme: Scheme, diffs: &[i32], most: &mut Most, cut: &mut Cut)
     requires { 64 ≤ length diffs.now }
     ensures ahead { (i : ℕ) → i < 80 → IsAhead scheme (drop i diffs.now) (slice_index most.new i) }
@@ -294,6 +295,7 @@ fn padded(diffs: &[i32]) -> [i32; AHEAD]
 }
 
 /// The same of fewer differences than are looked at. Nothing is reported of the last seven.
+#[cold]
 fn look_at_few(scheme: Scheme, diffs: &[i32], most: &mut Most, cut: &mut Cut)
     requires some { 7 ≤ length diffs.now }
     requires few { length diffs.now < 64 }
@@ -308,6 +310,7 @@ fn look_at_few(scheme: Scheme, diffs: &[i32], most: &mut Most, cut: &mut Cut)
 /// The most differences that are held from each of the first 57 places on; less than two where nothing is known of
 /// them: at others, where fewer than eight differences are left, and where there are so few that looking at them costs
 /// more than it saves. In Steim-2 those of which anything is known are cut off at 16 bits besides.
+#[inline(always)]
 pub(crate) fn look(scheme: Scheme, diffs: &[i32], most: &mut Most, cut: &mut Cut)
     ensures { IsLookahead scheme (record { most = most.new; cut = cut.new; place = 0 }) diffs.now }
 {

@@ -3,20 +3,39 @@
 ghost use Rattle.std.specs.Prelude.{◌≡◌, ◌≢◌, ◌↔◌, ◌<◌, List, ℤ, Err, IsOk, IfOk, IfErr, IsTrue, OnOk, MatchResult};
 ghost use Rattle.std.specs.Prelude.{length};
 ghost use Rattle.mseed_record.specs.Viewing.{view_of};
-ghost use Rattle.mseed_steim.specs.declared.form.Form.TheVariants.{Integers};
+ghost use Rattle.mseed_time.specs.declared.order.Order.TheVariants.{Big};
+ghost use Rattle.mseed_steim.specs.declared.form.Form.TheVariants.{Integers, Frames};
 ghost use Rattle.mseed_steim.specs.declared.fault.ReadFault.{ReadFault};
 ghost use Rattle.mseed_steim.specs.declared.fault.ReadFault.TheVariants.{Memory};
 ghost use Rattle.mseed_steim.specs.Reading.{count_of, IsFault, IsSteim, IsWhole, IsRefusal, Denies};
 ghost use Rattle.mseed_steim.specs.Samples.{IsFilled, steps_of};
+ghost use Rattle.mseed_steim.specs.private.Sums.{IsKept, places_for};
 
 use crate::check::{check_samples, payload_of, walk_frames};
-use crate::fault::ReadFault;
+use crate::fault::{Ends, ReadFault};
 use crate::form::{Form, Width, form_of, integer_at};
-use crate::keep::{Samples, Steps};
+use crate::keep::{Keeper, Samples, Steps};
+use crate::scheme::Scheme;
 use crate::unpack::PLACES;
 use mseed_record::RecordView;
 use mseed_time::Order;
 use std::alloc::{AllocError, Allocator};
+
+/// The ends of so many samples of Steim frames, with what is kept of each put in its place. It stands apart, so that
+/// its room is cleared for frames alone.
+#[inline(never)]
+fn fill_frames<K: Keeper>(
+    payload: &[u8],
+    scheme: Scheme,
+    samples: usize,
+    out: &mut [i32],
+) -> Result<Ends, ReadFault>
+    requires some { 0 < samples }
+    requires places { length out.old ≡ places_for K.kept samples }
+    ensures { IsKept K.kept (Frames scheme) Big payload.now samples out.new result }
+{
+    walk_frames::<K>(payload, scheme, samples, &mut [0; PLACES], out)
+}
 
 /// Fills in so many integers.
 fn fill_integers(
@@ -54,13 +73,7 @@ fn fill_record(view: &RecordView<'_>, out: &mut [i32]) -> Result<(), ReadFault>
     let samples = usize::from(view.samples());
     match form {
         Form::Integers(width) => fill_integers(payload, width, view.payload_order(), samples, out),
-        Form::Frames(scheme) => match walk_frames::<Samples>(
-            payload,
-            scheme,
-            samples,
-            &mut [0; PLACES],
-            out,
-        ) {
+        Form::Frames(scheme) => match fill_frames::<Samples>(payload, scheme, samples, out) {
             Ok(_) => Ok(()),
             Err(fault) => Err(fault),
         },
@@ -115,7 +128,7 @@ fn fill_steps(view: &RecordView<'_>, out: &mut [i32]) -> Result<(), ReadFault>
         Form::Integers(_) => unreachable!(),
         Form::Frames(scheme) => {
             let samples = usize::from(view.samples());
-            match walk_frames::<Steps>(payload, scheme, samples, &mut [0; PLACES], out) {
+            match fill_frames::<Steps>(payload, scheme, samples, out) {
                 Ok(_) => Ok(()),
                 Err(fault) => Err(fault),
             }

@@ -11,18 +11,18 @@ returns-in-Integers c =
     c.fill_integers.result c.requires.some (rw c.in-Integers.is at c.in-Ok.ensures.held)
     (c.from-samples.ensures ∙ c.samples.ensures) c.payload_order.ensures c.fill_integers.ensures
 
-pub returns-in-Ok-walk_frames : goal.returns-in-Ok-walk_frames
-returns-in-Ok-walk_frames c =
+pub returns-in-Ok-fill_frames : goal.returns-in-Ok-fill_frames
+returns-in-Ok-fill_frames c =
     let held : HoldsIn (view_of c.args.view.now) (Frames c.in-Frames.scheme) c.in-Ok.found.1.now =
     rw c.in-Frames.is at c.in-Ok.ensures.held in
-    payload_kept (view_of c.args.view.now) (Frames c.in-Frames.scheme) c.in-Ok.found.1.now _ _ c.walk_frames.new.out
+    payload_kept (view_of c.args.view.now) (Frames c.in-Frames.scheme) c.in-Ok.found.1.now _ _ c.fill_frames.new.out
     (Ok _) c.requires.some held (c.from-samples.ensures ∙ c.samples.ensures) (sym held.2)
-    c.in-Ok-walk_frames.ensures
+    c.in-Ok-fill_frames.ensures
 
-pub returns-in-Err-walk_frames : goal.returns-in-Err-walk_frames
-returns-in-Err-walk_frames c =
+pub returns-in-Err-fill_frames : goal.returns-in-Err-fill_frames
+returns-in-Err-fill_frames c =
     let held : HoldsIn (view_of c.args.view.now) (Frames c.in-Frames.scheme) c.in-Ok.found.1.now =
     rw c.in-Frames.is at c.in-Ok.ensures.held in
-    payload_kept (view_of c.args.view.now) (Frames c.in-Frames.scheme) c.in-Ok.found.1.now _ _ c.walk_frames.new.out
-    (Err c.in-Err-walk_frames.fault) c.requires.some held (c.from-samples.ensures ∙ c.samples.ensures) (sym held.2)
-    c.in-Err-walk_frames.ensures
+    payload_kept (view_of c.args.view.now) (Frames c.in-Frames.scheme) c.in-Ok.found.1.now _ _ c.fill_frames.new.out
+    (Err c.in-Err-fill_frames.fault) c.requires.some held (c.from-samples.ensures ∙ c.samples.ensures) (sym held.2)
+    c.in-Err-fill_frames.ensures

@@ -5,10 +5,10 @@ use Rattle.mseed_steim.specs.Reading.{HoldsIn}
 use Rattle.mseed_steim.proofs.Laws.{payload_stepped}
 use Rattle.mseed_steim.proofs.read.fill_steps.Goals as goal
 
-pub returns-in-Err-walk_frames : goal.returns-in-Err-walk_frames
-returns-in-Err-walk_frames c =
+pub returns-in-Err-fill_frames : goal.returns-in-Err-fill_frames
+returns-in-Err-fill_frames c =
     let held : HoldsIn (view_of c.args.view.now) (Frames c.in-Frames.scheme) c.in-Ok.found.1.now =
     rw c.in-Frames.is at c.in-Ok.ensures.held in
-    payload_stepped (view_of c.args.view.now) (Frames c.in-Frames.scheme) c.in-Ok.found.1.now _ _ c.walk_frames.new.out
-    (Err c.in-Err-walk_frames.fault) c.requires.some held (c.from-samples.ensures ∙ c.samples.ensures) (sym held.2)
-    c.in-Err-walk_frames.ensures
+    payload_stepped (view_of c.args.view.now) (Frames c.in-Frames.scheme) c.in-Ok.found.1.now _ _ c.fill_frames.new.out
+    (Err c.in-Err-fill_frames.fault) c.requires.some held (c.from-samples.ensures ∙ c.samples.ensures) (sym held.2)
+    c.in-Err-fill_frames.ensures
