@@ -18,6 +18,7 @@ use crate::archive::Archive;
 use mseed_audit::Verdict;
 use mseed_record::{Codes, RecordView};
 use std::alloc::{AllocError, Allocator};
+use std::cmp::Ordering;
 
 /// The index of each channel's first record, and, for each record with samples, the index of its channel's next one;
 /// or, where there is none, how many records there are.
@@ -144,7 +145,11 @@ fn has_codes(channels: &[(Codes, Verdict)], number: usize, codes: Codes) -> bool
     ensures same { OnTrue result ((c : Channel) → same_key (slice_index_or channels.now number c).0 codes ≡ true) }
 {
     match channels.get(number) {
-        Some((key, _)) if *key == codes => true,
-        _ => false,
+        // Codes are ordered by two words, which is faster than to compare twelve bytes.
+        Some((key, _)) => match key.cmp(&codes) {
+            Ordering::Equal => true,
+            _ => false,
+        },
+        None => false,
     }
 }

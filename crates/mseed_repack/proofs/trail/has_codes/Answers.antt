@@ -1,17 +1,15 @@
 use Rattle.std.proofs.Common.{◌≡◌, ◌<◌, ◌∙◌, ap, get_or, length, rules, sym}
-use Rattle.std.specs.Cmp.Lexicographic.{same_text}
+use Rattle.std.specs.Ordering.{is_eq}
 use Rattle.std.proofs.lemmas.List.{get_or_default}
 use Rattle.mseed_audit.specs.Channels.{same_key}
-use Rattle.mseed_audit.proofs.Maps.{same_itself}
 use Rattle.mseed_repack.specs.Repack.{Channel}
 use Rattle.mseed_repack.proofs.trail.has_codes.Goals as goal
 
-pub returns-in-Some-clause-same : goal.returns-in-Some-clause-same
-returns-in-Some-clause-same c = λ d.
+pub returns-in-Equal-clause-same : goal.returns-in-Equal-clause-same
+returns-in-Equal-clause-same c = λ d.
     let cs = c.args.channels.now in
     let e : Channel = c.in-Some.field-0.now in
     let within : c.args.number < length cs = search rules in
     let at : e ≡ get_or cs c.args.number e = search rules in
-    let same : e.0 ≡ c.args.codes = same_text e.0 c.args.codes c.if-eq.ensures in
     ap (λ (x : Channel). same_key x.0 c.args.codes) (get_or_default cs c.args.number d e within ∙ sym at)
-    ∙ rw same (same_itself c.args.codes)
+    ∙ ap is_eq (sym c.cmp.ensures ∙ c.in-Equal.is)
