@@ -70,7 +70,7 @@ pub fn audit_asked(
     Ok((sink.into_inner(), found.without_time))
 }
 
-/// Audits two records that stand one behind another, and says how many channels are broken.
+/// Audits two records that stand one after another, and says how many channels are broken.
 pub fn broken_of_two(alloc: Global, one: &RecordView, other: &RecordView) -> Result<usize, Memory> {
     let mut audit = Audit::new(alloc);
     audit.add(one, 0)?;
@@ -90,7 +90,7 @@ pub fn finding_of(alloc: Global, record: &RecordView) -> Result<Option<Why>, Mem
     audit.add_judged(record, 0)
 }
 
-/// Audits the second of two records alone, and answers the number by which its finding is told.
+/// Audits the second of two records alone, and answers the number with which its finding is reported.
 pub fn number_of_second(
     alloc: Global,
     one: &RecordView,
@@ -130,7 +130,7 @@ pub fn count_of(codes: &Codes, views: &[RecordView]) -> usize {
     views.iter().filter(|view| is_of(codes, view)).count()
 }
 
-/// A series made by hand, with a leap second behind its 100th sample.
+/// A series made by hand, with a leap second after its 100th sample.
 pub fn with_leap_second(
     alloc: Global,
     codes: Codes,
@@ -182,7 +182,7 @@ pub fn break_between(one: &Channel, next: &Channel) -> Option<Why> {
     }
 }
 
-/// The words of a finding.
+/// The text of a finding.
 pub fn reason_text(alloc: Global, why: &Why) -> Result<Vec<u8>, AllocError>
     ensures { IfOk result (λ text. text.items ≡ why_text why.now) }
 {

@@ -180,7 +180,7 @@ pub fn fetch_once<S: Duplex, W: Sink>(
     Ok(matches!(turn, Turn::Goes))
 }
 
-/// Fetches over a link for a turn, tells of the first record of each place, and answers whether a record came.
+/// Fetches over a link for a turn, reports the first record of each place, and answers whether a record came.
 pub fn fetch_some<S: Duplex, W: Sink, E: Sink>(
     client: &mut Client,
     link: &mut S,

@@ -6,17 +6,17 @@ use std::fs::Files;
 use std::io;
 use std::io::Read;
 
-/// How many words a program was started with, its own name aside.
+/// How many arguments a program was started with, its own name aside.
 pub fn count_words<R: Env + Alloc>(rt: &R) -> Result<usize, AllocError> {
     Ok(words_of(rt)?.len())
 }
 
-/// Whether each of these words names a file that can be read.
+/// Whether each of these arguments names a file that can be read.
 pub fn can_be_read<F: Files>(files: &F, words: &[&[u8]]) -> bool {
     find_unreadable(files, words).is_none()
 }
 
-/// Reads once of the files that words name, and says how many bytes came, and from which file.
+/// Reads once of the files that arguments name, and says how many bytes came, and from which file.
 pub fn first_bytes(
     alloc: Global,
     words: &[&[u8]],
@@ -28,7 +28,7 @@ pub fn first_bytes(
     Ok((bytes, chain.place_of(bytes)))
 }
 
-/// Which of the files that words name fails at the first read, if one does.
+/// Which of the files that arguments name fails at the first read, if one does.
 pub fn first_failed(
     alloc: Global,
     words: &[&[u8]],

@@ -7,7 +7,7 @@ use mseed_input::{
 use mseed_stream::{Sink, Source, StreamFault};
 use std::alloc::{AllocError, Global};
 
-/// How many bytes the texts have that stand for the words of a command line.
+/// How many bytes the texts have that stand for the arguments of a command line.
 pub fn bytes_of_texts(alloc: Global, words: &[Vec<u8>]) -> Result<u64, AllocError> {
     let mut bytes: u64 = 0;
     let texts = texts_of(alloc, words)?;
@@ -17,7 +17,7 @@ pub fn bytes_of_texts(alloc: Global, words: &[Vec<u8>]) -> Result<u64, AllocErro
     Ok(bytes)
 }
 
-/// Whether the word that a text stands for is one that names standard input.
+/// Whether the argument that a text stands for is one that names standard input.
 pub fn is_standard_input(text: &str, words: &[Vec<u8>]) -> bool {
     word_of(text, words) == b"-".as_slice()
 }
@@ -38,7 +38,7 @@ pub fn is_wrong(end: &Option<StreamFault>) -> bool {
     !matches!(blame_by(end), Blame::Nothing)
 }
 
-/// Reports in which of the files that words name a fault lies that ended their bytes, after no record.
+/// Reports in which of the files that arguments name a fault lies that ended their bytes, after no record.
 pub fn tell_fault_of<E: Sink>(
     alloc: Global,
     words: &[&[u8]],
@@ -50,7 +50,8 @@ pub fn tell_fault_of<E: Sink>(
     Ok(())
 }
 
-/// Reports that the file that a word names can't be read, and, where it can't be looked at, that memory was refused.
+/// Reports that the file that an argument names can't be read, and, where it can't be looked at, that memory was
+/// refused.
 pub fn tell_unread<E: Sink>(
     alloc: Global,
     word: &[u8],

@@ -91,7 +91,7 @@ pub fn records_of_parts<E: Sink>(
     Ok(joint.part.records())
 }
 
-/// The text of a part of one channel, of so many records and bytes; so many faults lie behind.
+/// The text of a part of one channel, of so many records and bytes, in which so many faults were passed.
 pub fn text_of_one(
     alloc: Global,
     codes: &Codes,
@@ -121,12 +121,12 @@ pub fn records_of_line(line: &[u8]) -> Option<u64> {
     Some(records)
 }
 
-/// Whether a line says that faults lie behind.
+/// Whether a line says that faults were passed.
 pub fn tells_of_faults(line: &[u8]) -> bool {
     read_faults_line(line).is_some()
 }
 
-/// The fault that a line tells, behind so many bytes.
+/// The fault that a line reports, after so many bytes.
 pub fn fault_of_line(line: &[u8], bytes: u64) -> Option<StreamFault> {
     read_fault_line(line, bytes)
 }

@@ -57,7 +57,7 @@ pub fn serve_plan<A: Accept, E: Sink>(plan: &ServePlan, acceptor: &mut A, errors
     serve_planned(plan, acceptor, errors)
 }
 
-/// Fetches over at most ten links of the caller's, tells how to go on, and says whether all came.
+/// Fetches over at most ten links of the caller's, reports how to go on, and says whether all came.
 pub fn fetch_ten<D: Dial, P: Pause, W: Sink, E: Sink>(
     client: &mut Client,
     dialler: &mut D,

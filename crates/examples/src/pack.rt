@@ -33,7 +33,7 @@ pub fn is_written(code: u8) -> bool {
     Encoding::of(code).is_some()
 }
 
-/// The records of a series, one behind another.
+/// The records of a series, one after another.
 pub fn packed(alloc: Global, series: &Series, options: &Options) -> Result<Vec<u8>, PackFault> {
     let mut sink = Counted::new(Vec::new(alloc));
     pack(series, options, &mut sink)?;

@@ -27,7 +27,7 @@ pub fn border_of(
     part.add_channel(codes, channel)
 }
 
-/// How many records and bytes two archives have, one behind another.
+/// How many records and bytes two archives have, one after another.
 pub fn joint_counts(one: Part, other: &Part) -> Result<(u64, u64), JoinFault> {
     let joint = one.join(other)?;
     Ok((joint.records(), joint.bytes()))

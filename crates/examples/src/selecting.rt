@@ -38,7 +38,7 @@ pub fn counts_of_one<C: Choice>(choice: &C, view: &RecordView) -> Counts {
     counts
 }
 
-/// The records of a slice that are asked for, one behind another.
+/// The records of a slice that are asked for, one after another.
 pub fn selected_of(
     alloc: Global,
     selector: &Selector,

@@ -10,7 +10,7 @@ use mseed_stream::{
 use std::alloc::{Allocator, Global};
 use std::io::{self, BufReader};
 
-/// How many records a slice holds, where nothing is left behind them.
+/// How many records a slice holds, where nothing is left after them.
 pub fn count_records(alloc: Global, bytes: &[u8]) -> Result<usize, StreamFault> {
     Ok(split(alloc, bytes)?.len())
 }

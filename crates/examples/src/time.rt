@@ -18,7 +18,7 @@ pub fn of_millis(millis: i64) -> Option<Micros> {
     Micros::new(millis.checked_mul(1_000)?)
 }
 
-/// The whole seconds from 1970-01-01T00:00:00 to an instant, and the microseconds behind them.
+/// The whole seconds from 1970-01-01T00:00:00 to an instant, and the microseconds after them.
 pub fn seconds_and_rest(instant: Micros) -> (i64, i64) {
     let micros = instant.get();
     (micros.div_euclid(1_000_000), micros.rem_euclid(1_000_000))
@@ -105,7 +105,7 @@ pub fn is_followed(start: Micros, rate: Rate, next: Micros) -> bool
     join(start, 100, rate.ratio(), None, next) == Join::Meets
 }
 
-/// The microseconds that are missing behind a record at whose end a leap second was inserted.
+/// The microseconds that are missing after a record at whose end a leap second was inserted.
 pub fn missing_after(start: Micros, count: u32, rate: Rate, next: Micros) -> u128 {
     match join(start, count, rate.ratio(), Some(LeapStep::Plus), next) {
         Join::Late(micros) => micros,

@@ -98,14 +98,14 @@ pub fn has_number(head: &[u8; 8], wanted: u32) -> bool {
     Packet::number(head) == Some(wanted)
 }
 
-/// The digits of the number behind one.
+/// The digits of the number after one.
 pub fn digits_behind(number: u32) -> [u8; 6]
     requires { number < 2 ^ 24 }
 {
     six_digits(number + 1)
 }
 
-/// Whom a word names: this machine, or a host that the system resolves.
+/// Whom an argument names: this machine, or a host that the system resolves.
 pub fn host_named(word: &str) -> Option<Host> {
     match word {
         "here" => Some(Host::Address(Address::local())),

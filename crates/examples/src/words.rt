@@ -5,7 +5,7 @@ ghost use Rattle.mseed_words.specs.Words.{CanBeCalled};
 use mseed_words::{Command, Refusal, Request, read};
 use std::alloc::Global;
 
-/// What the words of a command line request, those after the program's name.
+/// What the arguments of a command line request, those after the program's name.
 pub fn requested(alloc: Global, words: &[&str]) -> Result<Request, Refusal>
     ensures { IfOk result CanBeCalled }
 {
@@ -15,7 +15,7 @@ pub fn requested(alloc: Global, words: &[&str]) -> Result<Request, Refusal>
     }
 }
 
-/// Whether the words of a command line ask for some of the records alone.
+/// Whether the arguments of a command line ask for some of the records alone.
 pub fn is_selective(command: &Command) -> bool {
     command.selector.is_some()
 }
@@ -30,7 +30,7 @@ pub fn places_requested(request: &Request) -> usize {
     }
 }
 
-/// What to tell whoever typed words that request nothing.
+/// What to report to whoever typed arguments that request nothing.
 pub fn answer_to(refusal: &Refusal) -> &str {
     match refusal {
         Refusal::Text(text) => text.as_str(),
