@@ -30,9 +30,9 @@ fn main(rt: HostRuntime) -> ExitCode {
     ExitCode::from(status)
 }
 
-/// Does what the arguments of the command line request, over the standard streams, and returns the exit status. A buffer
-/// for an input is made once it is known that one is read: a server of records that come, and a client, have none. No
-/// clause says what the system gives: this is only tested.
+/// Does what the arguments of the command line request, over the standard streams, and returns the exit status. A
+/// buffer for an input is made once it is known that one is read: a server of records that come, and a client, have
+/// none. No clause says what the system gives: this is only tested.
 ///
 /// # Errors
 ///

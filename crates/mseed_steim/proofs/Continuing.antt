@@ -1,5 +1,6 @@
 -- A walk that goes on, step by step.
-use Rattle.std.proofs.Common.{◌≡◌, ◌⊎◌, ⊎_elim, ℕ, zero, suc, ◌+◌, ◌-◌, ◌<◌, ◌≤◌, ◌^◌, List, [], ◌∷◌, ◌++◌, map, take, drop, length}
+use Rattle.std.proofs.Common.{◌≡◌, ◌⊎◌, ⊎_elim, ℕ, zero, suc, ◌+◌, ◌-◌, ◌<◌, ◌≤◌, ◌^◌, List, [], ◌∷◌, ◌++◌, map}
+use Rattle.std.proofs.Common.{take, drop, length}
 use Rattle.std.proofs.Common.{ℤ, pos, ◌+ℤ◌, nat_abs, Option, Some, None, Result, Ok, Err, arith, refl, ap, sym, subst}
 use Rattle.std.proofs.Common.{◌∙◌, inl, inr, append_assoc}
 use Rattle.std.specs.Prelude.{IfOk, IfSome, OnOk, min}

@@ -1,6 +1,7 @@
 -- Frames at once: what their words have, but for the first sample's difference.
 use Rattle.std.proofs.Common.{◌≡◌, ℕ, ◌+◌, ◌-◌, ◌*◌, ◌<◌, ◌≤◌, List, [], ◌∷◌, ◌++◌, map, length, ℤ, ◌-ℤ◌, pos}
-use Rattle.std.proofs.Common.{take, drop, eqb, refl, sym, ap, ◌∙◌, subst, arith, Ok, Result, Option, Some, None, IfSome, ⊎_elim}
+use Rattle.std.proofs.Common.{take, drop, eqb, refl, sym, ap, ◌∙◌, subst, arith, Ok, Result, Option, Some, None}
+use Rattle.std.proofs.Common.{IfSome, ⊎_elim}
 use Rattle.std.proofs.Common.{◌+ℤ◌, ◌/◌, ◌^◌, nat_abs, w32, FitsSigned}
 use Rattle.std.specs.Bool.{OnTrue}
 use Rattle.std.specs.Prelude.{min}

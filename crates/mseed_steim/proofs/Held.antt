@@ -253,7 +253,8 @@ cut_from s ds most cut long none same i h two some =
 pub taken_some : (s : Scheme) (most : ℕ) → 2 ≤ most → most ≤ 7 → (2 ≤ taken s most) × (taken s most ≤ most)
 taken_some One most some few =
     eight (λ m. 2 ≤ m → (2 ≤ taken One m) × (taken One m ≤ m)) (λ h. absurd (omega (arith, h)))
-    (λ h. absurd (omega (arith, h))) (λ _. (omega arith, omega arith)) (λ _. (omega arith, omega arith)) (λ _. (omega arith, omega arith)) (λ _. (omega arith, omega arith)) (λ _. (omega arith, omega arith))
+    (λ h. absurd (omega (arith, h))) (λ _. (omega arith, omega arith)) (λ _. (omega arith, omega arith))
+    (λ _. (omega arith, omega arith)) (λ _. (omega arith, omega arith)) (λ _. (omega arith, omega arith))
     (λ _. (omega arith, omega arith)) most (omega (arith, few)) some
 taken_some Two most some few = (some, omega arith)
 

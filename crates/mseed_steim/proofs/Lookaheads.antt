@@ -130,7 +130,8 @@ known_more s known ds more is = record {
 }
 
 -- what is known where more follow is known without them, where eight are left
-ahead_first : (s : Scheme) (xs more : List ℤ) (most : ℕ) → 8 ≤ length xs → IsAhead s (xs ++ more) most → IsAhead s xs most
+ahead_first : (s : Scheme) (xs more : List ℤ) (most : ℕ) → 8 ≤ length xs → IsAhead s (xs ++ more) most
+    → IsAhead s xs most
 ahead_first s xs more most few is some =
     let known = is some in
     let least = taken_some s most some known.0 in

@@ -56,7 +56,8 @@ pub next_items : (s : Scheme) (p begin frame : List ℕ) (i count : ℕ) (done d
     → items_of s (data_words p) ≡ map Ok (done ++ ds) ++ items_of s (left_from p 0 (i + 1))
 next_items s p begin frame i count done ds inside begins e unpacked same =
     let rest : List (Result ℤ BadWordAt) = items_of s (left_from p 0 (i + 1)) in
-    same ∙ ap (λ (ws : List DataWord). map Ok done ++ items_of s ws) (frames_cut p 0 0 i 1 (omega arith) (omega (arith, inside)))
+    same ∙ ap (λ (ws : List DataWord). map Ok done ++ items_of s ws)
+    (frames_cut p 0 0 i 1 (omega arith) (omega (arith, inside)))
     ∙ ap (λ (items : List (Result ℤ BadWordAt)). map Ok done ++ items)
     (unpacked.items p i (data_in 0 i) (left_from p 0 (i + 1)) begins e)
     ∙ sym (append_assoc (map Ok done) (map Ok ds) rest)
@@ -95,7 +96,8 @@ rest_put false s p i met out before after inside kept same h = tt
 rest_put true s p i met out before after inside kept same h =
     let found = h (left_from p 0 (i + 1)) in (
       found.0,
-      same ∙ ap (λ (ws : List DataWord). map Ok (take met out) ++ items_of s ws) (frames_cut p 0 0 i 1 (omega arith) (omega (arith, inside)))
+      same ∙ ap (λ (ws : List DataWord). map Ok (take met out) ++ items_of s ws)
+          (frames_cut p 0 0 i 1 (omega arith) (omega (arith, inside)))
           ∙ ap (λ (ys : List ℤ). map Ok ys ++ items_of s (words_from p (16 * i + data_in 0 i) (16 - data_in 0 i)
           ++ left_from p 0 (i + 1))) (sym kept) ∙ found.1,
     )

@@ -1,7 +1,7 @@
 //! How many differences the next words take, found ahead, for many places at once.
 
-ghost use Rattle.std.specs.Prelude.{◌≡◌, ◌⊎◌, ◌↔◌, ◌≤◌, ◌<◌, ◌+◌, ◌++◌, ℕ, ℤ, List, pos, drop, length, map, slice_index};
-ghost use Rattle.std.specs.Prelude.{slice_index_or};
+ghost use Rattle.std.specs.Prelude.{◌≡◌, ◌⊎◌, ◌↔◌, ◌≤◌, ◌<◌, ◌+◌, ◌++◌, ℕ, ℤ, List, pos, drop, length, map};
+ghost use Rattle.std.specs.Prelude.{slice_index, slice_index_or};
 ghost use Rattle.std.specs.Simd.Lanes.{Each1};
 ghost use Rattle.mseed_steim.specs.declared.scheme.Scheme.TheVariants.{One, Two};
 ghost use Rattle.mseed_steim.specs.private.Ahead.{near_size, size_of, raised, most_one, most_two, most_with};

@@ -169,8 +169,8 @@ pub(crate) fn keep_needed<K: Keeper>(
     }
 }
 
-/// Takes a frame at once, unpacked in a room for its differences, as far as these are needed. None where a word of it is
-/// bad or has a wide difference, or the limits of 32 bits are within its reach.
+/// Takes a frame at once, unpacked in a room for its differences, as far as these are needed. None where a word of it
+/// is bad or has a wide difference, or the limits of 32 bits are within its reach.
 #[inline(always)]
 fn keep_frame<K: Keeper>(
     task: Task,

@@ -116,7 +116,8 @@ fn unpack_rest(scheme: Scheme, payload: &[u8], index: usize, met: usize, out: &m
     ensures places { length out.new ≡ length out.old }
     ensures put { OnTrue result ((rest : List DataWord) → (more : List (Result ℤ BadWordAt))
         × (map Ok (take met out.old) ++ items_of scheme
-        (words_from payload.now (16 * index + data_in 0 index) (16 - data_in 0 index) ++ rest) ≡ map Ok out.new ++ more)) }
+        (words_from payload.now (16 * index + data_in 0 index) (16 - data_in 0 index) ++ rest)
+        ≡ map Ok out.new ++ more)) }
 {
     let words = Words::between(
         payload,

@@ -257,8 +257,9 @@ pub(crate) fn walk<K: Keeper>(
     requires places { length out.old ≡ places_for K.kept task.samples }
     ensures folded { result ≡ fold task.samples (record { met = 0; last = first })
         (items_of task.scheme (data_words payload.now)) }
-    ensures kept { OnOk result (in_places K.kept out.new ≡ kept_in K.kept task.samples (record { met = 0; last = first })
-        out.old (items_of task.scheme (data_words payload.now))) }
+    ensures kept { OnOk result (in_places K.kept out.new
+        ≡ kept_in K.kept task.samples (record { met = 0; last = first }) out.old
+        (items_of task.scheme (data_words payload.now))) }
 {
     let (frames, _) = payload.as_chunks::<64>();
     let mut sum = begin::<K>(task, payload, first, out);

@@ -1,4 +1,5 @@
-use Rattle.std.proofs.Common.{◌≡◌, ◌<◌, ◌+◌, [], ◌∷◌, ◌++◌, ◌∙◌, ℤ, List, ◌+ℤ◌, length, take, drop, set, get_or, pos, to_z}
+use Rattle.std.proofs.Common.{◌≡◌, ◌<◌, ◌+◌, [], ◌∷◌, ◌++◌, ◌∙◌, ℤ, List, ◌+ℤ◌, length, take, drop, set, get_or}
+use Rattle.std.proofs.Common.{pos, to_z}
 use Rattle.std.proofs.Common.{append-nil, ap, arith, refl, rules, sym, w32, FitsSigned}
 use Rattle.std.proofs.lemmas.Int.{ints, to_z-of_z}
 use Rattle.mseed_steim.specs.private.Lanes.{total}
@@ -37,5 +38,6 @@ loop-i-preserved c =
     record {
       places = search rules;
       summed = rw (to_z-of_z w32 next last, to_z-of_z w32 c.args.last begin) (next_some ds c.args.last i 1 (i + 1) out
-          (set out i next) past next refl (rw (to_z-of_z w32 c.args.last begin) at c.loop-i.invariant.summed) put moved);
+          (set out i next) past next refl
+          (rw (to_z-of_z w32 c.args.last begin) at c.loop-i.invariant.summed) put moved);
     }

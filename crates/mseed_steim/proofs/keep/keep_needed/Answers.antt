@@ -5,8 +5,8 @@ use Rattle.std.proofs.lemmas.List.{length-take-le}
 use Rattle.mseed_steim.specs.declared.sum.Sum.{Sum}
 use Rattle.mseed_steim.specs.private.Lanes.{span}
 use Rattle.mseed_steim.specs.private.Sums.{with_first}
-use Rattle.mseed_steim.proofs.Continuing.{continues_near, continues_unused, first_counted, first_span, length-with_first}
-use Rattle.mseed_steim.proofs.Continuing.{span_needed, walks_needed}
+use Rattle.mseed_steim.proofs.Continuing.{continues_near, continues_unused, first_counted, first_span}
+use Rattle.mseed_steim.proofs.Continuing.{length-with_first, span_needed, walks_needed}
 use Rattle.mseed_steim.proofs.keep.keep_needed.Goals as goal
 
 pub keep_near-requires-clause-near : goal.keep_near-requires-clause-near

@@ -11,8 +11,8 @@ returns-in-Err-clause-walks g c = λ more.
     let i = c.loop-i.i in
     let fits : FitsSigned w32 (get_or ds i (pos 0)) = search rules in
     let later = map Ok (drop (i + 1) ds) ++ more in
-    walks_then g.K.Keeper.kept c.args.samples c.args.sum c.loop-i.sum c.args.out.now c.loop-i.out c.keep_difference.new.out
-    _ _ more (Err c.in-Err.fault) (c.loop-i.invariant.walked more)
+    walks_then g.K.Keeper.kept c.args.samples c.args.sum c.loop-i.sum c.args.out.now c.loop-i.out
+    c.keep_difference.new.out _ _ more (Err c.in-Err.fault) (c.loop-i.invariant.walked more)
     (walks_over g.K.Keeper.kept c.args.samples c.loop-i.sum c.loop-i.out c.keep_difference.new.out _ _ more
     (Err c.in-Err.fault) (drop_step ds i (pos 0) more c.loop-i-test.true)
     (rw (to_z-of_z w32 (get_or ds i (pos 0)) fits) at (c.in-Err.ensures.walks later)))

@@ -14,8 +14,8 @@ pub returns-in-Err : goal.returns-in-Err
 returns-in-Err g c = λ more.
     let fits : FitsSigned w32 c.next_difference.result = search rules in
     let later = map Ok (digits c.args.group.width c.args.word (c.args.group.count - (c.loop-i.i + 1))) ++ more in
-    walks_then g.K.Keeper.kept c.args.samples c.args.sum c.loop-i.sum c.args.out.now c.loop-i.out c.keep_difference.new.out
-    _ _ more (Err c.in-Err.fault) (c.loop-i.invariant.walked more)
+    walks_then g.K.Keeper.kept c.args.samples c.args.sum c.loop-i.sum c.args.out.now c.loop-i.out
+    c.keep_difference.new.out _ _ more (Err c.in-Err.fault) (c.loop-i.invariant.walked more)
     (walks_over g.K.Keeper.kept c.args.samples c.loop-i.sum c.loop-i.out c.keep_difference.new.out _ _ more
     (Err c.in-Err.fault)
     (ap (λ (ds : List ℤ). map Ok ds ++ more) c.next_difference.ensures)
