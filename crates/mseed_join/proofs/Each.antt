@@ -1,5 +1,5 @@
 -- Parts that are read with a report of their borders, and the lines of borders as they are gathered and written.
-use Rattle.std.proofs.Common.{◌≡◌, ◌+◌, ◌<◌, ℕ, List, [], ◌++◌, Bool, length, take, refl, sym, ap, ◌∙◌, subst, arith}
+use Rattle.std.proofs.Common.{◌≡◌, ◌+◌, ◌<◌, ℕ, List, [], ◌++◌, Bool, length, take, refl, sym, ap, ◌∙◌, subst}
 use Rattle.std.proofs.Common.{◌⊎◌, inl, inr, Option, Some, append-nil, Ok, Err}
 use Rattle.std.specs.Prelude.{Result}
 use Rattle.mseed_stream.specs.Device.{BytesRead, BytesWritten, nothing_read}
@@ -296,7 +296,7 @@ pub lined_in_part : (first old new : BytesWritten) (taken : ℕ) (text whole : L
     → AreLined first old text found → whole ≡ text ++ border_lines more → IsCutOff taken whole old new
     → IsCutShort first new (border_lines (found ++ more)) Write
 lined_in_part first old new taken text whole found more before e cut = (
-  omega (arith, cut.failed, before.fine),
+  cut.failed ∙ ap (λ (n : ℕ). n + 1) before.fine,
   subst (λ (t : List ℕ). EmittedPart first new t) (sym (lines_append found more))
       (cut_part first old new taken text (border_lines found) (border_lines more) before.lines
       (subst (λ (t : List ℕ). IsCutOff taken t old new) e cut)),
@@ -321,7 +321,7 @@ pub flushed_in_part : (first old new : BytesWritten) (text whole : List ℕ) (ta
     → taken < length whole → new.failures ≡ old.failures + 1 → IsFlushed first new found ended Write
 flushed_in_part first old new text whole taken found ended before e bytes within failed = inr (
   (
-    omega (arith, failed, before.fine),
+    failed ∙ ap (λ (n : ℕ). n + 1) before.fine,
     part_of first old new text (border_lines found) before.lines
         (subst (λ (t : List ℕ). EmittedPart old new t) e (taken, (within, bytes))),
   ),
@@ -414,7 +414,7 @@ each_cut_off past expected joint h first old new reported at text whole slice n 
     let w : Written = written_of joint in
     let emitted : EmittedPart old new (text ++ join_text w) =
     subst (λ (t : List ℕ). EmittedPart old new t) (same ∙ e) (n, (within, bytes)) in (
-      omega (arith, failed, a.1.1.0.fine),
+      failed ∙ ap (λ (n : ℕ). n + 1) a.1.1.0.fine,
       inr (
         w,
         (

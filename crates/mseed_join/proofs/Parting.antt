@@ -1,5 +1,5 @@
 -- The part of what was read, by what is kept of its channels, and what is written of it.
-use Rattle.std.proofs.Common.{◌≡◌, ℕ, ◌+◌, ◌++◌, List, [], ◌∷◌, length, map, Option, refl, sym, ap, ◌∙◌, subst, arith}
+use Rattle.std.proofs.Common.{◌≡◌, ℕ, ◌+◌, ◌++◌, List, [], ◌∷◌, length, map, Option, refl, sym, ap, ◌∙◌, subst}
 use Rattle.std.proofs.Common.{inr, is_some, Err}
 use Rattle.std.proofs.lemmas.List.{length-append, length-map}
 use Rattle.std.specs.List.{concat}
@@ -145,7 +145,7 @@ pub reported_cut_off : {h : BytesRead} (s : Summary) (taken : ℕ) (views : List
     → IsCutOff taken next old new → old.failures ≡ first.failures → IsPartEachOutcome (Err Write) h first new
 reported_cut_off s taken views text next reported first old new p are before cut same =
     let tail : List ℕ = part_text p.parted.written in (
-      omega (arith, same, cut.failed),
+      cut.failed ∙ ap (λ (n : ℕ). n + 1) same,
       inr (
         reported_part s views text next reported p are,
         cut_part first old new taken text (reported_lines reported) tail before
