@@ -2,3 +2,4 @@ pub mod Asking
 pub mod Encodings
 mod Lines
 mod Requests
+mod Done

@@ -9,3 +9,4 @@ pub mod Selected
 pub mod Streams
 pub mod OfRecords
 pub mod Run
+pub mod Effect

@@ -1,7 +1,11 @@
 //! A command over its input: standard input, or the files that its arguments name.
-ghost use Rattle.std.specs.Prelude.{◌≡◌, true};
+ghost use Rattle.std.specs.Prelude.{◌≡◌, [], IfErr, IfOk, map, option_map, true};
+ghost use Rattle.mseed_select.specs.Selecting.{selection_of};
+ghost use Rattle.mseed_stream.specs.Device.{BytesRead, nothing_read};
 ghost use Rattle.mseed_words.specs.Files.{takes_files};
 ghost use Rattle.mseed_words.specs.Words.{CanBeCalled};
+ghost use Rattle.mseed.specs.Effect.{HasRun};
+ghost use Rattle.mseed.specs.Streams.{streams};
 
 use crate::command::run;
 use mseed_files::{Chain, Named, find_unreadable};
@@ -16,12 +20,42 @@ use std::io::BufReader;
 /// 128 KiB for which the C library maps pages apart.
 pub const ROOM: usize = 31 << 12;
 
+/// Carries out a command over the files that it names, of these arguments, or over standard input where it names none,
+/// and returns the exit status.
+///
+/// # Errors
+///
+/// `OutOfMemory` where there is no room for the names or a buffer. Nothing was read or written then.
+pub fn run_over_named<W: Sink, E: Sink>(
+    rt: &HostRuntime,
+    command: &Command<'_>,
+    words: &[Vec<u8>],
+    output: &mut W,
+    errors: &mut E,
+) -> io::Result<u8>
+    requires called { CanBeCalled command.now.request }
+    requires reads { takes_files command.now.request ≡ true }
+    ensures ok { IfOk result (λ status. (read : BytesRead)
+        × HasRun command.now.request (option_map selection_of command.now.selector)
+        (map (λ file. file.now) command.now.files.items) status
+        (streams nothing_read (W.written output.old) (E.written errors.old))
+        (streams read (W.written output.new) (E.written errors.new))) }
+    ensures unwritten { IfErr result (λ _. W.written output.new ≡ W.written output.old) }
+    ensures unreported { IfErr result (λ _. E.written errors.new ≡ E.written errors.old) }
+{
+    if command.files.is_empty() {
+        run_over_input(rt, command, output, errors)
+    } else {
+        run_over_files(rt, command, words, output, errors)
+    }
+}
+
 /// Carries out a command over standard input, and returns the exit status.
 ///
 /// # Errors
 ///
 /// `OutOfMemory` where there is no room for a buffer. Nothing was read or written then.
-pub fn run_over_input<W: Sink, E: Sink>(
+fn run_over_input<W: Sink, E: Sink>(
     rt: &HostRuntime,
     command: &Command<'_>,
     output: &mut W,
@@ -29,6 +63,14 @@ pub fn run_over_input<W: Sink, E: Sink>(
 ) -> io::Result<u8>
     requires called { CanBeCalled command.now.request }
     requires reads { takes_files command.now.request ≡ true }
+    requires no_file { command.now.files.items ≡ [] }
+    ensures ok { IfOk result (λ status. (read : BytesRead)
+        × HasRun command.now.request (option_map selection_of command.now.selector)
+        (map (λ file. file.now) command.now.files.items) status
+        (streams nothing_read (W.written output.old) (E.written errors.old))
+        (streams read (W.written output.new) (E.written errors.new))) }
+    ensures unwritten { IfErr result (λ _. W.written output.new ≡ W.written output.old) }
+    ensures unreported { IfErr result (λ _. E.written errors.new ≡ E.written errors.old) }
 {
     let mut input = Buffered::new(BufReader::with_capacity(rt.alloc(), ROOM, rt.reader())?);
     Ok(run(rt.alloc(), command, &mut input, output, errors).status)
@@ -41,7 +83,7 @@ pub fn run_over_input<W: Sink, E: Sink>(
 /// # Errors
 ///
 /// `OutOfMemory` where there is no room for the names or a buffer. Nothing was read or written then.
-pub fn run_over_files<W: Sink, E: Sink>(
+fn run_over_files<W: Sink, E: Sink>(
     rt: &HostRuntime,
     command: &Command<'_>,
     words: &[Vec<u8>],
@@ -50,6 +92,13 @@ pub fn run_over_files<W: Sink, E: Sink>(
 ) -> io::Result<u8>
     requires called { CanBeCalled command.now.request }
     requires reads { takes_files command.now.request ≡ true }
+    ensures ok { IfOk result (λ status. (read : BytesRead)
+        × HasRun command.now.request (option_map selection_of command.now.selector)
+        (map (λ file. file.now) command.now.files.items) status
+        (streams nothing_read (W.written output.old) (E.written errors.old))
+        (streams read (W.written output.new) (E.written errors.new))) }
+    ensures unwritten { IfErr result (λ _. W.written output.new ≡ W.written output.old) }
+    ensures unreported { IfErr result (λ _. E.written errors.new ≡ E.written errors.old) }
 {
     let mut names = Vec::new(rt.alloc());
     for file in &command.files {

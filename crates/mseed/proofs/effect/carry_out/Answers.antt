@@ -1,0 +1,38 @@
+use Rattle.std.proofs.Common.{inl, inr}
+use Rattle.mseed_stream.specs.Device.{nothing_read}
+use Rattle.mseed.proofs.Done.{effect, still}
+use Rattle.mseed.proofs.effect.carry_out.Goals as goal
+
+pub returns-in-Ok-clause-called : goal.returns-in-Ok-clause-called
+returns-in-Ok-clause-called g c request asked files asks =
+    effect _ c.in-Ok.command request asked files c.execute.result (g.W.Sink.written c.args.output.now)
+    (g.W.Sink.written c.command_of.new.output) (g.W.Sink.written c.execute.new.output)
+    (g.E.Sink.written c.args.errors.now) (g.E.Sink.written c.command_of.new.errors)
+    (g.E.Sink.written c.execute.new.errors) c.command_of.ensures.unwritten
+    (c.in-Ok.ensures.called request asked files asks) c.execute.ensures.done
+
+pub returns-in-Ok-clause-bad : goal.returns-in-Ok-clause-bad
+returns-in-Ok-clause-bad g c nothing = elim (c.in-Ok.ensures.bad nothing) [
+  | inl command ↦ absurd command
+  | inr command ↦ absurd command
+]
+
+pub returns-in-Ok-clause-refused : goal.returns-in-Ok-clause-refused
+returns-in-Ok-clause-refused g c refused = elim (c.in-Ok.ensures.refused refused) [
+  | inl command ↦ absurd command
+  | inr command ↦ absurd command
+]
+
+pub returns-in-Ok-clause-unwritten : goal.returns-in-Ok-clause-unwritten
+returns-in-Ok-clause-unwritten g c =
+    still _ c.execute.result _ _ _ c.command_of.ensures.unwritten c.execute.ensures.unwritten
+
+pub returns-in-Ok-clause-unreported : goal.returns-in-Ok-clause-unreported
+returns-in-Ok-clause-unreported g c =
+    still _ c.execute.result _ _ _ c.in-Ok.ensures.silent c.execute.ensures.unreported
+
+pub returns-clause-called : goal.returns-clause-called
+returns-clause-called g c request asked files asks = elim (c.in-Err.ensures.called request asked files asks) [
+  | inl command ↦ absurd command
+  | inr lacks ↦ (nothing_read, inr (lacks, c.command_of.ensures.unwritten))
+]
