@@ -157,20 +157,27 @@ def one_writer(folder: Path) -> Cases:
 
 def coming_back(folder: Path) -> Cases:
     """A server that comes late, is killed, and comes back; and links that are cut."""
-    records, out, port = records_at_random(SEED + 1, PLACES, 20000), folder / "back", free_port()
-    run, sizes = started(words(out, port)), []
-    time.sleep(0.3)
+    records, port = records_at_random(SEED + 1, PLACES, 20000), free_port()
 
     def next_server() -> Server:
         return Server(b"".join(records), PLACES, "--capacity", 20000, "--connections", 1000000, port=port)
 
-    for part in (0, 3000, 6000):
+    # A server that is seen too late has sent all before it is killed: then once more.
+    for turn in range(5):
+        out, sizes = folder / f"back{turn}", []
+        run = started(words(out, port))
+        time.sleep(0.3)
+        for part in (0, 3000, 6000):
+            server = next_server()
+            waits_for(lambda file=out, size=part * 512: size_of(file) > size, run)
+            server.kill()
+            sizes.append(size_of(out))
         server = next_server()
-        waits_for(lambda size=part * 512: size_of(out) > size, run)
+        how = ended(run)
+        if 0 < sizes[0] < size_of(out):
+            break
         server.kill()
-        sizes.append(size_of(out))
-    server = next_server()
-    yield Fact("a server that comes back", (0, ""), ended(run))
+    yield Fact("a server that comes back", (0, ""), how)
     yield holds("it was gone in the middle", 0 < sizes[0] < size_of(out), sizes)
     yield holds("each record is held once", is_each_once(PLACES, records, out.read_bytes()), size_of(out))
     source = Random(SEED)
