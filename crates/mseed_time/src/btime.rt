@@ -5,7 +5,7 @@ ghost use Rattle.mseed_time.specs.Btime.{IsTime, day_of, days_in_year, shift_of}
 use crate::fault::{OutOfRange, TimeFault};
 use crate::micros::Micros;
 use crate::order::Order;
-use jiff_core::civil::{self, Date};
+use jiff_core::civil;
 
 /// The microseconds from 1900-01-01T00:00:00 to 1970-01-01T00:00:00.
 const BEFORE_1970: i64 = 2_208_988_800_000_000;
@@ -18,9 +18,6 @@ const START_OF_2101: u64 = 9_498_643_200_000_000;
 
 /// Half a ten-thousandth of a second, in microseconds.
 const HALF_TICK: u64 = 50;
-
-/// The days from the calendar's first day to 1900-01-01.
-const FIRST_OF_1900: u32 = 4_346_020;
 
 /// A valid BTIME (SEED Reference Manual 2.4, chapter 3): each field is in its range.
 #[derive(Clone, Copy, Debug, PartialEq, Eq)]
@@ -182,7 +179,7 @@ impl Btime {
         ensures value { microsecond_of (parts_of self.now) +ℤ BEFORE_1970 ≡ pos result }
         ensures bound { result < 6_400_000_000_000_000 }
     {
-        let days = days_since_1900(self.year) + u64::from(self.day) - 1;
+        let days = u64::from(days_since_1900(self.year) + u32::from(self.day) - 1);
         let minutes = (days * 24 + u64::from(self.hour)) * 60 + u64::from(self.minute);
         let seconds = minutes * 60 + u64::from(self.second);
         seconds * 1_000_000 + u64::from(self.fraction) * 100
@@ -190,13 +187,13 @@ impl Btime {
 }
 
 /// Returns the number of days from 1900-01-01 to the first day of a year.
-fn days_since_1900(year: u16) -> u64
+fn days_since_1900(year: u16) -> u32
     requires low { 1900 ≤ year }
     requires high { year ≤ 2100 }
     ensures { day_of year 1 +ℤ pos 25_567 ≡ pos result }
 {
     // From 1901 to 2099 each fourth year is a leap year, and 1900 is none.
-    (1461 * (u64::from(year) - 1900)).saturating_sub(1) / 4
+    (1461 * (u32::from(year) - 1900)).saturating_sub(1) / 4
 }
 
 /// Returns the year and the day of the year, 1 January being 1, of the day that is so many days after 1900-01-01.
@@ -208,8 +205,10 @@ fn year_and_day(days: u32) -> (u16, u16)
     ensures last { result.1 ≤ days_in_year result.0 }
     ensures value { day_of result.0 result.1 +ℤ pos 25_567 ≡ pos days }
 {
-    let date = Date::from_days_since_min(days + FIRST_OF_1900);
-    (date.year.unsigned_abs(), date.day_of_year())
+    // From 1901 to 2099 each fourth year is a leap year, and 1900 is none.
+    let year = (1900 + 4 * (days + 1) / 1461) as u16;
+    let day = days - days_since_1900(year) + 1;
+    (year, day as u16)
 }
 
 /// Returns how many whole ten-thousandths of a second these microseconds are, and the microseconds that are left, less
