@@ -1,15 +1,10 @@
 -- The calendar's day numbers are those of the definition.
-use Rattle.std.proofs.Common.{◌≡◌, ℕ, suc, ◌+◌, ◌-◌, ◌*◌, ◌<◌, ◌≤◌, subst, arith, ℤ, ◌≤ℤ◌, pos, unsigned_abs, ◌+ℤ◌}
-use Rattle.jiff_core.specs.declared.civil.date.Date.{Date}
-use Rattle.jiff_core.specs.Calendar.{days_from_civil, day_count}
-use Rattle.jiff_core.specs.Date.{epoch_day, ordinal}
-use Rattle.std.proofs.lemmas.Int.{by_lt_z}
-use Rattle.jiff_core.proofs.CalendarLemmas.{days_from_civil-day_count, day_count-lt_year, day_count-later_year}
-use Rattle.jiff_core.proofs.CalendarLemmas.{day_count-day_of_year}
-use Rattle.jiff_core.proofs.DateLemmas.{civil, epoch_day-ordinal}
+use Rattle.std.proofs.Common.{◌≡◌, ℕ, suc, ◌+◌, ◌-◌, ◌*◌, ◌≤◌, arith, ℤ, pos, ◌+ℤ◌}
+use Rattle.jiff_core.specs.Calendar.{days_from_civil}
+use Rattle.jiff_core.proofs.CalendarLemmas.{days_from_civil-day_count}
 use Rattle.jiff_core.proofs.MarchLemmas.{day_count-early}
-use Rattle.jiff_core.proofs.SignedLemmas.{signed_arith, one_part}
-use Rattle.mseed_time.specs.Btime.{Parts, leap_days, day_of, microsecond_of}
+use Rattle.jiff_core.proofs.SignedLemmas.{signed_arith}
+use Rattle.mseed_time.specs.Btime.{Parts, day_of, microsecond_of}
 
 -- the first of January
 pub days_from_civil-first : (y : ℕ) → 1 ≤ y → days_from_civil (pos y) 1 1 ≡ day_of y 1

@@ -105,5 +105,5 @@ outside_unnamed instant outside t u a =
     let ticks = counted t a.valid in
     ⊎_elim
     (λ before. omega (arith, signed_arith, a.value, a.low, ticks, before))
-    (λ behind. omega (arith, signed_arith, a.value, a.high, a.second, ticks, behind, few_days t a.valid))
+    (λ after. omega (arith, signed_arith, a.value, a.high, a.second, ticks, after, few_days t a.valid))
     outside
