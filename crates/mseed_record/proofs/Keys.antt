@@ -31,9 +31,9 @@ byte_rank m n x y Equal Less a b h k = omega arith
 byte_rank m n x y Equal Equal a b h k = omega arith
 byte_rank m n x y Equal Greater a b h k = omega arith
 
-byte_behind : (m n x y : ℕ) → x < 256 → y < 256
+byte_after : (m n x y : ℕ) → x < 256 → y < 256
     → nat_cmp (m * 256 + x) (n * 256 + y) ≡ ordering_then (nat_cmp m n) (nat_cmp x y)
-byte_behind m n x y a b =
+byte_after m n x y a b =
     sym (nat_cmp_is (m * 256 + x) (n * 256 + y) (ordering_then (nat_cmp m n) (nat_cmp x y))
     (byte_rank m n x y (nat_cmp m n) (nat_cmp x y) a b (ranks m n) (ranks x y)))
 
@@ -46,18 +46,18 @@ spelled_cmp [] (y ∷ ys) m n l p q = absurd (omega (arith, l))
 spelled_cmp (x ∷ xs) [] m n l p q = absurd (omega (arith, l))
 spelled_cmp (x ∷ xs) (y ∷ ys) m n l p q =
     spelled_cmp xs ys (m * 256 + x) (n * 256 + y) (omega (arith, l)) p.1 q.1
-    ∙ ap (λ (o : Ordering). ordering_then o (slice_cmp nat_cmp xs ys)) (byte_behind m n x y p.0 q.0)
+    ∙ ap (λ (o : Ordering). ordering_then o (slice_cmp nat_cmp xs ys)) (byte_after m n x y p.0 q.0)
     ∙ then_then (nat_cmp m n) (nat_cmp x y) (slice_cmp nat_cmp xs ys)
 
 -- what lies after the first n counts where those are the same
-pub cmp_behind : (n : ℕ) (xs ys : List ℕ) → n ≤ length xs → n ≤ length ys
+pub cmp_after : (n : ℕ) (xs ys : List ℕ) → n ≤ length xs → n ≤ length ys
     → slice_cmp nat_cmp xs ys
     ≡ ordering_then (slice_cmp nat_cmp (take n xs) (take n ys)) (slice_cmp nat_cmp (drop n xs) (drop n ys))
-cmp_behind zero xs ys h k = refl
-cmp_behind (suc n) [] ys h k = absurd (omega (arith, h))
-cmp_behind (suc n) (x ∷ xs) [] h k = absurd (omega (arith, k))
-cmp_behind (suc n) (x ∷ xs) (y ∷ ys) h k =
-    ap (λ (o : Ordering). ordering_then (nat_cmp x y) o) (cmp_behind n xs ys (omega (arith, h)) (omega (arith, k)))
+cmp_after zero xs ys h k = refl
+cmp_after (suc n) [] ys h k = absurd (omega (arith, h))
+cmp_after (suc n) (x ∷ xs) [] h k = absurd (omega (arith, k))
+cmp_after (suc n) (x ∷ xs) (y ∷ ys) h k =
+    ap (λ (o : Ordering). ordering_then (nat_cmp x y) o) (cmp_after n xs ys (omega (arith, h)) (omega (arith, k)))
     ∙ sym (then_then (nat_cmp x y) (slice_cmp nat_cmp (take n xs) (take n ys))
     (slice_cmp nat_cmp (drop n xs) (drop n ys)))
 
@@ -87,15 +87,15 @@ keys_cmp n xs ys h l p q =
     (front_octets n xs a) (front_octets n ys b) in
     let back = spelled_cmp (drop n xs) (drop n ys) 0 0 (omega (arith, l, length-drop n xs, length-drop n ys))
     (back_octets n xs a) (back_octets n ys b) in
-    (λ i. ordering_then (front i) (back i)) ∙ sym (cmp_behind n xs ys h (omega (arith, h, l)))
+    (λ i. ordering_then (front i) (back i)) ∙ sym (cmp_after n xs ys h (omega (arith, h, l)))
 
 -- the same by the numbers themselves, of which the second are asked where the first are the same
 pub words_cmp : (n : ℕ) (xs ys cs ds : List ℕ) (f g h k : ℕ) (o p : Ordering) → xs ≡ cs → ys ≡ ds → n ≤ length xs
     → length xs ≡ length ys → ((i : ℕ) → slice_index_or xs i 0 < 256) → ((i : ℕ) → slice_index_or ys i 0 < 256)
     → f ≡ big_endian 0 (take n xs) → g ≡ big_endian 0 (take n ys) → h ≡ big_endian 0 (drop n xs)
     → k ≡ big_endian 0 (drop n ys) → o ≡ nat_cmp f g → p ≡ ordering_then o (nat_cmp h k) → p ≡ slice_cmp nat_cmp cs ds
-words_cmp n xs ys cs ds f g h k o p are others long l q r first other rest behind front is =
-    is ∙ (λ i. ordering_then (front i) (nat_cmp (rest i) (behind i)))
+words_cmp n xs ys cs ds f g h k o p are others long l q r first other rest after front is =
+    is ∙ (λ i. ordering_then (front i) (nat_cmp (rest i) (after i)))
     ∙ (λ i. ordering_then (nat_cmp (first i) (other i))
     (nat_cmp (big_endian 0 (drop n xs)) (big_endian 0 (drop n ys))))
     ∙ keys_cmp n xs ys long l q r

@@ -223,8 +223,8 @@ last_small order b os last h =
     omega arith
 
 -- bytes after a prefix
-behind : (xs ys : List ℕ) (p i : ℕ) → p ≡ length xs + i → get_or (xs ++ ys) p 0 ≡ get_or ys i 0
-behind xs ys p i e =
+after : (xs ys : List ℕ) (p i : ℕ) → p ≡ length xs + i → get_or (xs ++ ys) p 0 ≡ get_or ys i 0
+after xs ys p i e =
     let over : length xs ≤ p = omega (arith, e) in
     let same : p - length xs ≡ i = omega (arith, e) in
     get_or-append_right xs ys p 0 over ∙ ap (λ (n : ℕ). get_or ys n 0) same
@@ -267,15 +267,15 @@ longest_exponent Little = refl
 longest_type : (order : Order) (prefix : List ℕ) (last : ℕ) → length prefix ≡ last
     → type_at order (prefix ++ longest order) last ≡ 1000
 longest_type Big prefix last e =
-    let one : get_or (prefix ++ longest Big) last 0 ≡ 3 = behind prefix (longest Big) last 0 (omega (arith, e)) in
+    let one : get_or (prefix ++ longest Big) last 0 ≡ 3 = after prefix (longest Big) last 0 (omega (arith, e)) in
     let two : get_or (prefix ++ longest Big) (suc last) 0 ≡ 232 =
-    behind prefix (longest Big) (suc last) 1 (omega (arith, e)) in
+    after prefix (longest Big) (suc last) 1 (omega (arith, e)) in
     rw (one, two) refl
 longest_type Little prefix last e =
     let one : get_or (prefix ++ longest Little) last 0 ≡ 232 =
-    behind prefix (longest Little) last 0 (omega (arith, e)) in
+    after prefix (longest Little) last 0 (omega (arith, e)) in
     let two : get_or (prefix ++ longest Little) (suc last) 0 ≡ 3 =
-    behind prefix (longest Little) (suc last) 1 (omega (arith, e)) in
+    after prefix (longest Little) (suc last) 1 (omega (arith, e)) in
     rw (one, two) refl
 
 seven_twenty : 7 ≤ 20
@@ -304,7 +304,7 @@ at_its_place order prefix os last e h =
     let all : List ℕ = prefix ++ longest order in
     let headed = headed_more order prefix (longest order) os last (octets_longest order) h in
     let size : last + 8 ≡ length all = omega (arith, e, length-append prefix (longest order), longest_length order) in
-    let exponent : exponent_at all last ≡ 20 = behind prefix (longest order) (last + 6) 6 (omega (arith, e))
+    let exponent : exponent_at all last ≡ 20 = after prefix (longest order) (last + 6) 6 (omega (arith, e))
     ∙ longest_exponent order in
     let small = last_small order all os last headed in
     before prefix (longest order)
@@ -327,7 +327,7 @@ at_its_exponent order prefix os last e t h =
     let headed = headed_more order prefix exponent_bytes os last octets_exponent h in
     let size : last + 8 ≡ length all = omega (arith, e, length-append prefix exponent_bytes) in
     let type : type_at order all last ≡ 1000 = number_more order prefix exponent_bytes last (omega (arith, e)) ∙ t in
-    let exponent : exponent_at all last ≡ 20 = behind prefix exponent_bytes (last + 6) 2 (omega (arith, e)) in
+    let exponent : exponent_at all last ≡ 20 = after prefix exponent_bytes (last + 6) 2 (omega (arith, e)) in
     let small = last_small order all os last headed in
     before prefix exponent_bytes
     (grown order all os last (2 ^ 20) headed (grows_by order all last type exponent size small))

@@ -2,7 +2,7 @@
 use Rattle.std.proofs.Common.{◌≡◌, ℕ, ◌+◌, ◌^◌, ◌≤◌, List, [], ◌∷◌, ◌++◌, length, length-append, take, Some, sym, ap}
 use Rattle.std.proofs.Common.{subst, ◌∙◌, arith}
 use Rattle.std.proofs.lemmas.List.{append_cancel_left, length-take-le, take-take}
-use Rattle.std.proofs.Math.Seq.{take-append_seam, take-length}
+use Rattle.std.proofs.Math.Seq.{take-append_seam}
 use Rattle.mseed_time.specs.declared.order.Order.{Order}
 use Rattle.mseed_record.specs.Header.{blockette_at}
 use Rattle.mseed_record.specs.Chain.{type_at, next_at, Passes}
@@ -64,12 +64,6 @@ one_record b j k h l r s =
     let same : length (take j b) ≡ length (take k b) =
     same_length (take j b) (take k b) r.0 s.0 r.1.0 s.1.0 r.1.1.0 s.1.1.0 (two_cuts b j k h l) r.1.1.1 s.1.1.1 in
     sym (length-take-le j b h) ∙ (same ∙ length-take-le k b l)
-
--- a prefix of a record that is one is all of it
-pub whole_record : (b : List ℕ) (k : ℕ) → k ≤ length b → IsRecord (take k b) → IsRecord b → k ≡ length b
-whole_record b k h r s =
-    let all : length b ≤ length b = omega arith in
-    one_record b k (length b) h all r (subst (λ (xs : List ℕ). IsRecord xs) (sym (take-length b)) s)
 
 -- what bytes begin with
 pub prefix_is : (r rest bytes : List ℕ) → bytes ≡ r ++ rest → take (length r) bytes ≡ r
