@@ -75,10 +75,16 @@ impl Blockettes {
             (if kind == 1001 then Some offset else None) }
         ensures has_100 { result.has_100 ≡ (self.has_100 || (kind == 100)) }
     {
-        let here = if kind == 1001 { Some(offset) } else { None };
-        Blockettes {
-            first_1001: self.first_1001.or(here),
-            has_100: self.has_100 || kind == 100,
+        match kind {
+            1001 => Blockettes {
+                first_1001: self.first_1001.or(Some(offset)),
+                ..self
+            },
+            100 => Blockettes {
+                has_100: true,
+                ..self
+            },
+            _ => self,
         }
     }
 }

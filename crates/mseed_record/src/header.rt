@@ -1,5 +1,6 @@
 //! The fields of a header (SEED manual, chapter 8, "Fixed section of data header").
-ghost use Rattle.std.specs.Prelude.{◌≡◌, ◌≤◌, ◌+◌, ◌<◌, IfOk, length, slice_index};
+ghost use Rattle.std.specs.Prelude.{◌≡◌, ◌≤◌, ◌+◌, ◌<◌, IfOk, length, slice_index, take, true};
+ghost use Rattle.std.specs.Bool.{OnTrue};
 ghost use Rattle.mseed_record.specs.Header.{time_at, has_fixed_bytes, is_sequence_byte, is_quality, is_blank, trimmed};
 ghost use Rattle.mseed_record.specs.Order.{order_of, is_dated};
 ghost use Rattle.mseed_time.specs.Fields.{number_at};
@@ -12,6 +13,7 @@ ghost use Rattle.std.specs.Result.{result_err};
 
 use byteorder::{BigEndian, ByteOrder, LittleEndian};
 use mseed_time::{Btime, Order, TimeFault};
+use std::simd::prelude::*;
 
 /// The fixed section of a header has so many bytes (SEED manual, chapter 8).
 pub const HEADER: usize = 48;
@@ -72,7 +74,7 @@ pub(crate) fn has_fixed_bytes(bytes: &[u8]) -> bool
     requires { 8 ≤ length bytes.now }
     ensures { result ≡ has_fixed_bytes bytes.now }
 {
-    if !is_sequence(&bytes[..6]) {
+    if !is_sequence(bytes) {
         return false;
     }
     if !is_quality(bytes[6]) {
@@ -81,18 +83,33 @@ pub(crate) fn has_fixed_bytes(bytes: &[u8]) -> bool
     is_blank(bytes[7])
 }
 
-/// Returns whether all bytes may stand in a sequence number. In most headers all are digits.
+/// Returns whether the first six bytes may stand in a sequence number. In most headers all are digits.
+#[inline(always)]
 fn is_sequence(bytes: &[u8]) -> bool
-    ensures { result ≡ list_all is_sequence_byte bytes.now }
+    requires { 8 ≤ length bytes.now }
+    ensures { result ≡ list_all is_sequence_byte (take 6 bytes.now) }
 {
-    are_digits(bytes) || bytes.iter().all(|byte| is_sequence_byte(*byte))
+    are_digits(bytes) || are_sequence_bytes(&bytes[..6])
 }
 
-/// Returns whether all bytes are digits.
+/// Returns whether the first six bytes are digits, looking at eight of them at once.
+#[inline(always)]
 fn are_digits(bytes: &[u8]) -> bool
-    ensures { result ≡ list_all is_ascii_digit bytes.now }
+    requires { 8 ≤ length bytes.now }
+    ensures { OnTrue result (list_all is_ascii_digit (take 6 bytes.now) ≡ true) }
 {
-    bytes.iter().all(u8::is_ascii_digit)
+    let others = (u8x8::from_slice(bytes) - u8x8::splat(b'0'))
+        .simd_gt(u8x8::splat(9))
+        .to_bitmask();
+    others % 64 == 0
+}
+
+/// Returns whether all bytes may stand in a sequence number.
+#[inline(never)]
+fn are_sequence_bytes(bytes: &[u8]) -> bool
+    ensures { result ≡ list_all is_sequence_byte bytes.now }
+{
+    bytes.iter().all(|byte| is_sequence_byte(*byte))
 }
 
 /// Returns whether a byte may stand in a sequence number: a digit, a space or NUL.

@@ -1,8 +1,9 @@
-use Rattle.std.proofs.Common.{sym, ◌∙◌}
+use Rattle.std.proofs.Common.{sym, take, ◌∙◌}
+use Rattle.std.proofs.lemmas.Bool.{OnTrue_at}
 use Rattle.mseed_record.proofs.Digits.{digits_in_sequence}
 use Rattle.mseed_record.proofs.header.is_sequence.Goals as goal
 
 pub returns-then-are_digits : goal.returns-then-are_digits
 returns-then-are_digits c =
-    c.if-are_digits.true
-    ∙ sym (digits_in_sequence c.args.bytes.now (sym c.are_digits.ensures ∙ c.if-are_digits.true))
+    let digits = OnTrue_at c.if-are_digits.true c.are_digits.ensures in
+    c.if-are_digits.true ∙ sym (digits_in_sequence (take 6 c.args.bytes.now) digits)

@@ -1,0 +1,8 @@
+use Rattle.std.proofs.Common.{refl}
+use Rattle.std.proofs.lemmas.Bool.{OnTrue_from, eqb-true}
+use Rattle.mseed_record.proofs.DigitLanes.{is_above, lowered, six_digits}
+use Rattle.mseed_record.proofs.header.are_digits.Goals as goal
+
+pub returns : goal.returns
+returns c =
+    OnTrue_from _ _ (λ e. six_digits is_above lowered c.args.bytes.now c.requires c.type_inv.bytes refl (eqb-true _ _ e))
