@@ -2,8 +2,8 @@
 use Rattle.std.proofs.Common.{◌≡◌, ap, ◌∙◌, sym, refl, Bool, true, false, ◌&&◌, bytes_eq, List, ℕ}
 use Rattle.std.specs.Prelude.{slice_range}
 use Rattle.std.proofs.lemmas.Slice.Eq.{bytes_eq-Decides}
+use Rattle.std.proofs.lemmas.Bool.{and_parts}
 use Rattle.slink_wire.specs.Place.{Bears, Fields}
-use Rattle.slink_wire.proofs.Cuts.{both}
 
 abbrev pub bears_test : Fields → List ℕ → Bool
 bears_test p r = bytes_eq (slice_range r 8 13) p.station && bytes_eq (slice_range r 18 20) p.network
@@ -17,7 +17,7 @@ bears_passes p r h =
 pub passes_bears : (p : Fields) (r : List ℕ) → bears_test p r ≡ true → Bears r p
 passes_bears p r h =
     let each : (bytes_eq (slice_range r 8 13) p.station ≡ true) × (bytes_eq (slice_range r 18 20) p.network ≡ true) =
-    both (bytes_eq (slice_range r 8 13) p.station) (bytes_eq (slice_range r 18 20) p.network) h in (
+    and_parts (bytes_eq (slice_range r 8 13) p.station) (bytes_eq (slice_range r 18 20) p.network) h in (
       (bytes_eq-Decides (slice_range r 8 13) p.station).0 each.0,
       (bytes_eq-Decides (slice_range r 18 20) p.network).0 each.1,
     )

@@ -6,9 +6,10 @@ use Rattle.std.specs.Char.{is_ascii_alphanumeric}
 use Rattle.std.proofs.lemmas.Bool.Decides.{eqb_tells}
 use Rattle.std.proofs.lemmas.List.{take_at}
 use Rattle.std.specs.Prelude.{Result, Ok, Err, IsOk, IfOk, IsOkAnd, OnErr}
+use Rattle.std.proofs.lemmas.Bool.{and_parts}
 use Rattle.slink_wire.specs.declared.place.BadPlace.{BadPlace}
 use Rattle.slink_wire.specs.Place.{Fields, IsCode, IsField, SpellsPlace, filled, fields_of, code_in}
-use Rattle.slink_wire.proofs.Cuts.{Lacks, both, first_at, none_at, one_cut}
+use Rattle.slink_wire.proofs.Cuts.{Lacks, first_at, none_at, one_cut}
 
 -- a byte of a code is neither of these
 other_byte : (c : ℕ) → is_ascii_alphanumeric c ≡ false → (b : ℕ) → is_ascii_alphanumeric b ≡ true → not (b == c) ≡ true
@@ -23,7 +24,7 @@ pub without : (c : ℕ) → is_ascii_alphanumeric c ≡ false → (code : List �
 without c f [] h = refl
 without c f (b ∷ bs) h =
     let parts : (is_ascii_alphanumeric b ≡ true) × (list_all is_ascii_alphanumeric bs ≡ true) =
-    both (is_ascii_alphanumeric b) (list_all is_ascii_alphanumeric bs) h in
+    and_parts (is_ascii_alphanumeric b) (list_all is_ascii_alphanumeric bs) h in
     ap (λ v. v && list_all (λ x. not (x == c)) bs) (other_byte c f b parts.0) ∙ without c f bs parts.1
 
 code_in-spaces : (code : List ℕ) (n : ℕ) → list_all is_ascii_alphanumeric code ≡ true

@@ -8,10 +8,8 @@ use Rattle.std.proofs.lemmas.List.{drop_more, take_at, drop_at, take_all, take_r
 use Rattle.std.proofs.lemmas.List.Sums.{passes_at_first}
 use Rattle.std.proofs.lemmas.Bool.Decides.{leb_tells, eqb_tells}
 use Rattle.std.specs.Option.{unwrap_or}
-
-pub both : (a b : Bool) → (a && b) ≡ true → (a ≡ true) × (b ≡ true)
-both true b h = (refl, h)
-both false b h = absurd (let c : false ≡ true = h in cc c)
+use Rattle.std.proofs.lemmas.Bool.{and_parts}
+pub use Rattle.std.proofs.lemmas.Bool.{and_parts as both}
 
 -- the elements before it fail, and the next one passes
 pub first_at : (p : ℕ → Bool) (xs : List ℕ) (y : ℕ) (ys : List ℕ) → list_all (λ x. not (p x)) xs ≡ true → p y ≡ true
@@ -19,7 +17,7 @@ pub first_at : (p : ℕ → Bool) (xs : List ℕ) (y : ℕ) (ys : List ℕ) → 
 first_at p [] y ys h t = ap (λ v. cond (not v) (1 + prefix_len (λ x. not (p x)) ys) 0) t
 first_at p (x ∷ xs) y ys h t =
     let fails : (not (p x) ≡ true) × (list_all (λ z. not (p z)) xs ≡ true) =
-    both (not (p x)) (list_all (λ z. not (p z)) xs) h in
+    and_parts (not (p x)) (list_all (λ z. not (p z)) xs) h in
     let rest : position_or_len p (xs ++ y ∷ ys) ≡ length xs = first_at p xs y ys fails.1 t in
     ap (λ v. cond v (1 + position_or_len p (xs ++ y ∷ ys)) 0) fails.0 ∙ omega (arith, rest)
 
@@ -28,7 +26,7 @@ pub none_at : (p : ℕ → Bool) (xs : List ℕ) → list_all (λ x. not (p x)) 
 none_at p [] h = refl
 none_at p (x ∷ xs) h =
     let fails : (not (p x) ≡ true) × (list_all (λ z. not (p z)) xs ≡ true) =
-    both (not (p x)) (list_all (λ z. not (p z)) xs) h in
+    and_parts (not (p x)) (list_all (λ z. not (p z)) xs) h in
     let rest : position_or_len p xs ≡ length xs = none_at p xs fails.1 in
     ap (λ v. cond v (1 + position_or_len p xs) 0) fails.0 ∙ omega (arith, rest)
 

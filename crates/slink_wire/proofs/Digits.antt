@@ -5,7 +5,7 @@ use Rattle.std.proofs.Common.{length-append, add-one, true, not, ◌==◌, ◌&&
 use Rattle.std.specs.Char.{to_ascii_uppercase}
 use Rattle.std.proofs.lemmas.Bool.Decides.{eqb_tells, leb_tells}
 use Rattle.std.proofs.lemmas.List.Folds.{list_all-append}
-use Rattle.std.proofs.lemmas.List.{map_push, same_from_push, take_more, take_all, get_or_push, get_or_append_left}
+use Rattle.std.proofs.lemmas.List.{map_push, same_from_push, take_more, get_or_push, get_or_append_left}
 use Rattle.std.proofs.lemmas.List.{get_or-map}
 use Rattle.std.proofs.Math.Nat.{pow-suc, pow-le-pow_right}
 use Rattle.slink_wire.specs.Hexadecimal.{SpellsNumber, digit_byte, hexadecimal}
@@ -155,13 +155,6 @@ reads_more digits i n d lt h digit r = record {
       ∙ (ap (λ ds. ds ++ to_ascii_uppercase (get_or digits i 0) ∷ []) r.written
       ∙ (ap (λ b. hexadecimal i n ++ b ∷ []) digit ∙ sym (hexadecimal_more i n d h))));
 }
-
-pub reads_all : (digits : List ℕ) (n : ℕ) → Reads digits (length digits) n → SpellsNumber digits n
-reads_all digits n r = (
-  r.small,
-  ap (map to_ascii_uppercase) (sym (take_all (length digits) digits (omega arith)))
-      ∙ r.written,
-)
 
 -- a number of at most six digits fits
 pub reads_fits : (digits : List ℕ) (i n d : ℕ) → i < 6 → d < 16 → Reads digits i n → n * 16 + d < 2 ^ 24

@@ -164,9 +164,6 @@ pub record TakenTo (old now : Held) (piece : List ℕ) (i : ℕ) : Type 0 where
   pub held : (stream : List ℕ) → IsHeld old stream → IsHeld now (stream ++ take i piece)
   pub quiet : (stream : List ℕ) (k : ℕ) → IsHeld old stream → k ≤ i → YieldsNothing stream (stream ++ take k piece)
 
-taken_at : (piece stream : List ℕ) (k : ℕ) → k ≡ 0 → stream ≡ stream ++ take k piece
-taken_at piece stream k e = sym (append-nil stream) ∙ ap (λ j. stream ++ take j piece) (sym e)
-
 tells_from : (what : What) (before middle after : List ℕ) → YieldsNothing before middle → Yields what middle after
     → Yields what before after
 tells_from More before middle after p q = (q.0 ∙ p.0, q.1)
@@ -202,6 +199,3 @@ taken_more old now new piece i lt stepped t = record {
         (taken_byte old now new piece i More lt stepped t stream h).1)
   ]);
 }
-
-pub never : (b : Bool) → b ≡ true → b ≡ false → ⊥
-never b p q = let c : true ≡ false = sym p ∙ q in cc c

@@ -6,16 +6,13 @@ use Rattle.std.specs.List.{list_all, onto_first, slice_split}
 use Rattle.std.proofs.lemmas.Bool.Decides.{eqb_tells, leb_tells}
 use Rattle.std.proofs.lemmas.List.{append_cancel_left}
 use Rattle.std.proofs.lemmas.List.Folds.{list_all-append}
+use Rattle.std.proofs.lemmas.Bool.{and_parts, not-true}
 use Rattle.slink_wire.specs.Lines.{Spelled, lines_of, spelled_by, stripped, too_long, unless_empty, with_piece}
 use Rattle.slink_wire.specs.Written.{AreLines, IsLine, SpellsPrefix, only_lines, written_bytes}
-use Rattle.slink_wire.proofs.Cuts.{Lacks, both}
+use Rattle.slink_wire.proofs.Cuts.{Lacks}
 use Rattle.slink_wire.proofs.Prefixes.{prefixes}
 use Rattle.slink_wire.proofs.Pieces.{HasPiece, has_piece}
 use Rattle.slink_wire.proofs.Spelled.{fits_of}
-
-not_true : (b : Bool) → not b ≡ true → b ≡ false
-not_true true h = absurd (let bad : false ≡ true = h in cc bad)
-not_true false h = refl
 
 choice_short : (t : Bool) (xs ys : List ℕ) (n : ℕ) → length xs ≤ n → length ys ≤ n → length (if t then xs else ys) ≤ n
 choice_short true xs ys n p q = p
@@ -35,18 +32,18 @@ split_then : (line rest : List ℕ) → Lacks 13 line
 split_then [] rest h = refl
 split_then (x ∷ xs) rest h =
     let parts : (not (x == 13) ≡ true) × (list_all (λ b. not (b == 13)) xs ≡ true) =
-    both (not (x == 13)) (list_all (λ b. not (b == 13)) xs) h in
+    and_parts (not (x == 13)) (list_all (λ b. not (b == 13)) xs) h in
     ap (λ t. cond t ([] ∷ slice_split (λ b. b == 13) (xs ++ 13 ∷ rest))
-    (onto_first x (slice_split (λ b. b == 13) (xs ++ 13 ∷ rest)))) (not_true (x == 13) parts.0)
+    (onto_first x (slice_split (λ b. b == 13) (xs ++ 13 ∷ rest)))) (not-true (x == 13) parts.0)
     ∙ ap (onto_first x) (split_then xs rest parts.1)
 
 split_none : (line : List ℕ) → Lacks 13 line → slice_split (λ b. b == 13) line ≡ line ∷ []
 split_none [] h = refl
 split_none (x ∷ xs) h =
     let parts : (not (x == 13) ≡ true) × (list_all (λ b. not (b == 13)) xs ≡ true) =
-    both (not (x == 13)) (list_all (λ b. not (b == 13)) xs) h in
+    and_parts (not (x == 13)) (list_all (λ b. not (b == 13)) xs) h in
     ap (λ t. cond t ([] ∷ slice_split (λ b. b == 13) xs) (onto_first x (slice_split (λ b. b == 13) xs)))
-    (not_true (x == 13) parts.0)
+    (not-true (x == 13) parts.0)
     ∙ ap (onto_first x) (split_none xs parts.1)
 
 -- before these lines
@@ -113,7 +110,7 @@ one_reported line rest lines is reported = (
 )
 
 pub lacks_prefix : (t z : List ℕ) → Lacks 13 (t ++ z) → Lacks 13 t
-lacks_prefix t z h = (both (list_all (λ b. not (b == 13)) t) (list_all (λ b. not (b == 13)) z)
+lacks_prefix t z h = (and_parts (list_all (λ b. not (b == 13)) t) (list_all (λ b. not (b == 13)) z)
     (sym (list_all-append (λ b. not (b == 13)) t z) ∙ h)).0
 
 prefix_reported : (line t z : List ℕ) (lines : List (List ℕ)) → IsLine line → line ≡ t ++ z → SpellsPrefix t lines
@@ -185,7 +182,7 @@ stripped_lacks : (piece : List ℕ) → Lacks 13 piece → Lacks 13 (stripped pi
 stripped_lacks [] h = refl
 stripped_lacks (x ∷ xs) h =
     let parts : (not (x == 13) ≡ true) × (list_all (λ b. not (b == 13)) xs ≡ true) =
-    both (not (x == 13)) (list_all (λ b. not (b == 13)) xs) h in
+    and_parts (not (x == 13)) (list_all (λ b. not (b == 13)) xs) h in
     choice_lacks (x == 10) (stripped xs) (x ∷ xs) (stripped_lacks xs parts.1) h
 
 stripped_twice : (piece : List ℕ) → stripped (stripped piece) ≡ stripped piece

@@ -1,6 +1,7 @@
 use Rattle.std.proofs.Common.{◌∙◌, ap, arith}
+use Rattle.std.proofs.lemmas.Bool.{both_ways}
 use Rattle.slink_wire.specs.Lines.{Held}
-use Rattle.slink_wire.proofs.Stepped.{never, taken_byte, taken_more}
+use Rattle.slink_wire.proofs.Stepped.{taken_byte, taken_more}
 use Rattle.slink_wire.proofs.lines.Lines.take.Goals as goal
 
 pub loop-i-preserved : goal.loop-i-preserved
@@ -16,6 +17,6 @@ returns-in_default c = record {
   first = (λ stream k h lt. c.loop-i.invariant.quiet stream k h (omega arith));
   whole = (λ e. absurd (c.in_default.not-More e));
   bound = omega arith;
-  repeats = (λ e. absurd (never c.self.inside.is_too_long (ap (λ (v : Held). v.is_too_long) c.self.view_is
-      ∙ e) c.if-self.false));
+  repeats = (λ e. absurd (both_ways c.self.inside.is_too_long c.if-self.false
+      (ap (λ (v : Held). v.is_too_long) c.self.view_is ∙ e)));
 }
