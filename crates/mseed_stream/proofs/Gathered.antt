@@ -85,12 +85,6 @@ none_behind P Q text lines step p =
     subst (λ (xs : List ℕ). Q xs) (append-nil lines)
     (step (subst (λ (xs : List ℕ). P xs) (sym (append-nil text)) p))
 
-pub first_of : (first old new : BytesWritten) (text lines : List ℕ) → AreGathered first old text lines
-    → EmittedFirst old new text → EmittedFirst first new lines
-first_of first old new text lines before =
-    none_behind (EmittedFirst old new) (EmittedFirst first new) text lines
-    (first_behind first old new text lines [] before)
-
 pub part_of : (first old new : BytesWritten) (text lines : List ℕ) → AreGathered first old text lines
     → EmittedPart old new text → EmittedPart first new lines
 part_of first old new text lines before =

@@ -5,6 +5,7 @@ use Rattle.std.proofs.lemmas.List.{append-nil, take-append-le, take-append-drop}
 use Rattle.std.proofs.lemmas.List.Folds.{concat-append}
 use Rattle.std.proofs.Math.Seq.{take-add, take-length}
 use Rattle.std.specs.List.{concat, AllByRecursion}
+use Rattle.std.proofs.ByRecursion.{All-push}
 use Rattle.mseed_record.specs.Record.{IsRecord}
 use Rattle.mseed_record.proofs.Answered.{answered}
 use Rattle.mseed_stream.specs.Archive.{HasNoFurther, IsArchive, HasRecords, End, IsEndOf, clean, frame, truncated}
@@ -28,11 +29,6 @@ no_further rest _ (is_frame f d) k l r = cc (answered rest k _ d l r)
 no_further rest _ (is_truncated n some d) k l r = cc (answered rest k _ d l r)
 
 -- what holds of each holds with one more
-pub all_more : {X : Type 0} (P : X → Type 0) (xs : List X) (x : X) → AllByRecursion P xs → P x
-    → AllByRecursion P (xs ++ x ∷ [])
-all_more P [] x all is = (is, tt)
-all_more P (y ∷ ys) x all is = (all.0, all_more P ys x all.1 is)
-
 -- what was handed out stays where more is read
 same_prefix : (old new more : List ℕ) (offset : ℕ) → offset ≤ length old → new ≡ old ++ more
     → take offset new ≡ take offset old
@@ -65,7 +61,7 @@ pub records_next : (bytes : List ℕ) (offset : ℕ) (records : List (List ℕ))
 records_next bytes offset records b has is prefix = record {
   joined = take-add offset (length b) bytes ∙ (λ i. has.joined i ++ sym prefix i)
       ∙ ap (λ (xs : List ℕ). concat records ++ xs) (sym (append-nil b)) ∙ sym (concat-append records (b ∷ []));
-  each = all_more IsRecord records b has.each is;
+  each = All-push IsRecord records b has.each is;
 }
 
 pub records_more : (old new more : List ℕ) (offset : ℕ) (records : List (List ℕ)) → offset ≤ length old

@@ -1,7 +1,7 @@
 -- What was read of an input has one list of records, and one end after them.
-use Rattle.std.proofs.Common.{◌≡◌, ℕ, suc, ◌<◌, ◌≤◌, ◌++◌, Bool, true, false, List, [], ◌∷◌, length, take, drop, Option}
+use Rattle.std.proofs.Common.{◌≡◌, ℕ, suc, ◌<◌, ◌≤◌, ◌++◌, Bool, false, List, [], ◌∷◌, length, take, drop, Option}
 use Rattle.std.proofs.Common.{Some, None, refl, sym, ap, subst, ◌∙◌, arith, ⊎_elim, append-nil, length-take}
-use Rattle.std.proofs.lemmas.Bool.{cases_lt, false≢true}
+use Rattle.std.proofs.lemmas.Bool.{both_ways, cases_lt}
 use Rattle.std.proofs.lemmas.List.{take-append-drop}
 use Rattle.std.proofs.Math.Seq.{take-length}
 use Rattle.std.specs.List.{concat, AllByRecursion}
@@ -134,7 +134,7 @@ archive_is offset views end h are is = record {
 }
 
 -- how the input ends, by how its bytes end
-abbrev ended : ℕ → End → Option StreamFault
+abbrev pub ended : ℕ → End → Option StreamFault
 ended offset clean = None
 ended offset (frame f) = Some (Frame offset f)
 ended offset (truncated have) = Some (Truncated offset have)
@@ -150,21 +150,18 @@ data Ended (offset : ℕ) (h : BytesRead) (end : Option StreamFault) : Type 0 wh
   by_turns : h.failures ≡ 0 → h.is_at_end ≡ false → FallsShort (read_from offset h) → end ≡ Some (Turns offset)
       → Ended offset h end
 
-refused_of : (bytes : List ℕ) (f : FrameFault) → IsEndOf bytes (frame f) → Decides bytes (Not f)
+pub refused_of : (bytes : List ℕ) (f : FrameFault) → IsEndOf bytes (frame f) → Decides bytes (Not f)
 refused_of bytes f (is_frame _ d) = d
 
-not_both : (b : Bool) → b ≡ true → b ≡ false → ⊥
-not_both b t f = false≢true (sym f ∙ t)
-
 ends : (end : Option StreamFault) (offset : ℕ) (h : BytesRead) → IsEnd end offset h → Ended offset h end
-ends None offset h is = by_bytes clean is.0.0 is.1 (λ going. absurd (not_both h.is_at_end is.0.1 going)) refl
+ends None offset h is = by_bytes clean is.0.0 is.1 (λ going. absurd (both_ways h.is_at_end going is.0.1)) refl
 ends (Some (Frame n f)) offset h is =
     let reported : List ℕ = read_from offset h in
     by_bytes (frame f) is.0.1 is.2
     (λ going. (f, (subst (λ (b : Bool). IsReadTo reported b) going is.0.2, refused_of reported f is.0.1)))
     (ap (λ (k : ℕ). Some (Frame k f)) is.0.0)
 ends (Some (Truncated n have)) offset h is =
-    by_bytes (truncated have) is.0.1 is.2 (λ going. absurd (not_both h.is_at_end is.0.2 going))
+    by_bytes (truncated have) is.0.1 is.2 (λ going. absurd (both_ways h.is_at_end going is.0.2))
     (ap (λ (k : ℕ). Some (Truncated k have)) is.0.0)
 ends (Some (Read n)) offset h is = by_failure is.2 (ap (λ (k : ℕ). Some (Read k)) is.0.0)
 ends (Some (Turns n)) offset h is = by_turns is.2 is.0.2 is.0.3 (ap (λ (k : ℕ). Some (Turns k)) is.0.0)

@@ -1,7 +1,6 @@
 -- A cutter stays along what its source gave, whatever it answers.
-use Rattle.std.proofs.Common.{◌≡◌, ◌≢◌, ℕ, ◌+◌, ◌<◌, ◌≤◌, Bool, true, false, List, [], ◌∷◌, length, Option, Some}
-use Rattle.std.proofs.Common.{None, Result, Ok, Err, IfOk, IfErr, IfSome, refl, sym, ap, subst, ◌∙◌, arith, ⊎_elim}
-use Rattle.std.proofs.lemmas.Bool.{cases_lt}
+use Rattle.std.proofs.Common.{◌≡◌, ◌≢◌, ℕ, ◌+◌, ◌≤◌, Bool, true, false, List, [], ◌∷◌, length, Option, Some}
+use Rattle.std.proofs.Common.{None, Result, Ok, Err, IfOk, IfErr, IfSome, refl, sym, ap, subst, ◌∙◌, arith}
 use Rattle.std.proofs.lemmas.List.{drop_all}
 use Rattle.mseed_record.specs.Record.{IsRecord}
 use Rattle.mseed_record.specs.Scan.{Decides, short}
@@ -187,10 +186,3 @@ end_again result answer (Fault f) offset h same is ending none = cc
 pub few_asks : (held : List ℕ) → asks_of held ≤ 1
 few_asks [] = omega arith
 few_asks (x ∷ xs) = omega arith
-
-asks_other : (held prefix : List ℕ) (old new : ℕ) → old ≤ new → (new ≤ old → prefix ≡ held)
-    → old + asks_of prefix ≤ new + asks_of held
-asks_other held prefix old new calls quiet = ⊎_elim
-    (λ (less : old < new). omega (arith, few_asks prefix))
-    (λ (none : new ≤ old). omega (arith, ap (λ (xs : List ℕ). asks_of xs) (quiet none)))
-    (cases_lt old new)

@@ -1,7 +1,7 @@
 -- The records of a slice, one after another.
 use Rattle.std.proofs.Common.{◌≡◌, ℕ, ◌+◌, ◌-◌, ◌<◌, ◌≤◌, ◌^◌, ◌++◌, List, [], ◌∷◌, length, take, drop, sym, ap}
 use Rattle.std.proofs.Common.{subst, ◌∙◌, arith, length-drop, Err}
-use Rattle.std.proofs.lemmas.List.{append-nil, length-map, length-take-le, map-append, take_all}
+use Rattle.std.proofs.lemmas.List.{append-nil, length-map, length-take-le, map-append}
 use Rattle.mseed_record.specs.declared.fault.ViewFault.{ViewFault}
 use Rattle.mseed_record.specs.declared.fault.ViewFault.TheVariants.{Not as Refused, Short}
 use Rattle.mseed_record.specs.declared.view.RecordView.{RecordView}
@@ -56,5 +56,3 @@ pub size_of_each : (views : List RecordView) (n : ℕ) → length views ≡ n �
 size_of_each views n e = length-map views (λ (v : RecordView). (view_of v).bytes) ∙ e
 
 -- a slice from a offset to its end is all that is left
-pub tail_is : (bytes : List ℕ) (offset : ℕ) → take (length bytes - offset) (drop offset bytes) ≡ drop offset bytes
-tail_is bytes offset = take_all (length bytes - offset) (drop offset bytes) (omega (arith, length-drop offset bytes))
