@@ -6,7 +6,7 @@ ghost use Rattle.mseed_join.specs.private.Taking.{border_by};
 use crate::joint::Reported;
 use mseed_audit::{Finding, put_why};
 use mseed_record::Codes;
-use mseed_text::{Line, push_line};
+use mseed_text::{LONGEST_LINE, Line, push_line};
 use mseed_time::{Micros, show_time};
 use std::alloc::{AllocError, Allocator};
 
@@ -49,7 +49,7 @@ fn push_border_line<A: Allocator>(
 
 /// Puts the line of what is found of a record that begins so.
 fn put_border_line(line: &mut Line, codes: &Codes, start: Micros, finding: &Finding)
-    requires { length line.old + 152 ≤ 256 }
+    requires { length line.old + 152 ≤ LONGEST_LINE }
     ensures { line.new ≡ line.old ++ border_line (record {
       key = codes.now;
       start = start;

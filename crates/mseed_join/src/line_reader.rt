@@ -62,8 +62,9 @@ pub(crate) struct LineReader<A: Allocator> {
 }
 
 impl<A: Allocator> Model for LineReader<A> {
-    ghost use Rattle.std.specs.Prelude.{◌≡◌, ◌≤◌, ◌+◌, ◌-◌, ◌*◌, ◌^◌, slice_range};
+    ghost use Rattle.std.specs.Prelude.{◌≡◌, ◌≤◌, ◌+◌, ◌-◌, ◌*◌, slice_range};
     ghost use Rattle.std.specs.Vec.{vec_len};
+    ghost use Rattle.mseed_join.specs.declared.line_reader.TheConstants.{ROOM, TURNS};
     ghost use Rattle.mseed_join.specs.private.LineReading.{LinesRead};
 
     ghost Value = { LinesRead };
@@ -71,14 +72,14 @@ impl<A: Allocator> Model for LineReader<A> {
     ghost view = { λ r. record {
       held = slice_range r.buffer.items r.begin r.end;
       size = r.size;
-      room = 2 ^ 16 - r.end;
+      room = ROOM - r.end;
       lines = r.lines;
       bytes = r.bytes;
       reads = r.reads;
     } };
 
-    ghost invariant = { λ r. (vec_len r.buffer ≡ 2 ^ 16) × (r.begin + r.size ≤ r.end) × (r.end ≤ 2 ^ 16)
-        × (r.reads ≤ 2 ^ 40) × (r.bytes ≤ 2 ^ 16 * r.reads) × (r.lines + r.end ≤ r.bytes + r.begin) };
+    ghost invariant = { λ r. (vec_len r.buffer ≡ ROOM) × (r.begin + r.size ≤ r.end) × (r.end ≤ ROOM)
+        × (r.reads ≤ TURNS) × (r.bytes ≤ ROOM * r.reads) × (r.lines + r.end ≤ r.bytes + r.begin) };
 }
 
 impl<A: Allocator> LineReader<A> {
@@ -169,7 +170,7 @@ impl<A: Allocator> LineReader<A> {
     pub(crate) fn lines(&self) -> u64
         ensures value { result ≡ self.now.lines }
         ensures few { self.now.bytes ≤ 2 ^ 56 }
-        ensures reads { self.now.bytes ≤ 2 ^ 16 * self.now.reads }
+        ensures reads { self.now.bytes ≤ ROOM * self.now.reads }
     {
         self.lines
     }

@@ -93,9 +93,9 @@ fn leading_at(bytes: &[u8]) -> (u64, usize)
 fn few_more_at(first: u64, bytes: &[u8]) -> (u64, usize)
     requires { first < 10 }
     ensures within { result.1 ≤ length bytes.now }
-    ensures few { result.1 ≤ 16 }
+    ensures few { result.1 ≤ FEW }
     ensures value { more_at result.0 (drop result.1 bytes.now) ≡ more_at first bytes.now }
-    ensures whole { result.1 ≢ 16
+    ensures whole { result.1 ≢ FEW
         → more_at result.0 (drop result.1 bytes.now) ≡ (result.0, drop result.1 bytes.now) }
 {
     let digits = digits_ahead(bytes);
@@ -112,7 +112,7 @@ fn few_more_at(first: u64, bytes: &[u8]) -> (u64, usize)
 #[inline(always)]
 fn with_rest(number: u64, bytes: &[u8], count: usize, digits: usize) -> u64
     requires small { number < 10 ^ (count + 1) }
-    requires few { digits ≤ 16 }
+    requires few { digits ≤ FEW }
     requires within { digits ≤ length bytes.now }
     requires digits { (k : ℕ) → k < digits → is_digit (get_or bytes.now k 0) ≡ true }
     requires before { count ≤ digits }
@@ -135,7 +135,7 @@ fn with_rest(number: u64, bytes: &[u8], count: usize, digits: usize) -> u64
 #[inline(always)]
 fn with_two(number: u64, bytes: &[u8], count: usize) -> u64
     requires small { number < 10 ^ (count + 1) }
-    requires few { count + 2 ≤ 16 }
+    requires few { count + 2 ≤ FEW }
     requires within { count + 2 ≤ length bytes.now }
     requires digits { (k : ℕ) → k < count + 2 → is_digit (get_or bytes.now k 0) ≡ true }
     ensures small { result < 10 ^ (count + 2 + 1) }
@@ -158,9 +158,9 @@ fn with_digit(number: u64, digit: u8) -> u64
 #[inline(always)]
 fn digits_ahead(bytes: &[u8]) -> usize
     ensures within { result ≤ length bytes.now }
-    ensures few { result ≤ 16 }
+    ensures few { result ≤ FEW }
     ensures digits { (k : ℕ) → k < result → is_digit (get_or bytes.now k 0) ≡ true }
-    ensures ends { result ≢ 16 → result < length bytes.now → is_digit (get_or bytes.now result 0) ≡ false }
+    ensures ends { result ≢ FEW → result < length bytes.now → is_digit (get_or bytes.now result 0) ≡ false }
 {
     if bytes.len() < FEW {
         return digits_one_by_one(bytes);
@@ -177,7 +177,7 @@ fn digits_ahead(bytes: &[u8]) -> usize
 /// How many digits a text of fewer than 16 bytes begins with.
 #[inline(always)]
 fn digits_one_by_one(bytes: &[u8]) -> usize
-    requires { length bytes.now < 16 }
+    requires { length bytes.now < FEW }
     ensures within { result ≤ length bytes.now }
     ensures digits { (k : ℕ) → k < result → is_digit (get_or bytes.now k 0) ≡ true }
     ensures ends { result < length bytes.now → is_digit (get_or bytes.now result 0) ≡ false }

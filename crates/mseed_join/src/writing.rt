@@ -8,7 +8,7 @@ ghost use Rattle.mseed_join.specs.private.Found.{found_text};
 use crate::hex::hex_digit;
 use mseed_audit::{Channel, Finding, Findings, Head, Tail, put_why};
 use mseed_record::{Codes, Leap};
-use mseed_text::{Line, push_line};
+use mseed_text::{LONGEST_LINE, Line, push_line};
 use std::alloc::{AllocError, Allocator};
 
 /// The first line of a part's text, with its LF.
@@ -84,7 +84,7 @@ pub fn push_faults_line<A: Allocator>(text: &mut Vec<u8, A>, faults: u64) -> Res
 
 /// Puts a channel's key, and how many records and samples it has.
 fn put_counts(line: &mut Line, key: &[u8; 12], channel: &Channel)
-    requires { length line.old + 82 ≤ 256 }
+    requires { length line.old + 82 ≤ LONGEST_LINE }
     ensures text { line.new ≡ line.old ++ (key_text key.now ++ codes " records " ++ decimal channel.now.records
         ++ codes " samples " ++ decimal channel.now.samples) }
     ensures most { length line.new ≤ length line.old + 82 }
@@ -98,7 +98,7 @@ fn put_counts(line: &mut Line, key: &[u8; 12], channel: &Channel)
 
 /// Puts the digits of a key.
 fn put_key(line: &mut Line, key: &[u8; 12])
-    requires { length line.old + 24 ≤ 256 }
+    requires { length line.old + 24 ≤ LONGEST_LINE }
     ensures text { line.new ≡ line.old ++ key_text key.now }
     ensures len { length line.new ≡ length line.old + 24 }
 {
@@ -109,7 +109,7 @@ fn put_key(line: &mut Line, key: &[u8; 12])
 
 /// Puts what is found of a channel.
 fn put_found(line: &mut Line, findings: &Findings)
-    requires { length line.old + 132 ≤ 256 }
+    requires { length line.old + 132 ≤ LONGEST_LINE }
     ensures text { line.new ≡ line.old ++ found_text findings.now }
     ensures most { length line.new ≤ length line.old + 132 }
 {
@@ -126,7 +126,7 @@ fn put_found(line: &mut Line, findings: &Findings)
 
 /// Puts a channel's first finding.
 fn put_first(line: &mut Line, first: &Finding)
-    requires { length line.old + 101 ≤ 256 }
+    requires { length line.old + 101 ≤ LONGEST_LINE }
     ensures text { line.new ≡ line.old ++ first_text first.now }
     ensures most { length line.new ≤ length line.old + 101 }
 {
@@ -145,7 +145,7 @@ trait HeadOrTail {
 
     /// Puts its text.
     fn put_to(&self, line: &mut Line)
-        requires { length line.old + 104 ≤ 256 }
+        requires { length line.old + 104 ≤ LONGEST_LINE }
         ensures text { line.new ≡ line.old ++ spelled self.now }
         ensures most { length line.new ≤ length line.old + 104 };
 }
@@ -180,7 +180,7 @@ impl HeadOrTail for Tail {
 
 /// Puts a word, and at its end how a channel begins or ends, or `none`.
 fn put_known<E: HeadOrTail>(line: &mut Line, word: &[u8], end: &Option<E>)
-    requires { length line.old + length word.now + 104 ≤ 256 }
+    requires { length line.old + length word.now + 104 ≤ LONGEST_LINE }
     ensures text { line.new ≡ line.old ++ (word.now ++ text_or_none E.spelled end.now) }
     ensures most { length line.new ≤ length line.old + length word.now + 104 }
 {
