@@ -1,8 +1,9 @@
 -- What a reader of lines holds, as it reads more and passes lines.
 use Rattle.std.proofs.Common.{◌≡◌, ℕ, ◌+◌, ◌<◌, ◌≤◌, List, [], ◌++◌, length, take, drop, Bool, true, false, Option, Ok}
 use Rattle.std.proofs.Common.{refl, sym, ap, subst, ◌∙◌, arith, append_assoc, length-append, slice_range}
-use Rattle.std.proofs.Common.{take-append-drop, ⊎_elim, inl, inr, not, ◌&&◌, ◌||◌, ◌==◌}
-use Rattle.std.proofs.lemmas.Bool.{cases_lt, false≢true}
+use Rattle.std.proofs.Common.{take-append-drop, ⊎_elim, inl, inr, not, ◌&&◌, ◌||◌, ◌==◌, Result, Err}
+use Rattle.std.specs.Prelude.{IsTrue}
+use Rattle.std.proofs.lemmas.Bool.{cases_lt, false≢true, or_right}
 use Rattle.std.proofs.lemmas.Bool.Decides.{eqb_tells}
 use Rattle.std.proofs.lemmas.List.{append-nil, drop-append-le, drop-drop, length-take-le}
 use Rattle.std.proofs.lemmas.Slice.{between_is}
@@ -137,18 +138,27 @@ read_by_passed start now r after ahead held lines bytes reads is =
       calls = omega (arith, is.calls, reads);
     }
 
-or_true : (b : Bool) → (b || true) ≡ true
-or_true true = refl
-or_true false = refl
-
 -- nothing read, where there was room, is the end
 pub reported_end : (b : Bool) (n : ℕ) (bytes : List ℕ) → n ≡ 0 → 0 < length bytes
     → (b || ((n == 0) && not (length bytes == 0))) ≡ true
 reported_end b n bytes zero some = elim (eqb_tells (length bytes) 0) [
   | inl same ↦ absurd (omega (arith, same.1, some))
   | inr other ↦ subst (λ (k : ℕ). (b || ((k == 0) && not (length bytes == 0))) ≡ true) (sym zero)
-      (subst (λ (t : Bool). (b || (true && not t)) ≡ true) (sym other.0) (or_true b))
+      (subst (λ (t : Bool). (b || (true && not t)) ≡ true) (sym other.0) (or_right b true refl))
 ]
+
+-- a source at its end gives nothing more: one that gave some, or failed, isn't at it
+pub reading_on : {E : Type 0} (b room : Bool) (n : ℕ) → (IsTrue b → ◌≡◌ {A = Result ℕ E} (Ok n) (Ok 0))
+    → (n == 0) ≡ false → (b || ((n == 0) && room)) ≡ false
+reading_on true room n silent some =
+    let zero : n ≡ 0 = cc (silent refl) in
+    absurd (false≢true (sym (subst (λ (k : ℕ). (k == 0) ≡ false) zero some)))
+reading_on false room n silent some = ap (λ (t : Bool). t && room) some
+
+pub failed_before : {E : Type 0} (b : Bool) (e : E) → (IsTrue b → ◌≡◌ {A = Result ℕ E} (Err e) (Ok 0))
+    → (b || false) ≡ false
+failed_before true e silent = absurd (cc (silent refl))
+failed_before false e silent = refl
 
 -- what holds of a source that wasn't called holds still, and one that was called gave no end
 pub not_at_end : (old new : BytesRead) (r after : LinesRead) (left rest : Option (List ℕ))

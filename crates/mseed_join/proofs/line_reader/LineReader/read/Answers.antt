@@ -1,13 +1,12 @@
 use Rattle.std.proofs.Common.{◌≡◌, ℕ, ◌+◌, ◌-◌, ◌≤◌, ◌<◌, ◌++◌, ◌∙◌, [], List, sym, ap, take, drop, length, slice_range}
-use Rattle.std.proofs.Common.{arith, length-take, length-drop, true, false, ◌==◌, inl, inr}
+use Rattle.std.proofs.Common.{arith, length-take, length-drop, true, false, ◌==◌, inl, inr, refl}
 use Rattle.std.proofs.lemmas.Bool.Decides.{eqb_tells}
-use Rattle.std.proofs.lemmas.Grind.{common_steps}
 use Rattle.std.proofs.lemmas.List.{append-nil}
 use Rattle.std.proofs.KnownBytes.{Consumes-nil, Consumes-kept}
 use Rattle.mseed_stream.specs.Device.{BytesRead}
 use Rattle.mseed_stream.proofs.Filled.{written_back}
 use Rattle.mseed_join.specs.private.LineReading.{LinesRead}
-use Rattle.mseed_join.proofs.LinesAhead.{held_more, reported_end}
+use Rattle.mseed_join.proofs.LinesAhead.{failed_before, held_more, reading_on, reported_end}
 use Rattle.mseed_join.proofs.line_reader.LineReader.read.Goals as goal
 
 pub returns-in-Ok-clause-more : goal.returns-in-Ok-clause-more
@@ -82,7 +81,10 @@ returns-in-Ok-clause-read g c =
     let held : List ℕ = c.args.self.now.held in
     record {
       called = ap (λ (r : LinesRead). r.reads + 1) c.self.view_is;
-      whole = grind (arith, common_steps);
+      whole = λ goes.
+          let test : (n == 0) ≡ false = cc goes in
+          ap (λ (h : BytesRead). h.is_at_end) c.in-Ok.ensures.read
+          ∙ reading_on (g.R.Source.read c.args.source.now).is_at_end _ n c.in-Ok.ensures.silent test;
       ended = λ ends.
           let test : (n == 0) ≡ true = cc ends in
           let zero : n ≡ 0 = elim (eqb_tells n 0) [
@@ -107,6 +109,11 @@ returns-in-Err-clause-read g c = record {
   whole = λ e. cc e;
   ended = λ e. cc e;
   fine = tt;
-  fault = grind (arith, common_steps);
+  fault = (
+    refl,
+    ap (λ (h : BytesRead). h.failures) c.in-Err.ensures.read,
+    ap (λ (h : BytesRead). h.is_at_end) c.in-Err.ensures.read
+        ∙ failed_before (g.R.Source.read c.args.source.now).is_at_end _ c.in-Err.ensures.silent,
+  );
   held = (returns-in-Err-clause-more g c).held ∙ append-nil c.args.self.now.held;
 }
