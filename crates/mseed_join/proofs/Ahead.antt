@@ -2,6 +2,7 @@
 use Rattle.std.proofs.Common.{◌≡◌, ℕ, ◌+◌, ◌≤◌, ◌<◌, ◌^◌, List, [], ◌∷◌, ◌++◌, Bool, true, false, Option, Some, None}
 use Rattle.std.proofs.Common.{length, refl, sym, ap, ◌∙◌, subst, arith, append_assoc, inl, inr, ◌⊎◌}
 use Rattle.std.specs.Prelude.{codes}
+use Rattle.std.proofs.ByRecursion.{All-append}
 use Rattle.std.proofs.lemmas.List.{length-append}
 use Rattle.mseed_stream.specs.declared.fault.StreamFault.{StreamFault}
 use Rattle.mseed_audit.specs.declared.channel.Channel.{Channel}
@@ -12,14 +13,14 @@ use Rattle.mseed_join.specs.Joined.{AreJoined, Begins, HasNoEnd, IsJointOf, coun
 use Rattle.mseed_join.specs.Reached.{Stage, begun_part, part_behind, parts_at, IsStage, start}
 use Rattle.mseed_join.specs.private.Steps.{May, to, counted_part, with_faults, with_end}
 use Rattle.mseed_join.proofs.Ended.{IsEnded, ended, plain_from, same_line, within_line}
-use Rattle.mseed_join.proofs.Machine.{AreAll, Entries, LeavesLines, Runs, all_append, all_rows, behind_all}
+use Rattle.mseed_join.proofs.Machine.{AreAll, Entries, LeavesLines, Runs, all_rows, behind_all}
 use Rattle.mseed_join.proofs.Machine.{behind_text_is, leaves, lines_text, rows_behind, runs_rest, text_append}
 use Rattle.mseed_join.proofs.Machine.{texts_all, texts_are}
 use Rattle.mseed_join.proofs.Running.{Extends, GoesOn, HaveTexts, all_run, extends, stage_runs, texts_before}
 use Rattle.mseed_join.proofs.Running.{texts_behind}
 use Rattle.mseed_join.proofs.Shorts.{short}
 use Rattle.mseed_join.proofs.Stepping.{LeavesKept, kept_none, kept_there, leaves_kept}
-use Rattle.mseed_join.proofs.Sums.{HaveOneJoint, IsFirst, IsSplit, first_of, joined_one, split}
+use Rattle.mseed_join.proofs.Sums.{HaveOneJoint, IsFirst, IsSplit, first_of, joined_one, some_none, split}
 use Rattle.mseed_join.proofs.Taken.{IsLast, last_is}
 use Rattle.mseed_audit.proofs.Maps.{same_itself}
 use Rattle.mseed_audit.specs.Channels.{same_key}
@@ -27,7 +28,7 @@ use Rattle.mseed_audit.specs.Channels.{same_key}
 -- ---- the lines up to a stage
 stage_all : (s : Stage) (lines : List ℕ) → IsStage lines s → AreAll (all_rows s.over ++ rows_behind s.behind)
 stage_all s lines i =
-    all_append IsLine (all_rows s.over) (rows_behind s.behind)
+    All-append IsLine (all_rows s.over) (rows_behind s.behind)
     (texts_all s.over (texts_before s.over (part_behind s.behind) i.each))
     (behind_all s.behind (texts_behind s.over (part_behind s.behind) i.each))
 
@@ -140,9 +141,6 @@ pub record IsFitting (past : Bool) (a v : Written) : Type 0 where
   pub fits : Fits a.part v.part
   pub faults_fit : a.faults + v.faults < 2 ^ 63
   pub passed_fit : (f : StreamFault) → past ≡ true → v.end ≡ Some f → a.faults + (v.faults + 1) < 2 ^ 63
-
-some_none : (f : StreamFault) → Some f ≡ None → ⊥
-some_none f k = cc
 
 fitting_by : (past : Bool) (a v k : Written) (vs : List Written) (end : Option StreamFault) → v.end ≡ end
     → AreJoined a (counted_by past v end (counted past vs)) k → IsFitting past a v

@@ -2,7 +2,7 @@
 use Rattle.std.proofs.Common.{◌≡◌, ◌≢◌, ℕ, ◌+◌, ◌*◌, ◌≤◌, ◌<◌, ◌^◌, List, [], ◌∷◌, ◌++◌, length, take, drop, Bool, true}
 use Rattle.std.proofs.Common.{false, Option, refl, sym, ap, ◌∙◌, subst, arith, inl, append_assoc, append-nil}
 use Rattle.std.proofs.Common.{length-append, take-append-drop, length-take}
-use Rattle.std.proofs.lemmas.List.{append_cancel_left, append_cancel_right}
+use Rattle.std.proofs.lemmas.List.{append_cancel_left, append_cancel_right, nil_from_length}
 use Rattle.mseed_stream.specs.Device.{BytesRead, BytesWritten}
 use Rattle.mseed_join.specs.declared.line_reader.Ahead.{Ahead}
 use Rattle.mseed_join.specs.declared.line_reader.Ahead.TheVariants.{Line as WholeLine, TooLong, Unended, Nothing}
@@ -396,12 +396,8 @@ none_reported past at = subst (λ (lines : List (List ℕ)). AreReported lines a
     (AreReported.none at)
 
 -- ---- at the beginning
-empty : (xs : List ℕ) → length xs ≡ 0 → xs ≡ []
-empty [] e = refl
-empty (x ∷ xs) e = absurd (omega (arith, e))
-
 pub nothing_passed : (h : BytesRead) (r : LinesRead) → (b : IsReadBy h h r) → b.passed ≡ []
-nothing_passed h r b = empty b.passed (omega (
+nothing_passed h r b = nil_from_length b.passed (omega (
   arith,
   ap length b.reported,
   length-append (h.bytes ++ b.passed) r.held,

@@ -29,8 +29,8 @@ use Rattle.mseed_join.specs.Written.{Written}
 use Rattle.mseed_join.proofs.Bordering.{IsFirstOf, first_found, joined_behind, none_found}
 use Rattle.mseed_join.proofs.Cuts.{IsKnown, known, one_known}
 use Rattle.mseed_join.proofs.Pieces.{AddUp, HaveOneVerdicts, HaveVerdicts, IsSoFar, at_first, counted_last, further}
-use Rattle.mseed_join.proofs.Pieces.{joined_more, joined_none, of_nothing, says}
-use Rattle.mseed_join.proofs.Sums.{HaveOneJoint, joined_one}
+use Rattle.mseed_join.proofs.Pieces.{joined_more, of_nothing, says}
+use Rattle.mseed_join.proofs.Sums.{HaveOneJoint, joined_one, none_of}
 
 abbrev pub AddFindings : Type 0
 AddFindings = (a b : Held) (xs ys : List View) (first second whole : List Reported) → IsPartOf a xs → IsPartOf b ys
@@ -196,7 +196,7 @@ one_piece add_up add only archive before befores found a joint so h p read by cl
     b.are ∙ ap (λ (bs : List Border). borders_with a.part w.part.channels ++ bs)
     (none_found (befores ++ w ∷ []) b.rest b.more)
     ∙ append-nil (borders_with a.part w.part.channels) in record {
-      all = as_joint (before ++ archive) first.0 joint (joined_none first.0 joint first.1.1) now;
+      all = as_joint (before ++ archive) first.0 joint (none_of first.0 joint first.1.1) now;
       rest = p.parted.audited.views;
       behind = refl;
       merged = λ one whole reported all.
@@ -256,7 +256,7 @@ merge_all : HaveOneTelling → AddUp → AddFindings → HaveOneJoint → (archi
     → AreBorders befores (counted false ws) found → IsMergedTo before archive reported found a joint so
 merge_all single add_up add only _ before _ befores _ found a joint so none_apart clear joined parts borders =
     subst (λ (bs : List Border). IsMergedTo before [] [] bs a joint so) (sym (none_found befores found borders))
-    (ends_here single before a joint so (joined_none a joint parts))
+    (ends_here single before a joint so (none_of a joint parts))
 merge_all single add_up add only _ before _ befores _ found a joint so (last archive h p read by) clear joined parts
     borders =
     let one : counted false (p.parted.written ∷ []) ≡ p.parted.written ∷ [] =

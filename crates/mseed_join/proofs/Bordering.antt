@@ -16,11 +16,8 @@ use Rattle.mseed_join.specs.Reached.{Behind, none, begun, whole, IsWhere, begun_
 use Rattle.mseed_join.specs.private.Steps.{May, goes, counted_part, with_faults, with_end}
 use Rattle.mseed_join.proofs.Machine.{Entries, rows_append}
 use Rattle.mseed_join.proofs.Stepping.{LeavesKept, kept_none, leaves_kept}
-use Rattle.mseed_join.proofs.Sums.{HaveOneJoint, IsFirst, first_of, joined_one, never_open, none_of}
+use Rattle.mseed_join.proofs.Sums.{HaveOneJoint, IsFirst, first_of, joined_one, never_open, none_of, some_none}
 use Rattle.mseed_join.proofs.Taken.{IsLast, before_is, counts_one, last_is}
-
-some_none : (f : StreamFault) → Some f ≡ None → ⊥
-some_none f k = cc
 
 -- ---- which parts count
 counted_on_by : (past : Bool) (a w : Written) (ws vs : List Written) (b : Written) (end : Option StreamFault)

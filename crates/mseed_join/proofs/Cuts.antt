@@ -1,14 +1,12 @@
 -- Bytes that are records and what is left after them.
-use Rattle.std.proofs.Common.{◌≡◌, ℕ, ◌+◌, ◌++◌, List, [], ◌∷◌, drop, Option, Some, None, Bool, true, false, refl, sym}
+use Rattle.std.proofs.Common.{◌≡◌, ℕ, ◌+◌, ◌++◌, List, [], ◌∷◌, drop, Option, Some, None, true, refl, sym}
 use Rattle.std.proofs.Common.{ap, ◌∙◌, subst, append_assoc, append-nil}
-use Rattle.std.proofs.lemmas.Bool.{false≢true}
+use Rattle.std.proofs.ByRecursion.{All-append}
+use Rattle.std.proofs.lemmas.Bool.{both_ways}
 use Rattle.std.proofs.lemmas.List.{take-append-drop}
 use Rattle.std.specs.List.{concat, AllByRecursion}
 use Rattle.std.specs.Option.{option_map}
-use Rattle.mseed_record.specs.declared.fault.FrameFault.{FrameFault}
-use Rattle.mseed_record.specs.declared.framer.Scan.TheVariants.{Not}
 use Rattle.mseed_record.specs.Record.{IsRecord}
-use Rattle.mseed_record.specs.Scan.{Decides}
 use Rattle.mseed_record.specs.View.{View, IsView}
 use Rattle.mseed_stream.specs.Archive.{End, IsArchive, IsEndOf, clean, frame, truncated, is_clean, is_frame}
 use Rattle.mseed_stream.specs.Cutting.{read_from}
@@ -18,7 +16,7 @@ use Rattle.mseed_stream.specs.declared.fault.StreamFault.{StreamFault}
 use Rattle.mseed_stream.specs.declared.fault.StreamFault.TheVariants.{Frame, Truncated, Read, Turns, Memory}
 use Rattle.mseed_stream.proofs.Ends.{one_end}
 use Rattle.mseed_stream.proofs.Handed.{no_further}
-use Rattle.mseed_stream.proofs.OneInput.{same_views}
+use Rattle.mseed_stream.proofs.OneInput.{ended, refused_of, same_views}
 use Rattle.mseed_stream.proofs.Records.{one_archive, view_record}
 use Rattle.mseed_parts.specs.Parts.{bytes_in as size_of}
 use Rattle.mseed_parts.proofs.Placing.{bytes_append}
@@ -28,15 +26,6 @@ use Rattle.mseed_join.proofs.Longer.{refused_more}
 use Rattle.mseed_join.proofs.Parting.{sizes}
 
 -- ---- how bytes end
--- the fault after so many bytes, by what is left there
-abbrev pub ended : ℕ → End → Option StreamFault
-ended offset clean = None
-ended offset (frame f) = Some (Frame offset f)
-ended offset (truncated have) = Some (Truncated offset have)
-
-pub frame_in : (rest : List ℕ) (f : FrameFault) → IsEndOf rest (frame f) → Decides rest (Not f)
-frame_in rest f (is_frame _ d) = d
-
 pub record EndsSo (offset : ℕ) (rest : List ℕ) (end : Option StreamFault) : Type 0 where
   pub at : End
   pub is : IsEndOf rest at
@@ -54,7 +43,7 @@ ends_so None offset h rest by is all = record {
 }
 ends_so (Some (Frame n f)) offset h rest by is all = record {
   at = frame f;
-  is = is_frame f (refused_more (read_from offset h) rest f (frame_in (read_from offset h) f is.0.1));
+  is = is_frame f (refused_more (read_from offset h) rest f (refused_of (read_from offset h) f is.0.1));
   end_is = ap (λ (k : ℕ). Some (Frame k f)) is.0.0;
 }
 ends_so (Some (Truncated n have)) offset h rest by is all = record {
@@ -68,17 +57,14 @@ ends_so (Some (Read n)) offset h rest by is all = absurd by
 ends_so (Some (Turns n)) offset h rest by is all = absurd by
 ends_so (Some Memory) offset h rest by is all = absurd by
 
-not_both : (b : Bool) → b ≡ true → b ≡ false → ⊥
-not_both b t f = false≢true (sym f ∙ t)
-
 -- and so it does once it was read to its end
 pub at_end_by : (end : Option StreamFault) (offset : ℕ) (h : BytesRead) → h.is_at_end ≡ true → IsEnd end offset h
     → EndsByBytes end
 at_end_by None offset h done is = tt
 at_end_by (Some (Frame n f)) offset h done is = tt
 at_end_by (Some (Truncated n have)) offset h done is = tt
-at_end_by (Some (Read n)) offset h done is = not_both h.is_at_end done is.0.2
-at_end_by (Some (Turns n)) offset h done is = not_both h.is_at_end done is.0.2
+at_end_by (Some (Read n)) offset h done is = both_ways h.is_at_end is.0.2 done
+at_end_by (Some (Turns n)) offset h done is = both_ways h.is_at_end is.0.2 done
 at_end_by (Some Memory) offset h done is = is.1 refl
 
 moved_ended : (e offset : ℕ) (at : End) → option_map (moved_fault e) (ended offset at) ≡ ended (e + offset) at
@@ -121,11 +107,6 @@ pub read_size : (h : BytesRead) (views : List View) (end : Option StreamFault) (
     → all.offset ≡ size_of views
 read_size h views end all = sym all.records.offset_is ∙ sizes views
 
-pub all_append : (xs ys : List View) → AllByRecursion IsView xs → AllByRecursion IsView ys
-    → AllByRecursion IsView (xs ++ ys)
-all_append [] ys h k = k
-all_append (x ∷ xs) ys h k = (h.0, all_append xs ys h.1 k)
-
 joined_append : (xs ys : List View) → concat (bytes_in (xs ++ ys)) ≡ concat (bytes_in xs) ++ concat (bytes_in ys)
 joined_append [] ys = refl
 joined_append (x ∷ xs) ys = ap (λ (zs : List ℕ). x.bytes ++ zs) (joined_append xs ys)
@@ -135,7 +116,7 @@ joined_append (x ∷ xs) ys = ap (λ (zs : List ℕ). x.bytes ++ zs) (joined_app
 cut_behind : (first second : List ℕ) (xs ys : List View) (rest : List ℕ) → IsCut first xs [] → IsCut second ys rest
     → IsCut (first ++ second) (xs ++ ys) rest
 cut_behind first second xs ys rest a b = record {
-  views_are = all_append xs ys a.views_are b.views_are;
+  views_are = All-append IsView xs ys a.views_are b.views_are;
   joined = (λ i. (a.joined ∙ append-nil (concat (bytes_in xs))) i ++ b.joined i)
       ∙ sym (append_assoc (concat (bytes_in xs)) (concat (bytes_in ys)) rest)
       ∙ ap (λ (zs : List ℕ). zs ++ rest) (sym (joined_append xs ys));

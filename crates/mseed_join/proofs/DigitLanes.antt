@@ -1,7 +1,7 @@
 -- How many of sixteen bytes are digits, told by lanes.
 use Rattle.std.proofs.Common.{◌≡◌, ◌≢◌, ◌∙◌, ◌<◌, ◌≤◌, ◌%◌, ◌^◌, ℕ, List, Bool, true, false, not, length, map, get_or}
-use Rattle.std.proofs.Common.{replicate, Fits, w8, refl, sym, ap, arith}
-use Rattle.std.proofs.lemmas.Bool.{agree_below, agree_below_at}
+use Rattle.std.proofs.Common.{replicate, Fits, w8, sym, ap, arith}
+use Rattle.std.proofs.lemmas.Bool.{agree_below, agree_below_at, not-false, not-true}
 use Rattle.std.proofs.lemmas.List.{length-map}
 use Rattle.std.proofs.lemmas.Simd.{length-chunk, map-map, mask_l-mod, none_from_empty_mask, run_in_chunk_fails}
 use Rattle.std.proofs.lemmas.Simd.{run_in_chunk_le, run_in_chunk_stops, trailing_mask_l, zip2_splat, zip2_splat_left}
@@ -12,14 +12,6 @@ use lib.Count.{count_trailing_zeros}
 use lib.Lanes.{chunk, mask_l, top, zip2}
 use mir.Syntax.{mask, lt, unsigned, wrap_sub}
 use Rattle.mseed_join.specs.private.Reading.{is_digit}
-
-digit_by : (t : Bool) → not t ≡ false → t ≡ true
-digit_by true e = refl
-digit_by false e = absurd (cc e)
-
-other_by : (t : Bool) → not t ≡ true → t ≡ false
-other_by true e = absurd (cc e)
-other_by false e = refl
 
 -- what the lanes are compared and lowered by
 abbrev pub is_above : ℕ → ℕ → ℕ
@@ -57,12 +49,12 @@ module _ (above less : ℕ → ℕ → ℕ) (bytes : List ℕ) (room : 16 ≤ le
 
   digit_at : (k : ℕ) → is_other (get_or bytes k 0) ≡ false → is_digit (get_or bytes k 0) ≡ true
   digit_at k e =
-      digit_by (is_digit (get_or bytes k 0))
+      not-false (is_digit (get_or bytes k 0))
       (sym (agree_below_at is_other (λ x. not (is_digit x)) 256 (get_or bytes k 0) agree (fits k).fits) ∙ e)
 
   other_at : (k : ℕ) → is_other (get_or bytes k 0) ≡ true → is_digit (get_or bytes k 0) ≡ false
   other_at k e =
-      other_by (is_digit (get_or bytes k 0))
+      not-true (is_digit (get_or bytes k 0))
       (sym (agree_below_at is_other (λ x. not (is_digit x)) 256 (get_or bytes k 0) agree (fits k).fits) ∙ e)
 
   -- each of the sixteen

@@ -7,7 +7,8 @@ use Rattle.std.specs.Fmt.{signed_decimal}
 use Rattle.std.specs.Cmp.Lexicographic.{pointwise, same_text}
 use Rattle.std.proofs.lemmas.Bool.Decides.{nat_tests}
 use Rattle.std.proofs.lemmas.Fmt.{decimal_digit, decimal_step_wide, decimal_by_steps_wide}
-use Rattle.std.proofs.lemmas.List.{take-append-drop, drop_more}
+use Rattle.std.proofs.lemmas.List.{take-append-drop}
+use Rattle.std.proofs.lemmas.Option.{none-some, same_Some}
 use Rattle.std.proofs.Math.Nat.{pow-le-pow_right, pow-succ'}
 use Rattle.mseed_join.specs.private.Reading.{◌>>=◌, after, is_digit, more_at, within, number_at, negated, integer_at}
 
@@ -18,23 +19,17 @@ Ends (b ∷ bs) = is_digit b ≡ false
 
 pub bind_some : {A B : Type 0} (o : Option A) (f : A → Option B) (y : B) → (o >>= f) ≡ Some y
     → (x : A) × ((o ≡ Some x) × (f x ≡ Some y))
-bind_some None f y e = absurd (no y e)
-  where
-    no : {B : Type 0} (z : B) → None ≡ Some z → ⊥
-    no z k = cc
+bind_some None f y e = absurd (none-some y e)
 bind_some (Some x) f y e = (x, (refl, e))
 
 -- ---- words
 pub word_behind : (word bytes rest : List ℕ) → after word bytes ≡ Some rest → bytes ≡ word ++ rest
 word_behind word bytes rest e = by (pointwise nat_eq (take (length word) bytes) word) refl e
   where
-    value : (a b : List ℕ) → Some a ≡ Some b → a ≡ b
-    value a b k = ap (λ (o : Option (List ℕ)). elim o as (λ _. List ℕ) [ Some x ↦ x | None ↦ [] ]) k
-
     by : (b : Bool) → pointwise nat_eq (take (length word) bytes) word ≡ b
         → cond b (Some (drop (length word) bytes)) None ≡ Some rest → bytes ≡ word ++ rest
     by true k h = sym (take-append-drop (length word) bytes)
-        ∙ (λ i. same_text (take (length word) bytes) word (sym k) i ++ value (drop (length word) bytes) rest h i)
+        ∙ (λ i. same_text (take (length word) bytes) word (sym k) i ++ same_Some (drop (length word) bytes) rest h i)
     by false k h = absurd (cc h)
 
 -- ---- numbers
@@ -226,12 +221,6 @@ stays_small n count digit small l =
     ap (λ (k : ℕ). 10 ^ k) next ∙ pow-succ' 10 (count + 1) in
     omega (arith, small, l, power)
 
-pub read_on : (n count : ℕ) (bytes : List ℕ) → count < length bytes → is_digit (get_or bytes count 0) ≡ true
-    → more_at (10 * n + (get_or bytes count 0 - 48)) (drop (count + 1) bytes) ≡ more_at n (drop count bytes)
-read_on n count bytes l e =
-    sym (ap (λ (xs : List ℕ). more_at n xs) (drop_more bytes count 0 l)
-    ∙ one_more n (get_or bytes count 0) (drop (count + 1) bytes) e)
-
 -- so many digits, and room for one more
 pub has_one : (n count : ℕ) → n < 10 ^ (count + 1) → count + 1 ≤ 16 → n < 10 ^ 16
 has_one n count small l =
@@ -316,9 +305,6 @@ integer_back below above (negsuc n) rest low high l e =
     ∙ ap (λ (o : Option (ℕ × List ℕ)). o >>= negated)
     (number_back below (suc n) rest (omega (arith, l)) (omega (arith, l, low)) e)
 
-pub some_is : {X : Type 0} (x y : X) → Some x ≡ Some y → x ≡ y
-some_is x y e = cc
-
 -- an integer that was read stands before it
 abbrev pub IsInteger : ℕ → ℕ → List ℕ → ℤ × List ℕ → Type 0
 IsInteger below above bytes x = (bytes ≡ signed_decimal x.0 ++ x.1) × IsWithin below above x.0
@@ -332,7 +318,7 @@ integer_behind below above (b ∷ bs) x low high e = by (nat_eq b 45) refl e
     less : (y : ℕ × List ℕ) → IsNumber below bs y → b ≡ 45 → negated y ≡ Some x → IsInteger below above (b ∷ bs) x
     less (zero, rest) is k h = absurd (cc h)
     less (suc n, rest) is k h =
-        subst (λ (z : ℤ × List ℕ). IsInteger below above (b ∷ bs) z) (some_is (negsuc n, rest) x h)
+        subst (λ (z : ℤ × List ℕ). IsInteger below above (b ∷ bs) z) (same_Some (negsuc n, rest) x h)
         ((λ i. k i ∷ is.is i), omega (arith, is.bounded))
 
     by : (t : Bool) → nat_eq b 45 ≡ t
@@ -344,5 +330,5 @@ integer_behind below above (b ∷ bs) x low high e = by (nat_eq b 45) refl e
     by false k h =
         let read = bind_some (number_at above (b ∷ bs)) (λ n. Some (pos n.0, n.1)) x h in
         let is : IsNumber above (b ∷ bs) read.0 = number_behind above (b ∷ bs) read.0 high read.1.0 in
-        subst (λ (z : ℤ × List ℕ). IsInteger below above (b ∷ bs) z) (some_is (pos read.0.0, read.0.1) x read.1.1)
+        subst (λ (z : ℤ × List ℕ). IsInteger below above (b ∷ bs) z) (same_Some (pos read.0.0, read.0.1) x read.1.1)
         (is.is, is.bounded)

@@ -1,6 +1,7 @@
 -- Parts of archives can be joined.
 use Rattle.std.proofs.Common.{◌≡◌, ℕ, ◌+◌, ◌^◌, ◌<◌, ◌≤◌, ◌++◌, List, [], ◌∷◌, length, map, Option, Some, None, IfSome}
 use Rattle.std.proofs.Common.{false, refl, sym, ap, ◌∙◌, subst, arith, length-append}
+use Rattle.std.proofs.ByRecursion.{All-append}
 use Rattle.std.proofs.lemmas.List.{length-map}
 use Rattle.std.specs.List.{AllByRecursion, concat}
 use Rattle.std.specs.Option.{option_map}
@@ -25,7 +26,7 @@ use Rattle.mseed_join.specs.Headline.{AreParted, EndsByBytes, IsReadOf, last, mo
 use Rattle.mseed_join.specs.Joined.{AreJoined, IsJointOf, IsNext, counted, counted_by, moved_fault, none, nothing, one}
 use Rattle.mseed_join.specs.Lines.{HasChannelLine, HasFindings, HasHead}
 use Rattle.mseed_join.specs.Written.{Written}
-use Rattle.mseed_join.proofs.Cuts.{IsKnown, all_append, known, known_behind, known_none, one_known}
+use Rattle.mseed_join.proofs.Cuts.{IsKnown, known, known_behind, known_none, one_known}
 use Rattle.mseed_join.proofs.Merging.{JoinsChannel, JoinsCounts, JoinsNone, joint_of}
 use Rattle.mseed_join.proofs.Parting.{sizes}
 use Rattle.mseed_join.proofs.Pieces.{AddUp, IsSoFar, at_first, counted_last, further, of_nothing}
@@ -87,7 +88,8 @@ module _ (a w b : Held) (vs xs : List View) (p : IsPartOf a vs) (q : IsPartOf w 
   -- a channel of both
   joint_line : (key : List ℕ) (c : Channel) → kept_of key b.channels ≡ Some c → HasChannelLine key c
   joint_line key c e =
-      has_channel (vs ++ xs) (size_of vs + size_of xs) key c (kept_of key b.channels) (all_append vs xs first second)
+      has_channel (vs ++ xs) (size_of vs + size_of xs) key c (kept_of key b.channels)
+      (All-append IsView vs xs first second)
       (omega (arith, length-append vs xs, few)) (omega (arith, bytes_append vs xs)) small e (whole.each key)
 
   fits_at : (key : List ℕ) (c o : Option Channel) → kept_of key a.channels ≡ c → kept_of key w.channels ≡ o

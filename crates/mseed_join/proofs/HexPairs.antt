@@ -1,26 +1,24 @@
 -- Bytes that are read four at a time, by eight digits.
 use Rattle.std.proofs.Common.{◌≡◌, ◌∙◌, ◌+◌, ◌-◌, ◌*◌, ◌<◌, ◌≤◌, ◌&&◌, nat_le, ℕ, zero, suc, List, [], ◌∷◌, ◌++◌, Bool}
 use Rattle.std.proofs.Common.{true, false, cond, Option, Some, None, length, map, get_or, take, drop, refl, sym, ap}
-use Rattle.std.proofs.Common.{arith, append_assoc, length-drop, length-take}
+use Rattle.std.proofs.Common.{arith, append_assoc, length-take}
 use Rattle.std.proofs.lemmas.Bool.Decides.{nat_tests}
-use Rattle.std.proofs.lemmas.List.{drop-drop, drop_more, get_or-map, get_or-take, length-map, take_all}
+use Rattle.std.proofs.lemmas.List.{drop-drop, drop_more, get_or-map, get_or-take, length-map, take_rest}
+use Rattle.std.proofs.lemmas.Option.{same_Some}
 use Rattle.mseed_join.specs.private.Reading.{◌>>=◌, is_digit, nibble_of, bytes_at}
 
 -- a digit's value
 nibble_small : (b n : ℕ) → nibble_of b ≡ Some n → n < 16
 nibble_small b n e = by (is_digit b) refl (nat_le 65 b && nat_le b 70) refl e
   where
-    value : (m : ℕ) → Some m ≡ Some n → m ≡ n
-    value m h = cc h
-
     by : (t : Bool) → is_digit b ≡ t → (u : Bool) → (nat_le 65 b && nat_le b 70) ≡ u
         → cond t (Some (b - 48)) (cond u (Some (b - 55)) None) ≡ Some n → n < 16
     by true d u l h =
-        let same : b - 48 ≡ n = value (b - 48) h in
+        let same : b - 48 ≡ n = same_Some (b - 48) n h in
         let small : b ≤ 57 = grind (arith, nat_tests) in
         omega (arith, same, small)
     by false d true l h =
-        let same : b - 55 ≡ n = value (b - 55) h in
+        let same : b - 55 ≡ n = same_Some (b - 55) n h in
         let small : b ≤ 70 = grind (arith, nat_tests) in
         omega (arith, same, small)
     by false d false l h = absurd (cc h)
@@ -130,9 +128,6 @@ too_few (suc n) done (h ∷ b ∷ rest) l =
     none_later (nibble_of h) n done rest (nibble_of b) (λ more. too_few n more rest (omega (arith, l)))
 
 -- ---- a key, four bytes at a time
-pub behind : (bytes : List ℕ) (at : ℕ) → take (length bytes - at) (drop at bytes) ≡ drop at bytes
-behind bytes at = take_all (length bytes - at) (drop at bytes) (omega (arith, length-drop at bytes))
-
 -- four more bytes are read
 abbrev pub Reads : List ℕ → List ℕ → Type 0
 Reads bytes x = (n : ℕ) (done : List ℕ)
@@ -142,10 +137,10 @@ reads_behind : (bytes x : List ℕ) (at : ℕ) → Reads (take (length bytes - a
     (done : List ℕ) → bytes_at (suc (suc (suc (suc n)))) done (drop at bytes)
     ≡ bytes_at n (done ++ x) (drop (at + 8) bytes)
 reads_behind bytes x at reads n done =
-    ap (λ (xs : List ℕ). bytes_at (suc (suc (suc (suc n)))) done xs) (sym (behind bytes at))
+    ap (λ (xs : List ℕ). bytes_at (suc (suc (suc (suc n)))) done xs) (sym (take_rest bytes at))
     ∙ reads n done
     ∙ ap (λ (xs : List ℕ). bytes_at n (done ++ x) xs)
-    (ap (λ (xs : List ℕ). drop 8 xs) (behind bytes at) ∙ drop-drop 8 at bytes)
+    (ap (λ (xs : List ℕ). drop 8 xs) (take_rest bytes at) ∙ drop-drop 8 at bytes)
 
 pub eight_read : (bytes x y : List ℕ) → Reads bytes x → Reads (take (length bytes - 8) (drop 8 bytes)) y
     → bytes_at 12 [] bytes ≡ bytes_at 4 (x ++ y) (drop 16 bytes)
@@ -156,12 +151,3 @@ pub key_read : (bytes x y z : List ℕ) → Reads bytes x → Reads (take (lengt
     → bytes_at 12 [] bytes ≡ Some ((x ++ y) ++ z, drop 24 bytes)
 key_read bytes x y z first second third =
     eight_read bytes x y first second ∙ reads_behind bytes z 16 third 0 (x ++ y)
-
-pub four_whole : (x : List ℕ) → length x ≡ 4
-    → x ≡ get_or x 0 0 ∷ get_or x 1 0 ∷ get_or x 2 0 ∷ get_or x 3 0 ∷ []
-four_whole [] l = absurd (omega (arith, l))
-four_whole (a ∷ []) l = absurd (omega (arith, l))
-four_whole (a ∷ b ∷ []) l = absurd (omega (arith, l))
-four_whole (a ∷ b ∷ c ∷ []) l = absurd (omega (arith, l))
-four_whole (a ∷ b ∷ c ∷ d ∷ []) l = refl
-four_whole (a ∷ b ∷ c ∷ d ∷ e ∷ rest) l = absurd (omega (arith, l))

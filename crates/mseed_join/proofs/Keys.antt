@@ -5,9 +5,9 @@ use Rattle.std.proofs.Common.{sym, ap, ◌∙◌, subst, arith, append_assoc, ap
 use Rattle.std.specs.List.{AllByRecursion}
 use Rattle.std.proofs.lemmas.Bool.Decides.{nat_tests}
 use Rattle.std.proofs.lemmas.List.{take_more}
+use Rattle.std.proofs.lemmas.Option.{same_Some}
 use Rattle.mseed_join.specs.Lines.{hex_digit, key_text}
 use Rattle.mseed_join.specs.private.Reading.{◌>>=◌, is_digit, nibble_of, byte_at, bytes_at, key_at}
-use Rattle.mseed_join.proofs.Digits.{some_is}
 
 abbrev pub AreBytes : List ℕ → Type 0
 AreBytes bs = AllByRecursion (λ b. b < 2 ^ 8) bs
@@ -64,7 +64,7 @@ nibble_spelled b n e = by (is_digit b) refl (nat_le 65 b && nat_le b 70) refl e
     by : (t : Bool) → is_digit b ≡ t → (u : Bool) → (nat_le 65 b && nat_le b 70) ≡ u
         → cond t (Some (b - 48)) (cond u (Some (b - 55)) None) ≡ Some n → IsNibble b n
     by true k u h given =
-        let value : b - 48 ≡ n = some_is (b - 48) n given in
+        let value : b - 48 ≡ n = same_Some (b - 48) n given in
         let least : 48 ≤ b = grind (arith, nat_tests) in
         let most : b ≤ 57 = grind (arith, nat_tests) in
         let few : n < 10 = omega (arith, value, most) in
@@ -72,7 +72,7 @@ nibble_spelled b n e = by (is_digit b) refl (nat_le 65 b && nat_le b 70) refl e
         let same : b ≡ 48 + n = omega (arith, value, least) in
         record { is = same ∙ sym (low n test); small = omega (arith, few) }
     by false k true h given =
-        let value : b - 55 ≡ n = some_is (b - 55) n given in
+        let value : b - 55 ≡ n = same_Some (b - 55) n given in
         let least : 65 ≤ b = grind (arith, nat_tests) in
         let most : b ≤ 70 = grind (arith, nat_tests) in
         let many : 10 ≤ n = omega (arith, value, least) in
@@ -99,7 +99,7 @@ byte_spelled (h ∷ l ∷ rest) x e = by (nibble_of h) refl (nibble_of l) refl e
         let q : IsNibble l low = nibble_spelled l low m in
         let leading : (16 * high + low) / 16 ≡ high = omega (arith, q.small) in
         let back : (16 * high + low) % 16 ≡ low = omega (arith, q.small) in
-        subst (λ (y : ℕ × List ℕ). IsByte (h ∷ l ∷ rest) y) (some_is (16 * high + low, rest) x given) (record {
+        subst (λ (y : ℕ × List ℕ). IsByte (h ∷ l ∷ rest) y) (same_Some (16 * high + low, rest) x given) (record {
           is = (λ i. p.is i ∷ q.is i ∷ rest) ∙ (λ i. hex_digit (sym leading i) ∷ hex_digit (sym back i) ∷ rest);
           small = omega (arith, p.small, q.small);
         })
@@ -115,7 +115,7 @@ record AreMore (n : ℕ) (done bytes : List ℕ) (x : List ℕ × List ℕ) : Ty
 bytes_spelled : (n : ℕ) (done bytes : List ℕ) (x : List ℕ × List ℕ) → bytes_at n done bytes ≡ Some x
     → AreMore n done bytes x
 bytes_spelled zero done bytes x e =
-    subst (λ (y : List ℕ × List ℕ). AreMore zero done bytes y) (some_is (done, bytes) x e)
+    subst (λ (y : List ℕ × List ℕ). AreMore zero done bytes y) (same_Some (done, bytes) x e)
     (record { key = []; all = sym (append-nil done); long = refl; is = refl; small = tt })
 bytes_spelled (suc n) done bytes x e =
     by (byte_at bytes) refl e (λ b given. bytes_spelled n (done ++ b.0 ∷ []) b.1 x given)

@@ -4,7 +4,8 @@ use Rattle.std.proofs.Common.{Some, None, Bool, true, false, not, cond, ◌==◌
 use Rattle.std.proofs.Common.{inl, inr, append_assoc, length-take, length-drop, map, replicate, w8, ◌-◌, ◌%◌, ◌≢◌}
 use Rattle.std.specs.List.{position_or_len, position}
 use Rattle.std.proofs.Math.Numerals.{one-add}
-use Rattle.std.proofs.lemmas.List.{take_all, take_more, take-take, take-append-drop}
+use Rattle.std.proofs.lemmas.List.{take_all, take_more, take-take, take-append-drop, take_rest}
+use Rattle.std.proofs.lemmas.Option.{same_Some}
 use Rattle.std.proofs.lemmas.List.Sums.{passes_at_first, prefix_len-le-length}
 use Rattle.std.proofs.lemmas.Simd.{length-chunk, bitmask_splat, leading_from_mask_l, trailing_mask_l}
 use lib.Lanes.{zip2, mask_l, top}
@@ -43,24 +44,28 @@ no_end_found bytes lacks = elim (leb_tells (suc (first_end bytes)) (length bytes
   | inr behind ↦ subst HasNoEnd (take_all (first_end bytes) bytes (omega (arith, behind.1))) (none_before bytes)
 ]
 
-pub end_found : (bytes : List ℕ) (k : ℕ) → position (λ b. b == 10) bytes ≡ Some k
-    → IsWholeLine (take (k + 1) bytes) × (k < length bytes)
-end_found bytes k some = elim (leb_tells (suc (first_end bytes)) (length bytes)) [
+found_is : (bytes : List ℕ) (k : ℕ) → position (λ b. b == 10) bytes ≡ Some k
+    → (first_end bytes ≡ k) × (first_end bytes < length bytes)
+found_is bytes k some = elim (leb_tells (suc (first_end bytes)) (length bytes)) [
   | inl within ↦
       let e : Some (first_end bytes) ≡ Some k =
       ap (λ t. cond t (Some (first_end bytes)) None) (sym within.0) ∙ some in
-      let same : first_end bytes ≡ k = cc e in
-      let less : first_end bytes < length bytes = omega (arith, within.1) in
-      let whole : take (first_end bytes + 1) bytes ≡ take (first_end bytes) bytes ++ 10 ∷ [] =
-      take_more bytes (first_end bytes) 0 less
-      ∙ ap (λ (b : ℕ). take (first_end bytes) bytes ++ b ∷ []) (end_at bytes less) in (
-        subst (λ (n : ℕ). IsWholeLine (take (n + 1) bytes)) same
-            (take (first_end bytes) bytes, none_before bytes, whole),
-        omega (arith, less, same),
-      )
+      (same_Some (first_end bytes) k e, omega (arith, within.1))
   | inr behind ↦ absurd (let e : None ≡ Some k =
       ap (λ t. cond t (Some (first_end bytes)) None) (sym behind.0) ∙ some in cc e)
 ]
+
+pub end_found : (bytes : List ℕ) (k : ℕ) → position (λ b. b == 10) bytes ≡ Some k
+    → IsWholeLine (take (k + 1) bytes) × (k < length bytes)
+end_found bytes k some =
+    let there = found_is bytes k some in
+    let whole : take (first_end bytes + 1) bytes ≡ take (first_end bytes) bytes ++ 10 ∷ [] =
+    take_more bytes (first_end bytes) 0 there.1
+    ∙ ap (λ (b : ℕ). take (first_end bytes) bytes ++ b ∷ []) (end_at bytes there.1) in (
+      subst (λ (n : ℕ). IsWholeLine (take (n + 1) bytes)) there.0
+          (take (first_end bytes) bytes, none_before bytes, whole),
+      omega (arith, there.0, there.1),
+    )
 
 -- an LF after bytes that have none
 first_behind : (before rest : List ℕ) → HasNoEnd before → first_end (before ++ rest) ≡ length before + first_end rest
@@ -99,27 +104,12 @@ first_is_behind bytes at within lacks =
     ∙ first_behind (take at bytes) (drop at bytes) lacks
     ∙ ap (λ (n : ℕ). n + first_end (drop at bytes)) (omega (arith, length-take at bytes))
 
-rest_is : (bytes : List ℕ) (at : ℕ) → take (length bytes - at) (drop at bytes) ≡ drop at bytes
-rest_is bytes at = take_all (length bytes - at) (drop at bytes) (omega (arith, length-drop at bytes))
-
-found_is : (bytes : List ℕ) (k : ℕ) → position (λ b. b == 10) bytes ≡ Some k
-    → (first_end bytes ≡ k) × (k < length bytes)
-found_is bytes k some = elim (leb_tells (suc (first_end bytes)) (length bytes)) [
-  | inl within ↦
-      let e : Some (first_end bytes) ≡ Some k =
-      ap (λ t. cond t (Some (first_end bytes)) None) (sym within.0) ∙ some in
-      let same : first_end bytes ≡ k = cc e in
-      (same, omega (arith, same, within.1))
-  | inr behind ↦ absurd (let e : None ≡ Some k =
-      ap (λ t. cond t (Some (first_end bytes)) None) (sym behind.0) ∙ some in cc e)
-]
-
 pub found_behind : (bytes : List ℕ) (at k : ℕ) → at ≤ length bytes → HasNoEnd (take at bytes)
     → position (λ b. b == 10) (take (length bytes - at) (drop at bytes)) ≡ Some k
     → Some (at + k) ≡ position (λ b. b == 10) bytes
 found_behind bytes at k within lacks some =
     let there = found_is (drop at bytes) k
-    (subst (λ (xs : List ℕ). position (λ b. b == 10) xs ≡ Some k) (rest_is bytes at) some) in
+    (subst (λ (xs : List ℕ). position (λ b. b == 10) xs ≡ Some k) (take_rest bytes at) some) in
     let whole : first_end bytes ≡ at + k = omega (arith, first_is_behind bytes at within lacks, there.0) in
     elim (leb_tells (suc (first_end bytes)) (length bytes)) [
       | inl inside ↦ ap Some (sym whole) ∙ ap (λ t. cond t (Some (first_end bytes)) None) (sym inside.0)
@@ -134,7 +124,7 @@ nowhere_behind bytes at within lacks nowhere =
       | inl there ↦ elim (leb_tells (suc (first_end (drop at bytes))) (length (drop at bytes))) [
         | inl inside ↦ absurd (let e : Some (first_end (drop at bytes)) ≡ None =
             ap (λ t. cond t (Some (first_end (drop at bytes))) None) (sym inside.0)
-            ∙ subst (λ (xs : List ℕ). position (λ b. b == 10) xs ≡ None) (rest_is bytes at) nowhere in cc e)
+            ∙ subst (λ (xs : List ℕ). position (λ b. b == 10) xs ≡ None) (take_rest bytes at) nowhere in cc e)
         | inr behind ↦ absurd
             (omega (arith, there.1, behind.1, first_is_behind bytes at within lacks, length-drop at bytes))
       ]

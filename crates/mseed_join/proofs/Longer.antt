@@ -5,6 +5,7 @@ use Rattle.std.specs.Prelude.{nat_eq, nat_le, not}
 use Rattle.std.proofs.Math.Seq.{take-append_seam}
 use Rattle.std.proofs.lemmas.Bool.{and_parts, false≢true, le-ltb, ltb-false}
 use Rattle.mseed_time.specs.declared.order.Order.{Order}
+use Rattle.std.proofs.lemmas.Option.{same_Some}
 use Rattle.mseed_record.specs.Chain.{next_at, type_at}
 use Rattle.mseed_record.specs.Header.{blockette_at, has_fixed_bytes}
 use Rattle.mseed_record.specs.Order.{order_of}
@@ -19,7 +20,6 @@ use Rattle.mseed_record.proofs.Framed.{fixed_prefix, order_prefix}
 use Rattle.mseed_record.proofs.Needed.{number_more}
 use Rattle.mseed_record.proofs.Passing.{none_within}
 use Rattle.mseed_record.proofs.Reached.{none_more, version3_more}
-use Rattle.mseed_join.proofs.Digits.{some_is}
 
 -- ---- the header
 version3_long : (b : List ℕ) → is_version3 b ≡ true → 3 ≤ length b
@@ -84,7 +84,7 @@ by_offset false false false true eight far off wide k n x y f p q r s h = cc h
 by_offset false false false false true far off wide k n x y f p q r s h = cc h
 by_offset false false false false false far off wide k n x y f p q r s h =
     (λ i. cond (p refl i) (Some (Need k)) (cond (q refl i) None (cond (r refl i) (Some (Need n)) (Some y))))
-    ∙ ap (λ (z : Scan). Some z) (s refl (some_is x (Not f) h))
+    ∙ ap (λ (z : Scan). Some z) (s refl (same_Some x (Not f) h))
 
 -- what has so many bytes has them with more after
 still : (n m k : ℕ) → n ≤ m → ltb n k ≡ false → ltb m k ≡ false

@@ -2,6 +2,7 @@
 use Rattle.std.proofs.Common.{◌≡◌, ℕ, zero, suc, ◌+◌, ◌<◌, ◌^◌, List, [], ◌∷◌, ◌++◌, length, Option, Some, None}
 use Rattle.std.proofs.Common.{refl, sym, ap, ◌∙◌, subst, arith, append_assoc, append-nil, IfSome}
 use Rattle.std.specs.List.{AllByRecursion}
+use Rattle.std.proofs.ByRecursion.{All-append}
 use Rattle.std.proofs.lemmas.List.{length-append}
 use Rattle.mseed_stream.specs.declared.fault.StreamFault.{StreamFault}
 use Rattle.mseed_audit.specs.declared.channel.Channel.{Channel}
@@ -101,11 +102,6 @@ behind_text_is (begun channels) = ap (λ (t : List ℕ). header_line ++ t) (rows
 behind_text_is (whole w) = part_text_is w
 
 -- ---- and their ranges
-pub all_append : (P : Line → Type 0) (xs ys : List Line) → AllByRecursion P xs → AllByRecursion P ys
-    → AllByRecursion P (xs ++ ys)
-all_append P [] ys p q = q
-all_append P (x ∷ xs) ys p q = (p.0, all_append P xs ys p.1 q)
-
 rows_are : (es : Entries) → AllByRecursion (λ (e : List ℕ × Channel). HasChannelLine e.0 e.1) es → AreAll (rows es)
 rows_are [] h = h
 rows_are (e ∷ es) h = (h.0, rows_are es h.1)
@@ -122,17 +118,17 @@ end_are bytes (Some f) h = (h, tt)
 pub part_are : (w : Written) → HasText w → AreAll (part_rows w)
 part_are w h = (
   tt,
-  all_append IsLine (rows w.part.channels) (counts w.part.records w.part.bytes ∷ (faults_row w.faults
+  All-append IsLine (rows w.part.channels) (counts w.part.records w.part.bytes ∷ (faults_row w.faults
       ++ end_row w.part.bytes w.end)) (rows_are w.part.channels h.channels) (
         h.counts,
-        all_append IsLine (faults_row w.faults) (end_row w.part.bytes w.end) (faults_are w.faults h.faults)
+        All-append IsLine (faults_row w.faults) (end_row w.part.bytes w.end) (faults_are w.faults h.faults)
             (end_are w.part.bytes w.end h.end),
       ),
 )
 
 pub texts_all : (ws : List Written) → AllByRecursion HasText ws → AreAll (all_rows ws)
 texts_all [] h = tt
-texts_all (w ∷ ws) h = all_append IsLine (part_rows w) (all_rows ws) (part_are w h.0) (texts_all ws h.1)
+texts_all (w ∷ ws) h = All-append IsLine (part_rows w) (all_rows ws) (part_are w h.0) (texts_all ws h.1)
 
 pub behind_all : (b : Behind) → AllByRecursion HasText (part_behind b) → AreAll (rows_behind b)
 behind_all none h = tt

@@ -3,12 +3,12 @@ use Rattle.std.proofs.Common.{◌≡◌, ℕ, zero, suc, ◌+◌, ◌/◌, ◌-�
 use Rattle.std.proofs.Common.{Bool, true, false, cond, get_or, Option, Some, None, refl, sym, ap, ◌∙◌, arith}
 use Rattle.std.specs.Prelude.{codes}
 use Rattle.std.proofs.lemmas.Bool.Decides.{nat_tests}
+use Rattle.std.proofs.lemmas.Option.{same_Some}
 use Rattle.mseed_stream.specs.declared.fault.StreamFault.{StreamFault}
 use Rattle.mseed_audit.specs.declared.channel.Channel.{Channel}
 use Rattle.mseed_join.specs.Lines.{hex_digit, channel_line, HasChannelLine, Line, header, channel, counts, faults}
 use Rattle.mseed_join.specs.Lines.{fault, text_of_line, IsLine}
 use Rattle.mseed_join.specs.private.Reading.{◌>>=◌, number_after, channel_at, counts_at, faults_at, fault_at}
-use Rattle.mseed_join.proofs.Digits.{some_is}
 use Rattle.mseed_join.proofs.Prefixes.{fault_words, fault_then, fault_of}
 use Rattle.mseed_join.proofs.Backwards.{count_back, channel_back, counts_back, faults_back, fault_back}
 
@@ -59,11 +59,11 @@ line_back (fault bytes f) l =
     ∙ ap (λ (o : Option StreamFault). o >>= λ g. Some (fault bytes g)) read
 
 pub line_one : (x y : Line) → IsLine x → IsLine y → text_of_line x ≡ text_of_line y → x ≡ y
-line_one x y l m e = some_is x y (sym (line_back x l) ∙ ap line_at e ∙ line_back y m)
+line_one x y l m e = same_Some x y (sym (line_back x l) ∙ ap line_at e ∙ line_back y m)
 
 pub channel_one : (key other : List ℕ) (c d : Channel) → HasChannelLine key c → HasChannelLine other d
     → channel_line key c ≡ channel_line other d → (key ≡ other) × (c ≡ d)
 channel_one key other c d l m e =
     let both : (key, c) ≡ (other, d) =
-    some_is (key, c) (other, d) (sym (channel_back key c l) ∙ ap channel_at e ∙ channel_back other d m) in
+    same_Some (key, c) (other, d) (sym (channel_back key c l) ∙ ap channel_at e ∙ channel_back other d m) in
     (ap (λ (x : List ℕ × Channel). x.0) both, ap (λ (x : List ℕ × Channel). x.1) both)

@@ -20,16 +20,14 @@ use Rattle.mseed_audit.specs.Verdict.{AreVerdicts}
 use Rattle.mseed_parts.specs.Parts.{Held, IsJoint, IsPartOf, bytes_in as size_of}
 use Rattle.mseed_join.specs.AuditPart.{AuditedPart}
 use Rattle.mseed_join.specs.Headline.{AreParted, EndsByBytes, IsReadOf, SaysAudit, last, more, none as no_pieces}
-use Rattle.mseed_join.specs.Joined.{AreJoined, IsJointOf, IsNext, counted, counted_by, moved_fault, nothing, none, one}
+use Rattle.mseed_join.specs.Joined.{AreJoined, IsJointOf, IsNext, counted, counted_by, moved_fault, nothing, one}
 use Rattle.mseed_join.specs.Joined.{verdict_at}
 use Rattle.mseed_join.specs.Lines.{faults_line}
 use Rattle.mseed_join.specs.Written.{Written}
 use Rattle.mseed_join.proofs.Cuts.{IsKnown, known, known_behind, known_none, one_known}
+use Rattle.mseed_join.proofs.Sums.{none_of}
 
 -- ---- what parts are joined, one by one
-pub joined_none : (a h : Written) → AreJoined a [] h → a ≡ h
-joined_none a _ (none _) = refl
-
 pub joined_more : (a w h : Written) (ws : List Written) → AreJoined a (w ∷ ws) h
     → (b : Written) × (IsNext a w b × AreJoined b ws h)
 joined_more a w h ws (one _ _ b _ _ next rest) = (b, (next, rest))
@@ -79,7 +77,7 @@ further add_up before archive a b h p so clear read by next =
 pieces : AddUp → (archive before : List ℕ) (ws : List Written) (a joint : Written) → AreParted archive ws
     → IsSoFar before a → a.end ≡ None → AreJoined a (counted false ws) joint → IsSoFar (before ++ archive) joint
 pieces add_up _ before _ a joint no_pieces so clear joined =
-    let same : IsSoFar before joint = subst (λ (w : Written). IsSoFar before w) (joined_none a joint joined) so in
+    let same : IsSoFar before joint = subst (λ (w : Written). IsSoFar before w) (none_of a joint joined) so in
     subst (λ (xs : List ℕ). IsSoFar xs joint) (sym (append-nil before)) same
 pieces add_up _ before _ a joint (last archive h p read by) so clear joined =
     let only : AreJoined a (p.written ∷ []) joint =
@@ -87,7 +85,7 @@ pieces add_up _ before _ a joint (last archive h p read by) so clear joined =
     let first = joined_more a p.written joint [] only in
     let now : IsSoFar (before ++ archive) first.0 =
     further add_up before archive a first.0 h p so clear read by first.1.0 in
-    subst (λ (w : Written). IsSoFar (before ++ archive) w) (joined_none first.0 joint first.1.1) now
+    subst (λ (w : Written). IsSoFar (before ++ archive) w) (none_of first.0 joint first.1.1) now
 pieces add_up _ before _ a joint (more archive others h p ws read end parted) so clear joined =
     let all : AreJoined a (p.written ∷ counted false ws) joint =
     subst (λ (o : Option StreamFault). AreJoined a (counted_by false p.written o (counted false ws)) joint) end

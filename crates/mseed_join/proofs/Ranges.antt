@@ -8,6 +8,7 @@ use Rattle.std.proofs.lemmas.Bool.{cases_lt, lt-ltb, le-ltb}
 use Rattle.std.proofs.lemmas.Bool.Decides.{nat_tests}
 use Rattle.std.proofs.lemmas.Int.{ints, unsigned_abs-mul}
 use Rattle.std.proofs.lemmas.Nat.{mul-le}
+use Rattle.std.proofs.lemmas.Option.{same_Some}
 use Rattle.mseed_time.specs.Btime.{Parts, IsInstant, IsTime, day_of, first_fault, instant_of, shift_of}
 use Rattle.mseed_time.proofs.Ranges.{day_within, year_days}
 use Rattle.mseed_time.specs.Fields.{number_at}
@@ -24,7 +25,6 @@ use Rattle.mseed_steim.specs.Reading.{count_of}
 use Rattle.mseed_steim.proofs.Framed.{minus}
 use Rattle.mseed_steim.proofs.Integers.{number_lt}
 use Rattle.mseed_audit.specs.Judging.{known_rate, rate_in, rate_unless, time_fault_of}
-use Rattle.mseed_join.proofs.Digits.{some_is}
 
 abbrev pub AreOctets : List ℕ → Type 0
 AreOctets bytes = (i : ℕ) → get_or bytes i 0 < 256
@@ -66,7 +66,7 @@ product a b some any small few = (omega (arith, mul-le 1 1 a b some any), omega 
 ratio_within : (num den : ℕ) (r : Ratio) → (0 < num) × (num ≤ 2 ^ 30) → (0 < den) × (den ≤ 2 ^ 30)
     → Some (record { num = num; den = den }) ≡ Some r → IsRatio r
 ratio_within num den r n d e =
-    subst IsRatio (some_is (record { num = num; den = den }) r e)
+    subst IsRatio (same_Some (record { num = num; den = den }) r e)
     (record { num_counts = n.0; num_bound = n.1; den_counts = d.0; den_bound = d.1 })
 
 -- a factor or a multiplier

@@ -33,6 +33,7 @@ use Rattle.mseed_stream.specs.Device.{BytesRead}
 use Rattle.mseed_stream.specs.Walk.{IsEnd, bytes_in}
 use Rattle.mseed_stream.specs.declared.fault.StreamFault.{StreamFault}
 use Rattle.mseed_stream.specs.declared.fault.StreamFault.TheVariants.{Frame, Truncated, Read, Turns, Memory}
+use Rattle.mseed_stream.proofs.OneInput.{refused_of}
 use Rattle.mseed_stream.proofs.Records.{view_record}
 use Rattle.mseed_audit.specs.declared.channel.Channel.{Channel}
 use Rattle.mseed_audit.specs.declared.channel.Findings.{Findings}
@@ -51,7 +52,7 @@ use Rattle.mseed_join.specs.Headline.{IsWithinLimits}
 use Rattle.mseed_join.specs.Lines.{HasChannelLine, HasFaultLine, HasFinding, HasFindings, HasFrameFault, HasHead}
 use Rattle.mseed_join.specs.Lines.{HasTail, HasWhy}
 use Rattle.mseed_join.specs.Written.{HasText}
-use Rattle.mseed_join.proofs.Cuts.{frame_in, read_joined, read_size}
+use Rattle.mseed_join.proofs.Cuts.{read_joined, read_size}
 use Rattle.mseed_join.proofs.Faults.{found_has, middle}
 use Rattle.mseed_join.proofs.Parting.{sizes}
 use Rattle.mseed_join.proofs.Ranges.{AreOctets, count_small, octets_of, rate_within, start_within}
@@ -324,7 +325,7 @@ has_end (Some (Frame n f)) offset bytes h fits same small is =
     (octets_in h.bytes fits.octets (offset + i)) in
     record {
       bytes_fit = small;
-      is = (is.0.0 ∙ same, frame_fits (read_from offset h) f octets (frame_in (read_from offset h) f is.0.1));
+      is = (is.0.0 ∙ same, frame_fits (read_from offset h) f octets (refused_of (read_from offset h) f is.0.1));
     }
 has_end (Some (Truncated n have)) offset bytes h fits same small is = record {
   bytes_fit = small;

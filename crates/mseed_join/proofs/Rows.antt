@@ -28,7 +28,8 @@ use Rattle.mseed_join.specs.private.Steps.{May, to}
 use Rattle.mseed_join.specs.private.Taking.{IsBehindKey, IsLastKey, IsLineStep, IsPlace, IsReadTo, IsStep, IsTaken}
 use Rattle.mseed_join.proofs.Ahead.{IsNextLine, next_line}
 use Rattle.mseed_join.proofs.Machine.{Entries}
-use Rattle.mseed_join.proofs.Running.{AllKeys, HaveTexts, texts_behind}
+use Rattle.mseed_join.proofs.Pieces.{of_nothing}
+use Rattle.mseed_join.proofs.Running.{AllKeys, HaveTexts, last_key, texts_behind}
 use Rattle.mseed_join.proofs.Steps.{IsHere, next_here}
 
 -- ---- keys in order
@@ -36,17 +37,13 @@ keys_one : (P : List ℕ → Type 0) (cs : Entries) (e : List ℕ × Channel) �
 keys_one P [] e h k = (k, tt)
 keys_one P (d ∷ cs) e h k = (h.0, keys_one P cs e h.1 k)
 
-last_in : (P : List ℕ → Type 0) (cs : Entries) (e : List ℕ × Channel) → AllKeys P (cs ++ e ∷ []) → P e.0
-last_in P [] e h = h.0
-last_in P (d ∷ cs) e h = last_in P cs e h.1
-
 sorted_one : (cs : Entries) (last key : List ℕ) (b c : Channel) → IsAscending (cs ++ (last, b) ∷ [])
     → slice_cmp nat_cmp last key ≡ Less → IsAscending ((cs ++ (last, b) ∷ []) ++ (key, c) ∷ [])
 unfolding IsStrictlySortedBy
 sorted_one [] last key b c s l = ((l, tt), (tt, tt))
 sorted_one (d ∷ cs) last key b c s l =
     let first : slice_cmp nat_cmp d.0 last ≡ Less =
-    last_in (λ y. slice_cmp nat_cmp d.0 y ≡ Less) cs (last, b) s.0 in
+    last_key (λ y. slice_cmp nat_cmp d.0 y ≡ Less) cs (last, b) s.0 in
     let less : slice_cmp nat_cmp d.0 key ≡ Less = nat_list_cmp_total.trans d.0 last key first l in (
       keys_one (λ y. slice_cmp nat_cmp d.0 y ≡ Less) (cs ++ (last, b) ∷ []) (key, c) s.0 less,
       sorted_one cs last key b c s.1 l,
@@ -66,7 +63,7 @@ in_order (Some last) cs key c l s b =
 first_two : (d : List ℕ × Channel) (cs : Entries) (e : List ℕ × Channel) → IsAscending (d ∷ (cs ++ e ∷ []))
     → slice_cmp nat_cmp d.0 e.0 ≡ Less
 unfolding IsStrictlySortedBy
-first_two d cs e s = last_in (λ y. slice_cmp nat_cmp d.0 y ≡ Less) cs e s.0
+first_two d cs e s = last_key (λ y. slice_cmp nat_cmp d.0 y ≡ Less) cs e s.0
 
 two_last : (cs : Entries) (d e : List ℕ × Channel) → IsAscending ((cs ++ d ∷ []) ++ e ∷ [])
     → slice_cmp nat_cmp d.0 e.0 ≡ Less
@@ -264,10 +261,6 @@ whole_no l has last e = cc
 abbrev pub HaveOnePart : Type 0
 HaveOnePart = (a b : Held) (views : List View) → IsPartOf a views → IsPartOf b views → a ≡ b
 
-empty_part : IsPartOf nothing.part []
-unfolding IsStrictlySortedBy
-empty_part = record { records = refl; bytes = refl; ascending = tt; each = λ key. refl }
-
 pub nothing_read : {A : Type 0} → (part : Held) (past : Bool) → HaveOnePart → IsPartOf part []
     → IsReadTo {A = A} [] start (record {
       so_far = record { part = part; faults = 0; end = None };
@@ -276,7 +269,7 @@ pub nothing_read : {A : Type 0} → (part : Held) (past : Bool) → HaveOnePart 
       past = past;
     })
 nothing_read part past only is =
-    let same : nothing.part ≡ part = only nothing.part part [] empty_part is in record {
+    let same : nothing.part ≡ part = only nothing.part part [] of_nothing is in record {
       stage = record { text = refl; each = tt; is_where = inl refl };
       joint = subst (λ (h : Held). AreJoined nothing [] (record { part = h; faults = 0; end = None })) same
           (no_more nothing);

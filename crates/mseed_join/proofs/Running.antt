@@ -23,15 +23,16 @@ keys_prefix : (P : List ℕ → Type 0) (xs ys : Entries) → AllKeys P (xs ++ y
 keys_prefix P [] ys h = tt
 keys_prefix P (x ∷ xs) ys h = (h.0, keys_prefix P xs ys h.1)
 
+pub last_key : (P : List ℕ → Type 0) (cs : Entries) (e : List ℕ × Channel) → AllKeys P (cs ++ e ∷ []) → P e.0
+last_key P [] e h = h.0
+last_key P (d ∷ cs) e h = last_key P cs e h.1
+
 pub ascending_prefix : (xs ys : Entries) → IsAscending (xs ++ ys) → IsAscending xs
 unfolding IsStrictlySortedBy
 ascending_prefix [] ys s = tt
 ascending_prefix (x ∷ xs) ys s = (keys_prefix _ xs ys s.0, ascending_prefix xs ys s.1)
 
 -- ---- along a part
-stage : List Written → Behind → Stage
-stage over behind = record { over = over; behind = behind }
-
 begun_is : (over : List Written) (acc : Entries) (e : List ℕ × Channel) (es : Entries)
     → IsAscending (acc ++ e ∷ es) → IsAscending (acc ++ e ∷ [])
 begun_is over acc e es s =

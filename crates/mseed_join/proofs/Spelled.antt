@@ -1,13 +1,14 @@
 -- What is read is what is written.
-use Rattle.std.proofs.Common.{◌≡◌, ℕ, zero, suc, ◌-◌, ◌^◌, ◌<◌, ◌≤◌, ◌&&◌, nat_lt, nat_eq, List, [], ◌∷◌, ◌++◌, Bool}
-use Rattle.std.proofs.Common.{true, false, Option, Some, None, ℤ, pos, negsuc, refl, sym, ap, ◌∙◌, subst, arith}
+use Rattle.std.proofs.Common.{◌≡◌, ℕ, zero, suc, ◌-◌, ◌^◌, ◌<◌, ◌≤◌, ◌&&◌, nat_lt, nat_eq, List, [], ◌∷◌, ◌++◌}
+use Rattle.std.proofs.Common.{true, Option, Some, None, ℤ, pos, negsuc, refl, sym, ap, ◌∙◌, subst, arith}
 use Rattle.std.proofs.Common.{append_assoc, IfSome}
 use Rattle.std.specs.Prelude.{decimal, codes}
 use Rattle.std.specs.Fmt.{signed_decimal}
 use Rattle.std.specs.Cmp.Lexicographic.{same_text}
 use Rattle.std.proofs.lemmas.Bool.Decides.{nat_tests}
 use Rattle.std.proofs.lemmas.Int.{ints}
-use Rattle.std.proofs.lemmas.Option.{cond_some}
+use Rattle.std.proofs.lemmas.Bool.{and_parts}
+use Rattle.std.proofs.lemmas.Option.{cond_some, none-some, same_Some}
 use Rattle.mseed_time.specs.Btime.{IsInstant}
 use Rattle.mseed_time.specs.Rate.{Ratio, IsRatio}
 use Rattle.mseed_time.specs.Text.{fault_word}
@@ -44,7 +45,7 @@ use Rattle.mseed_join.specs.private.Reading.{some_tail_at, or_none_at, head_at, 
 use Rattle.mseed_join.specs.private.Reading.{last_differs_at, read_fault_at, timed_at, why_at, first_at}
 use Rattle.mseed_join.specs.private.Reading.{counted_findings_at, findings_at, ends, key_at, channel_at, counts_at}
 use Rattle.mseed_join.specs.private.Reading.{faults_at, frame_fault_at, stream_fault_at, fault_at}
-use Rattle.mseed_join.proofs.Digits.{some_is, word_behind, IsNumber, number_behind, IsWithin, IsInteger, integer_behind}
+use Rattle.mseed_join.proofs.Digits.{word_behind, IsNumber, number_behind, IsWithin, IsInteger, integer_behind}
 use Rattle.mseed_join.proofs.Prefixes.{ratio_then, head_then, head_leading, tail_then, tail_leading, first_then}
 use Rattle.mseed_join.proofs.Prefixes.{findings_then, nothing_leading, counted_leading, channel_leading, counts_leading}
 use Rattle.mseed_join.proofs.Prefixes.{faults_leading, fault_words, fault_then, fault_of, bad_word_leading}
@@ -54,18 +55,11 @@ use Rattle.mseed_join.proofs.Keys.{IsKey, key_spelled}
 -- a step that answered, and the steps after it
 bind_then : {A B : Type 0} (P : Type 0) (o : Option A) (f : A → Option B) (y : B) → (o >>= f) ≡ Some y
     → ((x : A) → o ≡ Some x → f x ≡ Some y → P) → P
-bind_then P None f y e k = absurd (no y e)
-  where
-    no : {B : Type 0} (z : B) → None ≡ Some z → ⊥
-    no z h = cc
+bind_then P None f y e k = absurd (none-some y e)
 bind_then P (Some x) f y e k = k x refl e
 
 leading : (w a b c : List ℕ) → a ≡ w ++ b → b ≡ c → a ≡ w ++ c
 leading w a b c e h = e ∙ ap (λ (t : List ℕ). w ++ t) h
-
-both_true : (a b : Bool) → (a && b) ≡ true → (a ≡ true) × (b ≡ true)
-both_true true b e = (refl, e)
-both_true false b e = absurd (cc e)
 
 counts : (n : ℕ) → nat_lt 0 n ≡ true → 0 < n
 counts n e = grind (arith, nat_tests)
@@ -89,7 +83,7 @@ word_spelled : {X : Type 0} (text : X → List ℕ) (Fits : X → Type 0) (word 
     → (bytes : List ℕ) (y : X × List ℕ) → word_at word x bytes ≡ Some y → IsRead text Fits bytes y
 word_spelled {X} text Fits word x is fits bytes y e =
     bind_then (IsRead text Fits bytes y) (after word bytes) _ y e (λ rest read more.
-    subst (λ (z : X × List ℕ). IsRead text Fits bytes z) (some_is (x, rest) y more)
+    subst (λ (z : X × List ℕ). IsRead text Fits bytes z) (same_Some (x, rest) y more)
     (word_behind word bytes rest read ∙ ap (λ (w : List ℕ). w ++ rest) is, fits))
 
 -- one of these words
@@ -127,7 +121,7 @@ counted_spelled : {X : Type 0} (text : X → List ℕ) (Fits : X → Type 0) (wo
 counted_spelled {X} text Fits word largest made few is fits bytes y e =
     bind_then (IsRead text Fits bytes y) (number_after word largest bytes) _ y e (λ n first more.
     let b : IsBehind word largest bytes n = behind_spelled word largest bytes n few first in
-    subst (λ (z : X × List ℕ). IsRead text Fits bytes z) (some_is (made n.0, n.1) y more)
+    subst (λ (z : X × List ℕ). IsRead text Fits bytes z) (same_Some (made n.0, n.1) y more)
     (b.is ∙ sym (append_assoc word (decimal n.0) n.1) ∙ ap (λ (w : List ℕ). w ++ n.1) (is n.0), fits n.0 b.bounded))
 
 -- ---- rates, starts, leap seconds
@@ -143,7 +137,7 @@ ratio_spelled bytes y e =
     let d : IsNumber (2 ^ 30) rest den = number_behind (2 ^ 30) rest den (omega arith) was in
     let r : Ratio = record { num = num.0; den = den.0 } in
     let made = cond_some (nat_lt 0 num.0 && nat_lt 0 den.0) (r, den.1) y last in
-    let some = both_true (nat_lt 0 num.0) (nat_lt 0 den.0) made.0 in
+    let some = and_parts (nat_lt 0 num.0) (nat_lt 0 den.0) made.0 in
     subst (λ (z : Ratio × List ℕ). (bytes ≡ ratio_then z.0 z.1) × IsRatio z.0) made.1 (
       leading (decimal num.0) bytes num.1 (codes "/" ++ (decimal den.0 ++ den.1)) n.is
           (leading (codes "/") num.1 rest (decimal den.0 ++ den.1) (word_behind (codes "/") num.1 rest are) d.is),
@@ -201,7 +195,7 @@ some_head_spelled bytes y e =
     let t1 : bytes ≡ head_then h rate.1 = leading (decimal number.0) bytes number.1 _ n.is t2 in
     let fits : HasHead h =
     record { number = omega (arith, n.bounded); offset = omega (arith, o.bounded); start = s.1; rate = r.1 } in
-    subst (λ (z : Head × List ℕ). IsRead head_text HasHead bytes z) (some_is (h, rate.1) y e6)
+    subst (λ (z : Head × List ℕ). IsRead head_text HasHead bytes z) (same_Some (h, rate.1) y e6)
     (t1 ∙ sym (head_leading h rate.1), fits)))))))
 
 some_tail_spelled : (bytes : List ℕ) (y : Tail × List ℕ) → some_tail_at bytes ≡ Some y
@@ -250,7 +244,7 @@ or_none_spelled {X} text Fits read spelled bytes y e =
     (λ e2. bind_then P (read bytes) _ y e2 (λ x first more.
     let r = spelled bytes x first in
     subst (λ (z : Option X × List ℕ). IsRead (λ o. text_or_none text o) (λ o. IfSome o Fits) bytes z)
-    (some_is (Some x.0, x.1) y more) (r.0, r.1)))
+    (same_Some (Some x.0, x.1) y more) (r.0, r.1)))
 
 head_spelled : (bytes : List ℕ) (y : Option Head × List ℕ) → head_at bytes ≡ Some y
     → IsRead (λ o. text_or_none head_text o) (λ o. IfSome o HasHead) bytes y
@@ -275,7 +269,7 @@ bad_word_spelled bytes y e =
     count_then P (codes "badword ") bytes _ y e (λ frame f e1.
     count_then P (codes " ") frame.1 _ y e1 (λ word w e2.
     subst (λ (z : ReadFault × List ℕ). IsRead read_text HasReadFault bytes z)
-    (some_is (BadWord frame.0 word.0, word.1) y e2) (
+    (same_Some (BadWord frame.0 word.0, word.1) y e2) (
       f.is ∙ ap (λ (z : List ℕ). codes "badword " ++ (decimal frame.0 ++ z)) w.is
           ∙ sym (bad_word_leading frame.0 word.0 word.1),
       (omega (arith, f.bounded), omega (arith, w.bounded)),
@@ -294,7 +288,7 @@ last_differs_spelled bytes y e =
     let t2 = leading (signed_decimal found.0) r1 found.1 _ f.0 t3 in
     let t1 = leading (codes "lastdiffers ") bytes r1 _ (word_behind (codes "lastdiffers ") bytes r1 is1) t2 in
     subst (λ (z : ReadFault × List ℕ). IsRead read_text HasReadFault bytes z)
-    (some_is (LastDiffers found.0 constant.0, constant.1) y e4)
+    (same_Some (LastDiffers found.0 constant.0, constant.1) y e4)
     (t1 ∙ sym (last_differs_leading found.0 constant.0 constant.1), (f.1, c.1))))))
 
 read_fault_spelled : (bytes : List ℕ) (y : ReadFault × List ℕ) → read_fault_at bytes ≡ Some y
@@ -321,13 +315,13 @@ timed_spelled bytes y e =
     let f = time_spelled r1 fault is2 in
     let t1 : bytes ≡ why_text (Time fault.0) ++ fault.1 =
     leading (codes "time ") bytes r1 _ (word_behind (codes "time ") bytes r1 is1) f.0 in
-    subst (λ (z : Why × List ℕ). IsRead why_text HasWhy bytes z) (some_is (Time fault.0, fault.1) y e2) (t1, tt)))
+    subst (λ (z : Why × List ℕ). IsRead why_text HasWhy bytes z) (same_Some (Time fault.0, fault.1) y e2) (t1, tt)))
 
 unread_spelled : (bytes : List ℕ) (y : Why × List ℕ)
     → (read_fault_at bytes >>= λ fault. Some (ReadFailed fault.0, fault.1)) ≡ Some y → IsRead why_text HasWhy bytes y
 unread_spelled bytes y e =
     bind_then (IsRead why_text HasWhy bytes y) (read_fault_at bytes) _ y e (λ fault is more.
-    subst (λ (z : Why × List ℕ). IsRead why_text HasWhy bytes z) (some_is (ReadFailed fault.0, fault.1) y more)
+    subst (λ (z : Why × List ℕ). IsRead why_text HasWhy bytes z) (same_Some (ReadFailed fault.0, fault.1) y more)
     (read_fault_spelled bytes fault is))
 
 why_spelled : (bytes : List ℕ) (y : Why × List ℕ) → why_at bytes ≡ Some y → IsRead why_text HasWhy bytes y
@@ -360,7 +354,7 @@ first_spelled bytes y e =
     let t1 : bytes ≡ first_then f why.1 = n.is ∙ ap (λ (z : List ℕ). codes " first " ++ (decimal number.0 ++ z)) t2 in
     let fits : HasFinding f =
     record { number = omega (arith, n.bounded); offset = omega (arith, o.bounded); why = w.1 } in
-    subst (λ (z : Finding × List ℕ). (bytes ≡ first_then z.0 z.1) × HasFinding z.0) (some_is (f, why.1) y e4)
+    subst (λ (z : Finding × List ℕ). (bytes ≡ first_then z.0 z.1) × HasFinding z.0) (same_Some (f, why.1) y e4)
     (t1, fits)))))
 
 -- by the number of findings, after the tail
@@ -373,13 +367,13 @@ counted_findings_spelled zero None tail bytes y e l h t = absurd (cc e)
 counted_findings_spelled zero (Some head) None bytes y e l h t = absurd (cc e)
 counted_findings_spelled zero (Some head) (Some tail) bytes y e l h t =
     subst (λ (z : Findings × List ℕ). (findings_then (Some head) (Some tail) 0 bytes ≡ findings_text z.0 ++ z.1)
-    × HasFindings z.0) (some_is (Nothing head tail, bytes) y e) (sym (nothing_leading head tail bytes), (h, t))
+    × HasFindings z.0) (same_Some (Nothing head tail, bytes) y e) (sym (nothing_leading head tail bytes), (h, t))
 counted_findings_spelled (suc n) head tail bytes y e l h t =
     bind_then ((findings_then head tail (suc n) bytes ≡ findings_text y.0 ++ y.1) × HasFindings y.0) (first_at bytes)
     _ y e (λ first is more.
     let f = first_spelled bytes first is in
     subst (λ (z : Findings × List ℕ). (findings_then head tail (suc n) bytes ≡ findings_text z.0 ++ z.1)
-    × HasFindings z.0) (some_is (Counted (suc n) first.0 head tail, first.1) y more) (
+    × HasFindings z.0) (same_Some (Counted (suc n) first.0 head tail, first.1) y more) (
       ap (λ (z : List ℕ). findings_then head tail (suc n) z) f.0
           ∙ sym (counted_leading (suc n) first.0 head tail first.1),
       (omega arith, l, f.1, h, t),
@@ -465,7 +459,7 @@ faults_spelled bytes y e =
     let b : IsBehind (codes "faults ") (2 ^ 63 - 1) bytes n =
     behind_spelled (codes "faults ") (2 ^ 63 - 1) bytes n (omega arith) is in
     let made = cond_some (nat_lt 0 n.0 && ends n.1) n.0 y more in
-    let both = both_true (nat_lt 0 n.0) (ends n.1) made.0 in
+    let both = and_parts (nat_lt 0 n.0) (ends n.1) made.0 in
     let some : 0 < n.0 = counts n.0 both.0 in
     subst (λ (z : ℕ). (bytes ≡ faults_line z) × HasFaultsLine z) made.1 (
       b.is ∙ ap (λ (z : List ℕ). codes "faults " ++ (decimal n.0 ++ z)) (ended n.1 both.1) ∙ sym (some_faults n.0 some),
@@ -493,7 +487,7 @@ framed_spelled offset bytes y e =
     bind_then (IsRead fault_words (λ f. IsFaultBehind offset f) bytes y) (frame_fault_at bytes) _ y e (λ fault is more.
     let f = frame_fault_spelled bytes fault is in
     subst (λ (z : StreamFault × List ℕ). IsRead fault_words (λ g. IsFaultBehind offset g) bytes z)
-    (some_is (Frame offset fault.0, fault.1) y more) (f.0, (refl, f.1)))
+    (same_Some (Frame offset fault.0, fault.1) y more) (f.0, (refl, f.1)))
 
 stream_fault_spelled : (offset : ℕ) (bytes : List ℕ) (y : StreamFault × List ℕ) → stream_fault_at offset bytes ≡ Some y
     → IsRead fault_words (λ f. IsFaultBehind offset f) bytes y
@@ -516,7 +510,7 @@ fault_spelled bytes offset y e =
     bind_then P (stream_fault_at offset r2) _ y e2 (λ fault is3 e3.
     let f = stream_fault_spelled offset r2 fault is3 in
     let made = cond_some (nat_eq at.0 offset && ends fault.1) fault.0 y e3 in
-    let both = both_true (nat_eq at.0 offset) (ends fault.1) made.0 in
+    let both = and_parts (nat_eq at.0 offset) (ends fault.1) made.0 in
     let there : at.0 ≡ offset = same at.0 offset both.0 in
     let t3 : r2 ≡ fault_words fault.0 ++ codes "\n" =
     f.0 ∙ ap (λ (z : List ℕ). fault_words fault.0 ++ z) (ended fault.1 both.1) in

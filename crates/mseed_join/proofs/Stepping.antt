@@ -28,7 +28,7 @@ use Rattle.mseed_join.specs.private.Taking.{IsReadTo, IsTaken, IsPlace, border_b
 use Rattle.mseed_join.specs.Borders.{AreBordersOf, Border}
 use Rattle.mseed_join.proofs.Machine.{Entries}
 use Rattle.mseed_join.proofs.Merging.{JoinsChannel, JoinsCounts, JoinsNone}
-use Rattle.mseed_join.proofs.Running.{AllKeys}
+use Rattle.mseed_join.proofs.Running.{last_key}
 use Rattle.mseed_join.proofs.Sums.{IsGood, glue, joined_good, nothing_good, stop}
 use Rattle.mseed_join.proofs.Taken.{IsLast, in_place, last_is, ends_in_place, passed_in_place, stage_more}
 
@@ -47,10 +47,6 @@ kept_other : (test : List ℕ → Bool) (cs : Entries) (e : List ℕ × Channel)
     → lookup test (cs ++ e ∷ []) ≡ lookup test cs
 kept_other test [] e t = ap (λ (b : Bool). cond b (Some e.1) None) t
 kept_other test (d ∷ cs) e t = ap (λ (o : Option Channel). cond (test d.0) (Some d.1) o) (kept_other test cs e t)
-
-last_key : (P : List ℕ → Type 0) (cs : Entries) (e : List ℕ × Channel) → AllKeys P (cs ++ e ∷ []) → P e.0
-last_key P [] e h = h.0
-last_key P (d ∷ cs) e h = last_key P cs e h.1
 
 -- the last of ascending keys isn't among those before
 pub kept_none : (cs : Entries) (key : List ℕ) (c : Channel) → IsAscending (cs ++ (key, c) ∷ []) → kept_of key cs ≡ None

@@ -30,7 +30,7 @@ use Rattle.mseed_join.proofs.Running.{Extends}
 use Rattle.mseed_join.proofs.Merging.{JoinsChannel, JoinsCounts, JoinsNone}
 use Rattle.mseed_join.proofs.Stepping.{begin_joint, channel_joint, counts_joint, ended_joint, faults_joint}
 use Rattle.mseed_join.proofs.Stepping.{passed_joint, taken}
-use Rattle.mseed_join.proofs.Sums.{HaveOneJoint, IsFirst, first_of, none_of}
+use Rattle.mseed_join.proofs.Sums.{HaveOneJoint, IsFirst, first_of, none_of, some_none}
 use Rattle.mseed_join.proofs.Taken.{number_same, passed_more, passed_same, stopped}
 
 -- a line that can stand here, and the parts that go on after it
@@ -380,9 +380,6 @@ free_from a (w ∷ ws) h n j = free_by a w ws h w.end refl (λ b m k. free_from 
 always_free : (past : Bool) (ws : List Written) (h : Written) → past ≡ true → IsJointOf past ws h → h.end ≡ None
 always_free past ws h p j =
     free_from nothing ws h refl (subst (λ (q : Bool). IsJointOf q ws h) p j)
-
-some_none : (f : StreamFault) → Some f ≡ None → ⊥
-some_none f k = cc
 
 fault_silent : (past : Bool) (over : List Written) (b : Behind) (l : ℕ) (f : StreamFault) → past ≡ false
     → passed_lines past (parts_at (goes over b (fault l f))) ≡ passed_lines past (over ++ part_behind b) ++ []

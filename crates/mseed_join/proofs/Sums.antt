@@ -17,6 +17,9 @@ pub record IsFirst (a w : Written) (ws : List Written) (h : Written) : Type 0 wh
 pub first_of : (a w h : Written) (ws : List Written) → AreJoined a (w ∷ ws) h → IsFirst a w ws h
 first_of a w h ws (one _ _ b _ _ next more) = record { between = b; next = next; more = more }
 
+pub some_none : (f : StreamFault) → Some f ≡ None → ⊥
+some_none f e = cc
+
 pub none_of : (a h : Written) → AreJoined a [] h → a ≡ h
 none_of a h (none _) = refl
 
@@ -108,9 +111,6 @@ never_open a w b x e n j =
     ap (λ (c : Written). c.end) (sym same) ∙ f.next.end
     ∙ ap (λ (o : Option StreamFault). option_map (moved_fault a.part.bytes) o) e in
     some_none (moved_fault a.part.bytes x) (sym ends ∙ n)
-  where
-    some_none : (f : StreamFault) → Some f ≡ None → ⊥
-    some_none f k = cc
 
 glue_by : (past : Bool) (a w : Written) (ws vs : List Written) (b h : Written) (end : Option StreamFault)
     → w.end ≡ end → b.end ≡ None
@@ -158,9 +158,6 @@ stop_from : (past : Bool) (a : Written) (ws vs : List Written) (b : Written) (x 
     → b.end ≡ Some x → AreJoined a (counted past ws) b → AreJoined a (counted past (ws ++ vs)) b
 stop_from past a [] vs b x m n j =
     absurd (some_none x (sym n ∙ ap (λ (c : Written). c.end) (sym (none_of a b j)) ∙ m))
-  where
-    some_none : (f : StreamFault) → Some f ≡ None → ⊥
-    some_none f k = cc
 stop_from past a (w ∷ ws) vs b x m n j =
     stop_by past a w ws vs b x w.end refl m n (λ c k i. stop_from past c ws vs b x k n i) j
 

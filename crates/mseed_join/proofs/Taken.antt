@@ -1,9 +1,9 @@
 -- What is read so far, with one more line.
 use Rattle.std.proofs.Common.{◌≡◌, ℕ, ◌+◌, List, [], ◌∷◌, ◌++◌, Bool, true, false, Option, Some, None, length, refl}
 use Rattle.std.proofs.Common.{sym, ap, ◌∙◌, subst, arith, append_assoc, append-nil, inl, inr, ◌⊎◌}
-use Rattle.std.specs.List.{AllByRecursion}
 use Rattle.std.specs.List.Sorted.{IsStrictlySortedBy}
 use Rattle.std.specs.Option.{option_map}
+use Rattle.std.proofs.ByRecursion.{All-append, All-push}
 use Rattle.std.proofs.lemmas.List.{length-append}
 use Rattle.mseed_stream.specs.declared.fault.StreamFault.{StreamFault}
 use Rattle.mseed_text.specs.Fault.{end_line, fault_line}
@@ -18,7 +18,7 @@ use Rattle.mseed_join.specs.Reached.{IsStage, IsWhere, passed_from, passed_lines
 use Rattle.mseed_join.specs.private.Steps.{May, to, goes, counted_part, with_faults, with_end}
 use Rattle.mseed_join.proofs.Machine.{Entries}
 use Rattle.mseed_join.proofs.Running.{HaveTexts, texts_before, texts_behind}
-use Rattle.mseed_join.proofs.Sums.{IsFirst, IsSplit, first_of, none_of, split, glue, stop}
+use Rattle.mseed_join.proofs.Sums.{IsFirst, IsSplit, first_of, none_of, some_none, split, glue, stop}
 
 -- ---- the text
 texts_append : (ws vs : List Written) → texts (ws ++ vs) ≡ texts ws ++ texts vs
@@ -80,15 +80,6 @@ text_more over (whole v) (fault l f) w m =
     ∙ sym (texts_one over (with_end v f)) ∙ sym (append-nil (texts (over ++ with_end v f ∷ [])))
 
 -- ---- the parts' ranges
-pub texts_join : (ws vs : List Written) → HaveTexts ws → HaveTexts vs → HaveTexts (ws ++ vs)
-texts_join [] vs h k = k
-texts_join (w ∷ ws) vs h k = (h.0, texts_join ws vs h.1 k)
-
-entries_one : (P : List ℕ × Channel → Type 0) (cs : Entries) (e : List ℕ × Channel) → AllByRecursion P cs → P e
-    → AllByRecursion P (cs ++ e ∷ [])
-entries_one P [] e h k = (k, tt)
-entries_one P (d ∷ cs) e h k = (h.0, entries_one P cs e h.1 k)
-
 empty_text : HasText (begun_part [])
 unfolding IsStrictlySortedBy
 empty_text = record {
@@ -102,7 +93,7 @@ empty_text = record {
 each_more : (over : List Written) (b : Behind) (x : Line) → IsLine x → IsWhere over b → May b x
     → HaveTexts (over ++ part_behind b) → HaveTexts (parts_at (goes over b x))
 each_more over none header l w m h =
-    texts_join over (begun_part [] ∷ []) (texts_before over [] h) (empty_text, tt)
+    All-append HasText over (begun_part [] ∷ []) (texts_before over [] h) (empty_text, tt)
 each_more over none (channel k c) l w m h = absurd m
 each_more over none (counts n k) l w m h = absurd m
 each_more over none (faults n) l w m h = absurd m
@@ -110,10 +101,10 @@ each_more over none (fault k f) l w m h = absurd m
 each_more over (begun cs) header l w m h = absurd m
 each_more over (begun cs) (channel k c) l w m h =
     let has : HasText (begun_part cs) = (texts_behind over (begun_part cs ∷ []) h).0 in
-    texts_join over (begun_part (cs ++ (k, c) ∷ []) ∷ []) (texts_before over (begun_part cs ∷ []) h) (
+    All-append HasText over (begun_part (cs ++ (k, c) ∷ []) ∷ []) (texts_before over (begun_part cs ∷ []) h) (
       record {
         ascending = m;
-        channels = entries_one (λ (e : List ℕ × Channel). HasChannelLine e.0 e.1) cs (k, c) has.channels l;
+        channels = All-push (λ (e : List ℕ × Channel). HasChannelLine e.0 e.1) cs (k, c) has.channels l;
         counts = has.counts;
         faults = has.faults;
         end = tt;
@@ -122,26 +113,26 @@ each_more over (begun cs) (channel k c) l w m h =
     )
 each_more over (begun cs) (counts n k) l w m h =
     let has : HasText (begun_part cs) = (texts_behind over (begun_part cs ∷ []) h).0 in
-    texts_join over (counted_part cs n k ∷ []) (texts_before over (begun_part cs ∷ []) h) (
+    All-append HasText over (counted_part cs n k ∷ []) (texts_before over (begun_part cs ∷ []) h) (
       record { ascending = has.ascending; channels = has.channels; counts = l; faults = has.faults; end = tt },
       tt,
     )
 each_more over (begun cs) (faults n) l w m h = absurd m
 each_more over (begun cs) (fault k f) l w m h = absurd m
 each_more over (whole v) header l w m h =
-    texts_join (over ++ v ∷ []) (begun_part [] ∷ []) h (empty_text, tt)
+    All-append HasText (over ++ v ∷ []) (begun_part [] ∷ []) h (empty_text, tt)
 each_more over (whole v) (channel k c) l w m h = absurd m
 each_more over (whole v) (counts n k) l w m h = absurd m
 each_more over (whole v) (faults n) l w m h =
     let has : HasText v = (texts_behind over (v ∷ []) h).0 in
-    texts_join over (with_faults v n ∷ []) (texts_before over (v ∷ []) h) (
+    All-append HasText over (with_faults v n ∷ []) (texts_before over (v ∷ []) h) (
       record { ascending = has.ascending; channels = has.channels; counts = has.counts; faults = l.fit; end = has.end },
       tt,
     )
 each_more over (whole v) (fault k f) l w m h =
     let has : HasText v = (texts_behind over (v ∷ []) h).0 in
-    texts_join (over ++ with_end v f ∷ []) []
-    (texts_join over (with_end v f ∷ []) (texts_before over (v ∷ []) h) (
+    All-append HasText (over ++ with_end v f ∷ []) []
+    (All-append HasText over (with_end v f ∷ []) (texts_before over (v ∷ []) h) (
       record {
         ascending = has.ascending;
         channels = has.channels;
@@ -180,9 +171,6 @@ stage_more lines s x i l m = record {
 }
 
 -- ---- the joint part
-some_none : (f : StreamFault) → Some f ≡ None → ⊥
-some_none f k = cc
-
 -- a part without a fault, the last of those that are joined
 pub record IsLast (past : Bool) (over : List Written) (w h : Written) : Type 0 where
   pub before : Written
