@@ -7,6 +7,7 @@ use Rattle.std.proofs.Common.{take_all, slice_get, Some}
 use Rattle.std.proofs.lemmas.List.{take-append-le}
 use Rattle.std.proofs.lemmas.List.Folds.{concat-append}
 use Rattle.std.specs.List.{AllByRecursion, concat}
+use Rattle.std.proofs.ByRecursion.{All-append}
 use Rattle.mseed_record.specs.declared.fault.FrameFault.{FrameFault}
 use Rattle.mseed_record.specs.declared.framer.Scan.TheVariants as scans
 use Rattle.mseed_record.specs.Record.{IsRecord}
@@ -24,11 +25,6 @@ use Rattle.slink_live.specs.Served.{IntakeState, IsBelow}
 use Rattle.slink_live.specs.private.Cutting.{Cuts, CutsOff, IsRefused, LooksOn, waits, pushes}
 use Rattle.slink_feed.proofs.Deliveries.{take_prefix}
 use Rattle.slink_live.proofs.Fed.{below_fed, fed_append, fits_fed, places_fed}
-
-all_append : (P : List ℕ → Type 0) (xs ys : List (List ℕ)) → AllByRecursion P xs → AllByRecursion P ys
-    → AllByRecursion P (xs ++ ys)
-all_append P [] ys a b = b
-all_append P (x ∷ xs) ys a b = (a.0, all_append P xs ys a.1 b)
 
 -- a short rest begins with no record of the feed
 pub short_none : (places : List Fields) (rest : List ℕ) → length rest < 512 → ¬ (IsOf places (take 512 rest))
@@ -103,7 +99,7 @@ module _ (old now : IntakeState) (bytes chunk : List ℕ) (cuts : Cuts old bytes
     joined = chunk_joined ∙ sym (append-nil (concat (cuts.records ++ (now.kept ++ chunk) ∷ []))
         ∙ (concat-append cuts.records ((now.kept ++ chunk) ∷ [])
         ∙ ap (λ x. concat cuts.records ++ x) (append-nil (now.kept ++ chunk))));
-    each = all_append (IsOf (places_of old.feed)) cuts.records ((now.kept ++ chunk) ∷ []) cuts.each
+    each = All-append (IsOf (places_of old.feed)) cuts.records ((now.kept ++ chunk) ∷ []) cuts.each
         (subst (λ ps. IsOf ps (now.kept ++ chunk)) same_places of, tt);
     feed_is = ap (λ f. pushed f (now.kept ++ chunk)) cuts.feed_is
         ∙ sym (fed_append old.feed cuts.records ((now.kept ++ chunk) ∷ []));
@@ -206,7 +202,7 @@ cuts_on start reported old new bytes rest to cuts none =
               ∙ (ap (λ x. concat to.records ++ x) cuts.joined
               ∙ (sym (append_assoc (concat to.records) (concat cuts.records) rest)
               ∙ ap (λ x. x ++ rest) (sym (concat-append to.records cuts.records)))));
-          each = all_append (IsOf (places_of start)) to.records cuts.records to.input.each
+          each = All-append (IsOf (places_of start)) to.records cuts.records to.input.each
               (subst (λ ps. AllByRecursion (IsOf ps) cuts.records) same cuts.each);
           no_further = subst (λ ps. ¬ (IsOf ps (take 512 rest))) same none;
         };

@@ -3,6 +3,7 @@ use Rattle.std.proofs.Common.{◌≡◌, ℕ, ◌<◌, ◌∙◌, subst, refl, s
 use Rattle.std.proofs.Common.{get_or-set_other, get_or-set_same, length-set, List, length, set, get_or}
 use Rattle.std.proofs.Common.{Option, Some, None, IfSome}
 use Rattle.std.proofs.lemmas.Bool.Decides.{eqb_tells}
+use Rattle.std.proofs.lemmas.List.{get_or_default}
 use Rattle.slink_feed.specs.declared.grant.Grant.{Grant}
 use Rattle.slink_feed.specs.declared.session.Phase.TheVariants as Phases
 use Rattle.slink_feed.specs.Serving.{Standing}
@@ -14,7 +15,7 @@ use Rattle.slink_live.specs.Story.{Asks, none_called, one_called}
 use Rattle.slink_live.specs.private.Calling.{HasFilled}
 use Rattle.slink_live.specs.private.Granting.{AreCovered, Covers, CoversIn, no_places}
 use Rattle.slink_live.proofs.Fairness.{grants_no_more, streams_no_more}
-use Rattle.slink_live.proofs.Steps.{link_fits, same_default}
+use Rattle.slink_live.proofs.Steps.{link_fits}
 
 -- one slot changed, and is sent no records of further stations
 pub covered_still : (links : List (Option LinkState)) (granted : List Places) (j : ℕ) (new : Option LinkState)
@@ -78,7 +79,7 @@ module _ {slots links : List (Option LinkState)} (same : slots ≡ links) {grant
   lt_in = subst (λ (x : List (Option LinkState)). j < length x) (sym same) lt
 
   stood : o ≡ get_or slots j None
-  stood = link ∙ sym (same_default slots j None o lt_in)
+  stood = link ∙ sym (get_or_default slots j None o lt_in)
 
   pub fits_in : (feed : List Window) → AllFit feed links → IfSome o (λ l. Fits feed l.session.state)
   fits_in feed fits =

@@ -5,7 +5,6 @@ pub mod Inputs
 pub mod Own
 pub mod Producing
 pub mod Receiving
-pub mod Sends
 pub mod Turning
 pub mod Fairness
 pub mod Losing

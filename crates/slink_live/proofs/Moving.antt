@@ -1,6 +1,7 @@
 -- What a call makes of a server that changes the link in a slot.
 use Rattle.std.proofs.Common.{◌≡◌, ℕ, ◌+◌, ◌<◌, ◌≤◌, ◌∙◌, ap, subst, refl, sym, arith, List, ◌++◌, ◌∷◌, [], get_or}
 use Rattle.std.proofs.Common.{length, length-set, set, not, ◌&&◌, Bool, Option, Some, None, IfSome}
+use Rattle.std.proofs.lemmas.List.{get_or_default}
 use Rattle.slink_feed.specs.Session.{Fits}
 use Rattle.slink_feed.specs.Window.{Window}
 use Rattle.slink_live.specs.declared.link.Update.{Update}
@@ -17,7 +18,7 @@ use Rattle.slink_live.specs.private.Keeping.{KeepsServing, Updates, KeepsAwake}
 use Rattle.slink_live.proofs.Updating.{closes_keeps, opened_in, received_awake, rested_awake, seen_closes}
 use Rattle.slink_live.proofs.Updating.{seen_empty, seen_wants}
 use Rattle.slink_live.proofs.Updating.{taken_awake}
-use Rattle.slink_live.proofs.Steps.{filled_keeps, opened_keeps, reads_at, received_keeps, same_default, sound_in}
+use Rattle.slink_live.proofs.Steps.{filled_keeps, opened_keeps, reads_at, received_keeps, sound_in}
 use Rattle.slink_live.proofs.Steps.{taken_keeps}
 use Rattle.slink_live.proofs.Steps.{writes_at}
 
@@ -30,7 +31,7 @@ module _ {s0 s : ServerState} (same : s0 ≡ s) (j : ℕ) (lt : j < length s0.li
   o = get_or s0.links j None
 
   o_is : o ≡ get_or s0.links j o
-  o_is = same_default s0.links j None o lt
+  o_is = get_or_default s0.links j None o lt
 
   abbrev moved : List (Option LinkState) → ServerState
   moved links = record s0 { links = links }

@@ -3,6 +3,7 @@ use Rattle.std.proofs.Common.{◌≡◌, ◌≢◌, ℕ, zero, suc, ◌+◌, ◌
 use Rattle.std.proofs.Common.{inr, Bool, true, false, List, [], ◌∷◌, ◌++◌, get_or, length, set, Option, Some, None}
 use Rattle.std.proofs.Common.{Result, Ok, Err, IfErr, IfSome}
 use Rattle.std.specs.Option.{is_some}
+use Rattle.std.proofs.lemmas.List.{get_or_default}
 use Rattle.slink_feed.specs.Session.{Fits}
 use Rattle.slink_feed.specs.Window.{Window}
 use Rattle.slink_feed.proofs.Items.{same_or_not}
@@ -19,18 +20,9 @@ use Rattle.slink_live.proofs.Slots.{Turns, filled_turns, gone_turns, opened_turn
 use Rattle.slink_live.proofs.Slots.{closes_both, closes_reported, quiet_serving, turns_keep}
 
 -- what holds of an error holds of what follows from it
-pub if_err : {X E : Type 0} → (r : Result X E) (P Q : E → Type 0) → ((e : E) → P e → Q e) → IfErr r P → IfErr r Q
-if_err (Ok x) P Q f h = tt
-if_err (Err e) P Q f h = f e h
-
 pub if_err_always : {X E : Type 0} → (r : Result X E) (Q : Type 0) → Q → IfErr r (λ _. Q)
 if_err_always (Ok x) Q q = tt
 if_err_always (Err e) Q q = q
-
-pub same_default : {X : Type 0} → (xs : List X) (i : ℕ) (d e : X) → i < length xs → get_or xs i d ≡ get_or xs i e
-same_default [] i d e h = absurd (omega (arith, h))
-same_default (x ∷ xs) zero d e h = refl
-same_default (x ∷ xs) (suc i) d e h = same_default xs i d e (omega (arith, h))
 
 -- a slot that holds no link
 no_link : (o : Option LinkState) → is_some o ≡ false → o ≡ None
@@ -170,7 +162,7 @@ module _ {s0 s : ServerState} (same : s0 ≡ s) (j : ℕ) (lt : j < length s0.li
       → feed ≡ s0.intake.feed → o ≡ get_or s0.links j o → P feed o → P s.intake.feed (get_or s.links j None)
   seen P {feed} {o} rings link h =
       subst (λ (x : ServerState). P x.intake.feed (get_or x.links j None)) same
-      (subst (P s0.intake.feed) (link ∙ sym (same_default s0.links j None o lt))
+      (subst (P s0.intake.feed) (link ∙ sym (get_or_default s0.links j None o lt))
       (subst (λ (f : List Window). P f o) rings h))
 
   pub reads_at : {feed : List Window} {o : Option LinkState} (new : Option LinkState) (log mid last : List Happening)

@@ -4,7 +4,7 @@ use Rattle.std.proofs.Common.{IfSome, get_or-set_other, get_or-set_same, if◌th
 use Rattle.std.proofs.Common.{not, ◌&&◌, List, [], ◌∷◌, ◌++◌, get_or, length, length-set, set, take, Option, Some, None}
 use Rattle.std.specs.Option.{is_some}
 use Rattle.std.proofs.lemmas.Bool.Decides.{eqb_tells, leb_tells}
-use Rattle.std.proofs.lemmas.List.{get_or_past}
+use Rattle.std.proofs.lemmas.List.{get_or_past, get_or_default}
 use Rattle.slink_feed.specs.Session.{Fits}
 use Rattle.slink_feed.specs.Window.{Window}
 use Rattle.slink_live.specs.declared.link.Update.{Update}
@@ -26,7 +26,7 @@ use Rattle.slink_live.specs.private.Granting.{LeavesOut, StaysBut}
 use Rattle.slink_live.specs.private.Keeping.{KeepsServing, Updates, KeepsAwake, AwakensAll, AwakensAnew, AwakensThose}
 use Rattle.slink_live.proofs.Apart.{updated_apart}
 use Rattle.slink_live.proofs.Slots.{closes_both, closes_reported, not_self, quiet_serving}
-use Rattle.slink_live.proofs.Steps.{closed_keeps, ended, ended_serving, filled_keeps, received_keeps, same_default}
+use Rattle.slink_live.proofs.Steps.{closed_keeps, ended, ended_serving, filled_keeps, received_keeps}
 use Rattle.slink_live.proofs.Steps.{keeps_both, keeps_from, keeps_quiet, keeps_same, opened_keeps, sound_in}
 use Rattle.slink_live.proofs.Steps.{taken_keeps}
 use Rattle.slink_live.proofs.Reported.{IsUnreported, goes_one, goes_same, goes_then, gone_awake, gone_goes}
@@ -43,7 +43,7 @@ module _ {s0 s : ServerState} (same : s0 ≡ s) (j : ℕ) (lt : j < length s0.li
   seen_after = record s0 { links = set s0.links j new }
 
   stood : o ≡ get_or s0.links j None
-  stood = link ∙ sym (same_default s0.links j None o lt)
+  stood = link ∙ sym (get_or_default s0.links j None o lt)
 
   updates_in : {t : ServerState} {log last : List Happening} → Updates j s0 t log last → Updates j s t log last
   updates_in {t} {log} {last} h = subst (λ (x : ServerState). Updates j x t log last) same h
@@ -152,7 +152,7 @@ pub rested_awake : {s0 s t : ServerState} (same : s0 ≡ s) (j : ℕ) → j < le
     → (IfRested s0.intake.feed (get_or (set s0.links j new) j None)
     → Updates j (record s0 { links = set s0.links j new }) t mid last) → KeepsAwake s t log last
 rested_awake {s0} {s} {t} same j lt sound {o} link new {log} {mid} {last} h room updates =
-    let stands : o ≡ get_or s0.links j None = link ∙ sym (same_default s0.links j None o lt) in
+    let stands : o ≡ get_or s0.links j None = link ∙ sym (get_or_default s0.links j None o lt) in
     subst (λ (x : ServerState). KeepsAwake x t log last) same
     (awake_rest s0 j new t log mid last (taken_some o h ∙ ap is_some stands) (taken_unreported o h) (taken_goes o h)
     (λ start v. (taken_keeps {s0 = s0} {s = s0} refl j lt new (sound_in same sound) link h).serving start v)
@@ -181,8 +181,8 @@ module _ {s0 s : ServerState} (same : s0 ≡ s) (j : ℕ) (lt : j < length s0.li
       → IsOutcome s.intake.feed s.has_ended (get_or s.links j None) result
   outcome_in rested =
       let stands : get_or s.links j None ≡ o =
-      subst (λ (x : ServerState). get_or x.links j None ≡ o) same (sym (link ∙ sym (same_default s0.links j None o lt)))
-      in
+      subst (λ (x : ServerState). get_or x.links j None ≡ o) same
+      (sym (link ∙ sym (get_or_default s0.links j None o lt))) in
       subst (λ (x : Option LinkState). IsOutcome s.intake.feed s.has_ended x result) (sym stands)
       (subst (λ (b : Bool). IsOutcome s.intake.feed b o result) (ap (λ (x : ServerState). x.has_ended) same)
       (look s.intake.feed (subst (IfRested s.intake.feed) stands rested)))

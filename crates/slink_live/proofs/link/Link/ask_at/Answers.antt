@@ -1,10 +1,16 @@
-use Rattle.std.proofs.Common.{◌+◌, inr, refl, subst}
+use Rattle.std.proofs.Common.{◌≡◌, ◌≢◌, ◌∙◌, ℕ, List, ◌+◌, inr, refl, ap, sym, subst}
 use Rattle.slink_wire.specs.Packet.{packet_bytes}
-use Rattle.slink_feed.specs.declared.session.Sent.TheVariants.{Packet}
+use Rattle.slink_feed.specs.Session.{State, sent}
+use Rattle.slink_feed.specs.Window.{Window}
+use Rattle.slink_feed.specs.declared.session.Sent.{Sent}
+use Rattle.slink_feed.specs.declared.session.Sent.TheVariants.{Packet, Wait}
 use Rattle.slink_live.specs.Served.{LinkState, link_state}
 use Rattle.slink_live.specs.private.Calling.{Gives}
-use Rattle.slink_live.proofs.Sends.{sends_not}
 use Rattle.slink_live.proofs.link.Link.ask_at.Goals as goal
+
+sends_not : (feed : List Window) (s t : State) (k : ℕ) (a : Sent) → sent feed s k ≡ (t, a) → a ≢ Wait
+    → ¬ (sent feed s k ≡ (s, Wait))
+sends_not feed s t k a is never e = never (ap (λ (x : State × Sent). x.1) (sym is ∙ e))
 
 pub returns-in-Ok-clause-yes : goal.returns-in-Ok-clause-yes
 returns-in-Ok-clause-yes c =

@@ -1,11 +1,11 @@
-use Rattle.slink_live.proofs.Steps.{if_err}
+use Rattle.std.proofs.lemmas.Result.{IfErr-weaker}
 use Rattle.slink_live.proofs.Takings.{cut_off_fault, ends_input, nothing_ends}
 use Rattle.slink_live.proofs.server.Server.on_end.Goals as goal
 
 pub returns : goal.returns
 returns g c =
     ends_input c.end.ensures.keeps c.end.ensures.closes c.end.ensures.keeps_awake
-    (if_err c.end-ending.result _ _
+    (IfErr-weaker c.end-ending.result _ _
     (λ e is start v. cut_off_fault c.self.view_is c.end.ensures.closes start v c.requires c.if-self.false e is)
     c.end-ending.ensures.err)
 
