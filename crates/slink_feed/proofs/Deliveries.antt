@@ -2,6 +2,7 @@
 use Rattle.std.proofs.Common.{◌≡◌, ◌≢◌, ℕ, ◌+◌, ◌-◌, ◌*◌, ◌≤◌, ◌<◌, zero, suc, refl, sym, ap, subst, ◌∙◌, arith, List}
 use Rattle.std.proofs.Common.{[], ◌∷◌, ◌++◌, append_assoc, append-nil, length, length-append, length-drop, take}
 use Rattle.std.proofs.Common.{take_all, drop}
+use Rattle.std.proofs.lemmas.List.{take_rest}
 use Rattle.mseed_stream.specs.Device.{BytesRead, IsPrefixOf, BytesWritten}
 use Rattle.slink_feed.specs.declared.dialogue.Event.{Event}
 use Rattle.slink_feed.specs.declared.dialogue.Event.TheVariants as events
@@ -17,7 +18,6 @@ use Rattle.slink_feed.specs.Listening.{Brings, IsLinked, Listening, Reads, event
 use Rattle.slink_feed.specs.Turns.{Emitted, EmittedPrefix, reported_once}
 use Rattle.slink_feed.proofs.Goings.{lines_on, still_linked, tells_on}
 use Rattle.slink_feed.proofs.Received.{reads_more}
-use Rattle.mseed_stream.proofs.Splits.{tail_is}
 
 pub record SoFar (old now : Fetching) (bytes : List ℕ) (offset written_count output_count_is : ℕ) : Type 0 where
   pub reported : List Event
@@ -122,7 +122,7 @@ piece_of now new bytes offset used event linked comes = record {
   reads = λ start stream before. reads_more start stream
       (take used (take (length bytes - offset) (drop offset bytes))) before now new event comes.brings;
   some = comes.some;
-  bound = omega (arith, comes.bound, length-drop offset bytes, ap length (tail_is bytes offset));
+  bound = omega (arith, comes.bound, length-drop offset bytes, ap length (take_rest bytes offset));
 }
 
 -- what `take` says of bytes of a client that stayed as it was
@@ -145,12 +145,12 @@ take_prefix (b ∷ bs) (suc n) m = let one : suc n + m ≡ suc (n + m) = omega a
 
 pub piece_is : (bytes : List ℕ) (offset used : ℕ)
     → take offset bytes ++ take used (take (length bytes - offset) (drop offset bytes)) ≡ take (offset + used) bytes
-piece_is bytes offset used = ap (λ s. take offset bytes ++ take used s) (tail_is bytes offset)
+piece_is bytes offset used = ap (λ s. take offset bytes ++ take used s) (take_rest bytes offset)
     ∙ sym (take_prefix bytes offset used)
 
 pub piece_length : (bytes : List ℕ) (offset : ℕ)
     → length (take (length bytes - offset) (drop offset bytes)) ≡ length bytes - offset
-piece_length bytes offset = ap length (tail_is bytes offset) ∙ length-drop offset bytes
+piece_length bytes offset = ap length (take_rest bytes offset) ∙ length-drop offset bytes
 
 is_prefix : (bytes : List ℕ) (n : ℕ) → IsPrefixOf (take n bytes) bytes
 is_prefix bytes zero = (bytes, refl)

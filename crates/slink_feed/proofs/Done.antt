@@ -5,8 +5,7 @@ use Rattle.std.specs.List.{list_all, zip}
 use Rattle.slink_feed.specs.Session.{Grants, has_sent_all, grant_at, has_sent}
 use Rattle.slink_feed.specs.Window.{Window}
 use Rattle.std.proofs.lemmas.Option.{same_Some}
-use Rattle.std.proofs.lemmas.Bool.{and_from, and_right}
-use Rattle.slink_wire.proofs.Cuts.{both}
+use Rattle.std.proofs.lemmas.Bool.{and_from, and_right, and_parts}
 
 -- what was called of the first k stations
 abbrev pub first_done : List Window → Grants → ℕ → Bool
@@ -19,7 +18,8 @@ done_next (v ∷ ws) [] k w here d before = refl
 done_next (v ∷ ws) (o ∷ gs) zero w here d before =
     and_from (has_sent v o) true (ap (λ x. has_sent x o) (same_Some v w here) ∙ d) refl
 done_next (v ∷ ws) (o ∷ gs) (suc k) w here d before =
-    let each : (has_sent v o ≡ true) × (first_done ws gs k ≡ true) = both (has_sent v o) (first_done ws gs k) before in
+    let each : (has_sent v o ≡ true) × (first_done ws gs k ≡ true) =
+    and_parts (has_sent v o) (first_done ws gs k) before in
     and_from (has_sent v o) (first_done ws gs (suc k)) each.0 (done_next ws gs k w here d each.1)
 
 pub done_more : (ws : List Window) (gs : Grants) (k : ℕ) (w : Window) (t : Bool) → slice_get ws k ≡ Some w

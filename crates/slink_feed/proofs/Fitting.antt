@@ -126,7 +126,7 @@ pub fits_answered : (feed : List Window) (s new : State) (c : Command) → Fits 
 fits_answered feed s new c f e = subst (Fits feed) e (fits_in s.phase feed s c refl f)
 
 -- a new session has no grant
-none_at : (n k : ℕ) → grant_at (replicate n None) k ≡ None
+pub none_at : (n k : ℕ) → grant_at (replicate n None) k ≡ None
 none_at zero k = refl
 none_at (suc n) zero = refl
 none_at (suc n) (suc k) = none_at n k

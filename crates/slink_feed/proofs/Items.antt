@@ -36,11 +36,6 @@ module _ {X : Type 0} where
   get_there (y ∷ xs) (suc k) zero x ne = refl
   get_there (y ∷ xs) (suc k) (suc j) x ne = get_there xs k j x (λ e. ne (ap suc e))
 
-  pub is_within : (xs : List X) (k : ℕ) (x : X) → slice_get xs k ≡ Some x → k < length xs
-  is_within [] k x h = absurd (let bad : None ≡ Some x = h in cc bad)
-  is_within (y ∷ xs) zero x h = omega arith
-  is_within (y ∷ xs) (suc k) x h = let more : k < length xs = is_within xs k x h in omega (arith, more)
-
   pub within_is : (xs : List X) (k : ℕ) → k < length xs → (x : X) × (slice_get xs k ≡ Some x)
   within_is [] k lt = absurd (omega (arith, lt))
   within_is (y ∷ xs) zero lt = (y, refl)

@@ -2,7 +2,7 @@
 use Rattle.std.proofs.Common.{◌≡◌, ℕ, ◌⊎◌, inl, inr, refl, sym, ap, subst, ◌∙◌, arith, Bool, true, false, List, [], ◌∷◌}
 use Rattle.std.proofs.Common.{◌++◌, append_assoc, append-nil, length, length-append, take, ◌+◌, ◌≤◌, ◌<◌}
 use Rattle.std.proofs.lemmas.Bool.Decides.{eqb_tells}
-use Rattle.std.proofs.lemmas.List.{append_cancel_left, length-take-le}
+use Rattle.std.proofs.lemmas.List.{append_cancel_left, length-take-le, nil_from_length}
 use Rattle.slink_wire.specs.declared.command.Command.{Command}
 use Rattle.slink_wire.specs.declared.lines.What.{What}
 use Rattle.slink_wire.specs.declared.lines.What.TheVariants.{More, Line, TooLong}
@@ -341,7 +341,7 @@ module _ (feed : List Window) where
         | inr all ↦ (let whole : length far.0 ≡ 0 = no_more bytes p.prefix p.left q.prefix q.left far.0 p.split q.split
             far.1 (ap length all.0) in
             let same : q.prefix ≡ p.prefix =
-            far.1 ∙ (ap (λ z. p.prefix ++ z) (nothing far.0 whole) ∙ append-nil p.prefix) in
+            far.1 ∙ (ap (λ z. p.prefix ++ z) (nil_from_length far.0 whole) ∙ append-nil p.prefix) in
             let none : q.lines ≡ p.lines =
             append_cancel_left (lines_of stream).lines q.lines p.lines (sym q.reported
             ∙ (ap (λ z. (lines_of (stream ++ z)).lines) same ∙ p.reported)) in
@@ -350,10 +350,6 @@ module _ (feed : List Window) where
             (subst (λ ls. Comes (lines_of (stream ++ q.prefix)).is_too_long s.state ls b.state q.out) none q.comes)))
       ]
     where
-      nothing : (z : List ℕ) → length z ≡ 0 → z ≡ []
-      nothing [] e = refl
-      nothing (c ∷ z) e = absurd (omega (arith, e))
-
       no_more : (all prefix left other rest z : List ℕ) → all ≡ prefix ++ left → all ≡ other ++ rest
           → other ≡ prefix ++ z
           → length left ≡ 0 → length z ≡ 0

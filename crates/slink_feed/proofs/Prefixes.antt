@@ -2,7 +2,6 @@
 use Rattle.std.proofs.Common.{◌≡◌, ℕ, ◌+◌, ◌-◌, ◌<◌, ◌≤◌, zero, suc, refl, sym, ap, ◌∙◌, arith, List, [], ◌∷◌, ◌++◌}
 use Rattle.std.proofs.Common.{append_assoc, length, take, take-add, drop, length-drop, Some, slice_get}
 use Rattle.std.proofs.lemmas.List.{take_rest}
-use Rattle.mseed_stream.proofs.Splits.{tail_is}
 
 pub get_left : (xs ys : List ℕ) (i : ℕ) → i < length xs → slice_get (xs ++ ys) i ≡ slice_get xs i
 get_left [] ys i lt = absurd (omega (arith, lt))
@@ -26,4 +25,4 @@ emitted_more start kept new bytes used m before more =
 pub within_more : (bytes : List ℕ) (used more : ℕ) → used ≤ length bytes
     → more ≤ length (take (length bytes - used) (drop used bytes)) → used + more ≤ length bytes
 within_more bytes used more within bound =
-    omega (arith, within, bound, ap length (tail_is bytes used), length-drop used bytes)
+    omega (arith, within, bound, ap length (take_rest bytes used), length-drop used bytes)

@@ -2,14 +2,13 @@
 use Rattle.std.proofs.Common.{◌≡◌, ℕ, ◌+◌, ◌-◌, ◌<◌, inl, inr, zero, suc, sym, ap, subst, ◌∙◌, arith, true}
 use Rattle.std.proofs.Common.{false, ◌==◌, List, [], ◌∷◌, ◌++◌, length, length-append, append_assoc, Option, Some}
 use Rattle.std.proofs.Common.{None, slice_get}
-use Rattle.std.proofs.lemmas.Bool.{cases_lt}
+use Rattle.std.proofs.lemmas.Bool.{cases_lt, and_parts}
 use Rattle.std.proofs.lemmas.Bool.Decides.{eqb_tells}
 use Rattle.std.proofs.lemmas.List.{nil_from_length}
 use Rattle.std.proofs.lemmas.Option.{slice_get_past}
 use Rattle.slink_feed.specs.Cutting.{IsReply, IsReplyBegun, LacksEnd}
 use Rattle.slink_feed.specs.private.Parts.{ends_line, ends_reply}
 use Rattle.slink_feed.proofs.Prefixes.{get_left, get_here}
-use Rattle.slink_wire.proofs.Cuts.{both}
 
 same_byte : (a b : ℕ) → (a == b) ≡ true → a ≡ b
 same_byte a b h = elim (eqb_tells a b) [
@@ -19,7 +18,8 @@ same_byte a b h = elim (eqb_tells a b) [
 
 ends_both : (o : Option ℕ) (b : ℕ) → ends_line o b ≡ true → (o ≡ Some 13) × (b ≡ 10)
 ends_both None b h = absurd (let bad : false ≡ true = h in cc bad)
-ends_both (Some last) b h = let parts : ((last == 13) ≡ true) × ((b == 10) ≡ true) = both (last == 13) (b == 10) h in
+ends_both (Some last) b h =
+    let parts : ((last == 13) ≡ true) × ((b == 10) ≡ true) = and_parts (last == 13) (b == 10) h in
     (ap (λ x. Some x) (same_byte last 13 parts.0), same_byte b 10 parts.1)
 
 both_pass : (o : Option ℕ) (b : ℕ) → ends_line o b ≡ false → o ≡ Some 13 → b ≡ 10 → ⊥

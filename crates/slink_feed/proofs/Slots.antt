@@ -4,6 +4,7 @@ use Rattle.std.proofs.Common.{length-set, get_or, set, take, take_all, drop_of_l
 use Rattle.std.proofs.Common.{Some, None, option_map, slice_get}
 use Rattle.std.specs.List.{refill}
 use Rattle.slink_feed.specs.Rings.{AreFilled, filled_of}
+use Rattle.slink_feed.proofs.Items.{one_value}
 
 module _ {X : Type 0} where
   pub filled_length : (slots : List (Option X)) → AreFilled slots → length (filled_of slots) ≡ length slots
@@ -54,9 +55,6 @@ module _ {X : Type 0} where
 
   pub no_slot : (o : Option X) → ((x : X) × (o ≡ Some x)) → o ≡ None → ⊥
   no_slot o some none = let bad : Some some.0 ≡ None = sym some.1 ∙ none in cc bad
-
-  pub one_value : (o : Option X) (x y : X) → o ≡ Some x → o ≡ Some y → x ≡ y
-  one_value o x y p q = let both : Some x ≡ Some y = sym p ∙ q in cc both
 
   refill_same : (items ws : List (Option X)) → length ws ≡ length items → refill (length items) items ws ≡ ws
   refill_same items ws e =

@@ -1,26 +1,18 @@
-use Rattle.std.proofs.Common.{◌≡◌, ◌∙◌, Bool, not, refl, sym, true, false}
-use Rattle.std.proofs.lemmas.Bool.{OnFalse_from, OnTrue_from}
+use Rattle.std.proofs.Common.{◌≡◌, ◌∙◌, not, sym, true, false}
+use Rattle.std.proofs.lemmas.Bool.{OnFalse_from, OnTrue_from, not-false, not-true}
 use Rattle.slink_feed.proofs.course.Course.is_due.Goals as goal
-
-not_true : (b : Bool) → not b ≡ true → b ≡ false
-not_true true e = absurd (let bad : false ≡ true = e in cc bad)
-not_true false e = refl
-
-not_false : (b : Bool) → not b ≡ false → b ≡ true
-not_false true e = refl
-not_false false e = absurd (let bad : true ≡ false = e in cc bad)
 
 pub returns-then-is_streaming-clause-yes : goal.returns-then-is_streaming-clause-yes
 returns-then-is_streaming-clause-yes g c =
     OnTrue_from (not c.is_at_next.result) _ (λ e. (
       c.if-is_streaming.ensures.yes,
-      λ at. let bad : false ≡ true = sym (not_true c.is_at_next.result e) ∙ c.is_at_next.ensures.1 at in cc bad,
+      λ at. let bad : false ≡ true = sym (not-true c.is_at_next.result e) ∙ c.is_at_next.ensures.1 at in cc bad,
     ))
 
 pub returns-then-is_streaming-clause-no : goal.returns-then-is_streaming-clause-no
 returns-then-is_streaming-clause-no g c =
     OnFalse_from (not c.is_at_next.result) _
-    (λ e streams. c.is_at_next.ensures.0 (not_false c.is_at_next.result e))
+    (λ e streams. c.is_at_next.ensures.0 (not-false c.is_at_next.result e))
 
 pub returns-else-is_streaming-clause-no : goal.returns-else-is_streaming-clause-no
 returns-else-is_streaming-clause-no g c =

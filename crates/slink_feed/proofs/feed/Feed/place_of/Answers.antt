@@ -1,11 +1,11 @@
 use Rattle.std.proofs.Common.{arith}
-use Rattle.slink_feed.proofs.Items.{is_within}
+use Rattle.std.proofs.lemmas.Option.{slice_get_within}
 use Rattle.slink_feed.proofs.Places.{bears_by, bears_not, none_more}
 use Rattle.slink_feed.proofs.feed.Feed.place_of.Goals as goal
 
 pub returns-then-bears-clause-some : goal.returns-then-bears-clause-some
 returns-then-bears-clause-some g c = record {
-  within = is_within c.args.self.now c.loop-k.k c.ring.result.now c.ring.ensures.ring;
+  within = slice_get_within c.args.self.now c.loop-k.k c.ring.result.now c.ring.ensures.ring;
   bears = λ w there. bears_by c.args.self.now c.loop-k.k c.ring.result.now w c.args.bytes.now c.place.result
       c.bears.result c.ring.ensures.ring there c.place.ensures c.bears.ensures.0 c.if-bears.true;
   first = c.loop-k.invariant;
@@ -20,4 +20,4 @@ loop-k-preserved g c =
 pub returns-clause-none : goal.returns-clause-none
 returns-clause-none g c =
     λ none k w there. c.loop-k.invariant k w
-    (omega (arith, is_within c.args.self.now k w there, c.len-k-end.ensures.value, c.loop-k-test.false)) there
+    (omega (arith, slice_get_within c.args.self.now k w there, c.len-k-end.ensures.value, c.loop-k-test.false)) there

@@ -1,6 +1,7 @@
 use Rattle.std.proofs.Common.{ℕ, ◌≡◌, ◌<◌, ◌≤◌, arith, length, List, Option, Some, slice_get}
 use Rattle.slink_feed.specs.Window.{Window}
-use Rattle.slink_feed.proofs.Slots.{no_slot, one_value, same_length, slot_at}
+use Rattle.slink_feed.proofs.Items.{one_value}
+use Rattle.slink_feed.proofs.Slots.{no_slot, same_length, slot_at}
 use Rattle.slink_feed.proofs.feed.Feed.ring.Goals as goal
 
 inside : (items slots : List (Option Window)) (now : List Window) (k : ℕ) → length now ≡ length items → slots ≡ items
