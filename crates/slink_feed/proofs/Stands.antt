@@ -1,7 +1,9 @@
 -- A session stands for the stream that its link brought.
 use Rattle.std.proofs.Common.{◌≡◌, ℕ, ◌+◌, ◌-◌, ◌<◌, ◌⊎◌, inl, inr, zero, suc, refl, sym, ap, subst, ◌∙◌}
 use Rattle.std.proofs.Common.{arith, true, false, List, [], ◌∷◌, ◌++◌, append-nil, length, length-append}
-use Rattle.std.proofs.Common.{take}
+use Rattle.std.proofs.Common.{take, Result, Ok, Err}
+use Rattle.std.specs.Prelude.{IfErr, IfOk}
+use Rattle.std.proofs.lemmas.Bool.{both_ways}
 use Rattle.slink_wire.specs.declared.lines.What.{What}
 use Rattle.slink_wire.specs.declared.lines.What.TheVariants.{More, Line, TooLong}
 use Rattle.slink_wire.specs.declared.reply.Reply.{Reply}
@@ -9,9 +11,11 @@ use Rattle.slink_wire.specs.Lines.{IsHeld, lines_of}
 use Rattle.slink_wire.specs.Taking.{Yields}
 use Rattle.slink_feed.specs.declared.session.Phase.{Phase}
 use Rattle.slink_feed.specs.declared.session.Phase.TheVariants.{Fresh, Chosen, Granted, Streaming, Closed}
+use Rattle.slink_feed.specs.declared.session.Sent.{Sent}
+use Rattle.slink_feed.specs.declared.session.Sent.TheVariants as sents
 use Rattle.slink_feed.specs.Running.{Stands, StandsFor}
 use Rattle.slink_feed.specs.Serving.{Answers, IsAnswer, Standing, Takes, TakesWhole}
-use Rattle.slink_feed.specs.Session.{State}
+use Rattle.slink_feed.specs.Session.{State, sent, sent_in}
 use Rattle.slink_feed.specs.Window.{Window}
 
 pub closed_or : (p : Phase) → (p ≡ Closed) ⊎ ¬ (p ≡ Closed)
@@ -21,8 +25,18 @@ closed_or (Granted k) = inr (λ e. cc e)
 closed_or Streaming = inr (λ e. cc e)
 closed_or Closed = inl refl
 
-true_false : (b : Rattle.std.proofs.Common.Bool) → b ≡ true → b ≡ false → ⊥
-true_false b t f = let bad : true ≡ false = sym t ∙ f in cc bad
+-- a session that isn't closed once it was called for a packet wasn't closed before
+pub open_before : (feed : List Window) (s t : State) (k : ℕ) (a : Sent) → sent feed s k ≡ (t, a)
+    → ¬ (t.phase ≡ Closed) → ¬ (s.phase ≡ Closed)
+open_before feed s t k a is awake shut =
+    let stays : (s, sents.Closed) ≡ (t, a) = sym (ap (λ (p : Phase). sent_in p feed s k) shut) ∙ is in
+    awake (ap (λ (x : State × Sent). x.0.phase) (sym stays) ∙ shut)
+
+pub open_before_next : {X E : Type 0} (f : X → Sent) (g : E → Sent) (r : Result X E) (feed : List Window)
+    (s t : State) (k : ℕ) → IfOk r (λ x. sent feed s k ≡ (t, f x)) → IfErr r (λ e. sent feed s k ≡ (t, g e))
+    → ¬ (t.phase ≡ Closed) → ¬ (s.phase ≡ Closed)
+open_before_next f g (Ok x) feed s t k is none = open_before feed s t k (f x) is
+open_before_next f g (Err e) feed s t k none is = open_before feed s t k (g e) is
 
 -- something is reported of no byte at all only where a line was too long
 nothing_reported : (what : What) (stream : List ℕ) (count : ℕ) → 0 < count → (lines_of stream).is_too_long ≡ false
@@ -32,7 +46,7 @@ nothing_reported (Line line) stream count some short tells whole =
     let long : length (lines_of stream).lines ≡ length ((lines_of stream).lines ++ line.items ∷ []) =
     ap length tells.0 in
     omega (arith, long, length-append (lines_of stream).lines (line.items ∷ []))
-nothing_reported TooLong stream count some short tells whole = true_false (lines_of stream).is_too_long tells.1 short
+nothing_reported TooLong stream count some short tells whole = both_ways (lines_of stream).is_too_long short tells.1
 
 -- some bytes are taken
 takes_some : (stream bytes : List ℕ) (used : ℕ) → 0 < length bytes → (lines_of stream).is_too_long ≡ false

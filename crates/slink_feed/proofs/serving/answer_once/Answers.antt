@@ -51,7 +51,8 @@ returns-clause-ok g c start sent =
     let some : 0 < c.in-Ok.count = omega (arith, c.if-count-eq0.false) in
     let long : length (take c.in-Ok.count c.pull.new.buf) ≡ c.in-Ok.count =
     length-take-le c.in-Ok.count c.pull.new.buf c.in-Ok.ensures.bound in
-    let few : length (take c.in-Ok.count c.pull.new.buf) ≤ 512 = search rules in
+    let few : length (take c.in-Ok.count c.pull.new.buf) ≤ 512 =
+    omega (arith, long, c.in-Ok.ensures.bound, c.pull.auto.buf) in
     all_answered c.args.feed.now start (g.S.Source.read c.args.link.now) c.args.session.now
     (g.S.Sink.written c.args.link.now) (g.S.Sink.written c.pull.new.self) c.args.written sent c.requires.awake
     (stays (g.met.S.Duplex.reads_apart c.pull.new.self) c.pull.ensures.beside

@@ -1,11 +1,13 @@
-use Rattle.std.proofs.Common.{◌≡◌, ◌-◌, ◌∙◌, arith, refl, subst, List, ℕ, length, take, drop}
+use Rattle.std.proofs.Common.{◌≡◌, ◌≤◌, ◌-◌, ◌∙◌, arith, refl, subst, sym, List, ℕ, length, take, drop}
+use Rattle.std.proofs.lemmas.List.{take_all}
 use Rattle.std.proofs.lemmas.Result.{err_from_is_err_and}
 use Rattle.slink_wire.specs.Reply.{reply_bytes}
 use Rattle.slink_feed.specs.Attending.{attending}
 use Rattle.slink_feed.specs.private.Replying.{IsReplyFault, IsWritten, IsWriteFault}
 use Rattle.slink_feed.specs.Rounds.{Attending}
+use Rattle.slink_feed.specs.Serving.{Serves}
 use Rattle.slink_feed.proofs.Deliveries.{piece_length}
-use Rattle.slink_feed.proofs.Sendoffs.{not_replied, nothing_replied, one_replied, passed_on}
+use Rattle.slink_feed.proofs.Sendoffs.{not_replied, nothing_replied, one_replied, passed_on, reply_short}
 use Rattle.slink_feed.proofs.serving.reply_to_all.Goals as goal
 
 pub loop-start-init : goal.loop-start-init
@@ -77,3 +79,31 @@ loop-start-smaller g c =
     ≡ length c.args.bytes.now - c.loop-start.start = piece_length c.args.bytes.now c.loop-start.start in
     let some = c.take-used.ensures.some (omega (arith, long, c.loop-start-test.true)) in
     omega (arith, some, long, c.take-used.ensures.bound, c.loop-start-test.true)
+
+pub write_after-requires-clause-room : goal.write_after-requires-clause-room
+write_after-requires-clause-room g c =
+    let so_far = c.loop-start.invariant.so_far in
+    omega (arith, so_far.few, so_far.within, c.requires.few, c.requires.room)
+
+pub write_after-requires-clause-few : goal.write_after-requires-clause-few
+write_after-requires-clause-few g c =
+    subst (λ (bytes : List ℕ). length bytes ≤ 520) (sym c.bytes.ensures)
+    (let short = reply_short c.take-used.result.1 in omega (arith, short))
+
+pub returns-in_err-written-clause-fits : goal.returns-in_err-written-clause-fits
+returns-in_err-written-clause-fits g c = c.take-used.ensures.fits
+
+pub returns-in_err-written-clause-beside : goal.returns-in_err-written-clause-beside
+returns-in_err-written-clause-beside g c = c.write_after.ensures.beside ∙ c.loop-start.invariant.beside
+
+pub returns-clause-ok : goal.returns-clause-ok
+returns-clause-ok g c =
+    let so_far = c.loop-start.invariant.so_far in
+    let whole : take c.loop-start.start c.args.bytes.now ≡ c.args.bytes.now =
+    take_all c.loop-start.start c.args.bytes.now (omega (arith, c.loop-start-test.false)) in
+    record {
+      serves = subst (λ (bytes : List ℕ). Serves c.args.feed.now c.args.session.now bytes
+          (g.L.Sink.written c.args.link.now).bytes c.loop-start.session (g.L.Sink.written c.loop-start.link).bytes)
+          whole so_far.serves;
+      failures = so_far.failures;
+    }

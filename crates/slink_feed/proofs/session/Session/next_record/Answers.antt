@@ -4,6 +4,7 @@ use Rattle.slink_wire.specs.Packet.{packet_bytes}
 use Rattle.slink_feed.specs.Serving.{Standing}
 use Rattle.slink_feed.specs.Session.{sent, sent_without}
 use Rattle.slink_feed.specs.declared.session.Sent.TheVariants.{Packet}
+use Rattle.slink_feed.proofs.Stands.{open_before_next}
 use Rattle.slink_feed.proofs.session.Session.next_record.Goals as goal
 
 pub returns-clause-sent : goal.returns-clause-sent
@@ -27,3 +28,12 @@ returns-clause-fits g c = c.next_record.ensures.fits
 
 pub returns-clause-few : goal.returns-clause-few
 returns-clause-few g c = c.next_record.ensures.few
+
+pub invariant_of-self : goal.invariant_of-self
+invariant_of-self g c = λ awake. c.self.invariant (open_before_next (λ r. Packet (packet_bytes r.0 r.1.now)) sent_without
+    c.next_record.result c.args.feed.now _ _ c.args.k c.next_record.ensures.sent c.next_record.ensures.unsent awake)
+
+pub returns-clause-stands : goal.returns-clause-stands
+returns-clause-stands g c = λ awake. c.self.invariant (open_before_next (λ r. Packet (packet_bytes r.0 r.1.now))
+    sent_without c.next_record.result c.args.feed.now _ _ c.args.k c.next_record.ensures.sent
+    c.next_record.ensures.unsent awake)

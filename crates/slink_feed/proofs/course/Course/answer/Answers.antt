@@ -1,0 +1,44 @@
+use Rattle.std.proofs.Common.{◌≡◌, ◌∙◌, List, ap, refl, sym}
+use Rattle.slink_wire.specs.declared.command.Command.{Command}
+use Rattle.slink_wire.specs.declared.reply.Reply.{Reply}
+use Rattle.slink_feed.specs.declared.session.Phase.{Phase}
+use Rattle.slink_feed.specs.declared.session.Phase.TheVariants.{Chosen, Closed, Fresh, Granted, Streaming}
+use Rattle.slink_feed.specs.Session.{State, answered, answered_in}
+use Rattle.slink_feed.specs.Window.{Window}
+use Rattle.slink_feed.proofs.course.Course.answer.Goals as goal
+
+-- where a session is, a command is answered as there
+answered_at : (p q : Phase) (feed : List Window) (s : State) (command : Command) (x : State × Reply) → q ≡ s.phase
+    → q ≡ p → answered_in p feed s command ≡ x → answered feed s command ≡ x
+answered_at p q feed s command x here is answer =
+    ap (λ (r : Phase). answered_in r feed s command) (sym here ∙ is) ∙ answer
+
+pub returns-in-Fresh : goal.returns-in-Fresh
+returns-in-Fresh g c = record {
+  answered = answered_at Fresh c.phase.result c.args.feed.now c.args.self.now c.args.command _ c.phase.ensures
+      c.in-Fresh.is c.in_fresh.ensures.answered;
+}
+
+pub returns-in-Chosen : goal.returns-in-Chosen
+returns-in-Chosen g c = record {
+  answered = answered_at (Chosen c.in-Chosen.k) c.phase.result c.args.feed.now c.args.self.now c.args.command _
+      c.phase.ensures c.in-Chosen.is c.in_chosen.ensures.answered;
+}
+
+pub returns-in-Granted : goal.returns-in-Granted
+returns-in-Granted g c = record {
+  answered = answered_at (Granted c.in-Granted.k) c.phase.result c.args.feed.now c.args.self.now c.args.command _
+      c.phase.ensures c.in-Granted.is c.in_granted.ensures.answered;
+}
+
+pub returns-in-Streaming : goal.returns-in-Streaming
+returns-in-Streaming g c = record {
+  answered = answered_at Streaming c.phase.result c.args.feed.now c.args.self.now c.args.command _ c.phase.ensures
+      c.in-Streaming.is c.in_streaming.ensures.answered;
+}
+
+pub returns-in-Closed : goal.returns-in-Closed
+returns-in-Closed g c = record {
+  answered = answered_at Closed c.phase.result c.args.feed.now c.args.self.now c.args.command _ c.phase.ensures
+      c.in-Closed.is refl;
+}

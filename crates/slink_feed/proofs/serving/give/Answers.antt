@@ -1,0 +1,104 @@
+use Rattle.std.proofs.Common.{◌≡◌, ◌≤◌, ℕ, List, length, arith, rules, subst}
+use Rattle.std.proofs.lemmas.Result.{err_from_is_err_and}
+use Rattle.slink_wire.specs.Packet.{packet_bytes}
+use Rattle.slink_feed.specs.declared.session.Sent.TheVariants.{Packet}
+use Rattle.slink_feed.specs.declared.session.Unsent.{Unsent}
+use Rattle.slink_feed.specs.declared.session.Unsent.TheVariants.{Closed, Done, Overrun, Wait}
+use Rattle.slink_feed.specs.Attending.{attending}
+use Rattle.slink_feed.specs.private.Replying.{FailsToGive, IsWriteFault, IsWritten}
+use Rattle.slink_feed.specs.Rounds.{Attending}
+use Rattle.slink_feed.specs.Session.{sent_bytes, sent_without}
+use Rattle.slink_feed.proofs.Sendoffs.{passed_on}
+use Rattle.slink_feed.proofs.serving.give.Goals as goal
+
+no_packet : (u : Unsent) (bytes : List ℕ) → sent_without u ≡ Packet bytes → ⊥
+no_packet Wait bytes e = cc
+no_packet Done bytes e = cc
+no_packet Overrun bytes e = cc
+no_packet Closed bytes e = cc
+
+few_without : (u : Unsent) → length (sent_bytes (sent_without u)) ≤ 520
+few_without Wait = omega arith
+few_without Done = omega arith
+few_without Overrun = omega arith
+few_without Closed = omega arith
+
+pub returns-in_err-written-in-Ok-clause-fault : goal.returns-in_err-written-in-Ok-clause-fault
+returns-in_err-written-in-Ok-clause-fault g c =
+    let old : Attending = attending c.args.session.now (g.L.Sink.written c.args.link.now) in
+    let new : Attending = attending c.next_record.new.self (g.L.Sink.written c.write_after.new.link) in
+    let fails : FailsToGive c.in_err-written-in-Ok.field-0.0 c.args.feed.now c.args.k old new c.args.before = record {
+      answer = Packet (packet_bytes c.in-Ok.number c.in-Ok.bytes.now);
+      is = c.in-Ok.ensures.sent;
+      held = c.next_record.ensures.held;
+      cut = subst (λ (bytes : List ℕ). IsWriteFault c.in_err-written-in-Ok.field-0.0 old.written new.written bytes
+          c.args.before) c.put.ensures.value c.in_err-written-in-Ok.ensures.fault;
+    } in
+    passed_on c.from_residual.result c.in_err-written-in-Ok.field-0.0
+    (λ fault. FailsToGive fault c.args.feed.now c.args.k old new c.args.before)
+    (err_from_is_err_and c.from_residual.result c.from_residual.ensures.1) fails
+
+pub returns-in_err-after-in-Err-clause-fault : goal.returns-in_err-after-in-Err-clause-fault
+returns-in_err-after-in-Err-clause-fault g c =
+    let old : Attending = attending c.args.session.now (g.L.Sink.written c.args.link.now) in
+    let new : Attending = attending c.next_record.new.self (g.L.Sink.written c.write_after-in-Err.new.link) in
+    let fails : FailsToGive c.in_err-after-in-Err.field-0.0 c.args.feed.now c.args.k old new c.args.before = record {
+      answer = sent_without c.in-Err.unsent;
+      is = c.in-Err.ensures.unsent;
+      held = c.next_record.ensures.held;
+      cut = subst (λ (bytes : List ℕ). IsWriteFault c.in_err-after-in-Err.field-0.0 old.written new.written bytes
+          c.args.before) c.bytes.ensures c.in_err-after-in-Err.ensures.fault;
+    } in
+    passed_on c.from_residual-in_err-after-in-Err.result c.in_err-after-in-Err.field-0.0
+    (λ fault. FailsToGive fault c.args.feed.now c.args.k old new c.args.before)
+    (err_from_is_err_and c.from_residual-in_err-after-in-Err.result c.from_residual-in_err-after-in-Err.ensures.1) fails
+
+pub returns-in_ok-written-in-Ok-clause-ok : goal.returns-in_ok-written-in-Ok-clause-ok
+returns-in_ok-written-in-Ok-clause-ok g c = record {
+  answer = Packet (packet_bytes c.in-Ok.number c.in-Ok.bytes.now);
+  is = c.in-Ok.ensures.sent;
+  held = c.next_record.ensures.held;
+  written = subst (λ (bytes : List ℕ). IsWritten (g.L.Sink.written c.args.link.now)
+      (g.L.Sink.written c.write_after.new.link) bytes c.args.before c.in_ok-written-in-Ok.written) c.put.ensures.value
+      c.in_ok-written-in-Ok.ensures.ok;
+  short = search rules;
+  waited_is = search rules;
+  few = λ bytes is. c.in-Ok.ensures.few;
+}
+
+pub returns-in_ok-after-in-Err-clause-ok : goal.returns-in_ok-after-in-Err-clause-ok
+returns-in_ok-after-in-Err-clause-ok g c = record {
+  answer = sent_without c.in-Err.unsent;
+  is = c.in-Err.ensures.unsent;
+  held = c.next_record.ensures.held;
+  written = subst (λ (bytes : List ℕ). IsWritten (g.L.Sink.written c.args.link.now)
+      (g.L.Sink.written c.write_after-in-Err.new.link) bytes c.args.before c.in_ok-after-in-Err.after) c.bytes.ensures
+      c.in_ok-after-in-Err.ensures.ok;
+  short = few_without c.in-Err.unsent;
+  waited_is = c.count_waits.ensures;
+  few = λ bytes is. absurd (no_packet c.in-Err.unsent bytes is);
+}
+
+pub returns-in_err-written-in-Ok-clause-fits : goal.returns-in_err-written-in-Ok-clause-fits
+returns-in_err-written-in-Ok-clause-fits g c = c.next_record.ensures.fits
+
+pub returns-in_err-written-in-Ok-clause-stands : goal.returns-in_err-written-in-Ok-clause-stands
+returns-in_err-written-in-Ok-clause-stands g c = c.next_record.ensures.stands
+
+pub returns-in_err-after-in-Err-clause-fits : goal.returns-in_err-after-in-Err-clause-fits
+returns-in_err-after-in-Err-clause-fits g c = c.next_record.ensures.fits
+
+pub returns-in_err-after-in-Err-clause-stands : goal.returns-in_err-after-in-Err-clause-stands
+returns-in_err-after-in-Err-clause-stands g c = c.next_record.ensures.stands
+
+pub returns-in_ok-written-in-Ok-clause-fits : goal.returns-in_ok-written-in-Ok-clause-fits
+returns-in_ok-written-in-Ok-clause-fits g c = c.next_record.ensures.fits
+
+pub returns-in_ok-written-in-Ok-clause-stands : goal.returns-in_ok-written-in-Ok-clause-stands
+returns-in_ok-written-in-Ok-clause-stands g c = c.next_record.ensures.stands
+
+pub returns-in_ok-after-in-Err-clause-fits : goal.returns-in_ok-after-in-Err-clause-fits
+returns-in_ok-after-in-Err-clause-fits g c = c.next_record.ensures.fits
+
+pub returns-in_ok-after-in-Err-clause-stands : goal.returns-in_ok-after-in-Err-clause-stands
+returns-in_ok-after-in-Err-clause-stands g c = c.next_record.ensures.stands
