@@ -6,7 +6,7 @@ use Rattle.slink_feed.specs.Window.{Window}
 use Rattle.slink_feed.specs.Intake.{places_of}
 use Rattle.slink_live.specs.Awake.{IsAwake}
 use Rattle.slink_live.specs.Served.{AreEmpty, IsBelow, IsServing, IsSound, LinkState, Matches, ServerState}
-use Rattle.slink_live.specs.Story.{no_event}
+use Rattle.slink_live.specs.History.{no_event}
 use Rattle.slink_live.proofs.Cuts.{short_none}
 use Rattle.slink_live.proofs.Reported.{free_at}
 

@@ -18,7 +18,7 @@ use Rattle.slink_feed.proofs.Waits.{sends_here, waits_beside}
 use Rattle.slink_live.specs.declared.places.Places.{Places}
 use Rattle.slink_live.specs.Served.{LinkState}
 use Rattle.slink_live.specs.Awake.{IsFilled}
-use Rattle.slink_live.specs.Story.{Asks, IsEarlier, IsTurn, none_called}
+use Rattle.slink_live.specs.History.{Asks, IsEarlier, IsTurn, none_called}
 use Rattle.slink_live.specs.private.Calling.{Gives}
 use Rattle.slink_live.specs.private.Granting.{AreDue, Has}
 use Rattle.slink_live.proofs.Fairness.{leaves, streams_or_closed}

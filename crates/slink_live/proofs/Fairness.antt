@@ -16,7 +16,7 @@ use Rattle.slink_feed.specs.Session.{State, has_sent_all, at_next, grant_at, pac
 use Rattle.slink_feed.specs.Window.{Window, record_at}
 use Rattle.slink_feed.proofs.Items.{put_there}
 use Rattle.slink_live.specs.Fairness.{HasDue, IsAmong, TakesTurns, no_more, next_called}
-use Rattle.slink_live.specs.Story.{Asks, IsEarlier, IsTurn, none_called, one_called}
+use Rattle.slink_live.specs.History.{Asks, IsEarlier, IsTurn, none_called, one_called}
 use Rattle.slink_live.proofs.Turning.{Waits}
 
 -- What a call for a station leaves of the others: the session stays, or only streams on.

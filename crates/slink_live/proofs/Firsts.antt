@@ -4,7 +4,7 @@ use Rattle.std.specs.Int.{bit_at}
 use Rattle.std.proofs.lemmas.Bool.Decides.{leb_tells}
 use Rattle.std.proofs.lemmas.Nat.{div-add-mod', pow_pos}
 use Rattle.std.proofs.lemmas.Nat.Bits.{bit_at-zero, bit_at_cat_high}
-use Rattle.slink_live.specs.Story.{IsEarlier}
+use Rattle.slink_live.specs.History.{IsEarlier}
 
 shifted : (n p i : ℕ) → bit_at n (p + i) ≡ bit_at (n / 2 ^ p) i
 shifted n p i =

@@ -11,7 +11,7 @@ use Rattle.slink_feed.specs.Session.{Fits, grant_at}
 use Rattle.slink_feed.specs.Window.{Window}
 use Rattle.slink_live.specs.declared.places.Places.{Places}
 use Rattle.slink_live.specs.Served.{AllFit, LinkState}
-use Rattle.slink_live.specs.Story.{Asks, none_called, one_called}
+use Rattle.slink_live.specs.History.{Asks, none_called, one_called}
 use Rattle.slink_live.specs.private.Calling.{HasFilled}
 use Rattle.slink_live.specs.private.Granting.{AreCovered, Covers, CoversIn, no_places}
 use Rattle.slink_live.proofs.Fairness.{grants_no_more, streams_no_more}

@@ -1,4 +1,4 @@
--- What each event makes of a slot's story.
+-- What each event makes of a slot's history.
 use Rattle.std.proofs.Common.{◌≡◌, ℕ, ◌∙◌, ap, subst, refl, sym, List, [], ◌∷◌, ◌++◌, append_assoc, take, drop}
 use Rattle.std.proofs.Common.{take-append-drop}
 use Rattle.std.proofs.Common.{Option, Some, None}
@@ -8,11 +8,11 @@ use Rattle.slink_feed.specs.Session.{sent_bytes}
 use Rattle.slink_feed.specs.Window.{Window}
 use Rattle.slink_live.specs.Happening.{Happening, Opened, Gone, input_of}
 use Rattle.slink_live.specs.Input.{IsFed}
-use Rattle.slink_live.specs.Served.{IsStory, LinkState, Matches, link_state}
-use Rattle.slink_live.specs.Story.{Asks, IsNew, IsServed, Story, story, none_called, one_called, opens}
-use Rattle.slink_live.specs.Story.{receives}
-use Rattle.slink_live.specs.Story.{asks}
-use Rattle.slink_live.specs.Story.{takes, goes}
+use Rattle.slink_live.specs.Served.{IsHistory, LinkState, Matches, link_state}
+use Rattle.slink_live.specs.History.{Asks, IsNew, IsServed, History, history, none_called, one_called, opens}
+use Rattle.slink_live.specs.History.{receives}
+use Rattle.slink_live.specs.History.{asks}
+use Rattle.slink_live.specs.History.{takes, goes}
 use Rattle.slink_live.specs.private.Calling.{HasFilled, HasReceived, HasTaken}
 
 -- with something stated before
@@ -42,94 +42,94 @@ asks_then feed s ring way now turn produced before last on all
     is
 
 module _ (start : List Window) (k : ℕ) where
-  -- a story by what the slot keeps
-  by_link : (log : List Happening) (l : LinkState) (t : Story) → IsServed start k log (Some t)
+  -- a history by what the slot keeps
+  by_link : (log : List Happening) (l : LinkState) (t : History) → IsServed start k log (Some t)
       → Matches (Some l) (Some t) → IsServed start k log
-      (Some (story l.session l.ring (t.emitted ++ l.pending) t.emitted))
+      (Some (history l.session l.ring (t.emitted ++ l.pending) t.emitted))
   by_link log l t served m =
-      subst (λ (b : List ℕ). IsServed start k log (Some (story l.session l.ring b t.emitted))) m.2
-      (subst (λ (n : ℕ). IsServed start k log (Some (story l.session n t.produced t.emitted))) m.1
-      (subst (λ (s : Standing). IsServed start k log (Some (story s t.ring t.produced t.emitted))) m.0 served))
+      subst (λ (b : List ℕ). IsServed start k log (Some (history l.session l.ring b t.emitted))) m.2
+      (subst (λ (n : ℕ). IsServed start k log (Some (history l.session n t.produced t.emitted))) m.1
+      (subst (λ (s : Standing). IsServed start k log (Some (history s t.ring t.produced t.emitted))) m.0 served))
 
   module _ (log last : List Happening) (new : Option LinkState) where
-    pub story_stays : (o : Option LinkState) → new ≡ o → last ≡ log → IsStory start k o log → IsStory start k new last
-    story_stays o same now s =
-        subst (IsStory start k new) (sym now) (subst (λ (x : Option LinkState). IsStory start k x log) (sym same) s)
+    pub history_stays : (o : Option LinkState) → new ≡ o → last ≡ log → IsHistory start k o log → IsHistory start k new last
+    history_stays o same now s =
+        subst (IsHistory start k new) (sym now) (subst (λ (x : Option LinkState). IsHistory start k x log) (sym same) s)
 
     -- what a link accepted, and what its session said that it didn't accept yet
-    abbrev HasStory : List Happening → LinkState → List ℕ → Type 0
-    HasStory happened l emitted =
-        IsServed start k happened (Some (story l.session l.ring (emitted ++ l.pending) emitted))
+    abbrev HasHistory : List Happening → LinkState → List ℕ → Type 0
+    HasHistory happened l emitted =
+        IsServed start k happened (Some (history l.session l.ring (emitted ++ l.pending) emitted))
 
-    goes_on : (l now : LinkState) (reported : Option Story) → new ≡ Some now
-        → ((emitted : List ℕ) → HasStory log l emitted → (all : List ℕ) × HasStory last now all)
-        → IsServed start k log reported → Matches (Some l) reported → IsStory start k new last
+    goes_on : (l now : LinkState) (reported : Option History) → new ≡ Some now
+        → ((emitted : List ℕ) → HasHistory log l emitted → (all : List ℕ) × HasHistory last now all)
+        → IsServed start k log reported → Matches (Some l) reported → IsHistory start k new last
     goes_on l now None is on served m = absurd m
     goes_on l now (Some t) is on served m =
-        let further : (all : List ℕ) × HasStory last now all = on t.emitted (by_link log l t served m) in
-        let reported : Option Story = Some (story now.session now.ring (further.0 ++ now.pending) further.0) in
+        let further : (all : List ℕ) × HasHistory last now all = on t.emitted (by_link log l t served m) in
+        let reported : Option History = Some (history now.session now.ring (further.0 ++ now.pending) further.0) in
         record {
           reported = reported;
           served = further.1;
           matches = subst (λ (x : Option LinkState). Matches x reported) (sym is) (refl, refl, refl);
         }
 
-    -- the story of a link goes on
-    link_story : (l now : LinkState) → new ≡ Some now
-        → ((emitted : List ℕ) → HasStory log l emitted → (all : List ℕ) × HasStory last now all)
-        → IsStory start k (Some l) log → IsStory start k new last
-    link_story l now is on s = goes_on l now s.reported is on s.served s.matches
+    -- the history of a link goes on
+    link_history : (l now : LinkState) → new ≡ Some now
+        → ((emitted : List ℕ) → HasHistory log l emitted → (all : List ℕ) × HasHistory last now all)
+        → IsHistory start k (Some l) log → IsHistory start k new last
+    link_history l now is on s = goes_on l now s.reported is on s.served s.matches
 
-    pub received_story : (feed : List Window) (l : LinkState) → IsFed start (input_of log) feed
-        → HasReceived feed k (Some l) new log last → IsStory start k (Some l) log → IsStory start k new last
-    received_story feed l fed h = link_story l h.1 h.2 (λ emitted served. (
+    pub received_history : (feed : List Window) (l : LinkState) → IsFed start (input_of log) feed
+        → HasReceived feed k (Some l) new log last → IsHistory start k (Some l) log → IsHistory start k new last
+    received_history feed l fed h = link_history l h.1 h.2 (λ emitted served. (
       emitted,
-      subst (λ (n : ℕ). IsServed start k last (Some (story h.1.session n (emitted ++ h.1.pending) emitted))) (sym h.6)
+      subst (λ (n : ℕ). IsServed start k last (Some (history h.1.session n (emitted ++ h.1.pending) emitted))) (sym h.6)
           (receives log last feed l.session h.1.session l.ring h.0 (emitted ++ l.pending) (emitted
           ++ h.1.pending) emitted
           served fed (serves_after feed l.session h.1.session h.0 l.pending h.1.pending emitted h.4) h.3),
     ))
 
-    pub taken_story : (l : LinkState) → HasTaken k (Some l) new log last → IsStory start k (Some l) log
-        → IsStory start k new last
-    taken_story l h = link_story l (link_state l.session l.ring (drop h.0 l.pending)) h.1 (λ emitted served.
+    pub taken_history : (l : LinkState) → HasTaken k (Some l) new log last → IsHistory start k (Some l) log
+        → IsHistory start k new last
+    taken_history l h = link_history l (link_state l.session l.ring (drop h.0 l.pending)) h.1 (λ emitted served.
         let all : List ℕ = emitted ++ take h.0 l.pending in
         let whole : emitted ++ l.pending ≡ all ++ drop h.0 l.pending =
         sym (append_assoc emitted (take h.0 l.pending) (drop h.0 l.pending)
         ∙ ap (λ x. emitted ++ x) (take-append-drop h.0 l.pending)) in (
           all,
-          subst (λ (b : List ℕ). IsServed start k last (Some (story l.session l.ring b all))) whole
+          subst (λ (b : List ℕ). IsServed start k last (Some (history l.session l.ring b all))) whole
               (takes log last l.session l.ring (take h.0 l.pending) (emitted ++ l.pending) emitted served
               (drop h.0 l.pending, whole) h.2),
         ))
 
-    opens_at : (l : LinkState) (reported : Option Story) → IsNew l.session → l.pending ≡ [] → l.ring ≡ 0
+    opens_at : (l : LinkState) (reported : Option History) → IsNew l.session → l.pending ≡ [] → l.ring ≡ 0
         → new ≡ Some l → last ≡ log ++ Opened k ∷ [] → IsServed start k log reported → Matches None reported
-        → IsStory start k new last
+        → IsHistory start k new last
     opens_at l None fresh none begins is now served m = record {
-      reported = Some (story l.session 0 [] []);
+      reported = Some (history l.session 0 [] []);
       served = opens log last l.session served fresh now;
-      matches = subst (λ (x : Option LinkState). Matches x (Some (story l.session 0 [] []))) (sym is)
+      matches = subst (λ (x : Option LinkState). Matches x (Some (history l.session 0 [] []))) (sym is)
           (refl, sym begins, sym none);
     }
     opens_at l (Some t) fresh none begins is now served m = absurd m
 
-    pub opened_story : (l : LinkState) → IsNew l.session → l.pending ≡ [] → l.ring ≡ 0 → new ≡ Some l
-        → last ≡ log ++ Opened k ∷ [] → IsStory start k None log → IsStory start k new last
-    opened_story l fresh none begins is now s = opens_at l s.reported fresh none begins is now s.served s.matches
+    pub opened_history : (l : LinkState) → IsNew l.session → l.pending ≡ [] → l.ring ≡ 0 → new ≡ Some l
+        → last ≡ log ++ Opened k ∷ [] → IsHistory start k None log → IsHistory start k new last
+    opened_history l fresh none begins is now s = opens_at l s.reported fresh none begins is now s.served s.matches
 
-    pub gone_story : (o : Option LinkState) → new ≡ None → last ≡ log ++ Gone k ∷ [] → IsStory start k o log
-        → IsStory start k new last
-    gone_story o is now s = record {
+    pub gone_history : (o : Option LinkState) → new ≡ None → last ≡ log ++ Gone k ∷ [] → IsHistory start k o log
+        → IsHistory start k new last
+    gone_history o is now s = record {
       reported = None;
       served = goes log last s.reported s.served now;
       matches = subst (λ (x : Option LinkState). Matches x None) (sym is) tt;
     }
 
-  pub filled_story : (log : List Happening) (new : Option LinkState) (feed : List Window) (l : LinkState)
-      → IsFed start (input_of log) feed → HasFilled feed (Some l) new → IsStory start k (Some l) log
-      → IsStory start k new log
-  filled_story log new feed l fed h = link_story log log new l h.0 h.1 (λ emitted served. (
+  pub filled_history : (log : List Happening) (new : Option LinkState) (feed : List Window) (l : LinkState)
+      → IsFed start (input_of log) feed → HasFilled feed (Some l) new → IsHistory start k (Some l) log
+      → IsHistory start k new log
+  filled_history log new feed l fed h = link_history log log new l h.0 h.1 (λ emitted served. (
     emitted,
     asks log feed l.session h.0.session l.ring h.0.ring (emitted ++ l.pending) (emitted ++ h.0.pending) emitted served
         fed (asks_after feed l.session l.ring l.pending emitted h.0.session h.0.ring h.0.pending h.2),

@@ -15,7 +15,7 @@ pub mod Granting
 pub mod Firsts
 pub mod Due
 pub mod Begun
-pub mod Stories
+pub mod Histories
 pub mod Slots
 pub mod Takings
 pub mod Steps

@@ -10,7 +10,7 @@ use Rattle.slink_live.specs.declared.ready.Interest.{Interest}
 use Rattle.slink_live.specs.Awake.{has_free}
 use Rattle.slink_live.specs.Happening.{Happening, Gone, Opened, Wants, WantsLinks}
 use Rattle.slink_live.specs.Served.{AllFit, IsSound, LinkState, ServerState}
-use Rattle.slink_live.specs.Story.{IsNew}
+use Rattle.slink_live.specs.History.{IsNew}
 use Rattle.slink_live.specs.Turns.{Closes, ReadsFrom, WritesTo}
 use Rattle.slink_live.specs.private.Calling.{HasFilled, HasReceived, HasTaken, IfRested, IsOutcome}
 use Rattle.slink_live.specs.private.Granting.{Changes}

@@ -1,4 +1,4 @@
--- Of a link only what happened in its slot matters, and the input; and each moment has its story.
+-- Of a link only what happened in its slot matters, and the input; and each moment has its history.
 use Rattle.std.proofs.Common.{◌≡◌, ℕ, ◌∙◌, ap, subst, refl, sym, inl, inr, ◌⊎◌, Bool, true, false, ◌||◌, List, []}
 use Rattle.std.proofs.Common.{◌∷◌}
 use Rattle.std.proofs.Common.{◌++◌, append-nil, Option, None, if◌then◌else◌}
@@ -8,7 +8,7 @@ use Rattle.slink_live.specs.Happening.{WantsLinks, Left, input_of, is_at, is_inp
 use Rattle.slink_live.specs.Happening.{piece_of}
 use Rattle.slink_live.specs.Happening.{those_of}
 use Rattle.slink_live.specs.Input.{IsFed}
-use Rattle.slink_live.specs.Story.{IsServed, Story, no_event, elsewhere, opens, receives, asks, takes, goes}
+use Rattle.slink_live.specs.History.{IsServed, History, no_event, elsewhere, opens, receives, asks, takes, goes}
 use Rattle.slink_feed.proofs.Sendings.{same_here}
 
 if_leading : (t : Bool) (h : Happening) (xs ys : List Happening)
@@ -56,7 +56,7 @@ module _ (start : List Window) (k : ℕ) where
       → IsFed start (input_of (those_of k log)) feed
   fed_those log feed f = subst (λ b. IsFed start b feed) (sym (input_those k log)) f
 
-  own_elsewhere : (p : Bool) (before now : List Happening) (h : Happening) (o : Option Story) → is_input h ≡ p
+  own_elsewhere : (p : Bool) (before now : List Happening) (h : Happening) (o : Option History) → is_input h ≡ p
       → is_at k h ≡ false → now ≡ before ++ h ∷ [] → IsServed start k (those_of k before) o
       → IsServed start k (those_of k now) o
   own_elsewhere true before now h o is other e s =
@@ -68,25 +68,25 @@ module _ (start : List Window) (k : ℕ) where
       ∙ (ap (λ t. those_of k before ++ (if t || is_at k h then h ∷ [] else [])) is
       ∙ (ap (λ t. those_of k before ++ (if t then h ∷ [] else [])) other ∙ append-nil (those_of k before)))))) s
 
-  pub own_story : (log : List Happening) (o : Option Story) → IsServed start k log o
+  pub own_history : (log : List Happening) (o : Option History) → IsServed start k log o
       → IsServed start k (those_of k log) o
-  own_story log o no_event = no_event
-  own_story log o (elsewhere before now h x s other e) =
-      own_elsewhere (is_input h) before now h x refl other e (own_story before x s)
-  own_story log o (opens before now t s fresh e) =
-      opens (those_of k before) (those_of k now) t (own_story before None s) fresh
+  own_history log o no_event = no_event
+  own_history log o (elsewhere before now h x s other e) =
+      own_elsewhere (is_input h) before now h x refl other e (own_history before x s)
+  own_history log o (opens before now t s fresh e) =
+      opens (those_of k before) (those_of k now) t (own_history before None s) fresh
       (those_more k before now (Opened k) e (same_here k))
-  own_story log o (receives before now feed t new ring bytes produced all emitted s fed serves e) =
-      receives (those_of k before) (those_of k now) feed t new ring bytes produced all emitted (own_story before _ s)
+  own_history log o (receives before now feed t new ring bytes produced all emitted s fed serves e) =
+      receives (those_of k before) (those_of k now) feed t new ring bytes produced all emitted (own_history before _ s)
       (fed_those before feed fed) serves (those_more k before now (Received k bytes) e (same_here k))
-  own_story log o (asks now feed t new ring turn produced all emitted s fed called) =
-      asks (those_of k now) feed t new ring turn produced all emitted (own_story now _ s) (fed_those now feed fed)
+  own_history log o (asks now feed t new ring turn produced all emitted s fed called) =
+      asks (those_of k now) feed t new ring turn produced all emitted (own_history now _ s) (fed_those now feed fed)
       called
-  own_story log o (takes before now t ring bytes produced emitted s prefix e) =
-      takes (those_of k before) (those_of k now) t ring bytes produced emitted (own_story before _ s) prefix
+  own_history log o (takes before now t ring bytes produced emitted s prefix e) =
+      takes (those_of k before) (those_of k now) t ring bytes produced emitted (own_history before _ s) prefix
       (those_more k before now (Emitted k bytes) e (same_here k))
-  own_story log o (goes before now x s e) =
-      goes (those_of k before) (those_of k now) x (own_story before x s)
+  own_history log o (goes before now x s e) =
+      goes (those_of k before) (those_of k now) x (own_history before x s)
       (those_more k before now (Gone k) e (same_here k))
 
 -- a prefix of a list that ends in h is the list, or one of what is before h
@@ -117,20 +117,20 @@ leading_of (y ∷ ys) h (x ∷ xs) after e = elim (leading_of ys h xs after
     ]
 
 module _ (start : List Window) (k : ℕ) where
-  abbrev HasStory : List Happening → Type 0
-  HasStory log = (o : Option Story) × IsServed start k log o
+  abbrev HasHistory : List Happening → Type 0
+  HasHistory log = (o : Option History) × IsServed start k log o
 
   -- one thing more
-  moment : (b now : List Happening) (h : Happening) (o : Option Story) → now ≡ b ++ h ∷ [] → IsServed start k now o
-      → ((before after : List Happening) → b ≡ before ++ after → HasStory before)
-      → (before after : List Happening) → now ≡ before ++ after → HasStory before
+  moment : (b now : List Happening) (h : Happening) (o : Option History) → now ≡ b ++ h ∷ [] → IsServed start k now o
+      → ((before after : List Happening) → b ≡ before ++ after → HasHistory before)
+      → (before after : List Happening) → now ≡ before ++ after → HasHistory before
   moment b now h o e s on before after split = elim (leading_of b h before after (sym e ∙ split)) [
     | inl whole ↦ (o, subst (λ l. IsServed start k l o) (e ∙ sym whole) s)
     | inr part ↦ on before part.0 part.1
   ]
 
-  pub each_moment : (log : List Happening) (o : Option Story) → IsServed start k log o
-      → (before after : List Happening) → log ≡ before ++ after → HasStory before
+  pub each_moment : (log : List Happening) (o : Option History) → IsServed start k log o
+      → (before after : List Happening) → log ≡ before ++ after → HasHistory before
   each_moment log o no_event before after split =
       (None, subst (λ l. IsServed start k l None) (sym (no_leading before after split)) no_event)
   each_moment log o (elsewhere b now h x s other e) before after split =

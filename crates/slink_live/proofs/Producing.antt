@@ -25,9 +25,9 @@ use Rattle.slink_feed.proofs.Sendings.{IsOn, answer_read, read_on, slice_sent}
 use Rattle.slink_feed.specs.Intake.{places_of}
 use Rattle.slink_live.specs.Happening.{Happening, Received, Emitted, input_of}
 use Rattle.slink_live.specs.Input.{IsFed, IsInput, fed}
-use Rattle.slink_live.specs.Story.{Asks, IsServed, Story, story, none_called, one_called, no_event, elsewhere}
-use Rattle.slink_live.specs.Story.{opens}
-use Rattle.slink_live.specs.Story.{receives, asks, takes, goes}
+use Rattle.slink_live.specs.History.{Asks, IsServed, History, history, none_called, one_called, no_event, elsewhere}
+use Rattle.slink_live.specs.History.{opens}
+use Rattle.slink_live.specs.History.{receives, asks, takes, goes}
 use Rattle.slink_live.specs.Slices.{ProducesSlices, all_replies, is_first, records_at, replies_alone, streams}
 use Rattle.slink_live.proofs.Inputs.{input_grows}
 use Rattle.slink_live.proofs.Rings.{shows_fed}
@@ -221,35 +221,35 @@ module _ (start : List Window) where
         (earlier.1.0, λ alive. subst (λ (x : Held). IsHeld x earlier.1.0) (sym held) (earlier.1.1 (shut_same alive))),
       )
 
-  -- the story of a slot
-  abbrev Yields : List Happening → Option Story → Type 0
+  -- the history of a slot
+  abbrev Yields : List Happening → Option History → Type 0
   Yields log None = Unit {0}
   Yields log (Some t) = ProducedOf log t.session t.produced
 
-  tells_more : (log now : List Happening) (h : Happening) (o : Option Story) → now ≡ log ++ h ∷ [] → Yields log o
+  tells_more : (log now : List Happening) (h : Happening) (o : Option History) → now ≡ log ++ h ∷ [] → Yields log o
       → Yields now o
   tells_more log now h None e x = tt
   tells_more log now h (Some t) e x = (produced_more log now h t.session.state t.produced e x.0, x.1)
 
-  story_sends : (k : ℕ) (log : List Happening) (o : Option Story) → IsServed start k log o → Yields log o
-  story_sends k log o no_event = tt
-  story_sends k log o (elsewhere before now h x s other e) = tells_more before now h x e (story_sends k before x s)
-  story_sends k log o (opens before now s served fresh e) = (
+  history_sends : (k : ℕ) (log : List Happening) (o : Option History) → IsServed start k log o → Yields log o
+  history_sends k log o no_event = tt
+  history_sends k log o (elsewhere before now h x s other e) = tells_more before now h x e (history_sends k before x s)
+  history_sends k log o (opens before now s served fresh e) = (
     only_replies [] (λ on. let bad : Fresh ≡ Streaming = sym (ap (λ (x : State). x.phase) fresh.state) ∙ on in cc bad)
         refl,
     ([], λ alive. fresh.held),
   )
-  story_sends k log o (receives before now feed s new ring bytes produced all emitted served fed serves e) =
-      tells_more before now (Received k bytes) (Some (story new ring all emitted)) e
+  history_sends k log o (receives before now feed s new ring bytes produced all emitted served fed serves e) =
+      tells_more before now (Received k bytes) (Some (history new ring all emitted)) e
       (serves_produced before feed s new bytes produced all serves
-      (story_sends k before (Some (story s ring produced emitted)) served))
-  story_sends k log o (asks now feed s new ring turn produced all emitted served fed called) =
+      (history_sends k before (Some (history s ring produced emitted)) served))
+  history_sends k log o (asks now feed s new ring turn produced all emitted served fed called) =
       asks_produced now feed s ring produced new turn all fed called
-      (story_sends k now (Some (story s ring produced emitted)) served)
-  story_sends k log o (takes before now s ring bytes produced emitted served prefix e) =
-      tells_more before now (Emitted k bytes) (Some (story s ring produced (emitted ++ bytes))) e
-      (story_sends k before (Some (story s ring produced emitted)) served)
-  story_sends k log o (goes before now x served e) = tt
+      (history_sends k now (Some (history s ring produced emitted)) served)
+  history_sends k log o (takes before now s ring bytes produced emitted served prefix e) =
+      tells_more before now (Emitted k bytes) (Some (history s ring produced (emitted ++ bytes))) e
+      (history_sends k before (Some (history s ring produced emitted)) served)
+  history_sends k log o (goes before now x served e) = tt
 
   -- what each ring showed when it was called
   shown : (log : List Happening) (records : List (List ℕ)) (rest : List ℕ) (k first : ℕ) (w : Window)
@@ -292,8 +292,8 @@ module _ (start : List Window) where
       (pushed ++ records_at k (places_of start) records) xs s g (inl begun) granted (are_called s u xs to)
       (shown log records rest k first w pushed input here shows xs from))
 
-  pub link_sends : (k : ℕ) (log : List Happening) (t : Story) (records : List (List ℕ)) (rest : List ℕ)
+  pub link_sends : (k : ℕ) (log : List Happening) (t : History) (records : List (List ℕ)) (rest : List ℕ)
       → IsServed start k log (Some t) → IsInput (places_of start) (input_of log) records rest
       → ProducesSlices start records t.produced
   link_sends k log t records rest served input =
-      says log records rest t.session.state t.produced input (story_sends k log (Some t) served).0
+      says log records rest t.session.state t.produced input (history_sends k log (Some t) served).0

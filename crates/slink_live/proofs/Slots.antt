@@ -11,12 +11,12 @@ use Rattle.slink_feed.specs.Intake.{places_of}
 use Rattle.slink_live.specs.Happening.{Happening, Input, Opened, Received, Emitted, Gone, Next, Missed, Wants}
 use Rattle.slink_live.specs.Happening.{WantsLinks, Left, input_of, is_at, piece_of}
 use Rattle.slink_live.specs.Input.{IsFed, IsInput}
-use Rattle.slink_live.specs.Served.{IsServing, IsSound, IsStory, LinkState, ServerState, link_state}
-use Rattle.slink_live.specs.Story.{IsNew, elsewhere}
+use Rattle.slink_live.specs.Served.{IsServing, IsSound, IsHistory, LinkState, ServerState, link_state}
+use Rattle.slink_live.specs.History.{IsNew, elsewhere}
 use Rattle.slink_live.specs.private.Calling.{HasFilled, HasReceived, HasTaken}
 use Rattle.slink_live.specs.Turns.{Closes, IsReport}
 use Rattle.slink_live.specs.private.Keeping.{KeepsServing}
-use Rattle.slink_live.proofs.Stories.{filled_story, gone_story, received_story, opened_story, story_stays, taken_story}
+use Rattle.slink_live.proofs.Histories.{filled_history, gone_history, received_history, opened_history, history_stays, taken_history}
 
 -- what the input gave
 pub input_append : (xs ys : List Happening) → input_of (xs ++ ys) ≡ input_of xs ++ input_of ys
@@ -72,9 +72,9 @@ pub not_self : (j k : ℕ) → k ≢ j → (j == k) ≡ false
 not_self j k ne = elim (eqb_tells j k) [ inl same ↦ absurd (ne (sym same.1)) | inr other ↦ other.0 ]
 
 -- what happens in another slot
-pub story_elsewhere : (start : List Window) (k : ℕ) (o : Option LinkState) (log last : List Happening) (h : Happening)
-    → is_at k h ≡ false → last ≡ log ++ h ∷ [] → IsStory start k o log → IsStory start k o last
-story_elsewhere start k o log last h other now s = record {
+pub history_elsewhere : (start : List Window) (k : ℕ) (o : Option LinkState) (log last : List Happening) (h : Happening)
+    → is_at k h ≡ false → last ≡ log ++ h ∷ [] → IsHistory start k o log → IsHistory start k o last
+history_elsewhere start k o log last h other now s = record {
   reported = s.reported;
   served = elsewhere log last h s.reported s.served other now;
   matches = s.matches;
@@ -94,26 +94,26 @@ quiet_serving start s log last h none other now v = record {
   };
   counted = v.counted;
   goes_on = v.goes_on;
-  slots = λ k. story_elsewhere start k (get_or s.links k None) log last h (other k) now (v.slots k);
+  slots = λ k. history_elsewhere start k (get_or s.links k None) log last h (other k) now (v.slots k);
 }
 
--- What happened leaves the input, and the stories of all slots but one.
+-- What happened leaves the input, and the histories of all slots but one.
 pub record IsBeside (j : ℕ) (log last : List Happening) : Type 0 where
   pub quiet : input_of last ≡ input_of log
-  pub others : (start : List Window) (k : ℕ) → k ≢ j → (o : Option LinkState) → IsStory start k o log
-      → IsStory start k o last
+  pub others : (start : List Window) (k : ℕ) → k ≢ j → (o : Option LinkState) → IsHistory start k o log
+      → IsHistory start k o last
 
 nothing_beside : (j : ℕ) (log last : List Happening) → last ≡ log → IsBeside j log last
 nothing_beside j log last same = record {
   quiet = ap input_of same;
-  others = λ start k ne o s. subst (IsStory start k o) (sym same) s;
+  others = λ start k ne o s. subst (IsHistory start k o) (sym same) s;
 }
 
 one_beside : (j : ℕ) (log last : List Happening) (h : Happening) → piece_of h ≡ []
     → ((k : ℕ) → k ≢ j → is_at k h ≡ false) → last ≡ log ++ h ∷ [] → IsBeside j log last
 one_beside j log last h none other now = record {
   quiet = ap input_of now ∙ input_quiet log h none;
-  others = λ start k ne o s. story_elsewhere start k o log last h (other k ne) now s;
+  others = λ start k ne o s. history_elsewhere start k o log last h (other k ne) now s;
 }
 
 abbrev FitsIn : List Window → Option LinkState → Type 0
@@ -125,19 +125,19 @@ some_fits feed new now is fits l e =
     let both : Some now ≡ Some l = sym is ∙ e in
     let same : now ≡ l = cc both in subst (λ (x : LinkState). Fits feed x.session.state) same fits
 
--- What happened in a slot, whose link it may change: its session can be served on, and its story goes on.
+-- What happened in a slot, whose link it may change: its session can be served on, and its history goes on.
 pub record Turns (feed : List Window) (j : ℕ) (o new : Option LinkState) (log last : List Happening) : Type 0 where
   pub beside : IsBeside j log last
   pub fits : FitsIn feed o → FitsIn feed new
-  pub story : (start : List Window) → IsFed start (input_of log) feed → IsStory start j o log
-      → IsStory start j new last
+  pub history : (start : List Window) → IsFed start (input_of log) feed → IsHistory start j o log
+      → IsHistory start j new last
 
 turns_nothing : (feed : List Window) (j : ℕ) (o new : Option LinkState) (log last : List Happening) → new ≡ o
     → last ≡ log → Turns feed j o new log last
 turns_nothing feed j o new log last same now = record {
   beside = nothing_beside j log last now;
   fits = λ f l e. f l (sym same ∙ e);
-  story = λ start fed s. story_stays start j log last new o same now s;
+  history = λ start fed s. history_stays start j log last new o same now s;
 }
 
 pub received_turns : (feed : List Window) (j : ℕ) (o new : Option LinkState) (log last : List Happening)
@@ -146,7 +146,7 @@ received_turns feed j None new log last h = turns_nothing feed j None new log la
 received_turns feed j (Some l) new log last h = record {
   beside = one_beside j log last (Received j h.0) refl (not_self j) h.3;
   fits = λ f. some_fits feed new h.1 h.2 h.5;
-  story = λ start fed s. received_story start j log last new feed l fed h s;
+  history = λ start fed s. received_history start j log last new feed l fed h s;
 }
 
 pub taken_turns : (feed : List Window) (j : ℕ) (o new : Option LinkState) (log last : List Happening)
@@ -155,7 +155,7 @@ taken_turns feed j None new log last h = turns_nothing feed j None new log last 
 taken_turns feed j (Some l) new log last h = record {
   beside = one_beside j log last (Emitted j (take h.0 l.pending)) refl (not_self j) h.2;
   fits = λ f. some_fits feed new (link_state l.session l.ring (drop h.0 l.pending)) h.1 (f l refl);
-  story = λ start fed s. taken_story start j log last new l h s;
+  history = λ start fed s. taken_history start j log last new l h s;
 }
 
 pub filled_turns : (feed : List Window) (j : ℕ) (o new : Option LinkState) (log : List Happening)
@@ -164,7 +164,7 @@ filled_turns feed j None new log h = turns_nothing feed j None new log log h ref
 filled_turns feed j (Some l) new log h = record {
   beside = nothing_beside j log log refl;
   fits = λ f. some_fits feed new h.0 h.1 h.3;
-  story = λ start fed s. filled_story start j log new feed l fed h s;
+  history = λ start fed s. filled_history start j log new feed l fed h s;
 }
 
 pub opened_turns : (feed : List Window) (j : ℕ) (o new : Option LinkState) (l : LinkState) (log last : List Happening)
@@ -173,8 +173,8 @@ pub opened_turns : (feed : List Window) (j : ℕ) (o new : Option LinkState) (l 
 opened_turns feed j o new l log last is free fresh none begins fits now = record {
   beside = one_beside j log last (Opened j) refl (not_self j) now;
   fits = λ f. some_fits feed new l is fits;
-  story = λ start fed s. opened_story start j log last new l fresh none begins is now
-      (subst (λ (x : Option LinkState). IsStory start j x log) free s);
+  history = λ start fed s. opened_history start j log last new l fresh none begins is now
+      (subst (λ (x : Option LinkState). IsHistory start j x log) free s);
 }
 
 pub gone_turns : (feed : List Window) (j : ℕ) (o new : Option LinkState) (log last : List Happening) → new ≡ None
@@ -182,7 +182,7 @@ pub gone_turns : (feed : List Window) (j : ℕ) (o new : Option LinkState) (log 
 gone_turns feed j o new log last is now = record {
   beside = one_beside j log last (Gone j) refl (not_self j) now;
   fits = λ f l e. absurd (let bad : None ≡ Some l = sym is ∙ e in cc bad);
-  story = λ start fed s. gone_story start j log last new o is now s;
+  history = λ start fed s. gone_history start j log last new o is now s;
 }
 
 -- one slot changed
@@ -217,7 +217,7 @@ turns_keep s j new log last lt sound t = record {
     };
     counted = v.counted;
     goes_on = v.goes_on;
-    slots = set_each (λ k o. IsStory start k o last) s.links j new lt (t.story start (v.rest, v.fed) (v.slots j))
+    slots = set_each (λ k o. IsHistory start k o last) s.links j new lt (t.history start (v.rest, v.fed) (v.slots j))
         (λ k ne. t.beside.others start k ne (get_or s.links k None) (v.slots k));
   };
   stays = record { intake = refl; has_ended = refl; reads = refl; slots = length-set s.links j new };

@@ -12,7 +12,7 @@ use Rattle.slink_feed.specs.Intake.{places_of}
 use Rattle.slink_live.specs.Happening.{Happening, Opened, Gone, WantsLinks, input_of, is_at, piece_of}
 use Rattle.slink_live.specs.Input.{IsInputFault}
 use Rattle.slink_live.specs.Served.{AreEmpty, IsServing, IsSound, LinkState, ServerState}
-use Rattle.slink_live.specs.Story.{IsNew}
+use Rattle.slink_live.specs.History.{IsNew}
 use Rattle.slink_live.specs.private.Calling.{HasFilled, HasReceived, HasTaken}
 use Rattle.slink_live.specs.Turns.{Closes, ReadsFrom, WritesTo}
 use Rattle.slink_live.specs.private.Keeping.{AnswersFault, KeepsServing}

@@ -19,7 +19,7 @@ use Rattle.slink_live.specs.private.Keeping.{AwakensThose}
 use Rattle.slink_live.proofs.Fed.{below_more, places_fed}
 use Rattle.slink_live.proofs.Cuts.{cut_below, cut_few, cut_fits, cuts_on, short_none}
 use Rattle.slink_live.proofs.Updating.{input_ends, input_awake, awake_end, awake_same}
-use Rattle.slink_live.proofs.Slots.{closes_input, closes_none, input_append, story_elsewhere}
+use Rattle.slink_live.proofs.Slots.{closes_input, closes_none, input_append, history_elsewhere}
 use Rattle.slink_live.proofs.Steps.{answers_end, ended, sound_in}
 
 -- The input is read no more, and what is wrong with it is answered.
@@ -109,7 +109,7 @@ module _ {s0 s : ServerState} (same : s0 ≡ s) where
         fed = record { records = fed_now.0.records; input = input_now; feed_is = fed_now.0.feed_is };
         counted = fed_now.1;
         goes_on = goes_on;
-        slots = λ k. story_elsewhere start k (get_or s0.links k None) log last (Input bytes) refl now
+        slots = λ k. history_elsewhere start k (get_or s0.links k None) log last (Input bytes) refl now
             ((serving_in start log v).slots k);
       }
 

@@ -5,7 +5,7 @@ use Rattle.slink_feed.specs.declared.session.Sent.TheVariants as Sents
 use Rattle.slink_feed.specs.Session.{State, sent}
 use Rattle.slink_feed.specs.Window.{Window}
 use Rattle.slink_live.specs.Served.{LinkState}
-use Rattle.slink_live.specs.Story.{Asks, IsTurn, none_called, one_called}
+use Rattle.slink_live.specs.History.{Asks, IsTurn, none_called, one_called}
 use Rattle.slink_live.specs.private.Calling.{Gives}
 
 -- nothing is sent of a station

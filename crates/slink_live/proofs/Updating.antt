@@ -19,7 +19,7 @@ use Rattle.slink_live.specs.Happening.{Happening, Input, Opened, Received, Emitt
 use Rattle.slink_live.specs.Happening.{WantsLinks}
 use Rattle.slink_live.specs.Happening.{Left, first_interest, is_left, last_interest, interest_after, wants_links}
 use Rattle.slink_live.specs.Served.{IntakeState, IsServing, IsSound, LinkState, ServerState}
-use Rattle.slink_live.specs.Story.{IsNew}
+use Rattle.slink_live.specs.History.{IsNew}
 use Rattle.slink_live.specs.Turns.{Closes}
 use Rattle.slink_live.specs.private.Calling.{HasFilled, HasReceived, HasTaken, IfRested, IsOutcome}
 use Rattle.slink_live.specs.private.Granting.{LeavesOut, StaysBut}

@@ -5,7 +5,7 @@ use Rattle.slink_feed.specs.declared.session.Phase.TheVariants.{Streaming}
 use Rattle.slink_feed.specs.declared.session.Sent.{Sent}
 use Rattle.slink_feed.specs.Session.{State, grant_at, sent}
 use Rattle.slink_feed.specs.Window.{Window}
-use Rattle.slink_live.specs.Story.{IsTurn}
+use Rattle.slink_live.specs.History.{IsTurn}
 
 -- The stations for which a session is called one after another, each when its turn comes.
 pub data TakesTurns (feed : List Window) : State → ℕ → List ℕ → State → ℕ → Type 0 where

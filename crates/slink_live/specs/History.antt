@@ -13,14 +13,14 @@ use Rattle.slink_live.specs.Happening.{Happening, Opened, Received, Emitted, Gon
 use Rattle.slink_live.specs.Input.{IsFed}
 
 -- a session, the station that is called next, what was sent so far, and what its link accepted of that
-pub record Story : Type 0 where
+pub record History : Type 0 where
   pub session : Standing
   pub ring : ℕ
   pub produced : List ℕ
   pub emitted : List ℕ
 
-abbrev pub story : Standing → ℕ → List ℕ → List ℕ → Story
-story session ring produced emitted =
+abbrev pub history : Standing → ℕ → List ℕ → List ℕ → History
+history session ring produced emitted =
     record { session = session; ring = ring; produced = produced; emitted = emitted }
 
 -- It is the session of a new link.
@@ -46,25 +46,25 @@ pub data Asks (feed : List Window) (s : Standing) (ring : ℕ) (way : List ℕ) 
       → IsTurn feed now.state turn k → sent feed now.state k ≡ (last.state, answer) → last.held ≡ now.held
       → all ≡ on ++ sent_bytes answer → Asks feed s ring way last (k + 1) all
 
--- What happened comes to this in a slot: no link stands there, or this is the story of the one that does. A link comes
+-- What happened comes to this in a slot: no link stands there, or this is the history of the one that does. A link comes
 -- where none stands. What it says is answered by its session, as slink_feed has it, from the rings as the input made
 -- them so far; packets may be requested of its session at any time, in turns; and of all that, the link takes a prefix.
-pub data IsServed (start : List Window) (k : ℕ) : List Happening → Option Story → Type 0 where
+pub data IsServed (start : List Window) (k : ℕ) : List Happening → Option History → Type 0 where
   no_event : IsServed start k [] None
-  elsewhere : (before now : List Happening) (h : Happening) (o : Option Story) → IsServed start k before o
+  elsewhere : (before now : List Happening) (h : Happening) (o : Option History) → IsServed start k before o
       → is_at k h ≡ false → now ≡ before ++ h ∷ [] → IsServed start k now o
   opens : (before now : List Happening) (s : Standing) → IsServed start k before None → IsNew s
-      → now ≡ before ++ Opened k ∷ [] → IsServed start k now (Some (story s 0 [] []))
+      → now ≡ before ++ Opened k ∷ [] → IsServed start k now (Some (history s 0 [] []))
   receives : (before now : List Happening) (feed : List Window) (s new : Standing) (ring : ℕ)
-      (bytes produced all emitted : List ℕ) → IsServed start k before (Some (story s ring produced emitted))
+      (bytes produced all emitted : List ℕ) → IsServed start k before (Some (history s ring produced emitted))
       → IsFed start (input_of before) feed → Serves feed s bytes produced new all
-      → now ≡ before ++ Received k bytes ∷ [] → IsServed start k now (Some (story new ring all emitted))
+      → now ≡ before ++ Received k bytes ∷ [] → IsServed start k now (Some (history new ring all emitted))
   asks : (log : List Happening) (feed : List Window) (s new : Standing) (ring turn : ℕ)
-      (produced all emitted : List ℕ) → IsServed start k log (Some (story s ring produced emitted))
+      (produced all emitted : List ℕ) → IsServed start k log (Some (history s ring produced emitted))
       → IsFed start (input_of log) feed → Asks feed s ring produced new turn all
-      → IsServed start k log (Some (story new turn all emitted))
+      → IsServed start k log (Some (history new turn all emitted))
   takes : (before now : List Happening) (s : Standing) (ring : ℕ) (bytes produced emitted : List ℕ)
-      → IsServed start k before (Some (story s ring produced emitted)) → IsPrefixOf (emitted ++ bytes) produced
-      → now ≡ before ++ Emitted k bytes ∷ [] → IsServed start k now (Some (story s ring produced (emitted ++ bytes)))
-  goes : (before now : List Happening) (o : Option Story) → IsServed start k before o
+      → IsServed start k before (Some (history s ring produced emitted)) → IsPrefixOf (emitted ++ bytes) produced
+      → now ≡ before ++ Emitted k bytes ∷ [] → IsServed start k now (Some (history s ring produced (emitted ++ bytes)))
+  goes : (before now : List Happening) (o : Option History) → IsServed start k before o
       → now ≡ before ++ Gone k ∷ [] → IsServed start k now None

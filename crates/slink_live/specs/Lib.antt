@@ -1,6 +1,6 @@
 pub mod Happening
 pub mod Input
-pub mod Story
+pub mod History
 pub mod Served
 pub mod Awake
 pub mod Turns

@@ -7,7 +7,7 @@ use Rattle.slink_feed.specs.Session.{Fits}
 use Rattle.slink_feed.specs.Window.{Window}
 use Rattle.slink_live.specs.Happening.{Happening, input_of}
 use Rattle.slink_live.specs.Input.{IsFedTo}
-use Rattle.slink_live.specs.Story.{IsServed, Story}
+use Rattle.slink_live.specs.History.{IsServed, History}
 
 -- what a server keeps of a link: its session, the station that is called next, and what was sent that the link didn't
 -- accept yet
@@ -48,17 +48,17 @@ pub record IsSound (s : ServerState) : Type 0 where
   pub few : s.intake.records ≤ 8192 * s.reads
   pub few_reads : s.reads ≤ 2 ^ 40
 
--- A slot has a link where the story has one: with its session and the station that is called next, and what that sent
+-- A slot has a link where the history has one: with its session and the station that is called next, and what that sent
 -- and the link didn't accept yet.
-abbrev pub Matches : Option LinkState → Option Story → Type 0
+abbrev pub Matches : Option LinkState → Option History → Type 0
 Matches None None = Unit {0}
 Matches None (Some t) = ⊥
 Matches (Some l) None = ⊥
 Matches (Some l) (Some t) = (t.session ≡ l.session) × (t.ring ≡ l.ring) × (t.produced ≡ t.emitted ++ l.pending)
 
--- what happened in a slot comes to a story that its link matches
-pub record IsStory (start : List Window) (k : ℕ) (o : Option LinkState) (log : List Happening) : Type 0 where
-  pub reported : Option Story
+-- what happened in a slot comes to a history that its link matches
+pub record IsHistory (start : List Window) (k : ℕ) (o : Option LinkState) (log : List Happening) : Type 0 where
+  pub reported : Option History
   pub served : IsServed start k log reported
   pub matches : Matches o reported
 
@@ -68,7 +68,7 @@ pub record IsServing (start : List Window) (s : ServerState) (log : List Happeni
   pub fed : IsFedTo start (input_of log) s.intake.feed rest
   pub counted : s.intake.records ≡ length fed.records
   pub goes_on : s.has_ended ≡ false → rest ≡ s.intake.kept
-  pub slots : (k : ℕ) → IsStory start k (get_or s.links k None) log
+  pub slots : (k : ℕ) → IsHistory start k (get_or s.links k None) log
 
 -- No link stands in any slot.
 abbrev pub AreEmpty : List (Option LinkState) → Type 0

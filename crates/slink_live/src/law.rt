@@ -9,21 +9,21 @@ ghost use Rattle.slink_live.specs.Awake.{AreSame, IsLost};
 ghost use Rattle.slink_live.specs.Fairness.{HasDue, IsAmong, TakesTurns};
 ghost use Rattle.slink_live.specs.Happening.{Happening, input_of, those_of};
 ghost use Rattle.slink_live.specs.Input.{IsFed, IsInput, fed};
-ghost use Rattle.slink_live.specs.Story.{Asks, IsServed, IsTurn, Story};
+ghost use Rattle.slink_live.specs.History.{Asks, IsServed, IsTurn, History};
 ghost use Rattle.slink_live.specs.Slices.{ProducesSlices, records_at};
 
 /// Of a link only what happened in its slot matters, and the input.
 pub fn no_other_link_matters()
-    ensures { (start : List Window) (k : ℕ) (log : List Happening) (reported : Option Story)
+    ensures { (start : List Window) (k : ℕ) (log : List Happening) (reported : Option History)
         → IsServed start k log reported → IsServed start k (those_of k log) reported }
 {}
 
-/// A slot has a story at each moment: what happened up to there comes to one, by which the link that stood there
+/// A slot has a history at each moment: what happened up to there comes to one, by which the link that stood there
 /// accepted a prefix of what its session had sent.
-pub fn each_moment_has_a_story()
-    ensures { (start : List Window) (k : ℕ) (before after : List Happening) (reported : Option Story)
+pub fn each_moment_has_a_history()
+    ensures { (start : List Window) (k : ℕ) (before after : List Happening) (reported : Option History)
         → IsServed start k (before ++ after) reported
-        → (reported_then : Option Story) × IsServed start k before reported_then }
+        → (reported_then : Option History) × IsServed start k before reported_then }
 {}
 
 /// An input has one list of records, in whatever pieces it came, and so its rings come to one thing. More of it appends
@@ -48,7 +48,7 @@ pub fn input_in_order()
 /// it of one link alone: replies, and then packets, of which those of each station are a slice of its records from the
 /// grant on. Whatever the other links say and take, and in whatever order.
 pub fn a_link_is_sent_slices()
-    ensures { (start : List Window) (k : ℕ) (log : List Happening) (reported : Story) (records : List (List ℕ))
+    ensures { (start : List Window) (k : ℕ) (log : List Happening) (reported : History) (records : List (List ℕ))
         (rest : List ℕ) → IsServed start k log (Some reported) → IsInput (places_of start) (input_of log) records rest
         → ProducesSlices start records reported.produced }
 {}

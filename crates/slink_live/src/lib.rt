@@ -12,7 +12,7 @@ mod ready;
 mod server;
 
 pub use law::{
-    a_link_is_sent_slices, each_moment_has_a_story, in_turns, input_in_order,
+    a_link_is_sent_slices, each_moment_has_a_history, in_turns, input_in_order,
     no_other_link_matters, other_places_change_nothing,
 };
 pub use log::Log;

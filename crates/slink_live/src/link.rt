@@ -8,7 +8,7 @@ ghost use Rattle.slink_feed.specs.Serving.{Serves};
 ghost use Rattle.slink_feed.specs.Session.{Fits, IsAtNext, IsWaiting, has_sent_all, sent};
 ghost use Rattle.slink_feed.specs.Window.{Window};
 ghost use Rattle.slink_live.specs.Awake.{HasLeft, HasRoom, IsClosable, IsFilled, IsLost, MustClose};
-ghost use Rattle.slink_live.specs.Story.{Asks, IsEarlier, IsNew};
+ghost use Rattle.slink_live.specs.History.{Asks, IsEarlier, IsNew};
 ghost use Rattle.slink_live.specs.private.Calling.{Gives, IsRested};
 ghost use Rattle.slink_live.specs.private.Granting.{AreDue, Covers, Has};
 

@@ -5,7 +5,7 @@ ghost use Rattle.std.specs.Option.{is_some};
 ghost use Rattle.slink_feed.specs.Session.{Fits};
 ghost use Rattle.slink_feed.specs.Window.{Window};
 ghost use Rattle.slink_live.specs.Served.{AllFit, AreEmpty};
-ghost use Rattle.slink_live.specs.Story.{IsNew};
+ghost use Rattle.slink_live.specs.History.{IsNew};
 ghost use Rattle.slink_live.specs.private.Calling.{HasFilled, HasReceived, HasTaken, IfRested, IsOutcome};
 ghost use Rattle.slink_live.specs.private.Granting.{Changes, CoversIn, LeavesOut};
 

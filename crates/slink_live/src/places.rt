@@ -2,7 +2,7 @@
 ghost use Rattle.std.specs.Prelude.{◌≡◌, ◌≢◌, ◌↔◌, ◌/◌, ◌^◌, ◌<◌, ◌≤◌, ℕ, IfNone, IfSome};
 ghost use Rattle.std.specs.Int.{bit_at};
 ghost use Rattle.std.specs.Bool.{OnFalse};
-ghost use Rattle.slink_live.specs.Story.{IsEarlier};
+ghost use Rattle.slink_live.specs.History.{IsEarlier};
 ghost use Rattle.slink_live.specs.private.Granting.{Has};
 
 /// Some of the stations of a feed, which has sixteen at most.

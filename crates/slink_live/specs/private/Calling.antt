@@ -12,7 +12,7 @@ use Rattle.slink_live.specs.declared.link.Update.TheVariants.{Empty, Wants, Clos
 use Rattle.slink_live.specs.Awake.{IsClosable, IsLost, IsUpToDate}
 use Rattle.slink_live.specs.Happening.{Happening, Received, Emitted}
 use Rattle.slink_live.specs.Served.{LinkState, link_state}
-use Rattle.slink_live.specs.Story.{Asks}
+use Rattle.slink_live.specs.History.{Asks}
 
 -- The link in a slot was read, and its session answered.
 abbrev pub HasReceived : List Window → ℕ → Option LinkState → Option LinkState → List Happening → List Happening

@@ -1,6 +1,6 @@
 use Rattle.std.proofs.Common.{◌∙◌, inl, sym}
 use Rattle.slink_feed.proofs.Waits.{waits_all}
-use Rattle.slink_live.specs.Story.{none_called}
+use Rattle.slink_live.specs.History.{none_called}
 use Rattle.slink_live.proofs.Due.{asks_or, filled_or}
 use Rattle.slink_live.proofs.link.Link.end.Goals as goal
 

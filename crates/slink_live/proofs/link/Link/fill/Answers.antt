@@ -1,9 +1,9 @@
 use Rattle.std.proofs.Common.{◌≡◌, ◌∙◌, arith, inl, inr, sym}
 use Rattle.slink_feed.specs.declared.session.Phase.TheVariants.{Closed, Streaming}
 use Rattle.slink_feed.proofs.Waits.{quiet_or_closed}
-use Rattle.slink_live.specs.Story.{none_called}
+use Rattle.slink_live.specs.History.{none_called}
 use Rattle.slink_live.proofs.Due.{due_turn, grown_by}
-use Rattle.slink_live.proofs.Stories.{asks_then}
+use Rattle.slink_live.proofs.Histories.{asks_then}
 use Rattle.slink_live.proofs.Turning.{gives_asks}
 use Rattle.slink_live.proofs.link.Link.fill.Goals as goal
 

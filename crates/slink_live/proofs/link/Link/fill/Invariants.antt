@@ -1,7 +1,7 @@
 use Rattle.std.proofs.Common.{◌≡◌, ◌*◌, ◌≤◌, ◌⊎◌, length}
 use Rattle.slink_feed.specs.declared.session.Phase.TheVariants.{Closed}
 use Rattle.slink_feed.specs.Session.{Fits}
-use Rattle.slink_live.specs.Story.{Asks}
+use Rattle.slink_live.specs.History.{Asks}
 use Rattle.slink_live.specs.private.Granting.{AreDue}
 use Rattle.slink_live.proofs.link.Link.fill.Given as goal
 

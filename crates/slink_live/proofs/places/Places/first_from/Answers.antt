@@ -1,6 +1,6 @@
 use Rattle.std.proofs.Common.{◌≡◌, ◌∙◌, ◌/◌, ◌^◌, ◌<◌, ℕ, ap, arith, subst, sym, IfSome, Option, Some, None}
 use Rattle.std.specs.Int.{bit_at}
-use Rattle.slink_live.specs.Story.{IsEarlier}
+use Rattle.slink_live.specs.History.{IsEarlier}
 use Rattle.slink_live.proofs.Firsts.{few_after, first_before, first_beyond, has_after}
 use Rattle.slink_live.proofs.places.Places.first_from.Goals as goal
 
