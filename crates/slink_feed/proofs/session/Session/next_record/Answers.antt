@@ -30,10 +30,11 @@ pub returns-clause-few : goal.returns-clause-few
 returns-clause-few g c = c.next_record.ensures.few
 
 pub invariant_of-self : goal.invariant_of-self
-invariant_of-self g c = λ awake. c.self.invariant (open_before_next (λ r. Packet (packet_bytes r.0 r.1.now)) sent_without
-    c.next_record.result c.args.feed.now _ _ c.args.k c.next_record.ensures.sent c.next_record.ensures.unsent awake)
+invariant_of-self g c = λ awake.
+    c.self.invariant (open_before_next (λ r. Packet (packet_bytes r.0 r.1.now)) sent_without c.next_record.result
+    c.args.feed.now _ _ c.args.k c.next_record.ensures.sent c.next_record.ensures.unsent awake)
 
 pub returns-clause-stands : goal.returns-clause-stands
-returns-clause-stands g c = λ awake. c.self.invariant (open_before_next (λ r. Packet (packet_bytes r.0 r.1.now))
-    sent_without c.next_record.result c.args.feed.now _ _ c.args.k c.next_record.ensures.sent
-    c.next_record.ensures.unsent awake)
+returns-clause-stands g c = λ awake.
+    c.self.invariant (open_before_next (λ r. Packet (packet_bytes r.0 r.1.now)) sent_without c.next_record.result
+    c.args.feed.now _ _ c.args.k c.next_record.ensures.sent c.next_record.ensures.unsent awake)
